@@ -2,13 +2,13 @@
 //! of one message.
 //!
 //! It stands on `rk_lane`. In `specs`, `attempt_on`, `turn_on` and `replay_on` say which events these are, one after the other, and what they
-//! make of a lane and a session; `Came` says so of a lane in code. What it promises: [`numbers_with`] finds the messages that each of them
-//! takes, and [`heard`] says which refusals of a lane end it.
+//! make of a lane and a session; `Came` says so of a lane in code. What it promises: [`numbers_with`] and [`first_with`] find the messages that each
+//! of them takes, and [`heard`] says which refusals of a lane end it.
 #![tactic(auto)]
 
 pub use attempt::{Attempt, Short};
 pub use hearing::heard;
-pub use selection::{Selection, is_there, numbers_with};
+pub use selection::{Selection, first_with, is_there, numbers_with};
 
 mod attempt;
 mod hearing;

@@ -1,5 +1,5 @@
 // Messages of a wire that work in a lane takes.
-ghost use Rattle.std.specs.Prelude.{◌≡◌, IfOk};
+ghost use Rattle.std.specs.Prelude.{◌≡◌, IfOk, slice_get};
 ghost use Rattle.rk_types.specs.NumberMap.{get};
 ghost use Rattle.rk_world.specs.Refusals.{is_for};
 ghost use Rattle.rk_attempts.specs.Selecting.{is_selected as is_selected_lem};
@@ -22,25 +22,29 @@ pub enum Selection {
     WithRecords,
 }
 
-/// The numbers of the messages of a kind, oldest first. A step for each pair of messages that are there. A wire of 2^32 messages or more is
-/// answered as want of memory.
+/// The numbers of the messages of a kind, oldest first. A step for each message that is there.
 pub fn numbers_with(alloc: Global, wire: &Wire, selection: Selection) -> Result<Vec<u64>, NoMemory>
     ensures { IfOk result (λ found. found.items ≡ numbers_with_lem (is_selected_lem selection) wire.now.messages) }
 {
     let mut found = Vec::new(alloc);
-    let count = wire.count();
-    if count > u32::MAX as u64 {
-        return Err(NoMemory);
-    }
-    for place in 0..count as u32 {
-        let Some(number) = wire.at(place + 1) else {
-            return Err(NoMemory);
-        };
-        if is_there(wire, selection, number) {
-            found.push(number)?;
+    for (number, message) in wire.iter() {
+        if selection.has(message) {
+            found.push(*number)?;
         }
     }
     Ok(found)
+}
+
+/// The number of the oldest message of a kind, if there is one. A step for each message up to there.
+pub fn first_with(wire: &Wire, selection: Selection) -> Option<u64>
+    ensures { result ≡ slice_get (numbers_with_lem (is_selected_lem selection) wire.now.messages) 0 }
+{
+    for (number, message) in wire.iter() {
+        if selection.has(message) {
+            return Some(*number);
+        }
+    }
+    None
 }
 
 /// Whether the message of a number is there and of a kind. One search.

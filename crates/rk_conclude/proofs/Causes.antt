@@ -17,6 +17,10 @@ audited_may status audited = tt
 pub audited_cause : (status : Status) (before now : ℕ) → IsAudited status → before ≤ now → now ≡ before → HasSinkCause status before now
 audited_cause status before now audited later kept = record { later = later; kept = λ other. kept; rose = λ fault. absurd (subst IsAudited fault audited) }
 
+-- nor is it that replicas failed
+pub audited_other : (status : Status) → IsAudited status → status ≡ statuses.ReplicaFault → ⊥
+audited_other status audited fault = subst IsAudited fault audited
+
 pub failed_cause : (before now : ℕ) → before ≤ now → Rose before now → HasSinkCause statuses.WriteFault before now
 failed_cause before now later rose = record { later = later; kept = λ other. absurd (other refl); rose = λ fault. rose }
 

@@ -7,7 +7,9 @@ use Rattle.rk_outside.specs.Faults.{Rose}
 use Rattle.rk_outside.specs.Parts.{AppendsPart}
 use Rattle.rk_outside.specs.Segments.{Segments}
 use Rattle.rk_world.specs.Cluster.{Cluster}
+use Rattle.rk_lane.specs.LaneState.{LaneState}
 use Rattle.rk_cluster.specs.Effects.{RunsTo}
+use Rattle.rk_cluster.specs.Faults.{Counts, counts_in}
 use Rattle.rk_cluster.specs.Replicas.{Fate}
 use Rattle.rk_cluster.specs.State.{ClusterState, IsOf}
 use Rattle.rk_settle.specs.Course.{Course, course_of, error_of, moved_all}
@@ -81,3 +83,10 @@ pub record Concludes {R : Type 0} (segments : R → Option Segments) (start : Cl
   pub state : ClusterState R
   pub ends : EndsSo segments start history old new state status
   pub back : (status ≡ statuses.NoMemory → ⊥) → AreGivenBack state.lanes others after
+
+-- the replicas of lanes that were brought to rest come back before the others, and this holds between the counts of faults before and after
+pub record ComeBack {R : Type 0} (faults : R → ℕ) (Rises : Counts → Counts → Type 0) (lanes : List (LaneState R)) (others after : List R) : Type 0 where
+  -- the lanes afterwards
+  pub rested : List (LaneState R)
+  pub counts : Rises (counts_in faults lanes) (counts_in faults rested)
+  pub back : AreGivenBack rested others after

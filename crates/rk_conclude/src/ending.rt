@@ -1,14 +1,17 @@
 // The end of a drive: the lanes come to rest, the receipts are held against the journals, and the outcome is written.
-ghost use Rattle.std.specs.Prelude.{◌≡◌, ℕ, All, IfOk, OnOk, length};
+ghost use Rattle.std.specs.Prelude.{◌≡◌, [], ℕ, All, IfOk, OnOk, length};
 ghost use Rattle.rk_types.specs.declared.hashing.TheConstants.{LANES};
 ghost use Rattle.rk_world.specs.Cluster.{Cluster as Whole};
 ghost use Rattle.rk_world.specs.Premises.{IsMaster, MOST_MASTERS, MayAct};
+ghost use Rattle.rk_cluster.specs.Faults.{CountsGoOn, GoOn};
 ghost use Rattle.rk_cluster.specs.Masters.{HasBackups, backups_of};
 ghost use Rattle.rk_cluster.specs.State.{IsOf};
 ghost use Rattle.rk_cluster.specs.Steps.{AreLanes, MayAllAct, state_of};
 ghost use Rattle.rk_lending.specs.Lent.{IsRoom};
 ghost use Rattle.rk_lending.specs.declared.lending.TheConstants.{REPLICAS};
-ghost use Rattle.rk_conclude.specs.Concluded.{Concludes, EndsSo, HasSinkCause, MayEnd, WritesReport, stop_status as stop_status_lem};
+ghost use Rattle.rk_settle.specs.Course.{MOST_FAULTS};
+ghost use Rattle.rk_settle.specs.Faults.{FailsInRounds, IsOfReplicas, RoseInRounds};
+ghost use Rattle.rk_conclude.specs.Concluded.{ComeBack, Concludes, EndsSo, HasSinkCause, MayEnd, WritesReport, stop_status as stop_status_lem};
 ghost use Rattle.rk_conclude.specs.Results.{by_client as by_client_lem, with_session};
 
 use crate::reporting::make_report;
@@ -36,6 +39,8 @@ struct Ended<R> {
 /// prefix of the text was written. `Worn` and `ReplicaFault` come where settling stops so; then, and if memory was wanting, nothing was
 /// written. The sink's count of faults rises if the status is `WriteFault`, and else stays. Unless memory was wanting, as many replicas come
 /// back as a run has.
+///
+/// No count of faults of a replica that comes back falls, and `ReplicaFault` comes only after a hundred rounds in each of which one rose.
 pub fn conclude<K: Sink, R: Replica + Drop>(
     alloc: Global,
     masters: u8,
@@ -57,6 +62,9 @@ pub fn conclude<K: Sink, R: Replica + Drop>(
     ensures may { MayEnd result }
     ensures cause { HasSinkCause result (K.faults sink.old) (K.faults sink.new) }
     ensures count { (result ≡ Status.NoMemory → ⊥) → length replicas.new.items ≡ REPLICAS }
+    ensures counts { (replicas.new.items ≡ [] → ⊥) → ComeBack R.faults (GoOn []) lanes.items kept.others.items replicas.new.items }
+    ensures replica_cause { result ≡ Status.ReplicaFault
+        → ComeBack R.faults (RoseInRounds MOST_FAULTS) lanes.items kept.others.items replicas.new.items }
 {
     let Ok(sessions) = by_client(alloc, sessions) else {
         return Status::NoMemory;
@@ -99,6 +107,8 @@ fn end<K: Sink, R: Replica + Drop>(
     ensures backups { backups_of result.cluster ≡ backups_of cluster }
     ensures may { MayEnd result.status }
     ensures cause { HasSinkCause result.status (K.faults sink.old) (K.faults sink.new) }
+    ensures counts { CountsGoOn R.faults [] cluster result.cluster }
+    ensures replica_cause { result.status ≡ Status.ReplicaFault → FailsInRounds R.faults MOST_FAULTS cluster result.cluster }
 {
     let mut cluster = cluster;
     let mut said = Vec::new(alloc);
@@ -116,6 +126,7 @@ fn stop_status(error: SettleError) -> Status
     ensures status { result ≡ stop_status_lem error }
     ensures may { MayEnd result }
     ensures other { result ≡ Status.WriteFault → ⊥ }
+    ensures replicas { result ≡ Status.ReplicaFault → IsOfReplicas error }
 {
     match error {
         SettleError::Worn(_) => Status::Worn,
@@ -136,6 +147,7 @@ fn close<K: Sink, R: Replica + Drop>(
         → WritesReport history (K.written sink.old) (K.written sink.new) result.status whole }
     ensures may { MayEnd result.status }
     ensures cause { HasSinkCause result.status (K.faults sink.old) (K.faults sink.new) }
+    ensures other { result.status ≡ Status.ReplicaFault → ⊥ }
 {
     let masters = cluster.masters();
     let backups = cluster.backups();
@@ -160,6 +172,7 @@ fn write<K: Sink, R: Replica + Drop>(
         → WritesReport history (K.written sink.old) (K.written sink.new) result whole }
     ensures may { MayEnd result }
     ensures cause { HasSinkCause result (K.faults sink.old) (K.faults sink.new) }
+    ensures other { result ≡ Status.ReplicaFault → ⊥ }
 {
     let Ok(report) = make_report(alloc, lanes, sessions, history) else {
         return Status::NoMemory;

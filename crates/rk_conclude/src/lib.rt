@@ -7,6 +7,7 @@
 #![tactic(auto)]
 
 pub use ending::conclude;
+pub use results::owner_in;
 
 mod auditing;
 mod ending;

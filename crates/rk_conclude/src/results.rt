@@ -96,8 +96,8 @@ fn is_owned<R: Replica + Drop>(lane: &Lane<R>, master: u8) -> bool
     }
 }
 
-// The master that owns the tablet in a lane, if one does.
-fn owner_in<R: Replica + Drop>(lane: &Lane<R>) -> Option<u8>
+/// The master that owns the tablet of a drive in a lane, if one does; of a lane that is not spent. A search of the rows.
+pub fn owner_in<R: Replica + Drop>(lane: &Lane<R>) -> Option<u8>
     ensures { LaneTells R.segments lane.now owner_at result }
 {
     match row_at(lane, TABLET)?.phase {

@@ -12,6 +12,4 @@ pub use workers::exchange;
 
 mod account;
 mod parcels;
-#[cfg(test)]
-mod tests;
 mod workers;

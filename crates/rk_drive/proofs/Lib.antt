@@ -8,6 +8,7 @@ pub mod Fresh
 pub mod Opening
 pub mod Passes
 pub mod Reversed
+pub mod Rising
 pub mod Sessions
 pub mod Starting
 pub mod Worlds

@@ -1,6 +1,9 @@
 -- The lanes with which a drive begins, and what its first events make of their ledgers.
-use Rattle.std.specs.Prelude.{◌≡◌, ◌==◌, ◌||◌, ℕ, Bool, false, length, ⊤}
-use Rattle.rk_lane.specs.LaneState.{LaneState}
+use Rattle.std.specs.Prelude.{◌≡◌, ◌==◌, ◌||◌, ℕ, Bool, false, List, [], Some, length, slice_get, ⊤}
+use Rattle.rk_types.specs.declared.hashing.TheConstants.{LANES}
+use Rattle.rk_cluster.specs.Dealt.{IsEighth}
+use Rattle.rk_cluster.specs.Faults.{LanesGoOn}
+use Rattle.rk_lane.specs.LaneState.{LaneState, replicas_of}
 use Rattle.rk_world.specs.Ledger.{Ledger, asked_by, is_added, new_ledger}
 use Rattle.rk_world.specs.declared.event.Event.{Event}
 use Rattle.rk_world.specs.declared.event.Event.TheVariants as events
@@ -10,6 +13,14 @@ pub record IsFresh {R : Type 0} (masters backups : ℕ) (lane : LaneState R) : T
   pub masters_are : lane.masters ≡ masters
   pub backups_are : length lane.backups ≡ backups
   pub ledger_is : lane.ledger ≡ new_ledger
+
+-- no count of faults of replicas has fallen since lanes were made of them, each with its eighth
+pub record NoneFellSince {R : Type 0} (faults : R → ℕ) (replicas : List R) (now : List (LaneState R)) : Type 0 where
+  -- these lanes
+  pub made : List (LaneState R)
+  pub count : length made ≡ LANES
+  pub each : (number : ℕ) (lane : LaneState R) → slice_get made number ≡ Some lane → IsEighth replicas number (replicas_of lane.backups)
+  pub counts : LanesGoOn faults [] made now
 
 -- an event with which a drive begins: a tablet or a client is added, or a migration begins
 abbrev pub Begins : Event → Type 0 → Type 0

@@ -1,11 +1,14 @@
 // Workers for clients.
 ghost use Rattle.std.specs.Prelude.{◌≡◌, ◌<◌, true};
+ghost use Rattle.rk_types.specs.declared.hashing.TheConstants.{LANES};
 ghost use Rattle.rk_message.specs.Calls.{IsLawfulOp};
 ghost use Rattle.rk_drive.specs.Driven.{HasAnswers};
 ghost use Rattle.rk_drive.specs.Workers.{MakesWorkload, clients_in};
 
 use crate::board::Board;
 use crate::plan::Plan;
+use crate::turning::take_turn;
+use crate::watch::Watch;
 use rk_attempts::{Attempt, Short};
 use rk_outside::{Gate, Replica};
 use rk_session::Session;
@@ -22,7 +25,7 @@ use std::sync::ledger::Ledger;
 enum Round {
     /// All their calls are answered.
     Ended,
-    /// They wait.
+    /// They wait for turns that lanes have not taken.
     Waits,
     /// A call was answered.
     Answered,
@@ -48,7 +51,7 @@ pub(crate) fn run_callers<
     A: Ledger,
     B: Ledger,
     N: Roster,
-    G: Gate,
+    G: Gate + Watch,
 >(
     rt: &X,
     alloc: Global,
@@ -73,11 +76,8 @@ pub(crate) fn run_callers<
                 break;
             }
             Ok(Round::Ended) => break,
-            Ok(Round::Answered) => board.asked.raise(1),
-            Ok(Round::Waits) => {
-                board.asked.raise(1);
-                board.turned.wait_past(rt, seen);
-            }
+            Ok(Round::Answered) => {}
+            Ok(Round::Waits) => board.turned.wait_past(rt, seen),
         }
     }
     board.end_caller();
@@ -92,7 +92,7 @@ fn bring_all_on<
     A: Ledger,
     B: Ledger,
     N: Roster,
-    G: Gate,
+    G: Gate + Watch,
 >(
     rt: &X,
     alloc: Global,
@@ -114,7 +114,7 @@ fn bring_all_on<
     Ok(round)
 }
 
-// Brings the calls of a client on until one has to wait, or all are answered.
+// Brings the next call of a client on, unless it waits for a turn, or all are answered.
 fn bring_on<
     X: Wait,
     R: Replica + Drop,
@@ -123,7 +123,7 @@ fn bring_on<
     A: Ledger,
     B: Ledger,
     N: Roster,
-    G: Gate,
+    G: Gate + Watch,
 >(
     rt: &X,
     alloc: Global,
@@ -137,22 +137,25 @@ fn bring_on<
     requires makes { N.tells → MakesWorkload N.makes plan.now.keys }
     ensures client { pass.new.session.client ≡ pass.old.session.client }
 {
-    let mut round = Round::Ended;
-    for _ in 0..=plan.calls {
-        if !ask_next(alloc, plan, pass)? {
-            break;
-        }
-        match attempt(rt, shared, gate, pass) {
-            Ok(Attempt::Answered) => {
-                board.answered.raise(1);
-                round = Round::Answered;
-            }
-            Err(Short::NoMemory) => return Err(NoMemory),
-            // A lane that is worn changed nothing: the client tries again later.
-            _ => return Ok(round.and(Round::Waits)),
-        }
+    if !ask_next(alloc, plan, pass)? {
+        return Ok(Round::Ended);
     }
-    Ok(round)
+    let client = pass.session().client();
+    let lane = lane_of_call(pass.session());
+    if board.waits_for_turn(client, lane) {
+        return Ok(Round::Waits);
+    }
+    let turns = board.turns_of(lane);
+    if !matches!(
+        attempt(rt, shared, board, gate, pass, lane)?,
+        Attempt::Answered
+    ) {
+        board.wait_for_turn(client, lane, turns);
+        return Ok(Round::Waits);
+    }
+    board.answer(client);
+    gate.answered(board.answered(), plan.all_calls());
+    Ok(Round::Answered)
 }
 
 // The client asks its next call, if it has none outstanding and has not made all: whether one is outstanding.
@@ -200,7 +203,18 @@ fn show_limits(op: &Op)
     }
 }
 
-// A client's attempt in the lane of its call.
+// The lane of a session's outstanding call; 0 if it has none.
+fn lane_of_call(session: &Session) -> u8
+    ensures { result < LANES }
+{
+    match session.outstanding() {
+        Some(call) => lane_of(hash(call.key.bytes())),
+        None => 0,
+    }
+}
+
+// A client's attempt in the lane of its call. If the call is not answered at the client's first look, the lane takes a turn, and the client
+// tries once more, all under one lock: so most calls need no other worker, and find their lane in the cache.
 fn attempt<
     X: Wait,
     R: Replica + Drop,
@@ -209,21 +223,40 @@ fn attempt<
     A: Ledger,
     B: Ledger,
     N: Roster,
-    G: Gate,
+    G: Gate + Watch,
 >(
     rt: &X,
     shared: &SharedLanes<R, L, M, A, B, N>,
+    board: &Board,
     gate: &G,
     pass: &mut Pass<M, B, N>,
-) -> Result<Attempt, Short>
+    lane: u8,
+) -> Result<Attempt, NoMemory>
+    requires { lane < LANES }
     ensures client { pass.new.session.client ≡ pass.old.session.client }
 {
-    let Some(call) = pass.session().outstanding() else {
-        return Ok(Attempt::Waiting);
-    };
-    let lane = lane_of(hash(call.key.bytes()));
+    let client = pass.session().client();
     let mut kept = shared.hold(rt, lane);
-    shared.attempt(rt, &mut kept, pass, gate)
+    let came = heard(shared.attempt(rt, &mut kept, pass, gate))?;
+    if matches!(came, Attempt::Answered) || !board.waits_for_nothing(client) {
+        return Ok(came);
+    }
+    let Some(turned) = take_turn(shared, &mut kept, gate)? else {
+        return Ok(came);
+    };
+    if turned.is_left() {
+        board.leave_work(lane);
+    }
+    heard(shared.attempt(rt, &mut kept, pass, gate))
+}
+
+// What came of an attempt. A lane that is worn changed nothing: the client waits.
+fn heard(came: Result<Attempt, Short>) -> Result<Attempt, NoMemory> {
+    match came {
+        Ok(attempt) => Ok(attempt),
+        Err(Short::NoMemory) => Err(NoMemory),
+        Err(Short::Worn(_)) => Ok(Attempt::Waiting),
+    }
 }
 
 /// Whether a session made all calls of a plan, and all are answered.

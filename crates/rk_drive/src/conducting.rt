@@ -36,14 +36,14 @@ pub(crate) fn conduct<
 // Waits until so many calls are answered: whether they are.
 fn wait_for<X: Wait>(rt: &X, board: &Board, after: u32) -> bool {
     for _ in rt.forever() {
-        let answered = board.answered.count();
-        if answered >= u64::from(after) {
+        let seen = board.news.count();
+        if board.answered() >= u64::from(after) {
             return true;
         }
         if board.is_over() {
             return false;
         }
-        board.answered.wait_past(rt, answered);
+        board.news.wait_past(rt, seen);
     }
     unreachable!()
 }
@@ -60,7 +60,7 @@ fn crash_all<X: Wait, R: Replica + Drop, L: Ledger, M: Ledger, A: Ledger, B: Led
     }
     for lane in 0..LANES {
         give_notice(&mut shared.hold(rt, lane), master)?;
-        board.asked.raise(1);
+        board.leave_work(lane);
     }
     Ok(())
 }

@@ -1,14 +1,18 @@
 // A drive from its beginning to its end.
-ghost use Rattle.std.specs.Prelude.{◌≡◌, ◌<◌, ◌*◌, All, IfOk, is_some, length, true, vec_len};
+ghost use Rattle.std.specs.Prelude.{◌≡◌, ◌<◌, ◌*◌, [], All, IfOk, is_some, length, true, vec_len};
 ghost use Rattle.std.specs.List.{range_with_len};
 ghost use Rattle.rk_types.specs.declared.hashing.TheConstants.{LANES as lane_count};
 ghost use Rattle.rk_types.specs.declared.call.Call.{Call};
 ghost use Rattle.rk_types.specs.declared.status.Status.TheVariants as statuses;
 ghost use Rattle.rk_world.specs.Premises.{MayAct};
+ghost use Rattle.rk_cluster.specs.Faults.{GoOn, counts_in};
 ghost use Rattle.rk_cluster.specs.Fresh.{AreEmpty};
 ghost use Rattle.rk_lending.specs.declared.lending.TheConstants.{REPLICAS};
+ghost use Rattle.rk_settle.specs.Faults.{RoseInRounds};
+ghost use Rattle.rk_play.specs.Runs.{NoneFell, replica_counts};
 ghost use Rattle.rk_shared_lanes.specs.Together.{AllSoundOrSpent, IsIdle, IsOfRoster, IsUnasked, clients_of, numbers_of, sessions_of};
 ghost use Rattle.rk_conclude.specs.Concluded.{HasSinkCause, MayEnd};
+ghost use Rattle.rk_drive.specs.Beginning.{NoneFellSince};
 ghost use Rattle.rk_drive.specs.Driven.{AreDriven, HasAnswers, IsOfWorkload};
 ghost use Rattle.rk_drive.specs.Outcomes.{Drives, EndsDone};
 ghost use Rattle.rk_drive.specs.Workers.{MakesWorkload};
@@ -17,6 +21,7 @@ ghost use Rattle.rk_drive.specs.declared.start.TheConstants.{BACKUPS as backup_c
 use crate::calling::has_ended;
 use crate::plan::Plan;
 use crate::start::{BACKUPS, MASTERS, new_lanes, new_sessions};
+use crate::watch::Watch;
 use crate::workers::{ParcelPasses, run_all};
 use rk_conclude::conclude;
 use rk_dispatch::Parcels;
@@ -42,7 +47,7 @@ const QUEUE: usize = 64;
 /// Once all clients have ended, their lanes and sessions come to rest, and the outcome is written and answered as `conclude` says; the
 /// replicas come back. On `Done` the receipts are those of the workload, and the lanes have one history with them, which has the answer of
 /// each call of the workload once, and nothing else. `NoMemory` also comes if memory was wanting before: then nothing was written.
-pub fn drive<X: Threads + Wait + Sync, K: Sink, R: Replica + Send + Drop, G: Gate + Sync>(
+pub fn drive<X: Threads + Wait + Sync, K: Sink, R: Replica + Send + Drop, G: Gate + Watch + Sync>(
     rt: &X,
     alloc: Global,
     plan: &Plan,
@@ -58,6 +63,9 @@ pub fn drive<X: Threads + Wait + Sync, K: Sink, R: Replica + Send + Drop, G: Gat
     ensures may { MayEnd result }
     ensures cause { HasSinkCause result (K.faults sink.old) (K.faults sink.new) }
     ensures count { (result ≡ statuses.NoMemory → ⊥) → length replicas.new.items ≡ REPLICAS }
+    ensures counts { NoneFell R.faults replicas.old.items replicas.new.items }
+    ensures replica_cause { result ≡ statuses.ReplicaFault
+        → RoseInRounds 100 (replica_counts R.faults replicas.old.items) (replica_counts R.faults replicas.new.items) }
 {
     let Ok((its, kept)) = lend(alloc, BACKUPS, replicas) else {
         return Status::NoMemory;
@@ -78,7 +86,7 @@ pub fn drive<X: Threads + Wait + Sync, K: Sink, R: Replica + Send + Drop, G: Gat
 }
 
 // Runs the workers over new lanes and sessions, and gathers these again.
-fn run<X: Threads + Wait + Sync, R: Replica + Send + Drop, G: Gate + Sync>(
+fn run<X: Threads + Wait + Sync, R: Replica + Send + Drop, G: Gate + Watch + Sync>(
     rt: &X,
     alloc: Global,
     plan: &Plan,
@@ -87,7 +95,8 @@ fn run<X: Threads + Wait + Sync, R: Replica + Send + Drop, G: Gate + Sync>(
 ) -> Result<Gathered<R>, NoMemory>
     requires keys { 0 < plan.now.keys }
     requires count { length replicas.items ≡ lane_count * backup_count }
-    ensures { IfOk result (λ gathered. AreDriven R.segments (AreEmpty R.segments replicas.items) plan.now gathered.lanes.items gathered.sessions.items) }
+    ensures driven { IfOk result (λ gathered. AreDriven R.segments (AreEmpty R.segments replicas.items) plan.now gathered.lanes.items gathered.sessions.items) }
+    ensures counts { IfOk result (λ gathered. NoneFellSince R.faults replicas.items gathered.lanes.items) }
 {
     let lanes = new_lanes(alloc, plan.clients, replicas)?;
     let sessions = new_sessions(alloc, plan.clients)?;
@@ -113,7 +122,7 @@ fn run_with<
     A: Ledger + Send + Sync,
     B: Ledger + Send + Sync,
     N: Roster + Send + Sync,
-    G: Gate + Sync,
+    G: Gate + Watch + Sync,
 >(
     rt: &X,
     alloc: Global,
@@ -138,11 +147,13 @@ fn run_with<
     requires numbered { N.clients ≡ range_with_len 1 plan.now.clients }
     requires roster { All (IsOfRoster N.masters N.backups N.clients) lanes.items }
     requires acts { All (MayAct N.masters) sessions.items }
+    requires counts { GoOn [] N.counts (counts_in R.faults lanes.items) }
     requires sound { N.tells → AllSoundOrSpent R.segments lanes.items }
     requires keys { 0 < plan.now.keys }
     requires makes { MakesWorkload N.makes plan.now.keys }
     requires only { (call : Call) → N.makes call → IsOfWorkload plan.now.keys call }
-    ensures { IfOk result (λ gathered. AreDriven R.segments N.tells plan.now gathered.lanes.items gathered.sessions.items) }
+    ensures driven { IfOk result (λ gathered. AreDriven R.segments N.tells plan.now gathered.lanes.items gathered.sessions.items) }
+    ensures counts { IfOk result (λ gathered. GoOn [] N.counts (counts_in R.faults gathered.lanes.items)) }
 {
     let (shared, passes) = share::<R, L, M, A, B, N>(alloc, MASTERS, lanes, sessions, blanks)?;
     let (parcels, mut first_turn) = Parcels::new(alloc, QUEUE)?;

@@ -7,6 +7,7 @@
 
 pub use driving::drive;
 pub use plan::{Crash, Plan};
+pub use watch::Watch;
 pub use words::{MOST_CALLS, MOST_CLIENTS, MOST_KEYS, plan_of};
 
 mod board;
@@ -17,8 +18,7 @@ mod plan;
 mod replaying;
 mod signal;
 mod start;
-#[cfg(test)]
-mod tests;
 mod turning;
+mod watch;
 mod words;
 mod workers;

@@ -1,3 +1,5 @@
+ghost use Rattle.std.specs.Prelude.{◌≡◌, ◌*◌, ◌-◌, ◌^◌, min};
+
 /// A master that is to crash, once so many calls are answered.
 #[derive(Clone, Copy, Debug, PartialEq, Eq)]
 pub struct Crash {
@@ -14,4 +16,13 @@ pub struct Plan {
     pub keys: u32,
     pub crash: Option<Crash>,
     pub history: bool,
+}
+
+impl Plan {
+    /// How many calls all clients make together; 2^64 - 1 if they are more.
+    pub fn all_calls(&self) -> u64
+        ensures { result ≡ min (self.now.clients * self.now.calls) (2 ^ 64 - 1) }
+    {
+        u64::from(self.clients).saturating_mul(u64::from(self.calls))
+    }
 }

@@ -26,9 +26,9 @@ impl Signal {
         self.count.load(Ordering::SeqCst)
     }
 
-    /// Adds to the count, and wakes who waits for it.
-    pub(crate) fn raise(&self, by: u64) {
-        self.count.fetch_add(by, Ordering::SeqCst);
+    /// Adds one to the count, and wakes who waits for it.
+    pub(crate) fn raise(&self) {
+        self.count.fetch_add(1, Ordering::SeqCst);
         if self.waiting.load(Ordering::SeqCst) > 0 {
             self.count.wake_all();
         }

@@ -1,7 +1,8 @@
 // How a drive begins: lanes with the table, the clients, and a migration under way.
-ghost use Rattle.std.specs.Prelude.{◌≡◌, ◌≤◌, ◌*◌, [], All, IfOk, OnOk, length, map};
+ghost use Rattle.std.specs.Prelude.{◌≡◌, ◌≤◌, ◌*◌, ◌∷◌, [], All, IfOk, OnOk, length, map};
 ghost use Rattle.std.specs.List.{range_with_len};
 ghost use Rattle.rk_types.specs.declared.hashing.TheConstants.{LANES};
+ghost use Rattle.rk_cluster.specs.Faults.{LanesGoOn};
 ghost use Rattle.rk_cluster.specs.Fresh.{AreEmpty};
 ghost use Rattle.rk_lane.specs.Events.{MayComeTo};
 ghost use Rattle.rk_lane.specs.LaneState.{IsSameLane};
@@ -9,7 +10,7 @@ ghost use Rattle.rk_shared_lanes.specs.Kept.{HasClients, IsSoundOrSpent};
 ghost use Rattle.rk_shared_lanes.specs.Together.{AllSoundOrSpent, IsIdle, IsOfRoster, IsUnasked, clients_of, numbers_of};
 ghost use Rattle.rk_world.specs.Client.{new_session};
 ghost use Rattle.rk_world.specs.Premises.{MayAct};
-ghost use Rattle.rk_drive.specs.Beginning.{AddsClients, IsFresh, KeepsUnasked};
+ghost use Rattle.rk_drive.specs.Beginning.{AddsClients, IsFresh, KeepsUnasked, NoneFellSince};
 
 use rk_cluster::Cluster;
 use rk_lane::Lane;
@@ -41,6 +42,7 @@ pub(crate) fn new_lanes<R: Replica + Drop>(
     ensures roster { IfOk result (λ lanes. All (IsOfRoster MASTERS BACKUPS (range_with_len 1 clients)) lanes.items) }
     ensures unasked { IfOk result (λ lanes. All IsUnasked lanes.items) }
     ensures sound { IfOk result (λ lanes. AreEmpty R.segments replicas.items → AllSoundOrSpent R.segments lanes.items) }
+    ensures counts { IfOk result (λ lanes. NoneFellSince R.faults replicas.items lanes.items) }
 {
     let fresh = fresh_lanes(alloc, replicas)?;
     let mut lanes = Vec::with_capacity(alloc, fresh.len())?;
@@ -56,6 +58,7 @@ fn fresh_lanes<R: Replica + Drop>(alloc: Global, replicas: Vec<R>) -> Result<Vec
     ensures numbers { IfOk result (λ lanes. numbers_of lanes.items ≡ range_with_len 0 LANES) }
     ensures fresh { IfOk result (λ lanes. All (IsFresh MASTERS BACKUPS) lanes.items) }
     ensures sound { IfOk result (λ lanes. AreEmpty R.segments replicas.items → AllSoundOrSpent R.segments lanes.items) }
+    ensures counts { IfOk result (λ lanes. NoneFellSince R.faults replicas.items lanes.items) }
 {
     let cluster = Cluster::with_replicas(alloc, MASTERS, BACKUPS, replicas)?;
     Ok(cluster.into_lanes())
@@ -89,6 +92,7 @@ fn prepared<R: Replica + Drop>(lane: Lane<R>, clients: u32) -> Result<Lane<R>, N
     ensures roster { IfOk result (IsOfRoster MASTERS BACKUPS (range_with_len 1 clients)) }
     ensures unasked { IfOk result IsUnasked }
     ensures sound { IfOk result (λ prepared. IsSoundOrSpent R.segments lane → IsSoundOrSpent R.segments prepared) }
+    ensures counts { IfOk result (λ prepared. LanesGoOn R.faults [] (lane ∷ []) (prepared ∷ [])) }
 {
     let mut lane = lane;
     let table = Range {
@@ -122,6 +126,7 @@ fn add_clients<R: Replica + Drop>(lane: &mut Lane<R>, clients: u32) -> Result<()
     ensures unasked { OnOk result (IsUnasked lane.new) }
     ensures clients { OnOk result (HasClients (range_with_len 1 clients) lane.new.ledger) }
     ensures sound { IsSoundOrSpent R.segments lane.old → IsSoundOrSpent R.segments lane.new }
+    ensures counts { OnOk result (LanesGoOn R.faults [] (lane.old ∷ []) (lane.new ∷ [])) }
 {
     for index in 0..clients {
         take(lane, Event::AddClient(index + 1))?;
@@ -136,6 +141,7 @@ fn take<R: Replica + Drop>(lane: &mut Lane<R>, event: Event) -> Result<(), NoMem
     ensures ledger { OnOk result (KeepsUnasked event lane.old.ledger lane.new.ledger) }
     ensures clients { OnOk result (AddsClients event lane.old.ledger lane.new.ledger) }
     ensures sound { IsSoundOrSpent R.segments lane.old → IsSoundOrSpent R.segments lane.new }
+    ensures counts { LanesGoOn R.faults [] (lane.old ∷ []) (lane.new ∷ []) }
 {
     let Ok(_) = lane.step(event) else {
         return Err(NoMemory);

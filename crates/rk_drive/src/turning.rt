@@ -5,11 +5,13 @@ ghost use Rattle.rk_drive.specs.Hands.{IsHand};
 ghost use Rattle.rk_drive.specs.declared.turning.TheConstants.{TURNERS as turners};
 
 use crate::board::Board;
+use crate::watch::Watch;
 use rk_attempts::Short;
+use rk_conclude::owner_in;
 use rk_dispatch::{ParcelPass, Parcels};
 use rk_outside::{Gate, Replica};
 use rk_shared::Roster;
-use rk_shared_lanes::SharedLanes;
+use rk_shared_lanes::{KeptLane, SharedLanes};
 use rk_types::{LANES, NoMemory, Parcel};
 use std::sync::Wait;
 use std::sync::ledger::Ledger;
@@ -17,7 +19,24 @@ use std::sync::ledger::Ledger;
 /// How many workers take turns: each of them has the lanes whose number, divided by this, leaves its own.
 pub(crate) const TURNERS: u8 = 2;
 
-/// Lets the lanes of a worker take their turns, again and again, until the drive is over.
+/// What a turn of a lane left.
+#[derive(Drop)]
+pub(crate) struct Turned {
+    /// The numbers of the pull replies on its wire.
+    replies: Vec<u64>,
+    /// Whether the lane has more to do by itself.
+    is_busy: bool,
+}
+
+impl Turned {
+    /// Whether something is left for the workers that take turns: a further turn, or replies to give to those that replay.
+    pub(crate) fn is_left(&self) -> bool {
+        self.is_busy || !self.replies.is_empty()
+    }
+}
+
+/// Lets the lanes of a worker take turns while there is something to do in them, until the drive is over. The worker sleeps while there is
+/// nothing, until a client, a replay or the conductor left something to do.
 pub(crate) fn run_turns<
     X: Wait,
     R: Replica + Drop,
@@ -26,7 +45,7 @@ pub(crate) fn run_turns<
     A: Ledger,
     B: Ledger,
     N: Roster,
-    G: Gate,
+    G: Gate + Watch,
 >(
     rt: &X,
     shared: &SharedLanes<R, L, M, A, B, N>,
@@ -45,16 +64,18 @@ pub(crate) fn run_turns<
             break;
         }
         let seen = board.asked.count();
-        if turn_all(rt, shared, board, parcels, &mut pass, gate, first).is_err() {
-            board.stop();
-            break;
+        match turn_all(rt, shared, board, parcels, &mut pass, gate, first) {
+            Ok(true) => board.turned.raise(),
+            Ok(false) => board.asked.wait_past(rt, seen),
+            Err(NoMemory) => {
+                board.stop();
+                break;
+            }
         }
-        board.turned.raise(1);
-        board.asked.wait_past(rt, seen);
     }
 }
 
-// Each lane of a worker takes its turn, one after the other.
+// Each lane of a worker in which there is something to do takes its turn, one after the other: whether one of them did.
 fn turn_all<
     X: Wait,
     R: Replica + Drop,
@@ -63,7 +84,7 @@ fn turn_all<
     A: Ledger,
     B: Ledger,
     N: Roster,
-    G: Gate,
+    G: Gate + Watch,
 >(
     rt: &X,
     shared: &SharedLanes<R, L, M, A, B, N>,
@@ -72,22 +93,62 @@ fn turn_all<
     pass: &mut ParcelPass,
     gate: &G,
     first: u8,
-) -> Result<(), NoMemory>
+) -> Result<bool, NoMemory>
     requires hand { IsHand parcels.now pass.old }
     requires first { first < turners }
     ensures hand { IsHand parcels.now pass.new }
 {
+    let mut is_turned = false;
     for place in 0..LANES / TURNERS {
         let lane = TURNERS * place + first;
-        let numbers = match shared.turn(&mut shared.hold(rt, lane), gate) {
-            Ok(numbers) => numbers,
-            Err(Short::NoMemory) => return Err(NoMemory),
-            // A lane that is worn changed nothing.
-            Err(Short::Worn(_)) => continue,
+        if !board.begin_turn(lane) {
+            continue;
+        }
+        // A lane that is worn changed nothing.
+        let Some(turned) = take_turn(shared, &mut shared.hold(rt, lane), gate)? else {
+            continue;
         };
-        give_all(rt, shared, board, parcels, pass, gate, lane, &numbers)?;
+        board.end_turn(lane, turned.is_busy);
+        is_turned = true;
+        give_all(
+            rt,
+            shared,
+            board,
+            parcels,
+            pass,
+            gate,
+            lane,
+            &turned.replies,
+        )?;
     }
-    Ok(())
+    Ok(is_turned)
+}
+
+/// A lane takes its turn, unless it is worn.
+pub(crate) fn take_turn<
+    R: Replica + Drop,
+    L: Ledger,
+    M: Ledger,
+    A: Ledger,
+    B: Ledger,
+    N: Roster,
+    G: Gate + Watch,
+>(
+    shared: &SharedLanes<R, L, M, A, B, N>,
+    kept: &mut KeptLane<R, L, A, N>,
+    gate: &G,
+) -> Result<Option<Turned>, NoMemory> {
+    match shared.turn(kept, gate) {
+        Ok(replies) => {
+            let owner = owner_in(kept.lane());
+            gate.owned(kept.lane().number(), owner);
+            // While the table moves or is rebuilt one turn leads to the next, unless the lane waits for a replay.
+            let is_busy = owner.is_none() && replies.is_empty();
+            Ok(Some(Turned { replies, is_busy }))
+        }
+        Err(Short::NoMemory) => Err(NoMemory),
+        Err(Short::Worn(_)) => Ok(None),
+    }
 }
 
 // Gives the parcels of a lane to the workers that replay. What the queue cannot take is replayed here.
@@ -120,7 +181,7 @@ fn give_all<
             number: *number,
         };
         match parcels.give(rt, pass, parcel) {
-            Ok(()) => board.given.raise(1),
+            Ok(()) => board.given.raise(),
             Err(back) => replay(rt, shared, board, gate, back)?,
         }
     }
@@ -148,7 +209,7 @@ pub(crate) fn replay<
         return Ok(());
     }
     let replayed = shared.replay(&mut shared.hold(rt, parcel.lane), parcel, gate);
-    board.asked.raise(1);
+    board.leave_work(parcel.lane);
     match replayed {
         Err(Short::NoMemory) => Err(NoMemory),
         // A lane that is worn changed nothing.

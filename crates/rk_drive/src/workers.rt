@@ -9,6 +9,7 @@ use crate::conducting::conduct;
 use crate::plan::Plan;
 use crate::replaying::run_replays;
 use crate::turning::run_turns;
+use crate::watch::Watch;
 use rk_dispatch::{ParcelPass, Parcels};
 use rk_outside::{Gate, Replica};
 use rk_shared::Roster;
@@ -40,7 +41,7 @@ pub(crate) fn run_all<
     A: Ledger + Send + Sync,
     B: Ledger + Send + Sync,
     N: Roster + Send + Sync,
-    G: Gate + Sync,
+    G: Gate + Watch + Sync,
 >(
     rt: &X,
     alloc: Global,
@@ -82,7 +83,7 @@ fn run_clients<
     A: Ledger + Send + Sync,
     B: Ledger + Send + Sync,
     N: Roster + Send + Sync,
-    G: Gate + Sync,
+    G: Gate + Watch + Sync,
 >(
     rt: &X,
     alloc: Global,
@@ -121,7 +122,7 @@ fn each_chunk<
     A: Ledger + Send + Sync,
     B: Ledger + Send + Sync,
     N: Roster + Send + Sync,
-    G: Gate + Sync,
+    G: Gate + Watch + Sync,
 >(
     rt: &X,
     alloc: Global,
@@ -158,7 +159,7 @@ fn run_others<
     A: Ledger + Send + Sync,
     B: Ledger + Send + Sync,
     N: Roster + Send + Sync,
-    G: Gate + Sync,
+    G: Gate + Watch + Sync,
 >(
     rt: &X,
     shared: &SharedLanes<R, L, M, A, B, N>,
@@ -207,7 +208,7 @@ fn run_turners<
     A: Ledger + Send + Sync,
     B: Ledger + Send + Sync,
     N: Roster + Send + Sync,
-    G: Gate + Sync,
+    G: Gate + Watch + Sync,
 >(
     rt: &X,
     shared: &SharedLanes<R, L, M, A, B, N>,

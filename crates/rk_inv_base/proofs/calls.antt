@@ -2,14 +2,15 @@ pub mod Appending
 pub mod Calls
 pub mod Counters
 pub mod Histories
-pub mod Waiting
 pub mod Targets
 pub mod Rebuilders
 pub mod Receives
 pub mod Rebuilds
 pub mod Rest
+pub mod Journals
 pub mod SameRecords
 pub mod Accepted
+pub mod OtherJournals
 pub mod MoreRecords
 pub mod ReadRecorded
 pub mod Come

@@ -1,10 +1,7 @@
 pub mod SmallWorld
 pub mod SmallWorldLooks
-pub mod SmallWorldMap
 pub mod SmallWorldLogs
-pub mod SmallWorldHistory
-pub mod SmallWorldCalls
-pub mod SmallWorldWire
+pub mod SmallWorldParts
 pub mod SmallWorldSound
 pub mod SmallWorldPlayed
 pub mod SmallWorldRoom

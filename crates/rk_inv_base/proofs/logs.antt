@@ -4,9 +4,12 @@ pub mod Segments
 pub mod Logs
 pub mod Floors
 pub mod Grows
+pub mod Copies
 pub mod BytesStored
 pub mod LengthTold
 pub mod InRest
+pub mod OneMore
+pub mod EntryAppended
 pub mod ClosingTarget
 pub mod ClosingAppended
 pub mod InRange

@@ -1,11 +1,15 @@
 pub mod Apart
 pub mod Speakers
 pub mod Rows
+pub mod Heirs
 pub mod Serving
 pub mod TurnedRows
 pub mod OpensOn
 pub mod BeforeTurn
 pub mod RowSays
+pub mod OtherRows
+pub mod RowAppended
+pub mod RowReplaced
 pub mod RowTurned
 pub mod PlaceNoted
 pub mod MigrationBegun

@@ -1,9 +1,12 @@
 pub mod Put
+pub mod ByRows
+pub mod OwnTablet
 pub mod Masters
 pub mod Lists
 pub mod Fresh
 pub mod Empty
 pub mod Views
+pub mod WithRecords
 pub mod Alike
 pub mod Seen
 pub mod Terms

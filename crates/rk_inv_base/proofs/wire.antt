@@ -1,3 +1,4 @@
 pub mod Messages
+pub mod Wire
 pub mod Sent
 pub mod Forgotten

@@ -1,3 +1,4 @@
+pub mod Words
 pub mod events
 pub mod turn
 pub mod reports

@@ -1,13 +1,6 @@
 pub mod FoundItems
-pub mod Arrived
-pub mod ServesAs
 pub mod OwnCounts
 pub mod RecordFound
-pub mod AtMaster
-pub mod Looks
 pub mod Ended
-pub mod FirstPlaces
-pub mod ReadChoices
 pub mod Repeating
 pub mod Reading
-pub mod Answered

@@ -1,6 +1,5 @@
 pub mod Scans
 pub mod Sources
-pub mod Asked
 pub mod Targets
 pub mod Replaying
 pub mod Answered

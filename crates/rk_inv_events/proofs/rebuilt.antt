@@ -3,6 +3,4 @@ pub mod Newest
 pub mod InPlace
 pub mod AppliedOwn
 pub mod RebuiltOwned
-pub mod MayOwn
 pub mod Told
-pub mod Delivered

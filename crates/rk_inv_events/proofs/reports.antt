@@ -1,4 +1,1 @@
-pub mod OwnerOrders
-pub mod Taken
-pub mod Waiting
 pub mod Reported

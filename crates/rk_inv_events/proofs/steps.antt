@@ -1,5 +1,2 @@
-pub mod ToCoordinator
-pub mod ToBackup
 pub mod SealedBehind
-pub mod ToMaster
 pub mod Stepped

@@ -1,10 +1,5 @@
-pub mod Twice
-pub mod FirstPlaces
-pub mod NextEntries
 pub mod Work
 pub mod AllApplied
 pub mod Replies
-pub mod OrderedTablets
 pub mod GoingOn
 pub mod StoredTaken
-pub mod StoredDelivered

@@ -1,7 +1,5 @@
 pub mod NewCalls
 pub mod StagedItems
-pub mod NoneStaged
-pub mod StagedLow
 pub mod Choosing
 pub mod Ending
 pub mod Staging

@@ -1,3 +1,5 @@
+pub mod masters
+pub mod lanes
 pub mod room
 pub mod late
 pub mod stands

@@ -1,9 +1,5 @@
 pub mod Logs
 pub mod Commits
-pub mod Handovers
-pub mod Pulls
-pub mod Rebuilds
-pub mod Steps
 pub mod Lanes
 pub mod Lacking
 pub mod Sends

@@ -3,8 +3,6 @@ pub mod Replays
 pub mod Pulled
 pub mod CopiesWritten
 pub mod Copied
-pub mod Records
-pub mod RecordSteps
 pub mod Logging
 pub mod RecordLanes
 pub mod SealedFew

@@ -1,5 +1,4 @@
 pub mod Sums
-pub mod Calls
 pub mod Sends
 pub mod Orders
 pub mod Answers

@@ -1,3 +1,4 @@
+pub mod OfRow
 pub mod Inserted
 pub mod NextEntry
 pub mod Stagers

@@ -1,5 +1,4 @@
 pub mod Among
-pub mod OtherRows
 pub mod Passing
 pub mod Histories
 pub mod LineageSays

@@ -1,3 +1,5 @@
+pub mod Words
+pub mod grow
 pub mod ready
 pub mod grant
 pub mod seal

@@ -2,7 +2,6 @@ pub mod Ends
 pub mod Takers
 pub mod Granting
 pub mod GrantedCalls
-pub mod GrantedRest
 pub mod GrantedReceives
 pub mod GrantedRebuilds
 pub mod GrantedMessages

@@ -4,9 +4,9 @@ pub mod Heirs
 pub mod LogsMore
 pub mod Merging
 pub mod MaterialTold
+pub mod MergedLogs
 pub mod Collected
 pub mod MergedCalls
-pub mod MergedRest
 pub mod MergedReceives
 pub mod MergedRebuilds
 pub mod MergedMessages

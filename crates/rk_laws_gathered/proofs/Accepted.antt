@@ -1,14 +1,11 @@
 -- The answers that recorded receipts report are among those of the accepted records.
-use Rattle.std.proofs.Common.{◌≡◌, ℕ, zero, suc, ◌+◌, Bool, true, false, cond, List, [], ◌∷◌, ◌++◌, Some, length, length-append, refl, sym, ap, ◌∙◌, subst, arith}
-use Rattle.std.specs.Prelude.{Contains, filter, map, slice_get}
+use Rattle.std.proofs.Common.{◌≡◌, ℕ, zero, suc, ◌+◌, Bool, true, false, cond, List, [], ◌∷◌, ◌++◌, Some, length, length-append, refl}
+use Rattle.std.proofs.Common.{sym, ap, ◌∙◌, subst, arith, Contains, filter, map, slice_get}
+use Rattle.rk_inv_base.proofs.Words.{length-map, Contains-append_left, Contains-append_right, sum_by-cons, Placed, Receipt, journal_of}
+use Rattle.rk_inv_base.proofs.Words.{Answered}
 use Rattle.std.specs.List.{count_by}
-use Rattle.std.proofs.lemmas.List.{length-map}
-use Rattle.std.proofs.lemmas.List.Elements.{Contains-append_left, Contains-append_right}
-use Rattle.std.proofs.lemmas.List.Sums.{length-filter, sum_by-cons}
-use Rattle.rk_types.specs.declared.history.Placed.{Placed}
-use Rattle.rk_types.specs.declared.history.Receipt.{Receipt}
-use Rattle.rk_model.specs.Merged.{journal_of}
-use Rattle.rk_model.specs.Ordered.{Answered, IsRecorded, told_by}
+use Rattle.std.proofs.lemmas.List.Sums.{length-filter}
+use Rattle.rk_model.specs.Ordered.{IsRecorded, told_by}
 use Rattle.rk_laws_gathered.specs.Answers.{accepted_answers, accepted_in, answer_in, answers_from}
 use Rattle.rk_laws_gathered.proofs.Pigeonhole.{first_in, later_in}
 

@@ -1,14 +1,10 @@
 -- Counted receipts are all: each accepted record is that of a receipt.
-use Rattle.std.proofs.Common.{◌≡◌, ◌≢◌, ℕ, ◌+◌, ◌≤◌, true, List, [], ◌∷◌, Some, length, ap, subst, arith}
-use Rattle.std.specs.Prelude.{Contains, IsPermutation, map, slice_get}
-use Rattle.std.specs.List.{All, AllPairs}
-use Rattle.std.proofs.lemmas.List.{length-map}
-use Rattle.std.proofs.lemmas.List.Elements.{All-contains, All-map, All-weaker}
+use Rattle.std.proofs.Common.{◌≡◌, ◌≢◌, ℕ, ◌+◌, ◌≤◌, true, List, [], ◌∷◌, Some, length, ap, subst, arith, Contains, map, slice_get, All}
+use Rattle.std.proofs.Common.{AllPairs}
+use Rattle.rk_inv_base.proofs.Words.{length-map, All-contains, All-map, All-weaker, Placed, Receipt, journal_of, Answered}
+use Rattle.std.specs.Prelude.{IsPermutation}
 use Rattle.std.proofs.lemmas.List.Sorted.{Contains-permutation, IsPermutation-sym}
-use Rattle.rk_types.specs.declared.history.Placed.{Placed}
-use Rattle.rk_types.specs.declared.history.Receipt.{Receipt}
-use Rattle.rk_model.specs.Merged.{journal_of}
-use Rattle.rk_model.specs.Ordered.{Answered, IsRecorded, told_by}
+use Rattle.rk_model.specs.Ordered.{IsRecorded, told_by}
 use Rattle.rk_laws_gathered.specs.Answers.{AreOfDistinctCalls, IsSameCall, accepted_answers, accepted_in, answer_in}
 use Rattle.rk_laws_gathered.proofs.Accepted.{answer_stands, length_answers, told_stands}
 use Rattle.rk_laws_gathered.proofs.Pairs.{pairs_cons, pairs_head, pairs_none, pairs_tail}

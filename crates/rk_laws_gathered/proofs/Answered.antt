@@ -1,15 +1,11 @@
 -- Where lanes have counted their calls, and were asked at most as many as the sessions made, each call was answered.
-use Rattle.std.proofs.Common.{◌≡◌, ℕ, ◌<◌, ◌≤◌, List, length, get_or, ap, subst, arith}
-use Rattle.std.specs.Prelude.{Contains, map}
-use Rattle.std.proofs.lemmas.List.{get_or_default, length-map}
-use Rattle.std.proofs.lemmas.List.Elements.{All-from_get_or, Contains-get_or}
+use Rattle.std.proofs.Common.{◌≡◌, ℕ, ◌<◌, ◌≤◌, List, length, get_or, ap, subst, arith, Contains, map}
+use Rattle.rk_inv_base.proofs.Words.{length-map, Contains-get_or, Placed, Receipt, Cluster, World, new_world, IsSound}
+use Rattle.std.proofs.lemmas.List.{get_or_default}
+use Rattle.std.proofs.lemmas.List.Elements.{All-from_get_or}
 use Rattle.std.proofs.lemmas.List.Sorted.{length_permutation}
-use Rattle.rk_types.specs.declared.history.Placed.{Placed}
-use Rattle.rk_types.specs.declared.history.Receipt.{Receipt}
 use Rattle.rk_model.specs.Ordered.{told_by}
-use Rattle.rk_world.specs.Cluster.{Cluster, journals_of}
-use Rattle.rk_world.specs.World.{World, new_world}
-use Rattle.rk_sound.specs.Whole.{IsSound}
+use Rattle.rk_world.specs.Cluster.{journals_of}
 use Rattle.rk_runs.specs.history.Agreement.{waiting}
 use Rattle.rk_laws_gathered.specs.Answers.{accepted_answers, accepted_in}
 use Rattle.rk_laws_gathered.specs.Gathered.{AreAnswered, AreCounted, AreGathered, IsEnded, LastAreAccepted}

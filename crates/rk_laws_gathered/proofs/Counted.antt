@@ -1,16 +1,9 @@
 -- Where lanes have counted their calls, and were asked at most as many as sessions made that ended, each call was answered.
-use Rattle.std.proofs.Common.{◌≡◌, ℕ, zero, suc, ◌+◌, ◌<◌, ◌≤◌, Bool, true, false, List, [], ◌∷◌, Option, Some, None, get_or, refl, sym, ap, ◌∙◌, subst, ⊎_elim, arith}
-use Rattle.std.specs.Prelude.{Contains, IfSome, map, not}
-use Rattle.std.specs.List.{All, count_by, sum_by}
-use Rattle.std.proofs.lemmas.List.Elements.{All-contains, All-head, All-nil, All-tail}
-use Rattle.std.proofs.lemmas.List.Sums.{sum_by-cons}
-use Rattle.rk_types.specs.declared.history.Placed.{Placed}
-use Rattle.rk_world.specs.Ledger.{Ledger, asked_by}
-use Rattle.rk_world.specs.Journal.{is_accepted}
-use Rattle.rk_world.specs.World.{World}
-use Rattle.rk_world.specs.declared.ledger.LastCall.{LastCall}
-use Rattle.rk_sound.specs.Asked.{IsAccepted, IsLastCall, WasAsked}
-use Rattle.rk_sound.specs.Whole.{IsSound}
+use Rattle.std.proofs.Common.{◌≡◌, ℕ, zero, suc, ◌+◌, ◌<◌, ◌≤◌, Bool, true, false, List, [], ◌∷◌, Option, Some, None, get_or, refl, sym}
+use Rattle.std.proofs.Common.{ap, ◌∙◌, subst, ⊎_elim, arith, Contains, IfSome, map, not, All, sum_by}
+use Rattle.rk_inv_base.proofs.Words.{All-contains, All-head, All-nil, All-tail, sum_by-cons, Placed, Ledger, asked_by, is_accepted, World}
+use Rattle.rk_inv_base.proofs.Words.{LastCall, IsAccepted, IsLastCall, WasAsked, IsSound}
+use Rattle.std.specs.List.{count_by}
 use Rattle.rk_inv_events.proofs.events.SameCalls.{found_accepted}
 use Rattle.rk_laws_lanes.specs.Counts.{accepted_count}
 use Rattle.rk_laws_gathered.specs.OpenCalls.{HasCountedCalls, HasOpenCall, is_open}

@@ -1,24 +1,14 @@
 -- Worked examples: two journals with the receipts of their accepted records, an open call, and a cluster that meets all premises.
-use Rattle.std.proofs.Common.{◌≡◌, ℕ, ◌≤◌, Bool, true, false, [], ◌∷◌, List, refl, arith}
-use Rattle.std.specs.Prelude.{map}
-use Rattle.std.specs.List.{All}
-use Rattle.std.proofs.lemmas.List.Elements.{All-from_recursion, All-nil}
-use Rattle.std.proofs.lemmas.List.FromFn.{length-map-range_with_len}
+use Rattle.std.proofs.Common.{◌≡◌, ℕ, ◌≤◌, Bool, true, false, [], ◌∷◌, List, refl, arith, map, All}
+use Rattle.rk_inv_base.proofs.Words.{All-from_recursion, All-nil, length-map-range_with_len, Call, LANES, Placed, Receipt, MOST_BACKUPS}
+use Rattle.rk_inv_base.proofs.Words.{Session, Cluster, Joins, cluster_run, new_cluster, IsRun, Ledger, with_asked, MOST_MASTERS, World}
+use Rattle.rk_inv_base.proofs.Words.{new_world}
 use Rattle.std.proofs.lemmas.List.Sorted.{IsPermutation-refl}
-use Rattle.rk_types.specs.declared.call.Call.{Call}
 use Rattle.rk_types.specs.declared.call.Op.TheVariants.{Get, Put}
 use Rattle.rk_types.specs.declared.call.Outcome.TheVariants.{Found, Written}
-use Rattle.rk_types.specs.declared.hashing.TheConstants.{LANES}
-use Rattle.rk_types.specs.declared.history.Placed.{Placed}
-use Rattle.rk_types.specs.declared.history.Receipt.{Receipt}
-use Rattle.rk_log.specs.declared.copied.TheConstants.{MOST_BACKUPS}
 use Rattle.rk_model.specs.Ordered.{IsRecorded, told_by}
-use Rattle.rk_world.specs.Client.{Session}
-use Rattle.rk_world.specs.Cluster.{Cluster, Joins, cluster_run, journals_of, new_cluster}
-use Rattle.rk_world.specs.ClusterRuns.{IsRun}
-use Rattle.rk_world.specs.Ledger.{Ledger, new_ledger, with_asked}
-use Rattle.rk_world.specs.Premises.{MOST_MASTERS}
-use Rattle.rk_world.specs.World.{World, new_world}
+use Rattle.rk_world.specs.Cluster.{journals_of}
+use Rattle.rk_world.specs.Ledger.{new_ledger}
 use Rattle.rk_inv_wellformed.proofs.maps.Maps.{each_from_pairs}
 use Rattle.rk_laws_lanes.proofs.OfRuns.{good_in_run}
 use Rattle.rk_laws_gathered.specs.Answers.{HasJustTheAnswers, accepted_in}

@@ -1,24 +1,14 @@
 -- Gathered lanes and sessions in which each call was answered agree with each other, so they have one history.
 use Rattle.std.proofs.Common.{◌≡◌, ℕ, ◌<◌, Bool, true, false, ◌||◌, List, Option, Some, None, refl, sym, ap, ◌∙◌, subst, inl, ⊎_elim}
-use Rattle.std.specs.Prelude.{Contains, IfSome, map, slice_get, unwrap_or}
-use Rattle.std.specs.List.{All}
-use Rattle.std.proofs.lemmas.Bool.{false≢true}
-use Rattle.std.proofs.lemmas.Option.{none-some}
-use Rattle.std.proofs.lemmas.List.Elements.{All-contains, All-contains_itself, All-nil, All-weaker}
+use Rattle.std.proofs.Common.{Contains, IfSome, map, slice_get, unwrap_or, All}
+use Rattle.rk_inv_base.proofs.Words.{false≢true, none-some, All-contains, All-contains_itself, All-nil, All-weaker, get, Placed, Receipt}
+use Rattle.rk_inv_base.proofs.Words.{Line, IsRisingAbove, is_mutation, journal_of, Answered, Session, new_session, Cluster, lane_at}
+use Rattle.rk_inv_base.proofs.Words.{session_at, asked_by, World, new_world, LastCall, IsAccepted, WasAsked}
 use Rattle.std.proofs.lemmas.List.Sorted.{IsPermutation-trans}
-use Rattle.rk_types.specs.NumberMap.{get}
-use Rattle.rk_types.specs.declared.history.Placed.{Placed}
-use Rattle.rk_types.specs.declared.history.Receipt.{Receipt}
-use Rattle.rk_model.specs.declared.line.Line.{Line}
-use Rattle.rk_model.specs.Merged.{IsRisingAbove, is_kept, is_mutation, journal_of, merged}
-use Rattle.rk_model.specs.Ordered.{Answered, IsRecorded, answer_of, told_by}
+use Rattle.rk_model.specs.Merged.{is_kept, merged}
+use Rattle.rk_model.specs.Ordered.{IsRecorded, answer_of, told_by}
 use Rattle.rk_model.proofs.Merging.{merged-IsMergedFrom}
-use Rattle.rk_world.specs.Client.{Session, new_session}
-use Rattle.rk_world.specs.Cluster.{Cluster, HasOneHistory, journals_of, lane_at, session_at}
-use Rattle.rk_world.specs.Ledger.{asked_by}
-use Rattle.rk_world.specs.World.{World, new_world}
-use Rattle.rk_world.specs.declared.ledger.LastCall.{LastCall}
-use Rattle.rk_sound.specs.Asked.{IsAccepted, WasAsked}
+use Rattle.rk_world.specs.Cluster.{HasOneHistory, journals_of}
 use Rattle.rk_runs.specs.history.Agreement.{Agrees, IsLastKnown, IsRecordedIn, IsToldBy}
 use Rattle.rk_runs.proofs.history.Lines.{stands_line, unmapped}
 use Rattle.rk_runs.proofs.history.Ordered.{ordered}
@@ -27,7 +17,10 @@ use Rattle.rk_laws_gathered.specs.Answers.{AreOfDistinctCalls, HasJustTheAnswers
 use Rattle.rk_laws_gathered.specs.Gathered.{AreAnswered, AreGathered, IsEnded, IsRepeatedRead}
 use Rattle.rk_laws_gathered.specs.Sessions.{receipts_in}
 use Rattle.rk_laws_gathered.proofs.AllTold.{all_told, each_told}
-use Rattle.rk_laws_gathered.proofs.Lanes.{each_lane, journals_are, lawful, ledgers_of, legal}
+use Rattle.rk_laws_gathered.proofs.Lanes.{lawful, legal}
+use Rattle.rk_runs.proofs.history.Clusters.{ledgers_of}
+use Rattle.rk_runs.proofs.history.Journals.{each_lane, journals_are}
+use Rattle.rk_laws_gathered.proofs.Orderly.{new_orderly}
 use Rattle.rk_laws_gathered.proofs.Merged.{merged_answers}
 use Rattle.rk_laws_gathered.proofs.Sessions.{among, distinct_calls, owner}
 
@@ -45,17 +38,7 @@ module _ (masters : ℕ) (cluster : Cluster) (gathered : AreGathered masters clu
 
   ended_by : (client : ℕ) (found : Option Session) → get cluster.sessions client ≡ found
       → IsEnded client (unwrap_or found (new_session client))
-  ended_by client None none = record {
-    orderly = record {
-      client_is = refl;
-      receipts = record { numbered = tt; calls = All-nil _ };
-      last = refl;
-      outstanding = tt;
-      rising = tt;
-      seen = All-nil _;
-    };
-    answered = refl;
-  }
+  ended_by client None none = record { orderly = new_orderly client; answered = refl }
   ended_by client (Some session) some = gathered.ended client session some
 
   ended : (client : ℕ) → IsEnded client (session_at cluster client)

@@ -1,14 +1,12 @@
 -- Where each record of a mutation is accepted, the merged history has the accepted records and nothing else.
-use Rattle.std.proofs.Common.{◌≡◌, ℕ, suc, ◌+◌, Bool, true, false, ◌||◌, cond, List, [], ◌∷◌, ◌++◌, refl, sym, ap, ◌∙◌, subst}
-use Rattle.std.specs.Prelude.{IsPermutation, filter, map}
-use Rattle.std.specs.List.{All}
-use Rattle.std.proofs.lemmas.List.{map-append}
-use Rattle.std.proofs.lemmas.List.Elements.{All-head, All-tail}
-use Rattle.std.proofs.lemmas.List.Sorted.{IsPermutation-cons, IsPermutation-map, IsPermutation-middle, IsPermutation-refl, IsPermutation-sym, IsPermutation-trans}
-use Rattle.rk_types.specs.declared.history.Placed.{Placed}
-use Rattle.rk_model.specs.declared.line.Line.{Line}
-use Rattle.rk_model.specs.Merged.{in_order, is_before, is_kept, is_mutation, lines_from, lines_of, merged, put_in_order}
-use Rattle.rk_model.specs.Ordered.{Answered, answer_of}
+use Rattle.std.proofs.Common.{◌≡◌, ℕ, suc, ◌+◌, Bool, true, false, ◌||◌, cond, List, [], ◌∷◌, ◌++◌, refl, sym, ap, ◌∙◌, subst, filter}
+use Rattle.std.proofs.Common.{map, All}
+use Rattle.rk_inv_base.proofs.Words.{map-append, All-head, All-tail, Placed, Line, is_mutation, Answered}
+use Rattle.std.specs.Prelude.{IsPermutation}
+use Rattle.std.proofs.lemmas.List.Sorted.{IsPermutation-cons, IsPermutation-map, IsPermutation-middle, IsPermutation-refl}
+use Rattle.std.proofs.lemmas.List.Sorted.{IsPermutation-sym, IsPermutation-trans}
+use Rattle.rk_model.specs.Merged.{in_order, is_before, is_kept, lines_from, lines_of, merged, put_in_order}
+use Rattle.rk_model.specs.Ordered.{answer_of}
 use Rattle.rk_laws_gathered.specs.Answers.{MutationsAreAccepted, accepted_answers, answer_in, answers_from}
 
 -- ---- lines in order are the same lines

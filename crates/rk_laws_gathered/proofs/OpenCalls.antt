@@ -1,17 +1,13 @@
 -- A ledger that has counted its calls goes on doing so: when records are added that are not accepted, when a client asks, and when it takes
 -- the answer to its open call.
-use Rattle.std.proofs.Common.{◌≡◌, ◌≢◌, ℕ, zero, suc, ◌+◌, ◌≤◌, Bool, true, false, ◌&&◌, ◌||◌, cond, List, [], ◌∷◌, ◌++◌, Option, Some, None, length, refl, sym, ap, ◌∙◌, subst, ⊎_elim, arith}
-use Rattle.std.specs.Prelude.{Contains, not, slice_get, unwrap_or}
-use Rattle.std.specs.List.{All, AllPairs, count_by, list_any}
-use Rattle.std.proofs.lemmas.Bool.{and_from, cases_eq, eq-eqb, false≢true}
-use Rattle.std.proofs.lemmas.List.Elements.{All-contains, All-cons, All-contains_itself, All-head, All-nil, All-weaker}
-use Rattle.std.proofs.lemmas.List.Folds.{list_any-append}
-use Rattle.std.proofs.lemmas.List.Sums.{sum_by-cons}
-use Rattle.rk_types.proofs.NumberMaps.{get_other}
-use Rattle.rk_types.specs.declared.history.Placed.{Placed}
-use Rattle.rk_world.specs.Journal.{accepted_at, as_accepted, is_accepted, is_of_call}
-use Rattle.rk_world.specs.Ledger.{Ledger, asked_by, new_ledger, with_accepted, with_asked}
-use Rattle.rk_world.specs.declared.ledger.LastCall.{LastCall}
+use Rattle.std.proofs.Common.{◌≡◌, ◌≢◌, ℕ, zero, suc, ◌+◌, ◌≤◌, Bool, true, false, ◌&&◌, ◌||◌, cond, List, [], ◌∷◌, ◌++◌, Option, Some}
+use Rattle.std.proofs.Common.{None, length, refl, sym, ap, ◌∙◌, subst, ⊎_elim, arith, Contains, not, slice_get, unwrap_or, All, AllPairs}
+use Rattle.std.proofs.Common.{eq-eqb}
+use Rattle.rk_inv_base.proofs.Words.{list_any, and_from, cases_eq, false≢true, All-contains, All-cons, All-contains_itself, All-head}
+use Rattle.rk_inv_base.proofs.Words.{All-nil, All-weaker, list_any-append, sum_by-cons, get_other, Placed, accepted_at, as_accepted}
+use Rattle.rk_inv_base.proofs.Words.{is_accepted, is_of_call, Ledger, asked_by, with_asked, LastCall}
+use Rattle.std.specs.List.{count_by}
+use Rattle.rk_world.specs.Ledger.{new_ledger, with_accepted}
 use Rattle.rk_laws_lanes.specs.Counts.{accepted_count}
 use Rattle.rk_laws_gathered.specs.OpenCalls.{HasCountedCalls, HasOpenCall, is_open}
 use Rattle.rk_laws_gathered.proofs.Pairs.{pairs_cons, pairs_head, pairs_none, pairs_tail}

@@ -1,42 +1,18 @@
 -- A session stays orderly when its client asks a call, takes its turn, and takes an answer with a stamp above all that it has seen.
-use Rattle.std.proofs.Common.{◌≡◌, ◌==◌, ℕ, ◌+◌, ◌<◌, ◌≤◌, Bool, true, false, cond, List, [], ◌∷◌, Option, Some, None, length, length-append, refl, sym, ap, ◌∙◌, subst, arith}
-use Rattle.std.specs.Prelude.{IfSome, max}
-use Rattle.std.specs.Option.{option_map}
-use Rattle.std.specs.List.{All}
-use Rattle.std.proofs.lemmas.Bool.{eqb-true}
-use Rattle.std.proofs.lemmas.List.Elements.{All-contains, All-nil, All-push, All-weaker}
-use Rattle.rk_types.specs.NumberMap.{get}
-use Rattle.rk_types.specs.declared.call.Answer.{Answer}
-use Rattle.rk_types.specs.declared.call.Answer.TheVariants as answers
-use Rattle.rk_types.specs.declared.call.Call.{Call}
-use Rattle.rk_types.specs.declared.call.Op.{Op}
-use Rattle.rk_types.specs.declared.call.Outcome.{Outcome}
-use Rattle.rk_types.specs.declared.history.Placed.{Placed}
-use Rattle.rk_types.specs.declared.history.Receipt.{Receipt}
-use Rattle.rk_types.specs.declared.node.Node.{Node}
-use Rattle.rk_types.specs.declared.node.Node.TheVariants as nodes
-use Rattle.rk_message.specs.declared.calls.Located.{Located}
-use Rattle.rk_message.specs.declared.calls.Reply.{Reply}
-use Rattle.rk_message.specs.declared.message.Body.{Body}
-use Rattle.rk_message.specs.declared.message.Body.TheVariants as bodies
-use Rattle.rk_message.specs.declared.message.Message.{Message}
-use Rattle.rk_world.specs.Calls.{accepting, asked_by_session, asking, asking_by, fits_with, is_asked, taking, untouched}
-use Rattle.rk_world.specs.Client.{ClientTurn, MOST_REQUESTS, Session, accepted_by, accepted_of, answer_accepted, busy, call_lane, done, has_call, ignoring, looking_up, new_session, range_of, receipt_of, session_calling, session_turn, turn_by, turn_of, turn_to, with_next_call, with_range, without_range}
-use Rattle.rk_world.specs.Ledger.{asked_by}
-use Rattle.rk_world.specs.Premises.{MayAct}
+use Rattle.std.proofs.Common.{◌≡◌, ◌==◌, ℕ, ◌+◌, ◌<◌, ◌≤◌, Bool, true, false, cond, List, [], ◌∷◌, Option, Some, None, length}
+use Rattle.std.proofs.Common.{length-append, refl, sym, ap, ◌∙◌, subst, arith, IfSome, max, option_map, All}
+use Rattle.rk_inv_base.proofs.Words.{All-contains, All-nil, All-push, All-weaker, get, Call, Op, Outcome, Placed, Receipt, Located, Reply}
+use Rattle.rk_inv_base.proofs.Words.{Message, accepting, asking, asking_by, fits_with, is_asked, untouched, ClientTurn, Session}
+use Rattle.rk_inv_base.proofs.Words.{call_lane, new_session, session_turn, turn_of, asked_by, MayAct, World, LastCall, MayAccept}
+use Rattle.rk_inv_base.proofs.Words.{IsRecordAt, IsAfterSeen, view, IsSound}
+use Rattle.rk_world.specs.Client.{MOST_REQUESTS, busy, done, looking_up, range_of, receipt_of, session_calling, turn_by, turn_to}
+use Rattle.rk_world.specs.Client.{with_next_call, with_range, without_range}
 use Rattle.rk_world.specs.Refusals.{is_for}
-use Rattle.rk_world.specs.World.{World}
-use Rattle.rk_world.specs.declared.event.Taken.TheVariants as takes
-use Rattle.rk_world.specs.declared.ledger.LastCall.{LastCall}
-use Rattle.rk_sound.specs.Changes.{MayAccept}
-use Rattle.rk_sound.specs.Messages.{AnswerFits, IsRecordAt, Says}
-use Rattle.rk_sound.specs.Truth.{IsAfterSeen}
-use Rattle.rk_sound.specs.View.{view}
-use Rattle.rk_sound.specs.Whole.{IsSound}
 use Rattle.rk_inv_base.proofs.calls.Accepted.{stands_there}
-use Rattle.rk_inv_events.proofs.events.Clients.{for_client, is_last_there, may_accept}
+use Rattle.rk_inv_events.proofs.events.Clients.{is_last_there, may_accept}
 use Rattle.rk_runs.specs.history.Agreement.{AreRisingAbove, waiting}
 use Rattle.rk_runs.proofs.history.Receipts.{numbered_push, rising_push}
+use Rattle.rk_runs.proofs.history.Taking.{accepting_taken}
 use Rattle.rk_laws_gathered.specs.Answers.{AreOwn}
 use Rattle.rk_laws_gathered.specs.Gathered.{IsOrderly}
 
@@ -185,50 +161,16 @@ module _ (client : ℕ) (w : World) (number : ℕ) (session : Session) (sound : 
         let stamp = at.stamp_is in
         omega (arith, above, stamp)
 
-    by_answer : (reply : Reply) (answer : Answer) → reply.answer ≡ answer
-        → Says w.ledger.journal (nodes.Client session.client) (bodies.Reply reply) → (same : Bool) → (reply.seq == call.seq) ≡ same
-        → IsOrderly client (cond same (answer_accepted session call reply answer) (ignoring session)).session
-    by_answer reply answer is says false differs = orderly
-    by_answer reply (answers.Done outcome) is says true seq_is =
-        done_orderly client session orderly call reply outcome out
-        (stamped reply outcome (eqb-true reply.seq call.seq seq_is) (subst (AnswerFits w.ledger.journal session.client reply) is says))
-    by_answer reply (answers.Moved tablet) is says true seq_is =
-        ranged client session orderly (record (without_range session call) { requests = 0 }) refl refl refl refl refl
-    by_answer reply (answers.NotYet key) is says true seq_is = orderly
-
-    by_range : (located : Located) (has : Bool)
-        → IsOrderly client (cond has (record { session = with_range session (call_lane call) located; taken = takes.Located })
-        (ignoring session)).session
-    by_range located true = ranged client session orderly (with_range session (call_lane call) located) refl refl refl refl refl
-    by_range located false = orderly
-
-    took : (body : Body) → Says w.ledger.journal (nodes.Client session.client) body
-        → IsOrderly client (accepted_by session call body).session
-    took (bodies.Reply reply) says = by_answer reply reply.answer refl says (reply.seq == call.seq) refl
-    took (bodies.Located located) says = by_range located (has_call call located)
-    took body says = orderly
-
   pub accepting_orderly : (message : Message) → get w.wire.messages number ≡ Some message → is_for session.client message.to ≡ true
       → IsOrderly client (accepting w session (Some message)).session
-  accepting_orderly message on to = by_out session.outstanding refl
-    where
-      says : Says w.ledger.journal (nodes.Client session.client) message.body
-      says =
-          subst (λ (to : Node). Says w.ledger.journal to message.body) (for_client w number session sound may message.to to)
-          (sound.messages.others number message on)
-
-      by_out : (out : Option Call) → session.outstanding ≡ out
-          → IsOrderly client (cond (asked_by_session w session out) (taking w session message.body)
-          (untouched w session (Some takes.Ignored))).session
-      by_out None none = orderly
-      by_out (Some call) some = by_asked (is_asked w.ledger session call) refl
-        where
-          own : call.client ≡ session.client
-          own = (subst (λ (o : Option Call). IfSome o (λ (c : Call). (c.client ≡ session.client) × (c.seq ≡ session.last))) some may.own).0
-
-          by_asked : (asked : Bool) → is_asked w.ledger session call ≡ asked
-              → IsOrderly client (cond asked (taking w session message.body) (untouched w session (Some takes.Ignored))).session
-          by_asked false is = orderly
-          by_asked true is =
-              subst (λ (o : Option Call). IsOrderly client (accepted_of session o message.body).session) (sym some)
-              (took call some is own message.body says)
+  accepting_orderly message on to =
+      accepting_taken w number session message sound may on to (λ visited. IsOrderly client visited.session) orderly
+      (λ call out asked own. record {
+        ignores = λ body. orderly;
+        ends = λ reply outcome seq_is at.
+            done_orderly client session orderly call reply outcome out (stamped call out asked own reply outcome seq_is at);
+        moves = λ reply tablet.
+            ranged client session orderly (record (without_range session call) { requests = 0 }) refl refl refl refl refl;
+        waits = λ reply key. orderly;
+        locates = λ located. ranged client session orderly (with_range session (call_lane call) located) refl refl refl refl refl;
+      })

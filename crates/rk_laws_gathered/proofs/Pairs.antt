@@ -1,7 +1,6 @@
 -- What holds of each two elements of a list.
-use Rattle.std.proofs.Common.{zero, suc, List, [], ◌∷◌, ◌++◌, arith}
-use Rattle.std.specs.List.{All, AllPairs}
-use Rattle.std.proofs.lemmas.List.Elements.{All-append, All-head, All-tail}
+use Rattle.std.proofs.Common.{zero, suc, List, [], ◌∷◌, ◌++◌, arith, All, AllPairs}
+use Rattle.rk_inv_base.proofs.Words.{All-append, All-head, All-tail}
 
 module _ {X : Type 0} (R : X → X → Type 0) where
   pub pairs_none : AllPairs R []

@@ -1,10 +1,10 @@
 -- Distinct things of a list that are as many as it has are all of it.
-use Rattle.std.proofs.Common.{◌≡◌, ◌≢◌, ℕ, zero, suc, ◌<◌, ◌≤◌, List, [], ◌∷◌, length, sym, get_or, arith}
-use Rattle.std.specs.Prelude.{Contains, IsPermutation, remove}
-use Rattle.std.specs.List.{All, AllPairs}
+use Rattle.std.proofs.Common.{◌≡◌, ◌≢◌, ℕ, zero, suc, ◌<◌, ◌≤◌, List, [], ◌∷◌, length, sym, get_or, arith, Contains, All, AllPairs}
+use Rattle.rk_inv_base.proofs.Words.{All-contains, Contains-append_right, Contains-get_or}
+use Rattle.std.specs.Prelude.{IsPermutation, remove}
 use Rattle.std.proofs.lemmas.List.Edits.{length-remove}
-use Rattle.std.proofs.lemmas.List.Elements.{All-contains, Contains-append_right, Contains-get_or}
-use Rattle.std.proofs.lemmas.List.Sorted.{Contains-permutation, IsPermutation-cons, IsPermutation-refl, IsPermutation-remove, IsPermutation-sym, IsPermutation-trans}
+use Rattle.std.proofs.lemmas.List.Sorted.{Contains-permutation, IsPermutation-cons, IsPermutation-refl, IsPermutation-remove}
+use Rattle.std.proofs.lemmas.List.Sorted.{IsPermutation-sym, IsPermutation-trans}
 use Rattle.rk_laws_gathered.proofs.Pairs.{pairs_head, pairs_tail}
 
 module _ {X : Type 0} where

@@ -1,15 +1,11 @@
 -- The receipts of sessions that ended: whose they are, and that no two are of one call.
-use Rattle.std.proofs.Common.{◌≡◌, ℕ, ◌+◌, ◌<◌, ◌≤◌, T, true, false, cond, List, [], ◌∷◌, Some, length, length-append, refl, sym, subst, ⊎_elim, arith}
-use Rattle.std.specs.Prelude.{Contains}
+use Rattle.std.proofs.Common.{◌≡◌, ℕ, ◌+◌, ◌<◌, ◌≤◌, T, true, false, cond, List, [], ◌∷◌, Some, length, length-append, refl, sym, subst}
+use Rattle.std.proofs.Common.{⊎_elim, arith, Contains, All, is_lt, nat_cmp}
+use Rattle.rk_inv_base.proofs.Words.{eq_by_cmp, All-append, All-cons, All-contains, All-head, All-nil, All-tail, All-weaker}
+use Rattle.rk_inv_base.proofs.Words.{Contains-append_cases, Contains-append_left, Contains-append_right, sum_by-cons, EachIn, IsInOrder}
+use Rattle.rk_inv_base.proofs.Words.{NumberMap, get, Receipt, Session}
 use Rattle.std.specs.FinMap.Entries.{below_all}
-use Rattle.std.specs.List.{All}
-use Rattle.std.specs.Ordering.{eq_by_cmp, is_lt, nat_cmp}
-use Rattle.std.proofs.lemmas.List.Elements.{All-append, All-cons, All-contains, All-head, All-nil, All-tail, All-weaker, Contains-append_cases, Contains-append_left, Contains-append_right}
-use Rattle.std.proofs.lemmas.List.Sums.{sum_by-cons}
-use Rattle.rk_types.specs.NumberMap.{EachIn, IsInOrder, NumberMap, get}
-use Rattle.rk_types.specs.declared.history.Receipt.{Receipt}
 use Rattle.rk_model.specs.Ordered.{IsNumberedFrom}
-use Rattle.rk_world.specs.Client.{Session}
 use Rattle.rk_inv_wellformed.proofs.maps.Maps.{All_pairs, first, get_first, get_later, is_below, order_tail, second}
 use Rattle.rk_laws_gathered.specs.Answers.{AreOfDistinctCalls, AreOwn, IsSameCall}
 use Rattle.rk_laws_gathered.specs.Sessions.{calls_in, receipts_in}

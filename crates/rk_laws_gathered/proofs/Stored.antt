@@ -1,24 +1,21 @@
 -- Where a gathered lane is quiet, its backups store what the one history has of it.
-use Rattle.std.proofs.Common.{◌≡◌, ℕ, ◌<◌, List, length, sym, ap, ◌∙◌, subst}
-use Rattle.std.specs.List.{All}
-use Rattle.std.proofs.lemmas.List.Elements.{All-weaker}
-use Rattle.rk_outside.specs.Segments.{Segments}
-use Rattle.rk_tablet_map.specs.declared.row.Row.{Row}
-use Rattle.rk_model.specs.History.{empty_map, live_after, map_after, record_of}
-use Rattle.rk_model.specs.Merged.{HasOwnKeys, IsRisingAbove, journal_of, lane_of_key, merged, records_of}
+use Rattle.std.proofs.Common.{◌≡◌, ℕ, ◌<◌, List, length, sym, ap, ◌∙◌, subst, All}
+use Rattle.rk_inv_base.proofs.Words.{All-weaker, Segments, Row, live_after, map_after, HasOwnKeys, IsRisingAbove, journal_of, lane_of_key}
+use Rattle.rk_inv_base.proofs.Words.{Placed, Base, base_map, Session, Cluster, lane_at, World}
+use Rattle.rk_model.specs.History.{empty_map, record_of}
+use Rattle.rk_model.specs.Merged.{merged, records_of}
 use Rattle.rk_model.proofs.Lanes.{map_after_merged}
-use Rattle.rk_types.specs.declared.history.Placed.{Placed}
-use Rattle.rk_world.specs.Base.{Base, base_map}
-use Rattle.rk_world.specs.Client.{Session}
-use Rattle.rk_world.specs.Cluster.{Cluster, journals_of, lane_at}
+use Rattle.rk_world.specs.Cluster.{journals_of}
 use Rattle.rk_world.specs.Quiet.{IsQuiet}
 use Rattle.rk_world.specs.Stands.{Stands, StandsIn}
-use Rattle.rk_world.specs.World.{World, live_masters}
+use Rattle.rk_world.specs.World.{live_masters}
 use Rattle.rk_inv_lanes.proofs.stands.Standing.{quiet_stands_in_room}
 use Rattle.rk_inv_lanes.proofs.stands.Telling.{own_where_all_tell}
 use Rattle.rk_laws_lanes.specs.GoodLane.{IsGoodLane}
 use Rattle.rk_laws_gathered.specs.StoredHistory.{HistoryIsStored, StoresHistory}
-use Rattle.rk_laws_gathered.proofs.Lanes.{journals_are, lawful, ledgers_of}
+use Rattle.rk_laws_gathered.proofs.Lanes.{lawful}
+use Rattle.rk_runs.proofs.history.Clusters.{ledgers_of}
+use Rattle.rk_runs.proofs.history.Journals.{journals_are}
 
 module _ (masters : ℕ) (cluster : Cluster) (good : (lane : ℕ) → lane < length cluster.lanes → IsGoodLane masters lane (lane_at cluster lane)) where
   -- the one history has of a key what the journal of the key's lane has

@@ -1,19 +1,9 @@
 -- What a client's turn counts: its call, where it was not asked in the lane before.
-use Rattle.std.proofs.Common.{◌≡◌, ◌+◌, ℕ, Bool, true, false, cond, Option, Some, None, refl, sym, ap, subst, ◌∙◌, ⊎_elim}
-use Rattle.std.specs.Prelude.{◌==◌, is_some}
-use Rattle.std.proofs.lemmas.Bool.{cases_eq}
-use Rattle.rk_types.specs.NumberMap.{get, insert}
-use Rattle.rk_types.proofs.NumberMaps.{get_other, get_same}
-use Rattle.rk_types.specs.declared.call.Call.{Call}
-use Rattle.rk_message.specs.declared.calls.Located.{Located}
-use Rattle.rk_message.specs.declared.message.Body.{Body}
-use Rattle.rk_message.specs.declared.message.Body.TheVariants as bodies
-use Rattle.rk_message.specs.declared.message.Message.{Message}
-use Rattle.rk_world.specs.Calls.{Visited, asking, asking_by, fits_with, is_asked, ledger_asked, ledger_requested, untouched}
-use Rattle.rk_world.specs.Client.{ClientTurn, MOST_REQUESTS, Session, looking_up, range_of, session_turn, turn_by, turn_of, turn_to}
-use Rattle.rk_world.specs.Ledger.{Ledger, is_added, with_asked}
-use Rattle.rk_world.specs.World.{World}
-use Rattle.rk_world.specs.declared.ledger.LastCall.{LastCall}
+use Rattle.std.proofs.Common.{◌≡◌, ◌+◌, ℕ, Bool, true, false, cond, Option, Some, None, refl, sym, ap, subst, ◌∙◌, ⊎_elim, ◌==◌, is_some}
+use Rattle.rk_inv_base.proofs.Words.{cases_eq, get_other, get_same, Call, Located, Body, Message, asking, asking_by, fits_with, is_asked}
+use Rattle.rk_inv_base.proofs.Words.{ledger_asked, ledger_requested, untouched, ClientTurn, Session, session_turn, turn_of, Ledger}
+use Rattle.rk_inv_base.proofs.Words.{is_added, with_asked, World, LastCall}
+use Rattle.rk_world.specs.Client.{MOST_REQUESTS, looking_up, range_of, turn_by, turn_to}
 use Rattle.rk_laws_lanes.specs.Counts.{HasSameClients, IsAskedOnce, accepted_count}
 
 -- what a turn leaves of a session
@@ -67,7 +57,7 @@ noted ledger session call added = by_test (is_asked ledger session call) refl
 -- a request that is saved changes none of these
 saved : (ledger now : Ledger) (session : Session) (call : Call) (message : Message) (body : Body) → IsAskedIn ledger session call now
     → IsAskedIn ledger session call (ledger_requested now session.client message body)
-saved ledger now session call message (bodies.Request request) asked = record { accepted = asked.accepted; asked = asked.asked; clients = asked.clients }
+saved ledger now session call message (Body.Request request) asked = record { accepted = asked.accepted; asked = asked.asked; clients = asked.clients }
 saved ledger now session call message body asked = asked
 
 module _ (w : World) (session : Session) (call : Call) (out : session.outstanding ≡ Some call) (added : is_added w.ledger session.client ≡ true) where

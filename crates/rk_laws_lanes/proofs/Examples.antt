@@ -1,10 +1,7 @@
 -- Worked examples of what a lane counts.
 use Rattle.std.proofs.Common.{◌≡◌, Bool, true, false, [], ◌∷◌, refl}
-use Rattle.rk_types.specs.declared.call.Call.{Call}
-use Rattle.rk_types.specs.declared.call.Outcome.{Outcome}
-use Rattle.rk_types.specs.declared.history.Placed.{Placed}
+use Rattle.rk_inv_base.proofs.Words.{Event, Call, Outcome, Placed}
 use Rattle.rk_world.specs.Ledger.{new_ledger}
-use Rattle.rk_world.specs.declared.event.Event.TheVariants as events
 use Rattle.rk_laws_lanes.specs.Counts.{AddsNoClient, accepted_count}
 
 pub accepted_count-new : accepted_count new_ledger ≡ 0
@@ -15,8 +12,8 @@ pub accepted_count-two : (call : Call) (outcome : Outcome) → let placed : Bool
     accepted_count (record new_ledger { journal = placed true ∷ placed false ∷ [] }) ≡ 1
 accepted_count-two call outcome = refl
 
-pub adds_no_client-crash : AddsNoClient (events.Crash 1)
+pub adds_no_client-crash : AddsNoClient (Event.Crash 1)
 adds_no_client-crash = tt
 
-pub adds_no_client-client : AddsNoClient (events.AddClient 1) → ⊥
+pub adds_no_client-client : AddsNoClient (Event.AddClient 1) → ⊥
 adds_no_client-client adds = adds

@@ -1,38 +1,14 @@
 -- What an event leaves of a ledger: the calls that were asked and, but where one is added, the clients; and it accepts no record.
-use Rattle.std.proofs.Common.{◌≡◌, ◌+◌, ℕ, Bool, true, false, cond, List, [], ◌∷◌, ◌++◌, Option, Some, None, refl, sym, ap, ◌∙◌, arith}
-use Rattle.std.specs.Prelude.{is_some}
-use Rattle.std.specs.List.{All, count_by}
-use Rattle.std.proofs.lemmas.List.Elements.{All-head, All-tail}
-use Rattle.std.proofs.lemmas.List.Sums.{sum_by-append, sum_by-cons}
-use Rattle.rk_types.specs.NumberMap.{NumberMap, get}
-use Rattle.rk_types.specs.declared.call.Ended.{Ended}
-use Rattle.rk_types.specs.declared.history.Placed.{Placed}
-use Rattle.rk_types.specs.declared.node.Node.{Node}
-use Rattle.rk_types.specs.declared.node.Node.TheVariants as nodes
-use Rattle.rk_outside.specs.Segments.{Segments}
-use Rattle.rk_tablet_map.specs.Rows.{row_of}
-use Rattle.rk_tablet_map.specs.declared.phase.Phase.{Phase}
-use Rattle.rk_tablet_map.specs.declared.phase.Phase.TheVariants as phases
-use Rattle.rk_tablet_map.specs.declared.row.Row.{Row}
-use Rattle.rk_message.specs.declared.message.Body.{Body}
-use Rattle.rk_message.specs.declared.message.Message.{Message}
-use Rattle.rk_message.specs.declared.rebuilding.Rebuilt.{Rebuilt}
-use Rattle.rk_world.specs.Backup.{Backed, Called, backup_step, stored_after}
-use Rattle.rk_world.specs.CoordinatorStep.{coordinator_step}
-use Rattle.rk_world.specs.Ledger.{Ledger, seen_of, asked_by, with_all_served, with_client, with_end, with_rebuilt, with_served}
-use Rattle.rk_world.specs.MasterStep.{master_step}
-use Rattle.rk_world.specs.MasterTurn.{master_turn}
-use Rattle.rk_world.specs.Splits.{owner_split, row_split, with_split}
-use Rattle.rk_world.specs.Step.{Stepped, backed_at, client_added, delivered, delivered_to, happened, log_bytes_of, losing, quietly, seen_in, sent_again, to_backup, to_master, turned, with_sends, worked_at}
-use Rattle.rk_world.specs.Worked.{Worked}
-use Rattle.rk_world.specs.World.{World, has_crashed, is_backup, master_at, with_master, with_stored_by}
-use Rattle.rk_world.specs.declared.event.Event.{Event}
-use Rattle.rk_world.specs.declared.event.Event.TheVariants as events
-use Rattle.rk_world.specs.declared.ledger.LastCall.{LastCall}
-use Rattle.rk_world.specs.declared.work.Served.{Served}
+use Rattle.std.proofs.Common.{◌≡◌, ℕ, Bool, false, cond, List, [], ◌∷◌, Option, Some, None, refl, ap, arith, subst, is_some, All}
+use Rattle.rk_inv_base.proofs.Words.{All-head, All-tail, sum_by-append, sum_by-cons, NumberMap, get, Ended, Placed, Rebuilt, Called}
+use Rattle.rk_inv_base.proofs.Words.{coordinator_step, Ledger, with_all_served, with_rebuilt, master_step, master_turn, happened, seen_in}
+use Rattle.rk_inv_base.proofs.Words.{worked_at, Worked, World, master_at, Event, LastCall, Served}
+use Rattle.std.specs.List.{count_by}
+use Rattle.rk_world.specs.Ledger.{with_end, with_served}
 use Rattle.rk_inv_wellformed.proofs.lanes.Ledgers.{ended_is, kept_by_fold, served_is}
+use Rattle.rk_inv_lanes.proofs.lanes.Events.{Covers, event_covered}
 use Rattle.rk_runs.proofs.history.GoesOn.{event_goes_on}
-use Rattle.rk_laws_lanes.specs.Counts.{AddsNoClient, HasSameClients, HasSameCounts, accepted_count}
+use Rattle.rk_laws_lanes.specs.Counts.{AddsNoClient, HasSameClients, HasSameCounts}
 
 -- a ledger that has what another one has of clients and of what they asked
 record Stays (before after : Ledger) : Type 0 where
@@ -63,115 +39,46 @@ module _ (start : Ledger) where
 
 -- ---- events
 
-module _ (w : World) where
-  abbrev Keeps : World → Type 0
-  Keeps now = Stays w.ledger now.ledger
+-- as many calls were asked, and clients are the same where the event adds none
+record EventStays (w : World) (event : Event) (now : World) : Type 0 where
+  pub asked : now.ledger.asked ≡ w.ledger.asked
+  pub clients : AddsNoClient event → now.ledger.clients ≡ w.ledger.clients
 
-  itself : Keeps w
-  itself = record { asked = refl; clients = refl }
+module _ (w : World) (event : Event) where
+  itself : (now : World) → now.ledger ≡ w.ledger → EventStays w event now
+  itself now same = record { asked = ap (λ (l : Ledger). l.asked) same; clients = λ other. ap (λ (l : Ledger). l.clients) same }
 
-  worked_keeps : (master seen : ℕ) (worked : Worked) → Keeps (worked_at w master seen worked).world
-  worked_keeps master seen worked =
-      let served = all_served w.ledger seen worked.served in record { asked = served.asked; clients = served.clients }
+  worked_stays : (master seen : ℕ) (worked : Worked) → EventStays w event (worked_at w master seen worked).world
+  worked_stays master seen worked =
+      let served = all_served w.ledger seen worked.served in record { asked = served.asked; clients = λ other. served.clients }
 
-  master_keeps : (master : ℕ) (message : Message) → Keeps (to_master w master message).world
-  master_keeps master message = go (has_crashed w master)
-    where
-      go : (crashed : Bool) → Keeps (cond crashed (losing w) (worked_at w master (seen_in message.body) (master_step (master_at w master) message))).world
-      go true = itself
-      go false = worked_keeps master (seen_in message.body) (master_step (master_at w master) message)
+  event_stays : (called : Called) → Covers (EventStays w event) w event called
+  event_stays called = record {
+    quiet = λ backups may. itself _ refl;
+    steps = λ number master message is found to lives. worked_stays master (seen_in message.body) (master_step (master_at w master) message);
+    turns = λ master. worked_stays master 0 (master_turn (master_at w master));
+    hears = λ message.
+        let rebuilt = rebuilt_stays w.ledger (coordinator_step w.coordinator message).rebuilt in
+        record { asked = rebuilt.asked; clients = λ other. rebuilt.clients };
+    duties = itself _ refl;
+    answers = λ backup sender body backups may. itself _ refl;
+    again = λ client message found. itself _ refl;
+    adds = λ tablet range master is. itself _ refl;
+    comes = λ client is new. record { asked = refl; clients = λ other. absurd (subst AddsNoClient is other) };
+    forgets = λ number is. itself _ refl;
+    moves = λ tablet to. itself _ refl;
+    parts = λ tablet at new. itself _ refl;
+    splits = λ tablet at new number master term. itself _ refl;
+    crashes = λ master is. itself _ refl;
+    notices = λ master. itself _ refl;
+  }
 
-  backed_keeps : (now : World) (answer : Backed) → Keeps now → Keeps (backed_at now answer).world
-  backed_keeps now answer keeps = go answer.lost
-    where
-      go : (lost : Bool) → Keeps (cond lost (losing now) (with_sends now answer.sends)).world
-      go true = record { asked = keeps.asked; clients = keeps.clients }
-      go false = record { asked = keeps.asked; clients = keeps.clients }
-
-  stored_keeps : (backup : ℕ) (store : Segments → Segments) (found : Option Segments) → Keeps (with_stored_by w backup store found)
-  stored_keeps backup store None = itself
-  stored_keeps backup store (Some segments) = itself
-
-  backup_keeps : (backup : ℕ) (sender : Node) (body : Body) (called : Called) → Keeps (to_backup w backup sender body called).world
-  backup_keeps backup sender body called =
-      let store : Segments → Segments = λ segments. stored_after segments sender body called in
-      let now : World = with_stored_by w backup store (get w.backups backup) in
-      let answer = backup_step backup sender body (log_bytes_of w) called in
-      go now answer (backed_keeps now answer (stored_keeps backup store (get w.backups backup))) (is_backup w backup)
-    where
-      go : (now : World) (answer : Backed) → Keeps (backed_at now answer).world → (there : Bool) → Keeps (cond there (backed_at now answer) (quietly w)).world
-      go now answer keeps true = keeps
-      go now answer keeps false = itself
-
-  received_keeps : (message : Message) (to : Node) (called : Called) → Keeps (delivered_to w message to called).world
-  received_keeps message (nodes.Client client) called = itself
-  received_keeps message nodes.Coordinator called =
-      let rebuilt = rebuilt_stays w.ledger (coordinator_step w.coordinator message).rebuilt in
-      record { asked = rebuilt.asked; clients = rebuilt.clients }
-  received_keeps message (nodes.Master master) called = master_keeps master message
-  received_keeps message (nodes.Backup backup) called = backup_keeps backup message.from message.body called
-
-  delivered_keeps : (found : Option Message) (called : Called) → Keeps (delivered w found called).world
-  delivered_keeps None called = itself
-  delivered_keeps (Some message) called = received_keeps message message.to called
-
-  turned_keeps : (node : Node) → Keeps (turned w node).world
-  turned_keeps (nodes.Client client) = itself
-  turned_keeps nodes.Coordinator = itself
-  turned_keeps (nodes.Master master) = worked_keeps master 0 (master_turn (master_at w master))
-  turned_keeps (nodes.Backup backup) = itself
-
-  again_keeps : (found : Option Message) → Keeps (sent_again w found).world
-  again_keeps None = itself
-  again_keeps (Some message) = itself
-
-  owner_keeps : (tablet at new term : ℕ) (phase : Phase) → Keeps (owner_split w tablet phase at new term)
-  owner_keeps tablet at new term (phases.Owned master from) = go (has_crashed w master)
-    where
-      go : (crashed : Bool) → Keeps (cond crashed w (with_master w master (with_split (master_at w master) tablet at new term)))
-      go true = itself
-      go false = itself
-  owner_keeps tablet at new term (phases.Opening source sfrom target dfrom) = itself
-  owner_keeps tablet at new term (phases.Moving source sfrom target dfrom) = itself
-  owner_keeps tablet at new term (phases.Rebuilding lineage to) = itself
-
-  split_keeps : (found : Option Row) (at new : ℕ) → Keeps (row_split w found at new)
-  split_keeps None at new = itself
-  split_keeps (Some row) at new = owner_keeps row.tablet at new (row.term + 1) row.phase
-
-  event_keeps : (event : Event) (called : Called) → AddsNoClient event → Keeps (happened w event called).world
-  event_keeps (events.AddTablet tablet range master) called other = itself
-  event_keeps (events.AddClient client) called other = absurd other
-  event_keeps (events.Deliver number) called other = delivered_keeps (get w.wire.messages number) called
-  event_keeps (events.Forget number) called other = itself
-  event_keeps (events.Turn node) called other = turned_keeps node
-  event_keeps (events.Again client) called other = again_keeps (get w.ledger.requests client)
-  event_keeps (events.Migrate tablet to) called other = itself
-  event_keeps (events.Split tablet at new) called other =
-      let split = split_keeps (row_of w.coordinator.rows tablet) at new in record { asked = split.asked; clients = split.clients }
-  event_keeps (events.Crash master) called other = itself
-  event_keeps (events.Notice master) called other = itself
-
-  -- a client that is added asked nothing
-  added_asks : (client : ℕ) (found : Option (Option LastCall)) → (cond (is_some found) w (record w { ledger = with_client w.ledger client })).ledger.asked ≡ w.ledger.asked
-  added_asks client None = refl
-  added_asks client (Some last) = refl
-
-  event_asks : (event : Event) (called : Called) → (happened w event called).world.ledger.asked ≡ w.ledger.asked
-  event_asks (events.AddTablet tablet range master) called = refl
-  event_asks (events.AddClient client) called = added_asks client (get w.ledger.clients client)
-  event_asks (events.Deliver number) called = (event_keeps (events.Deliver number) called tt).asked
-  event_asks (events.Forget number) called = refl
-  event_asks (events.Turn node) called = (event_keeps (events.Turn node) called tt).asked
-  event_asks (events.Again client) called = (event_keeps (events.Again client) called tt).asked
-  event_asks (events.Migrate tablet to) called = refl
-  event_asks (events.Split tablet at new) called = (event_keeps (events.Split tablet at new) called tt).asked
-  event_asks (events.Crash master) called = refl
-  event_asks (events.Notice master) called = refl
+event_keeps : (w : World) (event : Event) (called : Called) → EventStays w event (happened w event called).world
+event_keeps w event called = event_covered (event_stays w event called)
 
 pub same_clients : (w : World) (event : Event) (called : Called) → AddsNoClient event → HasSameClients w.ledger (happened w event called).world.ledger
 same_clients w event called other client =
-    ap (λ (clients : NumberMap (Option LastCall)). is_some (get clients client)) (event_keeps w event called other).clients
+    ap (λ (clients : NumberMap (Option LastCall)). is_some (get clients client)) ((event_keeps w event called).clients other)
 
 -- ---- records
 
@@ -191,4 +98,4 @@ same_counts w event called =
     let joined = sum_by-append (λ (placed : Placed). cond placed.accepted 1 0) w.ledger.journal grows.more in
     let none = none_counted grows.more grows.unaccepted in
     let is = ap (count_by (λ placed. placed.accepted)) grows.journal_is in
-    record { accepted = omega (arith, joined, none, is); asked = event_asks w event called }
+    record { accepted = omega (arith, joined, none, is); asked = (event_keeps w event called).asked }

@@ -1,9 +1,9 @@
 -- A parcel delivers its message once.
-use Rattle.std.proofs.Common.{◌≡◌, ◌≤◌, ◌+◌, ℕ, Bool, true, false, cond, eqb, List, [], ◌∷◌, Option, Some, None, Result, Ok, Err, refl, sym, ap, subst, ◌∙◌, arith}
+use Rattle.std.proofs.Common.{◌≡◌, ◌≤◌, ◌+◌, ℕ, Bool, true, false, cond, eqb, List, [], ◌∷◌, Option, Some, None, Result, Ok, Err, refl}
+use Rattle.std.proofs.Common.{sym, ap, subst, ◌∙◌, arith}
+use Rattle.rk_world.specs.declared.event.Event.{Event}
 use Rattle.rk_types.proofs.NumberMaps.{get_other, get_remove, get_removed}
-use Rattle.rk_types.specs.NumberMap.{get, remove}
-use Rattle.rk_types.specs.declared.node.Node.{Node}
-use Rattle.rk_types.specs.declared.node.Node.TheVariants as nodes
+use Rattle.rk_types.specs.NumberMap.{get}
 use Rattle.rk_message.specs.Wire.{HasSentNumbers, Traffic, with_message, without_message}
 use Rattle.rk_message.specs.declared.message.Message.{Message}
 use Rattle.rk_world.specs.Backup.{Called, Gave}
@@ -12,9 +12,8 @@ use Rattle.rk_world.specs.Runs.{Happening, Happens, after, run, world_stepped}
 use Rattle.rk_world.specs.Step.{Stepped, step, stepped_by}
 use Rattle.rk_world.specs.World.{World}
 use Rattle.rk_world.specs.declared.error.StepError.{StepError}
-use Rattle.rk_world.specs.declared.event.Event.TheVariants as events
 use Rattle.rk_laws_parcels.specs.Replayed.{forgotten, forgotten_after, passed_over, replayed, replayed_by}
-use Rattle.rk_laws_parcels.proofs.Wires.{run_keeps, step_keeps}
+use Rattle.rk_laws_parcels.proofs.Wires.{run_keeps}
 
 -- ---- numbers that are not given again
 
@@ -53,7 +52,7 @@ forgets : (w : World) (number : ℕ) → get (forgotten w number).wire.messages 
 forgets w number = go (get w.wire.messages number) refl
   where
     go : (found : Option Message) → get w.wire.messages number ≡ found
-        → get (world_stepped w (stepped_by w (events.Forget number) (Gave None) (wire_fault number found))).wire.messages number ≡ None
+        → get (world_stepped w (stepped_by w (Event.Forget number) (Gave None) (wire_fault number found))).wire.messages number ≡ None
     go None there = there
     go (Some message) there = get_removed w.wire.messages number
 
@@ -62,8 +61,8 @@ ok_world w = Ok w
 
 -- a parcel that is not passed over is delivered and forgotten
 pub delivers : (w : World) (number : ℕ) (called : Called) (stepped : Stepped) → passed_over w number ≡ None
-    → step w (events.Deliver number) called ≡ Ok stepped
-    → replayed w number called ≡ Ok (run w (Happens (events.Deliver number) called ∷ Happens (events.Forget number) (Gave None) ∷ []))
+    → step w (Event.Deliver number) called ≡ Ok stepped
+    → replayed w number called ≡ Ok (run w (Happens (Event.Deliver number) called ∷ Happens (Event.Forget number) (Gave None) ∷ []))
 delivers w number called stepped taken comes =
     ap (replayed_by w number called) taken
     ∙ ap (forgotten_after number) comes
@@ -71,13 +70,13 @@ delivers w number called stepped taken comes =
 
 -- what is known of the lane after that
 record Replays (w : World) (number : ℕ) (called : Called) (now : World) : Type 0 where
-  is : now ≡ forgotten (after w (Happens (events.Deliver number) called)) number
+  is : now ≡ forgotten (after w (Happens (Event.Deliver number) called)) number
 
 replays : (w : World) (number : ℕ) (called : Called) (now : World) → passed_over w number ≡ None → replayed w number called ≡ Ok now
     → Replays w number called now
-replays w number called now taken makes = go (step w (events.Deliver number) called) refl
+replays w number called now taken makes = go (step w (Event.Deliver number) called) refl
   where
-    go : (it : Result Stepped StepError) → step w (events.Deliver number) called ≡ it → Replays w number called now
+    go : (it : Result Stepped StepError) → step w (Event.Deliver number) called ≡ it → Replays w number called now
     go (Err error) comes =
         let one : replayed w number called ≡ Err error = ap (replayed_by w number called) taken ∙ ap (forgotten_after number) comes in
         absurd (cc)
@@ -91,7 +90,7 @@ pub gone : (w : World) (number : ℕ) (called : Called) (now : World) → passed
     → get now.wire.messages number ≡ None
 gone w number called now taken makes =
     let made = replays w number called now taken makes in
-    subst (λ (it : World). get it.wire.messages number ≡ None) (sym made.is) (forgets (after w (Happens (events.Deliver number) called)) number)
+    subst (λ (it : World). get it.wire.messages number ≡ None) (sym made.is) (forgets (after w (Happens (Event.Deliver number) called)) number)
 
 pub twice : (w : World) (number : ℕ) (called : Called) (now : World) (again : Called) → replayed w number called ≡ Ok now
     → replayed now number again ≡ Ok now
@@ -123,7 +122,7 @@ later w number called now happenings again numbers taken makes =
     let kept : WasSent number now.wire =
     subst (λ (it : World). WasSent number it.wire) (sym made.is)
     (run_keeps (WasSent number) (sent_before number) (λ other wire before. before) w
-    (Happens (events.Deliver number) called ∷ Happens (events.Forget number) (Gave None) ∷ []) start) in
+    (Happens (Event.Deliver number) called ∷ Happens (Event.Forget number) (Gave None) ∷ []) start) in
     let none = gone w number called now taken makes in
     missing (run now happenings) number again
     (run_keeps (IsGone number) (gone_sent number) (gone_forgotten number) now happenings (kept, none)).1

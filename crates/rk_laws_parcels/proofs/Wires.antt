@@ -1,12 +1,12 @@
 -- Whatever happens in a lane, its wire changes by messages that are sent, and by one that is forgotten.
 use Rattle.std.proofs.Common.{ℕ, ◌+◌, Bool, true, false, cond, List, [], ◌∷◌, fold, map, Option, Some, None}
+use Rattle.rk_world.specs.declared.event.Taken.{Taken}
 use Rattle.rk_types.specs.NumberMap.{get}
 use Rattle.rk_types.specs.declared.call.Call.{Call}
 use Rattle.rk_types.specs.declared.node.Node.{Node}
-use Rattle.rk_types.specs.declared.node.Node.TheVariants as nodes
 use Rattle.rk_outside.specs.Segments.{Segments}
 use Rattle.rk_tablet_map.specs.declared.phase.Phase.{Phase}
-use Rattle.rk_tablet_map.specs.declared.phase.Phase.TheVariants.{Owned, Opening, Moving, Rebuilding}
+use Rattle.rk_tablet_map.specs.declared.phase.Phase.TheVariants.{Owned}
 use Rattle.rk_tablet_map.specs.declared.row.Row.{Row}
 use Rattle.rk_tablet_map.specs.Rows.{row_of}
 use Rattle.rk_message.specs.Wire.{Traffic, with_message, without_message}
@@ -23,13 +23,12 @@ use Rattle.rk_world.specs.Refusals.{accept_refusal, ask_refusal, refusal}
 use Rattle.rk_world.specs.Replies.{filled}
 use Rattle.rk_world.specs.Runs.{Accepts, Asks, Happening, Happens, after, run, world_stepped, world_visited}
 use Rattle.rk_world.specs.Splits.{owner_split, row_split, with_split}
-use Rattle.rk_world.specs.Step.{backed_at, client_added, delivered, delivered_to, happened, ledger_after, log_bytes_of, losing, quietly, seen_in, sent_again, stepped_by, to_backup, to_coordinator, to_master, turned, with_sends, worked_at}
+use Rattle.rk_world.specs.Step.{backed_at, client_added, delivered, delivered_to, happened, ledger_after, log_bytes_of, losing, quietly}
+use Rattle.rk_world.specs.Step.{seen_in, sent_again, stepped_by, to_backup, to_master, turned, with_sends, worked_at}
 use Rattle.rk_world.specs.Worked.{Worked}
 use Rattle.rk_world.specs.World.{World, has_crashed, is_backup, master_at, with_ledger, with_master, with_stored_by}
 use Rattle.rk_world.specs.declared.error.StepError.{StepError}
 use Rattle.rk_world.specs.declared.event.Event.{Event}
-use Rattle.rk_world.specs.declared.event.Event.TheVariants as events
-use Rattle.rk_world.specs.declared.event.Taken.TheVariants as takes
 
 -- what stays so when a message is sent, and when one is forgotten, stays so whatever happens
 module _ (Keeps : Traffic → Type 0) (sent : (message : Message) (wire : Traffic) → Keeps wire → Keeps (with_message message wire)) (forgotten : (number : ℕ) (wire : Traffic) → Keeps wire → Keeps (without_message number wire)) where
@@ -77,10 +76,10 @@ module _ (Keeps : Traffic → Type 0) (sent : (message : Message) (wire : Traffi
       go false = keeps
 
   at_receiver : (w : World) (message : Message) (to : Node) (called : Called) → Keeps w.wire → Keeps (delivered_to w message to called).world.wire
-  at_receiver w message (nodes.Client client) called keeps = keeps
-  at_receiver w message nodes.Coordinator called keeps = all_sent (coordinator_step w.coordinator message).sends w.wire keeps
-  at_receiver w message (nodes.Master master) called keeps = at_master w master message keeps
-  at_receiver w message (nodes.Backup backup) called keeps = at_backup w backup message.from message.body called keeps
+  at_receiver w message (Node.Client client) called keeps = keeps
+  at_receiver w message Node.Coordinator called keeps = all_sent (coordinator_step w.coordinator message).sends w.wire keeps
+  at_receiver w message (Node.Master master) called keeps = at_master w master message keeps
+  at_receiver w message (Node.Backup backup) called keeps = at_backup w backup message.from message.body called keeps
 
   delivery : (w : World) (found : Option Message) (called : Called) → Keeps w.wire → Keeps (delivered w found called).world.wire
   delivery w None called keeps = keeps
@@ -96,10 +95,9 @@ module _ (Keeps : Traffic → Type 0) (sent : (message : Message) (wire : Traffi
       go false = keeps
 
   turn : (w : World) (node : Node) → Keeps w.wire → Keeps (turned w node).world.wire
-  turn w (nodes.Client client) keeps = keeps
-  turn w nodes.Coordinator keeps = all_sent (coordinator_turn w.coordinator) w.wire keeps
-  turn w (nodes.Master master) keeps = work w master 0 (master_turn (master_at w master)) keeps
-  turn w (nodes.Backup backup) keeps = keeps
+  turn w Node.Coordinator keeps = all_sent (coordinator_turn w.coordinator) w.wire keeps
+  turn w (Node.Master master) keeps = work w master 0 (master_turn (master_at w master)) keeps
+  turn w _ keeps = keeps
 
   again : (w : World) (request : Option Message) → Keeps w.wire → Keeps (sent_again w request).world.wire
   again w None keeps = keeps
@@ -111,25 +109,20 @@ module _ (Keeps : Traffic → Type 0) (sent : (message : Message) (wire : Traffi
       go : (b : Bool) → Keeps (cond b w (with_master w master (with_split (master_at w master) tablet at new term))).wire
       go true = keeps
       go false = keeps
-  owner w tablet (Opening source sfrom target dfrom) at new term keeps = keeps
-  owner w tablet (Moving source sfrom target dfrom) at new term keeps = keeps
-  owner w tablet (Rebuilding lineage to) at new term keeps = keeps
+  owner w tablet _ at new term keeps = keeps
 
   split : (w : World) (row : Option Row) (at new : ℕ) → Keeps w.wire → Keeps (row_split w row at new).wire
   split w None at new keeps = keeps
   split w (Some row) at new keeps = owner w row.tablet row.phase at new (row.term + 1) keeps
 
   event_keeps : (w : World) (event : Event) (called : Called) → Keeps w.wire → Keeps (happened w event called).world.wire
-  event_keeps w (events.AddTablet tablet range master) called keeps = keeps
-  event_keeps w (events.AddClient client) called keeps = client_comes w client keeps
-  event_keeps w (events.Deliver number) called keeps = delivery w (get w.wire.messages number) called keeps
-  event_keeps w (events.Forget number) called keeps = forgotten number w.wire keeps
-  event_keeps w (events.Turn node) called keeps = turn w node keeps
-  event_keeps w (events.Again client) called keeps = again w (get w.ledger.requests client) keeps
-  event_keeps w (events.Migrate tablet to) called keeps = keeps
-  event_keeps w (events.Split tablet at new) called keeps = split w (row_of w.coordinator.rows tablet) at new keeps
-  event_keeps w (events.Crash master) called keeps = keeps
-  event_keeps w (events.Notice master) called keeps = keeps
+  event_keeps w (Event.AddClient client) called keeps = client_comes w client keeps
+  event_keeps w (Event.Deliver number) called keeps = delivery w (get w.wire.messages number) called keeps
+  event_keeps w (Event.Forget number) called keeps = forgotten number w.wire keeps
+  event_keeps w (Event.Turn node) called keeps = turn w node keeps
+  event_keeps w (Event.Again client) called keeps = again w (get w.ledger.requests client) keeps
+  event_keeps w (Event.Split tablet at new) called keeps = split w (row_of w.coordinator.rows tablet) at new keeps
+  event_keeps w _ called keeps = keeps
 
   -- one that is refused changes nothing
   pub step_keeps : (w : World) (event : Event) (called : Called) → Keeps w.wire → Keeps (after w (Happens event called)).wire
@@ -165,7 +158,7 @@ module _ (Keeps : Traffic → Type 0) (sent : (message : Message) (wire : Traffi
   accepted w session None keeps = keeps
   accepted w session (Some message) keeps = go (is_asked_here w session)
     where
-      go : (b : Bool) → Keeps (cond b (taking w session message.body) (untouched w session (Some takes.Ignored))).world.wire
+      go : (b : Bool) → Keeps (cond b (taking w session message.body) (untouched w session (Some Taken.Ignored))).world.wire
       go true = keeps
       go false = keeps
 

@@ -1,4 +1,4 @@
-ghost use Rattle.std.specs.Prelude.{◌≡◌, ◌+◌, ◌-◌, ◌^◌, ◌<◌, min, length, Some, None, IfOk, OnOk, IfErr, OnErr};
+ghost use Rattle.std.specs.Prelude.{◌≡◌, ◌+◌, ◌-◌, ◌^◌, ◌<◌, All, min, length, Some, None, IfOk, OnOk, IfErr, OnErr};
 ghost use Rattle.rk_types.specs.NumberMap.{IsInOrder, get};
 ghost use Rattle.rk_message.specs.Frames.{IsLawfulMessage};
 ghost use Rattle.rk_message.specs.Wire.{HasLawfulMessages, HasSentNumbers, bytes_on, kind_number_of, missing, number_at, receiver_of, silent, with_message, without_message};
@@ -8,6 +8,7 @@ use crate::message::Message;
 use crate::missing::NoMessage;
 use rk_types::{NoMemory, Node, Numbered};
 use std::alloc::Global;
+use std::collections::btree_map::Iter;
 use std::marker::Model;
 
 /// The messages of a lane that are under way. Each has a number, counted from 1 in the order in which they were sent.
@@ -101,6 +102,14 @@ impl Wire {
             return None;
         }
         self.messages.number_at(place as usize - 1)
+    }
+
+    /// The messages that are there with their numbers, the oldest first.
+    pub fn iter(&self) -> Iter<'_, u64, Message>
+        ensures messages { result ≡ self.now.messages }
+        ensures found { All (λ entry. get self.now.messages entry.0 ≡ Some entry.1) self.now.messages }
+    {
+        self.messages.iter()
     }
 
     /// How many messages are there.

@@ -7,7 +7,7 @@ use Rattle.std.proofs.KnownBytes.{Appends-kept, Appends-nil, Keeps-refl}
 use Rattle.std.proofs.lemmas.List.{take-append-le}
 use Rattle.std.proofs.Math.Seq.{take-length}
 use Rattle.rk_types.specs.declared.status.Status.{Status}
-use Rattle.rk_types.specs.declared.status.Status.TheVariants.{Audit, Done, NoMemory, ReadFault, Refused, ReplicaFault, Usage, Worn, WriteFault}
+use Rattle.rk_types.specs.declared.status.Status.TheVariants.{Done, NoMemory, Refused, ReplicaFault, Worn, WriteFault}
 use Rattle.rk_outside.specs.Parts.{AppendsPart}
 use Rattle.rk_outside.specs.Segments.{Segments}
 use Rattle.rk_outside.proofs.PartLemmas.{AppendsPart-more}
@@ -17,9 +17,9 @@ use Rattle.rk_cluster.specs.State.{ClusterState, IsOf}
 use Rattle.rk_script.specs.declared.command.Numbered.{Numbered}
 use Rattle.rk_script.specs.declared.script.ParseError.{ParseError}
 use Rattle.rk_play.specs.Concluded.{Concludes, ConcludesBy, IsWritten, MayComeTo}
-use Rattle.rk_play.specs.Effects.{Fails, Pauses, Refuses, Stop, Wears}
+use Rattle.rk_play.specs.Effects.{Pauses, Stop}
 use Rattle.rk_play.specs.Ended.{HasEndCause, HasFailed, IsHalted}
-use Rattle.rk_play.specs.Played.{Played, behind, ending, part_of, played_in, stopped_at, text_of}
+use Rattle.rk_play.specs.Played.{Played, behind, cluster_by, ending, part_of, played_in, refused_at, stopped_at, text_of, unset}
 use Rattle.rk_play.specs.Reached.{IsReached, IsSent}
 use Rattle.rk_play.specs.Runs.{HasStatusCause, Runs}
 use Rattle.rk_play.specs.Stops.{stop_by}
@@ -46,11 +46,7 @@ ended_runs p Done old new is ended written = record { ended = ended; written = w
 ended_runs p Refused old new is ended written = record { ended = ended; written = written }
 ended_runs p Worn old new is ended written = record { ended = ended; written = written }
 ended_runs p ReplicaFault old new is ended written = record { ended = ended; written = written }
-ended_runs p Usage old new is ended written = absurd is
-ended_runs p ReadFault old new is ended written = absurd is
-ended_runs p WriteFault old new is ended written = absurd is
-ended_runs p NoMemory old new is ended written = absurd is
-ended_runs p Audit old new is ended written = absurd is
+ended_runs p _ old new is ended written = absurd is
 
 -- so memory was not wanting there
 ended_apart : (status : Status) → IsEnded status → status ≡ NoMemory → ⊥
@@ -58,9 +54,7 @@ ended_apart status is wanting = subst IsEnded wanting is
 
 pub stopped_ended : (line : ℕ) (error : PlayError) (cluster : Cluster) → error ≢ errors.NoMemory → IsEnded (stopped_at line (stop_by error) cluster).status
 stopped_ended line errors.NoMemory cluster apart = absurd (apart refl)
-stopped_ended line (errors.Refused code) cluster apart = tt
-stopped_ended line (errors.Worn number) cluster apart = tt
-stopped_ended line (errors.Replica rounds) cluster apart = tt
+stopped_ended line _ cluster apart = tt
 
 -- ---- what is held back is written
 
@@ -182,6 +176,13 @@ concluded_comes p held status old new concludes may =
     ⊎_elim (λ (is : IsWritten (held ++ text_of p) p.status status old new). written_comes (held ++ text_of p) p.status status old new is may)
     (λ (lacks : (status ≡ NoMemory) × Keeps old new). subst MayComeTo (sym lacks.0) tt) concludes
 
+-- a script that is refused before a command runs comes to one of these
+pub refused_comes : (line code : ℕ) (status : Status) (old new : Option (List ℕ)) → ((cluster : Cluster) → Concludes (refused_at line code cluster) [] status old new)
+    → MayComeTo status
+refused_comes line code status old new concludes =
+    let cluster : Cluster = cluster_by unset in
+    concluded_comes (refused_at line code cluster) [] status old new (concludes cluster) tt
+
 -- a run that is not played to its end does not come to it
 pub concluded_apart : (p : Played) (held : List ℕ) (status : Status) (old new : Option (List ℕ)) → Concludes p held status old new → p.status ≢ Done → status ≢ Done
 concluded_apart p held status old new concludes apart done =
@@ -192,10 +193,8 @@ concluded_apart p held status old new concludes apart done =
     (λ (lacks : (status ≡ NoMemory) × Keeps old new). absurd (cc (sym lacks.0 ∙ done))) concludes
 
 stopped_comes : (line : ℕ) (stop : Stop) (cluster : Cluster) → MayComeTo (stopped_at line stop cluster).status
-stopped_comes line (Refuses code) cluster = tt
-stopped_comes line (Wears number) cluster = tt
-stopped_comes line (Fails rounds) cluster = tt
 stopped_comes line Pauses cluster = tt
+stopped_comes line _ cluster = tt
 
 pub ended_comes : (end : End) (held : List ℕ) (status : Status) (old new : Option (List ℕ)) → ConcludesBy end held status old new → MayComeTo status
 ended_comes ends.Done held status old new is = written_comes held Done status old new is tt

@@ -33,15 +33,12 @@ use Rattle.rk_play.specs.declared.error.PlayError.TheVariants as errors
 -- no error of a cluster does
 of_no_replica : (error : ClusterError) → IsOfReplicas (error_by_cluster error) → ⊥
 of_no_replica of_cluster.NoMemory is = is
-of_no_replica (of_cluster.Code code) is = is
-of_no_replica (of_cluster.Worn number) is = is
+of_no_replica _ is = is
 
 -- one of a settling command does where that says so
 pub of_settling_replicas : (error : SettleError) → IsOfReplicas (error_by_settling error) → settling.IsOfReplicas error
-of_settling_replicas of_settling.NoMemory is = absurd is
-of_settling_replicas of_settling.TooLong is = absurd is
-of_settling_replicas (of_settling.Worn number) is = absurd is
 of_settling_replicas (of_settling.Replica rounds) is = tt
+of_settling_replicas _ is = absurd is
 
 -- nor does what is answered to a call of a cluster
 told_apart : {T : Type 0} (told : Result T ClusterError) (e : PlayError)
@@ -57,10 +54,8 @@ told_cause P told result known =
 
 -- nor a refusal
 pub refused_apart : (Holds : Code → Type 0) (error : PlayError) → WhereRefused Holds error → IsOfReplicas error → ⊥
-refused_apart Holds errors.NoMemory refused is = is
-refused_apart Holds (errors.Refused code) refused is = is
-refused_apart Holds (errors.Worn number) refused is = is
 refused_apart Holds (errors.Replica rounds) refused is = refused
+refused_apart Holds _ refused is = is
 
 -- nor what is never said
 pub never_cause : {U : Type 0} (P : Type 0) (result : Result U PlayError) → IfErr result (λ e. IsOfReplicas e → ⊥) → IfErr result (λ e. IsOfReplicas e → P)
@@ -71,9 +66,7 @@ never_cause P result never =
 
 pub end_replicas : (line : ℕ) (error : PlayError) → EndsByReplicas (end_by line error) → IsOfReplicas error
 end_replicas line errors.NoMemory is = is
-end_replicas line (errors.Refused code) is = is
-end_replicas line (errors.Worn number) is = is
-end_replicas line (errors.Replica rounds) is = is
+end_replicas line _ is = is
 
 -- where a command stops a run since replicas failed too often, they have done so since its start
 pub ended_often : {R : Type 0} (faults : R → ℕ) (start mid now : ClusterState R) (line : ℕ) (error : PlayError) (end : End) → end ≡ end_by line error
@@ -111,10 +104,8 @@ refused_fault line code status old new concludes fault =
     absurd (cc (concluded_fault (refused_at line code cluster) [] status old new (concludes cluster) fault))
 
 stopped_fault : (line : ℕ) (error : PlayError) (cluster : Cluster) → (stopped_at line (stop_by error) cluster).status ≡ ReplicaFault → IsOfReplicas error
-stopped_fault line errors.NoMemory cluster fault = absurd (cc fault)
-stopped_fault line (errors.Refused code) cluster fault = absurd (cc fault)
-stopped_fault line (errors.Worn number) cluster fault = absurd (cc fault)
 stopped_fault line (errors.Replica rounds) cluster fault = tt
+stopped_fault line _ cluster fault = absurd (cc fault)
 
 -- a run comes to it only where it ended since replicas failed too often
 pub ended_fault : (end : End) (held : List ℕ) (status : Status) (old new : Option (List ℕ)) → ConcludesBy end held status old new → status ≡ ReplicaFault

@@ -3,7 +3,7 @@ use Rattle.std.proofs.Common.{◌≡◌, ◌≢◌, ℕ, List, [], ◌++◌, len
 use Rattle.std.specs.Prelude.{Option, None, Some}
 use Rattle.std.specs.Io.KnownBytes.{Appends, Keeps}
 use Rattle.rk_types.specs.declared.status.Status.{Status}
-use Rattle.rk_types.specs.declared.status.Status.TheVariants.{Audit, Done, NoMemory, ReadFault, Refused, ReplicaFault, Usage, Worn, WriteFault}
+use Rattle.rk_types.specs.declared.status.Status.TheVariants.{Done, NoMemory, Refused, ReplicaFault, Worn, WriteFault}
 use Rattle.rk_outside.specs.Parts.{AppendsPart}
 use Rattle.rk_outside.specs.Segments.{Segments}
 use Rattle.rk_world.specs.Cluster.{Cluster}
@@ -12,7 +12,7 @@ use Rattle.rk_cluster.specs.Replicas.{Fate}
 use Rattle.rk_cluster.specs.State.{ClusterState, IsOf}
 use Rattle.rk_script.specs.declared.command.Numbered.{Numbered}
 use Rattle.rk_play.specs.Concluded.{Concludes, ConcludesBy, IsWritten, part_in}
-use Rattle.rk_play.specs.Effects.{Fails, Pauses, Refuses, Stop, Wears}
+use Rattle.rk_play.specs.Effects.{Pauses, Stop}
 use Rattle.rk_play.specs.Ended.{EndsBy, HasFailed, HasStopped, IsHalted}
 use Rattle.rk_play.specs.Played.{Played, all_fates, ending, stopped_at, text_of}
 use Rattle.rk_play.specs.Reached.{IsOn}
@@ -40,11 +40,7 @@ ended_may Done most ended = tt
 ended_may Refused most ended = tt
 ended_may Worn most ended = tt
 ended_may ReplicaFault most ended = tt
-ended_may Usage most ended = absurd ended
-ended_may ReadFault most ended = absurd ended
-ended_may WriteFault most ended = absurd ended
-ended_may NoMemory most ended = absurd ended
-ended_may Audit most ended = absurd ended
+ended_may _ most ended = absurd ended
 
 -- where a text is written it is that of the whole run
 pub written_may : (text : List ℕ) (given status : Status) (most : ℕ) (old new : Option (List ℕ)) → IsEnded given → IsWritten text given status old new → MayBePart status most None
@@ -54,10 +50,8 @@ written_may text given status most old new ended is =
 
 -- a run that stops leaves the cluster as it is
 stopped_cluster : (line : ℕ) (stop : Stop) (cluster : Cluster) → (stopped_at line stop cluster).cluster ≡ cluster
-stopped_cluster line (Refuses code) cluster = refl
-stopped_cluster line (Wears number) cluster = refl
-stopped_cluster line (Fails rounds) cluster = refl
 stopped_cluster line Pauses cluster = refl
+stopped_cluster line _ cluster = refl
 
 module _ {R : Type 0} (segments : R → Option Segments) (faults : R → ℕ) (old now : ClusterState R) (all : List Numbered) (was : Option (List ℕ)) (cluster : Cluster) (is : IsOf segments old cluster) where
   -- what is played out is a part of these commands, in that cluster

@@ -10,5 +10,6 @@ pub mod Reaching
 pub mod Concluding
 pub mod Leaving
 pub mod Telling
+mod Feeding
 pub mod Failing
 pub mod Rising

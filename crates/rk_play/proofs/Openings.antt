@@ -5,7 +5,7 @@ use Rattle.std.proofs.lemmas.List.{length-drop, take-append-drop, take_all}
 use Rattle.std.proofs.Math.ListN.{drop_of_length-le}
 use Rattle.std.proofs.Math.Seq.{take-add}
 use Rattle.rk_types.specs.declared.status.Status.{Status}
-use Rattle.rk_types.specs.declared.status.Status.TheVariants.{Audit, Done, NoMemory, ReadFault, Refused, ReplicaFault, Usage, Worn, WriteFault}
+use Rattle.rk_types.specs.declared.status.Status.TheVariants.{NoMemory, WriteFault}
 use Rattle.rk_outside.specs.Segments.{Segments}
 use Rattle.rk_world.specs.Cluster.{Cluster}
 use Rattle.rk_cluster.specs.Numbers.{number_of}
@@ -130,31 +130,12 @@ shifted before (Some count) = Some (before + count)
 may_shift : (status : Status) (few most before : ℕ) (part : Option ℕ) → (status ≡ NoMemory → ⊥) → MayBePart status few part → MayBePart status most (shifted before part)
 may_shift NoMemory few most before part apart may = absurd (apart refl)
 may_shift WriteFault few most before part apart may = tt
-may_shift Done few most before None apart may = tt
-may_shift Done few most before (Some count) apart may = absurd may
-may_shift Refused few most before None apart may = tt
-may_shift Refused few most before (Some count) apart may = absurd may
-may_shift Usage few most before None apart may = tt
-may_shift Usage few most before (Some count) apart may = absurd may
-may_shift ReadFault few most before None apart may = tt
-may_shift ReadFault few most before (Some count) apart may = absurd may
-may_shift ReplicaFault few most before None apart may = tt
-may_shift ReplicaFault few most before (Some count) apart may = absurd may
-may_shift Audit few most before None apart may = tt
-may_shift Audit few most before (Some count) apart may = absurd may
-may_shift Worn few most before None apart may = tt
-may_shift Worn few most before (Some count) apart may = absurd may
+may_shift _ few most before None apart may = tt
+may_shift _ few most before (Some count) apart may = absurd may
 
 lacks : (status : Status) → (status ≡ NoMemory) ⊎ (status ≡ NoMemory → ⊥)
 lacks NoMemory = inl refl
-lacks Done = inr (λ same. absurd (cc same))
-lacks Refused = inr (λ same. absurd (cc same))
-lacks Usage = inr (λ same. absurd (cc same))
-lacks ReadFault = inr (λ same. absurd (cc same))
-lacks WriteFault = inr (λ same. absurd (cc same))
-lacks ReplicaFault = inr (λ same. absurd (cc same))
-lacks Audit = inr (λ same. absurd (cc same))
-lacks Worn = inr (λ same. absurd (cc same))
+lacks _ = inr (λ same. absurd (cc same))
 
 module _ {R : Type 0} (segments : R → Option Segments) (faults : R → ℕ) (commands : List Numbered) (opening : Opening) (opened : IsOpened commands opening) (was new : Option (List ℕ)) (before after : List R) where
   -- the other commands, and the cluster that was asked for

@@ -49,9 +49,7 @@ came_to_stop line it stop rest stop_is = ap (λ (some : Option Stop). continued 
 -- a run that a command stops has not failed at the sink
 pub end_apart : (line : ℕ) (error : PlayError) → end_by line error ≡ ends.WriteFault → ⊥
 end_apart line errors.NoMemory same = absurd (cc same)
-end_apart line (errors.Refused code) same = absurd (cc same)
-end_apart line (errors.Worn number) same = absurd (cc same)
-end_apart line (errors.Replica rounds) same = absurd (cc same)
+end_apart line _ same = absurd (cc same)
 
 -- the fates of the calls of one more command
 one_more : (fates : List (List Fate)) (its : List Fate) → all_fates (fates ++ its ∷ []) ≡ all_fates fates ++ its
@@ -97,9 +95,7 @@ module _ {R : Type 0} (segments : R → Option Segments) (faults : R → ℕ) wh
   stop_came : (mid now : ClusterState R) (effect : Cluster → List Fate → Effect) (error : PlayError) → error ≢ errors.NoMemory → Stopped segments faults mid now effect error
       → Came segments faults mid now effect [] (Some (stop_by error))
   stop_came mid now effect errors.NoMemory apart stopped = absurd (apart refl)
-  stop_came mid now effect (errors.Refused code) apart stopped = stopped
-  stop_came mid now effect (errors.Worn number) apart stopped = stopped
-  stop_came mid now effect (errors.Replica rounds) apart stopped = stopped
+  stop_came mid now effect _ apart stopped = stopped
 
   module _ (old mid now : ClusterState R) (all others : List Numbered) (first : Numbered) (was written : Option (List ℕ)) (held : List ℕ)
       (on : IsOn segments faults old mid all (first ∷ others) was written held) where

@@ -1,10 +1,8 @@
 -- What the replicas that come back tell.
 use Rattle.std.proofs.Common.{◌≡◌, ℕ, zero, suc, ◌+◌, ◌*◌, ◌≤◌, ◌<◌, true, false, cond, List, [], ◌∷◌, ◌++◌, All, drop, length, map, take, slice_get, slice_index_or, refl, sym, ap, subst, ◌∙◌, ⊎_elim, arith}
-use Rattle.std.specs.Prelude.{Bool, Option, None, Some, Err, IfSome}
+use Rattle.std.specs.Prelude.{Option, None, Some, IfSome}
 use Rattle.std.specs.Io.KnownBytes.{Keeps}
 use Rattle.std.proofs.KnownBytes.{Keeps-refl}
-use Rattle.std.specs.Str.Lines.{lines}
-use Rattle.std.proofs.lemmas.Bool.{lt-ltb}
 use Rattle.std.specs.List.{range_with_len}
 use Rattle.std.specs.Ordering.{eq_by_cmp, nat_cmp}
 use Rattle.std.proofs.lemmas.List.Elements.{All-cons, All-nil, All-take}
@@ -19,11 +17,7 @@ use Rattle.rk_world.specs.Backup.{no_segments}
 use Rattle.rk_world.specs.Cluster.{Cluster, lane_at, new_cluster}
 use Rattle.rk_world.specs.World.{World, new_backups, new_world}
 use Rattle.rk_lane.specs.LaneState.{IsTold, LaneState, replicas_of}
-use Rattle.rk_script.specs.Codes.{code_number}
-use Rattle.rk_script.specs.Script.{commands_from, script_of}
-use Rattle.rk_script.specs.declared.code.Code.TheVariants.{ScriptLength}
-use Rattle.rk_script.specs.declared.script.ParseError.TheVariants as faults_of
-use Rattle.rk_script.specs.declared.script.TheConstants.{LONGEST_SCRIPT}
+use Rattle.rk_script.specs.Script.{script_of}
 use Rattle.rk_cluster.specs.Faults.{CountsGoOn, GoOn}
 use Rattle.rk_cluster.specs.Fresh.{AreEmpty}
 use Rattle.rk_cluster.specs.Masters.{backups_in, backups_of}
@@ -33,7 +27,7 @@ use Rattle.rk_cluster.proofs.Faults.{go_on_same}
 use Rattle.rk_cluster.proofs.Worlds.{all_at, something_within, there_within, world_at}
 use Rattle.rk_lending.specs.Lent.{AreGivenBack}
 use Rattle.rk_play.specs.Concluded.{Concludes, IsWritten, PlaysBy}
-use Rattle.rk_play.specs.Played.{Played, Setting, all_fates, cluster_by, how_many, part_of, played, played_of, refused_at, text_of, unset}
+use Rattle.rk_play.specs.Played.{Played, Setting, all_fates, cluster_by, how_many, part_of, refused_at, text_of, unset}
 use Rattle.rk_play.specs.Runs.{Plays, Runs, TellStored, TellsAt, backup_count, count_of, replica_counts}
 use Rattle.rk_play.specs.Settings.{IsSetting}
 use Rattle.rk_play.proofs.Concluding.{halts_at_once, halts_kept, refused_runs}
@@ -259,8 +253,3 @@ module _ {R : Type 0} (segments : R → Option Segments) (faults : R → ℕ) wh
 -- a script that asks for nothing asks for two masters and two backups
 pub unset_may : IsSetting unset
 unset_may = record { masters = record { first = omega arith; last = omega arith }; backed = omega arith; backups = omega arith }
-
--- a script that is too long is refused as a whole
-pub too_long : (script : List ℕ) (fates : List (List Fate)) → LONGEST_SCRIPT < length script → played script fates ≡ refused_at 0 (code_number ScriptLength) (cluster_by unset)
-too_long script fates longer =
-    ap (λ (b : Bool). played_of (cond b (Err (faults_of.Refused 0 ScriptLength)) (commands_from 1 (lines script))) fates) (lt-ltb LONGEST_SCRIPT (length script) longer)

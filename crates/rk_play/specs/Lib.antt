@@ -9,3 +9,4 @@ pub mod Reached
 pub mod Ended
 pub mod Runs
 pub mod Concluded
+pub mod Reading

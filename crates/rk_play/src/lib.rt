@@ -12,6 +12,7 @@ mod commands;
 mod end;
 mod error;
 mod playing;
+mod reading;
 mod run;
 mod setting;
 mod settling;

@@ -1,5 +1,5 @@
 // A script read, played and written.
-ghost use Rattle.std.specs.Prelude.{◌≡◌, ◌+◌, All, [], length, map, IfSome};
+ghost use Rattle.std.specs.Prelude.{◌≡◌, ◌+◌, All, [], length, IfSome};
 ghost use Rattle.std.specs.Io.KnownBytes.{IsAtEnd};
 ghost use Rattle.rk_outside.specs.Parts.{ConsumesBetween};
 ghost use Rattle.rk_world.specs.Cluster.{Cluster as Whole};
@@ -7,22 +7,22 @@ ghost use Rattle.rk_settle.specs.Faults.{RoseInRounds};
 ghost use Rattle.rk_cluster.specs.Fresh.{AreEmpty};
 ghost use Rattle.rk_settle.specs.Course.{MOST_FAULTS};
 ghost use Rattle.rk_script.specs.Lawful.{IsLawful};
-ghost use Rattle.rk_script.specs.Script.{script_of};
 ghost use Rattle.rk_play.specs.Concluded.{Concludes, ConcludesBy, IsWritten, MayComeTo, PlaysBy, part_in};
 ghost use Rattle.rk_play.specs.Played.{cluster_by, part_of, refused_at, stopped_at};
-ghost use Rattle.rk_play.specs.Runs.{HasStatusCause, IsRead, NoneFell, Plays, count_of, replica_counts};
+ghost use Rattle.rk_play.specs.Runs.{HasStatusCause, IsRead, NoneFell, Plays, replica_counts};
 ghost use Rattle.rk_play.specs.Settings.{IsSetting, setting_of};
 ghost use Rattle.rk_play.specs.Stops.{stop_by};
 
 use crate::end::End;
 use crate::error::PlayError;
+use crate::reading::{ScriptError, read_script};
 use crate::run::run_all;
 use crate::setting::{Opening, read_opening};
 use rk_cluster::Cluster;
 use rk_lending::{give_back, lend};
 use rk_lines::push_refused;
-use rk_outside::{PIECE, ReadError, Replica, Sink, Source, put_all, read_all};
-use rk_script::{Code, LONGEST_SCRIPT, Numbered, ParseError, parse};
+use rk_outside::{PIECE, Replica, Sink, Source, put_all};
+use rk_script::{LONGEST_SCRIPT, Numbered};
 use rk_types::Status;
 use std::alloc::Global;
 
@@ -57,36 +57,11 @@ pub fn play<S: Source, K: Sink, R: Replica + Drop>(
     ensures replica_cause { result ≡ Status.ReplicaFault
         → RoseInRounds MOST_FAULTS (replica_counts R.faults replicas.old.items) (replica_counts R.faults replicas.new.items) }
 {
-    match read_all(alloc, LONGEST_SCRIPT, source) {
-        Ok(script) => play_script(alloc, script.as_slice(), sink, replicas),
-        Err(ReadError::TooLong) => refuse(alloc, 0, Code::ScriptLength.number(), sink),
-        Err(ReadError::Failed) => Status::ReadFault,
-        Err(ReadError::NoMemory) => Status::NoMemory,
-    }
-}
-
-// Plays a script.
-fn play_script<K: Sink, R: Replica + Drop>(
-    alloc: Global,
-    script: &[u8],
-    sink: &mut K,
-    replicas: &mut Vec<R>,
-) -> Status
-    requires { length replicas.old.items ≡ 32 }
-    ensures plays { AreEmpty R.segments replicas.old.items
-        → PlaysBy R.segments R.faults (part_of (script_of script.now)) (count_of (script_of script.now)) result
-        (K.written sink.old) (K.written sink.new) replicas.old.items replicas.new.items }
-    ensures count { (result ≡ Status.NoMemory → ⊥) → length replicas.new.items ≡ 32 }
-    ensures counts { NoneFell R.faults replicas.old.items replicas.new.items }
-    ensures status { MayComeTo result }
-    ensures cause { HasStatusCause Status.WriteFault result (K.faults sink.old) (K.faults sink.new) }
-    ensures replica_cause { result ≡ Status.ReplicaFault
-        → RoseInRounds MOST_FAULTS (replica_counts R.faults replicas.old.items) (replica_counts R.faults replicas.new.items) }
-{
-    match parse(alloc, script) {
+    match read_script(alloc, source) {
         Ok(commands) => play_commands(alloc, commands, sink, replicas),
-        Err(ParseError::Refused { line, code }) => refuse(alloc, line, code.number(), sink),
-        Err(ParseError::NoMemory) => Status::NoMemory,
+        Err(ScriptError::Refused { line, code }) => refuse(alloc, line, code.number(), sink),
+        Err(ScriptError::Failed) => Status::ReadFault,
+        Err(ScriptError::NoMemory) => Status::NoMemory,
     }
 }
 

@@ -4,9 +4,12 @@ pub mod Receipts
 pub mod Ordered
 pub mod GoesOn
 pub mod Agreeing
+pub mod Taking
 pub mod Visits
 pub mod Clusters
+pub mod Lanes
 pub mod Occurring
+pub mod Journals
 pub mod Histories
 pub mod Staying
 pub mod Runs

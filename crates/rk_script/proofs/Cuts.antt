@@ -1,10 +1,16 @@
--- A list that is cut at the first element that passes a test.
-use Rattle.std.proofs.Common.{◌≡◌, ℕ, ◌+◌, ◌≤◌, List, [], ◌∷◌, length, take, drop, Bool, true, false, cond, refl, subst, arith}
-use Rattle.std.specs.Prelude.{Some, None, nat_lt, position}
-use Rattle.std.specs.List.{slice_split, position_or_len}
-use Rattle.std.proofs.lemmas.List.Splits.{slice_split_first, slice_split_none}
-use Rattle.std.proofs.lemmas.List.Sums.{fails_before_first}
+-- Bytes that are cut at the first line feed.
+use Rattle.std.proofs.Common.{◌≡◌, ℕ, ◌+◌, ◌<◌, ◌≤◌, List, ◌∷◌, ◌++◌, length, get_or, take, drop, Bool, true, false, cond, refl, subst, ap, ◌∙◌, arith}
+use Rattle.std.specs.Prelude.{◌==◌, Some, None, nat_lt, position}
+use Rattle.std.specs.List.{after_first, before_first, position_or_len}
+use Rattle.std.proofs.lemmas.Grind.{common_steps}
+use Rattle.std.proofs.lemmas.List.Sums.{fails_before_first, passes_at_first, split_at_first}
 use Rattle.std.proofs.lemmas.Bool.{ltb-true, ltb-false}
+use Rattle.rk_script.specs.declared.script.TheConstants.{LINE_FEED}
+use Rattle.rk_script.specs.Reading.{IsWithinLine}
+
+-- whether a byte is a line feed
+abbrev pub is_feed : ℕ → Bool
+is_feed byte = byte == LINE_FEED
 
 -- a choice of Some is made by a test that holds
 pub chosen : (b : Bool) (n i : ℕ) → cond b (Some n) None ≡ Some i → (b ≡ true) × (n ≡ i)
@@ -16,17 +22,38 @@ pub refused : (b : Bool) (n : ℕ) → cond b (Some n) None ≡ None → b ≡ f
 refused true n e = absurd (cc)
 refused false n e = refl
 
--- a list is cut at the place that `position` finds
-pub slice_split_position : (p : ℕ → Bool) (xs : List ℕ) (i : ℕ) → position p xs ≡ Some i → slice_split p xs ≡ take i xs ∷ slice_split p (drop (i + 1) xs)
-slice_split_position p xs i e =
-    let found : (nat_lt (position_or_len p xs) (length xs) ≡ true) × (position_or_len p xs ≡ i) = chosen (nat_lt (position_or_len p xs) (length xs)) (position_or_len p xs) i e in
-    let P : ℕ → Type 0 = λ n. slice_split p xs ≡ take n xs ∷ slice_split p (drop (n + 1) xs) in
-    subst P found.1 (slice_split_first p xs 0 (ltb-true (position_or_len p xs) (length xs) found.0))
-
--- a list where no element passes is the one part
-pub slice_split_whole : (p : ℕ → Bool) (xs : List ℕ) → position p xs ≡ None → slice_split p xs ≡ xs ∷ []
-slice_split_whole p xs e =
-    let all : length xs ≤ position_or_len p xs =
-    ltb-false (position_or_len p xs) (length xs) (refused (nat_lt (position_or_len p xs) (length xs)) (position_or_len p xs) e)
+-- the place that `position` finds is that of the first line feed
+pub place_of : (xs : List ℕ) (i : ℕ) → position is_feed xs ≡ Some i → (position_or_len is_feed xs < length xs) × (position_or_len is_feed xs ≡ i)
+place_of xs i e =
+    let found : (nat_lt (position_or_len is_feed xs) (length xs) ≡ true) × (position_or_len is_feed xs ≡ i) =
+    chosen (nat_lt (position_or_len is_feed xs) (length xs)) (position_or_len is_feed xs) i e
     in
-    slice_split_none p xs (λ k d h. fails_before_first p xs k d (omega arith))
+    (ltb-true (position_or_len is_feed xs) (length xs) found.0, found.1)
+
+-- a byte that passes is a line feed
+pub feed_is : (byte : ℕ) → (byte == LINE_FEED) ≡ true → byte ≡ LINE_FEED
+feed_is byte e = grind (arith, common_steps)
+
+-- bytes are cut at the place that `position` finds
+pub cut_at_position : (xs : List ℕ) (i : ℕ) → position is_feed xs ≡ Some i → xs ≡ take i xs ++ LINE_FEED ∷ drop (i + 1) xs
+cut_at_position xs i e =
+    let found = place_of xs i e in
+    let P : ℕ → Type 0 = λ n. xs ≡ take n xs ++ LINE_FEED ∷ drop (n + 1) xs in
+    subst P found.1
+    (split_at_first is_feed xs 0 found.0
+    ∙ ap (λ (byte : ℕ). before_first is_feed xs ++ byte ∷ after_first is_feed xs) (feed_is (get_or xs (position_or_len is_feed xs) 0) (passes_at_first is_feed xs 0 found.0)))
+
+-- before that place there is no line feed
+pub line_before_position : (xs : List ℕ) (i : ℕ) → position is_feed xs ≡ Some i → IsWithinLine (take i xs)
+line_before_position xs i e =
+    let found = place_of xs i e in
+    subst (λ (n : ℕ). IsWithinLine (take n xs)) found.1
+    (λ k d h. let first = fails_before_first is_feed xs k d (grind (arith, common_steps)) in grind (arith, common_steps))
+
+-- bytes in which `position` finds nothing have no line feed
+pub line_without_position : (xs : List ℕ) → position is_feed xs ≡ None → IsWithinLine xs
+line_without_position xs e =
+    let all : length xs ≤ position_or_len is_feed xs =
+    ltb-false (position_or_len is_feed xs) (length xs) (refused (nat_lt (position_or_len is_feed xs) (length xs)) (position_or_len is_feed xs) e)
+    in
+    λ k d h. fails_before_first is_feed xs k d (omega arith)

@@ -6,4 +6,5 @@ pub mod Refusals
 pub mod Lines
 pub mod Script
 pub mod Reading
+pub mod Feeding
 pub mod Lawful

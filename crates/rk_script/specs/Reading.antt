@@ -1,17 +1,19 @@
--- What reading a script a line at a time answers, against what its lines say.
-use Rattle.std.specs.Prelude.{◌≡◌, ◌==◌, ⊤, ℕ, List, [], ◌∷◌, ◌++◌, Option, Some, None, Result, Ok, Err}
-use Rattle.std.specs.List.{slice_split}
+-- What reading a script line by line answers, against what its lines say.
+use Rattle.std.specs.Prelude.{◌≡◌, ◌+◌, ◌≤◌, ◌==◌, false, ⊤, ℕ, All, List, [], ◌∷◌, ◌++◌, length, Option, Some, None, Result, Ok, Err}
+use Rattle.std.specs.Str.Lines.{lines}
 use Rattle.rk_script.specs.declared.code.Code.{Code}
 use Rattle.rk_script.specs.declared.command.Command.{Command}
 use Rattle.rk_script.specs.declared.command.Numbered.{Numbered}
+use Rattle.rk_script.specs.declared.progress.Progress.{Progress}
 use Rattle.rk_script.specs.declared.script.ParseError.{ParseError}
 use Rattle.rk_script.specs.declared.script.ParseError.TheVariants.{Refused, NoMemory}
 use Rattle.rk_script.specs.declared.script.TheConstants.{LINE_FEED}
 use Rattle.rk_script.specs.Lines.{said_by}
+use Rattle.rk_script.specs.Script.{commands_from}
 
--- the parts of a script between its line feeds
-abbrev pub parts_of : List ℕ → List (List ℕ)
-parts_of script = slice_split (λ byte. byte == LINE_FEED) script
+-- bytes without a line feed
+abbrev pub IsWithinLine : List ℕ → Type 0
+IsWithinLine bytes = All (λ byte. (byte == LINE_FEED) ≡ false) bytes
 
 -- the commands with the one that a line says, if it says one
 abbrev pub with_line : List Numbered → ℕ → Option Command → List Numbered
@@ -31,3 +33,27 @@ IsLineRefusal NoMemory line said = ⊤
 abbrev pub IsScriptRefusal : ParseError → Result (List Numbered) ParseError → Type 0
 IsScriptRefusal (Refused line code) said = said ≡ Err (Refused line code)
 IsScriptRefusal NoMemory said = ⊤
+
+-- commands that were read before those of the rest
+abbrev pub after_commands : List Numbered → Result (List Numbered) ParseError → Result (List Numbered) ParseError
+after_commands done (Ok more) = Ok (done ++ more)
+after_commands done (Err error) = Err error
+
+-- what a script comes to that is read so far, where these bytes follow
+abbrev pub answer_of : Progress → List ℕ → Result (List Numbered) ParseError
+answer_of progress more = after_commands progress.commands.items (commands_from progress.line (lines (progress.last.items ++ more)))
+
+-- what is read so far, or why no more is read, settles what the lines come to where these bytes follow; want of memory is free
+abbrev pub Settles : Result Progress ParseError → List ℕ → Result (List Numbered) ParseError → Type 0
+Settles (Ok progress) more said = said ≡ answer_of progress more
+Settles (Err error) more said = IsScriptRefusal error said
+
+-- all that is settled before a piece is settled after it
+abbrev pub GoesOn : Result Progress ParseError → Result Progress ParseError → List ℕ → Type 0
+GoesOn old new piece = (more : List ℕ) (said : Result (List Numbered) ParseError) → Settles old (piece ++ more) said → Settles new more said
+
+-- the line that is not complete has no line feed, and of so many bytes there are at most so many lines and commands
+pub record IsProgress (progress : Progress) (count : ℕ) : Type 0 where
+  pub within : IsWithinLine progress.last.items
+  pub lines : progress.line + length progress.last.items ≤ 1 + count
+  pub commands : length progress.commands.items + length progress.last.items ≤ count

@@ -1,3 +1,4 @@
+pub mod Words
 pub mod play
 pub mod settle
 pub mod answers

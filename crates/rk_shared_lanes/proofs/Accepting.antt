@@ -1,5 +1,5 @@
 -- A lane behind its lock, and a pass, stay so when a client takes a message.
-use Rattle.std.proofs.Common.{◌≡◌, ℕ, ◌+◌, Bool, true, false, cond, not, List, [], length, Option, Some, None, Result, Ok, Err, refl, sym, ap, subst, ◌∙◌, arith}
+use Rattle.std.proofs.Common.{◌≡◌, ℕ, ◌+◌, Bool, true, false, cond, not, List, [], ◌∷◌, length, Option, Some, None, Result, Ok, Err, refl, sym, ap, subst, ◌∙◌, arith}
 use Rattle.std.specs.Prelude.{◌==◌, IfSome, is_some}
 use Rattle.std.specs.Option.{option_or}
 use Rattle.rk_outside.specs.Segments.{Segments}
@@ -29,6 +29,8 @@ use Rattle.rk_world.specs.Ledger.{Ledger, is_added}
 use Rattle.rk_lane.specs.LaneState.{AreTold, IsSameLane, LaneState, Running, world_with}
 use Rattle.rk_lane.specs.Visits.{IsVisitOf}
 use Rattle.rk_runs.specs.history.Agreement.{waiting}
+use Rattle.rk_cluster.specs.Faults.{Counts}
+use Rattle.rk_cluster.proofs.Failing.{lanes_visited}
 use Rattle.rk_laws_lanes.specs.Counts.{HasReceipts, HasSameClients, IsCounted, accepted_count}
 use Rattle.rk_laws_lanes.specs.GoodLane.{IsGoodLane}
 use Rattle.rk_laws_lanes.proofs.Answers.{answer_asked, answer_clients, answer_counted, answer_receipts}
@@ -145,8 +147,8 @@ counted_good : (masters lane : ℕ) (w : World) (number : ℕ) (session : Sessio
     → IsGoodLane masters lane w → MayAct masters session → IsCounted w.ledger visited.world.ledger session visited.session visited.seen.taken
 counted_good masters lane w number session visited is good may =
     let it = taken_here w number session visited is in
-    let Counts : Visited → Type 0 = λ made. IsCounted w.ledger made.world.ledger session made.session made.seen.taken in
-    subst Counts it.is (answer_counted masters lane w number session it.message good may it.there it.for_it)
+    let Counted : Visited → Type 0 = λ made. IsCounted w.ledger made.world.ledger session made.session made.seen.taken in
+    subst Counted it.is (answer_counted masters lane w number session it.message good may it.there it.for_it)
 
 module _ (masters lane : ℕ) (w : World) (number : ℕ) (session : Session) (visited : Visited) (is : accept w number session ≡ Ok visited)
     (good : IsGoodLane masters lane w) (may : MayAct masters session) where
@@ -229,9 +231,9 @@ good_accepted masters lane w number session visited is may good =
     let Good : Result Visited StepError → Type 0 = λ made. IsGoodLane masters lane (world_visited w made) in
     subst Good is (good_accepts masters lane w session good may number)
 
-module _ {R : Type 0} (segments : R → Option Segments) (tells : Type 0) (masters backups : ℕ) (clients : List ℕ) (old new : LaneState R) (same : IsSameLane old new)
-    (message : ℕ) (pass : PassState) (now : Session) (seen : Seen) (it : IsVisitOf (λ w. accept w message pass.session) old new now seen)
-    (may : MayAct masters pass.session) (accepted asked number : ℕ × ℕ) (kept : IsKept segments tells masters backups clients old accepted asked number) where
+module _ {R : Type 0} (segments : R → Option Segments) (faults : R → ℕ) (tells : Type 0) (masters backups : ℕ) (clients : List ℕ) (counts : Counts) (old new : LaneState R)
+    (same : IsSameLane old new) (message : ℕ) (pass : PassState) (now : Session) (seen : Seen) (it : IsVisitOf (λ w. accept w message pass.session) old new now seen)
+    (may : MayAct masters pass.session) (accepted asked number : ℕ × ℕ) (kept : IsKept segments faults tells masters backups clients counts old accepted asked number) where
   -- what the lane and the session became, with what backups store
   abbrev visited_with : NumberMap Segments → Visited
   visited_with stored = record { world = world_with new it.after stored; session = now; seen = seen }
@@ -246,21 +248,22 @@ module _ {R : Type 0} (segments : R → Option Segments) (tells : Type 0) (maste
   may_here = subst (λ (count : ℕ). MayAct count pass.session) (sym kept.masters_are) may
 
   -- in a good lane
-  abbrev Counts : Type 0
-  Counts = IsCounted old.ledger new.ledger pass.session now seen.taken
+  abbrev IsCountedHere : Type 0
+  IsCountedHere = IsCounted old.ledger new.ledger pass.session now seen.taken
 
   stood_of : tells → StandsFor segments old it.before
   stood_of told = subst (λ (running : Option Running). IfSome running (StandsFor segments old)) it.was (kept.sound told)
 
-  counts_of : tells → Counts
+  counts_of : tells → IsCountedHere
   counts_of told =
       let stood = stood_of told in
       counted_good old.masters old.number (world_with old it.before stood.stored) message pass.session (visited_with stood.stored) (it.visited stood.stored) stood.good may_here
 
   pub kept_accepted : (accepted_now : ℕ × ℕ) → accepted_now.0 ≡ accepted.0 → accepted_now.1 ≡ accepted.1 + one_if (is_answer seen.taken)
-      → IsKept segments tells masters backups clients new accepted_now asked number
+      → IsKept segments faults tells masters backups clients counts new accepted_now asked number
   kept_accepted accepted_now parts amount =
-      kept_with segments tells masters backups clients old new same accepted asked number accepted_now asked kept counted_here.clients
+      kept_with segments faults tells masters backups clients counts old new same accepted asked number accepted_now asked kept counted_here.clients
+      (lanes_visited faults (old ∷ []) 0 old new refl (λ w. accept w message pass.session) now (Ok seen) it tt)
       (kept.asked_is.0, kept.asked_is.1 ∙ sym counted_here.asked) (parts ∙ kept.accepted_part)
       (λ told.
       amount ∙ ap (λ (n : ℕ). n + one_if (is_answer seen.taken)) (kept.accepted_is told)
@@ -270,9 +273,9 @@ module _ {R : Type 0} (segments : R → Option Segments) (tells : Type 0) (maste
       ledger_counted old.masters old.number (world_with old it.before stood.stored) message pass.session
       (visited_with stood.stored) (it.visited stood.stored) stood.good may_here (kept.counted told))
       (λ told.
-      sound_on segments tells masters backups clients old new same it.before it.after it.was it.is
+      sound_on segments old new same it.before it.after it.was it.is
       (λ stood.
-      stands_on segments tells masters backups clients old new same it.before it.after stood.stored
+      stands_on segments old new same it.before it.after stood.stored
       (subst (λ (backups : List (BackupLane R)). AreTold segments backups stood.stored) (sym it.backups) stood.told)
       (good_accepted old.masters old.number (world_with old it.before stood.stored) message pass.session (visited_with stood.stored) (it.visited stood.stored) may_here stood.good))
       (kept.sound told))

@@ -1,5 +1,5 @@
 -- A lane behind its lock, and a pass, stay so at a client's turn.
-use Rattle.std.proofs.Common.{◌≡◌, ℕ, ◌+◌, Bool, true, false, cond, not, List, [], length, Option, Some, None, Result, Ok, Err, refl, sym, ap, subst, ◌∙◌, ⊎_elim, arith}
+use Rattle.std.proofs.Common.{◌≡◌, ℕ, ◌+◌, Bool, true, false, cond, not, List, [], ◌∷◌, length, Option, Some, None, Result, Ok, Err, refl, sym, ap, subst, ◌∙◌, ⊎_elim, arith}
 use Rattle.std.specs.Prelude.{◌==◌, IfSome, is_some}
 use Rattle.std.proofs.lemmas.Bool.{and_parts}
 use Rattle.rk_outside.specs.Segments.{Segments}
@@ -20,6 +20,8 @@ use Rattle.rk_world.specs.declared.event.Seen.{Seen}
 use Rattle.rk_lane.specs.LaneState.{AreTold, IsSameLane, LaneState, Running, world_with}
 use Rattle.rk_lane.specs.Visits.{IsVisitOf, MayHaveTurned}
 use Rattle.rk_runs.specs.history.Agreement.{waiting}
+use Rattle.rk_cluster.specs.Faults.{Counts}
+use Rattle.rk_cluster.proofs.Failing.{lanes_visited}
 use Rattle.rk_laws_lanes.specs.Counts.{HasSameClients, IsAskedOnce, accepted_count}
 use Rattle.rk_laws_lanes.specs.GoodLane.{IsGoodLane}
 use Rattle.rk_laws_lanes.proofs.Asks.{asked_once, turned_same}
@@ -195,8 +197,8 @@ good_asked masters number w session visited is may good =
     let Good : Result Visited StepError → Type 0 = λ made. IsGoodLane masters number (world_visited w made) in
     subst Good is (good_asks masters number w session good may)
 
-module _ {R : Type 0} (segments : R → Option Segments) (tells : Type 0) (masters backups : ℕ) (clients : List ℕ) (old new : LaneState R) (same : IsSameLane old new)
-    (pass : PassState) (now : Session) (seen : Seen) (it : IsVisitOf (λ w. ask w pass.session) old new now seen) (suits : Suits (world_with old it.before []) pass) where
+module _ {R : Type 0} (segments : R → Option Segments) (faults : R → ℕ) (tells : Type 0) (masters backups : ℕ) (clients : List ℕ) (counts : Counts) (old new : LaneState R)
+    (same : IsSameLane old new) (pass : PassState) (now : Session) (seen : Seen) (it : IsVisitOf (λ w. ask w pass.session) old new now seen) (suits : Suits (world_with old it.before []) pass) where
   -- what the turn counts, by the worlds without what backups store
   pub counted_here : IsTurnCounted (world_with old it.before []) pass.session (record { world = world_with new it.after []; session = now; seen = seen })
   counted_here =
@@ -219,11 +221,12 @@ module _ {R : Type 0} (segments : R → Option Segments) (tells : Type 0) (maste
         (asking_orderly pass.session.client pass.session orderly w pass.session.outstanding);
   }
 
-  pub kept_asked : (accepted asked number asked_now : ℕ × ℕ) → MayAct masters pass.session → IsKept segments tells masters backups clients old accepted asked number
+  pub kept_asked : (accepted asked number asked_now : ℕ × ℕ) → MayAct masters pass.session → IsKept segments faults tells masters backups clients counts old accepted asked number
       → asked_now.0 ≡ asked.0 → asked_now.1 ≡ asked.1 + one_if (not pass.counted)
-      → IsKept segments tells masters backups clients new accepted asked_now number
+      → IsKept segments faults tells masters backups clients counts new accepted asked_now number
   kept_asked accepted asked number asked_now may kept parts amount =
-      kept_with segments tells masters backups clients old new same accepted asked number accepted asked_now kept counted_here.clients (
+      kept_with segments faults tells masters backups clients counts old new same accepted asked number accepted asked_now kept counted_here.clients
+      (lanes_visited faults (old ∷ []) 0 old new refl (λ w. ask w pass.session) now (Ok seen) it tt) (
         parts ∙ kept.asked_is.0,
         amount ∙ ap (λ (n : ℕ). n + one_if (not pass.counted)) kept.asked_is.1
             ∙ sym (one_for (is_asked_here (world_with old it.before []) pass.session) pass.counted old.ledger.asked suits.counted) ∙ sym counted_here.asked,
@@ -234,9 +237,9 @@ module _ {R : Type 0} (segments : R → Option Segments) (tells : Type 0) (maste
       let Counted : Result Visited StepError → Type 0 = λ made. HasCountedCalls (world_visited w made).ledger in
       subst Counted (it.visited []) (ask_counted w pass.session (kept.counted told)))
       (λ told.
-      sound_on segments tells masters backups clients old new same it.before it.after it.was it.is
+      sound_on segments old new same it.before it.after it.was it.is
       (λ stood.
-      stands_on segments tells masters backups clients old new same it.before it.after stood.stored
+      stands_on segments old new same it.before it.after stood.stored
       (subst (λ (backups : List (BackupLane R)). AreTold segments backups stood.stored) (sym it.backups) stood.told)
       (good_asked old.masters old.number (world_with old it.before stood.stored) pass.session
       (record { world = world_with new it.after stood.stored; session = now; seen = seen }) (it.visited stood.stored)

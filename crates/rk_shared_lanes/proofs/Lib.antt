@@ -1,6 +1,7 @@
 pub mod Accepting
 pub mod Asking
 pub mod Attempted
+pub mod Below
 pub mod Calling
 pub mod Making
 pub mod Standing

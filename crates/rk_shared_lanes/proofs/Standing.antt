@@ -1,5 +1,5 @@
 -- What lies behind a lane's lock stays so, by what became of the lane.
-use Rattle.std.proofs.Common.{◌≡◌, ◌^◌, ◌<◌, ℕ, List, Option, Some, sym, ap, subst, ◌∙◌}
+use Rattle.std.proofs.Common.{◌≡◌, ◌^◌, ◌<◌, ℕ, List, [], ◌∷◌, Option, Some, sym, ap, subst, ◌∙◌}
 use Rattle.std.specs.Prelude.{IfSome}
 use Rattle.rk_types.specs.NumberMap.{NumberMap}
 use Rattle.rk_types.specs.declared.hashing.TheConstants.{LANES}
@@ -7,16 +7,25 @@ use Rattle.rk_outside.specs.Segments.{Segments}
 use Rattle.rk_world.specs.Ledger.{Ledger}
 use Rattle.rk_world.specs.World.{World}
 use Rattle.rk_lane.specs.LaneState.{AreTold, IsSameLane, LaneState, Running, world_with}
+use Rattle.rk_cluster.specs.Faults.{Counts, LanesGoOn, RoseBy, lane_counts}
+use Rattle.rk_cluster.proofs.Faults.{rose_then}
 use Rattle.rk_laws_lanes.specs.Counts.{HasSameClients, accepted_count}
 use Rattle.rk_laws_lanes.specs.GoodLane.{IsGoodLane}
 use Rattle.rk_laws_gathered.specs.OpenCalls.{HasCountedCalls}
-use Rattle.rk_shared_lanes.specs.Kept.{HasClients, IsKept, IsPart, IsSoundOrSpent, StandsFor}
+use Rattle.rk_shared_lanes.specs.Kept.{HasClients, IsKept, IsNoneBelow, IsPart, IsSoundOrSpent, StandsFor}
 
 -- the clients of a ledger are just these where another one has the same
 clients_stay : (clients : List ℕ) (before after : Ledger) → HasSameClients before after → HasClients clients before → HasClients clients after
 clients_stay clients before after same has = λ client. same client ∙ has client
 
-module _ {R : Type 0} (segments : R → Option Segments) (tells : Type 0) (masters backups : ℕ) (clients : List ℕ) (old new : LaneState R) (same : IsSameLane old new) where
+-- no count of faults of a lane is below these where none was, and none fell
+below_still : {R : Type 0} (faults : R → ℕ) (counts : Counts) (old new : LaneState R) → new.number ≡ old.number → LanesGoOn faults [] (old ∷ []) (new ∷ [])
+    → IsNoneBelow faults counts old → IsNoneBelow faults counts new
+below_still faults counts old new same on above place =
+    subst (λ (number : ℕ). RoseBy 0 (counts number place) (lane_counts faults (Some new) place)) (sym same)
+    (rose_then 0 0 (counts old.number place) (lane_counts faults (Some old) place) (lane_counts faults (Some new) place) (above place) (on 0 place))
+
+module _ {R : Type 0} (segments : R → Option Segments) (old new : LaneState R) (same : IsSameLane old new) where
   -- a good world of the lane as it was is one of the lane as it is
   pub good_on : (w : World) → IsGoodLane old.masters old.number w → IsGoodLane new.masters new.number w
   good_on w good =
@@ -35,18 +44,21 @@ module _ {R : Type 0} (segments : R → Option Segments) (tells : Type 0) (maste
       subst (λ (running : Option Running). IfSome running (StandsFor segments new)) (sym is)
       (leads (subst (λ (running : Option Running). IfSome running (StandsFor segments old)) was sound))
 
+module _ {R : Type 0} (segments : R → Option Segments) (faults : R → ℕ) (tells : Type 0) (masters backups : ℕ) (clients : List ℕ) (counts : Counts) (old new : LaneState R)
+    (same : IsSameLane old new) where
   -- all of it stays so with these shares
-  pub kept_with : (accepted asked number accepted_now asked_now : ℕ × ℕ) → IsKept segments tells masters backups clients old accepted asked number
-      → HasSameClients old.ledger new.ledger → IsPart asked_now new.ledger.asked → accepted_now.0 ≡ 1
+  pub kept_with : (accepted asked number accepted_now asked_now : ℕ × ℕ) → IsKept segments faults tells masters backups clients counts old accepted asked number
+      → HasSameClients old.ledger new.ledger → LanesGoOn faults [] (old ∷ []) (new ∷ []) → IsPart asked_now new.ledger.asked → accepted_now.0 ≡ 1
       → (tells → accepted_now.1 ≡ accepted_count new.ledger) → (tells → HasCountedCalls new.ledger) → (tells → IsSoundOrSpent segments new)
-      → IsKept segments tells masters backups clients new accepted_now asked_now number
-  kept_with accepted asked number accepted_now asked_now kept added asked_is part accepted_is counted sound = record {
+      → IsKept segments faults tells masters backups clients counts new accepted_now asked_now number
+  kept_with accepted asked number accepted_now asked_now kept added on asked_is part accepted_is counted sound = record {
     masters_are = same.masters ∙ kept.masters_are;
     backups_are = same.backups ∙ kept.backups_are;
     clients_are = clients_stay clients old.ledger new.ledger added kept.clients_are;
     few = subst (λ (n : ℕ). n < LANES) (sym same.number) kept.few;
     number_is = (kept.number_is.0, kept.number_is.1 ∙ ap (λ (n : ℕ). 9 ^ n) (sym same.number));
     asked_is = asked_is;
+    none_below = below_still faults counts old new same.number on kept.none_below;
     accepted_part = part;
     accepted_is = accepted_is;
     counted = counted;

@@ -1,5 +1,5 @@
 -- A lane behind its lock stays so at each event.
-use Rattle.std.proofs.Common.{◌≡◌, ◌≢◌, ℕ, [], List, length, Option, Some, None, Result, Ok, Err, refl, sym, ap, subst, ◌∙◌, ⊎_elim, inl, inr}
+use Rattle.std.proofs.Common.{◌≡◌, ◌≢◌, ℕ, [], ◌∷◌, List, length, Option, Some, None, Result, Ok, Err, refl, sym, ap, subst, ◌∙◌, ⊎_elim, inl, inr}
 use Rattle.std.specs.Prelude.{◌⊎◌, IfErr, IfOk, IfSome}
 use Rattle.rk_outside.specs.Segments.{Segments}
 use Rattle.rk_backup.specs.declared.lane.BackupLane.{BackupLane}
@@ -22,6 +22,8 @@ use Rattle.rk_lane.specs.Events.{IsAnswerOf, IsRefused, IsStepFrom, IsStepOf}
 use Rattle.rk_lane.specs.LaneState.{AreTold, IsSameLane, LaneState, Running, world_with}
 use Rattle.rk_lane.proofs.Backed.{by_failing}
 use Rattle.rk_lane.proofs.Steps.{calm_same, may_happen_same}
+use Rattle.rk_cluster.specs.Faults.{Counts, LanesGoOn}
+use Rattle.rk_cluster.proofs.Failing.{lanes_stepped}
 use Rattle.rk_laws_lanes.specs.Counts.{AddsNoClient, HasSameClients, HasSameCounts, accepted_count}
 use Rattle.rk_laws_lanes.specs.GoodLane.{IsGoodLane}
 use Rattle.rk_laws_lanes.proofs.Events.{good_event}
@@ -112,7 +114,7 @@ module _ {R : Type 0} (segments : R → Option Segments) (faults : R → ℕ) (o
         let told : IsTold w event it.called = told_so w event it.called (from.given stood.good.steady.tell) in
         let good : IsGoodLane old.masters old.number (happened w event it.called).world =
         good_event old.masters old.number w event it.called stood.good may it.may told calm got.allowed in
-        stands_on segments Unit 0 0 [] old new same it.before it.after from.backups from.told (subst (IsGoodLane old.masters old.number) got.is good)
+        stands_on segments old new same it.before it.after from.backups from.told (subst (IsGoodLane old.masters old.number) got.is good)
 
   -- ---- any answer
 
@@ -121,30 +123,36 @@ module _ {R : Type 0} (segments : R → Option Segments) (faults : R → ℕ) (o
       → IfSome running (λ _. IfOk answer (IsStepOf segments faults event old new)) → IfErr answer (IsRefused faults event old new) → (running ≡ None → new ≡ old)
       → IsSoundOrSpent segments old → IsSoundOrSpent segments new
   sound_stepped None is answer ok err spent sound = subst (IsSoundOrSpent segments) (sym (spent refl)) sound
-  sound_stepped (Some running) is (Ok seen) ok err spent sound = sound_on segments Unit 0 0 [] old new same ok.before ok.after ok.was ok.is (stands_after seen ok) sound
+  sound_stepped (Some running) is (Ok seen) ok err spent sound = sound_on segments old new same ok.before ok.after ok.was ok.is (stands_after seen ok) sound
   sound_stepped (Some running) is (Err error) ok err spent sound =
       ⊎_elim
       (λ (memory : error ≡ errors.NoMemory). subst (λ (after : Option Running). IfSome after (StandsFor segments new)) (sym (err.spent memory)) tt)
       (λ (other : error ≢ errors.NoMemory). subst (IsSoundOrSpent segments) (sym (err.same other)) sound) (memory_or error)
 
-  module _ (tells : Type 0) (masters backups : ℕ) (clients : List ℕ) (accepted asked number : ℕ × ℕ) (kept : IsKept segments tells masters backups clients old accepted asked number) where
-    kept_same : new ≡ old → IsKept segments tells masters backups clients new accepted asked number
-    kept_same is = subst (λ (lane : LaneState R). IsKept segments tells masters backups clients lane accepted asked number) (sym is) kept
+  -- no count of faults of its replicas falls
+  pub none_falls : (answer : Result Seen StepError) → IfSome old.running (λ _. IfOk answer (IsStepOf segments faults event old new))
+      → IfErr answer (IsRefused faults event old new) → (old.running ≡ None → new ≡ old) → LanesGoOn faults [] (old ∷ []) (new ∷ [])
+  none_falls answer ok err spent = lanes_stepped faults (old ∷ []) 0 old new refl segments event answer ok err spent
+
+  module _ (tells : Type 0) (masters backups : ℕ) (clients : List ℕ) (counts : Counts) (accepted asked number : ℕ × ℕ) (kept : IsKept segments faults tells masters backups clients counts old accepted asked number)
+      (on : LanesGoOn faults [] (old ∷ []) (new ∷ [])) where
+    kept_same : new ≡ old → IsKept segments faults tells masters backups clients counts new accepted asked number
+    kept_same is = subst (λ (lane : LaneState R). IsKept segments faults tells masters backups clients counts lane accepted asked number) (sym is) kept
 
     -- what it counts is as it was
     kept_counts : HasSameClients old.ledger new.ledger → HasSameCounts old.ledger new.ledger → (HasCountedCalls old.ledger → HasCountedCalls new.ledger)
-        → (tells → IsSoundOrSpent segments new) → IsKept segments tells masters backups clients new accepted asked number
-    kept_counts added counts counted sound =
-        kept_with segments tells masters backups clients old new same accepted asked number accepted asked kept added
-        (kept.asked_is.0, kept.asked_is.1 ∙ sym counts.asked) kept.accepted_part (λ told. kept.accepted_is told ∙ sym counts.accepted) (λ told. counted (kept.counted told)) sound
+        → (tells → IsSoundOrSpent segments new) → IsKept segments faults tells masters backups clients counts new accepted asked number
+    kept_counts added alike counted sound =
+        kept_with segments faults tells masters backups clients counts old new same accepted asked number accepted asked kept added on
+        (kept.asked_is.0, kept.asked_is.1 ∙ sym alike.asked) kept.accepted_part (λ told. kept.accepted_is told ∙ sym alike.accepted) (λ told. counted (kept.counted told)) sound
 
-    kept_taken : AddsNoClient event → (seen : Seen) → IsStepOf segments faults event old new seen → IsKept segments tells masters backups clients new accepted asked number
+    kept_taken : AddsNoClient event → (seen : Seen) → IsStepOf segments faults event old new seen → IsKept segments faults tells masters backups clients counts new accepted asked number
     kept_taken none seen it =
         kept_counts (clients_stay seen it none) (counts_stay seen it) (counted_after seen it)
-        (λ told. sound_on segments tells masters backups clients old new same it.before it.after it.was it.is (stands_after seen it) (kept.sound told))
+        (λ told. sound_on segments old new same it.before it.after it.was it.is (stands_after seen it) (kept.sound told))
 
     -- a refusal for want of memory leaves it spent, and what a spent lane keeps is as it was
-    kept_refused : (error : StepError) → IsRefused faults event old new error → IsKept segments tells masters backups clients new accepted asked number
+    kept_refused : (error : StepError) → IsRefused faults event old new error → IsKept segments faults tells masters backups clients counts new accepted asked number
     kept_refused error it =
         ⊎_elim
         (λ (memory : error ≡ errors.NoMemory).
@@ -156,7 +164,7 @@ module _ {R : Type 0} (segments : R → Option Segments) (faults : R → ℕ) (o
 
     pub kept_stepped : AddsNoClient event → (running : Option Running) → old.running ≡ running → (answer : Result Seen StepError)
         → IfSome running (λ _. IfOk answer (IsStepOf segments faults event old new)) → IfErr answer (IsRefused faults event old new) → (running ≡ None → new ≡ old)
-        → IsKept segments tells masters backups clients new accepted asked number
+        → IsKept segments faults tells masters backups clients counts new accepted asked number
     kept_stepped none None is answer ok err spent = kept_same (spent refl)
     kept_stepped none (Some running) is (Ok seen) ok err spent = kept_taken none seen ok
     kept_stepped none (Some running) is (Err error) ok err spent = kept_refused error err

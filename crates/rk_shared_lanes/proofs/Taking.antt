@@ -10,10 +10,11 @@ use Rattle.rk_world.specs.Client.{Session}
 use Rattle.rk_world.specs.Premises.{MayAct}
 use Rattle.rk_lane.specs.LaneState.{LaneState}
 use Rattle.rk_runs.specs.history.Agreement.{waiting}
+use Rattle.rk_cluster.specs.Faults.{Counts}
 use Rattle.rk_laws_lanes.specs.Counts.{accepted_count}
 use Rattle.rk_laws_gathered.specs.Gathered.{IsOrderly}
 use Rattle.rk_laws_gathered.specs.OpenCalls.{HasCountedCalls}
-use Rattle.rk_shared_lanes.specs.Kept.{IsSoundOrSpent}
+use Rattle.rk_shared_lanes.specs.Kept.{IsNoneBelow, IsSoundOrSpent}
 use Rattle.rk_shared_lanes.specs.Passes.{MakesOnly}
 use Rattle.rk_shared_lanes.specs.Together.{AllCounted, AllOrderly, AllSoundOrSpent, IsOfRoster, accepted_of, asked_of, calls_of, powers_of, receipts_of}
 
@@ -22,7 +23,7 @@ pub record IsSum (share : ℕ × ℕ) (parts amount : ℕ) : Type 0 where
   pub parts_are : share.0 ≡ parts
   pub amount_is : share.1 ≡ amount
 
-module _ {R : Type 0} (segments : R → Option Segments) (tells : Type 0) (masters backups : ℕ) (clients : List ℕ) where
+module _ {R : Type 0} (segments : R → Option Segments) (faults : R → ℕ) (tells : Type 0) (masters backups : ℕ) (clients : List ℕ) (counts : Counts) where
   -- lanes that were taken out of their locks, beside the shares of all of them
   pub record AreTaken (lanes : List (LaneState R)) (accepted asked number : ℕ × ℕ) : Type 0 where
     pub accepted_parts : accepted.0 ≡ length lanes
@@ -31,6 +32,7 @@ module _ {R : Type 0} (segments : R → Option Segments) (tells : Type 0) (maste
     pub number_is : IsSum number (length lanes) (powers_of lanes)
     pub few : All (λ lane. lane.number < LANES) lanes
     pub roster : All (IsOfRoster masters backups clients) lanes
+    pub none_below : All (IsNoneBelow faults counts) lanes
     pub counted : tells → AllCounted lanes
     pub sound : tells → AllSoundOrSpent segments lanes
 
@@ -43,6 +45,7 @@ module _ {R : Type 0} (segments : R → Option Segments) (tells : Type 0) (maste
     number_is = record { parts_are = c.0; amount_is = c.1 };
     few = All-nil _;
     roster = All-nil _;
+    none_below = All-nil _;
     counted = λ told. All-nil _;
     sound = λ told. All-nil _;
   }
@@ -51,9 +54,9 @@ module _ {R : Type 0} (segments : R → Option Segments) (tells : Type 0) (maste
       → (accepted_now.0 ≡ accepted.0 + 1) × (tells → accepted_now.1 ≡ accepted.1 + accepted_count lane.ledger)
       → (asked_now.0 ≡ asked.0 + 1) × (asked_now.1 ≡ asked.1 + lane.ledger.asked)
       → (number_now.0 ≡ number.0 + 1) × (number_now.1 ≡ number.1 + 9 ^ lane.number)
-      → lane.number < LANES → IsOfRoster masters backups clients lane → (tells → HasCountedCalls lane.ledger) → (tells → IsSoundOrSpent segments lane)
+      → lane.number < LANES → IsOfRoster masters backups clients lane → IsNoneBelow faults counts lane → (tells → HasCountedCalls lane.ledger) → (tells → IsSoundOrSpent segments lane)
       → AreTaken lanes accepted asked number → AreTaken (lanes ++ lane ∷ []) accepted_now asked_now number_now
-  one_more_taken lanes lane accepted asked number accepted_now asked_now number_now a b c few roster counted sound it =
+  one_more_taken lanes lane accepted asked number accepted_now asked_now number_now a b c few roster above counted sound it =
       let long : length (lanes ++ lane ∷ []) ≡ length lanes + 1 = length-append lanes (lane ∷ []) in
       let asked_sum = sum_by_push (λ (l : LaneState R). l.ledger.asked) lanes lane in
       let power_sum = sum_by_push (λ (l : LaneState R). 9 ^ l.number) lanes lane in
@@ -71,6 +74,7 @@ module _ {R : Type 0} (segments : R → Option Segments) (tells : Type 0) (maste
         };
         few = All-push (λ (l : LaneState R). l.number < LANES) lanes lane it.few few;
         roster = All-push (IsOfRoster masters backups clients) lanes lane it.roster roster;
+        none_below = All-push (IsNoneBelow faults counts) lanes lane it.none_below above;
         counted = λ told. All-push (λ (l : LaneState R). HasCountedCalls l.ledger) lanes lane (it.counted told) (counted told);
         sound = λ told. All-push (IsSoundOrSpent segments) lanes lane (it.sound told) (sound told);
       }

@@ -13,11 +13,12 @@ use Rattle.rk_world.specs.Client.{Session}
 use Rattle.rk_world.specs.Premises.{MayAct}
 use Rattle.rk_lane.specs.LaneState.{LaneState}
 use Rattle.rk_runs.specs.history.Agreement.{AreRisingAbove, waiting}
+use Rattle.rk_cluster.specs.Faults.{Counts}
 use Rattle.rk_laws_lanes.specs.Counts.{accepted_count}
 use Rattle.rk_laws_gathered.specs.Answers.{AreOwn}
 use Rattle.rk_laws_gathered.specs.Gathered.{IsOrderly}
 use Rattle.rk_laws_gathered.specs.OpenCalls.{HasCountedCalls, HasOpenCall, is_open}
-use Rattle.rk_shared_lanes.specs.Kept.{IsKept, IsPart, IsSoundOrSpent}
+use Rattle.rk_shared_lanes.specs.Kept.{IsKept, IsNoneBelow, IsPart, IsSoundOrSpent}
 use Rattle.rk_shared_lanes.specs.Passes.{IsPass}
 use Rattle.rk_shared_lanes.proofs.Making.{idle_makes}
 use Rattle.rk_shared_lanes.specs.Together.{IsIdle, IsOfRoster, IsUnasked}
@@ -36,16 +37,17 @@ module _ {R : Type 0} (lane : LaneState R) (unasked : IsUnasked lane) where
       absurd (false≢true (sym (ap (is_open lane.ledger.journal) (unasked.clients client)) ∙ first))
 
   -- with shares that count nothing, and that of its number
-  pub unasked_kept : (segments : R → Option Segments) (tells : Type 0) (masters backups : ℕ) (clients : List ℕ) (accepted asked number : ℕ × ℕ)
-      → lane.number < LANES → IsOfRoster masters backups clients lane → (tells → IsSoundOrSpent segments lane) → IsPart accepted 0 → IsPart asked 0
-      → IsPart number (9 ^ lane.number) → IsKept segments tells masters backups clients lane accepted asked number
-  unasked_kept segments tells masters backups clients accepted asked number few roster sound none_of_it not_asked numbered = record {
+  pub unasked_kept : (segments : R → Option Segments) (faults : R → ℕ) (tells : Type 0) (masters backups : ℕ) (clients : List ℕ) (counts : Counts) (accepted asked number : ℕ × ℕ)
+      → lane.number < LANES → IsOfRoster masters backups clients lane → IsNoneBelow faults counts lane → (tells → IsSoundOrSpent segments lane) → IsPart accepted 0 → IsPart asked 0
+      → IsPart number (9 ^ lane.number) → IsKept segments faults tells masters backups clients counts lane accepted asked number
+  unasked_kept segments faults tells masters backups clients counts accepted asked number few roster none_below sound none_of_it not_asked numbered = record {
     masters_are = roster.masters_are;
     backups_are = roster.backups_are;
     clients_are = roster.clients_are;
     few = few;
     number_is = numbered;
     asked_is = (not_asked.0, not_asked.1 ∙ sym unasked.asked);
+    none_below = none_below;
     accepted_part = none_of_it.0;
     accepted_is = λ told. none_of_it.1 ∙ sym none_accepted;
     counted = λ told. unasked_counted;

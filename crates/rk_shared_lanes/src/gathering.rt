@@ -6,7 +6,7 @@ ghost use Rattle.rk_runs.specs.history.Agreement.{waiting};
 ghost use Rattle.rk_laws_lanes.specs.Counts.{accepted_count};
 ghost use Rattle.rk_laws_gathered.specs.Gathered.{IsOrderly};
 ghost use Rattle.rk_laws_gathered.specs.OpenCalls.{HasCountedCalls};
-ghost use Rattle.rk_shared_lanes.specs.Kept.{IsSoundOrSpent};
+ghost use Rattle.rk_shared_lanes.specs.Kept.{IsNoneBelow, IsSoundOrSpent};
 ghost use Rattle.rk_shared_lanes.specs.Passes.{MakesOnly};
 ghost use Rattle.rk_shared_lanes.specs.Together.{AllCounted, AllOrderly, AllSoundOrSpent, IsOfRoster, accepted_of, asked_of, calls_of, powers_of, receipts_of, sessions_of};
 
@@ -43,6 +43,7 @@ impl<R: Replica + Drop, L: Ledger, A: Ledger, N: Roster> Taken<R, L, A, N> {
         ensures number { (self.new.number.parts ≡ vec_len locks) × (self.new.number.amount ≡ powers_of self.new.lanes.items) }
         ensures few { All (λ lane. lane.number < LANES) self.new.lanes.items }
         ensures roster { All (IsOfRoster N.masters N.backups N.clients) self.new.lanes.items }
+        ensures counts { All (IsNoneBelow R.faults N.counts) self.new.lanes.items }
         ensures counted { N.tells → AllCounted self.new.lanes.items }
         ensures sound { N.tells → AllSoundOrSpent R.segments self.new.lanes.items }
     {
@@ -62,6 +63,7 @@ impl<R: Replica + Drop, L: Ledger, A: Ledger, N: Roster> Taken<R, L, A, N> {
         ensures number { (self.new.number.parts ≡ self.old.number.parts + 1) × (self.new.number.amount ≡ self.old.number.amount + 9 ^ kept.number) }
         ensures few { kept.number < LANES }
         ensures roster { IsOfRoster N.masters N.backups N.clients kept }
+        ensures counts { IsNoneBelow R.faults N.counts kept }
         ensures counted { N.tells → HasCountedCalls kept.ledger }
         ensures sound { N.tells → IsSoundOrSpent R.segments kept }
     {

@@ -22,8 +22,9 @@ use std::sync::ledger::{Ledger, Share};
 use std::sync::{Mutex, Wait};
 
 /// A lane beside its shares: of the records that are accepted, of the calls that were asked, and of its number as a power of nine. Contracts
-/// see the lane. Whenever nothing is done with it, its share of calls counts those that it was asked, and, if its replicas report what they
-/// store, the lane is sound or spent and its share of records counts those that are accepted.
+/// see the lane. Whenever nothing is done with it, its share of calls counts those that it was asked, and no count of faults of its replicas
+/// is below that of the roster. If its replicas report what they store, the lane is then sound or spent, and its share of records counts
+/// those that are accepted.
 #[derive(Drop)]
 pub struct KeptLane<R: Replica, L: Ledger, A: Ledger, N: Roster> {
     pub(crate) lane: Lane<R>,
@@ -44,7 +45,7 @@ impl<R: Replica, L: Ledger, A: Ledger, N: Roster> Model for KeptLane<R, L, A, N>
 
     ghost view = { λ kept. kept.lane };
 
-    ghost invariant = { λ kept. (kept.masters ≡ N.masters) × IsKept R.segments N.tells N.masters N.backups N.clients kept.lane
+    ghost invariant = { λ kept. (kept.masters ≡ N.masters) × IsKept R.segments R.faults N.tells N.masters N.backups N.clients N.counts kept.lane
         (kept.accepted.parts, kept.accepted.amount) (kept.asked.parts, kept.asked.amount) (kept.number.parts, kept.number.amount) };
 }
 

@@ -1,5 +1,5 @@
 // Eight lanes, each behind a lock of its own.
-ghost use Rattle.std.specs.Prelude.{◌≡◌, ◌<◌, ◌≤◌, ◌&&◌, ◌==◌, [], ℕ, true, false, Ok, IfOk, IfSome, Option, vec_len, vec_capacity, length, reverse, map, is_some, All};
+ghost use Rattle.std.specs.Prelude.{◌≡◌, ◌<◌, ◌≤◌, ◌&&◌, ◌==◌, [], ℕ, true, false, Ok, IfOk, IfSome, None, Option, vec_len, vec_capacity, length, reverse, map, is_some, All};
 ghost use Rattle.std.specs.List.{range_with_len};
 ghost use Rattle.std.specs.List.Sorted.{IsPermutation, IsNonDecreasingBy};
 ghost use Rattle.rk_types.specs.declared.hashing.TheConstants.{LANES};
@@ -9,6 +9,7 @@ ghost use Rattle.rk_attempts.specs.Ends.{EndsAt};
 ghost use Rattle.rk_attempts.specs.Turns.{left_to_replays};
 ghost use Rattle.rk_attempts.specs.declared.attempt.Attempt.TheVariants as attempts;
 ghost use Rattle.rk_lane.specs.LaneState.{IsSameLane, world_with};
+ghost use Rattle.rk_cluster.specs.Faults.{GoOn, counts_in};
 ghost use Rattle.rk_shared.specs.Powers.{ALL_NUMBERS};
 ghost use Rattle.rk_shared_lanes.specs.Passes.{MakesOnly, suits as suits_lem};
 ghost use Rattle.rk_shared_lanes.specs.Together.{AllCounted, AllOrderly, AllSoundOrSpent, IsOfRoster, accepted_of, asked_of, calls_of, clients_of, numbers_of, powers_of, receipts_of, sessions_of};
@@ -52,6 +53,7 @@ pub struct SharedLanes<R: Replica, L: Ledger, M: Ledger, A: Ledger, B: Ledger, N
     pub(crate) tally: Mutex<Tally<L, M, A, B, N>>,
     pub(crate) leftover: Mutex<Leftover<R, L, M, A, B, N>>,
     pub(crate) ghost eight: { vec_len lanes ≡ LANES },
+    pub(crate) ghost further: { (number place : ℕ) → LANES ≤ number → N.counts number place ≡ None },
 }
 
 /// Lanes by rising number, and sessions, that were gathered.
@@ -138,7 +140,7 @@ impl<R: Replica + Drop, L: Ledger, M: Ledger, A: Ledger, B: Ledger, N: Roster> S
 
     /// Takes the locks apart once all passes are back: the lanes by rising number, each with the clients of the sessions, and the sessions in
     /// their order. As many receipts were got as records are accepted, if that is taken for granted of the replicas, and at most as many
-    /// calls were asked of lanes as the sessions made. It takes no memory.
+    /// calls were asked of lanes as the sessions made. No count of faults of a replica has fallen. It takes no memory.
     pub fn gather(self, passes: Vec<Pass<M, B, N>>) -> Gathered<R>
         requires lanes { (L.parts ≡ LANES) × (A.parts ≡ LANES) × (N.parts ≡ LANES) }
         requires passes { (M.parts ≡ vec_len passes) × (B.parts ≡ vec_len passes) }
@@ -150,6 +152,7 @@ impl<R: Replica + Drop, L: Ledger, M: Ledger, A: Ledger, B: Ledger, N: Roster> S
         ensures acts { All (MayAct N.masters) result.sessions.items }
         ensures orderly { N.tells → AllOrderly result.sessions.items }
         ensures calls { N.tells → All (MakesOnly N.makes) result.sessions.items }
+        ensures counts { GoOn [] N.counts (counts_in R.faults result.lanes.items) }
         ensures counted { N.tells → AllCounted result.lanes.items }
         ensures roster { All (IsOfRoster N.masters N.backups N.clients) result.lanes.items }
         ensures sound { N.tells → AllSoundOrSpent R.segments result.lanes.items }

@@ -3,7 +3,8 @@ ghost use Rattle.std.specs.Prelude.{◌≡◌, ◌+◌, ◌^◌, ◌<◌, ◌≤
 ghost use Rattle.std.specs.List.{range_with_len};
 ghost use Rattle.rk_types.specs.declared.hashing.TheConstants.{LANES};
 ghost use Rattle.rk_world.specs.Premises.{MayAct};
-ghost use Rattle.rk_shared_lanes.specs.Kept.{IsSoundOrSpent};
+ghost use Rattle.rk_cluster.specs.Faults.{GoOn, counts_in};
+ghost use Rattle.rk_shared_lanes.specs.Kept.{IsNoneBelow, IsSoundOrSpent};
 ghost use Rattle.rk_shared_lanes.specs.Together.{AllSoundOrSpent, IsIdle, IsOfRoster, IsUnasked, clients_of, numbers_of, powers_of, sessions_of};
 
 use crate::kept::KeptLane;
@@ -47,6 +48,7 @@ impl<R: Replica + Drop, L: Ledger, A: Ledger, N: Roster> Locking<R, L, A, N> {
         requires unasked { All IsUnasked lanes.old.items }
         requires few { All (λ lane. lane.number < LANES) lanes.old.items }
         requires roster { All (IsOfRoster N.masters N.backups N.clients) lanes.old.items }
+        requires counts { All (IsNoneBelow R.faults N.counts) lanes.old.items }
         requires sound { N.tells → AllSoundOrSpent R.segments lanes.old.items }
         requires room { (self.old.locks.items ≡ []) × (vec_len lanes.old ≤ vec_capacity self.old.locks) }
         requires parts { (self.old.accepted.parts ≡ vec_len lanes.old) × (self.old.asked.parts ≡ vec_len lanes.old) × (self.old.number.parts ≡ vec_len lanes.old) }
@@ -69,6 +71,7 @@ impl<R: Replica + Drop, L: Ledger, A: Ledger, N: Roster> Locking<R, L, A, N> {
         requires unasked { IsUnasked lane }
         requires few { lane.number < LANES }
         requires roster { IsOfRoster N.masters N.backups N.clients lane }
+        requires counts { IsNoneBelow R.faults N.counts lane }
         requires sound { N.tells → IsSoundOrSpent R.segments lane }
         requires room { vec_len self.old.locks < vec_capacity self.old.locks }
         requires parts { (0 < self.old.accepted.parts) × (0 < self.old.asked.parts) × (0 < self.old.number.parts) }
@@ -153,7 +156,7 @@ impl<M: Ledger, B: Ledger, N: Roster> Passing<M, B, N> {
 }
 
 /// Puts each of eight lanes, where no call was asked, behind a lock of its own, and each session, of a client of these lanes that asked
-/// nothing, into a pass; the last session first. After `NoMemory` all of them are dropped.
+/// nothing, into a pass; the last session first. No count of faults of a replica is below that of the roster. After `NoMemory` all of them are dropped.
 pub fn share<R: Replica + Drop, L: Ledger, M: Ledger, A: Ledger, B: Ledger, N: Roster>(
     alloc: Global,
     masters: u8,
@@ -174,6 +177,7 @@ pub fn share<R: Replica + Drop, L: Ledger, M: Ledger, A: Ledger, B: Ledger, N: R
     requires clients { clients_of sessions.items ≡ N.clients }
     requires roster { All (IsOfRoster N.masters N.backups N.clients) lanes.items }
     requires acts { All (MayAct N.masters) sessions.items }
+    requires counts { GoOn [] N.counts (counts_in R.faults lanes.items) }
     requires sound { N.tells → AllSoundOrSpent R.segments lanes.items }
     ensures sessions { IfOk result (λ r. sessions_of r.1.items ≡ reverse sessions.items) }
 {

@@ -13,7 +13,7 @@ ghost use Rattle.rk_attempts.specs.Wires.{numbers_with as numbers_with_lem};
 ghost use Rattle.rk_laws_lanes.specs.Counts.{AddsNoClient};
 
 use crate::kept::KeptLane;
-use rk_attempts::{Selection, Short, heard, is_there, numbers_with};
+use rk_attempts::{Selection, Short, first_with, heard, is_there, numbers_with};
 use rk_outside::Replica;
 use rk_shared::Roster;
 use rk_types::Node;
@@ -84,7 +84,7 @@ impl<R: Replica + Drop, L: Ledger, A: Ledger, N: Roster> KeptLane<R, L, A, N> {
         ensures lane { IsSameLane self.old self.new }
     {
         'messages: for _ in 0..u64::MAX {
-            let Some(number) = self.next_message()? else {
+            let Some(number) = self.next_message() else {
                 return Ok(());
             };
             self.hand(number)?;
@@ -93,12 +93,10 @@ impl<R: Replica + Drop, L: Ledger, A: Ledger, N: Roster> KeptLane<R, L, A, N> {
     }
 
     // The oldest message that a turn delivers.
-    fn next_message(&self) -> Result<Option<u64>, Short>
-        ensures number { IfOk result (λ number. IfSome self.now.running (λ running. number ≡ next_message_lem (world_with self.now running []))) }
-        ensures err { IfErr result (λ e. e ≡ Short.NoMemory) }
+    fn next_message(&self) -> Option<u64>
+        ensures number { IfSome self.now.running (λ running. result ≡ next_message_lem (world_with self.now running [])) }
     {
-        let numbers = self.numbers_of(Selection::ForTurn)?;
-        Ok(numbers.first().copied())
+        first_with(self.lane.wire(), Selection::ForTurn)
     }
 
     // The numbers of the messages of a kind, oldest first.

@@ -1,10 +1,11 @@
-ghost use Rattle.std.specs.Prelude.{◌≡◌, [], IfNone, OnOk, OnErr, length, slice_get};
+ghost use Rattle.std.specs.Prelude.{◌≡◌, [], All, IfNone, OnOk, OnErr, Some, length, slice_get};
 ghost use Rattle.std.specs.Option.{option_copied};
 ghost use Rattle.rk_types.specs.NumberMap as map;
 
 use crate::memory::NoMemory;
 use std::alloc::Global;
 use std::collections::BTreeMap;
+use std::collections::btree_map::Iter;
 use std::marker::Model;
 
 /// Values under their numbers. Contracts see the map by number.
@@ -71,6 +72,14 @@ impl<V> Numbered<V> {
         ensures order { map.IsInOrder self.now }
     {
         self.values.len() as u64
+    }
+
+    /// The values with their numbers, by rising number.
+    pub fn iter(&self) -> Iter<'_, u64, V>
+        ensures values { result ≡ self.now }
+        ensures found { All (λ entry. map.get self.now entry.0 ≡ Some entry.1) self.now }
+    {
+        self.values.iter()
     }
 
     /// The number at a place, where the numbers rise and places count from 0. A step for each number up to there.

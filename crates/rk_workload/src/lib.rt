@@ -9,6 +9,4 @@ pub use summary::{Counts, Summary, count, push_results};
 
 mod calls;
 mod summary;
-#[cfg(test)]
-mod tests;
 mod words;

@@ -1,11 +1,11 @@
 -- How the program starts: over replicas that are new, or without memory.
-use Rattle.std.proofs.Common.{◌≡◌, List, [], ◌∷◌, ℕ, ap, ◌∙◌, arith}
-use Rattle.std.specs.Prelude.{Option, None, Some, IfSome}
+use Rattle.std.proofs.Common.{◌≡◌, List, [], ◌∷◌, ℕ, ap, inl, refl, ◌∙◌, arith}
+use Rattle.std.specs.Prelude.{Option, None, Some, IfOk, IfSome, Result, Ok, Err}
 use Rattle.std.specs.List.{All}
 use Rattle.std.specs.FinMap.{get-empty}
 use Rattle.std.proofs.lemmas.List.Elements.{All-cons, All-head, All-nil, All-tail}
 use Rattle.rk_types.specs.declared.status.Status.{Status}
-use Rattle.rk_types.specs.declared.status.Status.TheVariants.{NoMemory}
+use Rattle.rk_types.specs.declared.status.Status.TheVariants.{Done, NoMemory}
 use Rattle.rk_outside.specs.Replicas.{ReplicaState, new_replica, place_cmp, segments_of}
 use Rattle.rk_outside.specs.Segments.{Segments}
 use Rattle.rk_world.specs.Backup.{no_segments}
@@ -14,7 +14,10 @@ use Rattle.rk_scripts.proofs.answers.Playing.{script_answers}
 use Rattle.rk_script.specs.Script.{script_of}
 use Rattle.rk_scripts.proofs.play.Playing.{scripts_historical}
 use Rattle.rk_play.proofs.Concluding.{halts_at_once}
-use Rattle.rocksteady.specs.Run.{IsPlayed, PlaysOneMap}
+use Rattle.rk_script.specs.declared.code.Code.{Code}
+use Rattle.rk_drive.specs.Outcomes.{Drives, EndsDone}
+use Rattle.rk_drive.specs.declared.plan.Plan.{Plan}
+use Rattle.rocksteady.specs.Run.{DrivesOver, IsPlayed, PlaysOneMap}
 
 -- where memory is wanting at once, nothing was written: none of the script's commands was played
 pub halts_told : (told old : Option (List ℕ)) → IfSome told (λ script. IsPlayed script NoMemory old old)
@@ -45,3 +48,23 @@ new_empty (replica ∷ replicas) new =
     All-cons (λ (it : ReplicaState). Some (segments_of it) ≡ Some no_segments) replica replicas
     (ap Some (new_tells replica (All-head (λ (it : ReplicaState). it ≡ new_replica) replica replicas new)))
     (new_empty replicas (All-tail (λ (it : ReplicaState). it ≡ new_replica) replica replicas new))
+
+-- where memory is wanting at once, a plan was not driven, and nothing was written
+pub halts_driven : {R : Type 0} (segments : R → Option Segments) (named : Result Plan Code) (old : Option (List ℕ)) → IfOk named (λ plan. DrivesOver segments plan NoMemory old old)
+halts_driven {R} segments (Ok plan) old = record {
+  before = [];
+  after = [];
+  empty = All-nil (λ (replica : R). segments replica ≡ Some no_segments);
+  drives = λ empty. inl (record { is = refl; written = refl });
+  done = λ is. absurd (cc is);
+}
+halts_driven segments (Err code) old = tt
+
+-- a plan that is driven over replicas that hold nothing
+pub drives_told : {R : Type 0} (segments : R → Option Segments) (named : Result Plan Code) (status : Status) (old new : Option (List ℕ)) (before after : List R) → AreEmpty segments before
+    → IfOk named (λ plan. Drives segments plan old new before after status)
+    → IfOk named (λ plan. AreEmpty segments before → status ≡ Done → EndsDone segments plan old new before after)
+    → IfOk named (λ plan. DrivesOver segments plan status old new)
+drives_told segments (Ok plan) status old new before after empty drives done =
+    record { before = before; after = after; empty = empty; drives = drives; done = done empty }
+drives_told segments (Err code) status old new before after empty drives done = tt

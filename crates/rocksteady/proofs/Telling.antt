@@ -4,6 +4,7 @@ use Rattle.std.specs.Prelude.{Option, None, Some, IfSome}
 use Rattle.rk_types.specs.declared.status.Status.{Status}
 use Rattle.rk_types.specs.declared.status.Status.TheVariants.{Audit, Done, NoMemory, ReadFault, Refused, ReplicaFault, Usage, Worn, WriteFault}
 use Rattle.rk_outside.specs.Segments.{Segments}
+use Rattle.rk_cluster.specs.Faults.{Counts}
 use Rattle.rk_cluster.specs.Replicas.{Fate}
 use Rattle.rk_settle.specs.Faults.{RoseInRounds}
 use Rattle.rk_play.specs.Played.{played, played_part}
@@ -13,7 +14,8 @@ use Rattle.rk_scripts.specs.play.Alone.{IsFaultless, NoneRose}
 use Rattle.rk_scripts.proofs.play.Alone.{none_in_rounds, none_lost}
 use Rattle.rk_scripts.proofs.play.Playing.{scripts_historical}
 use Rattle.rk_scripts.proofs.answers.Playing.{script_answers}
-use Rattle.rocksteady.specs.Run.{IsSmooth, PlaysOneMap}
+use Rattle.rk_conclude.specs.Concluded.{MayEnd}
+use Rattle.rocksteady.specs.Run.{EndsUnfailed, IsSmooth, PlaysOneMap}
 
 -- ---- a script that meets no code and no lane that is worn
 
@@ -28,6 +30,22 @@ worn_never : (script : List ℕ) (part : Option ℕ) (fates : List (List Fate)) 
 worn_never script None fates most may ended faultless smooth =
     (smooth faultless.moves).1 (ap (λ (it : List (List Fate)). (played script it).status) (sym faultless.are) ∙ ended)
 worn_never script (Some count) fates most may ended faultless smooth = absurd may
+
+-- ---- a drive where nothing failed
+
+pub ends_unfailed : (status : Status) (before after : Counts) → MayEnd status → (status ≡ ReplicaFault → RoseInRounds 100 before after)
+    → NoneRose before after → (status ≡ WriteFault → ⊥) → EndsUnfailed status
+ends_unfailed Done before after may rounds none sink = tt
+ends_unfailed Audit before after may rounds none sink = tt
+ends_unfailed Worn before after may rounds none sink = tt
+ends_unfailed NoMemory before after may rounds none sink = tt
+ends_unfailed ReplicaFault before after may rounds none sink = absurd (omega (arith, none_in_rounds 100 before after (rounds refl) none))
+ends_unfailed WriteFault before after may rounds none sink = absurd (sink refl)
+ends_unfailed Usage before after may rounds none sink = absurd may
+ends_unfailed ReadFault before after may rounds none sink = absurd may
+ends_unfailed Refused before after may rounds none sink = absurd may
+
+-- ---- a script that is played
 
 module _ {R : Type 0} (segments : R → Option Segments) (faults : R → ℕ) (old new : Option (List ℕ)) (before after : List R) where
   none_failed : (script : List ℕ) (status : Status) (plays : Plays segments faults script status old new before after) → (status ≡ NoMemory → ⊥)

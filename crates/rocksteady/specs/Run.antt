@@ -1,11 +1,14 @@
 -- What a run of the program says, by the words after its name.
-use Rattle.std.specs.Prelude.{◌≡◌, List, [], ◌∷◌, Bool, false, ℕ, Option, bytes_eq, codes}
+use Rattle.std.specs.Prelude.{◌≡◌, List, ℕ, Option, codes, ⊤}
 use Rattle.std.specs.Io.KnownBytes.{Appends}
 use Rattle.rk_types.specs.declared.status.Status.{Status}
-use Rattle.rk_types.specs.declared.status.Status.TheVariants.{NoMemory, Refused, Usage, Worn, WriteFault}
+use Rattle.rk_types.specs.declared.status.Status.TheVariants.{Audit, Done, NoMemory, Refused, Usage, Worn, WriteFault}
 use Rattle.rk_outside.specs.Parts.{AppendsPart}
 use Rattle.rk_outside.specs.Segments.{Segments}
+use Rattle.rk_cluster.specs.Fresh.{AreEmpty}
 use Rattle.rk_cluster.specs.Replicas.{Fate}
+use Rattle.rk_drive.specs.Outcomes.{Drives, EndsDone}
+use Rattle.rk_drive.specs.declared.plan.Plan.{Plan}
 use Rattle.rk_script.specs.Script.{script_of}
 use Rattle.rk_play.specs.Played.{faultless, played, played_part}
 use Rattle.rk_play.specs.Runs.{MayBePart, Plays, Runs, count_of, replica_counts}
@@ -13,14 +16,9 @@ use Rattle.rk_scripts.specs.play.Alone.{IsFaultless, NoneRose}
 use Rattle.rk_scripts.specs.play.Historical.{IsHistorical}
 use Rattle.rk_scripts.specs.answers.Pieces.{AreAnswers, acting_in}
 
--- whether the words after the program's name are those of a play
-abbrev pub is_play : List (List ℕ) → Bool
-is_play (word ∷ []) = bytes_eq word (codes "play")
-is_play _ = false
-
--- what is written where the words are none of the forms of the program
+-- what is written if the words are none of the forms of the program
 abbrev pub usage_text : List ℕ
-usage_text = codes "usage: rocksteady play\n"
+usage_text = codes "usage: rocksteady play\nusage: rocksteady drive CLIENTS CALLS KEYS [crash M AFTER] [history]\n"
 
 -- with wrong words the forms are written, or a part of them where the sink fails
 abbrev pub Refuses : Status → Option (List ℕ) → Option (List ℕ) → Type 0
@@ -51,3 +49,19 @@ pub record IsPlayed (script : List ℕ) (status : Status) (old new : Option (Lis
   pub runs : Runs (played_part part script fates) status old new
   pub answers : AreAnswers (acting_in part script) (played_part part script fates)
   pub historical : IsHistorical (played_part part script fates)
+
+-- a drive over some replicas that held nothing says what `drive` says
+pub record DrivesOver {R : Type 0} (segments : R → Option Segments) (plan : Plan) (status : Status) (old new : Option (List ℕ)) : Type 0 where
+  pub before : List R
+  pub after : List R
+  pub empty : AreEmpty segments before
+  pub drives : Drives segments plan old new before after status
+  pub done : status ≡ Done → EndsDone segments plan old new before after
+
+-- how a drive may end where nothing failed
+abbrev pub EndsUnfailed : Status → Type 0
+EndsUnfailed Done = ⊤
+EndsUnfailed Audit = ⊤
+EndsUnfailed Worn = ⊤
+EndsUnfailed NoMemory = ⊤
+EndsUnfailed _ = ⊥

@@ -1,31 +1,39 @@
 //! Rocksteady: live migration of tablets between log-structured key-value masters, with exactly-once calls.
 //!
-//! `rocksteady play` reads a script from standard input and writes its text to standard output. It stands on `rk_play`;
-//! [`run::run`] is the top call, whose contract ties the bytes written to those of the script.
+//! `rocksteady play` reads a script from standard input and writes its text to standard output. `rocksteady drive` runs clients, a migration
+//! and a crash on threads, and writes the outcome. It stands on `rk_play` and `rk_drive`; [`run::run`] is the top call, whose contract ties
+//! the bytes written to those of the script, or to one history of the calls that the clients made.
 #![tactic(auto)]
 
 mod hint;
+mod progress;
 mod run;
 #[cfg(test)]
 mod tests;
 
-ghost use Rattle.std.specs.Prelude.{◌≡◌, ◌≢◌, drop, map, true, false, IfErr, IfOk, IfSome, IsErr, IsOk, string_bytes, vec_len};
+ghost use Rattle.std.specs.Prelude.{◌≡◌, ◌≢◌, drop, map, true, IfErr, IfOk, IfSome, IsErr, IsOk, Some, string_bytes, vec_len};
 ghost use Rattle.std.specs.List.{All};
 ghost use Rattle.std.specs.IoError.{error_kind};
 ghost use Rattle.std.specs.Vec.Iter.{into_iter_items};
-ghost use Rattle.rk_outside.specs.Replicas.{new_replica};
-ghost use Rattle.rocksteady.specs.Run.{IsPlayed, Refuses, is_play};
-ghost use Rattle.rocksteady.specs.Words.{words_after};
+ghost use Rattle.rk_outside.specs.Replicas.{new_replica, segments_of};
+ghost use Rattle.rk_drive.specs.Words.{plan_in};
+ghost use Rattle.rocksteady.specs.Run.{DrivesOver, IsPlayed, Refuses};
+ghost use Rattle.rocksteady.specs.Words.{IsNoForm, is_play, words_after};
 
 use hint::KeepingSink;
-use rk_outside::{MemoryReplica, OpenGate, Sink, Source, StdSink, StdSource};
+use progress::Progress;
+use rk_drive::Watch;
+use rk_outside::{Gate, MemoryReplica, Sink, Source, StdSink, StdSource};
 use rk_types::{NoMemory, Status};
 use std::alloc::Global;
 use std::env::{self, Args};
-use std::io::{self, ErrorKind};
+use std::io::{self, ErrorKind, IsTerminal};
 use std::process::ExitCode;
 use std::sync::Wait;
 use std::thread::Threads;
+
+/// The variable of the environment that asks a drive for its progress where standard error is no terminal.
+const PROGRESS: &str = "ROCKSTEADY_PROGRESS";
 
 /// How many replicas a run has: one for each of four backups and eight lanes.
 const REPLICAS: usize = 32;
@@ -63,16 +71,19 @@ fn given_words(alloc: Global, given: io::Result<Args>) -> Result<Vec<String>, No
 }
 
 // Runs the program with the words that the system gave it, over new replicas.
-fn start<X: Threads + Wait + Sync, S: Source, K: Sink>(
+fn start<X: Threads + Wait + Sync, S: Source, K: Sink, G: Gate + Watch + Sync>(
     rt: &X,
     alloc: Global,
     given: io::Result<Args>,
     source: &mut S,
     sink: &mut K,
+    gate: &G,
 ) -> Status
     ensures play { is_play (map string_bytes (words_after given)) ≡ true → IfSome (S.left source.old) (λ script.
         IsPlayed script result (K.written sink.old) (K.written sink.new)) }
-    ensures wrong_words { is_play (map string_bytes (words_after given)) ≡ false → result ≢ Status.NoMemory →
+    ensures drives { IfOk (plan_in (map string_bytes (words_after given))) (λ plan.
+        DrivesOver (λ replica. Some (segments_of replica)) plan result (K.written sink.old) (K.written sink.new)) }
+    ensures wrong_words { IsNoForm (map string_bytes (words_after given)) → result ≢ Status.NoMemory →
         Refuses result (K.written sink.old) (K.written sink.new) }
 {
     let Ok(words) = given_words(alloc, given) else {
@@ -88,7 +99,7 @@ fn start<X: Threads + Wait + Sync, S: Source, K: Sink>(
         source,
         sink,
         &mut replicas,
-        &OpenGate,
+        gate,
     )
 }
 
@@ -99,10 +110,23 @@ fn tell_hint<K: Sink + Drop>(rt: &HostRuntime, sink: &KeepingSink<K>) {
     }
 }
 
+// Whether the progress of a drive is shown: on a terminal, and where a variable asks for it.
+fn shows_progress(rt: &HostRuntime) -> bool {
+    rt.stderr().is_terminal() || env::var(rt, PROGRESS).is_ok()
+}
+
 fn main(rt: HostRuntime) -> ExitCode {
+    let progress = Progress::new(&rt, shows_progress(&rt));
     let mut source = StdSource::new(rt.reader());
     let mut sink = KeepingSink::new(rt.alloc(), StdSink::new(io::writer(&rt)));
-    let status = start(&rt, rt.alloc(), env::args(&rt), &mut source, &mut sink);
+    let status = start(
+        &rt,
+        rt.alloc(),
+        env::args(&rt),
+        &mut source,
+        &mut sink,
+        &progress,
+    );
     if status == Status::Refused {
         tell_hint(&rt, &sink);
     }

@@ -1,12 +1,17 @@
-ghost use Rattle.std.specs.Prelude.{◌≡◌, ◌⊎◌, ◌+◌, map, length, true, false, IfSome, string_bytes};
+ghost use Rattle.std.specs.Prelude.{◌≡◌, ◌⊎◌, ◌+◌, map, length, true, false, IfOk, IfSome, string_bytes};
 ghost use Rattle.std.specs.Io.KnownBytes.{IsAtEnd};
 ghost use Rattle.rk_cluster.specs.Fresh.{AreEmpty};
 ghost use Rattle.rk_outside.specs.Parts.{ConsumesBetween};
 ghost use Rattle.rk_settle.specs.Faults.{RoseInRounds};
 ghost use Rattle.rk_scripts.specs.play.Alone.{NoneRose};
 ghost use Rattle.rk_play.specs.Runs.{HasStatusCause, IsRead, NoneFell, replica_counts};
-ghost use Rattle.rocksteady.specs.Run.{IsSmooth, PlaysOneMap, Refuses, is_play};
+ghost use Rattle.rk_conclude.specs.Concluded.{MayEnd};
+ghost use Rattle.rk_drive.specs.Outcomes.{Drives, EndsDone};
+ghost use Rattle.rk_drive.specs.Words.{plan_in};
+ghost use Rattle.rocksteady.specs.Run.{EndsUnfailed, IsSmooth, PlaysOneMap, Refuses};
+ghost use Rattle.rocksteady.specs.Words.{IsNoForm, is_play};
 
+use rk_drive::{Watch, drive, plan_of};
 use rk_outside::{Gate, PIECE, Replica, Sink, Source, put_all};
 use rk_play::play;
 use rk_script::LONGEST_SCRIPT;
@@ -15,8 +20,9 @@ use std::alloc::Global;
 use std::sync::Wait;
 use std::thread::Threads;
 
-/// What is written where the words are none of the forms of the program.
-pub const USAGE: &[u8] = b"usage: rocksteady play\n";
+/// What is written if the words are none of the forms of the program: the two forms.
+pub const USAGE: &[u8] =
+    b"usage: rocksteady play\nusage: rocksteady drive CLIENTS CALLS KEYS [crash M AFTER] [history]\n";
 
 // Whether the words are those of a play.
 fn are_play(words: &[String]) -> bool
@@ -39,22 +45,29 @@ fn write_usage<K: Sink>(sink: &mut K) -> Status
     }
 }
 
-/// Runs the program with these words, which stand after its name. `play` plays the script that the source has, and writes
-/// its text to the sink; with any other words nothing is read, and the forms of the program are written.
+/// Runs the program with these words, which follow its name. `play` plays the script that the source has, and writes its text to the sink.
+/// `drive` and its plan run clients, a migration and, if asked for, a crash on threads, and write the outcome; the source is not read. With
+/// any other words nothing is read either, and the forms of the program are written.
 ///
-/// The replicas hold nothing; backup b of lane l has the one at place 8 * (b - 1) + l, counted from 0. Of the script played and
-/// what the sink and the replicas tell, the clause `play` says what each status means. A fault of the source, the sink or the
-/// replicas comes only where a count of theirs rose in this call, and `Done` only once the source has given its end. A script
-/// that is too long is read up to one piece past the longest.
+/// The replicas hold nothing at the start; backup b of lane l has the one at place 8 * (b - 1) + l, counted from 0. The clause `play` says
+/// of the script played, and `drives` and `driven` of the plan driven, what each status means for the sink and the replicas. A fault of
+/// the source, the sink or the replicas comes only if a count of theirs rose in this call, and `Done` of a script only once the source has
+/// given its end. A script that is too long is read up to one piece past the longest.
 #[tactic(auto, using(crate::proofs::Telling::one_map_told, crate::proofs::Telling::complete_told))]
-pub fn run<X: Threads + Wait + Sync, S: Source, K: Sink, R: Replica + Send + Drop, G: Gate + Sync>(
-    _rt: &X,
+pub fn run<
+    X: Threads + Wait + Sync,
+    S: Source,
+    K: Sink,
+    R: Replica + Send + Drop,
+    G: Gate + Watch + Sync,
+>(
+    rt: &X,
     alloc: Global,
     words: &[String],
     source: &mut S,
     sink: &mut K,
     replicas: &mut Vec<R>,
-    _gate: &G,
+    gate: &G,
 ) -> Status
     requires { length replicas.old.items ≡ 32 }
 
@@ -71,19 +84,35 @@ pub fn run<X: Threads + Wait + Sync, S: Source, K: Sink, R: Replica + Send + Dro
         → IfSome (S.left source.old) (λ script. IsSmooth script
         → NoneRose (replica_counts R.faults replicas.old.items) (replica_counts R.faults replicas.new.items)
         → (result ≡ Status.ReadFault → ⊥) → (result ≡ Status.WriteFault → ⊥) → (result ≡ Status.Done) ⊎ (result ≡ Status.NoMemory)) }
-    ensures wrong_words { is_play (map string_bytes words.now) ≡ false →
-        Refuses result (K.written sink.old) (K.written sink.new) }
+
+    // A drive either runs out of memory and writes nothing, or all calls of the plan were answered: then its lanes and sessions come to rest,
+    // its receipts are held against the journals, and the outcome is written.
+    ensures drives { IfOk (plan_in (map string_bytes words.now)) (λ plan. Drives R.segments plan (K.written sink.old) (K.written sink.new)
+        replicas.old.items replicas.new.items result) }
+
+    // A drive that is done: no call is outstanding, the receipts are the calls of the workload, and the journals make one lawful history,
+    // ordered with the sessions, which has the answer of each of these calls once and nothing else. The lanes are quiet, and the logs that
+    // the replicas hold give the map of that history. Its entries are written if the plan asks for them, and the summary.
+    ensures driven { IfOk (plan_in (map string_bytes words.now)) (λ plan. AreEmpty R.segments replicas.old.items → result ≡ Status.Done
+        → EndsDone R.segments plan (K.written sink.old) (K.written sink.new) replicas.old.items replicas.new.items) }
+    ensures drive_ends { IfOk (plan_in (map string_bytes words.now)) (λ _. MayEnd result) }
+
+    // Where neither the sink nor a replica failed, a drive that ends is done, or its audit differs, a lane is worn, or memory was wanting.
+    ensures drive_complete { IfOk (plan_in (map string_bytes words.now)) (λ _.
+        NoneRose (replica_counts R.faults replicas.old.items) (replica_counts R.faults replicas.new.items)
+        → (result ≡ Status.WriteFault → ⊥) → EndsUnfailed result) }
+    ensures wrong_words { IsNoForm (map string_bytes words.now) → Refuses result (K.written sink.old) (K.written sink.new) }
 
     // What is gone from the source.
     ensures unread { is_play (map string_bytes words.now) ≡ false → source.new ≡ source.old }
-    ensures all_read { result ≡ Status.Done → IsAtEnd (S.left source.new) }
+    ensures all_read { is_play (map string_bytes words.now) ≡ true → result ≡ Status.Done → IsAtEnd (S.left source.new) }
     ensures read { result ≡ Status.Refused → IfSome (S.left source.old) (λ script. IsRead script (S.left source.new)) }
     ensures most_read { is_play (map string_bytes words.now) ≡ true →
         ConsumesBetween (S.left source.old) (S.left source.new) 0 (LONGEST_SCRIPT + PIECE) }
 
     // When a status may come, also where the source, the sink and the replicas tell nothing.
-    ensures usage_only_then { result ≡ Status.Usage → is_play (map string_bytes words.now) ≡ false }
-    ensures no_audit { result ≡ Status.Audit → ⊥ }
+    ensures usage_only_then { result ≡ Status.Usage → IsNoForm (map string_bytes words.now) }
+    ensures audit_only_then { result ≡ Status.Audit → is_play (map string_bytes words.now) ≡ false }
     ensures read_cause { HasStatusCause Status.ReadFault result (S.faults source.old) (S.faults source.new) }
     ensures write_cause { HasStatusCause Status.WriteFault result (K.faults sink.old) (K.faults sink.new) }
 
@@ -92,13 +121,16 @@ pub fn run<X: Threads + Wait + Sync, S: Source, K: Sink, R: Replica + Send + Dro
         → RoseInRounds 100 (replica_counts R.faults replicas.old.items) (replica_counts R.faults replicas.new.items) }
 
     // The replicas that come back: all, or where memory was wanting maybe none. On every status, no count of their faults falls.
-    ensures untouched { is_play (map string_bytes words.now) ≡ false → replicas.new.items ≡ replicas.old.items }
+    ensures untouched { IsNoForm (map string_bytes words.now) → replicas.new.items ≡ replicas.old.items }
     ensures unread_untouched { result ≡ Status.ReadFault → replicas.new.items ≡ replicas.old.items }
     ensures count { (result ≡ Status.NoMemory → ⊥) → length replicas.new.items ≡ 32 }
     ensures counts { NoneFell R.faults replicas.old.items replicas.new.items }
 {
-    if !are_play(words) {
-        return write_usage(sink);
+    if are_play(words) {
+        return play(alloc, source, sink, replicas);
     }
-    play(alloc, source, sink, replicas)
+    match plan_of(words) {
+        Ok(plan) => drive(rt, alloc, &plan, sink, replicas, gate),
+        Err(_) => write_usage(sink),
+    }
 }

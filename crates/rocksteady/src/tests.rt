@@ -15,6 +15,10 @@ const SCRIPT: &str =
 /// What that script writes.
 const TEXT: &str = "reply 1 1 written 1\nagain 1 2 moved 1\nreply 1 2 found 1 x\n";
 
+/// What is written if the words are none of the forms.
+const USAGE: &str =
+    "usage: rocksteady play\nusage: rocksteady drive CLIENTS CALLS KEYS [crash M AFTER] [history]\n";
+
 /// How many bytes a sink in memory takes.
 const ROOM: usize = 4_096;
 
@@ -87,8 +91,14 @@ fn streams_fail(rt: HostRuntime) -> Result<(), Fail> {
 
 #[test]
 fn wrong_words_read_nothing(rt: HostRuntime) -> Result<(), Fail> {
-    let lists: [&[&str]; 5] = [&[], &["--help"], &["play", "x"], &["Play"], &["drive"]];
-    let usage = ("usage: rocksteady play\n", Status::Usage);
+    let lists: [&[&str]; 5] = [
+        &[],
+        &["--help"],
+        &["play", "x"],
+        &["drive"],
+        &["drive", "65", "1", "1"],
+    ];
+    let usage = (USAGE, Status::Usage);
     for words in lists {
         let source = MemorySource::new(SCRIPT.as_bytes()).failing(&[1]);
         check(&rt, words, source, sink(rt.alloc())?, usage)?;
@@ -96,6 +106,14 @@ fn wrong_words_read_nothing(rt: HostRuntime) -> Result<(), Fail> {
     let source = MemorySource::new(SCRIPT.as_bytes());
     let failing = sink(rt.alloc())?.taking_nothing(&[1]);
     check(&rt, &[], source, failing, ("", Status::WriteFault))
+}
+
+#[test]
+fn drives_a_plan(rt: HostRuntime) -> Result<(), Fail> {
+    let text = "calls 8\nanswered 8\nput 3 get 3 del 1 cput 1\nowner 2\naudit ok\n";
+    let source = MemorySource::new(SCRIPT.as_bytes()).failing(&[1]);
+    let words: &[&str] = &["drive", "1", "8", "1"];
+    check(&rt, words, source, sink(rt.alloc())?, (text, Status::Done))
 }
 
 #[test]

@@ -1,43 +1,47 @@
 -- A view stays sound when the entry of a call is appended to the log of a master that answers calls for its key.
-use Rattle.std.proofs.Common.{◌≡◌, ℕ, ◌≤◌, true, List, [], ◌∷◌, ◌++◌, length, refl, sym, ap, subst, ◌∙◌, arith, All, slice_index_or}
-use Rattle.std.proofs.Common.{Contains, append-nil, length-append}
-use Rattle.rk_inv_base.proofs.Words.{flat_map-append, All-head, All-push, Contains-append_left, IfSome_then, hash_of, Call, Ended, Held}
-use Rattle.rk_inv_base.proofs.Words.{Entry, lineage_of, Row, Known, Log, items_in, items_of, told, told_by, first_of, counts, Written}
-use Rattle.rk_inv_base.proofs.Words.{IsNext, IsEntryWithin, IsOfWholeRows, AreAbove, post_of, IsEntryOf, IsTableOf, View, truths, rests}
-use Rattle.rk_inv_base.proofs.Words.{SoundParts, SoundView, NodesOf, RowsOf, TermsOf, CoverOf, RolesOf, LogsOf, OrderOf, CallsOf, TablesOf}
-use Rattle.rk_inv_base.proofs.Words.{MessagesOf}
+use Rattle.std.proofs.Common.{◌≡◌, ℕ, ◌≤◌, ◌<◌, true, false, List, [], ◌∷◌, ◌++◌, length, Option, None, Some, refl, sym, ap, subst, ◌∙◌}
+use Rattle.std.proofs.Common.{⊎_elim, inl, arith, slice_get, IfSome, All, Contains, append-nil}
+use Rattle.rk_inv_base.proofs.Words.{cases_Bool, cond-false, flat_map-append, All-head, All-tail, All-weaker, Contains-append_left}
+use Rattle.rk_inv_base.proofs.Words.{each_insert, get_same, get_other, slice_get_within, NumberMap, EachIn, insert, get, hash_of, has_key}
+use Rattle.rk_inv_base.proofs.Words.{meets, Call, Ended, Held, Member, Range, slice_get_push_cases, Entry, is_serving, Handover, lineage_of}
+use Rattle.rk_inv_base.proofs.Words.{Row, Handed, items_in, items_of, told, told_by, floor_of, touches, counts, Written, member_material}
+use Rattle.rk_inv_base.proofs.Words.{IsNext, IsEntryWithin, IsOfWholeRows, AreAbove, post_of, handed_by, handed_for_grant, IsEntryOf}
+use Rattle.rk_inv_base.proofs.Words.{IsPlaced, IsRest, MembersFit, FirstIsDone, EachHasCall, IsLast, Waits, MayAppend, with_counter}
+use Rattle.rk_inv_base.proofs.Words.{with_one_more, View, truths, rests, SoundView, All-contains, AreApart, is_granted, is_marked, last_of}
+use Rattle.rk_inv_base.proofs.Words.{lineage_truth, may_have_staged, member_truth, put}
+use Rattle.rk_model.proofs.Places.{slice_get_end}
 use Rattle.rk_entry.specs.declared.entry.Entry.TheVariants as entries
-use Rattle.rk_inv_base.proofs.views.Lists.{all_in}
-use Rattle.rk_inv_base.proofs.logs.Shares.{segments_call}
-use Rattle.rk_inv_base.proofs.calls.Appending.{Appending, after, alike, dead_apart, inside, its_row, looks, of_log, of_rests, of_written, truth_same, truths_same}
+use Rattle.rk_sound.specs.Small.{appended}
+use Rattle.rk_inv_base.proofs.logs.EntryAppended.{view_with_entry, waits_on}
+use Rattle.rk_inv_base.proofs.logs.Logs.{none_stored}
+use Rattle.rk_inv_base.proofs.logs.OneMore.{of_written, rest_grown, within, applied_same}
+use Rattle.rk_inv_base.proofs.logs.Shares.{counts_call, joins_call, marked_none, names_call, segments_call, touches_call}
+use Rattle.rk_inv_base.proofs.rows.Apart.{in_one_row, no_meeting}
+use Rattle.rk_inv_base.proofs.rows.RowAppended.{RestFits, StaysAs, names_grown, target_grown}
+use Rattle.rk_inv_base.proofs.rows.Serving.{serving_stages}
+use Rattle.rk_inv_base.proofs.rows.Speakers.{speaker_of, speaker_is, speaks_serving, none_waits, none_hands}
 use Rattle.rk_inv_base.proofs.views.Above.{above_push, above_floor}
+use Rattle.rk_inv_base.proofs.views.Alike.{alike_counted}
+use Rattle.rk_inv_base.proofs.views.ByRows.{CountsFor, SoundRow, SpeaksFor, row_in}
+use Rattle.rk_inv_base.proofs.views.Cover.{covered_by}
+use Rattle.rk_inv_base.proofs.views.Put.{put_by, put2_by}
+use Rattle.rk_inv_base.proofs.views.Seen.{counted_looks}
+use Rattle.rk_inv_base.proofs.calls.Appending.{first_not_last, formed_apart, last_stands}
 use Rattle.rk_inv_base.proofs.calls.Histories.{items_push}
-use Rattle.rk_inv_base.proofs.rows.Rows.{rows_grown}
-use Rattle.rk_inv_base.proofs.views.Terms.{terms_looks}
-use Rattle.rk_inv_base.proofs.views.Cover.{cover_looks, cover_written, covered_by}
-use Rattle.rk_inv_base.proofs.roles.Roles.{roles_looks}
-use Rattle.rk_inv_base.proofs.logs.Logs.{logs_grown, none_stored}
-use Rattle.rk_inv_base.proofs.calls.Calls.{calls_alike, calls_more}
-use Rattle.rk_inv_base.proofs.calls.Counters.{counters_after}
-use Rattle.rk_inv_base.proofs.wire.Messages.{messages_looks, NeedNoMore}
-use Rattle.rk_inv_base.proofs.views.Tables.{all_items_same}
-use Rattle.rk_inv_base.proofs.calls.Receives.{receives_after}
-use Rattle.rk_inv_base.proofs.calls.Rebuilds.{needed_after, rebuilds_after}
-use Rattle.rk_inv_base.proofs.calls.Rest.{rest_after}
+use Rattle.rk_inv_base.proofs.calls.Receives.{IsTargetIn, above_source}
+use Rattle.rk_inv_base.proofs.calls.Targets.{AreBelow, target_counted}
 
 -- an entry of a call that counts for a row lies in rows
 pub within_rows : (rows : List Row) (row : Row) (call : Call) (entry : Entry) → IsEntryOf call entry → Contains rows row → counts row.range entry ≡ true → IsEntryWithin rows entry
 within_rows rows row call (entries.Held held) own stands has = covered_by rows row held.table (hash_of held.key) stands has
 within_rows rows row call (entries.Refused refused) own stands has = covered_by rows row refused.table (hash_of refused.key) stands has
-within_rows rows row call (entries.Carried carried) own stands has = absurd own
-within_rows rows row call (entries.Joined joined) own stands has = absurd own
+within_rows rows row call _ own stands has = absurd own
 
 -- and nothing is asked of it as of a Carried or a Joined
 pub whole_rows : (rows : List Row) (call : Call) (entry : Entry) → IsEntryOf call entry → IsOfWholeRows rows entry
-whole_rows rows call (entries.Held held) own = tt
-whole_rows rows call (entries.Refused refused) own = tt
 whole_rows rows call (entries.Carried carried) own = absurd own
 whole_rows rows call (entries.Joined joined) own = absurd own
+whole_rows rows call _ own = tt
 
 -- behind the rest of a row stands an item that is above all that counts for it, or none
 pub above_pushed : (truth rest : List Entry) (call : Call) (entry : Entry) → IsEntryOf call entry → All (λ item. IsNext (truth ++ rest) item.version) (items_in entry) → AreAbove (items_of truth) (items_of rest) → AreAbove (items_of truth) (items_of (rest ++ entry ∷ []))
@@ -48,128 +52,240 @@ above_pushed truth rest call (entries.Held held) own low above =
 above_pushed truth rest call (entries.Refused refused) own low above =
     subst (AreAbove (items_of truth))
     (sym (flat_map-append items_in rest (entries.Refused refused ∷ []) ∙ append-nil (items_of rest))) above
-above_pushed truth rest call (entries.Carried carried) own low above = absurd own
-above_pushed truth rest call (entries.Joined joined) own low above = absurd own
+above_pushed truth rest call _ own low above = absurd own
 
-module _ (v : View) (a : Appending v) where
+-- each entry of a call has it, with one more entry and its call
+pub calls_push : (calls : NumberMap Call) (written : Written) (call : Call) (entry : Entry) → IsEntryOf call entry → EachHasCall calls written → EachHasCall (insert calls (length written.entries) call) (with_one_more written entry)
+calls_push calls written call entry own old place e behind stands is unmarked =
+    ⊎_elim
+    (λ (before : slice_get written.entries place ≡ Some e).
+    let has = old place e behind before is unmarked in
+    let within : place < length written.entries = slice_get_within written.entries place e before in
+    record {
+      call = has.call;
+      waits = get_other calls (length written.entries) call place (λ same. omega (arith, same, within)) ∙ has.waits;
+      own = has.own;
+    })
+    (λ (last : (place ≡ length written.entries) × (entry ≡ e)).
+    record {
+      call = call;
+      waits = get_same calls (length written.entries) call place last.0;
+      own = subst (IsEntryOf call) last.1 own;
+    })
+    (slice_get_push_cases written.entries entry e place stands)
+
+module _ (v : View) (master : ℕ) (call : Call) (entry : Entry) (counter : ℕ) (sound : SoundView v) (may : MayAppend v master call entry counter) where
+  abbrev row : Row
+  row = may.served.row
+
+  abbrev old : Handover
+  old = v.handovers master may.served.row.tablet
+
+  -- where the entry stands, and the calls that wait then
+  abbrev place : ℕ
+  place = length (v.written master).entries
+
+  abbrev calls : ℕ → NumberMap Call
+  calls = put v.calls master (insert (v.calls master) place call)
+
   abbrev now : View
-  now = after v a
+  now = appended v master may.served.row.tablet call entry counter
 
-  known_same : (q : ℕ) → (now.logs q).known ≡ (v.logs q).known
-  known_same q = of_log v a (λ (log : Log). log.known ≡ (v.logs q).known) q (λ at. refl) (λ apart. refl)
-
-  nodes : NodesOf now
-  nodes = record {
-    numbered = a.sound.nodes.numbered;
-    backed = a.sound.nodes.backed;
-    known = λ q there. ap (λ (known : List Known). length known) (known_same q) ∙ a.sound.nodes.known q there;
-    named = a.sound.nodes.named;
-    crashed = a.sound.nodes.crashed;
-    left = a.sound.nodes.left;
+  stays : StaysAs old (with_counter counter old)
+  stays = record {
+    looks = counted_looks counter old may.served.serves;
+    alike = alike_counted counter old;
+    idle = refl;
+    merged = refl;
+    granted = refl;
+    stages = refl;
+    wanted = refl;
   }
 
-  rows : RowsOf now
-  rows =
-      rows_grown v.rows v.written now.written v.journal a.sound.rows
-      (λ q.
-      of_written v a (λ (w : Written). length (v.written q).entries ≤ length w.entries) q
-      (λ at. omega (arith, length-append (v.written q).entries (a.entry ∷ []))) (λ apart. omega arith))
+  was : SoundRow v row
+  was = row_in v sound row may.served.has_row
 
-  terms : TermsOf now
-  terms = terms_looks v.rows v.handovers now.handovers v.wire a.sound.terms (looks v a).each
+  inside : counts row.range entry ≡ true
+  inside = counts_call row.range call entry may.own ∙ may.served.in_row
 
-  cover : CoverOf now
-  cover =
-      cover_written v.rows v.written now.written now.handovers v.records v.wire
-      (cover_looks v.rows v.written v.handovers now.handovers v.records v.wire a.sound.cover (looks v a).each)
-      (λ q. of_written v a (λ (w : Written). w.marks ≡ (v.written q).marks) q (λ at. refl) (λ apart. refl))
-      (λ q. of_written v a (λ (w : Written). w.sides ≡ (v.written q).sides) q (λ at. refl) (λ apart. refl))
-      (λ q.
-      of_written v a (λ (w : Written). All (IsEntryWithin v.rows) w.entries) q
+  untouched : (range : Range) → meets row.range range ≡ false → touches range entry ≡ false
+  untouched range apart =
+      touches_call range call entry may.own ∙ counts_call range call entry may.own
+      ∙ ⊎_elim
+      (λ (both : has_key range call.table call.key ≡ true).
+      absurd (no_meeting row.range range call.table call.key apart may.served.in_row both))
+      (λ (e : has_key range call.table call.key ≡ false). e) (cases_Bool (has_key range call.table call.key))
+
+  uncounted : (x : Row) → Contains v.rows x → (x.tablet ≡ row.tablet → ⊥) → counts x.range entry ≡ false
+  uncounted x has apart =
+      counts_call x.range call entry may.own
+      ∙ in_one_row v.rows row x call.table call.key sound.rows.apart may.served.has_row has apart may.served.in_row
+
+  -- ---- what is staged of the row
+
+  rest_is : rests now row ≡ rests v row ++ entry ∷ []
+  rest_is = rest_grown v master entry sound.logs row may.served.last was.placed may.served.is_last may.served.here inside
+
+  -- a master that counts for the row and speaks for it is the one that its phase names
+  speaker_at : (q : ℕ) → CountsFor v row q → SpeaksFor v row q → q ≡ speaker_of row.phase
+  speaker_at q counts = speaker_is row q (v.handovers q row.tablet) (v.written q).applied (was.fitting q counts)
+
+  -- so the master that serves it is that one
+  speaker : master ≡ speaker_of row.phase
+  speaker = speaker_at master (inl may.served.lives) (speaks_serving (post_of row.phase master) old row.term may.served.serves)
+
+  serves_last : is_serving (v.handovers may.served.last.master row.tablet).role ≡ true
+  serves_last = ap (λ (n : ℕ). is_serving (v.handovers n row.tablet).role) may.served.here ∙ may.served.serves
+
+  -- and nothing is handed over for the row
+  none_kept : handed_for_grant row v.handovers v.handed ≡ None
+  none_kept =
+      cond-false _ (get v.handed row.tablet) None
+      (none_waits row v.handovers row.phase may.served.last was.formed may.served.is_last serves_last)
+
+  rest : RestFits v now row
+  rest =
+      let grown : List Entry = rests v row ++ entry ∷ [] in
+      record {
+        above =
+            rw rest_is (above_pushed (truths v row) (rests v row) call entry may.own may.above was.above);
+        counted = λ q counts says.
+            let same : q ≡ master = speaker_at q counts says ∙ sym speaker in
+            subst (λ (list : List Entry). IsNext (truths v row ++ list) (now.handovers q row.tablet).counter) (sym rest_is)
+            (put2_by v.handovers master row.tablet (with_counter counter) (λ (h : Handover). IsNext (truths v row ++ grown) h.counter) q row.tablet
+            (λ at its. may.next) (λ apart. absurd (apart same refl)));
+        floor_granted = rw none_kept tt;
+        floor_sent = λ n m there.
+            let none : handed_by row v.handovers m.body ≡ None =
+            none_hands row v.logs v.written v.stored v.handovers v.completions v.merged v.live v.handed m.from m.to m.body may.served.last
+            (was.says n m there) was.formed may.served.is_last (may.served.here ∙ speaker) serves_last in
+            subst (λ (o : Option Handed). IfSome o (λ h. IsNext (truths v row ++ rests now row) h.floor)) (sym none) tt;
+        goes_on = subst (λ (list : List Entry). IsRest v.base row.range (truths v row) list v.journal v.asked) (sym rest_is) may.goes_on;
+        tells = λ end there.
+            subst (λ (list : List Entry). Contains (told list) end) (sym rest_is)
+            (subst (λ (l : List Ended). Contains l end) (sym (flat_map-append told_by (rests v row) (entry ∷ [])))
+            (Contains-append_left (told (rests v row)) (told (entry ∷ [])) end there));
+      }
+
+  -- ---- a target of the row
+
+  -- each item of the entry is above each one of its source
+  above_its_source : (source target : Member) → lineage_of row.phase ≡ source ∷ target ∷ [] → All (AreBelow (items_of (member_material v.written row.range source))) (items_in entry)
+  above_its_source source target is =
+      let first : FirstIsDone v.written row.range (source ∷ target ∷ []) = subst (FirstIsDone v.written row.range) is was.done in
+      All-weaker (λ (item : Held). IsNext (truths v row ++ rests v row) item.version)
+      (AreBelow (items_of (member_material v.written row.range source)))
+      (λ item low.
+      subst (λ (list : List Entry). AreBelow (items_of list) item) (sym first.all)
+      (above_source v.base row.range v.written (rests v row) source target item
+      (subst (λ (members : List Member). floor_of (lineage_truth v.base v.written row.range members ++ rests v row) ≤ item.version) is low)))
+      (items_in entry) may.above
+
+  members : (lineage : List Member) → lineage_of row.phase ≡ lineage → All (IsPlaced v.written) lineage → MembersFit row v.written v.handovers v.pullings v.records v.handed lineage → MembersFit row now.written now.handovers v.pullings v.records v.handed lineage
+  members (source ∷ target ∷ []) is placed fit = λ granted.
+      let q : ℕ = target.master in
+      let apart : source.master ≡ master → ⊥ = λ at.
+      first_not_last source target [] may.served.last (subst AreApart is (formed_apart row.phase was.formed))
+      (ap last_of (sym is) ∙ may.served.is_last) (at ∙ sym may.served.here) in
+      let Fits : Handover → Type 0 = λ h. IsTargetIn now.written row source target h (v.pullings q row.tablet) (get v.handed row.tablet)
+      (v.records q) in
+      let grown : Fits (v.handovers q row.tablet) =
+      target_grown v master row.tablet entry calls (with_counter counter old) sound.logs may.served.lives stays row source target
+      (v.handovers q row.tablet)
+      (λ at. absurd (apart at)) (All-head (IsPlaced v.written) target [] (All-tail (IsPlaced v.written) source (target ∷ []) placed))
+      (λ _. joins_call row.range call entry may.own) (λ _ _. above_its_source source target is)
+      (fit (put2_by v.handovers master row.tablet (with_counter counter)
+      (λ (h : Handover). is_granted h.role ≡ true → is_granted (v.handovers q row.tablet).role ≡ true) q row.tablet
+      (λ at its granted. granted) (λ _ granted. granted) granted)) in
+      put2_by v.handovers master row.tablet (with_counter counter) Fits q row.tablet
+      (λ at its.
+      target_counted row.range source.master (member_truth now.written row.range source) (member_material now.written row.range source) target.from
+      (v.handovers q row.tablet) (v.pullings q row.tablet) (get v.handed row.tablet) (v.records q) counter (now.written q) grown)
+      (λ _. grown)
+  members _ is placed fit = tt
+
+  -- ---- the calls that wait
+
+  of_calls : (P : NumberMap Call → Type 0) (q : ℕ) → (q ≡ master → P (insert (v.calls q) place call)) → ((q ≡ master → ⊥) → P (v.calls q)) → P (calls q)
+  of_calls P q here apart = put_by v.calls master (λ calls. insert calls place call) P q here apart
+
+  abbrev WaitsAt : ℕ → ℕ → Call → Type 0
+  WaitsAt q = Waits v.rows (now.handovers q) (now.written q) q
+
+  -- the new call waits
+  waits_new : (q : ℕ) → q ≡ master → WaitsAt q place call
+  waits_new q at = subst (λ (n : ℕ). WaitsAt n place call) (sym at) (record {
+    behind = omega (arith, within v master entry sound.logs master, applied_same v master entry sound.logs master);
+    entry = entry;
+    stands =
+        of_written v master entry sound.logs (λ (w : Written). slice_get w.entries place ≡ Some entry) master
+        (λ _. slice_get_end (v.written master).entries entry) (λ apart. absurd (apart refl));
+    own = may.own;
+    unmarked =
+        of_written v master entry sound.logs (λ (w : Written). is_marked w.marks place ≡ false) master
+        (λ _. marked_none (v.written master).marks place (sound.logs.each master).marked) (λ apart. absurd (apart refl));
+    row = row;
+    has_row = may.served.has_row;
+    in_row = may.served.in_row;
+    last = may.served.last;
+    is_last = may.served.is_last;
+    here = may.served.here;
+    from =
+        let at : IsPlaced v.written may.served.last =
+        All-contains (IsPlaced v.written) (lineage_of row.phase) may.served.last was.placed
+        (last_stands (lineage_of row.phase) may.served.last may.served.is_last) in
+        subst (λ (n : ℕ). may.served.last.from ≤ length (v.written n).entries) may.served.here at;
+    may_stage =
+        put2_by v.handovers master row.tablet (with_counter counter) (λ (h : Handover). may_have_staged h.role ≡ true) master row.tablet
+        (λ _ _. serving_stages old.role may.served.serves) (λ apart. absurd (apart refl refl));
+  })
+
+  waiting : (q : ℕ) → v.live q ≡ true → EachIn (WaitsAt q) (calls q)
+  waiting q lives =
+      let each : EachIn (WaitsAt q) (v.calls q) = λ k c there.
+      waits_on v master row.tablet entry calls (with_counter counter old) sound may.served.lives stays q k c (sound.rest.waiting q lives k c there) in
+      of_calls (EachIn (WaitsAt q)) q (λ at. each_insert (WaitsAt q) (v.calls q) place call each (waits_new q at)) (λ _. each)
+
+  are_last : (q : ℕ) → v.live q ≡ true → EachIn (λ _ c. IsLast (v.asked c.client) c) (calls q)
+  are_last q lives =
+      of_calls (EachIn (λ _ c. IsLast (v.asked c.client) c)) q
+      (λ at. each_insert (λ _ c. IsLast (v.asked c.client) c) (v.calls q) place call (sound.rest.are_last q lives) may.last)
+      (λ _. sound.rest.are_last q lives)
+
+  found : (q : ℕ) → v.live q ≡ true → EachHasCall (calls q) (now.written q)
+  found q lives =
+      let was : EachHasCall (v.calls q) (v.written q) = sound.rest.found q lives in
+      of_calls (λ calls. EachHasCall calls (now.written q)) q
       (λ at.
-      All-push (IsEntryWithin v.rows) (v.written q).entries a.entry (a.sound.cover.entries q)
-      (within_rows v.rows (its_row v a) a.call a.entry a.may.own a.may.served.has_row (inside v a)))
-      (λ apart. a.sound.cover.entries q))
-      (λ q.
-      of_written v a (λ (w : Written). All (IsOfWholeRows v.rows) w.entries) q
-      (λ at.
-      All-push (IsOfWholeRows v.rows) (v.written q).entries a.entry (a.sound.cover.wholes q) (whole_rows v.rows a.call a.entry a.may.own))
-      (λ apart. a.sound.cover.wholes q))
-
-  roles : RolesOf now
-  roles = roles_looks v.rows v.handovers now.handovers v.written now.written v.live a.sound.roles (looks v a).each (looks v a).applied
-
-  logs : LogsOf now
-  logs = logs_grown v a.master a.entry a.may.room a.sound.logs
-      (none_stored (v.logs a.master) a.entry (segments_call a.call a.entry a.may.own))
-
-  order : OrderOf now (truths v) (rests now)
-  order = record {
-    above =
-        all_in (λ r. AreAbove (items_of (truths v r)) (items_of (rests v r)))
-        (λ r. AreAbove (items_of (truths v r)) (items_of (rests now r))) v.rows
-        (λ r stands above.
-        of_rests v a (λ r list. AreAbove (items_of (truths v r)) (items_of list)) r stands
-        (above_pushed (truths v (its_row v a)) (rests v (its_row v a)) a.call a.entry a.may.own a.may.above) above)
-        a.sound.order.above;
-  }
-
-  -- what is staged now tells what it told
-  tells : (r : Row) (end : Ended) → Contains v.rows r → Contains (told (rests v r)) end → Contains (told (rests now r)) end
-  tells r end stands =
-      of_rests v a (λ r list. Contains (told list) end) r stands
-      (λ there.
-      let rest : List Entry = rests v (its_row v a) in
-      subst (λ (l : List Ended). Contains l end) (sym (flat_map-append told_by rest (a.entry ∷ [])))
-      (Contains-append_left (told rest) (told (a.entry ∷ [])) end there))
-
-  calls : CallsOf now (truths v) (rests now)
-  calls =
-      calls_alike (record v { written = now.written }) (truths v) (rests now) now.handovers
-      (calls_more v (truths v) (rests v) (rests now) now.written a.sound.calls tells (truth_same v a))
-      (alike v a)
-
-  records : TablesOf now
-  records = record {
-    ordered = a.sound.records.ordered;
-    items = λ q lives k d within has.
-        let other : Row = slice_index_or v.rows k d in
-        IfSome_then (first_of (lineage_of other.phase))
-        (a.sound.records.items q lives k d within
-        (sym
-        (all_items_same (post_of other.phase q) (now.handovers q other.tablet) (v.handovers q other.tablet) other.term
-        ((looks v a).each q other.tablet).term)
-        ∙ has))
-        (λ member table. subst (λ (list : List Entry). IsTableOf other.range list (v.records q)) (sym (truth_same v a other.range member)) table);
-  }
-
-  -- no more is needed of a dead master
-  less : NeedNoMore v.written now.written v.live
-  less other lineage q dead = needed_after v a other lineage q (dead_apart v a q dead)
-
-  messages : MessagesOf now
-  messages = messages_looks v now.logs now.written now.handovers (looks v a) known_same less a.sound.messages
-
-  -- with the truths as they were
-  parts : SoundParts now (truths v) (rests now)
-  parts = record {
-    nodes = nodes;
-    rows = rows;
-    terms = terms;
-    cover = cover;
-    roles = roles;
-    logs = logs;
-    truth = a.sound.truth;
-    order = order;
-    calls = calls;
-    counters = counters_after v a;
-    rest = rest_after v a;
-    records = records;
-    receives = receives_after v a;
-    rebuilds = rebuilds_after v a;
-    messages = messages;
-    asked = a.sound.asked;
-  }
+      of_written v master entry sound.logs (EachHasCall (insert (v.calls q) place call)) q
+      (λ _.
+      subst (λ (n : ℕ). EachHasCall (insert (v.calls q) (length (v.written n).entries) call) (with_one_more (v.written q) entry)) at
+      (calls_push (v.calls q) (v.written q) call entry may.own was))
+      (λ apart. absurd (apart at)))
+      (λ apart. of_written v master entry sound.logs (EachHasCall (v.calls q)) q (λ at. absurd (apart at)) (λ _. was))
 
   pub view_appended : SoundView now
-  view_appended = subst (λ (truths : Row → List Entry). SoundParts now truths (rests now)) (sym (truths_same v a)) parts
+  view_appended = view_with_entry v row master entry calls (with_counter counter old) sound (record {
+    lives = may.served.lives;
+    has_row = may.served.has_row;
+    last = may.served.last;
+    is_last = may.served.is_last;
+    here = may.served.here;
+    serves = may.served.serves;
+    stays = stays;
+    room = may.room;
+    stored = none_stored (v.logs master) entry (segments_call call entry may.own);
+    within = within_rows v.rows row call entry may.own may.served.has_row inside;
+    whole = whole_rows v.rows call entry may.own;
+    untouched = untouched;
+    uncounted = uncounted;
+    only = λ _ _. joins_call row.range call entry may.own;
+    rest = rest;
+    target = members (lineage_of row.phase) refl was.placed was.target;
+    named =
+        names_grown v master row.tablet entry calls (with_counter counter old) sound.logs may.served.lives stays row (lineage_of row.phase) was.placed
+        (names_call row.range call entry may.own) was.named_items;
+    waiting = waiting;
+    are_last = are_last;
+    found = found;
+  })

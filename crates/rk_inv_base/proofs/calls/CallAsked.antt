@@ -1,21 +1,21 @@
 -- A lane stays sound when a client asks a call, where its last one, if any, is older and accepted: nothing of the client is staged then.
 use Rattle.std.proofs.Common.{◌≡◌, ℕ, ◌<◌, true, List, [], ◌∷◌, ◌++◌, Option, Some, None, refl, sym, ap, ◌∙◌, subst, ⊎_elim, inr, arith}
 use Rattle.std.proofs.Common.{IfSome, slice_index_or, unwrap_or, All, eq-eqb}
+use Rattle.rk_inv_base.proofs.calls.OtherJournals.{is_request_by, request_says_by}
 use Rattle.rk_inv_base.proofs.Words.{and_from, false≢true, All-contains, All-head, All-tail, All-weaker, list_any_at, get_other, get_same}
-use Rattle.rk_inv_base.proofs.Words.{Call, Placed, Node, Range, IsLegal, live_after, is_mutation, Entry, Row, Request, Body, base_map}
-use Rattle.rk_inv_base.proofs.Words.{item_end, items_of, refusal_end, has_record, is_of_mutation, Ledger, asked_by, with_asked, AgreeIn}
-use Rattle.rk_inv_base.proofs.Words.{call_of, World, LastCall, HasSeen, IsAccepted, IsLastCall, IsRequest, RequestFits, RequestSays}
-use Rattle.rk_inv_base.proofs.Words.{WasAsked, IsEntryOf, IsLast, IsLastAsked, IsRest, IsStaged, Waits, call_ends, record_of_last}
-use Rattle.rk_inv_base.proofs.Words.{records_of, put, IsAfterSeen, View, view, truths, rests, AskedOf, IsSound, RestOf, SoundView, TruthOf}
-use Rattle.rk_types.specs.declared.node.Node.TheVariants as nodes
+use Rattle.rk_inv_base.proofs.Words.{Call, Placed, Range, IsLegal, live_after, is_mutation, Entry, Row, Request, base_map, item_end}
+use Rattle.rk_inv_base.proofs.Words.{items_of, refusal_end, has_record, is_of_mutation, Ledger, asked_by, with_asked, AgreeIn, call_of}
+use Rattle.rk_inv_base.proofs.Words.{World, LastCall, HasSeen, IsAccepted, IsLastCall, RequestFits, WasAsked, IsEntryOf, IsLast}
+use Rattle.rk_inv_base.proofs.Words.{IsLastAsked, IsRest, IsStaged, Waits, call_ends, record_of_last, records_of, put, IsAfterSeen, View}
+use Rattle.rk_inv_base.proofs.Words.{view, truths, rests, AskedOf, IsSound, RestOf, SoundView, TruthOf}
 use Rattle.rk_entry.specs.declared.entry.Entry.TheVariants as entries
-use Rattle.rk_message.specs.declared.message.Body.TheVariants as bodies
 use Rattle.rk_overlay.specs.Live.{live as live_items}
 use Rattle.rk_sound.specs.Changes.{MayAsk}
 use Rattle.rk_sound.specs.Small.{call_asked, call_asked_in}
 use Rattle.rk_inv_base.proofs.logs.InRest.{of_waiting}
 use Rattle.rk_inv_base.proofs.views.Lists.{all_in}
 use Rattle.rk_inv_base.proofs.views.Put.{put_by, put_is, put_other}
+use Rattle.rk_inv_base.proofs.views.ByRows.{row_in}
 
 -- an accepted mutation has its record
 pub recorded_there : (journal : List Placed) (call : Call) (client seq : ℕ) → IsAccepted journal call → is_mutation call.op ≡ true → call.client ≡ client → call.seq ≡ seq → has_record journal client seq ≡ true
@@ -156,14 +156,12 @@ module _ (v : View) (client : ℕ) (last : LastCall) (sound : SoundView v) (may 
       unstaged held.client held.seq held.table held.key staged.last (sym own.client_is ∙ is)
   entry_apart call (entries.Refused refused) own staged is =
       unstaged refused.client refused.seq refused.table refused.key staged (sym own.client_is ∙ is)
-  entry_apart call (entries.Carried carried) own staged is = own
-  entry_apart call (entries.Joined joined) own staged is = own
+  entry_apart call _ own staged is = own
 
   none_waits : (q place : ℕ) (call : Call) → Waits v.rows (v.handovers q) (v.written q) q place call → call.client ≡ client → ⊥
   none_waits q place call waits is =
       let of_row =
-      All-contains (λ (r : Row). IsRest v.base r.range (truths v r) (rests v r) v.journal v.asked) v.rows waits.row sound.rest.goes_on
-      waits.has_row in
+      (row_in v sound waits.row waits.has_row).goes_on in
       entry_apart call waits.entry waits.own
       (of_waiting (IsStaged v.base v.asked v.journal) v.rows (v.handovers q) v.written q place call waits of_row.staged) is
 
@@ -192,16 +190,6 @@ module _ (v : View) (client : ℕ) (last : LastCall) (sound : SoundView v) (may 
         (λ is same. absurd (another c (call_of c request) is fits.was_asked same)) (λ apart. fits.seen);
   }
 
-  request_says : (from : Node) (body : Body) → RequestSays v.asked v.journal from body → RequestSays now.asked v.journal from body
-  request_says (nodes.Client c) (bodies.Request request) says = request_fits c request says
-  request_says (nodes.Client c) body says = says
-  request_says from body says = says
-
-  is_request : (c : ℕ) (from : Node) (body : Body) → IsRequest v.asked v.journal c from body → IsRequest now.asked v.journal c from body
-  is_request c (nodes.Client sender) (bodies.Request request) says = (says.0, request_fits c request says.1)
-  is_request c (nodes.Client sender) body says = says
-  is_request c from body says = says
-
   asked : AskedOf now
   asked = record {
     last = λ c.
@@ -209,13 +197,11 @@ module _ (v : View) (client : ℕ) (last : LastCall) (sound : SoundView v) (may 
         (λ is. record { own = may.own ∙ sym is; here = may.here; after = may.after }) (λ apart. sound.asked.last c);
     own_keys = sound.asked.own_keys;
     recorded =
-        All-weaker (λ placed. WasAsked (v.asked placed.call.client) v.journal placed.call)
-        (λ placed. WasAsked (now.asked placed.call.client) v.journal placed.call)
-        (λ placed. still_asked placed.call.client placed.call) v.journal sound.asked.recorded;
+        All-weaker _ _ (λ placed. still_asked placed.call.client placed.call) v.journal sound.asked.recorded;
     after_start = sound.asked.after_start;
     once = sound.asked.once;
-    sent = λ n m found. request_says m.from m.body (sound.asked.sent n m found);
-    again = λ c m found. is_request c m.from m.body (sound.asked.again c m found);
+    sent = λ n m found. request_says_by v.asked now.asked v.journal v.journal request_fits m.from m.body (sound.asked.sent n m found);
+    again = λ c m found. is_request_by v.asked now.asked v.journal v.journal request_fits c m.from m.body (sound.asked.again c m found);
   }
 
   pub view_asked : SoundView now

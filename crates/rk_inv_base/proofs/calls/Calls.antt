@@ -1,59 +1,35 @@
 -- The part Calls through small changes.
-use Rattle.std.proofs.Common.{◌≡◌, ℕ, true, List, Option, sym, subst, ◌∙◌, ⊎_elim, inl, inr, All, IfSome, ◌⊎◌, Contains}
-use Rattle.rk_inv_base.proofs.Words.{All-weaker, each_weaker, Ended, Member, Range, Entry, ends_of, Handover, Row, Handed, told, Written}
-use Rattle.rk_inv_base.proofs.Words.{member_truth, AreHandedOver, IsKnown, IsStagedEnd, ReachAll, TellAll, handed_by, handed_for_grant}
-use Rattle.rk_inv_base.proofs.Words.{target_truth, post_of, speaks, StillCounts, View, CallsOf}
+use Rattle.std.proofs.Common.{◌≡◌, ℕ, List, Option, sym, subst, ◌∙◌, ⊎_elim, inl, inr, All, IfSome, ◌⊎◌, Contains, slice_index_or}
+use Rattle.rk_inv_base.proofs.Words.{All-weaker, Ended, Member, Range, Entry, ends_of, Handover, Row, Handed, told, Written, member_truth}
+use Rattle.rk_inv_base.proofs.Words.{AreHandedOver, IsKnown, IsStagedEnd, TellAll, post_of, View, CallsOf}
 use Rattle.rk_inv_base.proofs.views.Alike.{AreAlike, still_counts, speaks_alike, handed_for_grant_alike, handed_by_alike, target_truth_same}
 
 -- tablets become others that answer alike
 pub calls_alike : (v : View) (truths rests : Row → List Entry) (now : ℕ → ℕ → Handover) → CallsOf v truths rests → AreAlike v.handovers now → CallsOf (record v { handovers = now }) truths rests
-calls_alike v truths rests now old alike = record {
-  once = old.once;
-  reached = old.reached;
-  recorded = old.recorded;
-  moving = old.moving;
-  answering = λ master.
-      All-weaker
-      (λ row. StillCounts (v.live master) (v.handovers master row.tablet).term row.term
-      → speaks (post_of row.phase master) (v.handovers master row.tablet) row.term ≡ true
-      → ReachAll row.range v.journal (ends_of (v.completions master row.tablet)))
-      (λ row. StillCounts (v.live master) (now master row.tablet).term row.term
-      → speaks (post_of row.phase master) (now master row.tablet) row.term ≡ true
-      → ReachAll row.range v.journal (ends_of (v.completions master row.tablet)))
-      (λ row reach counts says.
-      reach
-      (still_counts (v.live master) (v.handovers master row.tablet).term (now master row.tablet).term row.term
-      (alike master row.tablet).same_term counts)
-      (sym (speaks_alike (post_of row.phase master) row.term (v.handovers master row.tablet) (now master row.tablet) (alike master row.tablet)) ∙ says))
-      v.rows (old.answering master);
-  handed_on =
-      All-weaker
-      (λ row. IfSome (handed_for_grant row v.handovers v.handed) (λ h. AreHandedOver v.base row.range v.journal h.ends))
-      (λ row. IfSome (handed_for_grant row now v.handed) (λ h. AreHandedOver v.base row.range v.journal h.ends))
-      (λ row ends.
-      subst (λ (o : Option Handed). IfSome o (λ h. AreHandedOver v.base row.range v.journal h.ends))
-      (sym (handed_for_grant_alike row v.handovers now v.handed alike)) ends)
-      v.rows old.handed_on;
-  sent =
-      each_weaker
-      (λ number message. All (λ row. IfSome (handed_by row v.handovers message.body) (λ h. AreHandedOver v.base row.range v.journal h.ends)) v.rows)
-      (λ number message. All (λ row. IfSome (handed_by row now message.body) (λ h. AreHandedOver v.base row.range v.journal h.ends)) v.rows)
-      v.wire
-      (λ number message.
-      All-weaker
-      (λ row. IfSome (handed_by row v.handovers message.body) (λ h. AreHandedOver v.base row.range v.journal h.ends))
-      (λ row. IfSome (handed_by row now message.body) (λ h. AreHandedOver v.base row.range v.journal h.ends))
-      (λ row ends.
-      subst (λ (o : Option Handed). IfSome o (λ h. AreHandedOver v.base row.range v.journal h.ends))
-      (sym (handed_by_alike row v.handovers now message.body alike)) ends)
-      v.rows)
-      old.sent;
-  known = λ master tablet lives.
-      subst
-      (λ (term : ℕ). All (λ end. IsKnown v.base v.journal end ⊎ IsStagedEnd v.rows rests master tablet term end)
-      (ends_of (v.completions master tablet)))
-      (sym (alike master tablet).same_term) (old.known master tablet lives);
-}
+calls_alike v truths rests now old alike =
+    let Ends : Row → Option Handed → Type 0 = λ row given. IfSome given (λ h. AreHandedOver v.base row.range v.journal h.ends) in
+    record {
+      once = old.once;
+      reached = old.reached;
+      recorded = old.recorded;
+      moving = old.moving;
+      answering = λ q k d within counts says.
+          let row : Row = slice_index_or v.rows k d in
+          let was : Handover = v.handovers q row.tablet in
+          old.answering q k d within
+          (still_counts (v.live q) was.term (now q row.tablet).term row.term (alike q row.tablet).same_term counts)
+          (sym (speaks_alike (post_of row.phase q) row.term was (now q row.tablet) (alike q row.tablet)) ∙ says);
+      handed_on = λ k d within.
+          let row : Row = slice_index_or v.rows k d in
+          subst (Ends row) (sym (handed_for_grant_alike row v.handovers now v.handed alike)) (old.handed_on k d within);
+      sent = λ n m there k d within.
+          let row : Row = slice_index_or v.rows k d in
+          subst (Ends row) (sym (handed_by_alike row v.handovers now m.body alike)) (old.sent n m there k d within);
+      known = λ q number lives.
+          subst
+          (λ (term : ℕ). All (λ end. IsKnown v.base v.journal end ⊎ IsStagedEnd v.rows rests q number term end) (ends_of (v.completions q number)))
+          (sym (alike q number).same_term) (old.known q number lives);
+    }
 
 -- what stands behind the truths tells what it told, and more; what is applied counts as before
 pub calls_more : (v : View) (truths rests more : Row → List Entry) (written : ℕ → Written) → CallsOf v truths rests
@@ -64,13 +40,10 @@ calls_more v truths rests more written old tells same = record {
   once = old.once;
   reached = old.reached;
   recorded = old.recorded;
-  moving =
-      All-weaker (λ row. IfSome (target_truth v.written v.handed row row.phase) (TellAll row.range v.journal))
-      (λ row. IfSome (target_truth written v.handed row row.phase) (TellAll row.range v.journal))
-      (λ row.
+  moving = λ k d within.
+      let row : Row = slice_index_or v.rows k d in
       subst (λ (o : Option (List Entry)). IfSome o (TellAll row.range v.journal))
-      (sym (target_truth_same v.written written v.handed row row.phase same)))
-      v.rows old.moving;
+      (sym (target_truth_same v.written written v.handed row row.phase same)) (old.moving k d within);
   answering = old.answering;
   handed_on = old.handed_on;
   sent = old.sent;

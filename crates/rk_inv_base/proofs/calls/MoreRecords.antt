@@ -1,14 +1,10 @@
 -- A journal with more records behind it: what was known, asked, accepted or told by it still is.
-use Rattle.std.proofs.Common.{◌≡◌, ℕ, zero, suc, ◌<◌, List, [], ◌∷◌, ◌++◌, Option, Some, None, refl, ap, ⊎_elim, inl, inr, ◌⊎◌, length}
-use Rattle.std.proofs.Common.{slice_get, Contains}
-use Rattle.rk_inv_base.proofs.Words.{Contains-append_left, Answer, Call, Ended, Placed, Node, IsRisingAbove, Reply, Request, Body, Base}
-use Rattle.rk_inv_base.proofs.Words.{ends_told, call_of, LastCall, IsAccepted, IsRequest, RequestFits, RequestSays, WasAsked, IsKnown}
-use Rattle.rk_inv_base.proofs.Words.{IsRecorded, AnswerFits, Says}
-use Rattle.rk_types.specs.declared.call.Answer.TheVariants as answers
-use Rattle.rk_types.specs.declared.node.Node.TheVariants as nodes
-use Rattle.rk_message.specs.declared.message.Body.TheVariants as bodies
+use Rattle.std.proofs.Common.{◌≡◌, ℕ, zero, suc, ◌<◌, List, [], ◌∷◌, ◌++◌, Option, Some, refl, ap, ⊎_elim, inl, inr, ◌⊎◌, length, slice_get}
+use Rattle.std.proofs.Common.{Contains}
+use Rattle.rk_inv_base.proofs.Words.{Contains-append_left, Call, Ended, Placed, Node, IsRisingAbove, Reply, Body, Base, ends_told, LastCall}
+use Rattle.rk_inv_base.proofs.Words.{IsAccepted, IsRequest, RequestSays, WasAsked, IsKnown, IsRecorded, Says, IsRecordAt, Outcome}
 use Rattle.rk_world.specs.Journal.{last_stamp_from}
-use Rattle.rk_sound.specs.Messages.{ReplyFits}
+use Rattle.rk_inv_base.proofs.calls.OtherJournals.{asked_by_other, is_request_by, request_by_other, request_says_by, says_by}
 
 -- ---- places
 
@@ -58,16 +54,13 @@ module _ (journal more : List Placed) where
   }
 
   pub asked_still : (last : Option LastCall) (call : Call) → WasAsked last journal call → WasAsked last (journal ++ more) call
-  asked_still None call was = was
-  asked_still (Some last) call was =
-      ⊎_elim (λ (is : last.call ≡ call). inl is)
-      (λ (before : (call.seq < last.call.seq) × IsAccepted journal call). inr (before.0, accepted_still call before.1)) was
+  asked_still = asked_by_other journal (journal ++ more) accepted_still
 
   -- ---- messages
 
   -- a Reply tells the same record
-  answer_still : (client : ℕ) (reply : Reply) (answer : Answer) → AnswerFits journal client reply answer → AnswerFits (journal ++ more) client reply answer
-  answer_still client reply (answers.Done outcome) fits = record {
+  told_still : (client : ℕ) (reply : Reply) (outcome : Outcome) → IsRecordAt journal client reply outcome → IsRecordAt (journal ++ more) client reply outcome
+  told_still client reply outcome fits = record {
     placed = fits.placed;
     stands = got_still journal more reply.place fits.placed fits.stands;
     client_is = fits.client_is;
@@ -75,30 +68,15 @@ module _ (journal more : List Placed) where
     outcome_is = fits.outcome_is;
     stamp_is = fits.stamp_is;
   }
-  answer_still client reply answer fits = fits
-
-  reply_still : (to : Node) (reply : Reply) → ReplyFits journal to reply → ReplyFits (journal ++ more) to reply
-  reply_still (nodes.Client client) reply fits = answer_still client reply reply.answer fits
-  reply_still node reply fits = fits
 
   pub says_still : (to : Node) (body : Body) → Says journal to body → Says (journal ++ more) to body
-  says_still to (bodies.Reply reply) says = reply_still to reply says
-  says_still to body says = says
+  says_still = says_by journal (journal ++ more) told_still
 
   -- a Request is of a call that was asked
-  module _ (asked : ℕ → Option LastCall) where
-    request_still : (client : ℕ) (request : Request) → RequestFits asked journal client request → RequestFits asked (journal ++ more) client request
-    request_still client request fits = record {
-      was_asked = asked_still (asked client) (call_of client request) fits.was_asked;
-      seen = fits.seen;
-    }
+  pub request_says_still : (asked : ℕ → Option LastCall) (from : Node) (body : Body) → RequestSays asked journal from body → RequestSays asked (journal ++ more) from body
+  request_says_still asked =
+      request_says_by asked asked journal (journal ++ more) (request_by_other journal (journal ++ more) accepted_still asked)
 
-    pub request_says_still : (from : Node) (body : Body) → RequestSays asked journal from body → RequestSays asked (journal ++ more) from body
-    request_says_still (nodes.Client client) (bodies.Request request) says = request_still client request says
-    request_says_still (nodes.Client client) body says = says
-    request_says_still from body says = says
-
-    pub is_request_still : (client : ℕ) (from : Node) (body : Body) → IsRequest asked journal client from body → IsRequest asked (journal ++ more) client from body
-    is_request_still client (nodes.Client sender) (bodies.Request request) says = (says.0, request_still client request says.1)
-    is_request_still client (nodes.Client sender) body says = says
-    is_request_still client from body says = says
+  pub is_request_still : (asked : ℕ → Option LastCall) (client : ℕ) (from : Node) (body : Body) → IsRequest asked journal client from body → IsRequest asked (journal ++ more) client from body
+  is_request_still asked =
+      is_request_by asked asked journal (journal ++ more) (request_by_other journal (journal ++ more) accepted_still asked)

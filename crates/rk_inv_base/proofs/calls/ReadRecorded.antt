@@ -1,23 +1,20 @@
 -- A lane stays sound when a read gets its record, which tells what the journal leaves and changes nothing of it.
 use Rattle.std.proofs.Common.{◌≡◌, ℕ, ◌<◌, Bool, true, false, ◌&&◌, ◌||◌, List, [], ◌∷◌, ◌++◌, Option, Some, None, sym, ap, ◌∙◌, subst}
-use Rattle.std.proofs.Common.{⊎_elim, inl, inr, ◌⊎◌, arith, slice_index_or, slice_get, IfSome, length}
+use Rattle.std.proofs.Common.{⊎_elim, arith, slice_get, IfSome, length, All}
 use Rattle.rk_inv_base.proofs.Words.{All-weaker, All-contains, All-push, list_any-append, slice_get-get_or, slice_get_within}
-use Rattle.rk_inv_base.proofs.Words.{get_or_from_slice_get, IfSome_then, hash_of, Call, Ended, Outcome, Placed, Range, IsLegal-append}
-use Rattle.rk_inv_base.proofs.Words.{legal_back, legal_push, map_after-append, IsLegal, Map, map_after, with_change, is_mutation}
-use Rattle.rk_inv_base.proofs.Words.{lane_of_key, AreOneMutation, Entry, ends_of, is_covered, Row, base_map, told, has_record, is_of_call}
-use Rattle.rk_inv_base.proofs.Words.{is_of_mutation, next_record, of_key, IsAfterStart, World, LastCall, AreOneAccepted, HasSeen}
-use Rattle.rk_inv_base.proofs.Words.{IsAccepted, IsLastCall, WasAsked, AreHandedOver, IsKnown, IsReached, IsStagedEnd, ReachAll, TellAll}
-use Rattle.rk_inv_base.proofs.Words.{is_record_in, AreAboveMap, handed_by, handed_for_grant, target_truth, IsLastAsked, IsRest, IsStaged}
-use Rattle.rk_inv_base.proofs.Words.{call_ends, records_of, IsAfterSeen, View, view, truths, rests, AskedOf, CallsOf, CountersOf, IsSound}
-use Rattle.rk_inv_base.proofs.Words.{MessagesOf, RestOf, RowsOf, SoundView, TruthOf}
+use Rattle.rk_inv_base.proofs.Words.{get_or_from_slice_get, hash_of, Call, Ended, Outcome, Placed, Range, IsLegal-append, legal_back}
+use Rattle.rk_inv_base.proofs.Words.{legal_push, map_after-append, IsLegal, Map, map_after, with_change, is_mutation, lane_of_key}
+use Rattle.rk_inv_base.proofs.Words.{AreOneMutation, Entry, is_covered, base_map, told, has_record, is_of_call, is_of_mutation, next_record}
+use Rattle.rk_inv_base.proofs.Words.{of_key, IsAfterStart, World, LastCall, AreOneAccepted, HasSeen, IsAccepted, WasAsked, IsReached}
+use Rattle.rk_inv_base.proofs.Words.{ReachAll, TellAll, is_record_in, IsAfterSeen, View, view, AskedOf, IsSound, SoundView, IfSome_then}
 use Rattle.rk_model.proofs.Between.{unkept_changes_nothing}
-use Rattle.rk_model.specs.History.{record_of}
 use Rattle.rk_model.specs.Machine.{Entry as MapEntry}
-use Rattle.rk_entry.specs.declared.entry.Entry.TheVariants as entries
 use Rattle.rk_sound.specs.Changes.{MayRead}
 use Rattle.rk_sound.specs.Small.{recorded, recorded_in}
 use Rattle.rk_inv_base.proofs.views.Cover.{covered_by}
-use Rattle.rk_inv_base.proofs.calls.MoreRecords.{asked_still, got_cases, is_request_still, known_still, request_says_still, rising_push, says_still}
+use Rattle.rk_inv_base.proofs.calls.Journals.{view_with_journal}
+use Rattle.rk_inv_base.proofs.calls.MoreRecords.{asked_still, got_cases, is_request_still, known_still, request_says_still, rising_push}
+use Rattle.rk_inv_base.proofs.calls.MoreRecords.{says_still}
 
 -- no call has two accepted records in a journal
 abbrev pub AcceptsOnce : List Placed → Type 0
@@ -79,17 +76,6 @@ module _ (v : View) (master : ℕ) (call : Call) (seen : ℕ) (outcome : Outcome
   no_mutation : is_mutation call.op ≡ true → ⊥
   no_mutation mutation = absurd (cc (sym may.read ∙ mutation))
 
-  rows : RowsOf now
-  rows = record {
-    apart = sound.rows.apart;
-    begun = sound.rows.begun;
-    formed = sound.rows.formed;
-    placed = sound.rows.placed;
-    covered =
-        All-push (λ placed. is_covered v.rows placed.call.table (hash_of placed.call.key) ≡ true) v.journal new sound.rows.covered
-        (covered_by v.rows may.served.row call.table (hash_of call.key) may.served.has_row may.served.in_row);
-  }
-
   -- ---- the map that the journal leaves
 
   leaves : ◌≡◌ {A = Map} (map_after (base_map v.base) after) (map_after (base_map v.base) v.journal)
@@ -117,20 +103,6 @@ module _ (v : View) (master : ℕ) (call : Call) (seen : ℕ) (outcome : Outcome
   after_seen None has = tt
   after_seen (Some last) has = λ of_call. let is : seen ≡ last.seen = has of_call in omega (arith, is)
 
-  truth : TruthOf now (truths v)
-  truth = record {
-    legal = legal;
-    rising = rising_push 0 v.journal new sound.truth.rising (omega arith);
-    seen =
-        All-push (λ placed. IsAfterSeen (v.asked placed.call.client) placed) v.journal new sound.truth.seen
-        (after_seen (v.asked call.client) may.has_seen);
-    true = λ k d within.
-        let tells = sound.truth.true k d within in record {
-          plain = tells.plain;
-          live = λ table key inside. tells.live table key inside ∙ ap (λ (m : Map). record_of (m table key)) (sym leaves);
-        };
-  }
-
   -- ---- ends
 
   reach_all : (range : Range) (ends : List Ended) → ReachAll range v.journal ends → ReachAll range after ends
@@ -144,15 +116,6 @@ module _ (v : View) (master : ℕ) (call : Call) (seen : ℕ) (outcome : Outcome
       (λ placed. is_record_in range placed ≡ true → is_mutation placed.call.op ≡ true
       → IsReached (told (of_key placed.call.table placed.call.key list)) placed)
       v.journal new old (λ inside mutation. absurd (no_mutation mutation))
-
-  known : (end : Ended) → IsKnown v.base v.journal end → IsKnown v.base after end
-  known = known_still v.journal (new ∷ []) v.base
-
-  handed_over : (range : Range) (list : List Ended) → AreHandedOver v.base range v.journal list → AreHandedOver v.base range after list
-  handed_over range list old = record {
-    reached = reach_all range list old.reached;
-    known = All-weaker (IsKnown v.base v.journal) (IsKnown v.base after) known list old.known;
-  }
 
   -- no mutation of its client has its seq
   none_of_it : (i : ℕ) (other : Placed) → slice_get v.journal i ≡ Some other → AreOneMutation other.call call → ⊥
@@ -179,48 +142,6 @@ module _ (v : View) (master : ℕ) (call : Call) (seen : ℕ) (outcome : Outcome
       absurd (no_mutation (ap (λ (p : Placed). is_mutation p.call.op) last.1 ∙ one.mutation)))
       (got_cases v.journal new i a at_i)
 
-  calls : CallsOf now (truths v) (rests v)
-  calls = record {
-    once = once_mutation;
-    reached = λ k d within.
-        let row : Row = slice_index_or v.rows k d in tell_all row.range (truths v row) (sound.calls.reached k d within);
-    recorded = λ k d within.
-        let row : Row = slice_index_or v.rows k d in
-        All-weaker (IsKnown v.base v.journal) (IsKnown v.base after) known (told (truths v row)) (sound.calls.recorded k d within);
-    moving = λ k d within.
-        let row : Row = slice_index_or v.rows k d in
-        IfSome_then (target_truth v.written v.handed row row.phase) (sound.calls.moving k d within) (tell_all row.range);
-    answering = λ q k d within counts says.
-        let row : Row = slice_index_or v.rows k d in
-        reach_all row.range (ends_of (v.completions q row.tablet)) (sound.calls.answering q k d within counts says);
-    handed_on = λ k d within.
-        let row : Row = slice_index_or v.rows k d in
-        IfSome_then (handed_for_grant row v.handovers v.handed) (sound.calls.handed_on k d within) (λ h. handed_over row.range h.ends);
-    sent = λ n m found k d within.
-        let row : Row = slice_index_or v.rows k d in
-        IfSome_then (handed_by row v.handovers m.body) (sound.calls.sent n m found k d within) (λ h. handed_over row.range h.ends);
-    known = λ q r lives.
-        All-weaker (λ end. IsKnown v.base v.journal end ⊎ IsStagedEnd v.rows (rests v) q r (v.handovers q r).term end)
-        (λ end. IsKnown v.base after end ⊎ IsStagedEnd v.rows (rests v) q r (v.handovers q r).term end)
-        (λ end. ⊎_elim (λ (k : IsKnown v.base v.journal end). inl (known end k))
-        (λ (s : IsStagedEnd v.rows (rests v) q r (v.handovers q r).term end). inr s))
-        (ends_of (v.completions q r)) (sound.calls.known q r lives);
-  }
-
-  counters : CountersOf now (truths v) (rests v)
-  counters = record {
-    low = λ k d within.
-        let row : Row = slice_index_or v.rows k d in
-        subst (λ (m : Map). AreAboveMap row.range m (truths v row)) (sym leaves) (sound.counters.low k d within);
-    moving = λ k d within.
-        let row : Row = slice_index_or v.rows k d in
-        IfSome_then (target_truth v.written v.handed row row.phase) (sound.counters.moving k d within)
-        (λ list. subst (λ (m : Map). AreAboveMap row.range m list) (sym leaves));
-    counted = sound.counters.counted;
-    handed_on = sound.counters.handed_on;
-    sent = sound.counters.sent;
-  }
-
   -- ---- what is staged
 
   still_unrecorded : (client seq : ℕ) → has_record v.journal client seq ≡ false → has_record after client seq ≡ false
@@ -229,80 +150,15 @@ module _ (v : View) (master : ℕ) (call : Call) (seen : ℕ) (outcome : Outcome
       ∙ ap (λ (b : Bool). b || (is_of_mutation client seq new || false)) none
       ∙ ap (λ (b : Bool). (b && is_of_call client seq new) || false) may.read
 
-  still_last : (client seq table : ℕ) (key : List ℕ) → IsLastAsked v.asked v.journal client seq table key → IsLastAsked v.asked after client seq table key
-  still_last client seq table key last = record {
-    last = last.last;
-    asked_is = last.asked_is;
-    seq_is = last.seq_is;
-    table_is = last.table_is;
-    key_is = last.key_is;
-    mutation = last.mutation;
-    unrecorded = still_unrecorded client seq last.unrecorded;
-  }
-
-  still_staged : (entry : Entry) → IsStaged v.base v.asked v.journal entry → IsStaged v.base v.asked after entry
-  unfolding still_last
-  still_staged (entries.Held held) = λ staged. record {
-    last = still_last held.client held.seq held.table held.key staged.last;
-    leaves = staged.leaves;
-  }
-  still_staged (entries.Refused refused) = still_last refused.client refused.seq refused.table refused.key
-  still_staged (entries.Carried carried) = All-weaker (IsKnown v.base v.journal) (IsKnown v.base after) known carried.ends
-  still_staged (entries.Joined joined) = λ staged. staged
-
-  goes_on : (range : Range) (sure left : List Entry) → IsRest v.base range sure left v.journal v.asked → IsRest v.base range sure left after v.asked
-  goes_on range sure left old =
-      let more : List Placed = records_of v.asked (call_ends left) in
-      record {
-        legal = legal_behind more old.legal;
-        live = λ table key inside.
-            old.live table key inside ∙ ap (λ (m : Map). record_of (m table key)) (sym (leaves_behind more));
-        staged = All-weaker (IsStaged v.base v.asked v.journal) (IsStaged v.base v.asked after) still_staged left old.staged;
-        one = old.one;
-      }
-
-  rest : RestOf now (truths v) (rests v)
-  rest = record {
-    goes_on = λ k d within.
-        let row : Row = slice_index_or v.rows k d in
-        goes_on row.range (truths v row) (rests v row) (sound.rest.goes_on k d within);
-    done = sound.rest.done;
-    unnamed = sound.rest.unnamed;
-    idle = sound.rest.idle;
-    waiting = sound.rest.waiting;
-    are_last = sound.rest.are_last;
-    found = sound.rest.found;
-  }
-
-  messages : MessagesOf now
-  messages = record {
-    of_rows = sound.messages.of_rows;
-    others = λ n m found. says_still v.journal (new ∷ []) m.to m.body (sound.messages.others n m found);
-  }
-
   -- ---- what was asked
 
-  -- a call that was asked has its key in this lane
-  own_key : (last : Option LastCall) → IfSome last (IsLastCall v.base v.lane call.client) → WasAsked last v.journal call → lane_of_key call.key ≡ v.lane
-  own_key None of_last was = absurd was
-  own_key (Some last) of_last was =
-      ⊎_elim
-      (λ (is : last.call ≡ call). ap (λ (c : Call). lane_of_key c.key) (sym is) ∙ of_last.here)
+  -- what holds of its client's last call, and of each call that has a record, holds of a call that was asked
+  of_asked : (P : Call → Type 0) (last : Option LastCall) → IfSome last (λ l. P l.call) → All (λ (placed : Placed). P placed.call) v.journal → WasAsked last v.journal call → P call
+  of_asked P None of_last each was = absurd was
+  of_asked P (Some last) of_last each was =
+      ⊎_elim (λ (is : last.call ≡ call). subst P is of_last)
       (λ (before : (call.seq < last.call.seq) × IsAccepted v.journal call).
-      ap (λ (c : Call). lane_of_key c.key) (sym before.1.call_is)
-      ∙ All-contains (λ (placed : Placed). lane_of_key placed.call.key ≡ v.lane) v.journal before.1.placed sound.asked.own_keys
-      before.1.stands)
-      was
-
-  -- and comes after the start
-  call_later : (last : Option LastCall) → IfSome last (IsLastCall v.base v.lane call.client) → WasAsked last v.journal call → IsAfterStart v.base call
-  call_later None of_last was = absurd was
-  call_later (Some last) of_last was =
-      ⊎_elim (λ (is : last.call ≡ call). subst (IsAfterStart v.base) is of_last.after)
-      (λ (before : (call.seq < last.call.seq) × IsAccepted v.journal call).
-      subst (IsAfterStart v.base) before.1.call_is
-      (All-contains (λ (placed : Placed). IsAfterStart v.base placed.call) v.journal before.1.placed sound.asked.after_start
-      before.1.stands))
+      subst P before.1.call_is (All-contains (λ (placed : Placed). P placed.call) v.journal before.1.placed each before.1.stands))
       was
 
   -- the record of the read is not accepted
@@ -322,40 +178,44 @@ module _ (v : View) (master : ℕ) (call : Call) (seen : ℕ) (outcome : Outcome
     last = sound.asked.last;
     own_keys =
         All-push (λ placed. lane_of_key placed.call.key ≡ v.lane) v.journal new sound.asked.own_keys
-        (own_key (v.asked call.client) (sound.asked.last call.client) may.was_asked);
+        (of_asked (λ c. lane_of_key c.key ≡ v.lane) (v.asked call.client)
+        (IfSome_then (v.asked call.client) (sound.asked.last call.client) (λ last its. its.here)) sound.asked.own_keys may.was_asked);
     recorded =
         All-push (λ placed. WasAsked (v.asked placed.call.client) after placed.call) v.journal new
-        (All-weaker (λ placed. WasAsked (v.asked placed.call.client) v.journal placed.call)
-        (λ placed. WasAsked (v.asked placed.call.client) after placed.call)
-        (λ placed. asked_still v.journal (new ∷ []) (v.asked placed.call.client) placed.call) v.journal sound.asked.recorded)
+        (All-weaker _ _ (λ placed. asked_still v.journal (new ∷ []) (v.asked placed.call.client) placed.call) v.journal sound.asked.recorded)
         (asked_still v.journal (new ∷ []) (v.asked call.client) call may.was_asked);
     after_start =
         All-push (λ placed. IsAfterStart v.base placed.call) v.journal new sound.asked.after_start
-        (call_later (v.asked call.client) (sound.asked.last call.client) may.was_asked);
+        (of_asked (IsAfterStart v.base) (v.asked call.client)
+        (IfSome_then (v.asked call.client) (sound.asked.last call.client) (λ last its. its.after)) sound.asked.after_start may.was_asked);
     once = once;
     sent = λ n m found. request_says_still v.journal (new ∷ []) v.asked m.from m.body (sound.asked.sent n m found);
     again = λ n m found. is_request_still v.journal (new ∷ []) v.asked n m.from m.body (sound.asked.again n m found);
   }
 
   pub view_recorded : SoundView (recorded v call outcome seen)
-  view_recorded = record {
-    nodes = sound.nodes;
-    rows = rows;
-    terms = sound.terms;
-    cover = sound.cover;
-    roles = sound.roles;
-    logs = sound.logs;
-    truth = truth;
-    order = sound.order;
-    calls = calls;
-    counters = counters;
-    rest = rest;
-    records = sound.records;
-    receives = sound.receives;
-    rebuilds = sound.rebuilds;
-    messages = messages;
-    asked = asked;
-  }
+  view_recorded =
+      view_with_journal v after sound
+      (record {
+        covered =
+            All-push (λ placed. is_covered v.rows placed.call.table (hash_of placed.call.key) ≡ true) v.journal new sound.rows.covered
+            (covered_by v.rows may.served.row call.table (hash_of call.key) may.served.has_row may.served.in_row);
+        legal = legal;
+        rising = rising_push 0 v.journal new sound.truth.rising (omega arith);
+        seen =
+            All-push (λ placed. IsAfterSeen (v.asked placed.call.client) placed) v.journal new sound.truth.seen
+            (after_seen (v.asked call.client) may.has_seen);
+        leaves = leaves;
+        known = known_still v.journal (new ∷ []) v.base;
+        reach_all = reach_all;
+        tell_all = tell_all;
+        once = once_mutation;
+        legal_behind = legal_behind;
+        leaves_behind = leaves_behind;
+        unrecorded = still_unrecorded;
+        says = says_still v.journal (new ∷ []);
+        asked = asked;
+      })
 
 pub sound_recorded : (w : World) (master : ℕ) (call : Call) (seen : ℕ) (outcome : Outcome) → IsSound w → MayRead (view w) master call seen outcome → IsSound (recorded_in w call outcome seen)
 sound_recorded w master call seen outcome sound may = view_recorded (view w) master call seen outcome sound may

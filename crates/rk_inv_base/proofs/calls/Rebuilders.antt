@@ -1,13 +1,13 @@
 -- What a master that rebuilds has, once the entry of a call is appended to its log.
-use Rattle.std.proofs.Common.{refl, ◌≡◌, ℕ, ◌≤◌, ◌<◌, ◌-◌, suc, true, false, List, [], ◌∷◌, ◌++◌, length, Some, None, sym, ap, ◌∙◌, subst}
-use Rattle.std.proofs.Common.{⊎_elim, arith, drop, filter, take, ◌==◌, Bool, Option, IfSome, All, Contains, flat_map, eq-eqb, append-nil}
-use Rattle.std.proofs.Common.{length-append, length-drop}
+use Rattle.std.proofs.Common.{◌≡◌, ℕ, ◌≤◌, ◌<◌, ◌-◌, suc, true, false, List, [], ◌∷◌, ◌++◌, length, Some, sym, ap, ◌∙◌, subst, ⊎_elim}
+use Rattle.std.proofs.Common.{arith, drop, filter, take, ◌==◌, Bool, All, Contains, flat_map, eq-eqb, append-nil, length-append}
+use Rattle.std.proofs.Common.{length-drop}
 use Rattle.rk_inv_base.proofs.Words.{cases_lt, false≢true, or_left, or_right, take-append-le, drop-append-le, All-contains, IfSome_then}
 use Rattle.rk_inv_base.proofs.Words.{list_any, Held, Member, Range, Entry, is_in, is_serving, Handover, Role, Row, known_of, EntryEnd}
 use Rattle.rk_inv_base.proofs.Words.{items_of, is_member, last_of, is_marked, unmarked_from, touches, material_of, named, named_by}
 use Rattle.rk_inv_base.proofs.Words.{side_entries, own_place, Written, Mark, Merged, stored_of, IsMergedOf, has_merged, merged_place}
-use Rattle.rk_inv_base.proofs.Words.{IsPieceOf, IsRebuilder, IsRebuildTable, READ_BACKUP, applied_from, IsFound, named_items, with_counter}
-use Rattle.rk_inv_base.proofs.Words.{with_one_more, View, truths, SoundView}
+use Rattle.rk_inv_base.proofs.Words.{IsPieceOf, IsRebuilder, IsRebuildTable, READ_BACKUP, applied_from, IsFound, named_items, with_one_more}
+use Rattle.rk_inv_base.proofs.Words.{View, truths, SoundView, LogsOf}
 use Rattle.rk_transfer.specs.declared.role.Role.TheVariants as roles
 use Rattle.rk_inv_base.proofs.logs.Shares.{named_same, unless_marked, unmarked_from_last, unmarked_from_none}
 use Rattle.rk_inv_base.proofs.logs.Applied.{applied_within}
@@ -57,10 +57,6 @@ piece_push first past xs ys within =
     (cases_lt (length xs) first)
 
 -- a role that serves has merged nothing
-pub serving_merged : (role : Role) → is_serving role ≡ true → merged_place role ≡ None
-serving_merged (roles.Rebuilding from entry) serves = absurd (cc)
-serving_merged role serves = refl
-
 pub serving_unmerged : (role : Role) → is_serving role ≡ true → has_merged role ≡ true → ⊥
 serving_unmerged (roles.Rebuilding from entry) serves merged = absurd (cc)
 serving_unmerged role serves merged = false≢true merged
@@ -75,7 +71,7 @@ IsRebuilderWith v row lineage to Needed own written handover =
     IsRebuilder row lineage to (truths v row) own Needed (λ q. known_of (v.logs q) READ_BACKUP) (λ q. stored_of v.stored q READ_BACKUP)
     written handover (v.completions to row.tablet) (v.gathers to row.tablet) (v.merged to row.tablet) (v.records to)
 
-module _ (v : View) (sound : SoundView v) (new : Entry) (row : Row) (lineage : List Member) (to : ℕ) (Needed : ℕ → EntryEnd → Type 0) (names : named_by row.range new ≡ []) where
+module _ (v : View) (sound : LogsOf v) (new : Entry) (row : Row) (lineage : List Member) (to : ℕ) (Needed : ℕ → EntryEnd → Type 0) (names : named_by row.range new ≡ []) where
   -- what the master has written and has of the row, and what it has written with the entry
   abbrev w : Written
   w = v.written to
@@ -93,7 +89,7 @@ module _ (v : View) (sound : SoundView v) (new : Entry) (row : Row) (lineage : L
   Rebuilds = IsRebuilderWith v row lineage to Needed
 
   marked : All (λ mark. mark.past ≤ length (v.written to).entries) (v.written to).marks
-  marked = (sound.logs.each to).marked
+  marked = (sound.each to).marked
 
   -- the piece of a rebuild stands where it did, and still nothing of its range stands behind it
   piece_stays : (merged : Merged) (entry : ℕ) → touches handover.range new ≡ false → IsPieceOf row.tablet from handover merged w entry → IsPieceOf row.tablet from handover merged more entry
@@ -134,7 +130,7 @@ module _ (v : View) (sound : SoundView v) (new : Entry) (row : Row) (lineage : L
   records_stay =
       subst
       (λ (sure : List Entry). IsRebuildTable row.range (truths v row) (material_of row.range (side_entries w.sides) (drop from sure)) (v.records to))
-      (sym (take-append-le w.applied w.entries (new ∷ []) (applied_within (v.logs to) (v.written to) _ (sound.logs.each to))))
+      (sym (take-append-le w.applied w.entries (new ∷ []) (applied_within (v.logs to) (v.written to) _ (sound.each to))))
 
   -- the side segments that a master names have what they had
   sides_stay : from ≤ length w.entries → AreShared (truths v row) (v.records to) (named_items row.range from w) → AreShared (truths v row) (v.records to) (named_items row.range from more)
@@ -147,8 +143,8 @@ module _ (v : View) (sound : SoundView v) (new : Entry) (row : Row) (lineage : L
   place_stays placed = omega (arith, placed, length-append w.entries (new ∷ []))
 
   -- a master that rebuilds a row, and wrote an entry of another one
-  pub rebuilder_apart : (own : List Entry) → touches row.range new ≡ false → Rebuilds own w handover → Rebuilds own more handover
-  rebuilder_apart own outside was = record {
+  pub rebuilder_beside : (own : List Entry) → touches row.range new ≡ false → Rebuilds own w handover → Rebuilds own more handover
+  rebuilder_beside own outside was = record {
     range_is = was.range_is;
     gather = was.gather;
     read = was.read;
@@ -163,17 +159,6 @@ module _ (v : View) (sound : SoundView v) (new : Entry) (row : Row) (lineage : L
     outside = was.outside;
   }
 
-  -- a master that is to rebuild the row and still serves it, as a member of its lineage
-  pub rebuilder_serving : (own own' : List Entry) (counter : ℕ) → is_serving handover.role ≡ true → is_member lineage to ≡ true → Rebuilds own w handover → Rebuilds own' more (with_counter counter handover)
-  rebuilder_serving own own' counter serves member was = record {
-    range_is = was.range_is;
-    gather = was.gather;
-    read = was.read;
-    placed = place_stays was.placed;
-    merged =
-        subst (λ (place : Option ℕ). IfSome place (IsMergedWith own' more (with_counter counter handover)))
-        (sym (serving_merged handover.role serves)) tt;
-    items = records_stay was.items;
-    sides = sides_stay was.placed was.sides;
-    outside = λ apart. absurd (false≢true (sym apart ∙ member));
-  }
+-- the same of a sound view
+pub rebuilder_apart : (v : View) (sound : SoundView v) (new : Entry) (row : Row) (lineage : List Member) (to : ℕ) (Needed : ℕ → EntryEnd → Type 0) → named_by row.range new ≡ [] → (own : List Entry) → touches row.range new ≡ false → IsRebuilderWith v row lineage to Needed own (v.written to) (v.handovers to row.tablet) → IsRebuilderWith v row lineage to Needed own (with_one_more (v.written to) new) (v.handovers to row.tablet)
+rebuilder_apart v sound = rebuilder_beside v sound.logs

@@ -159,9 +159,7 @@ counting_in range (entry ∷ list) =
   where
     at : (entry : Entry) → counts range entry ≡ true → All (λ x. is_in range x ≡ true) (items_in entry)
     at (entries.Held held) inside = All-cons (λ x. is_in range x ≡ true) held [] inside (All-nil (λ x. is_in range x ≡ true))
-    at (entries.Refused refused) inside = All-nil (λ x. is_in range x ≡ true)
-    at (entries.Carried carried) inside = All-nil (λ x. is_in range x ≡ true)
-    at (entries.Joined joined) inside = All-nil (λ x. is_in range x ≡ true)
+    at _ inside = All-nil (λ x. is_in range x ≡ true)
 
 pub material_in : (range : Range) (side : ℕ → List Entry) (list : List Entry) → All (λ x. is_in range x ≡ true) (items_of (material_of range side list))
 material_in range side list =

@@ -1,7 +1,7 @@
 -- A view stays sound when a refusal is staged that its master may serve and that goes on lawfully.
 use Rattle.std.proofs.Common.{◌≡◌, ℕ, Bool, refl, sym, subst, ◌∙◌, ◌++◌}
-use Rattle.rk_inv_base.proofs.Words.{All-contains, All-nil, Call, Held, Row, refusal_of, World, master_at, tablet_in, MayAppend, refused_as}
-use Rattle.rk_inv_base.proofs.Words.{IsNext, IsRest, View, view, truths, rests, IsSound, SoundView}
+use Rattle.rk_inv_base.proofs.Words.{All-nil, Call, Held, Row, refusal_of, World, master_at, tablet_in, MayAppend, refused_as, IsNext, View}
+use Rattle.rk_inv_base.proofs.Words.{view, truths, rests, IsSound, SoundView}
 use Rattle.rk_world.specs.Requests.{refusal_staged}
 use Rattle.rk_sound.specs.Changes.{MayRefuse}
 use Rattle.rk_sound.specs.Small.{refused, refusal_staged_in}
@@ -11,6 +11,7 @@ use Rattle.rk_inv_base.proofs.logs.Floors.{next_stays}
 use Rattle.rk_inv_base.proofs.calls.Histories.{last_asked, refusal_goes_on}
 use Rattle.rk_inv_base.proofs.calls.Counters.{counter_low}
 use Rattle.rk_inv_base.proofs.calls.CallAppended.{view_appended}
+use Rattle.rk_inv_base.proofs.views.ByRows.{row_in}
 
 module _ (v : View) (master : ℕ) (call : Call) (found : ℕ) (absent : Bool) (sound : SoundView v) (may : MayRefuse v master call (refused_as found absent)) where
   abbrev row : Row
@@ -30,20 +31,13 @@ module _ (v : View) (master : ℕ) (call : Call) (found : ℕ) (absent : Bool) (
     last = last_asked v.asked v.journal call may.ends.last may.ends.same_call;
     goes_on =
         refusal_goes_on v.base row.range (truths v row) (rests v row) v.journal v.asked call found absent
-        (All-contains (λ r. IsRest v.base r.range (truths v r) (rests v r) v.journal v.asked) v.rows row sound.rest.goes_on may.served.has_row)
+        (row_in v sound row may.served.has_row).goes_on
         may.ends may.leaves;
   }
 
   pub view_refused : SoundView (refused v master may.served.row.tablet call found absent)
   unfolding may_append
-  view_refused = view_appended v (record {
-    master = master;
-    call = call;
-    entry = refusal_of call found absent;
-    counter = counter;
-    sound = sound;
-    may = may_append;
-  })
+  view_refused = view_appended v master call (refusal_of call found absent) counter sound may_append
 
 -- what a staged refusal makes of a view: the tablet may be any, since its counter stays
 pub refused_is : (w : World) (master number : ℕ) (call : Call) (found : ℕ) (absent : Bool) → view (refusal_staged_in w master call found absent) ≡ refused (view w) master number call found absent

@@ -30,9 +30,8 @@ records_themselves (placed ∷ journal) = (record_itself placed, records_themsel
 -- with more behind them
 pub records_behind : (olds news more : List Placed) → AreSameRecords olds news → AreSameRecords (olds ++ more) (news ++ more)
 records_behind [] [] more same = records_themselves more
-records_behind [] (new ∷ news) more same = absurd same
-records_behind (old ∷ olds) [] more same = absurd same
 records_behind (old ∷ olds) (new ∷ news) more same = (same.0, records_behind olds news more same.1)
+records_behind _ _ more same = absurd same
 
 -- ---- one record is accepted
 
@@ -53,12 +52,10 @@ accepted_same (first ∷ journal) (suc place) placed stands = (record_itself fir
 
 -- each of them is the accepted one, or stood there
 pub accepted_cases : (journal : List Placed) (place : ℕ) (placed : Placed) (i : ℕ) (found : Placed) → slice_get (slice_set journal place (as_accepted placed)) i ≡ Some found → ((i ≡ place) × (as_accepted placed ≡ found)) ⊎ (slice_get journal i ≡ Some found)
-accepted_cases [] place placed i found stands = inr stands
 accepted_cases (first ∷ journal) zero placed zero found stands = inl (refl, cc stands)
-accepted_cases (first ∷ journal) zero placed (suc i) found stands = inr stands
-accepted_cases (first ∷ journal) (suc place) placed zero found stands = inr stands
 accepted_cases (first ∷ journal) (suc place) placed (suc i) found stands =
     ⊎_elim (λ here. inl (ap suc here.0, here.1)) (λ there. inr there) (accepted_cases journal place placed i found stands)
+accepted_cases _ _ placed _ found stands = inr stands
 
 -- ---- what is the same of the journals
 
@@ -69,67 +66,60 @@ map_with_same start old new same =
 -- the map that they leave
 pub map_after_same : (start : Map) (olds news : List Placed) → AreSameRecords olds news → ◌≡◌ {A = Map} (map_after start news) (map_after start olds)
 map_after_same start [] [] same = refl
-map_after_same start [] (new ∷ news) same = absurd same
-map_after_same start (old ∷ olds) [] same = absurd same
 map_after_same start (old ∷ olds) (new ∷ news) same =
     ap (λ (m : Map). map_after m news) (map_with_same start old new same.0) ∙ map_after_same (map_with start old) olds news same.1
+map_after_same start _ _ same = absurd same
 
 -- whether they are lawful
 pub legal_same : (start : Map) (olds news : List Placed) → AreSameRecords olds news → IsLegal start olds → IsLegal start news
 legal_same start [] [] same legal = tt
-legal_same start [] (new ∷ news) same legal = absurd same
-legal_same start (old ∷ olds) [] same legal = absurd same
 legal_same start (old ∷ olds) (new ∷ news) same legal = (
   subst (λ (o : Outcome). Allowed (start new.call.table new.call.key) new.call.op o) (sym same.0.outcome)
       (subst (λ (c : Call). Allowed (start c.table c.key) c.op old.outcome) (sym same.0.call) legal.0),
   legal_same (map_with start new) olds news same.1
       (subst (λ (m : Map). IsLegal m olds) (sym (map_with_same start old new same.0)) legal.1),
 )
+legal_same start _ _ same legal = absurd same
 
 -- whether their stamps rise
 pub rising_same : (stamp : ℕ) (olds news : List Placed) → AreSameRecords olds news → IsRisingAbove stamp olds → IsRisingAbove stamp news
 rising_same stamp [] [] same rising = tt
-rising_same stamp [] (new ∷ news) same rising = absurd same
-rising_same stamp (old ∷ olds) [] same rising = absurd same
 rising_same stamp (old ∷ olds) (new ∷ news) same rising = (
   subst (λ (n : ℕ). stamp < n) (sym same.0.stamp) rising.0,
   rising_same new.stamp olds news same.1 (subst (λ (n : ℕ). IsRisingAbove n olds) (sym same.0.stamp) rising.1),
 )
+rising_same stamp _ _ same rising = absurd same
 
 -- whether they have the record of a mutation
 pub has_record_same : (olds news : List Placed) (client seq : ℕ) → AreSameRecords olds news → has_record news client seq ≡ has_record olds client seq
 has_record_same [] [] client seq same = refl
-has_record_same [] (new ∷ news) client seq same = absurd same
-has_record_same (old ∷ olds) [] client seq same = absurd same
 has_record_same (old ∷ olds) (new ∷ news) client seq same =
     λ i. (is_mutation (same.0.call i).op && (eqb (same.0.call i).client client && eqb (same.0.call i).seq seq))
     || has_record_same olds news client seq same.1 i
+has_record_same _ _ client seq same = absurd same
 
 -- what holds of each record
 pub all_records_same : (P : Placed → Type 0) → ((old new : Placed) → IsSameRecord old new → P old → P new) → (olds news : List Placed) → AreSameRecords olds news → All P olds → All P news
 all_records_same P gives [] [] same all = all
-all_records_same P gives [] (new ∷ news) same all = absurd same
-all_records_same P gives (old ∷ olds) [] same all = absurd same
 all_records_same P gives (old ∷ olds) (new ∷ news) same all =
     All-cons P new news (gives old new same.0 (All-head P old olds all)) (all_records_same P gives olds news same.1 (All-tail P old olds all))
+all_records_same P gives _ _ same all = absurd same
 
 -- the record at a place is the same as one was there
 pub record_before : (olds news : List Placed) (i : ℕ) (new : Placed) → AreSameRecords olds news → slice_get news i ≡ Some new → (old : Placed) × (slice_get olds i ≡ Some old) × IsSameRecord old new
 record_before [] [] i new same stands = absurd (cc stands)
-record_before [] (n ∷ news) i new same stands = absurd same
-record_before (o ∷ olds) [] i new same stands = absurd same
 record_before (o ∷ olds) (n ∷ news) zero new same stands =
     let is : n ≡ new = cc stands in (o, refl, subst (IsSameRecord o) is same.0)
 record_before (o ∷ olds) (n ∷ news) (suc i) new same stands = record_before olds news i new same.1 stands
+record_before _ _ i new same stands = absurd same
 
 -- and one that was there is the same as the record there now
 pub record_after : (olds news : List Placed) (i : ℕ) (old : Placed) → AreSameRecords olds news → slice_get olds i ≡ Some old → (new : Placed) × (slice_get news i ≡ Some new) × IsSameRecord old new
 record_after [] [] i old same stands = absurd (cc stands)
-record_after [] (n ∷ news) i old same stands = absurd same
-record_after (o ∷ olds) [] i old same stands = absurd same
 record_after (o ∷ olds) (n ∷ news) zero old same stands =
     let is : o ≡ old = cc stands in (n, refl, subst (λ (p : Placed). IsSameRecord p n) is same.0)
 record_after (o ∷ olds) (n ∷ news) (suc i) old same stands = record_after olds news i old same.1 stands
+record_after _ _ i old same stands = absurd same
 
 -- ---- ends
 

@@ -1,7 +1,7 @@
 -- A view stays sound when a write is staged that its master may serve and that goes on lawfully.
 use Rattle.std.proofs.Common.{◌≡◌, ℕ, ◌+◌, List, [], Option, refl, sym, subst, ◌∙◌, ◌++◌}
-use Rattle.rk_inv_base.proofs.Words.{All-cons, All-contains, All-nil, Call, Held, Row, counted_up, item_of, with_staged, World, master_at}
-use Rattle.rk_inv_base.proofs.Words.{tablet_in, MayAppend, IsNext, IsRest, View, view, truths, rests, IsSound, SoundView}
+use Rattle.rk_inv_base.proofs.Words.{All-cons, All-nil, Call, Held, Row, counted_up, item_of, with_staged, World, master_at, tablet_in}
+use Rattle.rk_inv_base.proofs.Words.{MayAppend, IsNext, View, view, truths, rests, IsSound, SoundView}
 use Rattle.rk_entry.specs.declared.entry.Entry.TheVariants as entries
 use Rattle.rk_world.specs.Requests.{write_staged}
 use Rattle.rk_sound.specs.Changes.{MayStage}
@@ -13,6 +13,7 @@ use Rattle.rk_inv_base.proofs.logs.Floors.{next_push}
 use Rattle.rk_inv_base.proofs.calls.Histories.{last_asked, write_goes_on}
 use Rattle.rk_inv_base.proofs.calls.Counters.{counter_low}
 use Rattle.rk_inv_base.proofs.calls.CallAppended.{view_appended}
+use Rattle.rk_inv_base.proofs.views.ByRows.{row_in}
 
 module _ (v : View) (master : ℕ) (call : Call) (value : Option (List ℕ)) (sound : SoundView v) (may : MayStage v master call value) where
   abbrev row : Row
@@ -43,20 +44,13 @@ module _ (v : View) (master : ℕ) (call : Call) (value : Option (List ℕ)) (so
     last = last_asked v.asked v.journal call may.ends.last may.ends.same_call;
     goes_on =
         write_goes_on v.base row.range (truths v row) (rests v row) v.journal v.asked call version value
-        (All-contains (λ r. IsRest v.base r.range (truths v r) (rests v r) v.journal v.asked) v.rows row sound.rest.goes_on may.served.has_row)
+        (row_in v sound row may.served.has_row).goes_on
         may.ends may.leaves low;
   }
 
   pub view_staged : SoundView (staged v master may.served.row.tablet call value)
   unfolding may_append
-  view_staged = view_appended v (record {
-    master = master;
-    call = call;
-    entry = entries.Held item;
-    counter = version + 1;
-    sound = sound;
-    may = may_append;
-  })
+  view_staged = view_appended v master call (entries.Held item) (version + 1) sound may_append
 
 -- what a staged write makes of a view
 pub staged_is : (w : World) (master number : ℕ) (call : Call) (value : Option (List ℕ)) → view (write_staged_in w master number call value) ≡ staged (view w) master number call value

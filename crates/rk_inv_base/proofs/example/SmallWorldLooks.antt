@@ -1,11 +1,11 @@
 -- What is found in the small world: its one master, tablet, backup and client, and its four messages.
-use Rattle.std.proofs.Common.{◌≡◌, ℕ, zero, suc, Bool, true, false, cond, eqb, [], ◌∷◌, Option, Some, None, refl, sym, ap, subst, ◌∙◌}
-use Rattle.std.proofs.Common.{⊎_elim, arith, All, IfSome, Contains, slice_get, unwrap_or, eq-eqb, ne_eqb}
+use Rattle.std.proofs.Common.{◌≡◌, ℕ, zero, suc, Bool, false, cond, eqb, [], ◌∷◌, Option, Some, None, refl, sym, ap, subst, ◌∙◌, ⊎_elim}
+use Rattle.std.proofs.Common.{arith, All, Contains, slice_get, unwrap_or, eq-eqb, ne_eqb}
 use Rattle.rk_inv_base.proofs.Words.{cases_eq, cond-true, cond-false, All-nil, All-cons, All-contains, unsigned_tied, each_insert, EachIn}
-use Rattle.rk_inv_base.proofs.Words.{get, Segments, Row, Message, no_segments, Handed, asked_by, Master, new_master, tablet_at, Tablet}
-use Rattle.rk_inv_base.proofs.Words.{no_tablet, master_at, backup_at, tablet_in, lives, LastCall, handed_by, handed_for_grant, Post, Owner}
-use Rattle.rk_inv_base.proofs.Words.{Bystander, post_of, speaks, StillCounts}
-use Rattle.rk_inv_base.proofs.example.SmallWorld.{small_world, small_master, small_tablet, small_stored, small_last, small_wire, small_request, small_append, small_told, small_reply, small_ledger, small_row, small_map, small_view}
+use Rattle.rk_inv_base.proofs.Words.{get, Message, asked_by, Master, new_master, tablet_at, Tablet, no_tablet, master_at, tablet_in}
+use Rattle.rk_inv_base.proofs.Words.{LastCall, Owner, Bystander, post_of}
+use Rattle.rk_inv_base.proofs.example.SmallWorld.{small_world, small_master, small_tablet, small_last, small_wire, small_request}
+use Rattle.rk_inv_base.proofs.example.SmallWorld.{small_append, small_told, small_reply, small_ledger, small_row}
 
 -- what is found in a table of one thing
 pub found_one : {X : Type 0} (number : ℕ) (thing : X) (q : ℕ) → get ((number, thing) ∷ []) q ≡ cond (eqb q number) (Some thing) None
@@ -36,10 +36,6 @@ each_tablet P here others q r =
     (each_found (λ t o. P 1 t (unwrap_or o no_tablet)) 1 small_tablet here (λ t apart. others 1 t (λ one. apart)) r)
     (λ n apart. others n r (λ is one. apart is))
     q
-
--- what holds of the backup, and of an empty one under each other number, holds of each
-pub each_backup : (P : ℕ → Segments → Type 0) → P 1 small_stored → ((q : ℕ) → (q ≡ 1 → ⊥) → P q no_segments) → (q : ℕ) → P q (backup_at small_world q)
-each_backup P here others q = each_found (λ n o. P n (unwrap_or o no_segments)) 1 small_stored here others q
 
 -- what holds of the client's call, and of no call of each other client, holds of each
 pub each_client : (P : ℕ → Option LastCall → Type 0) → P 1 (Some small_last) → ((q : ℕ) → (q ≡ 1 → ⊥) → P q None) → (q : ℕ) → P q (asked_by small_ledger q)
@@ -78,13 +74,6 @@ pub first_place : {X : Type 0} (x y : X) (place : ℕ) → slice_get (x ∷ []) 
 first_place x y zero e = refl
 first_place x y (suc place) e = absurd (cc)
 
--- what holds of the four messages beside the row holds of each beside each row
-pub each_sent : (P : Row → Message → Type 0) → P small_row small_request → P small_row small_append → P small_row small_told → P small_row small_reply → EachIn (λ number message. All (λ row. P row message) small_map) small_wire
-each_sent P first second third fourth =
-    each_message (λ number message. All (λ row. P row message) small_map)
-    (all_one (λ row. P row small_request) small_row first) (all_one (λ row. P row small_append) small_row second)
-    (all_one (λ row. P row small_told) small_row third) (all_one (λ row. P row small_reply) small_row fourth)
-
 -- a number that is not that of the master is not the owner's
 pub not_owner : (q : ℕ) → (q ≡ 1 → ⊥) → eqb 1 q ≡ false
 not_owner q apart = ne_eqb 1 q (λ e. apart (sym e))
@@ -92,30 +81,3 @@ not_owner q apart = ne_eqb 1 q (λ e. apart (sym e))
 -- so it has nothing to do with the tablet
 pub post_elsewhere : (q : ℕ) → (q ≡ 1 → ⊥) → post_of small_row.phase q ≡ Bystander
 post_elsewhere q apart = cond-false (eqb 1 q) (Owner 0) Bystander (not_owner q apart)
-
--- what holds of the master and the row holds of each master that answers calls, or will, while that counts
-pub each_speaking : (P : Row → Master → Type 0) → P small_row small_master → (q : ℕ) → All (λ row. StillCounts (lives small_world q) (tablet_in small_world q row.tablet).handover.term row.term → speaks (post_of row.phase q) (tablet_in small_world q row.tablet).handover row.term ≡ true → P row (master_at small_world q)) small_map
-each_speaking P here q =
-    each_master
-    (λ n m. All (λ row. StillCounts (lives small_world q) (tablet_at m row.tablet).handover.term row.term → speaks (post_of row.phase n) (tablet_at m row.tablet).handover row.term ≡ true → P row m) small_map)
-    (all_one
-    (λ row. StillCounts (lives small_world q) (tablet_at small_master row.tablet).handover.term row.term → speaks (post_of row.phase 1) (tablet_at small_master row.tablet).handover row.term ≡ true → P row small_master)
-    small_row (λ counts says. here))
-    (λ n apart. all_one
-    (λ row. StillCounts (lives small_world q) no_tablet.handover.term row.term → speaks (post_of row.phase n) no_tablet.handover row.term ≡ true → P row (new_master n []))
-    small_row (λ counts says. absurd (silent n apart says)))
-    q
-  where
-    silent : (n : ℕ) → (n ≡ 1 → ⊥) → speaks (post_of small_row.phase n) no_tablet.handover 1 ≡ true → ⊥
-    silent n apart says =
-        let e : speaks (post_of small_row.phase n) no_tablet.handover 1 ≡ false =
-        ap (λ (post : Post). speaks post no_tablet.handover 1) (post_elsewhere n apart)
-        in let f : true ≡ false = sym says ∙ e in absurd (cc)
-
--- nothing that was handed over is kept
-pub nothing_kept : (F : Row → Handed → Type 0) → All (λ row. IfSome (handed_for_grant row small_view.handovers []) (F row)) small_map
-nothing_kept F = all_one (λ row. IfSome (handed_for_grant row small_view.handovers []) (F row)) small_row tt
-
--- and no message hands anything over
-pub nothing_sent : (F : Row → Handed → Type 0) → EachIn (λ number message. All (λ row. IfSome (handed_by row small_view.handovers message.body) (F row)) small_map) small_wire
-nothing_sent F = each_sent (λ row message. IfSome (handed_by row small_view.handovers message.body) (F row)) tt tt tt tt

@@ -1,13 +1,11 @@
 -- A target that joins stays a target of its row with the entry that closes its joining.
-use Rattle.std.proofs.Common.{◌≡◌, ℕ, ◌≤◌, ◌<◌, ◌⊎◌, true, ◌&&◌, List, [], ◌∷◌, ◌++◌, length, filter, Option, Some, None, refl, sym, ap}
-use Rattle.std.proofs.Common.{◌∙◌, subst, arith, slice_get, drop, take, All, Contains}
+use Rattle.std.proofs.Common.{◌≡◌, ℕ, ◌≤◌, true, List, [], ◌∷◌, ◌++◌, length, filter, Option, Some, None, refl, sym, ap, ◌∙◌, subst, arith}
+use Rattle.std.proofs.Common.{slice_get, drop, take, Contains}
 use Rattle.rk_inv_base.proofs.Words.{cond-true, drop-append-le, take-append-le, All-nil, filter-append, IfSome_then, list_any, meets, Held}
 use Rattle.rk_inv_base.proofs.Words.{Member, Entry, Handover, Role, Row, Handed, items_of, touches, is_joined_in, joined_from, Pulling}
-use Rattle.rk_inv_base.proofs.Words.{Written, applied_entries, Post, Owner, OpeningSource, InvitedTarget, ReadyTarget, MovingSource}
-use Rattle.rk_inv_base.proofs.Words.{MovingTarget, OnlyRebuilder, FirstRebuilder, LastRebuilder, OutsideRebuilder, FormerMember, Bystander}
-use Rattle.rk_inv_base.proofs.Words.{bond_of, Holds, HasArrived, HasClosing, IsReceived, IsTarget, before_closing, beginning_of}
-use Rattle.rk_inv_base.proofs.Words.{closing_joined, copied_items, entries_from, is_joining, joined_place, scan_items, as_closed}
-use Rattle.rk_inv_base.proofs.Words.{with_one_more}
+use Rattle.rk_inv_base.proofs.Words.{Written, applied_entries, Post, MovingTarget, LastRebuilder, bond_of, Holds, HasArrived, HasClosing}
+use Rattle.rk_inv_base.proofs.Words.{IsReceived, IsTarget, before_closing, beginning_of, closing_joined, copied_items, entries_from}
+use Rattle.rk_inv_base.proofs.Words.{is_joining, joined_place, scan_items, as_closed, with_one_more}
 use Rattle.rk_model.proofs.Places.{slice_get_end}
 use Rattle.rk_transfer.specs.declared.role.Role.TheVariants as roles
 use Rattle.rk_inv_base.proofs.views.Seen.{GoesOn}
@@ -15,18 +13,9 @@ use Rattle.rk_inv_base.proofs.calls.Targets.{AreBelow, own_push}
 
 -- a post that takes a target that joins takes it with its closing entry too
 pub fits_closed : (post : Post) (term own applied place : ℕ) → Holds (bond_of post (roles.Joining None)) term own applied → Holds (bond_of post (roles.Joining (Some place))) term own applied
-fits_closed (Owner from) term own applied place holds = absurd holds
-fits_closed OpeningSource term own applied place holds = absurd holds
-fits_closed InvitedTarget term own applied place holds = absurd holds
-fits_closed (ReadyTarget from) term own applied place holds = absurd holds
-fits_closed MovingSource term own applied place holds = absurd holds
 fits_closed (MovingTarget from) term own applied place holds = holds
-fits_closed (OnlyRebuilder from) term own applied place holds = absurd holds
-fits_closed (FirstRebuilder from) term own applied place holds = absurd holds
 fits_closed (LastRebuilder from) term own applied place holds = holds
-fits_closed OutsideRebuilder term own applied place holds = absurd holds
-fits_closed FormerMember term own applied place holds = absurd holds
-fits_closed Bystander term own applied place holds = absurd holds
+fits_closed _ term own applied place holds = absurd holds
 
 -- so it goes on as it was
 pub closed_goes_on : (place : ℕ) → GoesOn (roles.Joining None) (roles.Joining (Some place))

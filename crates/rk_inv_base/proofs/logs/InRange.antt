@@ -23,9 +23,7 @@ AreIn range items = All (IsIn range) items
 
 pub entry_in : (range : Range) (entry : Entry) → counts range entry ≡ true → AreIn range (items_in entry)
 entry_in range (entries.Held held) counted = All-cons (IsIn range) held [] counted (All-nil (IsIn range))
-entry_in range (entries.Refused refused) counted = All-nil (IsIn range)
-entry_in range (entries.Carried carried) counted = All-nil (IsIn range)
-entry_in range (entries.Joined joined) counted = All-nil (IsIn range)
+entry_in range _ counted = All-nil (IsIn range)
 
 pub entries_in : (range : Range) (list : List Entry) → All (λ entry. counts range entry ≡ true) list → AreIn range (items_of list)
 entries_in range [] counted = All-nil (IsIn range)

@@ -31,8 +31,7 @@ first_part_more a b c first next = record {
 -- bytes behind others are none where all are
 pub none_behind : (before bytes behind : List ℕ) → before ++ (bytes ++ behind) ≡ [] → bytes ≡ []
 none_behind [] [] behind none = refl
-none_behind [] (x ∷ bytes) behind none = absurd (cc)
-none_behind (x ∷ before) bytes behind none = absurd (cc)
+none_behind _ _ behind none = absurd (cc)
 
 -- what is known of the segments before one that has bytes is known then
 pub known_before_grown : (old new : Log) (known : Known) (later : ℕ) → Grows old new → bytes_of old later ≢ [] → IsKnownBefore old known later → IsKnownBefore new known later

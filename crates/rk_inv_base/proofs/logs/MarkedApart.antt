@@ -1,7 +1,7 @@
 -- What is marked in a log is of rows that are rebuilt, and counts for no other row.
 use Rattle.std.proofs.Common.{◌≡◌, ℕ, zero, suc, ◌+◌, ◌-◌, ◌<◌, ◌≤◌, true, false, ◌&&◌, eqb, leb, List, [], ◌∷◌, Option, Some, None, refl}
-use Rattle.std.proofs.Common.{sym, ap, subst, ◌∙◌, ⊎_elim, arith, drop, fold, is_some, nat_le, nat_lt, slice_get, take, All, Contains}
-use Rattle.std.proofs.Common.{leb-true, ltb-true}
+use Rattle.std.proofs.Common.{sym, ap, subst, ◌∙◌, ⊎_elim, arith, drop, fold, is_some, nat_le, nat_lt, slice_get, take, Contains, leb-true}
+use Rattle.std.proofs.Common.{ltb-true}
 use Rattle.rk_inv_base.proofs.Words.{and_parts, cases_Bool, cond-false, cond_both, false≢true, nat_tests, All-contains, All-nil}
 use Rattle.rk_inv_base.proofs.Words.{Any-from_list_any, meets, Member, Range, Entry, number_of, Precedes, row_of, Rebuilding, Row, told}
 use Rattle.rk_inv_base.proofs.Words.{is_marked, counting, counts, floor_by, has_all, Mark, HasOwnRange, IsOfRange, MarkFits, MarkedFit}
@@ -11,6 +11,7 @@ use Rattle.rk_inv_base.proofs.rows.Apart.{key_outside, one_precedes}
 use Rattle.rk_inv_base.proofs.logs.InRest.{behind_at}
 use Rattle.rk_inv_base.proofs.rows.Serving.{found_stands, meets_either}
 use Rattle.rk_inv_base.proofs.rows.TurnedRows.{behind_first}
+use Rattle.rk_inv_base.proofs.views.ByRows.{row_in}
 
 -- ---- places
 
@@ -48,10 +49,9 @@ not_all a b apart some = go a.table a.first a.last b.table b.first b.last apart 
 -- an entry of a rebuild of another range does not count
 pub entry_apart : (a b : Range) → meets a b ≡ false → meets b a ≡ false → b.first ≤ b.last → (entry : Entry) → IsOfRange a entry → counts b entry ≡ false
 entry_apart a b apart back some (entries.Held held) of = key_outside b a held.table held.key back of
-entry_apart a b apart back some (entries.Refused refused) of = absurd of
 entry_apart a b apart back some (entries.Carried carried) of =
     subst (λ (range : Range). has_all range b ≡ false) (sym of) (not_all a b apart some)
-entry_apart a b apart back some (entries.Joined joined) of = absurd of
+entry_apart a b apart back some _ of = absurd of
 
 -- ranges that do not meet do not the other way round
 pub apart_either : (a b : Range) → meets a b ≡ false → meets b a ≡ false
@@ -105,9 +105,7 @@ module _ (v : View) (row : Row) (sound : SoundView v) (has_row : Contains v.rows
       let fits : MarkFits row q (v.handovers q row.tablet) (v.live q) (v.written q) mark =
       All-contains (λ m. m.tablet ≡ row.tablet → MarkFits row q (v.handovers q row.tablet) (v.live q) (v.written q) m)
       (v.written q).marks mark
-      (All-contains
-      (λ r. All (λ m. m.tablet ≡ r.tablet → MarkFits r q (v.handovers q r.tablet) (v.live q) (v.written q) m) (v.written q).marks)
-      v.rows row (sound.rebuilds.marks q) has_row) stands its in
+      ((row_in v sound row has_row).marks q) stands its in
       never fits.rebuilt.0 fits.rebuilt.1 fits.rebuilt.2
 
   -- an entry of a piece of another row does not count
@@ -116,9 +114,7 @@ module _ (v : View) (row : Row) (sound : SoundView v) (has_row : Contains v.rows
       let own : HasOwnRange other.range (v.written q).entries mark =
       All-contains (λ m. m.tablet ≡ other.tablet → HasOwnRange other.range (v.written q).entries m)
       (v.written q).marks mark
-      (All-contains
-      (λ r. All (λ m. m.tablet ≡ r.tablet → HasOwnRange r.range (v.written q).entries m) (v.written q).marks)
-      v.rows other (sound.rebuilds.pieces q) stands) marked (sym same) in
+      ((row_in v sound other stands).pieces q) marked (sym same) in
       let of : IsOfRange other.range entry =
       All-contains (IsOfRange other.range) (take (mark.past - mark.first) (drop mark.first (v.written q).entries)) entry own inside in
       let apart : meets other.range row.range ≡ false =

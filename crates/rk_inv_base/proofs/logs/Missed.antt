@@ -13,9 +13,8 @@ Misses range entry = touches range entry ≡ false
 
 -- so it is of parts of a log
 pub drop_missed : (range : Range) (n : ℕ) (list : List Entry) → All (Misses range) list → All (Misses range) (drop n list)
-drop_missed range zero list all = all
-drop_missed range (suc n) [] all = all
 drop_missed range (suc n) (entry ∷ list) all = drop_missed range n list (All-tail (Misses range) entry list all)
+drop_missed range _ _ all = all
 
 pub take_missed : (range : Range) (n : ℕ) (list : List Entry) → All (Misses range) list → All (Misses range) (take n list)
 take_missed range zero list all = All-nil (Misses range)
@@ -51,11 +50,10 @@ pub not_all : (s f l t g m : ℕ) → g ≤ m → (eqb s t && leb f m && leb g l
 not_all s f l t g m some apart = grind (arith, nat_tests)
 
 pub counts_none : (range : Range) (entry : Entry) → range.first ≤ range.last → Misses range entry → counts range entry ≡ false
-counts_none range (entries.Held held) some misses = misses
-counts_none range (entries.Refused refused) some misses = misses
 counts_none range (entries.Carried carried) some misses =
     not_all carried.range.table carried.range.first carried.range.last range.table range.first range.last some misses
 counts_none range (entries.Joined joined) some misses = refl
+counts_none range _ some misses = misses
 
 pub counting_none : (range : Range) (list : List Entry) → range.first ≤ range.last → All (Misses range) list → counting range list ≡ []
 counting_none range [] some all = refl
@@ -69,10 +67,8 @@ counting_none range (entry ∷ list) some all =
 
 -- nor names side segments
 pub names_none : (range : Range) (entry : Entry) → Misses range entry → named_by range entry ≡ []
-names_none range (entries.Held held) misses = refl
-names_none range (entries.Refused refused) misses = refl
-names_none range (entries.Carried carried) misses = refl
 names_none range (entries.Joined joined) misses = ap (λ (b : Bool). cond b joined.segments []) misses
+names_none range _ misses = refl
 
 pub all_names_none : (range : Range) (list : List Entry) → All (Misses range) list → flat_map (named_by range) list ≡ []
 all_names_none range [] all = refl
@@ -87,10 +83,8 @@ material_none range side list some all =
 
 -- nor joins
 pub joins_none : (range : Range) (entry : Entry) → Misses range entry → is_joined_in range entry ≡ false
-joins_none range (entries.Held held) misses = refl
-joins_none range (entries.Refused refused) misses = refl
-joins_none range (entries.Carried carried) misses = refl
 joins_none range (entries.Joined joined) misses = misses
+joins_none range _ misses = refl
 
 pub joined_none : (range : Range) (list : List Entry) → All (Misses range) list → filter (is_joined_in range) list ≡ []
 joined_none range [] all = refl

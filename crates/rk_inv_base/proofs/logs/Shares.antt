@@ -141,30 +141,25 @@ counts_call range call (entries.Held held) own =
     sym (ap (λ (table : ℕ). has_key range table call.key) own.table_is ∙ ap (has_key range held.table) own.key_is)
 counts_call range call (entries.Refused refused) own =
     sym (ap (λ (table : ℕ). has_key range table call.key) own.table_is ∙ ap (has_key range refused.table) own.key_is)
-counts_call range call (entries.Carried carried) own = absurd own
-counts_call range call (entries.Joined joined) own = absurd own
+counts_call range call _ own = absurd own
 
 pub touches_call : (range : Range) (call : Call) (entry : Entry) → IsEntryOf call entry → touches range entry ≡ counts range entry
-touches_call range call (entries.Held held) own = refl
-touches_call range call (entries.Refused refused) own = refl
 touches_call range call (entries.Carried carried) own = absurd own
 touches_call range call (entries.Joined joined) own = absurd own
+touches_call range call _ own = refl
 
 -- it names no side segment, and is no Joined
 pub names_call : (range : Range) (call : Call) (entry : Entry) → IsEntryOf call entry → named_by range entry ≡ []
-names_call range call (entries.Held held) own = refl
-names_call range call (entries.Refused refused) own = refl
 names_call range call (entries.Carried carried) own = absurd own
 names_call range call (entries.Joined joined) own = absurd own
+names_call range call _ own = refl
 
 pub segments_call : (call : Call) (entry : Entry) → IsEntryOf call entry → segments_in entry ≡ []
-segments_call call (entries.Held held) own = refl
-segments_call call (entries.Refused refused) own = refl
 segments_call call (entries.Carried carried) own = absurd own
 segments_call call (entries.Joined joined) own = absurd own
+segments_call call _ own = refl
 
 pub joins_call : (range : Range) (call : Call) (entry : Entry) → IsEntryOf call entry → is_joined_in range entry ≡ false
-joins_call range call (entries.Held held) own = refl
-joins_call range call (entries.Refused refused) own = refl
 joins_call range call (entries.Carried carried) own = absurd own
 joins_call range call (entries.Joined joined) own = absurd own
+joins_call range call _ own = refl

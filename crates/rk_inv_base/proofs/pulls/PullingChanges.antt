@@ -1,14 +1,15 @@
 -- A view stays sound when what is pulled of a tablet goes on: no more of the source's items count as arrived than have arrived. The
 -- token, the count of batches and the hashes may change; the items that were pulled stay.
-use Rattle.std.proofs.Common.{◌≡◌, ℕ, true, List, [], ◌∷◌, sym, ap, ◌∙◌, subst, refl, ⊎_elim, ◌⊎◌, inl, inr, slice_index_or, Contains}
-use Rattle.rk_inv_base.proofs.Words.{Contains-get_or, get, Token, Member, passed, lineage_of, Row, Hashes, contains, Pulling, GoesOn}
-use Rattle.rk_inv_base.proofs.Words.{IsPulling, source_items, MembersFit, View, ReceivesOf, SoundView}
+use Rattle.std.proofs.Common.{◌≡◌, ℕ, true, List, [], ◌∷◌, sym, ap, ◌∙◌, subst, ⊎_elim, ◌⊎◌, inl, inr, Contains}
+use Rattle.rk_inv_base.proofs.Words.{get, Token, Member, passed, lineage_of, Row, Hashes, contains, Pulling, GoesOn, IsPulling}
+use Rattle.rk_inv_base.proofs.Words.{source_items, View, SoundView}
 use Rattle.rk_table.specs.Order.{item_hash}
 use Rattle.rk_sound.specs.Moves.{MayGoOn}
 use Rattle.rk_sound.specs.Small.{gone_on, pulled}
 use Rattle.rk_inv_base.proofs.rows.Apart.{same_number}
 use Rattle.rk_inv_base.proofs.views.Put.{put2_by}
 use Rattle.rk_inv_base.proofs.calls.Receives.{IsTargetIn}
+use Rattle.rk_inv_base.proofs.views.WithRecords.{view_with_pullings}
 
 module _ (v : View) (token : Pulling → Token) (batches : Pulling → ℕ) (hashes : Pulling → Hashes) (row : Row) (source target : Member) where
   -- what was pulled, and what is pulled now
@@ -54,45 +55,13 @@ module _ (v : View) (master number : ℕ) (token : Pulling → Token) (batches :
   abbrev now : View
   now = pulled v master number change
 
-  members : (row : Row) → Contains v.rows row → (lineage : List Member) → lineage_of row.phase ≡ lineage → MembersFit row v.written v.handovers v.pullings v.records v.handed lineage → MembersFit row v.written v.handovers now.pullings v.records v.handed lineage
-  members row has [] is fit = tt
-  members row has (only ∷ []) is fit = tt
-  members row has (source ∷ target ∷ []) is fit = λ granted.
-      put2_by v.pullings master number change (IsTargetWith v token batches hashes row source target) target.master row.tablet
-      (λ at its.
-      target_goes_on v token batches hashes row source target (may row source target has at its is) (fit granted))
-      (λ apart. fit granted)
-  members row has (source ∷ target ∷ third ∷ more) is fit = tt
-
-  receives : ReceivesOf now
-  receives = record {
-    targets = λ k d within.
-        let row : Row = slice_index_or v.rows k d in
-        members row (Contains-get_or v.rows k d within) (lineage_of row.phase) refl (sound.receives.targets k d within);
-    handed_on = sound.receives.handed_on;
-    bare = sound.receives.bare;
-    named = sound.receives.named;
-  }
-
   pub view_goes_on : SoundView now
-  view_goes_on = record {
-    nodes = sound.nodes;
-    rows = sound.rows;
-    terms = sound.terms;
-    cover = sound.cover;
-    roles = sound.roles;
-    logs = sound.logs;
-    truth = sound.truth;
-    order = sound.order;
-    calls = sound.calls;
-    counters = sound.counters;
-    rest = sound.rest;
-    records = sound.records;
-    receives = receives;
-    rebuilds = sound.rebuilds;
-    messages = sound.messages;
-    asked = sound.asked;
-  }
+  view_goes_on =
+      view_with_pullings v now.pullings sound
+      (λ row has source target is granted was.
+      put2_by v.pullings master number change (IsTargetWith v token batches hashes row source target) target.master row.tablet
+      (λ at its. target_goes_on v token batches hashes row source target (may row source target has at its is) was)
+      (λ apart. was))
 
 -- where neither the token changes nor what was resolved, no more counts as arrived
 pub none_arrives : (v : View) (master number : ℕ) (batches : Pulling → ℕ) (hashes : Pulling → Hashes) → ((p : Pulling) → (hashes p).resolved ≡ p.hashes.resolved) → MayGoOn v master number (gone_on (λ p. p.token) batches hashes)

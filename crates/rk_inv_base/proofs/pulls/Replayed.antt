@@ -1,19 +1,14 @@
 -- A view stays sound when a target replays an item of its source: the item goes into the records, where it is newer than what is there,
 -- and to the items that the target copied.
-use Rattle.std.proofs.Common.{◌≡◌, ℕ, ◌<◌, true, false, cond, List, [], ◌∷◌, refl, sym, ap, ◌∙◌, subst, ⊎_elim, inl, arith, ◌==◌, IfSome}
-use Rattle.std.proofs.Common.{slice_index_or, All, Contains, eq-eqb}
-use Rattle.rk_inv_base.proofs.Words.{cond_both, cond-true, false≢true, All-contains, Contains-get_or, IfSome_then, hash_of, get, meets}
-use Rattle.rk_inv_base.proofs.Words.{Held, Member, Range, order_after, is_in, with_newer, IsInScanOrder, Handover, Role, lineage_of, Phase}
-use Rattle.rk_inv_base.proofs.Words.{Owned, Opening, Moving, Rebuilding, Row, known_of, items_of, first_of, is_member, unmarked_from}
-use Rattle.rk_inv_base.proofs.Words.{Master, tablet_at, side_entries, item_replayed, with_pulled, with_pulling, own_place, is_absent}
-use Rattle.rk_inv_base.proofs.Words.{is_receiving, Pulling, Tablet, World, master_at, applied_entries, member_material, member_truth}
-use Rattle.rk_inv_base.proofs.Words.{IsItemWithin, stored_of, source_items, Post, Owner, OpeningSource, InvitedTarget, ReadyTarget}
-use Rattle.rk_inv_base.proofs.Words.{MovingSource, MovingTarget, OnlyRebuilder, FirstRebuilder, LastRebuilder, OutsideRebuilder}
-use Rattle.rk_inv_base.proofs.Words.{FormerMember, Bystander, StillCounts, Holds, bond_of, post_of, rebuilder_post, IsRebuilder, NeededOf}
-use Rattle.rk_inv_base.proofs.Words.{READ_BACKUP, RowIsRebuilt, IsBare, MembersFit, wanted_place, RoleFits, put, put2, HasItems}
-use Rattle.rk_inv_base.proofs.Words.{has_all_items, View, view, truths, CoverOf, IsSound, ReceivesOf, RebuildsOf, SoundView, TablesOf}
+use Rattle.std.proofs.Common.{◌≡◌, ℕ, ◌<◌, true, false, List, [], ◌∷◌, refl, sym, ap, ◌∙◌, subst, ⊎_elim, inl, arith, IfSome, All, Contains}
+use Rattle.rk_inv_base.proofs.Words.{false≢true, All-contains, IfSome_then, hash_of, get, meets, Held, Member, Range, order_after, is_in}
+use Rattle.rk_inv_base.proofs.Words.{with_newer, IsInScanOrder, Handover, Role, lineage_of, Phase, Rebuilding, Row, items_of, first_of}
+use Rattle.rk_inv_base.proofs.Words.{is_member, unmarked_from, Master, tablet_at, side_entries, item_replayed, with_pulled, with_pulling}
+use Rattle.rk_inv_base.proofs.Words.{is_absent, is_receiving, Pulling, Tablet, World, master_at, applied_entries, member_material}
+use Rattle.rk_inv_base.proofs.Words.{member_truth, IsItemWithin, source_items, Post, Owner, OpeningSource, MovingSource, OnlyRebuilder}
+use Rattle.rk_inv_base.proofs.Words.{FirstRebuilder, Holds, bond_of, post_of, IsBare, wanted_place, put, put2, HasItems, has_all_items}
+use Rattle.rk_inv_base.proofs.Words.{View, view, IsSound, SoundView, is_granted}
 use Rattle.rk_transfer.specs.declared.role.Role.TheVariants as roles
-use Rattle.rk_tablet_map.specs.Phase.{member as member_at}
 use Rattle.rk_world.specs.Master.{with_item}
 use Rattle.rk_sound.specs.Moves.{MayReplay}
 use Rattle.rk_sound.specs.Small.{item_replayed_in, replayed}
@@ -25,8 +20,11 @@ use Rattle.rk_inv_base.proofs.views.Masters.{tablet_apart, tablet_here}
 use Rattle.rk_inv_base.proofs.views.Put.{put_by, put_same, put2_by, put2_same}
 use Rattle.rk_inv_base.proofs.calls.Rebuilders.{last_member}
 use Rattle.rk_inv_base.proofs.calls.Receives.{IsBareOf, IsTargetIn}
+use Rattle.rk_inv_base.proofs.rows.Heirs.{not_begun}
+use Rattle.rk_inv_base.proofs.views.WithRecords.{IsTargetOf, RebuildsWith, view_with_kept}
 use Rattle.rk_inv_base.proofs.calls.Records.{found_still, material_in, newer_cases, scanned_from}
 use Rattle.rk_inv_base.proofs.views.Views.{view_master}
+use Rattle.rk_inv_base.proofs.views.ByRows.{row_in}
 
 -- ---- what a post says of a master that pulls
 
@@ -34,37 +32,14 @@ use Rattle.rk_inv_base.proofs.views.Views.{view_master}
 pub receiving_lacks : (post : Post) (handover : Handover) (term own applied : ℕ) → Holds (bond_of post roles.Receiving) term own applied → has_all_items post handover term ≡ false
 receiving_lacks (Owner place) handover term own applied holds = absurd holds
 receiving_lacks OpeningSource handover term own applied holds = absurd holds
-receiving_lacks InvitedTarget handover term own applied holds = refl
-receiving_lacks (ReadyTarget place) handover term own applied holds = refl
 receiving_lacks MovingSource handover term own applied holds = absurd holds
-receiving_lacks (MovingTarget place) handover term own applied holds = refl
 receiving_lacks (OnlyRebuilder place) handover term own applied holds = absurd holds
 receiving_lacks (FirstRebuilder place) handover term own applied holds = absurd holds
-receiving_lacks (LastRebuilder place) handover term own applied holds = refl
-receiving_lacks OutsideRebuilder handover term own applied holds = refl
-receiving_lacks FormerMember handover term own applied holds = refl
-receiving_lacks Bystander handover term own applied holds = refl
+receiving_lacks _ handover term own applied holds = refl
 
 -- and if it is to rebuild the tablet, it has not begun
-pub heir_receives : (lineage : List Member) (master term own applied : ℕ) → Holds (bond_of (rebuilder_post lineage master) roles.Receiving) term own applied → own < term
-heir_receives [] master term own applied = λ holds. absurd holds
-heir_receives (only ∷ []) master term own applied =
-    cond_both (only.master == master) (OnlyRebuilder only.from) OutsideRebuilder
-    (λ (post : Post). Holds (bond_of post roles.Receiving) term own applied → own < term) (λ e holds. absurd holds) (λ e holds. absurd holds)
-heir_receives (first ∷ last ∷ more) master term own applied =
-    cond_both (first.master == master) (FirstRebuilder first.from)
-    (cond (last.master == master) (LastRebuilder last.from) OutsideRebuilder)
-    (λ (post : Post). Holds (bond_of post roles.Receiving) term own applied → own < term) (λ e holds. absurd holds)
-    (λ e.
-    cond_both (last.master == master) (LastRebuilder last.from) OutsideRebuilder
-    (λ (post : Post). Holds (bond_of post roles.Receiving) term own applied → own < term) (λ e holds. holds) (λ e holds. absurd holds))
-
 pub receiving_behind : (lineage : List Member) (master term own applied : ℕ) → Holds (bond_of (post_of (Rebuilding lineage master) master) roles.Receiving) term own applied → own < term
-receiving_behind lineage master term own applied holds =
-    heir_receives lineage master term own applied
-    (subst (λ (post : Post). Holds (bond_of post roles.Receiving) term own applied)
-    (cond-true (master == master) (rebuilder_post lineage master)
-    (cond (is_member lineage master) FormerMember Bystander) (eq-eqb master master refl)) holds)
+receiving_behind lineage master term own applied holds = not_begun lineage master roles.Receiving term own applied refl holds
 
 -- what waits is not absent, and does not pull
 pub waits_apart : (role : Role) (P Q : ℕ → Type 0) → (is_absent role ≡ false → is_receiving role ≡ false → (from : ℕ) → P from → Q from) → IfSome (wanted_place role) P → IfSome (wanted_place role) Q
@@ -105,18 +80,12 @@ module _ (v : View) (row : Row) (source target : Member) (worker : ℕ) (item : 
   fits =
       subst (λ (role : Role). Holds (bond_of (post_of row.phase target.master) role) row.term kept.term (v.written target.master).applied)
       may.pulling.receiving
-      (All-contains
-      (λ (r : Row). StillCounts (v.live target.master) (v.handovers target.master r.tablet).term r.term
-      → RoleFits r target.master (v.handovers target.master r.tablet) (v.written target.master).applied) v.rows row
-      (sound.roles.fitting target.master) may.pulling.has_row (inl may.pulling.lives))
+      ((row_in v sound row may.pulling.has_row).fitting target.master (inl may.pulling.lives))
 
   -- it keeps the row's range
   ranged : kept.range ≡ row.range
   ranged =
-      All-contains
-      (λ (r : Row). StillCounts (v.live target.master) (v.handovers target.master r.tablet).term r.term
-      → is_member (lineage_of r.phase) target.master ≡ true → (v.handovers target.master r.tablet).range ≡ r.range)
-      v.rows row (sound.roles.ranged target.master) may.pulling.has_row (inl may.pulling.lives)
+      (row_in v sound row may.pulling.has_row).ranged target.master (inl may.pulling.lives)
       (ap (λ (members : List Member). is_member members target.master) may.pulling.lineage_is
       ∙ last_member (source ∷ target ∷ []) target target.master refl refl)
 
@@ -125,26 +94,16 @@ module _ (v : View) (row : Row) (source target : Member) (worker : ℕ) (item : 
   within_rows : IsItemWithin v.rows item
   within_rows = covered_by v.rows row item.table (hash_of item.key) may.pulling.has_row inside
 
-  cover : CoverOf now
-  cover = record {
-    unknown = sound.cover.unknown;
-    marks = sound.cover.marks;
-    sent = sound.cover.sent;
-    ranges = sound.cover.ranges;
-    ordered = sound.cover.ordered;
-    entries = sound.cover.entries;
-    sides = sound.cover.sides;
-    items = λ q.
-        by_records (All (IsItemWithin v.rows)) q
-        (λ at.
-        all_by (IsItemWithin v.rows) (with_newer item (v.records q))
-        (λ x stands.
-        ⊎_elim (λ (is : item ≡ x). subst (IsItemWithin v.rows) is within_rows)
-        (λ (old : Contains (v.records q) x). All-contains (IsItemWithin v.rows) (v.records q) x (sound.cover.items q) old)
-        (newer_cases item (v.records q) x stands)))
-        (λ apart. sound.cover.items q);
-    wholes = sound.cover.wholes;
-  }
+  within : (q : ℕ) → All (IsItemWithin v.rows) (now.records q)
+  within q =
+      by_records (All (IsItemWithin v.rows)) q
+      (λ at.
+      all_by (IsItemWithin v.rows) (with_newer item (v.records q))
+      (λ x stands.
+      ⊎_elim (λ (is : item ≡ x). subst (IsItemWithin v.rows) is within_rows)
+      (λ (old : Contains (v.records q) x). All-contains (IsItemWithin v.rows) (v.records q) x (sound.cover.items q) old)
+      (newer_cases item (v.records q) x stands)))
+      (λ apart. sound.cover.items q)
 
   -- ---- tables
 
@@ -160,22 +119,15 @@ module _ (v : View) (row : Row) (source target : Member) (worker : ℕ) (item : 
       λ i. has_all_items (post_of (same i).phase (at i)) (v.handovers (at i) (same i).tablet) (same i).term in
       false≢true (sym lacks ∙ sym one ∙ all)
 
-  tables : TablesOf now
-  tables = record {
-    ordered = λ q.
-        by_records IsInScanOrder q (λ at. order_after item (v.records q) (sound.records.ordered q)) (λ apart. sound.records.ordered q);
-    items = λ q lives k d within all.
-        let other : Row = slice_index_or v.rows k d in
-        let has : Contains v.rows other = Contains-get_or v.rows k d within in
-        let old : HasItems other v.written (v.records q) = sound.records.items q lives k d within all in
-        by_records (HasItems other v.written) q
-        (λ at.
-        IfSome_then (first_of (lineage_of other.phase)) old
-        (λ member table.
-        table_beside other.range item (v.records q) (outside other has (has_other other has q at all))
-        (member_truth v.written other.range member) table))
-        (λ apart. old);
-  }
+  items : (q : ℕ) → v.live q ≡ true → (other : Row) → Contains v.rows other → has_all_items (post_of other.phase q) (v.handovers q other.tablet) other.term ≡ true → HasItems other v.written (v.records q) → HasItems other v.written (now.records q)
+  items q lives other has all old =
+      by_records (HasItems other v.written) q
+      (λ at.
+      IfSome_then (first_of (lineage_of other.phase)) old
+      (λ member table.
+      table_beside other.range item (v.records q) (outside other has (has_other other has q at all))
+      (member_truth v.written other.range member) table))
+      (λ apart. old)
 
   -- ---- targets
 
@@ -220,19 +172,16 @@ module _ (v : View) (row : Row) (source target : Member) (worker : ℕ) (item : 
         last.from (v.written last.master) (v.handovers last.master other.tablet) (get v.handed other.tablet) table was item
         (sound.records.ordered last.master) (outside other has apart) old
 
-  members : (other : Row) → Contains v.rows other → (lineage : List Member) → lineage_of other.phase ≡ lineage → MembersFit other v.written v.handovers v.pullings v.records v.handed lineage → MembersFit other v.written v.handovers now.pullings now.records v.handed lineage
-  members other has [] is fit = tt
-  members other has (only ∷ []) is fit = tt
-  members other has (first ∷ last ∷ []) is fit = λ granted.
+  targets : (other : Row) → Contains v.rows other → (first last : Member) → lineage_of other.phase ≡ first ∷ last ∷ [] → is_granted (v.handovers last.master other.tablet).role ≡ true → IsTargetOf v v other first last → IsTargetOf v now other first last
+  targets other has first last is granted old =
       put2_by v.pullings target.master row.tablet (λ pulling. with_pulled pulling worker item)
       (λ (pulling : Pulling). IsTargetWith other first last pulling (now.records last.master)) last.master other.tablet
       (λ at its.
       by_records (IsTargetWith other first last (with_pulled (v.pullings last.master other.tablet) worker item)) last.master
-      (λ _. replays other has first last its is (fit granted)) (λ other_one. absurd (other_one at)))
+      (λ _. replays other has first last its is old) (λ other_one. absurd (other_one at)))
       (λ apart.
       by_records (IsTargetWith other first last (v.pullings last.master other.tablet)) last.master
-      (λ at. beside other has first last (apart at) (fit granted)) (λ _. fit granted))
-  members other has (first ∷ second ∷ third ∷ more) is fit = tt
+      (λ at. beside other has first last (apart at) old) (λ _. old))
 
   -- ---- masters that made ready
 
@@ -260,28 +209,9 @@ module _ (v : View) (row : Row) (source target : Member) (worker : ℕ) (item : 
       (sym at) (bare_here r) bare)
       (λ apart. bare)
 
-  receives : ReceivesOf now
-  receives = record {
-    targets = λ k d within.
-        let other : Row = slice_index_or v.rows k d in
-        members other (Contains-get_or v.rows k d within) (lineage_of other.phase) refl (sound.receives.targets k d within);
-    handed_on = sound.receives.handed_on;
-    bare = λ q r. bare_after q r (sound.receives.bare q r);
-    named = sound.receives.named;
-  }
-
   -- ---- rebuilds
 
-  -- a master that rebuilds a row, with these records
-  abbrev IsRebuilderWith : Row → List Member → ℕ → List Held → Type 0
-  IsRebuilderWith other lineage to records =
-      IsRebuilder other lineage to (truths v other)
-      (member_material v.written other.range (member_at to (own_place (v.handovers to other.tablet).role)))
-      (NeededOf other v.written lineage)
-      (λ q. known_of (v.logs q) READ_BACKUP) (λ q. stored_of v.stored q READ_BACKUP) (v.written to)
-      (v.handovers to other.tablet) (v.completions to other.tablet) (v.gathers to other.tablet) (v.merged to other.tablet) records
-
-  rebuilder_beside : (other : Row) (lineage : List Member) (to : ℕ) → is_in other.range item ≡ false → IsRebuilderWith other lineage to (v.records to) → IsRebuilderWith other lineage to (with_newer item (v.records to))
+  rebuilder_beside : (other : Row) (lineage : List Member) (to : ℕ) → is_in other.range item ≡ false → RebuildsWith v other lineage to (v.records to) → RebuildsWith v other lineage to (with_newer item (v.records to))
   rebuilder_beside other lineage to apart old = record {
     range_is = old.range_is;
     gather = old.gather;
@@ -316,48 +246,17 @@ module _ (v : View) (row : Row) (source target : Member) (worker : ℕ) (item : 
       sym (λ i. (v.handovers (at i) (same i).tablet).term) ∙ term ∙ ap (λ (r : Row). r.term) same in
       omega (arith, behind, equal)
 
-  rebuilt_on : (other : Row) → Contains v.rows other → (phase : Phase) → other.phase ≡ phase
-      → RowIsRebuilt other phase (truths v other) v.logs v.written v.stored v.handovers v.completions v.gathers v.merged v.records v.live
-      → RowIsRebuilt other phase (truths v other) v.logs v.written v.stored v.handovers v.completions v.gathers v.merged now.records v.live
-  rebuilt_on other has (Rebuilding lineage to) is says = (
-    λ term.
-        by_records (IsRebuilderWith other lineage to) to
-        (λ at. rebuilder_beside other lineage to (outside other has (not_rebuilt other has lineage to is at term)) (says.0 term))
-        (λ apart. says.0 term),
-    says.1,
-  )
-  rebuilt_on other has (Owned owner from) is says = tt
-  rebuilt_on other has (Opening giver gfrom taker tfrom) is says = tt
-  rebuilt_on other has (Moving giver gfrom taker tfrom) is says = tt
-
-  rebuilds : RebuildsOf now (truths v)
-  rebuilds = record {
-    rebuilt = λ k d within.
-        let other : Row = slice_index_or v.rows k d in
-        rebuilt_on other (Contains-get_or v.rows k d within) other.phase refl (sound.rebuilds.rebuilt k d within);
-    marks = sound.rebuilds.marks;
-    pieces = sound.rebuilds.pieces;
-  }
-
   pub view_replayed : SoundView now
-  view_replayed = record {
-    nodes = sound.nodes;
-    rows = sound.rows;
-    terms = sound.terms;
-    cover = cover;
-    roles = sound.roles;
-    logs = sound.logs;
-    truth = sound.truth;
-    order = sound.order;
-    calls = sound.calls;
-    counters = sound.counters;
-    rest = sound.rest;
-    records = tables;
-    receives = receives;
-    rebuilds = rebuilds;
-    messages = sound.messages;
-    asked = sound.asked;
-  }
+  view_replayed = view_with_kept v now.records now.pullings v.gathers sound (record {
+    within = within;
+    ordered = λ q. by_records IsInScanOrder q (λ at. order_after item (v.records q) (sound.records.ordered q)) (λ apart. sound.records.ordered q);
+    items = items;
+    targets = targets;
+    bare = bare_after;
+    rebuilders = λ other has lineage to is term old.
+        by_records (RebuildsWith v other lineage to) to
+        (λ at. rebuilder_beside other lineage to (outside other has (not_rebuilt other has lineage to is at term)) old) (λ apart. old);
+  })
 
 -- ---- the world
 

@@ -1,13 +1,13 @@
 -- A lane stays sound when a rebuild gathers the segment that it awaits, where what was read is a first part of what is stored that
 -- holds all that its master knew to be stored, and all that is needed.
 use Rattle.std.proofs.Common.{◌≡◌, ℕ, ◌<◌, ◌≤◌, Bool, true, false, List, [], ◌∷◌, ◌++◌, length, refl, sym, ap, ◌∙◌, subst, ⊎_elim, arith}
-use Rattle.std.proofs.Common.{not, ◌==◌, All, Contains, ltb-true, lt-ltb, length-append}
-use Rattle.rk_inv_base.proofs.Words.{cases_lt, or_right, get_or_past, All-contains, All-weaker, Member, Entry, FIRST_SIDE_SEGMENT, Phase}
-use Rattle.rk_inv_base.proofs.Words.{Rebuilding, Row, Known, known_length, nothing, IsBackup, Log, bytes_of, known_of, EntryEnd}
-use Rattle.rk_inv_base.proofs.Words.{CopySegment, Gather, is_member, names, IsMaster, World, Written, member_material, Mark, IsCopy}
-use Rattle.rk_inv_base.proofs.Words.{is_main, stored_of, IsGathered, IsReadPart, MarkFits, MarkedFit, NeededOf, READ_BACKUP, RowIsRebuilt}
-use Rattle.rk_inv_base.proofs.Words.{member_given_up, member_marked, member_stored, stored_count, IsFormed, segment_gathered_in, View, view}
-use Rattle.rk_inv_base.proofs.Words.{truths, IsSound, SoundView}
+use Rattle.std.proofs.Common.{not, ◌==◌, Contains, ltb-true, lt-ltb, length-append}
+use Rattle.rk_inv_base.proofs.Words.{cases_lt, or_right, get_or_past, All-weaker, Member, Entry, FIRST_SIDE_SEGMENT, Phase, Rebuilding, Row}
+use Rattle.rk_inv_base.proofs.Words.{Known, known_length, nothing, IsBackup, Log, bytes_of, known_of, EntryEnd, CopySegment, Gather}
+use Rattle.rk_inv_base.proofs.Words.{is_member, names, IsMaster, World, Written, member_material, Mark, IsCopy, is_main, stored_of}
+use Rattle.rk_inv_base.proofs.Words.{IsGathered, IsReadPart, MarkFits, MarkedFit, NeededOf, READ_BACKUP, RowIsRebuilt, member_given_up}
+use Rattle.rk_inv_base.proofs.Words.{member_marked, member_stored, stored_count, IsFormed, segment_gathered_in, View, view, truths, IsSound}
+use Rattle.rk_inv_base.proofs.Words.{SoundView}
 use Rattle.rk_outside.specs.Segments.{bytes_of as read_bytes}
 use Rattle.rk_world.specs.Gather.{with_segment}
 use Rattle.rk_sound.specs.Rebuilds.{IsGatherOf}
@@ -19,6 +19,7 @@ use Rattle.rk_inv_base.proofs.views.Needed.{AreAmong, IsStoredEnd, among_then, e
 use Rattle.rk_inv_base.proofs.rebuilds.GatheringChanges.{view_gathers_on}
 use Rattle.rk_inv_base.proofs.logs.Segments.{bytes_before}
 use Rattle.rk_inv_base.proofs.views.Views.{view_gathered}
+use Rattle.rk_inv_base.proofs.views.ByRows.{row_in}
 
 -- of a copy where nothing of a main segment is known to be stored, nothing is stored of a later one
 pub copy_none_stored : (log : Log) (stored : ℕ → List ℕ) (known : Known) → IsCopy log stored known → (earlier later : ℕ) → 1 ≤ earlier → earlier < later → is_main later ≡ true → known_length known earlier ≡ 0 → 0 < length (stored later) → ⊥
@@ -76,15 +77,10 @@ module _ (v : View) (row : Row) (lineage : List Member) (own : ℕ) (sound : Sou
           living_among row first.from (v.written first.master) (told_of first last)
           (All-weaker (λ (mark : Mark). mark.tablet ≡ row.tablet → Fits mark) (λ (mark : Mark). mark.tablet ≡ row.tablet → mark.term ≡ row.term)
           (λ (mark : Mark) fits its. let told = fits its in told.present lives) (v.written first.master).marks
-          (All-contains
-          (λ (r : Row). All (λ mark. mark.tablet ≡ r.tablet
-          → MarkFits r first.master (v.handovers first.master r.tablet) (v.live first.master) (v.written first.master) mark) (v.written first.master).marks)
-          v.rows row (sound.rebuilds.marks first.master) has))
+          ((row_in v sound row has).marks first.master))
 
   -- so backup 1 stores what is needed
   pub needed_stored : (members : List Member) → MarkedFit v.logs v.written v.stored v.live row.range members → (q : ℕ) (end : EntryEnd) → NeededOf row v.written members q end → IsStoredEnd (stored_of v.stored q READ_BACKUP) end
-  needed_stored [] fit q end needed = absurd needed
-  needed_stored (only ∷ []) fit q end needed = absurd needed
   needed_stored (first ∷ last ∷ []) fit q end needed =
       let w : Written = v.written last.master in
       let log : Log = v.logs last.master in
@@ -96,13 +92,13 @@ module _ (v : View) (row : Row) (lineage : List Member) (own : ℕ) (sound : Sou
       (needed_within row.range (member_given_up v.written row first) (member_material v.written row.range first) last.from w needs.place
       needs.entry (stored_count log stored) needs.needed (given_up_told first last fit))
       needs.ends_there)
-  needed_stored (first ∷ second ∷ third ∷ more) fit q end needed = absurd needed
+  needed_stored _ fit q end needed = absurd needed
 
   -- each member is there, and knows of backup 1
   member_backed : (q : ℕ) → is_member lineage q ≡ true → IsBackup (v.logs q) READ_BACKUP
   member_backed q member =
       let named : names row.phase q ≡ true → IsMaster v.masters q =
-      All-contains (λ (r : Row). names r.phase q ≡ true → IsMaster v.masters q) v.rows row (sound.nodes.named q) has in
+      (row_in v sound row has).named q in
       let there : IsMaster v.masters q =
       named (ap (λ (phase : Phase). names phase q) is ∙ or_right (own == q) (is_member lineage q) member) in
       record { first = omega arith; last = omega (arith, sound.nodes.known q there, sound.nodes.backed) }
@@ -128,7 +124,7 @@ goes_on v row lineage own copy sound has phase term may =
     let stored : ℕ → ℕ → List ℕ = λ q. stored_of v.stored q READ_BACKUP in
     let rebuilt : RowIsRebuilt row (Rebuilding lineage own) (truths v row) v.logs v.written v.stored v.handovers v.completions v.gathers v.merged v.records v.live =
     subst (λ (p : Phase). RowIsRebuilt row p (truths v row) v.logs v.written v.stored v.handovers v.completions v.gathers v.merged v.records v.live) phase
-    (All-contains (λ (r : Row). RowIsRebuilt r r.phase (truths v r) v.logs v.written v.stored v.handovers v.completions v.gathers v.merged v.records v.live) v.rows row sound.rebuilds.rebuilt has) in
+    (row_in v sound row has).rebuilt in
     let was = rebuilt.0 term in
     let old : IsGatherOf gather row.range lineage own = was.gather in
     let Needed : ℕ → EntryEnd → Type 0 = NeededOf row v.written lineage in
@@ -139,7 +135,7 @@ goes_on v row lineage own copy sound has phase term may =
     (subst
     (λ (r : Row). IsReadPart (NeededOf r v.written gather.lineage copy.master) (known copy.master) (stored copy.master) copy.segment (read_bytes copy.bytes))
     same may.read) in
-    let apart = subst IsFormed phase (All-contains (λ (r : Row). IsFormed r.phase) v.rows row sound.rows.formed has) in
+    let apart = subst IsFormed phase (row_in v sound row has).formed in
     record {
       gathering = may.gathering;
       gather = record {

@@ -2,17 +2,18 @@
 -- was its alone.
 use Rattle.std.proofs.Common.{◌≡◌, ℕ, ◌<◌, ◌≤◌, true, false, List, [], ◌∷◌, Some, None, cond, eqb, refl, sym, ap, ◌∙◌, subst, ⊎_elim, inl}
 use Rattle.std.proofs.Common.{inr, arith, ◌==◌, eq-eqb}
-use Rattle.rk_inv_base.proofs.Words.{cond-true, cond_both, or_left, All-contains, Member, role_closed, Handover, Role, lineage_of, Phase}
-use Rattle.rk_inv_base.proofs.Words.{Owned, Opening, Moving, Rebuilding, Row, no_gather, is_member, is_absent, World, is_wanting, IsClosing}
-use Rattle.rk_inv_base.proofs.Words.{IsOnlyRebuilder, IsOwner, MayTakeRole, Post, Owner, OpeningSource, MovingSource, MovingTarget}
-use Rattle.rk_inv_base.proofs.Words.{OnlyRebuilder, FirstRebuilder, LastRebuilder, OutsideRebuilder, FormerMember, Bystander}
-use Rattle.rk_inv_base.proofs.Words.{rebuilder_post, target_post, post_of, bond_of, Holds, speaks, StillCounts, View, view, IsSound}
-use Rattle.rk_inv_base.proofs.Words.{SoundView}
+use Rattle.rk_inv_base.proofs.Words.{cond-true, cond_both, or_left, Member, role_closed, Handover, Role, lineage_of, Phase, Owned, Opening}
+use Rattle.rk_inv_base.proofs.Words.{Moving, Rebuilding, Row, no_gather, is_member, is_absent, World, is_wanting, IsClosing}
+use Rattle.rk_inv_base.proofs.Words.{IsOnlyRebuilder, IsOwner, MayTakeRole, Post, OpeningSource, OnlyRebuilder, FirstRebuilder}
+use Rattle.rk_inv_base.proofs.Words.{LastRebuilder, OutsideRebuilder, FormerMember, Bystander, rebuilder_post, target_post, post_of}
+use Rattle.rk_inv_base.proofs.Words.{bond_of, Holds, speaks, View, view, IsSound, SoundView}
 use Rattle.rk_transfer.specs.declared.role.Role.TheVariants as roles
 use Rattle.rk_sound.specs.Moves.{MayClose}
 use Rattle.rk_sound.specs.Small.{as_closing, tablet_closed_in}
 use Rattle.rk_inv_base.proofs.roles.RoleTaken.{view_role_taken}
 use Rattle.rk_inv_base.proofs.views.Views.{view_taken}
+use Rattle.rk_inv_base.proofs.views.ByRows.{row_in}
+use Rattle.rk_inv_base.proofs.rows.Heirs.{only_in_rebuild}
 
 -- ---- roles that may close
 
@@ -70,25 +71,12 @@ heir_alone (first ∷ last ∷ more) master heir =
     heir)
 
 pub rebuilder_alone : (phase : Phase) (master : ℕ) → IsOnlyRebuilder (post_of phase master) → IsAlone (lineage_of phase) master
-rebuilder_alone (Owned owner from) master heir =
-    absurd (cond_both (owner == master) (Owner from) Bystander (λ post. IsOnlyRebuilder post → ⊥) (λ e here. here) (λ e here. here) heir)
-rebuilder_alone (Opening source sfrom target None) master heir =
-    absurd
-    (cond_both (source == master) OpeningSource (cond (target == master) (target_post None) Bystander) (λ post. IsOnlyRebuilder post → ⊥) (λ e here. here)
-    (λ e. cond_both (target == master) (target_post None) Bystander (λ post. IsOnlyRebuilder post → ⊥) (λ e here. here) (λ e here. here)) heir)
-rebuilder_alone (Opening source sfrom target (Some dfrom)) master heir =
-    absurd
-    (cond_both (source == master) OpeningSource (cond (target == master) (target_post (Some dfrom)) Bystander) (λ post. IsOnlyRebuilder post → ⊥) (λ e here. here)
-    (λ e. cond_both (target == master) (target_post (Some dfrom)) Bystander (λ post. IsOnlyRebuilder post → ⊥) (λ e here. here) (λ e here. here)) heir)
-rebuilder_alone (Moving source sfrom target dfrom) master heir =
-    absurd
-    (cond_both (source == master) MovingSource (cond (target == master) (MovingTarget dfrom) Bystander) (λ post. IsOnlyRebuilder post → ⊥) (λ e here. here)
-    (λ e. cond_both (target == master) (MovingTarget dfrom) Bystander (λ post. IsOnlyRebuilder post → ⊥) (λ e here. here) (λ e here. here)) heir)
 rebuilder_alone (Rebuilding lineage to) master heir =
     cond_both (to == master) (rebuilder_post lineage master) (cond (is_member lineage master) FormerMember Bystander)
     (λ post. IsOnlyRebuilder post → IsAlone lineage master) (λ e. heir_alone lineage master)
     (λ e. cond_both (is_member lineage master) FormerMember Bystander (λ post. IsOnlyRebuilder post → IsAlone lineage master)
     (λ e here. absurd here) (λ e here. absurd here)) heir
+rebuilder_alone phase master heir = let found = only_in_rebuild phase master heir in absurd (cc found.2)
 
 pub rebuilder_closes : (post : Post) (term own applied : ℕ) → IsOnlyRebuilder post → own < term → Closes post term own applied
 rebuilder_closes (OnlyRebuilder place) term own applied heir below = record {
@@ -131,10 +119,7 @@ module _ (v : View) (row : Row) (master term : ℕ) (sound : SoundView v) (may :
 
   ranged : old.range ≡ row.range
   ranged =
-      All-contains
-      (λ (r : Row). StillCounts (v.live master) (v.handovers master r.tablet).term r.term
-      → is_member (lineage_of r.phase) master ≡ true → (v.handovers master r.tablet).range ≡ r.range)
-      v.rows row (sound.roles.ranged master) may.has_row (inl may.lives) alone.member
+      (row_in v sound row may.has_row).ranged master (inl may.lives) alone.member
 
   pub takes_role : MayTakeRole v row master (as_closing term old)
   takes_role = record {

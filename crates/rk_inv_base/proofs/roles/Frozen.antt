@@ -1,33 +1,26 @@
 -- A lane stays sound when a tablet freezes of which nothing is left to be applied.
-use Rattle.std.proofs.Common.{◌≡◌, ℕ, true, Option, Some, None, is_some, refl, sym, ap, ◌∙◌, subst, inl, arith, Contains}
-use Rattle.rk_inv_base.proofs.Words.{All-contains, Range, Handover, Role, number_of, lineage_of, row_of, Row, is_member, is_absent, World}
-use Rattle.rk_inv_base.proofs.Words.{is_wanting, IsSettledIn, MayTakeRole, Post, Owner, OpeningSource, InvitedTarget, ReadyTarget}
-use Rattle.rk_inv_base.proofs.Words.{MovingSource, MovingTarget, OnlyRebuilder, FirstRebuilder, LastRebuilder, OutsideRebuilder}
-use Rattle.rk_inv_base.proofs.Words.{FormerMember, Bystander, post_of, bond_of, Holds, StillCounts, RoleFits, as_frozen, HandoverFits, View}
-use Rattle.rk_inv_base.proofs.Words.{view, IsSound, SoundView}
+use Rattle.std.proofs.Common.{◌≡◌, ℕ, refl, sym, ap, ◌∙◌, subst, inl, arith, Contains}
+use Rattle.rk_inv_base.proofs.Words.{All-contains, Range, Handover, Role, Row, is_absent, World, is_wanting, IsSettledIn, MayTakeRole, Post}
+use Rattle.rk_inv_base.proofs.Words.{InvitedTarget, MovingSource, FirstRebuilder, OutsideRebuilder, Bystander, post_of, bond_of, Holds}
+use Rattle.rk_inv_base.proofs.Words.{as_frozen, HandoverFits, View, view, IsSound, SoundView}
 use Rattle.rk_transfer.specs.declared.role.Role.TheVariants as roles
 use Rattle.rk_sound.specs.Moves.{MayFreeze}
 use Rattle.rk_sound.specs.Small.{tablet_frozen_in}
 use Rattle.rk_inv_base.proofs.views.Alike.{alike_frozen, speaks_alike}
 use Rattle.rk_inv_base.proofs.roles.Freezing.{closing_member}
 use Rattle.rk_inv_base.proofs.roles.RoleTaken.{view_role_taken}
-use Rattle.rk_inv_base.proofs.rows.Serving.{found_stands}
+use Rattle.rk_inv_base.proofs.rows.Serving.{of_its_row}
 use Rattle.rk_inv_base.proofs.views.Views.{view_taken}
+use Rattle.rk_inv_base.proofs.views.ByRows.{row_in}
 
 -- a post that takes a role that closes takes a frozen one at the same terms
 pub fits_frozen : (post : Post) (term own applied : ℕ) → Holds (bond_of post roles.Closing) term own applied → Holds (bond_of post roles.Frozen) term own applied
-fits_frozen (Owner place) term own applied holds = holds
-fits_frozen OpeningSource term own applied holds = holds
 fits_frozen InvitedTarget term own applied holds = absurd holds
-fits_frozen (ReadyTarget place) term own applied holds = holds
 fits_frozen MovingSource term own applied holds = absurd holds
-fits_frozen (MovingTarget place) term own applied holds = holds
-fits_frozen (OnlyRebuilder place) term own applied holds = holds
 fits_frozen (FirstRebuilder place) term own applied holds = absurd holds
-fits_frozen (LastRebuilder place) term own applied holds = holds
 fits_frozen OutsideRebuilder term own applied holds = absurd holds
-fits_frozen FormerMember term own applied holds = holds
 fits_frozen Bystander term own applied holds = absurd holds
+fits_frozen _ term own applied holds = holds
 
 module _ (v : View) (row : Row) (master : ℕ) (sound : SoundView v) (has_row : Contains v.rows row) (may : MayFreeze v master row.tablet) where
   abbrev old : Handover
@@ -39,16 +32,11 @@ module _ (v : View) (row : Row) (master : ℕ) (sound : SoundView v) (has_row : 
   closes : Holds (bond_of (post_of row.phase master) roles.Closing) row.term old.term applied
   closes =
       subst (λ (role : Role). Holds (bond_of (post_of row.phase master) role) row.term old.term applied) may.closing
-      (All-contains
-      (λ (r : Row). StillCounts (v.live master) (v.handovers master r.tablet).term r.term
-      → RoleFits r master (v.handovers master r.tablet) applied) v.rows row (sound.roles.fitting master) has_row (inl may.lives))
+      ((row_in v sound row has_row).fitting master (inl may.lives))
 
   ranged : old.range ≡ row.range
   ranged =
-      All-contains
-      (λ (r : Row). StillCounts (v.live master) (v.handovers master r.tablet).term r.term
-      → is_member (lineage_of r.phase) master ≡ true → (v.handovers master r.tablet).range ≡ r.range)
-      v.rows row (sound.roles.ranged master) has_row (inl may.lives) (closing_member row.phase master row.term old.term applied closes)
+      (row_in v sound row has_row).ranged master (inl may.lives) (closing_member row.phase master row.term old.term applied closes)
 
   within : HandoverFits row row.tablet old
   within = All-contains (λ (r : Row). HandoverFits r row.tablet old) v.rows row (sound.terms.kept master row.tablet) has_row
@@ -86,12 +74,5 @@ frozen_of_row w row master sound has may =
 -- each tablet that closes is
 pub sound_frozen : (w : World) (master number : ℕ) → IsSound w → MayFreeze (view w) master number → IsSound (tablet_frozen_in w master number)
 sound_frozen w master number sound may =
-    at (row_of (view w).rows number) refl (sound.roles.known master number may.lives (ap is_absent may.closing))
-  where
-    at : (found : Option Row) → row_of (view w).rows number ≡ found → is_some found ≡ true → IsSound (tablet_frozen_in w master number)
-    at None found some = absurd (cc)
-    at (Some row) found some =
-        let number_is : row.tablet ≡ number = number_of (view w).rows number row found in
-        subst (λ (n : ℕ). IsSound (tablet_frozen_in w master n)) number_is
-        (frozen_of_row w row master sound (found_stands (view w).rows number row found)
-        (subst (λ (n : ℕ). MayFreeze (view w) master n) (sym number_is) may))
+    of_its_row (view w) (λ n. MayFreeze (view w) master n → IsSound (tablet_frozen_in w master n)) sound.roles master number may.lives
+    (ap is_absent may.closing) (λ row has. frozen_of_row w row master sound has) may

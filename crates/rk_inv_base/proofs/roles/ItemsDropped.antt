@@ -1,23 +1,24 @@
 -- A view stays sound when a master that is frozen at a tablet, and not of its row's lineage, drops the items of the tablet's range.
-use Rattle.std.proofs.Common.{◌≡◌, ℕ, Bool, true, false, not, ◌||◌, List, [], ◌∷◌, Option, Some, None, refl, sym, ap, ◌∙◌, subst, inl}
-use Rattle.std.proofs.Common.{arith, ◌==◌, if◌then◌else◌, slice_index_or, All, Contains, eq-eqb}
-use Rattle.rk_inv_base.proofs.Words.{false≢true, or_left, or_right, All-contains, All-filter, Contains-get_or, filter_passes, IfSome_then}
-use Rattle.rk_inv_base.proofs.Words.{get, meets, Held, Member, Range, Entry, order_without, is_in, without, IsInScanOrder, Handover, Role}
-use Rattle.rk_inv_base.proofs.Words.{lineage_of, Phase, Owned, Opening, Moving, Rebuilding, Row, first_of, is_member, own_place, is_absent}
-use Rattle.rk_inv_base.proofs.Words.{applied_entries, member_truth, IsItemWithin, MayRelease, Post, Owner, OpeningSource, InvitedTarget}
-use Rattle.rk_inv_base.proofs.Words.{ReadyTarget, MovingSource, MovingTarget, OnlyRebuilder, FirstRebuilder, LastRebuilder}
-use Rattle.rk_inv_base.proofs.Words.{OutsideRebuilder, FormerMember, Bystander, rebuilder_post, target_post, post_of, bond_of, Holds}
-use Rattle.rk_inv_base.proofs.Words.{StillCounts, RowIsRebuilt, IsBare, MembersFit, is_granted, named_items, scan_items, wanted_place}
-use Rattle.rk_inv_base.proofs.Words.{RoleFits, HasItems, has_all_items, View, truths, CoverOf, RebuildsOf, ReceivesOf, SoundView, TablesOf}
+use Rattle.std.proofs.Common.{◌≡◌, ℕ, Bool, true, false, not, List, [], ◌∷◌, Option, Some, None, refl, sym, ap, ◌∙◌, subst, inl, arith}
+use Rattle.std.proofs.Common.{◌==◌, All, Contains, eq-eqb, if◌then◌else◌, ◌||◌}
+use Rattle.rk_inv_base.proofs.Words.{false≢true, or_left, or_right, All-contains, All-filter, filter_passes, IfSome_then, get, meets, Held}
+use Rattle.rk_inv_base.proofs.Words.{Member, Range, Entry, order_without, is_in, without, IsInScanOrder, Handover, Role, lineage_of, Phase}
+use Rattle.rk_inv_base.proofs.Words.{Owned, Opening, Moving, Rebuilding, Row, first_of, is_member, own_place, is_absent, applied_entries}
+use Rattle.rk_inv_base.proofs.Words.{member_truth, IsItemWithin, MayRelease, Post, Owner, OpeningSource, MovingSource, MovingTarget}
+use Rattle.rk_inv_base.proofs.Words.{OnlyRebuilder, FirstRebuilder, LastRebuilder, OutsideRebuilder, FormerMember, Bystander}
+use Rattle.rk_inv_base.proofs.Words.{rebuilder_post, target_post, post_of, bond_of, Holds, IsBare, is_granted, named_items, scan_items}
+use Rattle.rk_inv_base.proofs.Words.{wanted_place, RoleFits, HasItems, has_all_items, View, SoundView}
 use Rattle.rk_transfer.specs.declared.role.Role.TheVariants as roles
 use Rattle.rk_sound.specs.Moves.{is_steady}
 use Rattle.rk_sound.specs.Small.{items_dropped}
 use Rattle.rk_inv_base.proofs.views.Put.{put_by}
 use Rattle.rk_inv_base.proofs.rows.Apart.{same_number}
-use Rattle.rk_inv_base.proofs.logs.InRange.{IsIn, applied_in, found_still, none_left, received_still, scan_in, stood, table_still, target_in, truth_in}
+use Rattle.rk_inv_base.proofs.logs.InRange.{IsIn, applied_in, found_still, none_left, received_still, scan_in, stood, table_still}
+use Rattle.rk_inv_base.proofs.logs.InRange.{target_in, truth_in}
 use Rattle.rk_inv_base.proofs.calls.Receives.{IsTargetIn}
-use Rattle.rk_inv_base.proofs.calls.Rebuilds.{IsRebuilderIn}
+use Rattle.rk_inv_base.proofs.views.WithRecords.{RebuildsWith, view_with_kept}
 use Rattle.rk_inv_base.proofs.roles.Steady.{rebuilding_behind}
+use Rattle.rk_inv_base.proofs.views.ByRows.{row_in}
 
 -- ---- who has all items of a tablet
 
@@ -70,13 +71,7 @@ absent_has_none OpeningSource handover term applied has holds = holds
 absent_has_none MovingSource handover term applied has holds = holds
 absent_has_none (OnlyRebuilder place) handover term applied has holds = holds
 absent_has_none (FirstRebuilder place) handover term applied has holds = holds
-absent_has_none InvitedTarget handover term applied has holds = absurd (cc)
-absent_has_none (ReadyTarget place) handover term applied has holds = absurd (cc)
-absent_has_none (MovingTarget place) handover term applied has holds = absurd (cc)
-absent_has_none (LastRebuilder place) handover term applied has holds = absurd (cc)
-absent_has_none OutsideRebuilder handover term applied has holds = absurd (cc)
-absent_has_none FormerMember handover term applied has holds = absurd (cc)
-absent_has_none Bystander handover term applied has holds = absurd (cc)
+absent_has_none _ handover term applied has holds = absurd (cc)
 
 pub not_absent : (role : Role) → (role ≡ roles.Absent → ⊥) → is_absent role ≡ false
 not_absent roles.Absent none = absurd (none refl)
@@ -106,10 +101,7 @@ module _ (v : View) (row : Row) (master : ℕ) (sound : SoundView v) (may : MayR
   outside : (x : Row) → Contains v.rows x → (q : ℕ) → q ≡ master → (x.tablet ≡ row.tablet → ⊥) → is_absent (v.handovers q x.tablet).role ≡ false → is_member (lineage_of x.phase) q ≡ true → meets gone x.range ≡ false
   outside x has q at other there member =
       let kept : (v.handovers q x.tablet).range ≡ x.range =
-      All-contains
-      (λ (r : Row). StillCounts (v.live q) (v.handovers q r.tablet).term r.term
-      → is_member (lineage_of r.phase) q ≡ true → (v.handovers q r.tablet).range ≡ r.range)
-      v.rows x (sound.roles.ranged q) has (inl (ap v.live at ∙ may.lives)) member in
+      (row_in v sound x has).ranged q (inl (ap v.live at ∙ may.lives)) member in
       ap (meets gone) (sym kept) ∙ ap (λ (n : ℕ). meets gone (v.handovers n x.tablet).range) at
       ∙ apart x.tablet other (ap (λ (n : ℕ). is_absent (v.handovers n x.tablet).role) (sym at) ∙ there)
 
@@ -119,24 +111,7 @@ module _ (v : View) (row : Row) (master : ℕ) (sound : SoundView v) (may : MayR
   -- the role and the term of the master fit each row
   fits : (x : Row) → Contains v.rows x → (q : ℕ) → q ≡ master → RoleFits x q (v.handovers q x.tablet) (v.written q).applied
   fits x has q at =
-      All-contains
-      (λ (r : Row). StillCounts (v.live q) (v.handovers q r.tablet).term r.term
-      → RoleFits r q (v.handovers q r.tablet) (v.written q).applied)
-      v.rows x (sound.roles.fitting q) has (inl (ap v.live at ∙ may.lives))
-
-  cover : CoverOf now
-  cover = record {
-    unknown = sound.cover.unknown;
-    marks = sound.cover.marks;
-    sent = sound.cover.sent;
-    ranges = sound.cover.ranges;
-    ordered = sound.cover.ordered;
-    entries = sound.cover.entries;
-    sides = sound.cover.sides;
-    items = λ q.
-        by (All (IsItemWithin v.rows)) q (λ at. All-filter (λ item. not (is_in gone item)) (IsItemWithin v.rows) (v.records q)) (sound.cover.items q);
-    wholes = sound.cover.wholes;
-  }
+      (row_in v sound x has).fitting q (inl (ap v.live at ∙ may.lives))
 
   -- ---- records of a master that has all of a tablet
 
@@ -156,15 +131,6 @@ module _ (v : View) (row : Row) (master : ℕ) (sound : SoundView v) (may : MayR
       let none : meets gone x.range ≡ false = outside x has q at other there member in
       IfSome_then (first_of (lineage_of x.phase)) was
       (λ found. table_still gone x.range none (v.records q) (member_truth v.written x.range found))
-
-  tables : TablesOf now
-  tables = record {
-    ordered = λ q. by IsInScanOrder q (λ at. order_without gone (v.records q)) (sound.records.ordered q);
-    items = λ q lives k d within all.
-        let x : Row = slice_index_or v.rows k d in
-        by (HasItems x v.written) q (λ at. items_still x (Contains-get_or v.rows k d within) q at all)
-        (sound.records.items q lives k d within all);
-  }
 
   -- ---- targets
 
@@ -203,39 +169,7 @@ module _ (v : View) (row : Row) (master : ℕ) (sound : SoundView v) (may : MayR
         closing = was.closing;
       }
 
-  members : (x : Row) → Contains v.rows x → (lineage : List Member) → lineage_of x.phase ≡ lineage → MembersFit x v.written v.handovers v.pullings v.records v.handed lineage → MembersFit x v.written v.handovers v.pullings now.records v.handed lineage
-  members x has [] is fit = tt
-  members x has (only ∷ []) is fit = tt
-  members x has (source ∷ target ∷ []) is fit = λ granted.
-      by (IsTargetWith x source target) target.master
-      (λ at. target_still x source target (v.records target.master) (target_apart x has source target is at granted)) (fit granted)
-  members x has (source ∷ target ∷ third ∷ more) is fit = tt
-
-  receives : ReceivesOf now
-  receives = record {
-    targets = λ k d within.
-        let x : Row = slice_index_or v.rows k d in
-        members x (Contains-get_or v.rows k d within) (lineage_of x.phase) refl (sound.receives.targets k d within);
-    handed_on = sound.receives.handed_on;
-    bare = λ q r.
-        IfSome_then (wanted_place (v.handovers q r).role) (sound.receives.bare q r)
-        (λ from.
-        by (IsBare (v.handovers q r).range from (v.written q)) q
-        (λ at was. record {
-          placed = was.placed;
-          nothing = was.nothing;
-          empty = none_left (is_in (v.handovers q r).range) (λ item. not (is_in gone item)) (v.records q) was.empty;
-        }));
-    named = sound.receives.named;
-  }
-
   -- ---- masters that rebuild
-
-  -- a master that rebuilds a row, with these records
-  abbrev IsRebuilderWith : Row → List Member → ℕ → List Held → Type 0
-  IsRebuilderWith x lineage to items =
-      IsRebuilderIn v.logs v.written v.stored x lineage to (truths v x) (v.handovers to x.tablet) (v.completions to x.tablet)
-      (v.gathers to x.tablet) (v.merged to x.tablet) items
 
   -- where the master rebuilds a tablet, it is another one
   rebuilder_apart : (x : Row) → Contains v.rows x → (lineage : List Member) (to : ℕ) → x.phase ≡ Rebuilding lineage to → to ≡ master → (v.handovers to x.tablet).term ≡ x.term → (v.handovers to x.tablet).range ≡ x.range → meets gone x.range ≡ false
@@ -257,7 +191,7 @@ module _ (v : View) (row : Row) (master : ℕ) (sound : SoundView v) (may : MayR
       ∙ apart x.tablet other
       (ap (λ (n : ℕ). is_absent (v.handovers n x.tablet).role) (sym at) ∙ not_absent handover.role (never roles.Absent refl))
 
-  rebuilder_still : (x : Row) (lineage : List Member) (to : ℕ) (items : List Held) → meets gone x.range ≡ false → IsRebuilderWith x lineage to items → IsRebuilderWith x lineage to (without gone items)
+  rebuilder_still : (x : Row) (lineage : List Member) (to : ℕ) (items : List Held) → meets gone x.range ≡ false → RebuildsWith v x lineage to items → RebuildsWith v x lineage to (without gone items)
   rebuilder_still x lineage to items none was =
       let from : ℕ = own_place (v.handovers to x.tablet).role in
       record {
@@ -283,48 +217,25 @@ module _ (v : View) (row : Row) (master : ℕ) (sound : SoundView v) (may : MayR
         outside = was.outside;
       }
 
-  -- a row is rebuilt by masters with these records
-  abbrev IsRebuiltWith : (ℕ → List Held) → Row → Phase → Type 0
-  IsRebuiltWith records x phase =
-      RowIsRebuilt x phase (truths v x) v.logs v.written v.stored v.handovers v.completions v.gathers v.merged records v.live
-
-  row_rebuilt : (x : Row) → Contains v.rows x → (phase : Phase) → x.phase ≡ phase → IsRebuiltWith v.records x phase → IsRebuiltWith now.records x phase
-  row_rebuilt x has (Owned owner from) is fit = tt
-  row_rebuilt x has (Opening source sfrom target dfrom) is fit = tt
-  row_rebuilt x has (Moving source sfrom target dfrom) is fit = tt
-  row_rebuilt x has (Rebuilding lineage to) is fit = (
-    λ term.
-        let was : IsRebuilderWith x lineage to (v.records to) = fit.0 term in
-        by (IsRebuilderWith x lineage to) to
-        (λ at. rebuilder_still x lineage to (v.records to) (rebuilder_apart x has lineage to is at term was.range_is)) was,
-    fit.1,
-  )
-
-  rebuilds : RebuildsOf now (truths v)
-  rebuilds = record {
-    rebuilt = λ k d within.
-        let x : Row = slice_index_or v.rows k d in
-        row_rebuilt x (Contains-get_or v.rows k d within) x.phase refl (sound.rebuilds.rebuilt k d within);
-    marks = sound.rebuilds.marks;
-    pieces = sound.rebuilds.pieces;
-  }
-
   pub view_dropped : SoundView now
-  view_dropped = record {
-    nodes = sound.nodes;
-    rows = sound.rows;
-    terms = sound.terms;
-    cover = cover;
-    roles = sound.roles;
-    logs = sound.logs;
-    truth = sound.truth;
-    order = sound.order;
-    calls = sound.calls;
-    counters = sound.counters;
-    rest = sound.rest;
-    records = tables;
-    receives = receives;
-    rebuilds = rebuilds;
-    messages = sound.messages;
-    asked = sound.asked;
-  }
+  view_dropped = view_with_kept v now.records v.pullings v.gathers sound (record {
+    within = λ q.
+        by (All (IsItemWithin v.rows)) q (λ at. All-filter (λ item. not (is_in gone item)) (IsItemWithin v.rows) (v.records q)) (sound.cover.items q);
+    ordered = λ q. by IsInScanOrder q (λ at. order_without gone (v.records q)) (sound.records.ordered q);
+    items = λ q lives x has all. by (HasItems x v.written) q (λ at. items_still x has q at all);
+    targets = λ x has source target is granted.
+        by (IsTargetWith x source target) target.master
+        (λ at. target_still x source target (v.records target.master) (target_apart x has source target is at granted));
+    bare = λ q r was.
+        IfSome_then (wanted_place (v.handovers q r).role) was
+        (λ from.
+        by (IsBare (v.handovers q r).range from (v.written q)) q
+        (λ at bare. record {
+          placed = bare.placed;
+          nothing = bare.nothing;
+          empty = none_left (is_in (v.handovers q r).range) (λ item. not (is_in gone item)) (v.records q) bare.empty;
+        }));
+    rebuilders = λ x has lineage to is term was.
+        by (RebuildsWith v x lineage to) to
+        (λ at. rebuilder_still x lineage to (v.records to) (rebuilder_apart x has lineage to is at term was.range_is)) was;
+  })

@@ -1,16 +1,18 @@
 -- A lane stays sound when the owner of a row, or one that owned it at the term that it keeps, serves once its closing entry is applied.
-use Rattle.std.proofs.Common.{◌≡◌, ℕ, true, false, List, [], ◌∷◌, Some, refl, sym, ap, ◌∙◌, subst, inl, arith, slice_index_or, lt-ltb}
-use Rattle.rk_inv_base.proofs.Words.{false≢true, All-contains, get, Member, Handover, Role, lineage_of, Row, no_gather, is_absent, Pulling}
-use Rattle.rk_inv_base.proofs.Words.{pulling_from, without_merged, World, tablet_in, is_wanting, IsOwner, MayTakeRole, Post, Owner}
-use Rattle.rk_inv_base.proofs.Words.{OpeningSource, OnlyRebuilder, post_of, bond_of, Holds, speaks, StillCounts, MembersFit, is_granted}
-use Rattle.rk_inv_base.proofs.Words.{RoleFits, put2, role_taken, HandoverFits, View, view, IsSound, ReceivesOf, SoundView}
+use Rattle.std.proofs.Common.{◌≡◌, ℕ, true, false, [], Some, refl, sym, ap, ◌∙◌, subst, inl, arith, lt-ltb}
+use Rattle.rk_inv_base.proofs.Words.{false≢true, All-contains, get, Handover, Role, Row, no_gather, is_absent, Pulling, pulling_from}
+use Rattle.rk_inv_base.proofs.Words.{without_merged, World, tablet_in, is_wanting, IsOwner, MayTakeRole, Post, Owner, OpeningSource}
+use Rattle.rk_inv_base.proofs.Words.{OnlyRebuilder, post_of, bond_of, Holds, speaks, is_granted, RoleFits, put2, role_taken, HandoverFits}
+use Rattle.rk_inv_base.proofs.Words.{View, view, IsSound, SoundView}
 use Rattle.rk_transfer.specs.declared.role.Role.TheVariants as roles
 use Rattle.rk_sound.specs.Moves.{IsClosed, MayOwn}
 use Rattle.rk_sound.specs.Small.{as_serving, pulled, tablet_owned_in}
 use Rattle.rk_inv_base.proofs.views.Put.{put2_by, put2_here, put2_same}
 use Rattle.rk_inv_base.proofs.calls.Receives.{IsTargetIn}
+use Rattle.rk_inv_base.proofs.views.WithRecords.{view_with_pullings}
 use Rattle.rk_inv_base.proofs.roles.RoleTaken.{view_role_taken}
 use Rattle.rk_inv_base.proofs.views.Views.{view_kept}
+use Rattle.rk_inv_base.proofs.views.ByRows.{row_in}
 
 -- ---- roles whose closing entry is applied
 
@@ -59,9 +61,7 @@ module _ (v : View) (row : Row) (master : ℕ) (sound : SoundView v) (may : MayO
 
   fitted : RoleFits row master old applied
   fitted =
-      All-contains
-      (λ (r : Row). StillCounts (v.live master) (v.handovers master r.tablet).term r.term
-      → RoleFits r master (v.handovers master r.tablet) applied) v.rows row (sound.roles.fitting master) may.has_row (inl may.lives)
+      (row_in v sound row may.has_row).fitting master (inl may.lives)
 
   within : HandoverFits row row.tablet old
   within = All-contains (λ (r : Row). HandoverFits r row.tablet old) v.rows row (sound.terms.kept master row.tablet) may.has_row
@@ -91,10 +91,10 @@ module _ (v : View) (master number : ℕ) (pulling : Pulling) (sound : SoundView
   abbrev now : View
   now = pulled v master number (λ old. pulling)
 
-  members : (row : Row) (lineage : List Member) → MembersFit row v.written v.handovers v.pullings v.records v.handed lineage → MembersFit row v.written v.handovers now.pullings v.records v.handed lineage
-  members row [] fit = tt
-  members row (only ∷ []) fit = tt
-  members row (source ∷ target ∷ []) fit = λ granted.
+  pub view_forgets_pulled : SoundView now
+  view_forgets_pulled =
+      view_with_pullings v now.pullings sound
+      (λ row has source target is granted was.
       put2_by v.pullings master number (λ old. pulling)
       (λ p.
       IsTargetIn v.written row source target (v.handovers target.master row.tablet) p (get v.handed row.tablet)
@@ -104,38 +104,7 @@ module _ (v : View) (master number : ℕ) (pulling : Pulling) (sound : SoundView
       let not_here : is_granted (v.handovers target.master row.tablet).role ≡ false =
       (λ i. is_granted (v.handovers (at i) (its i)).role) ∙ ungranted in
       absurd (false≢true (sym not_here ∙ granted)))
-      (λ apart. fit granted)
-  members row (source ∷ target ∷ third ∷ more) fit = tt
-
-  receives : ReceivesOf now
-  receives = record {
-    targets = λ k d inside.
-        let row : Row = slice_index_or v.rows k d in
-        members row (lineage_of row.phase) (sound.receives.targets k d inside);
-    handed_on = sound.receives.handed_on;
-    bare = sound.receives.bare;
-    named = sound.receives.named;
-  }
-
-  pub view_forgets_pulled : SoundView now
-  view_forgets_pulled = record {
-    nodes = sound.nodes;
-    rows = sound.rows;
-    terms = sound.terms;
-    cover = sound.cover;
-    roles = sound.roles;
-    logs = sound.logs;
-    truth = sound.truth;
-    order = sound.order;
-    calls = sound.calls;
-    counters = sound.counters;
-    rest = sound.rest;
-    records = sound.records;
-    receives = receives;
-    rebuilds = sound.rebuilds;
-    messages = sound.messages;
-    asked = sound.asked;
-  }
+      (λ apart. was))
 
 -- ---- the world
 

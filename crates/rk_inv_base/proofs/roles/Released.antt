@@ -6,8 +6,8 @@ use Rattle.rk_inv_base.proofs.Words.{Moving, Rebuilding, Row, no_gather, is_memb
 use Rattle.rk_inv_base.proofs.Words.{Tablet, with_handover, without_merged, World, master_at, tablet_in, is_wanting, MayRelease}
 use Rattle.rk_inv_base.proofs.Words.{MayTakeRole, Post, Owner, OpeningSource, InvitedTarget, ReadyTarget, MovingSource, MovingTarget}
 use Rattle.rk_inv_base.proofs.Words.{OnlyRebuilder, FirstRebuilder, LastRebuilder, OutsideRebuilder, FormerMember, Bystander}
-use Rattle.rk_inv_base.proofs.Words.{rebuilder_post, target_post, post_of, bond_of, Holds, speaks, StillCounts, RoleFits, put, put2}
-use Rattle.rk_inv_base.proofs.Words.{role_taken, HandoverFits, View, view, IsSound, SoundView}
+use Rattle.rk_inv_base.proofs.Words.{rebuilder_post, target_post, post_of, bond_of, Holds, speaks, put, put2, role_taken, HandoverFits}
+use Rattle.rk_inv_base.proofs.Words.{View, view, IsSound, SoundView}
 use Rattle.rk_transfer.specs.declared.role.Role.TheVariants as roles
 use Rattle.rk_world.specs.Handovers.{tablet_released}
 use Rattle.rk_sound.specs.Small.{as_released, items_dropped, tablet_released_in}
@@ -16,6 +16,7 @@ use Rattle.rk_inv_base.proofs.views.Masters.{tablet_apart, tablet_here}
 use Rattle.rk_inv_base.proofs.views.Put.{put_same, put2_same}
 use Rattle.rk_inv_base.proofs.roles.RoleTaken.{view_role_taken}
 use Rattle.rk_inv_base.proofs.views.Views.{view_master}
+use Rattle.rk_inv_base.proofs.views.ByRows.{row_in}
 
 -- ---- posts of masters that are not of the lineage
 
@@ -43,9 +44,8 @@ heir_outside (only ∷ []) master outside = go (only.master == master) outside
 heir_outside (first ∷ last ∷ more) master outside = go (first.master == master) (last.master == master) outside
   where
     go : (b c : Bool) → (b || (c || is_member more master)) ≡ false → IsOutside (if b then FirstRebuilder first.from else if c then LastRebuilder last.from else OutsideRebuilder)
-    go true c outside = absurd (cc)
-    go false true outside = absurd (cc)
     go false false outside = tt
+    go _ _ outside = absurd (cc)
 
 -- each master that is not of the lineage has such a post
 pub outside_post : (phase : Phase) (master : ℕ) → is_member (lineage_of phase) master ≡ false → IsOutside (post_of phase master)
@@ -63,9 +63,8 @@ outside_post (Opening source sfrom target dfrom) master outside = go (source == 
 outside_post (Moving source sfrom target dfrom) master outside = go (source == master) (target == master) outside
   where
     go : (b c : Bool) → (b || (c || false)) ≡ false → IsOutside (if b then MovingSource else if c then MovingTarget dfrom else Bystander)
-    go true c outside = absurd (cc)
-    go false true outside = absurd (cc)
     go false false outside = tt
+    go _ _ outside = absurd (cc)
 outside_post (Rebuilding lineage to) master outside = go (to == master) (is_member lineage master) refl
   where
     go : (b c : Bool) → is_member lineage master ≡ c → IsOutside (if b then rebuilder_post lineage master else if c then FormerMember else Bystander)
@@ -104,20 +103,14 @@ module _ (v : View) (row : Row) (master : ℕ) (sound : SoundView v) (may : MayR
   fits : Holds (bond_of (post_of row.phase master) roles.Frozen) row.term old.term applied
   fits =
       subst (λ (role : Role). Holds (bond_of (post_of row.phase master) role) row.term old.term applied) may.frozen
-      (All-contains
-      (λ (r : Row). StillCounts (v.live master) (v.handovers master r.tablet).term r.term
-      → RoleFits r master (v.handovers master r.tablet) applied) v.rows row (sound.roles.fitting master) may.has_row (inl may.lives))
+      ((row_in v sound row may.has_row).fitting master (inl may.lives))
 
   within : HandoverFits row row.tablet old
   within = All-contains (λ (r : Row). HandoverFits r row.tablet old) v.rows row (sound.terms.kept master row.tablet) may.has_row
 
   settled : list_any (touches row.range) (drop applied (v.written master).entries) ≡ false
   settled =
-      All-contains
-      (λ (r : Row). StillCounts (v.live master) (v.handovers master r.tablet).term r.term
-      → is_idle (v.handovers master r.tablet).role ≡ true
-      → list_any (touches r.range) (drop applied (v.written master).entries) ≡ false)
-      v.rows row (sound.rest.idle master) may.has_row (inl may.lives) (ap is_idle may.frozen)
+      (row_in v sound row may.has_row).idle master (inl may.lives) (ap is_idle may.frozen)
 
   takes_role : MayTakeRole (items_dropped v master old.range) row master (as_released old)
   takes_role = record {

@@ -1,31 +1,34 @@
 -- A view stays sound when a master takes a steady role of a tablet that fits its post, at a term that is at most the row's. What it
 -- gathered and merged for the tablet may change too, since no row is rebuilt by a master in a steady role.
-use Rattle.std.proofs.Common.{◌≡◌, ℕ, ◌<◌, ◌≤◌, Bool, true, false, ◌&&◌, List, [], ◌∷◌, ◌++◌, Option, Some, None, cond, eqb, refl, sym, ap}
-use Rattle.std.proofs.Common.{◌∙◌, subst, ⊎_elim, ◌⊎◌, inl, inr, arith, slice_index_or, IfSome, drop, ◌==◌, Contains, eq-eqb}
-use Rattle.rk_inv_base.proofs.Words.{cases_eq, and_left, or_left, false≢true, both_ways, All-weaker, All-contains, Contains-get_or}
-use Rattle.rk_inv_base.proofs.Words.{list_any, get, meets, Ended, Member, Node, Range, Completions, ends_of, Handover, lineage_of, row_of}
-use Rattle.rk_inv_base.proofs.Words.{Phase, Owned, Opening, Moving, Rebuilding, Row, Grant, Prepare, Tenure, Transfer, Body, Got, Pulled}
-use Rattle.rk_inv_base.proofs.Words.{Rebuild, Rebuilt, Handed, Gather, is_member, second_of, touches, is_absent, is_idle, may_have_staged}
-use Rattle.rk_inv_base.proofs.Words.{AreHandedOver, IsKnown, IsStagedEnd, ReachAll, IsNext, IsWithinRows, handed_by, handed_for_grant}
-use Rattle.rk_inv_base.proofs.Words.{is_waiting, is_waiting_at, is_wanting, second_has, AskAgrees, CloseFits, GotAgrees, GrantAgrees, IsOf}
-use Rattle.rk_inv_base.proofs.Words.{IsOfTarget, IsOwner, JoinedIn, OwnFits, PrepareFits, PulledAgrees, ReadyIn, RebuildFits, RebuiltIn}
-use Rattle.rk_inv_base.proofs.Words.{ReleaseFits, SaysOf, TransferIn, MayTakeRole, post_of, bond_of, Holds, speaks, StillCounts, MarkFits}
-use Rattle.rk_inv_base.proofs.Words.{RowIsRebuilt, HandedFits, MembersFit, is_granted, KeepTerm, RoleFits, IsFormed, role_taken, HasItems}
-use Rattle.rk_inv_base.proofs.Words.{has_all_items, HandoverFits, View, truths, rests, CallsOf, CountersOf, CoverOf, MessagesOf, ReceivesOf}
-use Rattle.rk_inv_base.proofs.Words.{RebuildsOf, RestOf, RolesOf, SoundView, TablesOf, TermsOf}
+use Rattle.std.proofs.Common.{◌≡◌, ℕ, ◌<◌, ◌≤◌, Bool, true, false, ◌&&◌, List, [], ◌∷◌, Option, Some, None, cond, eqb, refl, sym, ap, ◌∙◌}
+use Rattle.std.proofs.Common.{subst, ⊎_elim, ◌⊎◌, inl, inr, arith, slice_index_or, drop, ◌==◌, Contains, eq-eqb}
+use Rattle.rk_inv_base.proofs.Words.{Call, Waits, ByMaster, IfMaster, cases_eq, and_left, or_left, false≢true, both_ways, All-weaker}
+use Rattle.rk_inv_base.proofs.Words.{Contains-get_or, list_any, get, meets, Ended, Member, Node, Range, Completions, ends_of, Handover}
+use Rattle.rk_inv_base.proofs.Words.{lineage_of, row_of, Phase, Opening, Moving, Rebuilding, Row, Tenure, Transfer, Body, Got, Pulled}
+use Rattle.rk_inv_base.proofs.Words.{Rebuilt, Gather, is_member, second_of, touches, is_absent, is_idle, may_have_staged, IsKnown}
+use Rattle.rk_inv_base.proofs.Words.{IsStagedEnd, ReachAll, IsWithinRows, handed_by, handed_for_grant, is_waiting, is_waiting_at}
+use Rattle.rk_inv_base.proofs.Words.{is_wanting, second_has, AskAgrees, CloseFits, GotAgrees, GrantAgrees, IsOf, IsOfTarget, IsOwner}
+use Rattle.rk_inv_base.proofs.Words.{JoinedIn, OwnFits, PrepareFits, PulledAgrees, ReadyIn, RebuildFits, RebuiltIn, ReleaseFits, TransferIn}
+use Rattle.rk_inv_base.proofs.Words.{MayTakeRole, post_of, bond_of, Holds, speaks, StillCounts, MarkFits, RowIsRebuilt, HandedFits}
+use Rattle.rk_inv_base.proofs.Words.{MembersFit, is_granted, KeepTerm, RoleFits, IsFormed, role_taken, HasItems, has_all_items}
+use Rattle.rk_inv_base.proofs.Words.{HandoverFits, View, truths, rests, CoverOf, SoundView}
 use Rattle.rk_message.specs.declared.message.Body.TheVariants as bodies
 use Rattle.rk_sound.specs.Moves.{MayRise}
+use Rattle.rk_inv_base.proofs.views.ByRows.{row_in, IsNextOf, SaysIn, SoundBeside, SoundRow, view_by_rows, waits_for}
+use Rattle.rk_inv_base.proofs.views.OwnTablet.{SeenTablet, rows_but_one, seen_at}
 use Rattle.rk_inv_base.proofs.views.Put.{put2_by, put2_here, put2_other}
 use Rattle.rk_inv_base.proofs.rows.Apart.{one_precedes, same_number}
 use Rattle.rk_inv_base.proofs.rows.TurnedRows.{stands_found}
 use Rattle.rk_inv_base.proofs.views.Cover.{covered_by}
-use Rattle.rk_inv_base.proofs.wire.Messages.{by_master, if_master}
+use Rattle.rk_inv_base.proofs.wire.Messages.{by_master, if_master, close_rises, grant_rises, own_rises, prepare_rises, rebuild_rises}
+use Rattle.rk_inv_base.proofs.wire.Messages.{release_rises}
 use Rattle.rk_inv_base.proofs.views.Places.{behind_any}
 use Rattle.rk_inv_base.proofs.calls.Receives.{IsBareOf, IsTargetIn}
 use Rattle.rk_inv_base.proofs.calls.Rebuilds.{IsRebuilderIn}
 use Rattle.rk_inv_base.proofs.calls.Rest.{own_touches}
 use Rattle.rk_inv_base.proofs.rows.Serving.{meets_either}
-use Rattle.rk_inv_base.proofs.roles.Steady.{all_items_before, idle_or_staged, moving_steady, rebuilding_behind, steady_granted, steady_place, steady_wants}
+use Rattle.rk_inv_base.proofs.roles.Steady.{all_items_before, idle_or_staged, moving_steady, rebuilding_behind, steady_granted}
+use Rattle.rk_inv_base.proofs.roles.Steady.{steady_place, steady_wants}
 
 -- rows of other numbers do not meet
 pub rows_apart : (v : View) (a b : Row) → SoundView v → Contains v.rows a → Contains v.rows b → (a.tablet ≡ b.tablet → ⊥) → meets a.range b.range ≡ true → ⊥
@@ -37,10 +40,10 @@ rows_apart v a b sound first second other met =
     (one_precedes v.rows a b sound.rows.apart first second)
 
 module _ (v : View) (row : Row) (master : ℕ) (new : Handover) (gather : Gather) (ends : List Ended) (sound : SoundView v) (may : MayTakeRole v row master new) where
-  abbrev pub now : View
+  abbrev now : View
   now = role_taken v master row.tablet new gather ends
 
-  abbrev pub old : Handover
+  abbrev old : Handover
   old = v.handovers master row.tablet
 
   -- ---- what is kept
@@ -57,7 +60,7 @@ module _ (v : View) (row : Row) (master : ℕ) (new : Handover) (gather : Gather
       (λ apart. was)
 
   -- so it is for each row
-  pub by_row : (P : Row → ℕ → Handover → Type 0) (x : Row) → Contains v.rows x → (q : ℕ) → (P row master old → P row master new) → P x q (v.handovers q x.tablet) → P x q (now.handovers q x.tablet)
+  by_row : (P : Row → ℕ → Handover → Type 0) (x : Row) → Contains v.rows x → (q : ℕ) → (P row master old → P row master new) → P x q (v.handovers q x.tablet) → P x q (now.handovers q x.tablet)
   by_row P x has q gives was =
       put2_by v.handovers master row.tablet (λ h. new) (P x q) q x.tablet
       (λ at its.
@@ -68,21 +71,18 @@ module _ (v : View) (row : Row) (master : ℕ) (new : Handover) (gather : Gather
       (subst (λ (n : ℕ). P row n (v.handovers n row.tablet)) at (subst (λ (r : Row). P r q (v.handovers q r.tablet)) same was)))))
       (λ apart. was)
 
-  -- a tablet is the one whose role is taken, or another
-  pub here_or_apart : (q r : ℕ) → ((q ≡ master) × (r ≡ row.tablet)) ⊎ (q ≡ master → r ≡ row.tablet → ⊥)
-  here_or_apart q r =
-      ⊎_elim
-      (λ (at : q ≡ master).
-      ⊎_elim (λ (its : r ≡ row.tablet). inl (at, its)) (λ (other : r ≡ row.tablet → ⊥). inr (λ _ its. other its))
-      (cases_eq r row.tablet))
-      (λ (other : q ≡ master → ⊥). inr (λ at _. other at))
-      (cases_eq q master)
+  -- of the row's tablet it holds master by master
+  at : (P : ℕ → Handover → Type 0) (q : ℕ) → (P master old → P master new) → P q (v.handovers q row.tablet) → P q (now.handovers q row.tablet)
+  at P q = by (λ q r h. P q h) q row.tablet
+
+  was : SoundRow v row
+  was = row_in v sound row may.has_row
 
   wants : is_wanting new.role ≡ false
   wants = steady_wants new.role may.steady
 
   -- a tablet at the row's term stays there
-  pub at_term : old.term ≡ row.term → new.term ≡ row.term
+  at_term : old.term ≡ row.term → new.term ≡ row.term
   at_term is = omega (arith, is, may.grows, may.within)
 
   -- no row is rebuilt by the master at its term
@@ -104,16 +104,23 @@ module _ (v : View) (row : Row) (master : ℕ) (new : Handover) (gather : Gather
   present q r =
       by (λ q r h. is_absent h.role ≡ false → is_absent (v.handovers q r).role ≡ false) q r (λ was. may.present) (λ there. there)
 
-  -- where a row has two members, each keeps its term
-  pub term_of_two : (x : Row) → Contains v.rows x → (source target : Member) → lineage_of x.phase ≡ source ∷ target ∷ [] → (q : ℕ) → (now.handovers q x.tablet).term ≡ (v.handovers q x.tablet).term
-  term_of_two x has source target two q =
-      by_row (λ x q h. lineage_of x.phase ≡ source ∷ target ∷ [] → h.term ≡ (v.handovers q x.tablet).term) x has q
-      (λ was is.
+  -- where the row has two members, each master keeps its term
+  term_of_two : (source target : Member) → lineage_of row.phase ≡ source ∷ target ∷ [] → (q : ℕ) → (now.handovers q row.tablet).term ≡ (v.handovers q row.tablet).term
+  term_of_two source target is q =
+      at (λ q h. h.term ≡ (v.handovers q row.tablet).term) q
+      (λ same.
       ⊎_elim (λ (same : new.term ≡ old.term). same)
       (λ (rise : MayRise row master new).
       let alone : rise.only ∷ [] ≡ source ∷ target ∷ [] = sym rise.lineage_is ∙ is in absurd (cc alone))
-      may.term_is)
-      (λ is. refl) two
+      may.term_is) refl
+
+  -- each master has of another tablet what it had
+  seen_apart : (q r : ℕ) → (q ≡ master → r ≡ row.tablet → ⊥) → seen_at v r q ≡ seen_at now r q
+  seen_apart q r other i = record (seen_at v r q) {
+    handover = sym (put2_other v.handovers master row.tablet new q r other) i;
+    gather = sym (put2_other v.gathers master row.tablet gather q r other) i;
+    merged = sym (put2_other v.merged master row.tablet ends q r other) i;
+  }
 
   -- ---- parts
 
@@ -134,19 +141,6 @@ module _ (v : View) (row : Row) (master : ℕ) (new : Handover) (gather : Gather
         (λ (rise : MayRise row master new).
         rise.range_is ∙ ap (λ (r : Row). r.range) (sym (same_number v.rows x row sound.rows.apart has may.has_row is)))
         may.term_is;
-  }
-
-  terms : TermsOf now
-  terms = record {
-    kept = λ q r k d within.
-        let x : Row = slice_index_or v.rows k d in
-        by (λ q r h. HandoverFits x r h) q r (handover_fits x (Contains-get_or v.rows k d within)) (sound.terms.kept q r k d within);
-    begun = λ q r.
-        by (λ q r h. is_absent h.role ≡ false → 1 ≤ h.term) q r (λ was there. omega (arith, was (may.present there), may.grows))
-        (sound.terms.begun q r);
-    apart = λ q a b other a_there b_there.
-        (λ i. meets (range_same q a i) (range_same q b i)) ∙ sound.terms.apart q a b other (present q a a_there) (present q b b_there);
-    sent = sound.terms.sent;
   }
 
   row_within : IsWithinRows v.rows row.range
@@ -178,29 +172,11 @@ module _ (v : View) (row : Row) (master : ℕ) (new : Handover) (gather : Gather
   }
 
   -- those who have to keep the row's term do
-  keep_term : (phase : Phase) (before after : ℕ → ℕ) (term : ℕ) → ((q : ℕ) → before q ≡ term → after q ≡ term) → KeepTerm phase before term → KeepTerm phase after term
-  keep_term (Owned owner from) before after term same at = tt
-  keep_term (Opening source sfrom target None) before after term same at = tt
-  keep_term (Opening source sfrom target (Some dfrom)) before after term same at = same target at
-  keep_term (Moving source sfrom target dfrom) before after term same at = (same source at.0, same target at.1)
-  keep_term (Rebuilding lineage to) before after term same at = tt
-
-  roles_fit : RolesOf now
-  roles_fit = record {
-    fitting = λ q k d within.
-        by_row (λ x q h. StillCounts (v.live q) h.term x.term → RoleFits x q h (v.written q).applied) (slice_index_or v.rows k d)
-        (Contains-get_or v.rows k d within) q (λ was counts. may.fits) (sound.roles.fitting q k d within);
-    ranged = λ q k d within.
-        by_row
-        (λ x q h. StillCounts (v.live q) h.term x.term → is_member (lineage_of x.phase) q ≡ true → h.range ≡ x.range)
-        (slice_index_or v.rows k d) (Contains-get_or v.rows k d within) q (λ was counts member. may.range_is ∙ was (inl may.lives) member)
-        (sound.roles.ranged q k d within);
-    at_term = λ k d within.
-        let x : Row = slice_index_or v.rows k d in
-        keep_term x.phase (λ q. (v.handovers q x.tablet).term) (λ q. (now.handovers q x.tablet).term) x.term
-        (λ q. by_row (λ x q h. h.term ≡ x.term) x (Contains-get_or v.rows k d within) q at_term) (sound.roles.at_term k d within);
-    known = λ q r lives there. sound.roles.known q r lives (present q r there);
-  }
+  keep_term : (phase : Phase) → KeepTerm phase (λ q. (v.handovers q row.tablet).term) row.term → KeepTerm phase (λ q. (now.handovers q row.tablet).term) row.term
+  keep_term (Opening source sfrom target (Some dfrom)) keeps = at (λ q h. h.term ≡ row.term) target at_term keeps
+  keep_term (Moving source sfrom target dfrom) keeps =
+      (at (λ q h. h.term ≡ row.term) source at_term keeps.0, at (λ q h. h.term ≡ row.term) target at_term keeps.1)
+  keep_term _ keeps = tt
 
   -- what is handed over is what it was, since the master awaits no grant
   wants_same : (q r : ℕ) → is_wanting (now.handovers q r).role ≡ is_wanting (v.handovers q r).role
@@ -212,22 +188,22 @@ module _ (v : View) (row : Row) (master : ℕ) (new : Handover) (gather : Gather
       (λ was. and_left (is_wanting new.role) (new.term == term) wants ∙ sym (and_left (is_wanting old.role) (old.term == term) may.waited))
       refl
 
-  waits_same : (x : Row) (member : Option Member) → is_waiting (second_has now.handovers x member) ≡ is_waiting (second_has v.handovers x member)
-  waits_same x None = refl
-  waits_same x (Some member) = wants_same member.master x.tablet
+  waits_same : (member : Option Member) → is_waiting (second_has now.handovers row member) ≡ is_waiting (second_has v.handovers row member)
+  waits_same None = refl
+  waits_same (Some member) = wants_same member.master row.tablet
 
-  waits_at_same : (x : Row) (term : ℕ) (member : Option Member) → is_waiting_at (second_has now.handovers x member) term ≡ is_waiting_at (second_has v.handovers x member) term
-  waits_at_same x term None = refl
-  waits_at_same x term (Some member) = wants_at_same term member.master x.tablet
+  waits_at_same : (term : ℕ) (member : Option Member) → is_waiting_at (second_has now.handovers row member) term ≡ is_waiting_at (second_has v.handovers row member) term
+  waits_at_same term None = refl
+  waits_at_same term (Some member) = wants_at_same term member.master row.tablet
 
-  for_grant_same : (x : Row) → handed_for_grant x now.handovers v.handed ≡ handed_for_grant x v.handovers v.handed
-  for_grant_same x = ap (λ (b : Bool). cond b (get v.handed x.tablet) None) (waits_same x (second_of (lineage_of x.phase)))
+  for_grant_same : handed_for_grant row now.handovers v.handed ≡ handed_for_grant row v.handovers v.handed
+  for_grant_same = ap (λ (b : Bool). cond b (get v.handed row.tablet) None) (waits_same (second_of (lineage_of row.phase)))
 
-  by_message_same : (x : Row) (body : Body) → handed_by x now.handovers body ≡ handed_by x v.handovers body
-  by_message_same x (bodies.Grant grant) =
-      ap (λ (b : Bool). cond (eqb grant.tenure.tablet x.tablet && b) (Some (record { floor = grant.floor; ends = grant.ends })) None)
-      (waits_at_same x grant.tenure.term (second_of (lineage_of x.phase)))
-  by_message_same x _ = refl
+  by_message_same : (body : Body) → handed_by row now.handovers body ≡ handed_by row v.handovers body
+  by_message_same (bodies.Grant grant) =
+      ap (λ (b : Bool). cond (eqb grant.tenure.tablet row.tablet && b) (Some (record { floor = grant.floor; ends = grant.ends })) None)
+      (waits_at_same grant.tenure.term (second_of (lineage_of row.phase)))
+  by_message_same _ = refl
 
   -- an end that the master keeps is known as before
   end_known : (q r : ℕ) (end : Ended) → IsKnown v.base v.journal end ⊎ IsStagedEnd v.rows (rests v) q r (v.handovers q r).term end → IsKnown v.base v.journal end ⊎ IsStagedEnd v.rows (rests v) q r (now.handovers q r).term end
@@ -245,431 +221,287 @@ module _ (v : View) (row : Row) (master : ℕ) (new : Handover) (gather : Gather
         at_term = at_term (staged.at_term ∙ ap (λ (r : Row). r.term) same) ∙ ap (λ (r : Row). r.term) (sym same);
       })))
 
-  calls : CallsOf now (truths v) (rests v)
-  calls = record {
-    once = sound.calls.once;
-    reached = sound.calls.reached;
-    recorded = sound.calls.recorded;
-    moving = sound.calls.moving;
-    answering = λ q k d within.
-        by_row
-        (λ x q h. StillCounts (v.live q) h.term x.term → speaks (post_of x.phase q) h x.term ≡ true
-        → ReachAll x.range v.journal (ends_of (v.completions q x.tablet)))
-        (slice_index_or v.rows k d) (Contains-get_or v.rows k d within) q (λ was counts says. was (inl may.lives) (may.speaks says))
-        (sound.calls.answering q k d within);
-    handed_on = λ k d within.
-        let x : Row = slice_index_or v.rows k d in
-        subst (λ (given : Option Handed). IfSome given (λ h. AreHandedOver v.base x.range v.journal h.ends)) (sym (for_grant_same x))
-        (sound.calls.handed_on k d within);
-    sent = λ n m found k d within.
-        let x : Row = slice_index_or v.rows k d in
-        subst (λ (given : Option Handed). IfSome given (λ h. AreHandedOver v.base x.range v.journal h.ends)) (sym (by_message_same x m.body))
-        (sound.calls.sent n m found k d within);
-    known = λ q r lives.
-        All-weaker (λ end. IsKnown v.base v.journal end ⊎ IsStagedEnd v.rows (rests v) q r (v.handovers q r).term end)
-        (λ end. IsKnown v.base v.journal end ⊎ IsStagedEnd v.rows (rests v) q r (now.handovers q r).term end) (end_known q r)
-        (ends_of (v.completions q r)) (sound.calls.known q r lives);
-  }
-
-  abbrev Floors : Row → Option Handed → Type 0
-  Floors x given = IfSome given (λ h. IsNext (truths v x ++ rests v x) h.floor)
-
-  counters : CountersOf now (truths v) (rests v)
-  counters = record {
-    low = sound.counters.low;
-    moving = sound.counters.moving;
-    counted = λ q k d within.
-        by_row
-        (λ x q h. StillCounts (v.live q) h.term x.term → speaks (post_of x.phase q) h x.term ≡ true
-        → IsNext (truths v x ++ rests v x) h.counter)
-        (slice_index_or v.rows k d) (Contains-get_or v.rows k d within) q
-        (λ was counts says.
-        subst (IsNext (truths v row ++ rests v row)) (sym may.counter_is)
-        (was (inl may.lives) (may.speaks says)))
-        (sound.counters.counted q k d within);
-    handed_on = λ k d within.
-        let x : Row = slice_index_or v.rows k d in
-        subst (Floors x) (sym (for_grant_same x)) (sound.counters.handed_on k d within);
-    sent = λ n m found k d within.
-        let x : Row = slice_index_or v.rows k d in
-        subst (Floors x) (sym (by_message_same x m.body)) (sound.counters.sent n m found k d within);
-  }
-
-  rest : RestOf now (truths v) (rests v)
-  rest = record {
-    goes_on = sound.rest.goes_on;
-    done = sound.rest.done;
-    unnamed = sound.rest.unnamed;
-    idle = λ q k d within.
-        by_row
-        (λ x q h. StillCounts (v.live q) h.term x.term → is_idle h.role ≡ true
-        → list_any (touches x.range) (drop (v.written q).applied (v.written q).entries) ≡ false)
-        (slice_index_or v.rows k d) (Contains-get_or v.rows k d within) q (λ was counts idles. may.settled idles)
-        (sound.rest.idle q k d within);
-    waiting = λ q alive place call there.
-        let wait = sound.rest.waiting q alive place call there in record {
-          behind = wait.behind;
-          entry = wait.entry;
-          stands = wait.stands;
-          own = wait.own;
-          unmarked = wait.unmarked;
-          row = wait.row;
-          has_row = wait.has_row;
-          in_row = wait.in_row;
-          last = wait.last;
-          is_last = wait.is_last;
-          here = wait.here;
-          from = wait.from;
-          may_stage =
-              by_row
-              (λ x q h. list_any (touches x.range) (drop (v.written q).applied (v.written q).entries) ≡ true
-              → may_have_staged h.role ≡ true)
-              wait.row wait.has_row q
-              (λ was some.
-              ⊎_elim (λ (idles : is_idle new.role ≡ true). absurd (false≢true (sym (may.settled idles) ∙ some)))
-              (λ (stages : may_have_staged new.role ≡ true). stages) (idle_or_staged new.role))
-              (λ some. wait.may_stage)
-              (behind_any (touches wait.row.range) (v.written q).entries (v.written q).applied place wait.entry wait.behind wait.stands
-              (own_touches wait.row.range call wait.entry wait.own wait.in_row));
-        };
-    are_last = sound.rest.are_last;
-    found = sound.rest.found;
-  }
-
-  tables : TablesOf now
-  tables = record {
-    ordered = sound.records.ordered;
-    items = λ q lives k d within.
-        by_row (λ x q h. v.live q ≡ true → has_all_items (post_of x.phase q) h x.term ≡ true → HasItems x v.written (v.records q))
-        (slice_index_or v.rows k d) (Contains-get_or v.rows k d within) q
-        (λ was lives has. was lives (all_items_before (post_of row.phase master) old new row.term may.grows has))
-        (λ lives. sound.records.items q lives k d within) lives;
-  }
+  -- a call that waits for a row may be staged there
+  waits : (q place : ℕ) (call : Call) → Waits v.rows (v.handovers q) (v.written q) q place call → Waits v.rows (now.handovers q) (v.written q) q place call
+  waits q place call wait =
+      waits_for v.rows v.rows (v.handovers q) (now.handovers q) (v.written q) q place call wait wait.row wait.has_row wait.in_row wait.is_last
+      (by_row
+      (λ x q h. list_any (touches x.range) (drop (v.written q).applied (v.written q).entries) ≡ true
+      → may_have_staged h.role ≡ true)
+      wait.row wait.has_row q
+      (λ was some.
+      ⊎_elim (λ (idles : is_idle new.role ≡ true). absurd (false≢true (sym (may.settled idles) ∙ some)))
+      (λ (stages : may_have_staged new.role ≡ true). stages) (idle_or_staged new.role))
+      (λ some. wait.may_stage)
+      (behind_any (touches wait.row.range) (v.written q).entries (v.written q).applied place wait.entry wait.behind wait.stands
+      (own_touches wait.row.range call wait.entry wait.own wait.in_row)))
 
   -- the master is no target that was granted the tablet
-  members : (x : Row) → Contains v.rows x → (lineage : List Member) → MembersFit x v.written v.handovers v.pullings v.records v.handed lineage → MembersFit x v.written now.handovers v.pullings v.records v.handed lineage
-  members x has [] fit = tt
-  members x has (only ∷ []) fit = tt
-  members x has (source ∷ target ∷ []) fit =
-      by_row
-      (λ x q h. is_granted h.role ≡ true
-      → IsTargetIn v.written x source target h (v.pullings target.master x.tablet) (get v.handed x.tablet) (v.records target.master))
-      x has target.master
-      (λ was granted. absurd (both_ways (is_granted new.role) (steady_granted new.role may.steady) granted)) fit
-  members x has (source ∷ target ∷ third ∷ more) fit = tt
+  members : (lineage : List Member) → MembersFit row v.written v.handovers v.pullings v.records v.handed lineage → MembersFit row v.written now.handovers v.pullings v.records v.handed lineage
+  members (source ∷ target ∷ []) =
+      at
+      (λ q h. is_granted h.role ≡ true
+      → IsTargetIn v.written row source target h (v.pullings target.master row.tablet) (get v.handed row.tablet) (v.records target.master))
+      target.master (λ was granted. absurd (both_ways (is_granted new.role) (steady_granted new.role may.steady) granted))
+  members _ = λ fit. fit
 
   -- what a source told is what it keeps
-  told : (x : Row) → Contains v.rows x → (lineage : List Member) → lineage_of x.phase ≡ lineage → HandedFits x v.handovers v.completions v.handed lineage → HandedFits x now.handovers v.completions v.handed lineage
-  told x has [] is fit = tt
-  told x has (only ∷ []) is fit = tt
-  told x has (source ∷ target ∷ []) is fit = λ term.
-      fit (sym (term_of_two x has source target is target.master) ∙ term ∙ term_of_two x has source target is source.master)
-      ∙ sym (ap (λ (n : ℕ). Some (record { floor = n; ends = ends_of (v.completions source.master x.tablet) }))
-      (counter_same source.master x.tablet))
-  told x has (source ∷ target ∷ third ∷ more) is fit = tt
+  told : (lineage : List Member) → lineage_of row.phase ≡ lineage → HandedFits row v.handovers v.completions v.handed lineage → HandedFits row now.handovers v.completions v.handed lineage
+  told (source ∷ target ∷ []) is fit = λ term.
+      fit (sym (term_of_two source target is target.master) ∙ term ∙ term_of_two source target is source.master)
+      ∙ sym (ap (λ (n : ℕ). Some (record { floor = n; ends = ends_of (v.completions source.master row.tablet) }))
+      (counter_same source.master row.tablet))
+  told _ is fit = fit
 
-  receives : ReceivesOf now
-  receives = record {
-    targets = λ k d within.
-        let x : Row = slice_index_or v.rows k d in
-        members x (Contains-get_or v.rows k d within) (lineage_of x.phase) (sound.receives.targets k d within);
-    handed_on = λ k d within.
-        let x : Row = slice_index_or v.rows k d in
-        told x (Contains-get_or v.rows k d within) (lineage_of x.phase) refl (sound.receives.handed_on k d within);
-    bare = λ q r.
-        by (λ q r h. IsBareOf h (v.written q) (v.records q)) q r (λ was. steady_place new.role _ may.steady) (sound.receives.bare q r);
-    named = sound.receives.named;
-  }
-
-  -- the master rebuilds no row of the tablet
-  pub not_by_master : (x : Row) → Contains v.rows x → (lineage : List Member) (to : ℕ) → to ≡ master → x.tablet ≡ row.tablet → x.phase ≡ Rebuilding lineage to → (now.handovers to x.tablet).term ≡ x.term → ⊥
-  not_by_master x has lineage to at its is term =
-      let same : x ≡ row = same_number v.rows x row sound.rows.apart has may.has_row its in
-      let rebuilt : row.phase ≡ Rebuilding lineage master =
-      ap (λ (r : Row). r.phase) (sym same) ∙ is ∙ ap (λ (q : ℕ). Rebuilding lineage q) at in
+  -- the master does not rebuild the row
+  not_by_master : (lineage : List Member) (to : ℕ) → to ≡ master → row.phase ≡ Rebuilding lineage to → (now.handovers to row.tablet).term ≡ row.term → ⊥
+  not_by_master lineage to is_own is term =
       let own : new.term ≡ row.term =
-      ap (λ (h : Handover). h.term) (sym (put2_here v.handovers master row.tablet new to x.tablet at its)) ∙ term
-      ∙ ap (λ (r : Row). r.term) same in
-      omega (arith, behind lineage rebuilt, own)
+      ap (λ (h : Handover). h.term) (sym (put2_here v.handovers master row.tablet new to row.tablet is_own refl)) ∙ term in
+      omega (arith, behind lineage (is ∙ ap (λ (q : ℕ). Rebuilding lineage q) is_own), own)
 
-  -- a master rebuilds a row at its term, in a view with the same truths
-  abbrev IsRebuilderOf : View → Row → List Member → ℕ → Type 0
-  IsRebuilderOf w x lineage to =
-      (w.handovers to x.tablet).term ≡ x.term
-      → IsRebuilderIn w.logs w.written w.stored x lineage to (truths v x) (w.handovers to x.tablet) (w.completions to x.tablet)
-      (w.gathers to x.tablet) (w.merged to x.tablet) (w.records to)
+  -- another master has of the tablet what it had
+  other_has : (q : ℕ) → (q ≡ master → ⊥) → seen_at v row.tablet q ≡ seen_at now row.tablet q
+  other_has q other = seen_apart q row.tablet (λ is_own its. other is_own)
+
+  -- what a master that rebuilds the row has
+  abbrev Rebuilds : ℕ → List Member → SeenTablet → Type 0
+  Rebuilds to lineage t =
+      t.handover.term ≡ row.term
+      → IsRebuilderIn v.logs v.written v.stored row lineage to (truths v row) t.handover t.completions t.gather t.merged (v.records to)
 
   -- a row is rebuilt in it
-  abbrev IsRebuiltIn : View → Row → Phase → Type 0
-  IsRebuiltIn w x phase =
-      RowIsRebuilt x phase (truths v x) w.logs w.written w.stored w.handovers w.completions w.gathers w.merged w.records w.live
+  abbrev IsRebuiltIn : View → Phase → Type 0
+  IsRebuiltIn w phase =
+      RowIsRebuilt row phase (truths v row) w.logs w.written w.stored w.handovers w.completions w.gathers w.merged w.records w.live
 
-  -- a master that rebuilds a row is another one, or does so for another row
-  rebuilder : (x : Row) → Contains v.rows x → (lineage : List Member) (to : ℕ) → x.phase ≡ Rebuilding lineage to → IsRebuilderOf v x lineage to → IsRebuilderOf now x lineage to
-  rebuilder x has lineage to is was =
-      let Fits : Handover → Gather → List Ended → Type 0 = λ h g e. h.term ≡ x.term
-      → IsRebuilderIn v.logs v.written v.stored x lineage to (truths v x) h (v.completions to x.tablet) g e (v.records to) in
-      ⊎_elim
-      (λ (here : (to ≡ master) × (x.tablet ≡ row.tablet)). λ term.
-      absurd (not_by_master x has lineage to here.0 here.1 is term))
-      (λ (apart : to ≡ master → x.tablet ≡ row.tablet → ⊥).
-      subst (λ (h : Handover). Fits h (now.gathers to x.tablet) (now.merged to x.tablet)) (sym (put2_other v.handovers master row.tablet new to x.tablet apart))
-      (subst (λ (g : Gather). Fits (v.handovers to x.tablet) g (now.merged to x.tablet)) (sym (put2_other v.gathers master row.tablet gather to x.tablet apart))
-      (subst (λ (e : List Ended). Fits (v.handovers to x.tablet) (v.gathers to x.tablet) e) (sym (put2_other v.merged master row.tablet ends to x.tablet apart)) was)))
-      (here_or_apart to x.tablet)
-
-  row_rebuilt : (x : Row) → Contains v.rows x → (phase : Phase) → x.phase ≡ phase → IsRebuiltIn v x phase → IsRebuiltIn now x phase
-  row_rebuilt x has (Owned owner from) is fit = tt
-  row_rebuilt x has (Opening source sfrom target dfrom) is fit = tt
-  row_rebuilt x has (Moving source sfrom target dfrom) is fit = tt
-  row_rebuilt x has (Rebuilding lineage to) is fit = (rebuilder x has lineage to is fit.0, fit.1)
-
-  rebuilds : RebuildsOf now (truths v)
-  rebuilds = record {
-    rebuilt = λ k d within.
-        let x : Row = slice_index_or v.rows k d in
-        row_rebuilt x (Contains-get_or v.rows k d within) x.phase refl (sound.rebuilds.rebuilt k d within);
-    marks = λ q k d within m e inside.
-        by_row (λ x q h. (slice_index_or (v.written q).marks m e).tablet ≡ x.tablet → MarkFits x q h (v.live q) (v.written q) (slice_index_or (v.written q).marks m e))
-        (slice_index_or v.rows k d) (Contains-get_or v.rows k d within) q
-        (λ was its.
-        let fit = was its in record {
-          rebuilt = fit.rebuilt;
-          within = fit.within;
-          present = fit.present;
-          by_rebuilder = λ of_term.
-              let told = fit.by_rebuilder of_term in absurd (not_rebuilt (lineage_of row.phase) told.0 told.1);
-          behind = fit.behind;
-        })
-        (sound.rebuilds.marks q k d within m e inside);
-    pieces = sound.rebuilds.pieces;
-  }
+  row_rebuilt : (phase : Phase) → row.phase ≡ phase → IsRebuiltIn v phase → IsRebuiltIn now phase
+  row_rebuilt (Rebuilding lineage to) is fit = (
+    ⊎_elim (λ (is_own : to ≡ master). λ term. absurd (not_by_master lineage to is_own is term))
+        (λ (other : to ≡ master → ⊥). subst (Rebuilds to lineage) (other_has to other) fit.0) (cases_eq to master),
+    fit.1,
+  )
+  row_rebuilt _ is fit = tt
 
   -- ---- messages
 
-  prepare_on : (live : Bool) (prepare : Prepare) → PrepareFits row old live master prepare → PrepareFits row new live master prepare
-  prepare_on live prepare fits = record {
-    range = fits.range;
-    invited = λ is lives below. fits.invited is lives (omega (arith, below, may.grows));
-    members = λ asks lives member. omega (arith, fits.members asks lives member, may.grows);
-  }
-
-  close_on : (live : Bool) (tenure : Tenure) → CloseFits row old live master tenure → CloseFits row new live master tenure
-  close_on live tenure fits = record {
-    source = fits.source;
-    may_follow = λ same lives below. fits.may_follow same lives (omega (arith, below, may.grows));
-  }
-
-  rebuild_on : (live : Bool) (rebuild : Rebuild) → RebuildFits row old live master rebuild → RebuildFits row new live master rebuild
-  rebuild_on live rebuild fits = record {
-    range = fits.range;
-    lineage = fits.lineage;
-    ordered = λ same lives below. fits.ordered same lives (omega (arith, below, may.grows));
-  }
-
   own_on : (live : Bool) (tenure : Tenure) → OwnFits row old live master tenure → OwnFits row new live master tenure
-  own_on live tenure fits = record {
-    owned = fits.owned;
-    reached = λ same lives. omega (arith, fits.reached same lives, may.grows);
-    owner = λ same lives at.
-        ⊎_elim
-        (λ (term : new.term ≡ old.term).
-        subst (λ (n : ℕ). IsOwner (post_of row.phase master) n row.term) (sym term) (fits.owner same lives (sym term ∙ at)))
-        (λ (rise : MayRise row master new). rise.owner)
-        may.term_is;
-  }
-
-  release_on : (live : Bool) (tenure : Tenure) → ReleaseFits row old live master tenure → ReleaseFits row new live master tenure
-  release_on live tenure fits = record {
-    owned = fits.owned;
-    outside = λ same lives within. fits.outside same lives (omega (arith, within, may.grows));
-  }
-
-  grant_on : (live : Bool) (handed : Option Handed) (grant : Grant) → GrantAgrees row old live handed master grant → GrantAgrees row new live handed master grant
-  grant_on live handed grant agrees = record {
-    reached = λ same lives. omega (arith, agrees.reached same lives, may.grows);
-    told = λ same lives at waits. absurd (both_ways (is_wanting new.role) wants waits);
-  }
+  own_on live tenure =
+      own_rises row old new live master may.grows tenure
+      (λ owner at.
+      ⊎_elim
+      (λ (term : new.term ≡ old.term). subst (λ (n : ℕ). IsOwner (post_of row.phase master) n row.term) (sym term) (owner (sym term ∙ at)))
+      (λ (rise : MayRise row master new). rise.owner)
+      may.term_is)
 
   -- no report of the old role counts now
   ready_on : (phase : Phase) (place : ℕ) → ReadyIn phase old row.term master place → ReadyIn phase new row.term master place
   ready_on (Opening source sfrom target None) place says =
       absurd (false≢true (sym may.waited ∙ ap is_wanting says.1))
-  ready_on (Opening source sfrom target (Some dfrom)) place says = tt
-  ready_on (Owned owner from) place says = tt
-  ready_on (Moving source sfrom target dfrom) place says = tt
-  ready_on (Rebuilding lineage to) place says = tt
+  ready_on _ place says = tt
 
   transfer_on : (phase : Phase) → row.phase ≡ phase → (completions : Completions) (transfer : Transfer) → TransferIn phase old completions row.term master transfer → TransferIn phase new completions row.term master transfer
   transfer_on (Opening source sfrom target dfrom) is completions transfer says =
       let outside : is_member (lineage_of (Opening source sfrom target dfrom)) master ≡ false =
       ap (λ (phase : Phase). is_member (lineage_of phase) master) (sym is) ∙ may.given_up says.1.role_is in
       absurd (false≢true (sym outside ∙ or_left (source == master) false (eq-eqb source master says.0)))
-  transfer_on (Owned owner from) is completions transfer says = tt
-  transfer_on (Moving source sfrom target dfrom) is completions transfer says = tt
-  transfer_on (Rebuilding lineage to) is completions transfer says = tt
+  transfer_on _ is completions transfer says = tt
 
   joined_on : (phase : Phase) → row.phase ≡ phase → (applied : ℕ) → JoinedIn phase old applied row.term master → JoinedIn phase new applied row.term master
   joined_on (Moving source sfrom target dfrom) is applied says =
       let formed : IsFormed (Moving source sfrom target dfrom) =
-      subst IsFormed is (All-contains (λ (r : Row). IsFormed r.phase) v.rows row sound.rows.formed may.has_row) in
+      subst IsFormed is (row_in v sound row may.has_row).formed in
       absurd (moving_steady source sfrom target dfrom new.role row.term new.term (v.written master).applied formed may.steady
       (subst (λ (q : ℕ). Holds (bond_of (post_of (Moving source sfrom target dfrom) q) new.role) row.term new.term (v.written master).applied)
       (sym says.0)
       (subst (λ (phase : Phase). Holds (bond_of (post_of phase master) new.role) row.term new.term (v.written master).applied) is may.fits)))
-  joined_on (Owned owner from) is applied says = says
-  joined_on (Opening source sfrom target dfrom) is applied says = says
-  joined_on (Rebuilding lineage to) is applied says = says
+  joined_on _ is applied says = says
 
-  rebuilt_on : (x : Row) → Contains v.rows x → (phase : Phase) → x.phase ≡ phase → (q applied : ℕ) (rebuilt : Rebuilt)
-      → RebuiltIn phase (v.handovers q x.tablet) (v.merged q x.tablet) applied x.term q rebuilt → RebuiltIn phase (now.handovers q x.tablet) (now.merged q x.tablet) applied x.term q rebuilt
-  rebuilt_on x has (Rebuilding lineage to) is q applied rebuilt says =
-      let Says : Handover → List Ended → Type 0 = λ h e. RebuiltIn (Rebuilding lineage to) h e applied x.term q rebuilt in
+  abbrev TellsRebuilt : Phase → ℕ → Rebuilt → SeenTablet → Type 0
+  TellsRebuilt phase q rebuilt t = RebuiltIn phase t.handover t.merged (v.written q).applied row.term q rebuilt
+
+  rebuilt_on : (phase : Phase) → row.phase ≡ phase → (q : ℕ) (rebuilt : Rebuilt) → TellsRebuilt phase q rebuilt (seen_at v row.tablet q) → TellsRebuilt phase q rebuilt (seen_at now row.tablet q)
+  rebuilt_on (Rebuilding lineage to) is q rebuilt says =
       ⊎_elim
-      (λ (here : (q ≡ master) × (x.tablet ≡ row.tablet)).
-      let term : (now.handovers q x.tablet).term ≡ x.term = by_row (λ x q h. h.term ≡ x.term) x has q at_term says.1 in
-      absurd (not_by_master x has lineage q here.0 here.1 (is ∙ ap (λ (n : ℕ). Rebuilding lineage n) says.0) term))
-      (λ (apart : q ≡ master → x.tablet ≡ row.tablet → ⊥).
-      subst (λ (h : Handover). Says h (now.merged q x.tablet)) (sym (put2_other v.handovers master row.tablet new q x.tablet apart))
-      (subst (λ (e : List Ended). Says (v.handovers q x.tablet) e) (sym (put2_other v.merged master row.tablet ends q x.tablet apart)) says))
-      (here_or_apart q x.tablet)
-  rebuilt_on x has (Owned owner from) is q applied rebuilt says = says
-  rebuilt_on x has (Opening source sfrom target dfrom) is q applied rebuilt says = says
-  rebuilt_on x has (Moving source sfrom target dfrom) is q applied rebuilt says = says
+      (λ (is_own : q ≡ master).
+      absurd (not_by_master lineage q is_own (is ∙ ap (λ (n : ℕ). Rebuilding lineage n) says.0)
+      (at (λ q h. h.term ≡ row.term) q at_term says.1)))
+      (λ (other : q ≡ master → ⊥). subst (TellsRebuilt (Rebuilding lineage to) q rebuilt) (other_has q other) says)
+      (cases_eq q master)
+  rebuilt_on _ is q rebuilt says = says
 
   -- between two members all terms are as before
-  of_target : (x : Row) → Contains v.rows x → (source target : Member) → lineage_of x.phase ≡ source ∷ target ∷ [] → (q : ℕ) (tenure : Tenure) → IsOfTarget x (now.handovers q x.tablet) tenure → IsOfTarget x (v.handovers q x.tablet) tenure
-  of_target x has source target two q tenure is = record { tablet = is.tablet; term = is.term ∙ term_of_two x has source target two q }
+  of_target : (source target : Member) → lineage_of row.phase ≡ source ∷ target ∷ [] → (q : ℕ) (tenure : Tenure) → IsOfTarget row (now.handovers q row.tablet) tenure → IsOfTarget row (v.handovers q row.tablet) tenure
+  of_target source target two q tenure is = record { tablet = is.tablet; term = is.term ∙ term_of_two source target two q }
 
-  ask_on : (x : Row) → Contains v.rows x → (lineage : List Member) → lineage_of x.phase ≡ lineage → (q : ℕ) (to : Node) (tenure : Tenure) → AskAgrees x v.handovers lineage q to tenure → AskAgrees x now.handovers lineage q to tenure
-  ask_on x has [] two q to tenure agrees = tt
-  ask_on x has (only ∷ []) two q to tenure agrees = tt
-  ask_on x has (source ∷ target ∷ []) two q to tenure agrees = λ here is. agrees here (of_target x has source target two q tenure is)
-  ask_on x has (source ∷ target ∷ third ∷ more) two q to tenure agrees = tt
+  ask_on : (lineage : List Member) → lineage_of row.phase ≡ lineage → (q : ℕ) (to : Node) (tenure : Tenure) → AskAgrees row v.handovers lineage q to tenure → AskAgrees row now.handovers lineage q to tenure
+  ask_on (source ∷ target ∷ []) two q to tenure agrees = λ here is. agrees here (of_target source target two q tenure is)
+  ask_on _ two q to tenure agrees = tt
 
-  pulled_on : (x : Row) → Contains v.rows x → (lineage : List Member) → lineage_of x.phase ≡ lineage → (from : Node) (q : ℕ) (pulled : Pulled) → PulledAgrees x v.written v.handovers v.live lineage from q pulled → PulledAgrees x v.written now.handovers v.live lineage from q pulled
-  pulled_on x has [] two from q pulled agrees = tt
-  pulled_on x has (only ∷ []) two from q pulled agrees = tt
-  pulled_on x has (source ∷ target ∷ []) two from q pulled agrees = λ here lives is.
-      agrees here lives (of_target x has source target two q pulled.tenure is)
-  pulled_on x has (source ∷ target ∷ third ∷ more) two from q pulled agrees = tt
+  pulled_on : (lineage : List Member) → lineage_of row.phase ≡ lineage → (from : Node) (q : ℕ) (pulled : Pulled) → PulledAgrees row v.written v.handovers v.live lineage from q pulled → PulledAgrees row v.written now.handovers v.live lineage from q pulled
+  pulled_on (source ∷ target ∷ []) two from q pulled agrees = λ here lives is.
+      agrees here lives (of_target source target two q pulled.tenure is)
+  pulled_on _ two from q pulled agrees = tt
 
-  got_on : (x : Row) → Contains v.rows x → (lineage : List Member) → lineage_of x.phase ≡ lineage → (from : Node) (q : ℕ) (got : Got) → GotAgrees x v.written v.handovers v.live lineage from q got → GotAgrees x v.written now.handovers v.live lineage from q got
-  got_on x has [] two from q got agrees = tt
-  got_on x has (only ∷ []) two from q got agrees = tt
-  got_on x has (source ∷ target ∷ []) two from q got agrees = λ here lives is.
-      agrees here lives (of_target x has source target two q got.tenure is)
-  got_on x has (source ∷ target ∷ third ∷ more) two from q got agrees = tt
+  got_on : (lineage : List Member) → lineage_of row.phase ≡ lineage → (from : Node) (q : ℕ) (got : Got) → GotAgrees row v.written v.handovers v.live lineage from q got → GotAgrees row v.written now.handovers v.live lineage from q got
+  got_on (source ∷ target ∷ []) two from q got agrees = λ here lives is. agrees here lives (of_target source target two q got.tenure is)
+  got_on _ two from q got agrees = tt
 
-  abbrev SaysIn : View → Row → Node → Node → Body → Type 0
-  SaysIn w x = SaysOf x w.logs w.written w.stored w.handovers w.completions w.merged w.live w.handed
+  to_on : (to : Node) (P : ℕ → Handover → Type 0) → (P master old → P master new) → IfMaster to (λ q. P q (v.handovers q row.tablet)) → IfMaster to (λ q. P q (now.handovers q row.tablet))
+  to_on to P gives = if_master to (λ q. P q (v.handovers q row.tablet)) (λ q. P q (now.handovers q row.tablet)) (λ q. at P q gives)
 
-  -- what a message says of a row it says still
-  says_on : (x : Row) → Contains v.rows x → (from to : Node) (body : Body) → SaysIn v x from to body → SaysIn now x from to body
-  says_on x has from to (bodies.Prepare prepare) says =
-      if_master to (λ q. PrepareFits x (v.handovers q x.tablet) (v.live q) q prepare)
-      (λ q. PrepareFits x (now.handovers q x.tablet) (v.live q) q prepare)
-      (λ q. by_row (λ x q h. PrepareFits x h (v.live q) q prepare) x has q (prepare_on (v.live master) prepare)) says
-  says_on x has from to (bodies.Ready ready) says =
-      by_master from (λ q. IsOf x ready.tenure → ReadyIn x.phase (v.handovers q x.tablet) x.term q ready.place)
-      (λ q. IsOf x ready.tenure → ReadyIn x.phase (now.handovers q x.tablet) x.term q ready.place)
-      (λ q.
-      by_row (λ x q h. IsOf x ready.tenure → ReadyIn x.phase h x.term q ready.place) x has q
-      (λ told is. ready_on row.phase ready.place (told is))) says
-  says_on x has from to (bodies.Close tenure) says =
-      if_master to (λ q. CloseFits x (v.handovers q x.tablet) (v.live q) q tenure)
-      (λ q. CloseFits x (now.handovers q x.tablet) (v.live q) q tenure)
-      (λ q. by_row (λ x q h. CloseFits x h (v.live q) q tenure) x has q (close_on (v.live master) tenure)) says
-  says_on x has from to (bodies.Transfer transfer) says =
-      by_master from
-      (λ q. IsOf x transfer.tenure → TransferIn x.phase (v.handovers q x.tablet) (v.completions q x.tablet) x.term q transfer)
-      (λ q. IsOf x transfer.tenure → TransferIn x.phase (now.handovers q x.tablet) (v.completions q x.tablet) x.term q transfer)
-      (λ q.
-      by_row (λ x q h. IsOf x transfer.tenure → TransferIn x.phase h (v.completions q x.tablet) x.term q transfer) x has q
-      (λ told is. transfer_on row.phase refl (v.completions master row.tablet) transfer (told is))) says
-  says_on x has from to (bodies.Grant grant) says = (
+  from_on : (from : Node) (P : ℕ → Handover → Type 0) → (P master old → P master new) → ByMaster from (λ q. P q (v.handovers q row.tablet)) → ByMaster from (λ q. P q (now.handovers q row.tablet))
+  from_on from P gives = by_master from (λ q. P q (v.handovers q row.tablet)) (λ q. P q (now.handovers q row.tablet)) (λ q. at P q gives)
+
+  -- what a message says of the row it says still
+  says_on : (from to : Node) (body : Body) → SaysIn v row from to body → SaysIn now row from to body
+  says_on from to (bodies.Prepare prepare) =
+      to_on to (λ q h. PrepareFits row h (v.live q) q prepare)
+      (prepare_rises row old new (v.live master) master may.grows prepare)
+  says_on from to (bodies.Ready ready) =
+      from_on from (λ q h. IsOf row ready.tenure → ReadyIn row.phase h row.term q ready.place)
+      (λ told is. ready_on row.phase ready.place (told is))
+  says_on from to (bodies.Close tenure) =
+      to_on to (λ q h. CloseFits row h (v.live q) q tenure)
+      (close_rises row old new (v.live master) master may.grows tenure)
+  says_on from to (bodies.Transfer transfer) =
+      from_on from (λ q h. IsOf row transfer.tenure → TransferIn row.phase h (v.completions q row.tablet) row.term q transfer)
+      (λ told is. transfer_on row.phase refl (v.completions master row.tablet) transfer (told is))
+  says_on from to (bodies.Grant grant) = λ says. (
     says.0,
-    if_master to (λ q. GrantAgrees x (v.handovers q x.tablet) (v.live q) (get v.handed x.tablet) q grant)
-        (λ q. GrantAgrees x (now.handovers q x.tablet) (v.live q) (get v.handed x.tablet) q grant)
-        (λ q.
-        by_row (λ x q h. GrantAgrees x h (v.live q) (get v.handed x.tablet) q grant) x has q
-        (grant_on (v.live master) (get v.handed row.tablet) grant)) says.1,
+    to_on to (λ q h. GrantAgrees row h (v.live q) (get v.handed row.tablet) q grant)
+        (grant_rises row old new (v.live master) master may.grows (get v.handed row.tablet) grant
+        (λ waits. absurd (both_ways (is_wanting new.role) wants waits))) says.1,
   )
-  says_on x has from to (bodies.Pull pull) says = (
+  says_on from to (bodies.Pull pull) = λ says. (says.0, by_master from _ _ (λ q. ask_on (lineage_of row.phase) refl q to pull.tenure) says.1)
+  says_on from to (bodies.Pulled pulled) = λ says. (
     says.0,
-    by_master from (λ q. AskAgrees x v.handovers (lineage_of x.phase) q to pull.tenure)
-        (λ q. AskAgrees x now.handovers (lineage_of x.phase) q to pull.tenure)
-        (λ q. ask_on x has (lineage_of x.phase) refl q to pull.tenure) says.1,
+    if_master to _ _ (λ q. pulled_on (lineage_of row.phase) refl from q pulled) says.1,
   )
-  says_on x has from to (bodies.Pulled pulled) says = (
-    says.0,
-    if_master to (λ q. PulledAgrees x v.written v.handovers v.live (lineage_of x.phase) from q pulled)
-        (λ q. PulledAgrees x v.written now.handovers v.live (lineage_of x.phase) from q pulled)
-        (λ q. pulled_on x has (lineage_of x.phase) refl from q pulled) says.1,
-  )
-  says_on x has from to (bodies.Want want) says = (
-    says.0,
-    by_master from (λ q. AskAgrees x v.handovers (lineage_of x.phase) q to want.tenure)
-        (λ q. AskAgrees x now.handovers (lineage_of x.phase) q to want.tenure)
-        (λ q. ask_on x has (lineage_of x.phase) refl q to want.tenure) says.1,
-  )
-  says_on x has from to (bodies.Got got) says = (
-    says.0,
-    if_master to (λ q. GotAgrees x v.written v.handovers v.live (lineage_of x.phase) from q got)
-        (λ q. GotAgrees x v.written now.handovers v.live (lineage_of x.phase) from q got)
-        (λ q. got_on x has (lineage_of x.phase) refl from q got) says.1,
-  )
-  says_on x has from to (bodies.Joined tenure) says =
-      by_master from (λ q. IsOf x tenure → JoinedIn x.phase (v.handovers q x.tablet) (v.written q).applied x.term q)
-      (λ q. IsOf x tenure → JoinedIn x.phase (now.handovers q x.tablet) (v.written q).applied x.term q)
-      (λ q.
-      by_row (λ x q h. IsOf x tenure → JoinedIn x.phase h (v.written q).applied x.term q) x has q
-      (λ told is. joined_on row.phase refl (v.written master).applied (told is))) says
-  says_on x has from to (bodies.Own tenure) says =
-      if_master to (λ q. OwnFits x (v.handovers q x.tablet) (v.live q) q tenure)
-      (λ q. OwnFits x (now.handovers q x.tablet) (v.live q) q tenure)
-      (λ q. by_row (λ x q h. OwnFits x h (v.live q) q tenure) x has q (own_on (v.live master) tenure)) says
-  says_on x has from to (bodies.Release tenure) says =
-      if_master to (λ q. ReleaseFits x (v.handovers q x.tablet) (v.live q) q tenure)
-      (λ q. ReleaseFits x (now.handovers q x.tablet) (v.live q) q tenure)
-      (λ q. by_row (λ x q h. ReleaseFits x h (v.live q) q tenure) x has q (release_on (v.live master) tenure)) says
-  says_on x has from to (bodies.Rebuild rebuild) says =
-      if_master to (λ q. RebuildFits x (v.handovers q x.tablet) (v.live q) q rebuild)
-      (λ q. RebuildFits x (now.handovers q x.tablet) (v.live q) q rebuild)
-      (λ q. by_row (λ x q h. RebuildFits x h (v.live q) q rebuild) x has q (rebuild_on (v.live master) rebuild)) says
-  says_on x has from to (bodies.Rebuilt rebuilt) says =
-      by_master from
-      (λ q. IsOf x rebuilt.tenure
-      → RebuiltIn x.phase (v.handovers q x.tablet) (v.merged q x.tablet) (v.written q).applied x.term q rebuilt)
-      (λ q. IsOf x rebuilt.tenure
-      → RebuiltIn x.phase (now.handovers q x.tablet) (now.merged q x.tablet) (v.written q).applied x.term q rebuilt)
-      (λ q told is. rebuilt_on x has x.phase refl q (v.written q).applied rebuilt (told is)) says
-  says_on x has from to body says = says
+  says_on from to (bodies.Want want) = λ says. (says.0, by_master from _ _ (λ q. ask_on (lineage_of row.phase) refl q to want.tenure) says.1)
+  says_on from to (bodies.Got got) = λ says. (says.0, if_master to _ _ (λ q. got_on (lineage_of row.phase) refl from q got) says.1)
+  says_on from to (bodies.Joined tenure) =
+      from_on from (λ q h. IsOf row tenure → JoinedIn row.phase h (v.written q).applied row.term q)
+      (λ told is. joined_on row.phase refl (v.written master).applied (told is))
+  says_on from to (bodies.Own tenure) = to_on to (λ q h. OwnFits row h (v.live q) q tenure) (own_on (v.live master) tenure)
+  says_on from to (bodies.Release tenure) =
+      to_on to (λ q h. ReleaseFits row h (v.live q) q tenure)
+      (release_rises row old new (v.live master) master may.grows tenure)
+  says_on from to (bodies.Rebuild rebuild) =
+      to_on to (λ q h. RebuildFits row h (v.live q) q rebuild)
+      (rebuild_rises row old new (v.live master) master may.grows rebuild)
+  says_on from to (bodies.Rebuilt rebuilt) =
+      by_master from (λ q. IsOf row rebuilt.tenure → TellsRebuilt row.phase q rebuilt (seen_at v row.tablet q))
+      (λ q. IsOf row rebuilt.tenure → TellsRebuilt row.phase q rebuilt (seen_at now row.tablet q))
+      (λ q told is. rebuilt_on row.phase refl q rebuilt (told is))
+  says_on from to _ = λ says. says
 
-  messages : MessagesOf now
-  messages = record {
-    of_rows = λ n m found k d within.
-        says_on (slice_index_or v.rows k d) (Contains-get_or v.rows k d within) m.from m.to m.body
-        (sound.messages.of_rows n m found k d within);
+  -- ---- the whole
+
+  holds : SoundRow now row
+  holds = record {
+    named = was.named;
+    begun = was.begun;
+    formed = was.formed;
+    placed = was.placed;
+    sent = was.sent;
+    fitting = λ q.
+        at (λ q h. StillCounts (v.live q) h.term row.term → RoleFits row q h (v.written q).applied) q (λ was counts. may.fits) (was.fitting q);
+    ranged = λ q.
+        at (λ q h. StillCounts (v.live q) h.term row.term → is_member (lineage_of row.phase) q ≡ true → h.range ≡ row.range) q
+        (λ was counts member. may.range_is ∙ was (inl may.lives) member) (was.ranged q);
+    at_term = keep_term row.phase was.at_term;
+    truth = was.truth;
+    above = was.above;
+    reached = was.reached;
+    recorded = was.recorded;
+    moving = was.moving;
+    answering = λ q.
+        at
+        (λ q h. StillCounts (v.live q) h.term row.term → speaks (post_of row.phase q) h row.term ≡ true
+        → ReachAll row.range v.journal (ends_of (v.completions q row.tablet)))
+        q (λ was counts says. was (inl may.lives) (may.speaks says)) (was.answering q);
+    ends_granted = rw for_grant_same was.ends_granted;
+    ends_sent = λ n m there. rw (by_message_same m.body) (was.ends_sent n m there);
+    low = was.low;
+    low_moving = was.low_moving;
+    counted = λ q.
+        at
+        (λ q h. StillCounts (v.live q) h.term row.term → speaks (post_of row.phase q) h row.term ≡ true → IsNextOf v row h.counter) q
+        (λ was counts says. subst (IsNextOf v row) (sym may.counter_is) (was (inl may.lives) (may.speaks says))) (was.counted q);
+    floor_granted = rw for_grant_same was.floor_granted;
+    floor_sent = λ n m there. rw (by_message_same m.body) (was.floor_sent n m there);
+    goes_on = was.goes_on;
+    done = was.done;
+    unnamed = was.unnamed;
+    idle = λ q.
+        at
+        (λ q h. StillCounts (v.live q) h.term row.term → is_idle h.role ≡ true
+        → list_any (touches row.range) (drop (v.written q).applied (v.written q).entries) ≡ false)
+        q (λ was counts idles. may.settled idles) (was.idle q);
+    items = λ q lives.
+        at (λ q h. v.live q ≡ true → has_all_items (post_of row.phase q) h row.term ≡ true → HasItems row v.written (v.records q)) q
+        (λ was lives has. was lives (all_items_before (post_of row.phase master) old new row.term may.grows has)) (was.items q) lives;
+    target = members (lineage_of row.phase) was.target;
+    handed_on = told (lineage_of row.phase) refl was.handed_on;
+    named_items = was.named_items;
+    rebuilt = row_rebuilt row.phase refl was.rebuilt;
+    marks = λ q m e inside.
+        at
+        (λ q h. (slice_index_or (v.written q).marks m e).tablet ≡ row.tablet
+        → MarkFits row q h (v.live q) (v.written q) (slice_index_or (v.written q).marks m e))
+        q
+        (λ was its.
+        let fit = was its in record {
+          rebuilt = fit.rebuilt;
+          within = fit.within;
+          present = fit.present;
+          by_rebuilder = λ of_term. let told = fit.by_rebuilder of_term in absurd (not_rebuilt (lineage_of row.phase) told.0 told.1);
+          behind = fit.behind;
+        })
+        (was.marks q m e inside);
+    pieces = was.pieces;
+    says = λ n m there. says_on m.from m.to m.body (was.says n m there);
+  }
+
+  beside : SoundBeside now
+  beside = record {
+    numbered = sound.nodes.numbered;
+    backed = sound.nodes.backed;
+    known_backups = sound.nodes.known;
+    crashed = sound.nodes.crashed;
+    left = sound.nodes.left;
+    rows_apart = sound.rows.apart;
+    covered = sound.rows.covered;
+    kept = λ q r k d within.
+        let x : Row = slice_index_or v.rows k d in
+        by (λ q r h. HandoverFits x r h) q r (handover_fits x (Contains-get_or v.rows k d within)) (sound.terms.kept q r k d within);
+    begun = λ q r.
+        by (λ q r h. is_absent h.role ≡ false → 1 ≤ h.term) q r (λ was there. omega (arith, was (may.present there), may.grows))
+        (sound.terms.begun q r);
+    apart = λ q a b other a_there b_there.
+        (λ i. meets (range_same q a i) (range_same q b i)) ∙ sound.terms.apart q a b other (present q a a_there) (present q b b_there);
+    cover = cover;
+    has_row = λ q r lives there. sound.roles.known q r lives (present q r there);
+    logs = sound.logs;
+    legal = sound.truth.legal;
+    rising = sound.truth.rising;
+    seen = sound.truth.seen;
+    once = sound.calls.once;
+    known = λ q r lives.
+        All-weaker _ _ (end_known q r)
+        (ends_of (v.completions q r)) (sound.calls.known q r lives);
+    waiting = λ q lives place call there. waits q place call (sound.rest.waiting q lives place call there);
+    are_last = sound.rest.are_last;
+    found = sound.rest.found;
+    ordered = sound.records.ordered;
+    bare = λ q r.
+        by (λ q r h. IsBareOf h (v.written q) (v.records q)) q r (λ was. steady_place new.role _ may.steady) (sound.receives.bare q r);
     others = sound.messages.others;
+    asked = sound.asked;
   }
 
   pub view_role_taken : SoundView now
-  view_role_taken = record {
-    nodes = sound.nodes;
-    rows = sound.rows;
-    terms = terms;
-    cover = cover;
-    roles = roles_fit;
-    logs = sound.logs;
-    truth = sound.truth;
-    order = sound.order;
-    calls = calls;
-    counters = counters;
-    rest = rest;
-    records = tables;
-    receives = receives;
-    rebuilds = rebuilds;
-    messages = messages;
-    asked = sound.asked;
-  }
+  view_role_taken =
+      view_by_rows now beside
+      (rows_but_one v now row sound may.has_row (λ seen. refl) (λ q r other. seen_apart q r (λ is_own its. other its)) holds)

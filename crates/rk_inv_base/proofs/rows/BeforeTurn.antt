@@ -6,6 +6,7 @@ use Rattle.rk_inv_base.proofs.Words.{cond_both, All-contains, All-weaker, ⊤, M
 use Rattle.rk_inv_base.proofs.Words.{IsClosing, IsOnlyRebuilder, row_at, Owner, InvitedTarget, OpeningSource, Bystander, post_of}
 use Rattle.rk_inv_base.proofs.Words.{StillCounts, MarkFits, HandoverFits, View, SoundView}
 use Rattle.rk_sound.specs.Messages.{MayFollowClose}
+use Rattle.rk_inv_base.proofs.views.ByRows.{row_in}
 
 -- what counts at a term counted at one that is not greater, if it is at most that
 pub counted_before : (live : Bool) (own old new : ℕ) → own ≤ old → old ≤ new → StillCounts live own new → StillCounts live own old
@@ -65,6 +66,4 @@ module _ (v : View) (row : Row) (term : ℕ) (phase : Phase) (sound : SoundView 
       (λ mark fits its.
       let rebuilt = (fits its).rebuilt in absurd (early_unmarked row.phase rebuilt.0 rebuilt.1 early rebuilt.2))
       (v.written q).marks
-      (All-contains
-      (λ r. All (λ mark. mark.tablet ≡ r.tablet → MarkFits r q (v.handovers q r.tablet) (v.live q) (v.written q) mark) (v.written q).marks)
-      v.rows row (sound.rebuilds.marks q) has_row)
+      ((row_in v sound row has_row).marks q)

@@ -7,7 +7,7 @@ use Rattle.rk_inv_base.proofs.Words.{All-head, All-map, All-push, All-tail, All-
 use Rattle.rk_inv_base.proofs.Words.{Member, lineage_of, member, IsTabletMap, Precedes, replaced, Phase, Owned, Opening, Moving, Rebuilding}
 use Rattle.rk_inv_base.proofs.Words.{Row, Coordinator, is_noticed, is_member, names, phase_noticed, row_noticed, IsMaster, World, Mark}
 use Rattle.rk_inv_base.proofs.Words.{IsClosing, IsOnlyRebuilder, IsRebuiltBy, MayTakePost, MayTurn, row_at, post_of, StillCounts, MarkFits}
-use Rattle.rk_inv_base.proofs.Words.{MarkedFit, RowIsRebuilt, RoleFits, AreApart, IsFormed, View, view, truths, IsSound, SoundView}
+use Rattle.rk_inv_base.proofs.Words.{MarkedFit, RowIsRebuilt, AreApart, IsFormed, View, view, truths, IsSound, SoundView}
 use Rattle.rk_world.specs.Coordinator.{lowest_left}
 use Rattle.rk_world.specs.Notices.{next_rebuilder}
 use Rattle.rk_sound.specs.Messages.{MayFollowClose}
@@ -19,14 +19,14 @@ use Rattle.rk_inv_base.proofs.views.Lists.{all_by}
 use Rattle.rk_inv_base.proofs.logs.MarkedApart.{marked_fit}
 use Rattle.rk_inv_base.proofs.rows.NoticedPosts.{PassesTo, noticed_closing, noticed_post, noticed_rebuilder, noticed_rebuilt, rebuilding}
 use Rattle.rk_inv_base.proofs.rows.RowTurned.{view_turned}
+use Rattle.rk_inv_base.proofs.views.ByRows.{SoundRow, row_in}
 
 -- ---- a phase and its members
 
 pub formed_apart : (phase : Phase) → IsFormed phase → AreApart (lineage_of phase)
-formed_apart (Owned master from) formed = tt
-formed_apart (Opening source sfrom target dfrom) formed = tt
 formed_apart (Moving source sfrom target dfrom) formed = formed
 formed_apart (Rebuilding lineage to) formed = formed
+formed_apart _ formed = tt
 
 -- a row names its members
 pub names_members : (phase : Phase) (q : ℕ) → is_member (lineage_of phase) q ≡ true → names phase q ≡ true
@@ -59,8 +59,8 @@ module _ (v : View) (row : Row) (dead : ℕ) (sound : SoundView v) (crashed : v.
   abbrev next : ℕ
   next = row.term + 1
 
-  in_row : (P : Row → Type 0) → All P v.rows → P row
-  in_row P all = All-contains P v.rows row all has_row
+  its : SoundRow v row
+  its = row_in v sound row has_row
 
   low : (q : ℕ) → (v.handovers q row.tablet).term ≤ row.term
   low q = at_most v row q sound has_row
@@ -72,7 +72,7 @@ module _ (v : View) (row : Row) (dead : ℕ) (sound : SoundView v) (crashed : v.
   named q names_it =
       ⊎_elim (λ (takes : eqb to q ≡ true). subst (IsMaster v.masters) (eqb-true to q takes) there)
       (λ (inside : is_member (lineage_of row.phase) q ≡ true).
-      in_row (λ r. names r.phase q ≡ true → IsMaster v.masters q) (sound.nodes.named q) (names_members row.phase q inside))
+      its.named q (names_members row.phase q inside))
       (or_cases (eqb to q) (is_member (lineage_of row.phase) q) names_it)
 
   -- only what a living master has counts at the next term
@@ -84,8 +84,7 @@ module _ (v : View) (row : Row) (dead : ℕ) (sound : SoundView v) (crashed : v.
   posts : (q : ℕ) → StillCounts (v.live q) (v.handovers q row.tablet).term next → MayTakePost (post_of row.phase q) (post_of new q) row.term next (v.handovers q row.tablet) (v.written q).applied
   posts q counting =
       noticed_post dead to q (apart q (living q counting)) row.term (v.handovers q row.tablet) (v.written q).applied (low q) row.phase passes
-      (in_row (λ r. StillCounts (v.live q) (v.handovers q r.tablet).term r.term → RoleFits r q (v.handovers q r.tablet) (v.written q).applied)
-      (sound.roles.fitting q) (inl (living q counting)))
+      (its.fitting q (inl (living q counting)))
 
   closes : (q order : ℕ) → v.live q ≡ true → (v.handovers q row.tablet).term < order → MayFollowClose row q order → MayFollowClose (row_at row next new) q order
   closes q order lives below follows =
@@ -100,26 +99,12 @@ module _ (v : View) (row : Row) (dead : ℕ) (sound : SoundView v) (crashed : v.
   given_up q lives = noticed_rebuilt dead to q (apart q lives) row.phase passes
 
   -- what is marked of the members tells nothing new, by the old phase
-  fit_by : (phase : Phase) → row.phase ≡ phase → MarkedFit v.logs v.written v.stored v.live row.range (lineage_of phase)
+  fit_by : (phase : Phase) → row.phase ≡ phase → MarkedFit v.logs v.written v.stored v.live row.range (lineage_of row.phase)
   fit_by (Rebuilding lineage was) is =
-      (subst
-      (λ (phase : Phase).
-      RowIsRebuilt row phase (truths v row) v.logs v.written v.stored v.handovers v.completions v.gathers v.merged v.records v.live) is
-      (in_row
-      (λ r. RowIsRebuilt r r.phase (truths v r) v.logs v.written v.stored v.handovers v.completions v.gathers v.merged v.records v.live)
-      sound.rebuilds.rebuilt)).1
-  fit_by (Owned master from) is =
-      marked_fit v row sound has_row some
-      (λ lineage t rebuilt. let e : Owned master from ≡ Rebuilding lineage t = sym is ∙ rebuilt in absurd (cc e))
-      (member master from ∷ [])
-  fit_by (Opening source sfrom target dfrom) is =
-      marked_fit v row sound has_row some
-      (λ lineage t rebuilt. let e : Opening source sfrom target dfrom ≡ Rebuilding lineage t = sym is ∙ rebuilt in absurd (cc e))
-      (member source sfrom ∷ [])
-  fit_by (Moving source sfrom target dfrom) is =
-      marked_fit v row sound has_row some
-      (λ lineage t rebuilt. let e : Moving source sfrom target dfrom ≡ Rebuilding lineage t = sym is ∙ rebuilt in absurd (cc e))
-      (member source sfrom ∷ member target dfrom ∷ [])
+      let by : (phase : Phase) → Type 0 = λ phase.
+      RowIsRebuilt row phase (truths v row) v.logs v.written v.stored v.handovers v.completions v.gathers v.merged v.records v.live in
+      subst (λ (phase : Phase). MarkedFit v.logs v.written v.stored v.live row.range (lineage_of phase)) (sym is) (subst by is its.rebuilt).1
+  fit_by _ is = marked_fit v row sound has_row some (λ lineage t rebuilt. absurd (cc (sym is ∙ rebuilt))) (lineage_of row.phase)
 
   -- a mark of the tablet is of an older term now
   mark_fits : (q : ℕ) (mark : Mark) → MarkFits row q (v.handovers q row.tablet) (v.live q) (v.written q) mark → MarkFits (row_at row next new) q (v.handovers q row.tablet) (v.live q) (v.written q) mark
@@ -138,7 +123,7 @@ module _ (v : View) (row : Row) (dead : ℕ) (sound : SoundView v) (crashed : v.
     has_row = has_row;
     lineage_is = refl;
     term_is = inl (omega arith);
-    formed = formed_apart row.phase (in_row (λ r. IsFormed r.phase) sound.rows.formed);
+    formed = formed_apart row.phase its.formed;
     named = named;
     at_term = tt;
     posts = posts;
@@ -150,8 +135,7 @@ module _ (v : View) (row : Row) (dead : ℕ) (sound : SoundView v) (crashed : v.
         All-weaker (λ mark. mark.tablet ≡ row.tablet → MarkFits row q (v.handovers q row.tablet) (v.live q) (v.written q) mark)
         (λ mark. mark.tablet ≡ row.tablet → MarkFits (row_at row next new) q (v.handovers q row.tablet) (v.live q) (v.written q) mark)
         (λ mark fits its. mark_fits q mark (fits its)) (v.written q).marks
-        (in_row (λ r. All (λ mark. mark.tablet ≡ r.tablet → MarkFits r q (v.handovers q r.tablet) (v.live q) (v.written q) mark) (v.written q).marks)
-        (sound.rebuilds.marks q));
+        (its.marks q);
   }
 
 -- ---- rows, one by one

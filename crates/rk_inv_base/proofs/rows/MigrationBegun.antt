@@ -1,14 +1,15 @@
 -- A lane stays sound when a row that is owned begins to move to another master that is there, at the next term.
 use Rattle.std.proofs.Common.{◌≡◌, ℕ, ◌+◌, Bool, true, false, cond, eqb, List, Some, None, refl, sym, ap, subst, ◌∙◌, ⊎_elim, arith, inl}
-use Rattle.std.proofs.Common.{All, eqb-true}
-use Rattle.rk_inv_base.proofs.Words.{or_cases, All-contains, Role, lineage_of, Phase, Opening, Row, names, IsMaster, World, MayTakePost}
-use Rattle.rk_inv_base.proofs.Words.{MayTurn, Post, Owner, OpeningSource, InvitedTarget, Bystander, post_of, bond_of, Holds, StillCounts}
-use Rattle.rk_inv_base.proofs.Words.{RoleFits, View, view, IsSound, SoundView}
+use Rattle.std.proofs.Common.{eqb-true}
+use Rattle.rk_inv_base.proofs.Words.{or_cases, Role, lineage_of, Phase, Opening, Row, names, IsMaster, World, MayTakePost, MayTurn, Post}
+use Rattle.rk_inv_base.proofs.Words.{Owner, OpeningSource, InvitedTarget, Bystander, post_of, bond_of, Holds, StillCounts, View, view}
+use Rattle.rk_inv_base.proofs.Words.{IsSound, SoundView}
 use Rattle.rk_transfer.specs.declared.role.Role.TheVariants as roles
 use Rattle.rk_sound.specs.Moves.{MayMigrate}
 use Rattle.rk_sound.specs.Small.{migration_begun_in}
 use Rattle.rk_inv_base.proofs.rows.BeforeTurn.{IsEarly, at_most, counted_before, none_closes, none_marked, none_rebuilds}
 use Rattle.rk_inv_base.proofs.rows.RowTurned.{rows_turned, view_turned}
+use Rattle.rk_inv_base.proofs.views.ByRows.{SoundRow, row_in}
 
 -- ---- posts at the next term
 
@@ -43,16 +44,14 @@ module _ (v : View) (row : Row) (to : ℕ) (sound : SoundView v) (may : MayMigra
   abbrev FitsPost : ℕ → Post → Type 0
   FitsPost q post = Holds (bond_of post (v.handovers q row.tablet).role) row.term (v.handovers q row.tablet).term (v.written q).applied
 
-  -- what is known of the row
-  in_row : (P : Row → Type 0) → All P v.rows → P row
-  in_row P all = All-contains P v.rows row all may.has_row
+  its : SoundRow v row
+  its = row_in v sound row may.has_row
 
   named : (q : ℕ) → names opening q ≡ true → IsMaster v.masters q
   named q there =
       ⊎_elim
       (λ (owns : eqb may.owner q ≡ true).
-      in_row (λ r. names r.phase q ≡ true → IsMaster v.masters q) (sound.nodes.named q)
-      (ap (λ (phase : Phase). names phase q) may.phase_is ∙ owns))
+      its.named q (ap (λ (phase : Phase). names phase q) may.phase_is ∙ owns))
       (λ (takes : eqb to q ≡ true). subst (IsMaster v.masters) (eqb-true to q takes) may.there)
       (or_cases (eqb may.owner q) (eqb to q) there)
 
@@ -80,8 +79,7 @@ module _ (v : View) (row : Row) (to : ℕ) (sound : SoundView v) (may : MayMigra
   posts : (q : ℕ) → StillCounts (v.live q) (v.handovers q row.tablet).term (row.term + 1) → TakesPost q (post_of row.phase q) (post_of opening q)
   posts q counting =
       let fits : FitsPost q (post_of row.phase q) =
-      in_row (λ r. StillCounts (v.live q) (v.handovers q r.tablet).term r.term → RoleFits r q (v.handovers q r.tablet) (v.written q).applied)
-      (sound.roles.fitting q)
+      its.fitting q
       (counted_before (v.live q) (v.handovers q row.tablet).term row.term (row.term + 1) (at_most v row q sound may.has_row) (omega arith)
       counting) in
       subst (λ (phase : Phase). TakesPost q (post_of phase q) (post_of opening q)) (sym may.phase_is)

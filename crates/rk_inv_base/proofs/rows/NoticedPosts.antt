@@ -8,6 +8,7 @@ use Rattle.rk_inv_base.proofs.Words.{FirstRebuilder, LastRebuilder, OutsideRebui
 use Rattle.rk_inv_base.proofs.Words.{target_post, bond_of, Holds}
 use Rattle.rk_transfer.specs.declared.role.Role.TheVariants as roles
 use Rattle.rk_inv_base.proofs.rows.MigrationBegun.{bystander_stays}
+use Rattle.rk_inv_base.proofs.rows.Heirs.{neither_heir, only_in_rebuild}
 
 -- ---- posts at the next term
 
@@ -243,33 +244,16 @@ module _ (dead to q : ℕ) (apart : q ≡ dead → ⊥) where
       (sym (cond-true (eqb to q) own former (eq-eqb to q (sym both.1 ∙ closing))
       ∙ cond-true (eqb source q) (OnlyRebuilder sfrom) OutsideRebuilder (eq-eqb source q closing)))
       tt) passes
-  noticed_closing (Opening source sfrom target None) passes closing = absurd closing
-  noticed_closing (Owned master from) passes closing = absurd closing
-  noticed_closing (Moving source sfrom target dfrom) passes closing = absurd closing
-  noticed_closing (Rebuilding lineage was) passes closing = absurd closing
-
-  target_apart : (dfrom : Option ℕ) → IsOnlyRebuilder (target_post dfrom) → ⊥
-  target_apart None its = its
-  target_apart (Some place) its = its
-
-  neither : (a b : Bool) (one another : Post) → (IsOnlyRebuilder one → ⊥) → (IsOnlyRebuilder another → ⊥) → IsOnlyRebuilder (cond a one (cond b another Bystander)) → ⊥
-  neither true b one another first second its = first its
-  neither false true one another first second its = second its
-  neither false false one another first second its = its
+  noticed_closing _ passes closing = absurd closing
 
   -- no living master was to rebuild the tablet, which was its own alone
   pub noticed_rebuilder : (phase : Phase) → PassesTo dead phase to → IsOnlyRebuilder (post_of phase q) → ⊥
-  noticed_rebuilder (Owned master from) passes its =
-      neither (eqb master q) false (Owner from) Bystander (λ its. its) (λ its. its) its
-  noticed_rebuilder (Opening source sfrom target dfrom) passes its =
-      neither (eqb source q) (eqb target q) OpeningSource (target_post dfrom) (λ its. its) (target_apart dfrom) its
-  noticed_rebuilder (Moving source sfrom target dfrom) passes its =
-      neither (eqb source q) (eqb target q) MovingSource (MovingTarget dfrom) (λ its. its) (λ its. its) its
   noticed_rebuilder (Rebuilding lineage was) passes its =
-      neither false (is_member lineage q) FormerMember FormerMember (λ its. its) (λ its. its)
+      neither_heir false (is_member lineage q) FormerMember FormerMember (λ its. its) (λ its. its)
       (subst IsOnlyRebuilder
       (cond-false (eqb was q) (rebuilder_post lineage q) (cond (is_member lineage q) FormerMember Bystander)
       (ne_eqb was q (λ same. apart (sym same ∙ passes)))) its)
+  noticed_rebuilder phase passes its = let found = only_in_rebuild phase q its in absurd (cc found.2)
 
   -- nor does one rebuild it
   pub noticed_rebuilt : (phase : Phase) → PassesTo dead phase to → IsRebuiltBy phase q → ⊥

@@ -19,9 +19,8 @@ pub is_target : (source target master : ℕ) (noted : Option ℕ) → cond (eqb 
 is_target source target master noted invited = go (eqb source master) (eqb target master) refl invited
   where
     go : (a b : Bool) → eqb target master ≡ b → cond a OpeningSource (cond b (target_post noted) Bystander) ≡ InvitedTarget → target ≡ master
-    go true b is invited = absurd (cc)
     go false true is invited = eqb-true target master is
-    go false false is invited = absurd (cc)
+    go _ _ is invited = absurd (cc)
 
 -- its target keeps the row's term, so none is invited that keeps a smaller one
 pub none_invited : (old new : Phase) (terms : ℕ → ℕ) (term master : ℕ) → OpensOn old new → KeepTerm new terms term → post_of old master ≡ InvitedTarget → terms master < term → ⊥

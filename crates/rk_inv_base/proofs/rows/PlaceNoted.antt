@@ -1,13 +1,14 @@
 -- A view stays sound when the place of a target is noted, where that waits at it at the row's term.
-use Rattle.std.proofs.Common.{◌≡◌, ℕ, Bool, true, false, cond, eqb, List, Some, None, refl, sym, ap, subst, ◌∙◌, inr, All, eqb-true}
-use Rattle.rk_inv_base.proofs.Words.{All-contains, Handover, Role, lineage_of, Phase, Opening, Row, names, IsMaster, World, MayTakePost}
-use Rattle.rk_inv_base.proofs.Words.{MayTurn, Post, InvitedTarget, ReadyTarget, OpeningSource, Bystander, post_of, bond_of, Holds}
-use Rattle.rk_inv_base.proofs.Words.{StillCounts, RoleFits, IsFormed, View, view, IsSound, SoundView}
+use Rattle.std.proofs.Common.{◌≡◌, ℕ, Bool, true, false, cond, eqb, List, Some, None, refl, sym, ap, subst, ◌∙◌, inr, eqb-true}
+use Rattle.rk_inv_base.proofs.Words.{Handover, Role, lineage_of, Phase, Opening, Row, names, IsMaster, World, MayTakePost, MayTurn, Post}
+use Rattle.rk_inv_base.proofs.Words.{InvitedTarget, ReadyTarget, OpeningSource, Bystander, post_of, bond_of, Holds, StillCounts, IsFormed}
+use Rattle.rk_inv_base.proofs.Words.{View, view, IsSound, SoundView}
 use Rattle.rk_transfer.specs.declared.role.Role.TheVariants as roles
 use Rattle.rk_sound.specs.Moves.{MayNote}
 use Rattle.rk_sound.specs.Small.{place_noted_in}
 use Rattle.rk_inv_base.proofs.rows.BeforeTurn.{IsEarly, none_closes, none_marked, none_rebuilds}
 use Rattle.rk_inv_base.proofs.rows.RowTurned.{rows_turned, view_turned}
+use Rattle.rk_inv_base.proofs.views.ByRows.{SoundRow, row_in}
 
 -- what a master has fits its post as before, where that is the same
 pub same_post : (post : Post) (term : ℕ) (handover : Handover) (applied : ℕ) → Holds (bond_of post handover.role) term handover.term applied → MayTakePost post post term term handover applied
@@ -23,9 +24,6 @@ ready_post place term handover applied waits at = record {
 }
 
 module _ (v : View) (row : Row) (source sfrom target place : ℕ) (sound : SoundView v) (may : MayNote v row source sfrom target place) where
-  abbrev opened : Phase
-  opened = Opening source sfrom target None
-
   abbrev noted : Phase
   noted = Opening source sfrom target (Some place)
 
@@ -36,14 +34,11 @@ module _ (v : View) (row : Row) (source sfrom target place : ℕ) (sound : Sound
   abbrev FitsPost : ℕ → Post → Type 0
   FitsPost q post = Holds (bond_of post (v.handovers q row.tablet).role) row.term (v.handovers q row.tablet).term (v.written q).applied
 
-  -- what is known of the row
-  in_row : (P : Row → Type 0) → All P v.rows → P row
-  in_row P all = All-contains P v.rows row all may.has_row
+  its : SoundRow v row
+  its = row_in v sound row may.has_row
 
   named : (q : ℕ) → names noted q ≡ true → IsMaster v.masters q
-  named q there =
-      in_row (λ r. names r.phase q ≡ true → IsMaster v.masters q) (sound.nodes.named q)
-      (ap (λ (phase : Phase). names phase q) may.phase_is ∙ there)
+  named q there = its.named q (ap (λ (phase : Phase). names phase q) may.phase_is ∙ there)
 
   -- only the post of the target is another one
   posts_by : (q : ℕ) (a b : Bool) → eqb target q ≡ b
@@ -59,9 +54,7 @@ module _ (v : View) (row : Row) (source sfrom target place : ℕ) (sound : Sound
 
   posts : (q : ℕ) → StillCounts (v.live q) (v.handovers q row.tablet).term row.term → TakesPost q (post_of row.phase q) (post_of noted q)
   posts q counting =
-      let fits : FitsPost q (post_of row.phase q) =
-      in_row (λ r. StillCounts (v.live q) (v.handovers q r.tablet).term r.term → RoleFits r q (v.handovers q r.tablet) (v.written q).applied)
-      (sound.roles.fitting q) counting in
+      let fits : FitsPost q (post_of row.phase q) = its.fitting q counting in
       subst (λ (phase : Phase). TakesPost q (post_of phase q) (post_of noted q)) (sym may.phase_is)
       (posts_by q (eqb source q) (eqb target q) refl (subst (λ (phase : Phase). FitsPost q (post_of phase q)) may.phase_is fits))
 
@@ -76,7 +69,7 @@ module _ (v : View) (row : Row) (source sfrom target place : ℕ) (sound : Sound
       refl,
       record { source = source; from = sfrom; target = target; noted = None; place = place; was = may.phase_is; is = refl },
     );
-    formed = subst IsFormed may.phase_is (in_row (λ r. IsFormed r.phase) sound.rows.formed);
+    formed = subst IsFormed may.phase_is its.formed;
     named = named;
     at_term = may.waiting.term_is;
     posts = posts;

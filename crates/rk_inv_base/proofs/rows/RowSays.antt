@@ -124,24 +124,18 @@ module _ (v : View) (row : Row) (term : ℕ) (phase : Phase) (may : MayTurn v ro
   of_target handover tenure is = record { tablet = is.tablet; term = is.term }
 
   asks : (l : List Member) (q : ℕ) (to : Node) (tenure : Tenure) → AskAgrees row v.handovers l q to tenure → AskAgrees new v.handovers l q to tenure
-  asks [] q to tenure agrees = tt
-  asks (only ∷ []) q to tenure agrees = tt
   asks (source ∷ target ∷ []) q to tenure agrees = λ here is. agrees here (of_target (v.handovers q row.tablet) tenure is)
-  asks (source ∷ target ∷ third ∷ more) q to tenure agrees = tt
+  asks _ q to tenure agrees = tt
 
   pulled_agrees : (l : List Member) (from : Node) (q : ℕ) (pulled : Pulled) → PulledAgrees row v.written v.handovers v.live l from q pulled → PulledAgrees new v.written v.handovers v.live l from q pulled
-  pulled_agrees [] from q pulled agrees = tt
-  pulled_agrees (only ∷ []) from q pulled agrees = tt
   pulled_agrees (source ∷ target ∷ []) from q pulled agrees = λ here lives is.
       agrees here lives (of_target (v.handovers q row.tablet) pulled.tenure is)
-  pulled_agrees (source ∷ target ∷ third ∷ more) from q pulled agrees = tt
+  pulled_agrees _ from q pulled agrees = tt
 
   got_agrees : (l : List Member) (from : Node) (q : ℕ) (got : Got) → GotAgrees row v.written v.handovers v.live l from q got → GotAgrees new v.written v.handovers v.live l from q got
-  got_agrees [] from q got agrees = tt
-  got_agrees (only ∷ []) from q got agrees = tt
   got_agrees (source ∷ target ∷ []) from q got agrees = λ here lives is.
       agrees here lives (of_target (v.handovers q row.tablet) got.tenure is)
-  got_agrees (source ∷ target ∷ third ∷ more) from q got agrees = tt
+  got_agrees _ from q got agrees = tt
 
   abbrev SaysNow : Row → Node → Node → Body → Type 0
   SaysNow r = SaysOf r v.logs v.written v.stored v.handovers v.completions v.merged v.live v.handed

@@ -1,5 +1,5 @@
 -- Laws of the part Rows: what logs that grew keep of it.
-use Rattle.std.proofs.Common.{arith, ◌≤◌, ℕ, List, length, All}
+use Rattle.std.proofs.Common.{arith, ◌≤◌, ℕ, List, length}
 use Rattle.rk_inv_base.proofs.Words.{All-weaker, Placed, lineage_of, Row, Written, IsPlaced}
 use Rattle.rk_sound.specs.Rows.{Rows}
 
@@ -10,7 +10,7 @@ rows_grown rows written written' journal old grown = record {
   begun = old.begun;
   formed = old.formed;
   placed =
-      All-weaker (λ row. All (IsPlaced written) (lineage_of row.phase)) (λ row. All (IsPlaced written') (lineage_of row.phase))
+      All-weaker _ _
       (λ row. All-weaker (IsPlaced written) (IsPlaced written')
       (λ member place. omega (arith, place, grown member.master)) (lineage_of row.phase))
       rows old.placed;

@@ -1,10 +1,10 @@
 -- At most one living master answers calls for a range of a row: the one that speaks for it.
-use Rattle.std.proofs.Common.{◌≡◌, ℕ, suc, Bool, true, false, ◌&&◌, ◌||◌, eqb, leb, cond, List, [], ◌∷◌, Option, Some, None, is_some, refl}
-use Rattle.std.proofs.Common.{sym, ap, subst, ◌∙◌, ⊎_elim, ◌⊎◌, arith, inl, Contains, eq-eqb}
+use Rattle.std.proofs.Common.{◌≡◌, ℕ, suc, Bool, true, false, ◌&&◌, eqb, leb, cond, List, [], ◌∷◌, Option, Some, None, is_some, refl, sym}
+use Rattle.std.proofs.Common.{ap, subst, ◌∙◌, ⊎_elim, ◌⊎◌, arith, inl, Contains, eq-eqb, ◌||◌}
 use Rattle.rk_inv_base.proofs.Words.{nat_tests, All-contains, meets, Member, Range, is_serving, Role, number_of, lineage_of, Precedes}
 use Rattle.rk_inv_base.proofs.Words.{row_of, Phase, Owned, Opening, Moving, Rebuilding, Row, is_member, is_absent, OnlyRebuilder}
 use Rattle.rk_inv_base.proofs.Words.{FirstRebuilder, LastRebuilder, OutsideRebuilder, FormerMember, Bystander, rebuilder_post, post_of}
-use Rattle.rk_inv_base.proofs.Words.{bond_of, Holds, StillCounts, RoleFits, View, RowsOf, RolesOf}
+use Rattle.rk_inv_base.proofs.Words.{bond_of, Holds, StillCounts, RoleFits, View, RowsOf, RolesOf, is_idle, may_have_staged, is_rebuilding}
 use Rattle.rk_transfer.specs.declared.role.Role.TheVariants as roles
 use Rattle.rk_inv_base.proofs.rows.Apart.{one_precedes}
 use Rattle.rk_inv_base.proofs.rows.Speakers.{speaks_serving, speaker_of, speaker_is}
@@ -23,14 +23,29 @@ present role serves = refl
 
 -- an outsider does not serve
 pub outsider : (role : Role) (term own applied : ℕ) → Holds (bond_of OutsideRebuilder role) term own applied → is_serving role ≡ true → ⊥
-outsider roles.Absent term own applied fits serves = absurd (cc)
-outsider roles.Closing term own applied fits serves = absurd (cc)
-outsider roles.Frozen term own applied fits serves = absurd (cc)
-outsider (roles.Wanting from) term own applied fits serves = absurd (cc)
-outsider (roles.Rebuilding from entry) term own applied fits serves = absurd (cc)
 outsider roles.Serving term own applied fits serves = fits
 outsider roles.Receiving term own applied fits serves = fits
 outsider (roles.Joining entry) term own applied fits serves = fits
+outsider _ term own applied fits serves = absurd (cc)
+
+-- a master that serves is not idle
+pub serving_busy : (role : Role) → is_serving role ≡ true → is_idle role ≡ false
+serving_busy roles.Absent serves = absurd (cc)
+serving_busy roles.Frozen serves = absurd (cc)
+serving_busy (roles.Wanting from) serves = absurd (cc)
+serving_busy role serves = refl
+
+-- and may stage its calls
+pub serving_stages : (role : Role) → is_serving role ≡ true → may_have_staged role ≡ true
+serving_stages roles.Absent serves = absurd (cc)
+serving_stages roles.Frozen serves = absurd (cc)
+serving_stages (roles.Wanting from) serves = absurd (cc)
+serving_stages role serves = refl
+
+-- nor does it rebuild
+pub serving_rebuilds : (role : Role) → is_serving role ≡ true → is_rebuilding role ≡ false
+serving_rebuilds (roles.Rebuilding from entry) serves = absurd (cc)
+serving_rebuilds role serves = refl
 
 -- an heir that serves is of the lineage, by the tests that tell its post
 pub heir_of_one : (here : Bool) (place : ℕ) (role : Role) (term own applied : ℕ) → Holds (bond_of (cond here (OnlyRebuilder place) OutsideRebuilder) role) term own applied → is_serving role ≡ true → (here || false) ≡ true
@@ -38,9 +53,8 @@ heir_of_one true place role term own applied fits serves = refl
 heir_of_one false place role term own applied fits serves = absurd (outsider role term own applied fits serves)
 
 pub heir_of_two : (first last more : Bool) (one other : ℕ) (role : Role) (term own applied : ℕ) → Holds (bond_of (cond first (FirstRebuilder one) (cond last (LastRebuilder other) OutsideRebuilder)) role) term own applied → is_serving role ≡ true → (first || (last || more)) ≡ true
-heir_of_two true last more one other role term own applied fits serves = refl
-heir_of_two false true more one other role term own applied fits serves = refl
 heir_of_two false false more one other role term own applied fits serves = absurd (outsider role term own applied fits serves)
+heir_of_two _ _ more one other role term own applied fits serves = refl
 
 pub heir_member : (lineage : List Member) (master : ℕ) (role : Role) (term own applied : ℕ) → Holds (bond_of (rebuilder_post lineage master) role) term own applied → is_serving role ≡ true → is_member lineage master ≡ true
 heir_member [] master role term own applied fits serves = absurd (outsider role term own applied fits serves)
@@ -75,6 +89,14 @@ pub found_stands : (rows : List Row) (number : ℕ) (row : Row) → row_of rows 
 found_stands [] number row found = absurd (cc)
 found_stands (first ∷ rows) number row found =
     first_or rows first row number (found_stands rows number row) (eqb first.tablet number) found
+
+-- what holds of the tablet of each row holds of each one that a living master is not absent from
+pub of_its_row : (v : View) (P : ℕ → Type 0) → RolesOf v → (q number : ℕ) → v.live q ≡ true → is_absent (v.handovers q number).role ≡ false → ((row : Row) → Contains v.rows row → P row.tablet) → P number
+of_its_row v P roles_fit q number lives there each = at (row_of v.rows number) refl (roles_fit.known q number lives there)
+  where
+    at : (found : Option Row) → row_of v.rows number ≡ found → is_some found ≡ true → P number
+    at None found some = absurd (cc)
+    at (Some row) found some = subst P (number_of v.rows number row found) (each row (found_stands v.rows number row found))
 
 -- a tablet that is served here and meets a row is the row's, and its master speaks for the row
 pub serves_for : (v : View) (row : Row) (master tablet : ℕ) → RowsOf v → RolesOf v → Contains v.rows row → v.live master ≡ true → is_serving (v.handovers master tablet).role ≡ true → meets (v.handovers master tablet).range row.range ≡ true → (tablet ≡ row.tablet) × (master ≡ speaker_of row.phase)

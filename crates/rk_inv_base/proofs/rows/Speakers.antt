@@ -6,8 +6,8 @@ use Rattle.rk_inv_base.proofs.Words.{Segments, Completions, is_serving, Handover
 use Rattle.rk_inv_base.proofs.Words.{Rebuilding, Row, Log, Transfer, Body, Handed, is_member, second_of, last_of, is_rebuilding, Written}
 use Rattle.rk_inv_base.proofs.Words.{is_wanting, is_opening, second_has, is_waiting, is_waiting_at, handed_by, SaysOf, TransferIn, Post}
 use Rattle.rk_inv_base.proofs.Words.{Owner, OpeningSource, InvitedTarget, ReadyTarget, MovingSource, MovingTarget, OnlyRebuilder}
-use Rattle.rk_inv_base.proofs.Words.{FirstRebuilder, LastRebuilder, OutsideRebuilder, FormerMember, Bystander, target_post, rebuilder_post}
-use Rattle.rk_inv_base.proofs.Words.{post_of, bond_of, Holds, speaks, RoleFits, AreApart, IsFormed}
+use Rattle.rk_inv_base.proofs.Words.{FormerMember, Bystander, target_post, rebuilder_post, post_of, bond_of, Holds, speaks, RoleFits}
+use Rattle.rk_inv_base.proofs.Words.{AreApart, IsFormed}
 use Rattle.rk_types.specs.declared.node.Node.TheVariants as nodes
 use Rattle.rk_transfer.specs.declared.role.Role.TheVariants as roles
 use Rattle.rk_message.specs.declared.message.Body.TheVariants as bodies
@@ -17,15 +17,7 @@ pub speaks_serving : (post : Post) (handover : Handover) (term : ℕ) → is_ser
 speaks_serving (Owner place) handover term serves = refl
 speaks_serving OpeningSource handover term serves = refl
 speaks_serving (OnlyRebuilder place) handover term serves = or_left (is_serving handover.role) (is_rebuilding handover.role && ltb handover.term term) serves
-speaks_serving InvitedTarget handover term serves = serves
-speaks_serving (ReadyTarget place) handover term serves = serves
-speaks_serving MovingSource handover term serves = serves
-speaks_serving (MovingTarget place) handover term serves = serves
-speaks_serving (FirstRebuilder place) handover term serves = serves
-speaks_serving (LastRebuilder place) handover term serves = serves
-speaks_serving OutsideRebuilder handover term serves = serves
-speaks_serving FormerMember handover term serves = serves
-speaks_serving Bystander handover term serves = serves
+speaks_serving _ handover term serves = serves
 
 -- posts in which no master serves
 abbrev pub IsQuiet : Post → Type 0
@@ -105,16 +97,14 @@ second_serves row handovers last member serves is =
     serving_wants (handovers member.master row.tablet).role (ap (λ (m : Member). is_serving (handovers m.master row.tablet).role) same ∙ serves)
 
 pub lineage_waits : (row : Row) (handovers : ℕ → ℕ → Handover) (lineage : List Member) (last : Member) → AreApart lineage → last_of lineage ≡ Some last → is_serving (handovers last.master row.tablet).role ≡ true → is_waiting (second_has handovers row (second_of lineage)) ≡ false
-lineage_waits row handovers [] last formed is serves = refl
-lineage_waits row handovers (only ∷ []) last formed is serves = refl
 lineage_waits row handovers (first ∷ second ∷ []) last formed is serves = second_serves row handovers last second serves is
 lineage_waits row handovers (first ∷ second ∷ third ∷ more) last formed is serves = absurd formed
+lineage_waits row handovers _ last formed is serves = refl
 
 pub none_waits : (row : Row) (handovers : ℕ → ℕ → Handover) (phase : Phase) (last : Member) → IsFormed phase → last_of (lineage_of phase) ≡ Some last → is_serving (handovers last.master row.tablet).role ≡ true → is_waiting (second_has handovers row (second_of (lineage_of phase))) ≡ false
-none_waits row handovers (Owned owner from) last formed is serves = refl
-none_waits row handovers (Opening source sfrom target dfrom) last formed is serves = refl
 none_waits row handovers (Moving source sfrom target dfrom) last formed is serves = second_serves row handovers last (record { master = target; from = dfrom }) serves is
 none_waits row handovers (Rebuilding lineage to) last formed is serves = lineage_waits row handovers lineage last formed is serves
+none_waits row handovers _ last formed is serves = refl
 
 -- what waits at no term waits at none
 pub waiting_at : (other : Option Handover) (term : ℕ) → is_waiting other ≡ false → is_waiting_at other term ≡ false
@@ -129,11 +119,7 @@ opening_hands (Opening source sfrom target dfrom) tablet handovers completions t
     let said = says refl refl in
     let frozen : is_serving (handovers source tablet).role ≡ false = ap (λ (m : ℕ). is_serving (handovers m tablet).role) said.0 ∙ ap is_serving said.1.role_is in
     absurd (cc)
-opening_hands (Opening source sfrom target dfrom) tablet handovers completions term sender transfer true false given says serves = refl
-opening_hands (Opening source sfrom target dfrom) tablet handovers completions term sender transfer false of_term given says serves = refl
-opening_hands (Owned owner from) tablet handovers completions term sender transfer of_tablet of_term given says serves = refl
-opening_hands (Moving source sfrom target dfrom) tablet handovers completions term sender transfer of_tablet of_term given says serves = refl
-opening_hands (Rebuilding lineage to) tablet handovers completions term sender transfer of_tablet of_term given says serves = refl
+opening_hands _ tablet handovers completions term sender transfer _ _ given says serves = refl
 
 pub transfer_hands : (row : Row) (logs : ℕ → Log) (written : ℕ → Written) (stored : ℕ → Segments) (handovers : ℕ → ℕ → Handover) (completions : ℕ → ℕ → Completions) (merged : ℕ → ℕ → List Ended) (live : ℕ → Bool) (handed : NumberMap Handed) (from to : Node) (transfer : Transfer)
     → SaysOf row logs written stored handovers completions merged live handed from to (bodies.Transfer transfer) → is_serving (handovers (speaker_of row.phase) row.tablet).role ≡ true
@@ -143,9 +129,7 @@ transfer_hands row logs written stored handovers completions merged live handed 
     (record { floor = transfer.floor; ends = transfer.ends })
     (λ a b. says (record { tablet = eqb-true transfer.tenure.tablet row.tablet a; term = eqb-true transfer.tenure.term row.term b }))
     serves
-transfer_hands row logs written stored handovers completions merged live handed (nodes.Client client) to transfer says serves = absurd says
-transfer_hands row logs written stored handovers completions merged live handed nodes.Coordinator to transfer says serves = absurd says
-transfer_hands row logs written stored handovers completions merged live handed (nodes.Backup backup) to transfer says serves = absurd says
+transfer_hands row logs written stored handovers completions merged live handed _ to transfer says serves = absurd says
 
 -- of a row no message hands anything over while the last member of its lineage, its speaker, serves
 pub none_hands : (row : Row) (logs : ℕ → Log) (written : ℕ → Written) (stored : ℕ → Segments) (handovers : ℕ → ℕ → Handover) (completions : ℕ → ℕ → Completions) (merged : ℕ → ℕ → List Ended) (live : ℕ → Bool) (handed : NumberMap Handed) (from to : Node) (body : Body) (last : Member)

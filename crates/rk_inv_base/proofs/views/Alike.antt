@@ -1,11 +1,10 @@
 -- Handovers that answer alike where the parts ask who answers calls, and who waits for a grant.
 use Rattle.std.proofs.Common.{◌≡◌, ℕ, Bool, true, cond, ltb, ◌||◌, ◌&&◌, eqb, List, ◌∷◌, Option, Some, None, refl, sym, ap, ◌∙◌, ⊎_elim}
 use Rattle.std.proofs.Common.{inl, inr, option_map}
-use Rattle.rk_inv_base.proofs.Words.{NumberMap, get, Member, Range, Entry, is_serving, Handover, lineage_of, Phase, Owned, Opening, Moving}
-use Rattle.rk_inv_base.proofs.Words.{Rebuilding, Row, Body, Handed, second_of, is_rebuilding, Written, member_truth, is_wanting, second_has}
-use Rattle.rk_inv_base.proofs.Words.{is_waiting, is_waiting_at, handed_for_grant, handed_by, beginning_in, target_truth, Post, Owner}
-use Rattle.rk_inv_base.proofs.Words.{OpeningSource, InvitedTarget, ReadyTarget, MovingSource, MovingTarget, OnlyRebuilder, FirstRebuilder}
-use Rattle.rk_inv_base.proofs.Words.{LastRebuilder, OutsideRebuilder, FormerMember, Bystander, StillCounts, speaks, as_frozen, with_counter}
+use Rattle.rk_inv_base.proofs.Words.{NumberMap, get, Member, Range, Entry, is_serving, Handover, lineage_of, Phase, Moving, Row, Body}
+use Rattle.rk_inv_base.proofs.Words.{Handed, second_of, is_rebuilding, Written, member_truth, is_wanting, second_has, is_waiting}
+use Rattle.rk_inv_base.proofs.Words.{is_waiting_at, handed_for_grant, handed_by, beginning_in, target_truth, Post, Owner, OpeningSource}
+use Rattle.rk_inv_base.proofs.Words.{OnlyRebuilder, StillCounts, speaks, as_frozen, with_counter}
 use Rattle.rk_transfer.specs.declared.role.Role.TheVariants as roles
 use Rattle.rk_message.specs.declared.message.Body.TheVariants as bodies
 
@@ -47,15 +46,7 @@ speaks_alike (Owner place) term old new alike = refl
 speaks_alike OpeningSource term old new alike = refl
 speaks_alike (OnlyRebuilder place) term old new alike =
     λ i. alike.same_serving i || (alike.same_rebuilding i && ltb (alike.same_term i) term)
-speaks_alike InvitedTarget term old new alike = alike.same_serving
-speaks_alike (ReadyTarget place) term old new alike = alike.same_serving
-speaks_alike MovingSource term old new alike = alike.same_serving
-speaks_alike (MovingTarget place) term old new alike = alike.same_serving
-speaks_alike (FirstRebuilder place) term old new alike = alike.same_serving
-speaks_alike (LastRebuilder place) term old new alike = alike.same_serving
-speaks_alike OutsideRebuilder term old new alike = alike.same_serving
-speaks_alike FormerMember term old new alike = alike.same_serving
-speaks_alike Bystander term old new alike = alike.same_serving
+speaks_alike _ term old new alike = alike.same_serving
 
 -- the second member of a lineage waits alike
 pub waits_alike : (row : Row) (handovers now : ℕ → ℕ → Handover) (member : Option Member) → AreAlike handovers now → is_waiting (second_has now row member) ≡ is_waiting (second_has handovers row member)
@@ -81,9 +72,7 @@ handed_by_alike row handovers now _ alike = refl
 
 -- what the target of a row that moves has applied, behind what its source told, is the same where as much is applied
 pub target_truth_same : (written now : ℕ → Written) (handed : NumberMap Handed) (row : Row) (phase : Phase) → ((range : Range) (m : Member) → member_truth now range m ≡ member_truth written range m) → target_truth now handed row phase ≡ target_truth written handed row phase
-target_truth_same written now handed row (Owned owner from) same = refl
-target_truth_same written now handed row (Opening source sfrom target dfrom) same = refl
 target_truth_same written now handed row (Moving source sfrom target dfrom) same =
     ap (λ (truth : List Entry). option_map (λ h. beginning_in row h ∷ truth) (get handed row.tablet))
     (same row.range (record { master = target; from = dfrom }))
-target_truth_same written now handed row (Rebuilding lineage to) same = refl
+target_truth_same written now handed row _ same = refl

@@ -1,26 +1,20 @@
 -- The world where nothing has happened is sound, whatever its history starts from, with any number of masters and backups.
-use Rattle.std.proofs.Common.{◌≡◌, ℕ, zero, suc, ◌+◌, ◌≤◌, ◌-◌, true, false, List, [], ◌∷◌, ◌++◌, length, get_or, replicate, map, Some}
-use Rattle.std.proofs.Common.{None, refl, sym, ap, subst, ◌∙◌, arith, All, ◌⊎◌, slice_get, IfSome, flat_map}
+use Rattle.std.proofs.Common.{◌≡◌, ℕ, zero, suc, ◌+◌, ◌≤◌, ◌-◌, false, List, [], ◌∷◌, ◌++◌, length, get_or, replicate, map, None, refl, sym}
+use Rattle.std.proofs.Common.{ap, subst, ◌∙◌, arith, All, ◌⊎◌, IfSome, flat_map}
 use Rattle.std.specs.List.Sorted.{IsStrictlySortedBy}
 use Rattle.rk_inv_base.proofs.Words.{All-nil, range_with_len, EachIn, Segments, IsInScanOrder, ends_of, Known, known_length, nothing}
 use Rattle.rk_inv_base.proofs.Words.{known_of, no_base, Master, new_master, tablet_at, is_absent, Tablet, no_tablet, new_world, backup_at}
-use Rattle.rk_inv_base.proofs.Words.{tablet_in, written_in, written_by, rest_of, IsKnown, IsStagedEnd, IsEntryWithin, IsItemWithin}
-use Rattle.rk_inv_base.proofs.Words.{IsOfWholeRows, IsLog, stored_of, IsBare, wanted_place, Waits, IsLast, View, view, truths, rests}
-use Rattle.rk_inv_base.proofs.Words.{NodesOf, TermsOf, CoverOf, RolesOf, LogsOf, TruthOf, OrderOf, CallsOf, CountersOf, RestOf, TablesOf}
-use Rattle.rk_inv_base.proofs.Words.{RebuildsOf, AskedOf, IsSound}
+use Rattle.rk_inv_base.proofs.Words.{tablet_in, written_by, IsKnown, IsStagedEnd, IsEntryWithin, IsItemWithin, IsOfWholeRows, IsLog}
+use Rattle.rk_inv_base.proofs.Words.{stored_of, IsBare, wanted_place, Waits, IsLast, View, view, rests, CoverOf, LogsOf, IsSound}
+use Rattle.rk_inv_base.proofs.Words.{EachHasCall, IsWithinRows, false≢true, master_at}
 use Rattle.rk_outside.specs.Segments.{bytes_of as stored_bytes}
 use Rattle.rk_log.specs.Log.{new_log}
-use Rattle.rk_world.specs.World.{records_in}
 use Rattle.rk_inv_base.proofs.views.Fresh.{each_fresh, there_fresh, each_backup_fresh}
+use Rattle.rk_inv_base.proofs.views.ByRows.{view_by_rows}
 
 -- nothing is kept
 pub nothing_kept : {X : Type 0} (Fits : ℕ → X → Type 0) → EachIn Fits []
 nothing_kept Fits number thing e = absurd (cc)
-
--- an absent tablet is not another
-pub not_absent : (tablet : Tablet) → tablet ≡ no_tablet → is_absent tablet.handover.role ≡ false → ⊥
-not_absent tablet is apart =
-    let e : true ≡ false = sym (ap (λ (t : Tablet). is_absent t.handover.role) is) ∙ apart in absurd (cc)
 
 -- no items are in order
 pub in_order_none : IsInScanOrder []
@@ -62,169 +56,79 @@ module _ (lane masters backups : ℕ) where
   abbrev new : View
   new = view (new_world lane masters backups)
 
-  nothing_of : (master tablet : ℕ) → tablet_in (new_world lane masters backups) master tablet ≡ no_tablet
-  nothing_of master tablet = ap (λ (m : Master). tablet_at m tablet) (each_fresh lane masters backups master).is_new
+  -- what holds of a master that has nothing holds of each, and what holds of no tablet holds of what each has of any
+  by_master : (P : Master → Type 0) (q : ℕ) → ((known : List Known) → P (new_master q known)) → P (master_at (new_world lane masters backups) q)
+  by_master P q here = let fresh = each_fresh lane masters backups q in subst P (sym fresh.is_new) (here fresh.known)
 
-  nodes_empty : 1 ≤ backups → NodesOf new
-  nodes_empty some = record {
-    numbered = λ master. ap (λ (m : Master). m.number) (each_fresh lane masters backups master).is_new;
-    backed = some;
-    known = λ master there.
-        ap (λ (m : Master). length m.log.known) (there_fresh lane masters backups master there)
-        ∙ length_replicated backups nothing;
-    named = λ master. All-nil _;
-    crashed = All-nil _;
-    left = λ master dead. absurd (cc);
-  }
+  by_tablet : (P : Tablet → Type 0) (q r : ℕ) → P no_tablet → P (tablet_in (new_world lane masters backups) q r)
+  by_tablet P q r here = by_master (λ m. P (tablet_at m r)) q (λ known. here)
 
-  terms_empty : TermsOf new
-  terms_empty = record {
-    kept = λ master tablet. All-nil _;
-    begun = λ master tablet there. absurd (not_absent _ (nothing_of master tablet) there);
-    apart = λ master a b apart first second. absurd (not_absent _ (nothing_of master a) first);
+  cover_empty : CoverOf new
+  cover_empty = record {
+    unknown = λ q r none. by_tablet (λ t. t.handover.term ≡ 0) q r refl;
+    marks = λ q. All-nil _;
     sent = nothing_kept _;
-  }
-
-  roles_empty : RolesOf new
-  roles_empty = record {
-    fitting = λ master. All-nil _;
-    ranged = λ master. All-nil _;
-    at_term = All-nil _;
-    known = λ master tablet live apart. absurd (not_absent _ (nothing_of master tablet) apart);
+    ranges = λ q r. by_tablet (λ t. 1 ≤ t.handover.term → IsWithinRows [] t.handover.range) q r (λ some. absurd (omega (arith, some)));
+    ordered = nothing_kept _;
+    entries = λ q. by_master (λ m. All (IsEntryWithin []) m.log.entries) q (λ known. All-nil _);
+    sides = λ q. by_master (λ m. All (IsItemWithin []) (flat_map (λ items. items) m.sides)) q (λ known. All-nil _);
+    items = λ q. by_master (λ m. All (IsItemWithin []) m.records) q (λ known. All-nil _);
+    wholes = λ q. by_master (λ m. All (IsOfWholeRows []) m.log.entries) q (λ known. All-nil _);
   }
 
   logs_empty : LogsOf new
   logs_empty = record {
-    each = λ master.
-        let fresh = each_fresh lane masters backups master in
+    each = λ q.
+        let fresh = each_fresh lane masters backups q in
         subst
-        (λ (m : Master). IsLog m.log (written_by m []) (stored_of (backup_at (new_world lane masters backups)) master))
+        (λ (m : Master). IsLog m.log (written_by m []) (stored_of (backup_at (new_world lane masters backups)) q))
         (sym fresh.is_new)
         (log_empty fresh.known _ fresh.nothing_known
-        (λ backup segment. ap (λ (s : Segments). stored_bytes (s master segment)) (each_backup_fresh lane masters backups backup)));
+        (λ backup segment. ap (λ (s : Segments). stored_bytes (s q segment)) (each_backup_fresh lane masters backups backup)));
     sent = nothing_kept _;
   }
 
-  truth_empty : TruthOf new (truths new)
-  truth_empty = record { legal = tt; rising = tt; seen = All-nil _; true = All-nil _ }
-
-  order_empty : OrderOf new (truths new) (rests new)
-  order_empty = record { above = All-nil _ }
-
-  calls_empty : CallsOf new (truths new) (rests new)
-  calls_empty = record {
-    once = λ i j a b first second same. absurd (cc);
-    reached = All-nil _;
-    recorded = All-nil _;
-    moving = All-nil _;
-    answering = λ master. All-nil _;
-    handed_on = All-nil _;
-    sent = nothing_kept _;
-    known = λ master tablet live.
-        subst
-        (λ (t : Tablet). All
-        (λ end. IsKnown no_base [] end
-        ⊎ IsStagedEnd [] (rest_of (written_in (new_world lane masters backups))) master tablet t.handover.term end)
-        (ends_of t.completions))
-        (sym (nothing_of master tablet)) (All-nil _);
-  }
-
-  counters_empty : CountersOf new (truths new) (rests new)
-  counters_empty = record {
-    low = All-nil _;
-    moving = All-nil _;
-    counted = λ master. All-nil _;
-    handed_on = All-nil _;
-    sent = nothing_kept _;
-  }
-
-  rest_empty : RestOf new (truths new) (rests new)
-  rest_empty = record {
-    goes_on = All-nil _;
-    done = All-nil _;
-    unnamed = All-nil _;
-    idle = λ master. All-nil _;
-    waiting = λ master live.
-        subst
-        (λ (m : Master). EachIn
-        (λ place call. Waits [] (new.handovers master) (written_by m []) master place call) m.calls)
-        (sym (each_fresh lane masters backups master).is_new) (nothing_kept _);
-    are_last = λ master live.
-        subst (λ (m : Master). EachIn (λ place call. IsLast None call) m.calls)
-        (sym (each_fresh lane masters backups master).is_new) (nothing_kept _);
-    found = λ master live place entry behind stands is_call unmarked.
-        let e : None ≡ Some entry =
-        sym (ap (λ (m : Master). slice_get m.log.entries place) (each_fresh lane masters backups master).is_new) ∙ stands in
-        absurd (cc);
-  }
-
-  tables_empty : TablesOf new
-  tables_empty = record {
-    ordered = λ master. subst (λ (m : Master). IsInScanOrder m.records) (sym (each_fresh lane masters backups master).is_new) in_order_none;
-    items = λ master live. All-nil _;
-  }
-
-  rebuilds_empty : RebuildsOf new (truths new)
-  rebuilds_empty = record { rebuilt = All-nil _; marks = λ master. All-nil _; pieces = λ master. All-nil _ }
-
-  cover_empty : CoverOf new
-  cover_empty = record {
-    unknown = λ master tablet none.
-        ap (λ (t : Tablet). t.handover.term) (nothing_of master tablet);
-    marks = λ master. All-nil _;
-    sent = nothing_kept _;
-    ranges = λ master tablet some.
-        let e : (tablet_in (new_world lane masters backups) master tablet).handover.term ≡ 0 =
-        ap (λ (t : Tablet). t.handover.term) (nothing_of master tablet) in
-        absurd (omega (arith, some, e));
-    ordered = nothing_kept _;
-    entries = λ master.
-        subst (λ (m : Master). All (IsEntryWithin []) m.log.entries) (sym (each_fresh lane masters backups master).is_new) (All-nil _);
-    sides = λ master.
-        subst (λ (m : Master). All (IsItemWithin []) (flat_map (λ items. items) m.sides))
-        (sym (each_fresh lane masters backups master).is_new) (All-nil _);
-    items = λ master.
-        subst (λ (m : Master). All (IsItemWithin []) m.records) (sym (each_fresh lane masters backups master).is_new) (All-nil _);
-    wholes = λ master.
-        subst (λ (m : Master). All (IsOfWholeRows []) m.log.entries) (sym (each_fresh lane masters backups master).is_new) (All-nil _);
-  }
-
-  asked_empty : AskedOf new
-  asked_empty = record {
-    last = λ client. tt;
-    own_keys = All-nil _;
-    recorded = All-nil _;
-    after_start = All-nil _;
-    once = λ i j a b first second same. absurd (cc);
-    sent = nothing_kept _;
-    again = nothing_kept _;
-  }
-
+  -- there is no row, and beside rows nothing is
   pub empty_is_sound : 1 ≤ backups → IsSound (new_world lane masters backups)
-  empty_is_sound some = record {
-    nodes = nodes_empty some;
-    rows = record { apart = tt; begun = All-nil _; formed = All-nil _; placed = All-nil _; covered = All-nil _ };
-    terms = terms_empty;
+  empty_is_sound some = view_by_rows new (record {
+    numbered = λ q. by_master (λ m. m.number ≡ q) q (λ known. refl);
+    backed = some;
+    known_backups = λ q there.
+        ap (λ (m : Master). length m.log.known) (there_fresh lane masters backups q there) ∙ length_replicated backups nothing;
+    crashed = All-nil _;
+    left = λ q dead. absurd (cc);
+    rows_apart = tt;
+    covered = All-nil _;
+    kept = λ q r. All-nil _;
+    begun = λ q r. by_tablet (λ t. is_absent t.handover.role ≡ false → 1 ≤ t.handover.term) q r (λ there. absurd (cc there));
+    apart = λ q a b unlike first second.
+        absurd (by_tablet (λ t. is_absent t.handover.role ≡ false → ⊥) q a (λ there. false≢true (sym there)) first);
     cover = cover_empty;
-    roles = roles_empty;
+    has_row = λ q r live there. absurd (by_tablet (λ t. is_absent t.handover.role ≡ false → ⊥) q r (λ there. false≢true (sym there)) there);
     logs = logs_empty;
-    truth = truth_empty;
-    order = order_empty;
-    calls = calls_empty;
-    counters = counters_empty;
-    rest = rest_empty;
-    records = tables_empty;
-    receives = record {
-      targets = All-nil _;
-      handed_on = All-nil _;
-      bare = λ master tablet.
-          subst
-          (λ (t : Tablet). IfSome (wanted_place t.handover.role)
-          (λ from. IsBare t.handover.range from (written_in (new_world lane masters backups) master) (records_in (new_world lane masters backups) master)))
-          (sym (nothing_of master tablet)) tt;
-      named = All-nil _;
+    legal = tt;
+    rising = tt;
+    seen = All-nil _;
+    once = λ i j a b first second same. absurd (cc);
+    known = λ q r live.
+        by_tablet (λ t. All (λ end. IsKnown no_base [] end ⊎ IsStagedEnd [] (rests new) q r t.handover.term end) (ends_of t.completions)) q r
+        (All-nil _);
+    waiting = λ q live.
+        by_master (λ m. EachIn (λ place call. Waits [] (new.handovers q) (written_by m []) q place call) m.calls) q (λ known. nothing_kept _);
+    are_last = λ q live. by_master (λ m. EachIn (λ place call. IsLast None call) m.calls) q (λ known. nothing_kept _);
+    found = λ q live.
+        by_master (λ m. EachHasCall m.calls (written_by m [])) q (λ known place entry behind stands is_call unmarked. absurd (cc stands));
+    ordered = λ q. by_master (λ m. IsInScanOrder m.records) q (λ known. in_order_none);
+    bare = λ q r.
+        by_tablet (λ t. IfSome (wanted_place t.handover.role) (λ from. IsBare t.handover.range from (new.written q) (new.records q))) q r tt;
+    others = nothing_kept _;
+    asked = record {
+      last = λ client. tt;
+      own_keys = All-nil _;
+      recorded = All-nil _;
+      after_start = All-nil _;
+      once = λ i j a b first second same. absurd (cc);
+      sent = nothing_kept _;
+      again = nothing_kept _;
     };
-    rebuilds = rebuilds_empty;
-    messages = record { of_rows = nothing_kept _; others = nothing_kept _ };
-    asked = asked_empty;
-  }
+  }) (All-nil _)

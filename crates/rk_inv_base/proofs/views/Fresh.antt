@@ -58,9 +58,8 @@ pub record IsFresh (number : ℕ) (master : Master) : Type 0 where
   pub is_new : master ≡ new_master number known
 
 pub nothing_in : (count place : ℕ) → get_or (replicate count nothing) place nothing ≡ nothing
-nothing_in zero place = refl
-nothing_in (suc count) zero = refl
 nothing_in (suc count) (suc place) = nothing_in count place
+nothing_in _ _ = refl
 
 -- each master of a new world is such a one
 pub each_fresh : (lane masters backups q : ℕ) → IsFresh q (master_at (new_world lane masters backups) q)

@@ -13,6 +13,7 @@ use Rattle.rk_inv_base.proofs.Words.{with_bytes, Known, Log, EntryEnd, items_in,
 use Rattle.rk_inv_base.proofs.Words.{is_marked, unmarked, unmarked_from, counts, counting, log_material, named, named_by, side_entries}
 use Rattle.rk_inv_base.proofs.Words.{with_number, Written, Mark, AreRead, IsGathered, IsReadPart, IsRebuilder, NeededOf, NeedsEnd}
 use Rattle.rk_inv_base.proofs.Words.{TellNoMore, TellsMore, given_up_marks, marked_entries, stored_count, put, with_one_more}
+use Rattle.rk_inv_base.proofs.Words.{known_length}
 use Rattle.rk_log.proofs.Cuts.{AreFilled, filled_with, some_segments, spelled_some}
 use Rattle.rk_sound.specs.Rebuilds.{AreGathered, HasItemMore, IsNeeded, TellsEndMore}
 use Rattle.rk_inv_base.proofs.views.Put.{put_by}
@@ -21,7 +22,19 @@ use Rattle.rk_inv_base.proofs.logs.Grows.{Extends, counting_extends, drop_extend
 use Rattle.rk_inv_base.proofs.logs.Shares.{drop_none, marked_none}
 use Rattle.rk_inv_base.proofs.calls.Rebuilders.{last_member}
 
--- ---- what was read is enough where no more is needed
+-- ---- what was read is read still where each part is that was, where nothing more is known behind, and no more is needed
+
+module _ (Needed Less : EntryEnd → Type 0) (known known' : Known) (stored stored' : ℕ → List ℕ) (part : (segment : ℕ) (bytes : List ℕ) → IsReadPart Needed known stored segment bytes → IsReadPart Less known' stored' segment bytes) (none : (segment : ℕ) → known_length known segment ≡ 0 → known_length known' segment ≡ 0) (less : (end : EntryEnd) → Less end → Needed end) where
+  read_by : (segment : ℕ) (list : List Entry) → AreRead Needed known stored segment list → AreRead Less known' stored' segment list
+  read_by segment list read = record { bytes = read.bytes; read = part segment read.bytes read.read; spelled = read.spelled }
+
+  pub gathered_by : (gathered : Gathered) → IsGathered Needed known stored gathered → IsGathered Less known' stored' gathered
+  gathered_by gathered was = record {
+    main = λ place within. read_by (place + 1) (slice_index_or gathered.main place []) (was.main place within);
+    passed = λ read segment behind main. none segment (was.passed read segment behind main);
+    passed_needed = λ read end its main. was.passed_needed read end (less end its) main;
+    sides = each_weaker (AreRead Needed known stored) (AreRead Less known' stored') gathered.sides read_by was.sides;
+  }
 
 pub part_weaker : (Needed Less : EntryEnd → Type 0) (known : Known) (stored : ℕ → List ℕ) (segment : ℕ) (bytes : List ℕ) → ((end : EntryEnd) → Less end → Needed end) → IsReadPart Needed known stored segment bytes → IsReadPart Less known stored segment bytes
 part_weaker Needed Less known stored segment bytes less part = record {
@@ -30,23 +43,10 @@ part_weaker Needed Less known stored segment bytes less part = record {
   needed = λ end its at. part.needed end (less end its) at;
 }
 
-pub read_weaker : (Needed Less : EntryEnd → Type 0) (known : Known) (stored : ℕ → List ℕ) (segment : ℕ) (list : List Entry) → ((end : EntryEnd) → Less end → Needed end) → AreRead Needed known stored segment list → AreRead Less known stored segment list
-read_weaker Needed Less known stored segment list less read = record {
-  bytes = read.bytes;
-  read = part_weaker Needed Less known stored segment read.bytes less read.read;
-  spelled = read.spelled;
-}
-
 pub one_weaker : (Needed Less : EntryEnd → Type 0) (known : Known) (stored : ℕ → List ℕ) (gathered : Gathered) → ((end : EntryEnd) → Less end → Needed end) → IsGathered Needed known stored gathered → IsGathered Less known stored gathered
-one_weaker Needed Less known stored gathered less was = record {
-  main = λ place within.
-      read_weaker Needed Less known stored (place + 1) (slice_index_or gathered.main place []) less (was.main place within);
-  passed = was.passed;
-  passed_needed = λ read end its main. was.passed_needed read end (less end its) main;
-  sides =
-      each_weaker (λ n list. AreRead Needed known stored n list) (λ n list. AreRead Less known stored n list) gathered.sides
-      (λ n list. read_weaker Needed Less known stored n list less) was.sides;
-}
+one_weaker Needed Less known stored gathered less =
+    gathered_by Needed Less known known stored stored (λ segment bytes. part_weaker Needed Less known stored segment bytes less) (λ _ none. none)
+    less gathered
 
 -- no more is needed of masters but one
 abbrev pub NeedsLess : (ℕ → EntryEnd → Type 0) → (ℕ → EntryEnd → Type 0) → ℕ → Type 0
@@ -175,10 +175,8 @@ needs_less range given_up own more from last end among needs =
 
 -- only of a member anything is needed
 pub needed_member : (row : Row) (written : ℕ → Written) (lineage : List Member) (q : ℕ) (end : EntryEnd) → NeededOf row written lineage q end → is_member lineage q ≡ true
-needed_member row written [] q end needed = absurd needed
-needed_member row written (only ∷ []) q end needed = absurd needed
 needed_member row written (first ∷ last ∷ []) q end needed = last_member (first ∷ last ∷ []) last q refl needed.0
-needed_member row written (first ∷ second ∷ third ∷ more) q end needed = absurd needed
+needed_member row written _ q end needed = absurd needed
 
 -- ---- one more entry
 
@@ -309,8 +307,6 @@ module _ (written : ℕ → Written) (master : ℕ) (entry : Entry) (marked : (q
 
   -- so no more is needed of another master than the one that wrote
   pub needed_grown : (other : Row) (lineage : List Member) (q : ℕ) → (q ≡ master → ⊥) → (end : EntryEnd) → NeededOf other grown lineage q end → NeededOf other written lineage q end
-  needed_grown other [] q away end needed = needed
-  needed_grown other (only ∷ []) q away end needed = needed
   needed_grown other (first ∷ last ∷ []) q away end needed =
       let Needs : Written → Type 0 = λ (w : Written). NeedsBy other first last (grown first.master) w end in (
         needed.0,
@@ -318,7 +314,7 @@ module _ (written : ℕ → Written) (master : ℕ) (entry : Entry) (marked : (q
             (put_by written master (λ w. with_one_more w entry) (λ (w : Written). Needs w → Needs (written last.master)) last.master
             (λ at. absurd (away (sym needed.0 ∙ at))) (λ apart needs. needs) needed.1),
       )
-  needed_grown other (first ∷ second ∷ third ∷ more) q away end needed = needed
+  needed_grown other _ q away end needed = needed
 
 -- ---- what is needed is stored
 

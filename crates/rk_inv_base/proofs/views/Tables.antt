@@ -1,19 +1,9 @@
 -- Laws of the part Tables: what a staged write keeps of it.
 use Rattle.std.proofs.Common.{◌≡◌, ℕ, refl, ap, nat_lt}
-use Rattle.rk_inv_base.proofs.Words.{Handover, Post, Owner, OpeningSource, InvitedTarget, ReadyTarget, MovingSource, MovingTarget}
-use Rattle.rk_inv_base.proofs.Words.{OnlyRebuilder, FirstRebuilder, LastRebuilder, OutsideRebuilder, FormerMember, Bystander, has_all_items}
+use Rattle.rk_inv_base.proofs.Words.{Handover, Post, OnlyRebuilder, FirstRebuilder, has_all_items}
 
 -- whether a table has all of a tablet is seen from its post and its term
 pub all_items_same : (post : Post) (a b : Handover) (term : ℕ) → a.term ≡ b.term → has_all_items post a term ≡ has_all_items post b term
-all_items_same (Owner place) a b term same = refl
-all_items_same OpeningSource a b term same = refl
-all_items_same InvitedTarget a b term same = refl
-all_items_same (ReadyTarget place) a b term same = refl
-all_items_same MovingSource a b term same = refl
-all_items_same (MovingTarget place) a b term same = refl
 all_items_same (OnlyRebuilder place) a b term same = ap (λ (n : ℕ). nat_lt n term) same
 all_items_same (FirstRebuilder place) a b term same = ap (λ (n : ℕ). nat_lt n term) same
-all_items_same (LastRebuilder place) a b term same = refl
-all_items_same OutsideRebuilder a b term same = refl
-all_items_same FormerMember a b term same = refl
-all_items_same Bystander a b term same = refl
+all_items_same _ a b term same = refl

@@ -1,6 +1,6 @@
 -- Laws of the part Terms: what a message that is sent, and a tablet that looks the same, keep of it.
-use Rattle.std.proofs.Common.{sym, ap, subst, ◌∙◌, ◌≤◌, ◌<◌, ℕ, List}
-use Rattle.rk_inv_base.proofs.Words.{All-weaker, NumberMap, meets, Range, Handover, Row, Message, HandoverFits}
+use Rattle.std.proofs.Common.{sym, ap, subst, ◌∙◌, ◌≤◌, ◌<◌, ℕ, List, slice_index_or}
+use Rattle.rk_inv_base.proofs.Words.{NumberMap, meets, Range, Handover, Row, Message, HandoverFits}
 use Rattle.rk_sound.specs.Terms.{Terms}
 use Rattle.rk_inv_base.proofs.views.Seen.{LooksAs}
 
@@ -17,11 +17,9 @@ handover_looks row number old new looks fits = record {
 -- each tablet looks as before
 pub terms_looks : (rows : List Row) (handovers handovers' : ℕ → ℕ → Handover) (wire : NumberMap Message) → Terms rows handovers wire → ((q r : ℕ) → LooksAs (handovers q r) (handovers' q r)) → Terms rows handovers' wire
 terms_looks rows handovers handovers' wire old looks = record {
-  kept = λ master number.
-      All-weaker (λ row. HandoverFits row number (handovers master number))
-      (λ row. HandoverFits row number (handovers' master number))
-      (λ row. handover_looks row number (handovers master number) (handovers' master number) (looks master number)) rows
-      (old.kept master number);
+  kept = λ master number k d within.
+      handover_looks (slice_index_or rows k d) number (handovers master number) (handovers' master number) (looks master number)
+      (old.kept master number k d within);
   begun = λ master number there.
       subst (λ (term : ℕ). 1 ≤ term) (sym (looks master number).term)
       (old.begun master number (sym (looks master number).role.absent ∙ there));

@@ -1,13 +1,13 @@
 -- Laws of the part Messages: what a message that is sent, and tablets that look the same, keep of it.
-use Rattle.std.proofs.Common.{false, sym, subst, ◌∙◌, ◌≡◌, ◌≤◌, ◌<◌, ◌-◌, ℕ, Bool, List, [], ◌∷◌, Option, None, All, slice_index_or}
-use Rattle.std.proofs.Common.{flat_map}
-use Rattle.rk_inv_base.proofs.Words.{All-weaker, each_weaker, get, Ended, Member, Node, Segments, Entry, at_hash, batch_at, next_token}
-use Rattle.rk_inv_base.proofs.Words.{Completions, Handover, lineage_of, Phase, Opening, Moving, Rebuilding, Row, Known, nothing, Log}
-use Rattle.rk_inv_base.proofs.Words.{known_of, EntryEnd, BATCH_BYTES, Grant, Prepare, Tenure, Transfer, Body, Got, Pulled, CopySegment}
-use Rattle.rk_inv_base.proofs.Words.{Rebuild, Rebuilt, Handed, as_entries, Written, stored_of, SaysOf, IfMaster, ByMaster, IsOf, IsOfTarget}
-use Rattle.rk_inv_base.proofs.Words.{PrepareFits, CloseFits, RebuildFits, OwnFits, IsOwner, ReleaseFits, ReadyIn, TransferIn, JoinedIn}
-use Rattle.rk_inv_base.proofs.Words.{RebuiltIn, GrantAgrees, AskAgrees, IsFromSource, PulledAgrees, GotAgrees, CopyIn, post_of, READ_BACKUP}
-use Rattle.rk_inv_base.proofs.Words.{IsReadPart, NeededOf, scan_items, View, MessagesOf}
+use Rattle.std.proofs.Common.{false, sym, subst, ◌∙◌, ◌≡◌, ◌≤◌, ◌-◌, ℕ, Bool, List, [], ◌∷◌, Option, None, slice_index_or, flat_map, arith}
+use Rattle.std.proofs.Common.{true}
+use Rattle.rk_inv_base.proofs.Words.{get, Ended, Member, Node, Segments, Entry, at_hash, batch_at, next_token, Completions, Handover}
+use Rattle.rk_inv_base.proofs.Words.{lineage_of, Phase, Opening, Moving, Rebuilding, Row, Known, nothing, Log, known_of, EntryEnd}
+use Rattle.rk_inv_base.proofs.Words.{BATCH_BYTES, Grant, Prepare, Tenure, Transfer, Body, Got, Pulled, CopySegment, Rebuild, Rebuilt}
+use Rattle.rk_inv_base.proofs.Words.{Handed, as_entries, Written, stored_of, SaysOf, IfMaster, ByMaster, IsOf, IsOfTarget, PrepareFits}
+use Rattle.rk_inv_base.proofs.Words.{CloseFits, RebuildFits, OwnFits, IsOwner, ReleaseFits, ReadyIn, TransferIn, JoinedIn, RebuiltIn}
+use Rattle.rk_inv_base.proofs.Words.{GrantAgrees, AskAgrees, IsFromSource, PulledAgrees, GotAgrees, CopyIn, post_of, READ_BACKUP}
+use Rattle.rk_inv_base.proofs.Words.{IsReadPart, NeededOf, scan_items, View, MessagesOf, is_wanting}
 use Rattle.rk_types.specs.declared.node.Node.TheVariants as nodes
 use Rattle.rk_outside.specs.Segments.{bytes_of as copied_bytes}
 use Rattle.rk_message.specs.declared.message.Body.TheVariants as bodies
@@ -24,43 +24,49 @@ pub by_master : (node : Node) (Fits Gives : ℕ → Type 0) → ((master : ℕ) 
 by_master (nodes.Master master) Fits Gives gives fits = gives master fits
 by_master node Fits Gives gives fits = fits
 
--- ---- orders
+-- ---- orders: of a master that keeps as great a term as before they say what they said
 
-pub prepare_looks : (row : Row) (old new : Handover) (live : Bool) (master : ℕ) (prepare : Prepare) → LooksAs old new → PrepareFits row old live master prepare → PrepareFits row new live master prepare
-prepare_looks row old new live master prepare looks fits = record {
-  range = fits.range;
-  invited = λ is lives below. fits.invited is lives (subst (λ (term : ℕ). term < row.term) looks.term below);
-  members = λ asks lives member.
-      subst (λ (term : ℕ). prepare.tenure.term ≤ term) (sym looks.term) (fits.members asks lives member);
-}
+module _ (row : Row) (old new : Handover) (live : Bool) (master : ℕ) (rises : old.term ≤ new.term) where
+  pub prepare_rises : (prepare : Prepare) → PrepareFits row old live master prepare → PrepareFits row new live master prepare
+  prepare_rises prepare fits = record {
+    range = fits.range;
+    invited = λ is lives below. fits.invited is lives (omega (arith, below, rises));
+    members = λ asks lives member. omega (arith, fits.members asks lives member, rises);
+  }
 
-pub close_looks : (row : Row) (old new : Handover) (live : Bool) (master : ℕ) (tenure : Tenure) → LooksAs old new → CloseFits row old live master tenure → CloseFits row new live master tenure
-close_looks row old new live master tenure looks fits = record {
-  source = fits.source;
-  may_follow = λ same lives below. fits.may_follow same lives (subst (λ (term : ℕ). term < tenure.term) looks.term below);
-}
+  pub close_rises : (tenure : Tenure) → CloseFits row old live master tenure → CloseFits row new live master tenure
+  close_rises tenure fits = record {
+    source = fits.source;
+    may_follow = λ same lives below. fits.may_follow same lives (omega (arith, below, rises));
+  }
 
-pub rebuild_looks : (row : Row) (old new : Handover) (live : Bool) (master : ℕ) (rebuild : Rebuild) → LooksAs old new → RebuildFits row old live master rebuild → RebuildFits row new live master rebuild
-rebuild_looks row old new live master rebuild looks fits = record {
-  range = fits.range;
-  lineage = fits.lineage;
-  ordered = λ same lives below. fits.ordered same lives (subst (λ (term : ℕ). term < rebuild.tenure.term) looks.term below);
-}
+  pub rebuild_rises : (rebuild : Rebuild) → RebuildFits row old live master rebuild → RebuildFits row new live master rebuild
+  rebuild_rises rebuild fits = record {
+    range = fits.range;
+    lineage = fits.lineage;
+    ordered = λ same lives below. fits.ordered same lives (omega (arith, below, rises));
+  }
 
-pub own_looks : (row : Row) (old new : Handover) (live : Bool) (master : ℕ) (tenure : Tenure) → LooksAs old new → OwnFits row old live master tenure → OwnFits row new live master tenure
-own_looks row old new live master tenure looks fits = record {
-  owned = fits.owned;
-  reached = λ same lives. subst (λ (term : ℕ). tenure.term ≤ term) (sym looks.term) (fits.reached same lives);
-  owner = λ same lives at.
-      subst (λ (term : ℕ). IsOwner (post_of row.phase master) term row.term) (sym looks.term)
-      (fits.owner same lives (sym looks.term ∙ at));
-}
+  pub release_rises : (tenure : Tenure) → ReleaseFits row old live master tenure → ReleaseFits row new live master tenure
+  release_rises tenure fits = record {
+    owned = fits.owned;
+    outside = λ same lives within. fits.outside same lives (omega (arith, within, rises));
+  }
 
-pub release_looks : (row : Row) (old new : Handover) (live : Bool) (master : ℕ) (tenure : Tenure) → LooksAs old new → ReleaseFits row old live master tenure → ReleaseFits row new live master tenure
-release_looks row old new live master tenure looks fits = record {
-  owned = fits.owned;
-  outside = λ same lives within. fits.outside same lives (subst (λ (term : ℕ). term ≤ tenure.term) looks.term within);
-}
+  -- an Own, where one of the new term is for the owner
+  pub own_rises : (tenure : Tenure) → ((old.term ≡ tenure.term → IsOwner (post_of row.phase master) old.term row.term) → new.term ≡ tenure.term → IsOwner (post_of row.phase master) new.term row.term) → OwnFits row old live master tenure → OwnFits row new live master tenure
+  own_rises tenure owner fits = record {
+    owned = fits.owned;
+    reached = λ same lives. omega (arith, fits.reached same lives, rises);
+    owner = λ same lives. owner (fits.owner same lives);
+  }
+
+  -- a Grant, where the master waits only if it waited at the term
+  pub grant_rises : (handed : Option Handed) (grant : Grant) → (is_wanting new.role ≡ true → (new.term ≡ old.term) × (is_wanting old.role ≡ true)) → GrantAgrees row old live handed master grant → GrantAgrees row new live handed master grant
+  grant_rises handed grant waited agrees = record {
+    reached = λ same lives. omega (arith, agrees.reached same lives, rises);
+    told = λ same lives at waits. agrees.told same lives (at ∙ (waited waits).0) (waited waits).1;
+  }
 
 -- ---- reports
 
@@ -96,12 +102,6 @@ rebuilt_looks phase old new merged applied applied' term master rebuilt looks sa
 
 pub of_target : (row : Row) (old new : Handover) (tenure : Tenure) → LooksAs old new → IsOfTarget row new tenure → IsOfTarget row old tenure
 of_target row old new tenure looks is = record { tablet = is.tablet; term = is.term ∙ looks.term }
-
-pub grant_looks : (row : Row) (old new : Handover) (live : Bool) (handed : Option Handed) (master : ℕ) (grant : Grant) → LooksAs old new → GrantAgrees row old live handed master grant → GrantAgrees row new live handed master grant
-grant_looks row old new live handed master grant looks agrees = record {
-  reached = λ same lives. subst (λ (term : ℕ). grant.tenure.term ≤ term) (sym looks.term) (agrees.reached same lives);
-  told = λ same lives at waits. agrees.told same lives (at ∙ looks.term) (sym looks.role.wanting ∙ waits);
-}
 
 -- what is said of a target that pulls, and to it, where each tablet looks as before
 module _ (row : Row) (written written' : ℕ → Written) (handovers handovers' : ℕ → ℕ → Handover) (live : ℕ → Bool) (looks : AllLook written written' handovers handovers') where
@@ -163,11 +163,14 @@ module _ (v : View) (logs' : ℕ → Log) (written' : ℕ → Written) (handover
   abbrev SaysAfter : Row → Node → Node → Body → Type 0
   SaysAfter row = SaysOf row logs' written' v.stored handovers' v.completions v.merged v.live v.handed
 
-  says_of_looks : (row : Row) (from to : Node) (body : Body) → SaysBefore row from to body → SaysAfter row from to body
+  rises : (row : Row) (m : ℕ) → (v.handovers m row.tablet).term ≤ (handovers' m row.tablet).term
+  rises row m = let same = (looks.each m row.tablet).term in omega (arith, same)
+
+  pub says_of_looks : (row : Row) (from to : Node) (body : Body) → SaysBefore row from to body → SaysAfter row from to body
   says_of_looks row from to (bodies.Prepare prepare) says =
       if_master to (λ m. PrepareFits row (v.handovers m row.tablet) (v.live m) m prepare)
       (λ m. PrepareFits row (handovers' m row.tablet) (v.live m) m prepare)
-      (λ m. prepare_looks row (v.handovers m row.tablet) (handovers' m row.tablet) (v.live m) m prepare (looks.each m row.tablet)) says
+      (λ m. prepare_rises row (v.handovers m row.tablet) (handovers' m row.tablet) (v.live m) m (rises row m) prepare) says
   says_of_looks row from to (bodies.Ready ready) says =
       by_master from (λ m. IsOf row ready.tenure → ReadyIn row.phase (v.handovers m row.tablet) row.term m ready.place)
       (λ m. IsOf row ready.tenure → ReadyIn row.phase (handovers' m row.tablet) row.term m ready.place)
@@ -177,7 +180,7 @@ module _ (v : View) (logs' : ℕ → Log) (written' : ℕ → Written) (handover
   says_of_looks row from to (bodies.Close tenure) says =
       if_master to (λ m. CloseFits row (v.handovers m row.tablet) (v.live m) m tenure)
       (λ m. CloseFits row (handovers' m row.tablet) (v.live m) m tenure)
-      (λ m. close_looks row (v.handovers m row.tablet) (handovers' m row.tablet) (v.live m) m tenure (looks.each m row.tablet)) says
+      (λ m. close_rises row (v.handovers m row.tablet) (handovers' m row.tablet) (v.live m) m (rises row m) tenure) says
   says_of_looks row from to (bodies.Transfer transfer) says =
       by_master from (λ m. IsOf row transfer.tenure → TransferIn row.phase (v.handovers m row.tablet) (v.completions m row.tablet) row.term m transfer)
       (λ m. IsOf row transfer.tenure → TransferIn row.phase (handovers' m row.tablet) (v.completions m row.tablet) row.term m transfer)
@@ -189,8 +192,8 @@ module _ (v : View) (logs' : ℕ → Log) (written' : ℕ → Written) (handover
     if_master to (λ m. GrantAgrees row (v.handovers m row.tablet) (v.live m) (get v.handed row.tablet) m grant)
         (λ m. GrantAgrees row (handovers' m row.tablet) (v.live m) (get v.handed row.tablet) m grant)
         (λ m.
-        grant_looks row (v.handovers m row.tablet) (handovers' m row.tablet) (v.live m) (get v.handed row.tablet) m grant
-        (looks.each m row.tablet)) says.1,
+        grant_rises row (v.handovers m row.tablet) (handovers' m row.tablet) (v.live m) m (rises row m) (get v.handed row.tablet) grant
+        (λ waits. ((looks.each m row.tablet).term, sym (looks.each m row.tablet).role.wanting ∙ waits))) says.1,
   )
   says_of_looks row from to (bodies.Pull pull) says = (
     says.0,
@@ -226,15 +229,19 @@ module _ (v : View) (logs' : ℕ → Log) (written' : ℕ → Written) (handover
   says_of_looks row from to (bodies.Own tenure) says =
       if_master to (λ m. OwnFits row (v.handovers m row.tablet) (v.live m) m tenure)
       (λ m. OwnFits row (handovers' m row.tablet) (v.live m) m tenure)
-      (λ m. own_looks row (v.handovers m row.tablet) (handovers' m row.tablet) (v.live m) m tenure (looks.each m row.tablet)) says
+      (λ m.
+      own_rises row (v.handovers m row.tablet) (handovers' m row.tablet) (v.live m) m (rises row m) tenure
+      (λ owner at.
+      subst (λ (term : ℕ). IsOwner (post_of row.phase m) term row.term) (sym (looks.each m row.tablet).term)
+      (owner (sym (looks.each m row.tablet).term ∙ at)))) says
   says_of_looks row from to (bodies.Release tenure) says =
       if_master to (λ m. ReleaseFits row (v.handovers m row.tablet) (v.live m) m tenure)
       (λ m. ReleaseFits row (handovers' m row.tablet) (v.live m) m tenure)
-      (λ m. release_looks row (v.handovers m row.tablet) (handovers' m row.tablet) (v.live m) m tenure (looks.each m row.tablet)) says
+      (λ m. release_rises row (v.handovers m row.tablet) (handovers' m row.tablet) (v.live m) m (rises row m) tenure) says
   says_of_looks row from to (bodies.Rebuild rebuild) says =
       if_master to (λ m. RebuildFits row (v.handovers m row.tablet) (v.live m) m rebuild)
       (λ m. RebuildFits row (handovers' m row.tablet) (v.live m) m rebuild)
-      (λ m. rebuild_looks row (v.handovers m row.tablet) (handovers' m row.tablet) (v.live m) m rebuild (looks.each m row.tablet)) says
+      (λ m. rebuild_rises row (v.handovers m row.tablet) (handovers' m row.tablet) (v.live m) m (rises row m) rebuild) says
   says_of_looks row from to (bodies.Copy copy) says = λ is.
       copy_looks v.logs logs' v.written written' v.stored v.live copy (same copy.master) less row row.phase (says is)
   says_of_looks row from to (bodies.Rebuilt rebuilt) says =
@@ -251,12 +258,6 @@ module _ (v : View) (logs' : ℕ → Log) (written' : ℕ → Written) (handover
   -- each tablet looks as before, as much is applied and counts as before, and backups are known to hold as much
   pub messages_looks : MessagesOf v → MessagesOf (record v { logs = logs'; written = written'; handovers = handovers' })
   messages_looks old = record {
-    of_rows =
-        each_weaker (λ n m. All (λ row. SaysBefore row m.from m.to m.body) v.rows)
-        (λ n m. All (λ row. SaysAfter row m.from m.to m.body) v.rows) v.wire
-        (λ n m.
-        All-weaker (λ row. SaysBefore row m.from m.to m.body) (λ row. SaysAfter row m.from m.to m.body)
-        (λ row. says_of_looks row m.from m.to m.body) v.rows)
-        old.of_rows;
+    of_rows = λ n m there k d within. says_of_looks (slice_index_or v.rows k d) m.from m.to m.body (old.of_rows n m there k d within);
     others = old.others;
   }

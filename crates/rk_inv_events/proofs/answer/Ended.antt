@@ -1,14 +1,62 @@
 -- A call that a serving master knows to have ended has a record in the journal, with that end as its outcome.
-use Rattle.std.proofs.Common.{◌≡◌, ℕ, ◌<◌, true, List, Option, Some, None, sym, ap, subst, ◌∙◌, ⊎_elim, ◌⊎◌, inl, arith, IfSome, Contains}
-use Rattle.rk_inv_base.proofs.Words.{All-contains, IsInOrder, Call, End, Ended, Placed, is_mutation, ends_of, look, is_serving, lineage_of}
-use Rattle.rk_inv_base.proofs.Words.{Phase, Rebuilding, Row, ends_told, outcome_of, has_key, LastCall, IsAccepted, IsLastCall, WasAsked}
-use Rattle.rk_inv_base.proofs.Words.{IsKnown, IsReached, IsRecorded, IsStagedEnd, ReachAll, is_record_in, Holds, StillCounts, bond_of}
-use Rattle.rk_inv_base.proofs.Words.{post_of, speaks, RoleFits, IsFormed, View, rests, SoundView}
+use Rattle.std.proofs.Common.{All, Bool, Contains, IfSome, List, None, Option, Some, ap, arith, cond, eqb, eqb-true, false, inl, inr}
+use Rattle.std.proofs.Common.{nat_lt, refl, subst, sym, true, ℕ, ⊎_elim, ◌<◌, ◌∙◌, ◌≡◌, ◌⊎◌}
+use Rattle.rk_done.specs.Completions.{look_of}
 use Rattle.rk_done.specs.declared.completion.Look.TheVariants as looks
+use Rattle.rk_inv_base.proofs.Words.{All-contains, Call, Completion, Completions, End, Ended, IsInOrder, IsKnown, IsLastCall, IsReached}
+use Rattle.rk_inv_base.proofs.Words.{IsRecorded, IsStagedEnd, LastCall, Placed, ReachAll, Rebuilding, Row, SoundView, View, WasAsked}
+use Rattle.rk_inv_base.proofs.Words.{ended_of, ends_of, ends_told, get, has_key, is_mutation, is_record_in, is_serving, lineage_of, look}
+use Rattle.rk_inv_base.proofs.Words.{outcome_of, post_of, rests}
 use Rattle.rk_inv_base.proofs.rows.Apart.{same_number}
-use Rattle.rk_inv_base.proofs.rows.Speakers.{speaks_serving}
-use Rattle.rk_inv_events.proofs.answer.Looks.{end_of, of_this, one_end}
-use Rattle.rk_inv_events.proofs.answer.ServesAs.{rebuilder_keeps}
+use Rattle.rk_inv_events.proofs.Words.{All_pairs, each_from_pairs, ends_from_pairs, pairs_from_ends, role_fits, row_in, speaks_serving}
+use Rattle.rk_inv_events.proofs.events.PostsOf.{rebuilder_keeps}
+
+-- ---- completions that tell the end of a call have that end, and no other one of its client
+
+-- the last completion of a client is that of a seq, with this end
+pub record IsLastOf (last : Completion) (seq : ℕ) (end : End) : Type 0 where
+  pub seq_is : last.seq ≡ seq
+  pub end_is : last.end ≡ end
+
+-- the end of a client's call
+abbrev pub end_of : ℕ → ℕ → End → Ended
+end_of client seq end = record { client = client; seq = seq; end = end }
+
+module _ (completions : Completions) (client seq : ℕ) (end : End) (looked : look completions client seq ≡ looks.Same end) where
+  record IsLast : Type 0 where
+    last : Completion
+    got : get completions client ≡ Some last
+    is : IsLastOf last seq end
+
+  last_is : IsLast
+  last_is = by (get completions client) refl looked
+    where
+      same : (last : Completion) (newer here : Bool) → eqb last.seq seq ≡ here → cond newer looks.New (cond here (looks.Same last.end) (looks.Old last.seq)) ≡ looks.Same end → IsLastOf last seq end
+      same last true here is looked = absurd (cc looked)
+      same last false false is looked = absurd (cc looked)
+      same last false true is looked = record { seq_is = eqb-true last.seq seq is; end_is = cc looked }
+
+      by : (found : Option Completion) → get completions client ≡ found → look_of found seq ≡ looks.Same end → IsLast
+      by None got looked = absurd (cc looked)
+      by (Some last) got looked = record { last = last; got = got; is = same last (nat_lt last.seq seq) (eqb last.seq seq) refl looked }
+
+  -- what holds of all ends holds of this one
+  pub of_this : (P : Ended → Type 0) → All P (ends_of completions) → P (end_of client seq end)
+  of_this P all = subst P (λ i. end_of client (last_is.is.seq_is i) (last_is.is.end_is i))
+      (each_from_pairs (λ number completion. P (ended_of (number, completion))) completions (pairs_from_ends P completions all) client
+      last_is.last last_is.got)
+
+  -- each other end of the client is this one
+  pub one_end : IsInOrder completions → All (λ other. other.client ≡ client → other ≡ end_of client seq end) (ends_of completions)
+  one_end order = ends_from_pairs (λ other. other.client ≡ client → other ≡ end_of client seq end) completions
+      (All_pairs (λ number completion. number ≡ client → ended_of (number, completion) ≡ end_of client seq end) completions order
+      (λ number completion got is.
+      let here : get completions client ≡ Some completion = rw is at got in
+      let one : Some completion ≡ Some last_is.last = sym here ∙ last_is.got in
+      let same : completion ≡ last_is.last = cc one in
+      (λ i. ended_of (is i, same i)) ∙ (λ i. end_of client (last_is.is.seq_is i) (last_is.is.end_is i))))
+
+-- ---- the record
 
 -- the journal has the record of a mutation, with this outcome
 pub record HasRecord (journal : List Placed) (call : Call) (end : End) : Type 0 where
@@ -26,18 +74,14 @@ module _ (v : View) (sound : SoundView v) (row : Row) (master : ℕ) (call : Cal
   outcome_is : (placed : Placed) → Contains v.journal placed → placed.call ≡ call → placed.outcome ≡ outcome_of end
   outcome_is placed stands is =
       let reach : ReachAll row.range v.journal (ends_of (v.completions master row.tablet)) =
-      All-contains
-      (λ (r : Row). StillCounts (v.live master) (v.handovers master r.tablet).term r.term
-      → speaks (post_of r.phase master) (v.handovers master r.tablet) r.term ≡ true
-      → ReachAll r.range v.journal (ends_of (v.completions master r.tablet)))
-      v.rows row (sound.calls.answering master) has (inl lives)
+      (row_in v sound row has).answering master (inl lives)
       (speaks_serving (post_of row.phase master) (v.handovers master row.tablet) row.term serves) in
       let reached : IsReached (ends_of (v.completions master row.tablet)) placed =
       All-contains
-      (λ (p : Placed). is_record_in row.range p ≡ true → is_mutation p.call.op ≡ true
-      → IsReached (ends_of (v.completions master row.tablet)) p)
-      v.journal placed reach stands
-      (ap (λ (c : Call). has_key row.range c.table c.key) is ∙ inside) (ap (λ (c : Call). is_mutation c.op) is ∙ mutation) in
+      (λ (p : Placed).
+      is_record_in row.range p ≡ true → is_mutation p.call.op ≡ true → IsReached (ends_of (v.completions master row.tablet)) p) v.journal
+      placed reach stands (ap (λ (c : Call). has_key row.range c.table c.key) is ∙ inside)
+      (ap (λ (c : Call). is_mutation c.op) is ∙ mutation) in
       let same : reached.end ≡ end_of call.client call.seq end =
       All-contains (λ (other : Ended). other.client ≡ call.client → other ≡ end_of call.client call.seq end)
       (ends_of (v.completions master row.tablet)) reached.end
@@ -45,11 +89,10 @@ module _ (v : View) (sound : SoundView v) (row : Row) (master : ℕ) (call : Cal
       (reached.reaches.client ∙ ap (λ (c : Call). c.client) is) in
       let seq : reached.end.seq ≡ call.seq = ap (λ (e : Ended). e.seq) same in
       let mine : placed.call.seq ≡ call.seq = ap (λ (c : Call). c.seq) is in
-      ⊎_elim
-      (λ (later : placed.call.seq < reached.end.seq). absurd (omega (arith, later, seq, mine)))
-      (λ (it : (placed.call.seq ≡ reached.end.seq) × (outcome_of reached.end.end ≡ placed.outcome)).
-      sym it.1 ∙ ap (λ (e : Ended). outcome_of e.end) same)
-      reached.reaches.reached
+      elim reached.reaches.reached [
+        | inl later ↦ absurd (omega (arith, later, seq, mine))
+        | inr it ↦ sym it.1 ∙ ap (λ (e : Ended). outcome_of e.end) same
+      ]
 
   of_own : (placed : Placed) → Contains v.journal placed → placed.call ≡ call → HasRecord v.journal call end
   of_own placed stands is = record {
@@ -65,50 +108,38 @@ module _ (v : View) (sound : SoundView v) (row : Row) (master : ℕ) (call : Cal
   of_start : (last : Option LastCall) → IfSome last (IsLastCall v.base v.lane call.client) → WasAsked last v.journal call
       → Contains (ends_told v.base) (end_of call.client call.seq end) → HasRecord v.journal call end
   of_start None fits asked told = absurd asked
-  of_start (Some last) fits asked told =
-      ⊎_elim
-      (λ (is : last.call ≡ call).
-      let before =
-      All-contains (λ (e : Ended). e.client ≡ last.call.client → e.seq < last.call.seq) (ends_told v.base)
-      (end_of call.client call.seq end) fits.after told (sym (ap (λ (c : Call). c.client) is)) in
-      absurd (omega (arith, before, ap (λ (c : Call). c.seq) is)))
-      (λ (earlier : (call.seq < last.call.seq) × IsAccepted v.journal call). of_own earlier.1.placed earlier.1.stands earlier.1.call_is)
-      asked
+  of_start (Some last) fits asked told = elim asked [
+    | inl is ↦
+        let before =
+        All-contains (λ (e : Ended). e.client ≡ last.call.client → e.seq < last.call.seq) (ends_told v.base)
+        (end_of call.client call.seq end) fits.after told (sym (ap (λ (c : Call). c.client) is)) in
+        absurd (omega (arith, before, ap (λ (c : Call). c.seq) is))
+    | inr earlier ↦ of_own earlier.1.placed earlier.1.stands earlier.1.call_is
+  ]
 
   -- nor is it one of a rebuild, since the master serves
   of_rebuild : IsStagedEnd v.rows (rests v) master row.tablet (v.handovers master row.tablet).term (end_of call.client call.seq end) → ⊥
   of_rebuild staged =
       let same : staged.row ≡ row = same_number v.rows staged.row row sound.rows.apart staged.stands has staged.number in
-      let rebuilt : row.phase ≡ Rebuilding (lineage_of row.phase) master =
-      subst (λ (r : Row). r.phase ≡ Rebuilding (lineage_of r.phase) master) same staged.rebuilt in
+      let rebuilt : row.phase ≡ Rebuilding (lineage_of row.phase) master = rw same at staged.rebuilt in
       let at_term : (v.handovers master row.tablet).term ≡ row.term = staged.at_term ∙ ap (λ (r : Row). r.term) same in
-      let fits : Holds (bond_of (post_of row.phase master) (v.handovers master row.tablet).role) row.term (v.handovers master row.tablet).term (v.written master).applied =
-      All-contains
-      (λ (r : Row). StillCounts (v.live master) (v.handovers master r.tablet).term r.term
-      → RoleFits r master (v.handovers master r.tablet) (v.written master).applied)
-      v.rows row (sound.roles.fitting master) has (inl lives) in
       let below =
-      rebuilder_keeps (v.handovers master row.tablet) row.term (v.written master).applied serves (lineage_of row.phase) master
-      (subst IsFormed rebuilt (All-contains (λ (r : Row). IsFormed r.phase) v.rows row sound.rows.formed has))
-      (subst
-      (λ (phase : Phase). Holds (bond_of (post_of phase master) (v.handovers master row.tablet).role) row.term (v.handovers master row.tablet).term (v.written master).applied)
-      rebuilt fits) in
+      rebuilder_keeps (lineage_of row.phase) master row.term (v.handovers master row.tablet).term (v.written master).applied
+      (v.handovers master row.tablet).role (rw rebuilt at (role_fits v sound row has master (inl lives))) serves in
       omega (arith, below, at_term)
 
   pub has_record : HasRecord v.journal call end
   has_record =
       ⊎_elim
       (⊎_elim
-      (λ (recorded : IsRecorded v.journal (end_of call.client call.seq end)).
-      record {
+      (λ (recorded : IsRecorded v.journal (end_of call.client call.seq end)). record {
         placed = recorded.placed;
         stands = recorded.stands;
         mutation = recorded.fits.mutation;
         client = recorded.fits.client;
         seq = recorded.fits.seq;
         outcome = recorded.fits.outcome;
-      })
-      (λ (told : Contains (ends_told v.base) (end_of call.client call.seq end)).
+      }) (λ (told : Contains (ends_told v.base) (end_of call.client call.seq end)).
       of_start (v.asked call.client) (sound.asked.last call.client) was_asked told))
       (λ (staged : IsStagedEnd v.rows (rests v) master row.tablet (v.handovers master row.tablet).term (end_of call.client call.seq end)).
       absurd (of_rebuild staged))

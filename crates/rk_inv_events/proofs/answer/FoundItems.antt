@@ -1,29 +1,48 @@
--- What records leave of a key: the same as all that counts, where they have its newest item, or all that came of it to a target.
-use Rattle.std.proofs.Common.{◌≡◌, ℕ, ◌≤◌, ◌<◌, Bool, true, false, cond, List, [], ◌∷◌, ◌++◌, Option, Some, None, refl, sym, ap, subst, ◌∙◌}
-use Rattle.std.proofs.Common.{⊎_elim, ◌⊎◌, inl, inr, arith, is_some, Contains, option_map}
-use Rattle.rk_inv_base.proofs.Words.{cases_Bool, All-contains, Contains-append_cases, Contains-append_left, Contains-append_right, hash_of}
-use Rattle.rk_inv_base.proofs.Words.{has, Held, Range, Entry, found, is_in, IsInScanOrder, newest_found, newest_is, is_of_from, is_of_parts}
-use Rattle.rk_inv_base.proofs.Words.{newest_own, live, record_of, is_of, newest, IsPlain, items_of, has_key, IsFound, IsReceived, IsTableOf}
-use Rattle.rk_table.specs.Items.{is_at}
+-- What records leave of a key: the same as all that counts, where they have its newest item, or all that came of it to a target. Where a tablet
+-- that has no record of a key knows all of it, each item of the key that its source has has arrived.
+use Rattle.std.proofs.Common.{Bool, Contains, List, None, Option, Some, ap, arith, false, inl, inr, is_some, nat_lt, not, option_map, refl}
+use Rattle.std.proofs.Common.{sym, take, true, ℕ, ⊎_elim, ◌++◌, ◌<◌, ◌||◌, ◌∙◌, ◌≡◌, ◌≤◌, ◌⊎◌}
 use Rattle.rk_sound.specs.Receives.{HasCome}
-use Rattle.rk_inv_base.proofs.logs.InRange.{AreIn, IsIn}
-use Rattle.rk_inv_base.proofs.calls.Records.{stands_is_found}
-use Rattle.rk_inv_rows.proofs.lineage.TakenOver.{plain_fewer}
-use Rattle.rk_inv_wellformed.proofs.maps.Lists.{find_passes}
+use Rattle.rk_table.specs.Items.{is_at}
+use Rattle.rk_types.specs.Hashing.{bucket_of}
+use Rattle.rk_inv_base.proofs.Words.{All-contains, All-contains_itself, Contains-append_cases, Contains-append_left, Contains-append_right}
+use Rattle.rk_inv_base.proofs.Words.{Entry, HasArrived, Held, IsFound, IsInScanOrder, IsPlain, IsReceived, IsTableOf, Range, Tablet}
+use Rattle.rk_inv_base.proofs.Words.{cases_Bool, contains, found, has, has_key, hash_of, is_in, is_known, is_of, is_of_from, is_of_parts}
+use Rattle.rk_inv_base.proofs.Words.{is_receiving, items_of, live, newest, newest_found, newest_is, newest_own, record_of}
+use Rattle.rk_inv_wellformed.proofs.maps.Lists.{all_find, find_passes}
+use Rattle.rk_inv_events.proofs.Words.{AreIn, IsIn, before_bucket, filter_stands, item_bucket, of_bucket, plain_fewer, stands_is_found}
+
+-- a tablet that pulls knows a key by its hash or by its bucket
+known_by : (receives hash bucket : Bool) → receives ≡ true → (not receives || hash || bucket) ≡ true → (bucket ≡ true) ⊎ (hash ≡ true)
+known_by true true bucket is known = inr known
+known_by true false bucket is known = inl known
+known_by false hash bucket is known = absurd (cc is)
+
+pub has_arrived : (tablet : Tablet) (table : ℕ) (key : List ℕ) → is_known tablet (hash_of key) None ≡ true
+    → (items : List Held) (x : Held) → Contains items x → is_of table key x ≡ true → HasArrived tablet.handover.role tablet.pulling items x
+has_arrived tablet table key known items x stands of receives =
+    let token = tablet.pulling.token in
+    let same : x.key ≡ key = (is_of_parts table key x of).1 in
+    elim
+    (known_by (is_receiving tablet.handover.role) (contains tablet.pulling.hashes.resolved (hash_of key))
+    (nat_lt (bucket_of (hash_of key)) token.bucket) receives known) [
+      | inl before ↦
+          inl
+          (Contains-append_left (before_bucket token.bucket items) (take token.skip (of_bucket token.bucket items)) x
+          (filter_stands (λ item. nat_lt (item_bucket item) token.bucket) items x stands
+          (ap (λ (k : List ℕ). nat_lt (bucket_of (hash_of k)) token.bucket) same ∙ before)))
+      | inr came ↦ inr (ap (λ (k : List ℕ). contains tablet.pulling.hashes.resolved (hash_of k)) same ∙ came)
+    ]
+
+-- ---- what records leave
 
 -- what a search finds stands there
 found_stands : (table : ℕ) (key : List ℕ) (records : List Held) (x : Held) → found table key records ≡ Some x → Contains records x
-found_stands table key [] x is = absurd (cc is)
-found_stands table key (first ∷ records) x is = by (is_at table key first) is (found_stands table key records x)
-  where
-    by : (here : Bool) → cond here (Some first) (found table key records) ≡ Some x → (found table key records ≡ Some x → Contains records x) → Contains (first ∷ records) x
-    by true is later = let same : first ≡ x = cc is in (0, omega arith, same)
-    by false is later = Contains-append_right (first ∷ []) records x (later is)
+found_stands table key records x = all_find (Contains records) (is_at table key) records x (All-contains_itself records)
 
 -- an item of a key lies in a range that has the key
 item_in : (range : Range) (table : ℕ) (key : List ℕ) (x : Held) → has_key range table key ≡ true → is_of table key x ≡ true → is_in range x ≡ true
-item_in range table key x inside of =
-    let parts = is_of_parts table key x of in (λ i. has range (parts.0 i) (hash_of (parts.1 i))) ∙ inside
+item_in range table key x inside of = let parts = is_of_parts table key x of in (λ i. has range (parts.0 i) (hash_of (parts.1 i))) ∙ inside
 
 -- records with the newest items of what counts find the newest of a key
 module _ (range : Range) (list : List Entry) (records : List Held) (table : ℕ) (key : List ℕ) (order : IsInScanOrder records) (within : AreIn range (items_of list)) (its : IsTableOf range list records) (inside : has_key range table key ≡ true) where
@@ -76,7 +95,9 @@ module _ (range : Range) (source scan own mine sides records : List Held) (Arriv
       let parts = is_of_parts table key x of in
       let its = is_of_parts x.table x.key there.there there.same_key in (
         there.there,
-        sym is ∙ stands_is_found records table key there.there order there.stands (is_of_from table key there.there (its.0 ∙ parts.0) (its.1 ∙ parts.1)),
+        sym is
+            ∙ stands_is_found records table key there.there order there.stands
+            (is_of_from table key there.there (its.0 ∙ parts.0) (its.1 ∙ parts.1)),
         there.as_new,
       )
 
@@ -87,25 +108,27 @@ module _ (range : Range) (source scan own mine sides records : List Held) (Arriv
         let of : is_of table key x ≡ true = find_passes (is_at table key) records x is in
         let parts = is_of_parts table key x of in
         let came = received.come x (found_stands table key records x is) (item_in range table key x inside of) in
-        newest_found all table key x beside.plain (record {
-          stands =
-              ⊎_elim (λ (its : Contains own x). Contains-append_right source mine x (beside.has_own x its))
-              (λ (copy : Contains sides x).
-              Contains-append_left source mine x (newest_is source x.table x.key x (beside.first x (received.within x copy))).stands)
-              came;
+        newest_found all table key x beside.plain
+        (record {
+          stands = elim came [
+            | inl its ↦ Contains-append_right source mine x (beside.has_own x its)
+            | inr copy ↦
+                Contains-append_left source mine x (newest_is source x.table x.key x (beside.first x (received.within x copy))).stands
+          ];
           of_record = of;
           greatest = λ other at its.
               let names = is_of_parts table key other its in
-              let of_own : Contains own other → other.version ≤ x.version = λ there.
+              let of_own : Contains own other → other.version ≤ x.version =
+              λ there.
               let has = one_found other (received.found other (inl there)) its (Some x) is in
-              let same : x ≡ has.0 = cc has.1 in
-              subst (λ (h : Held). other.version ≤ h.version) (sym same) has.2 in
-              let of_source : Contains source other → other.version ≤ x.version = λ there.
-              ⊎_elim (λ (mine : Contains own x). let less = beside.above x other mine there in omega (arith, less))
-              (λ (copy : Contains sides x).
-              (newest_is source x.table x.key x (beside.first x (received.within x copy))).greatest other there
-              (is_of_from x.table x.key other (names.0 ∙ sym parts.0) (names.1 ∙ sym parts.1)))
-              came in
+              let same : x ≡ has.0 = cc has.1 in rw same has.2 in
+              let of_source : Contains source other → other.version ≤ x.version =
+              λ there. elim came [
+                | inl mine ↦ omega (arith, beside.above x other mine there)
+                | inr copy ↦
+                    (newest_is source x.table x.key x (beside.first x (received.within x copy))).greatest other there
+                    (is_of_from x.table x.key other (names.0 ∙ sym parts.0) (names.1 ∙ sym parts.1))
+              ] in
               ⊎_elim of_source (λ (there : Contains mine other). ⊎_elim of_own of_source (beside.from other there))
               (Contains-append_cases source mine other at);
         })
@@ -113,7 +136,7 @@ module _ (range : Range) (source scan own mine sides records : List Held) (Arriv
     -- where none is found of a key of which all has arrived, none is left but a tombstone
     module _ (none : found table key records ≡ None) (arrives : (x : Held) → Contains scan x → is_of table key x ≡ true → Arrived x) where
       never : (x : Held) → HasCome Arrived scan own x → is_of table key x ≡ true → ⊥
-      never x come of = let has = one_found x (received.found x come) of None none in absurd (cc has.1)
+      never x come of = absurd (cc (one_found x (received.found x come) of None none).1)
 
       of_source : (y : Held) → newest all table key ≡ Some y → Contains source y → record_of (Some y) ≡ None
       of_source y is there =
@@ -129,12 +152,12 @@ module _ (range : Range) (source scan own mine sides records : List Held) (Arriv
                 best.greatest other (Contains-append_left source mine other at)
                 (is_of_from table key other (its.0 ∙ parts.0) (its.1 ∙ parts.1));
           }) in
-          ⊎_elim
-          (λ (lives : is_some y.value ≡ true).
-          let stands : Contains scan y = beside.scanned y first lives in
-          absurd (never y (inr (stands, arrives y stands best.of_record)) best.of_record))
-          (λ (tombstone : is_some y.value ≡ false). no_record y.value y.version tombstone)
-          (cases_Bool (is_some y.value))
+          elim (cases_Bool (is_some y.value)) [
+            | inl lives ↦
+                let stands : Contains scan y = beside.scanned y first lives in
+                absurd (never y (inr (stands, arrives y stands best.of_record)) best.of_record)
+            | inr tombstone ↦ no_record y.value y.version tombstone
+          ]
 
       none_left : live all table key ≡ None
       none_left = by (newest all table key) refl

@@ -1,17 +1,15 @@
 -- What a master that serves a row has applied of its own counts: no mark is of an item of the row there.
-use Rattle.std.proofs.Common.{◌≡◌, ℕ, ◌+◌, ◌-◌, true, false, ◌&&◌, List, Option, Some, None, refl, sym, ◌∙◌, ⊎_elim, flat_map, arith, drop}
-use Rattle.std.proofs.Common.{is_some, nat_le, nat_lt, slice_get, take, All, Contains, leb-true, ltb-true}
-use Rattle.rk_inv_base.proofs.Words.{and_parts, cases_Bool, false≢true, All-contains, Contains-append_left, Any-from_list_any, Held, Entry}
-use Rattle.rk_inv_base.proofs.Words.{is_in, is_serving, Role, number_of, row_of, Row, items_in, items_of, is_marked, unmarked_from}
-use Rattle.rk_inv_base.proofs.Words.{counting, counts, log_material, named, side_entries, Written, applied_entries, Mark, HasOwnRange}
-use Rattle.rk_inv_base.proofs.Words.{IsOfRange, MarkFits, has_merged, entries_from, View, SoundView}
+use Rattle.std.proofs.Common.{Contains, List, None, Option, Some, arith, drop, false, flat_map, inl, inr, is_some, leb-true, ltb-true}
+use Rattle.std.proofs.Common.{nat_le, nat_lt, refl, slice_get, sym, take, true, ℕ, ◌&&◌, ◌+◌, ◌-◌, ◌∙◌, ◌≡◌}
 use Rattle.rk_entry.specs.declared.entry.Entry.TheVariants as entries
 use Rattle.rk_transfer.specs.declared.role.Role.TheVariants as roles
-use Rattle.rk_inv_base.proofs.rows.Apart.{in_one_row}
-use Rattle.rk_inv_base.proofs.pulls.Joining.{kept_stands, stands_kept}
+use Rattle.rk_inv_base.proofs.Words.{All-contains, Any-from_list_any, Contains-append_left, Entry, HasOwnRange, Held, IsOfRange, Mark}
+use Rattle.rk_inv_base.proofs.Words.{MarkFits, Role, Row, SoundView, View, Written, and_parts, applied_entries, cases_Bool, counting}
+use Rattle.rk_inv_base.proofs.Words.{counts, entries_from, false≢true, has_merged, is_in, is_marked, is_serving, items_in, items_of}
+use Rattle.rk_inv_base.proofs.Words.{log_material, named, number_of, row_of, side_entries, unmarked_from}
 use Rattle.rk_inv_base.proofs.logs.MarkedApart.{in_piece, place_of}
-use Rattle.rk_inv_base.proofs.rows.Serving.{found_stands}
-use Rattle.rk_inv_tablets.proofs.ready.OwnItems.{at_place, flat_from, flat_stands, front_at, unmarked_stands}
+use Rattle.rk_inv_base.proofs.pulls.Joining.{kept_stands, stands_kept}
+use Rattle.rk_inv_events.proofs.Words.{at_place, flat_from, flat_stands, found_stands, front_at, in_one_row, row_in, unmarked_stands}
 
 -- a master that merged does not serve
 merged_apart : (role : Role) → has_merged role ≡ true → is_serving role ≡ true → ⊥
@@ -27,9 +25,7 @@ module _ (v : View) (row : Row) (master : ℕ) (sound : SoundView v) (has : Cont
   unmarked_here mark stands its =
       let fits : MarkFits row master (v.handovers master row.tablet) (v.live master) w mark =
       All-contains (λ m. m.tablet ≡ row.tablet → MarkFits row master (v.handovers master row.tablet) (v.live master) w m) w.marks mark
-      (All-contains
-      (λ r. All (λ m. m.tablet ≡ r.tablet → MarkFits r master (v.handovers master r.tablet) (v.live master) w m) w.marks)
-      v.rows row (sound.rebuilds.marks master) has) stands (sym its) in
+      ((row_in v sound row has).marks master) stands (sym its) in
       merged_apart (v.handovers master row.tablet).role (fits.by_rebuilder (fits.present lives)).2 serves
 
   -- an item of a piece of another row is not of this one
@@ -45,26 +41,25 @@ module _ (v : View) (row : Row) (master : ℕ) (sound : SoundView v) (has : Cont
       let number : other.tablet ≡ mark.tablet = number_of v.rows mark.tablet other is in
       let own : HasOwnRange other.range w.entries mark =
       All-contains (λ m. m.tablet ≡ other.tablet → HasOwnRange other.range w.entries m) w.marks mark
-      (All-contains (λ r. All (λ m. m.tablet ≡ r.tablet → HasOwnRange r.range w.entries m) w.marks) v.rows other
-      (sound.rebuilds.pieces master) stands) marked (sym number) in
+      ((row_in v sound other stands).pieces master) marked (sym number) in
       of_other other held stands (λ same. unmarked_here mark marked (same ∙ number))
       (All-contains (IsOfRange other.range) (take (mark.past - mark.first) (drop mark.first w.entries)) (entries.Held held) own inside) its
 
   -- so an item of the row bears no mark
   pub bare_at : (place : ℕ) (held : Held) → slice_get w.entries place ≡ Some (entries.Held held) → is_in row.range held ≡ true → is_marked w.marks place ≡ false
-  bare_at place held at its =
-      ⊎_elim
-      (λ (marked : is_marked w.marks place ≡ true).
-      let found = Any-from_list_any (λ (mark : Mark). nat_le mark.first place && nat_lt place mark.past) w.marks marked in
-      let mark : Mark = found.1 in
-      let stands : Contains w.marks mark = (found.0, found.2, found.3) in
-      let parts = and_parts (nat_le mark.first place) (nat_lt place mark.past) found.4 in
-      absurd (of_piece mark held stands
-      (in_piece w.entries mark.first mark.past place (entries.Held held) (leb-true mark.first place parts.0) (ltb-true place mark.past parts.1) at)
-      (row_of v.rows mark.tablet) refl
-      (All-contains (λ m. is_some (row_of v.rows m.tablet) ≡ true) w.marks mark (sound.cover.marks master) stands) its))
-      (λ (bare : is_marked w.marks place ≡ false). bare)
-      (cases_Bool (is_marked w.marks place))
+  bare_at place held at its = elim (cases_Bool (is_marked w.marks place)) [
+    | inl marked ↦
+        let found = Any-from_list_any (λ (mark : Mark). nat_le mark.first place && nat_lt place mark.past) w.marks marked in
+        let mark : Mark = found.1 in
+        let stands : Contains w.marks mark = (found.0, found.2, found.3) in
+        let parts = and_parts (nat_le mark.first place) (nat_lt place mark.past) found.4 in
+        absurd
+        (of_piece mark held stands
+        (in_piece w.entries mark.first mark.past place (entries.Held held) (leb-true mark.first place parts.0)
+        (ltb-true place mark.past parts.1) at) (row_of v.rows mark.tablet) refl
+        (All-contains (λ m. is_some (row_of v.rows m.tablet) ≡ true) w.marks mark (sound.cover.marks master) stands) its)
+    | inr bare ↦ bare
+  ]
 
   module _ (from : ℕ) where
     abbrev all : List Entry
@@ -77,21 +72,16 @@ module _ (v : View) (row : Row) (master : ℕ) (sound : SoundView v) (has : Cont
     counted (entries.Held held) x stands at =
         let kept = kept_stands (counts row.range) all (entries.Held held) stands in
         let place = at_place all (entries.Held held) kept.0 in
-        let there : slice_get (applied_entries w) (from + place.0) ≡ Some (entries.Held held) =
-        place_of (applied_entries w) from place.0 (from + place.0) (entries.Held held) refl place.1 in
+        let there = place_of (applied_entries w) from place.0 (from + place.0) (entries.Held held) refl place.1 in
         stands_kept (counts row.range) bare (entries.Held held)
         (unmarked_stands w.marks from all place.0 (entries.Held held) place.1
-        (bare_at (from + place.0) held (front_at w.entries w.applied (from + place.0) (entries.Held held) there).1 kept.1))
-        kept.1
-    counted (entries.Refused refused) x stands at = absurd (omega (arith, at.1))
-    counted (entries.Carried carried) x stands at = absurd (omega (arith, at.1))
-    counted (entries.Joined joined) x stands at = absurd (omega (arith, at.1))
+        (bare_at (from + place.0) held (front_at w.entries w.applied (from + place.0) (entries.Held held) there).1 kept.1)) kept.1
+    counted _ x stands at = absurd (omega (arith, at.1))
 
     -- each item of its own counts
     pub own_counts : (x : Held) → Contains (items_of (entries_from row.range from (applied_entries w))) x → Contains (items_of (log_material row.range w.marks w.sides from (applied_entries w))) x
     own_counts x stands =
         let found = flat_from items_in (entries_from row.range from (applied_entries w)) x stands in
         flat_stands items_in (log_material row.range w.marks w.sides from (applied_entries w)) found.0 x
-        (Contains-append_left (counting row.range bare) (counting row.range (flat_map (side_entries w.sides) (named row.range bare))) found.0
-        (counted found.0 x found.1 found.2))
-        found.2
+        (Contains-append_left (counting row.range bare) (counting row.range (flat_map (side_entries w.sides) (named row.range bare)))
+        found.0 (counted found.0 x found.1 found.2)) found.2

@@ -1,34 +1,29 @@
 -- A sound and well formed lane stays sound when a master answers a get: what it tells is what the journal leaves, and the read gets its
 -- record at once.
-use Rattle.std.proofs.Common.{◌≡◌, ℕ, ◌+◌, ◌-◌, true, false, List, [], ◌∷◌, ◌++◌, length, Option, Some, None, refl, sym, ap, subst, ◌∙◌}
-use Rattle.std.proofs.Common.{arith, ◌&&◌, ◌||◌, not, slice_get, Contains, position, eq-eqb}
-use Rattle.rk_inv_base.proofs.Words.{cond-false, cond-true, All-contains, hash_of, Call, Op, Outcome, Held, Placed, map_after, Allowed}
-use Rattle.rk_inv_base.proofs.Words.{never, is_mutation, found, is_serving, Row, record_of, is_of, Reply, Request, Message, base_map}
-use Rattle.rk_inv_base.proofs.Words.{IsWellFormed, is_of_mutation, next_record, Ledger, with_all_served, with_marks, with_mutation}
-use Rattle.rk_inv_base.proofs.Words.{with_record, Master, IsMaster, has_key, filled, place_of, reply_at, reply_with, answering, call_of}
-use Rattle.rk_inv_base.proofs.Words.{choice_of, is_known, state_of, Tablet, World, lives, master_at, tablet_in, with_all_sent, with_ledger}
-use Rattle.rk_inv_base.proofs.Words.{with_master, Reads, Served, RequestFits, IsServedIn, MaySend, HasArrived, IsTruth, View, truths, view}
-use Rattle.rk_inv_base.proofs.Words.{IsSound}
-use Rattle.rk_types.specs.declared.call.Answer.TheVariants as answers
-use Rattle.rk_types.specs.declared.call.Op.TheVariants as ops
-use Rattle.rk_types.specs.declared.node.Node.TheVariants as nodes
+use Rattle.std.proofs.Common.{Bool, Contains, List, None, Option, Some, [], ap, arith, cond, eq-eqb, false, length, not, position, refl}
+use Rattle.std.proofs.Common.{slice_get, subst, sym, true, ℕ, ◌&&◌, ◌++◌, ◌-◌, ◌||◌, ◌∙◌, ◌∷◌, ◌≡◌}
+use Rattle.rk_model.proofs.Places.{slice_get_end}
 use Rattle.rk_model.specs.History.{record_of as entry_record}
 use Rattle.rk_model.specs.Machine.{Entry as MapEntry, gone, live as live_entry, read_of as machine_read}
-use Rattle.rk_message.specs.declared.message.Body.TheVariants as bodies
-use Rattle.rk_world.specs.Replies.{was_read}
+use Rattle.rk_types.specs.declared.call.Answer.TheVariants as answers
+use Rattle.rk_types.specs.declared.call.Op.TheVariants as ops
 use Rattle.rk_world.specs.Requests.{read_of}
-use Rattle.rk_sound.specs.Changes.{MayRead}
+use Rattle.rk_inv_base.proofs.Words.{Allowed, Call, HasArrived, Held, IsMaster, IsServedIn, IsSound, IsTruth, IsWellFormed, Ledger, Master}
+use Rattle.rk_inv_base.proofs.Words.{MaySend, Message, Op, Outcome, Placed, Reads, Request, RequestFits, Served, Tablet, View, World}
+use Rattle.rk_inv_base.proofs.Words.{answering, base_map, call_of, choice_of, cond-false, cond-true, filled, found, has_key, hash_of}
+use Rattle.rk_inv_base.proofs.Words.{is_known, is_mutation, is_of, is_of_mutation, is_serving, items_of, lives, map_after, master_at, never}
+use Rattle.rk_inv_base.proofs.Words.{newest, next_record, option_or, place_of, record_of, staged, state_of, tablet_in, truths, view}
+use Rattle.rk_inv_base.proofs.Words.{with_all_sent, with_all_served, with_ledger, with_marks, with_master, with_mutation, with_record}
 use Rattle.rk_inv_base.proofs.calls.ReadRecorded.{sound_recorded}
-use Rattle.rk_inv_base.proofs.wire.Sent.{sound_sent}
-use Rattle.rk_inv_events.proofs.request.Answering.{marks_same}
-use Rattle.rk_inv_events.proofs.request.Choices.{IsFresh, fresh}
-use Rattle.rk_inv_events.proofs.request.Choosing.{done_as}
-use Rattle.rk_inv_events.proofs.request.Replying.{may_reply, sound_unchanged, view_unchanged}
-use Rattle.rk_inv_events.proofs.request.Served.{HasServedRow, served_row, serves_key_of}
-use Rattle.rk_inv_events.proofs.answer.Arrived.{has_arrived}
-use Rattle.rk_inv_events.proofs.answer.AtMaster.{has_here, served_here, tablet_is}
-use Rattle.rk_inv_events.proofs.answer.ReadChoices.{IsRead, get_finds, reads}
+use Rattle.rk_inv_events.proofs.Words.{MayRead, length_push, row_true, sound_sent, was_read}
+use Rattle.rk_inv_events.proofs.answer.FoundItems.{has_arrived}
 use Rattle.rk_inv_events.proofs.answer.RecordFound.{Knows, record_found}
+use Rattle.rk_inv_events.proofs.events.Working.{marks_same, sound_unchanged, view_unchanged}
+use Rattle.rk_inv_events.proofs.request.Answering.{done_as}
+use Rattle.rk_inv_events.proofs.request.Choices.{IsFresh, IsRead, fresh, reads}
+use Rattle.rk_inv_events.proofs.request.Served.{HasServedRow, has_here, served_here, served_row, serves_key_of, tablet_is}
+use Rattle.rk_inv_events.proofs.stored.Replies.{may_tell_at}
+use Rattle.rk_inv_events.proofs.stored.Work.{reply_to}
 
 -- ---- what a read tells
 
@@ -43,15 +38,6 @@ allowed_get entry op outcome is told = subst (λ (o : Op). Allowed entry o outco
 
 -- ---- its record and its reply
 
--- the last of a list stands at its end
-got_last : {X : Type 0} (xs : List X) (x : X) → slice_get (xs ++ x ∷ []) (length xs) ≡ Some x
-got_last [] x = refl
-got_last (y ∷ xs) x = got_last xs x
-
-one_longer : {X : Type 0} (xs : List X) (x : X) → length (xs ++ x ∷ []) ≡ length xs + 1
-one_longer [] x = refl
-one_longer (y ∷ xs) x = let more = one_longer xs x in omega (arith, more)
-
 -- a master may tell the outcome of a read that has got the last record
 module _ (v : View) (old : List Placed) (master seen : ℕ) (call : Call) (outcome : Outcome) (is_get : is_mutation call.op ≡ false) (journal_is : v.journal ≡ old ++ next_record old call outcome seen ∷ []) where
   abbrev served : List Served
@@ -64,23 +50,15 @@ module _ (v : View) (old : List Placed) (master seen : ℕ) (call : Call) (outco
   read_there i = (not (is_get i) && (eq-eqb call.client call.client refl i) && (eq-eqb call.seq call.seq refl i)) || false
 
   place_is : place_of v.journal served call.client call.seq ≡ Some (length old)
-  place_is =
-      cond-true (was_read served call.client call.seq) (Some (length v.journal - 1))
-      (position (is_of_mutation call.client call.seq) v.journal) read_there
-      ∙ ap (λ (list : List Placed). Some (length list - 1)) journal_is
-      ∙ ap (λ (n : ℕ). Some n) (let longer = one_longer old new in omega (arith, longer))
+  place_is = cond-true (was_read served call.client call.seq) (Some (length v.journal - 1))
+      (position (is_of_mutation call.client call.seq) v.journal) read_there ∙ ap (λ (list : List Placed). Some (length list - 1)) journal_is
+      ∙ ap (λ (n : ℕ). Some n) (let longer = length_push old new in omega (arith, longer))
 
   stands : slice_get v.journal (length old) ≡ Some new
-  stands = ap (λ (list : List Placed). slice_get list (length old)) journal_is ∙ got_last old new
+  stands = ap (λ (list : List Placed). slice_get list (length old)) journal_is ∙ slice_get_end old new
 
-  pub may_tell_read : MaySend v (filled v.journal served (record { from = nodes.Master master; to = nodes.Client call.client; body = bodies.Reply (record { seq = call.seq; stamp = 0; place = 0; answer = answers.Done outcome }) }))
-  may_tell_read =
-      let reply : Reply = record { seq = call.seq; stamp = 0; place = 0; answer = answers.Done outcome } in
-      let telling : Reply → Message = λ (r : Reply). record { from = nodes.Master master; to = nodes.Client call.client; body = bodies.Reply r } in
-      subst (λ (o : Option ℕ). MaySend v (telling (reply_at v.journal reply o))) (sym place_is)
-      (subst (λ (o : Option Placed). MaySend v (telling (reply_with reply (length old) o))) (sym stands)
-      (may_reply v master call.client (reply_with reply (length old) (Some new))
-      (record { placed = new; stands = stands; client_is = refl; seq_is = refl; outcome_is = refl; stamp_is = refl })))
+  may_tell_read : MaySend v (filled v.journal served (reply_to master (record { call = call; outcome = outcome })))
+  may_tell_read = may_tell_at v master served (record { call = call; outcome = outcome }) (length old) new place_is stands refl refl refl
 
 -- ---- a master that reads
 
@@ -98,11 +76,9 @@ module _ (w : World) (master client : ℕ) (request : Request) (outcome : Outcom
   is_fresh : IsFresh (master_at w master) (call_of client request) (Reads outcome)
   is_fresh = fresh (master_at w master) (call_of client request) (Reads outcome) tt chose
 
-  abbrev number : ℕ
-  number = is_fresh.number
-
-  is_read : IsRead is_fresh.tablet (call_of client request) (state_of (master_at w master) (call_of client request)) outcome
-  is_read = reads is_fresh.number is_fresh.tablet (call_of client request) (state_of (master_at w master) (call_of client request)) outcome is_fresh.choice_is
+  is_read : IsRead is_fresh.number is_fresh.tablet (call_of client request) (state_of (master_at w master) (call_of client request)) outcome
+  is_read = reads is_fresh.number is_fresh.tablet (call_of client request) (state_of (master_at w master) (call_of client request)) outcome
+      is_fresh.choice_is
 
   is_get : is_mutation request.op ≡ false
   is_get = ap is_mutation is_read.op_is
@@ -118,43 +94,41 @@ module _ (w : World) (master client : ℕ) (request : Request) (outcome : Outcom
   inside = has_here w master request.table request.key is_fresh.number is_fresh.tablet formed there is_fresh.serves
 
   is_served : IsServedIn (view w) master (call_of client request)
-  is_served = serves_key_of (view w) master is_fresh.number sound.rows sound.roles alive serves request.table request.key inside
+  is_served = serves_key_of (view w) sound master is_fresh.number alive serves request.table request.key inside
 
   at : HasServedRow (view w) master is_fresh.number
-  at = served_row (view w) master is_fresh.number sound.rows sound.roles alive serves
+  at = served_row (view w) sound master is_fresh.number alive serves
 
   in_row : has_key at.row.range request.table request.key ≡ true
-  in_row =
-      ap (λ range. has_key range request.table request.key) (sym at.range)
+  in_row = ap (λ range. has_key range request.table request.key) (sym at.range)
       ∙ ap (λ (n : ℕ). has_key (v.handovers master n).range request.table request.key) at.number ∙ inside
 
   -- what is found is what the truth leaves
   finds : state_of (master_at w master) (call_of client request) ≡ found request.table request.key (v.records master)
-  finds = get_finds (master_at w master) (call_of client request) is_get
+  finds =
+      ap
+      (λ (b : Bool). option_or (cond b (newest (items_of (staged own)) call.table call.key) None) (found call.table call.key own.records)) is_get
 
   knows : Knows (view w) sound at.row master at.stands alive at.serves request.table request.key in_row
   knows none =
       subst
-      (λ (n : ℕ). (items : List Held) (x : Held) → Contains items x → is_of request.table request.key x ≡ true
-      → HasArrived (v.handovers master n).role (v.pullings master n) items x)
-      (sym at.number)
+      (λ (n : ℕ).
+      (items : List Held) (x : Held) → Contains items x → is_of request.table request.key x ≡ true
+      → HasArrived (v.handovers master n).role (v.pullings master n) items x) (sym at.number)
       (has_arrived (tablet_in w master is_fresh.number) request.table request.key
       (subst (λ (t : Tablet). is_known t (hash_of request.key) None ≡ true) (sym tablet)
       (subst (λ (o : Option Held). is_known is_fresh.tablet (hash_of request.key) o ≡ true) (finds ∙ none) is_read.known)))
 
   truth : IsTruth v.base at.row.range (truths v at.row) v.journal
-  truth = All-contains (λ (r : Row). IsTruth v.base r.range (truths v r) v.journal) v.rows at.row sound.truth.true at.stands
+  truth = row_true v sound at.row at.stands
 
   abbrev entry : MapEntry
   entry = map_after (base_map w.base) w.ledger.journal request.table request.key
 
   tells : outcome ≡ machine_read (map_after (base_map w.base) w.ledger.journal request.table request.key)
-  tells =
-      is_read.outcome_is
-      ∙ ap (λ (o : Option Held). read_of (record_of o)) finds
-      ∙ ap read_of (record_found (view w) sound at.row master at.stands alive at.serves request.table request.key in_row at.speaks knows)
-      ∙ ap read_of (truth.live request.table request.key in_row)
-      ∙ reads_entry entry
+  tells = is_read.outcome_is ∙ ap (λ (o : Option Held). read_of (record_of o)) finds
+      ∙ ap read_of (record_found (view w) sound at.row master at.stands alive at.serves request.table request.key in_row knows)
+      ∙ ap read_of (truth.live request.table request.key in_row) ∙ reads_entry entry
 
   may_read : MayRead (view w) master (call_of client request) request.seen outcome
   may_read = record {
@@ -173,13 +147,11 @@ module _ (w : World) (master client : ℕ) (request : Request) (outcome : Outcom
   recorded = with_record w.ledger (call_of client request) outcome request.seen
 
   sound_recorded_there : IsSound (with_ledger (with_master w master (master_at w master)) recorded)
-  sound_recorded_there =
-      sound_recorded same master call request.seen outcome (sound_unchanged w master sound)
+  sound_recorded_there = sound_recorded same master call request.seen outcome (sound_unchanged w master sound)
       (subst (λ (u : View). MayRead u master call request.seen outcome) (sym (view_unchanged w master)) may_read)
 
   ledger_is : with_marks (with_all_served request.seen w.ledger ((record { call = call_of client request; outcome = outcome }) ∷ [])) [] ≡ recorded
-  ledger_is =
-      ap (λ (l : Ledger). with_marks l [])
+  ledger_is = ap (λ (l : Ledger). with_marks l [])
       (cond-false (is_mutation request.op) (with_mutation w.ledger (record { call = call; outcome = outcome })) recorded is_get)
       ∙ marks_same recorded
 

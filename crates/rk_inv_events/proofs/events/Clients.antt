@@ -1,47 +1,40 @@
 -- A sound lane stays sound at what clients do: one that comes, a request that is sent again, a turn and an answer.
-use Rattle.std.proofs.Common.{◌≡◌, ◌==◌, ◌<◌, ◌&&◌, ◌||◌, ℕ, Bool, true, false, cond, [], ◌∷◌, Option, Some, None, refl, sym, ap, subst}
-use Rattle.std.proofs.Common.{◌∙◌, ⊎_elim, inl, arith, IfSome, is_some, nat_lt, not, unwrap_or, eqb-true, ltb-true}
-use Rattle.std.proofs.lemmas.Bool.{not-true}
-use Rattle.rk_inv_base.proofs.Words.{and_parts, All-contains, option_or, get, Answer, Call, Outcome, Node, Located, Reply, Body, Message}
-use Rattle.rk_inv_base.proofs.Words.{accept, accept_by, accepting, ask, ask_by, asking, asking_by, fits_with, is_asked, is_call, is_last}
-use Rattle.rk_inv_base.proofs.Words.{ledger_asked, ledger_requested, ledger_taken, taking, untouched, Session, call_lane, session_turn}
-use Rattle.rk_inv_base.proofs.Words.{turn_of, is_accepted, asked_by, is_added, with_asked, IsAfterStart, MayAct, accept_refusal}
-use Rattle.rk_inv_base.proofs.Words.{ask_refusal, where_true, world_visited, client_added, sent_again, with_sends, World, with_ledger}
-use Rattle.rk_inv_base.proofs.Words.{StepError, LastCall, HasSeen, IsAccepted, RequestFits, WasAsked, MayAccept, AnswerFits, IsRecordAt}
-use Rattle.rk_inv_base.proofs.Words.{Says, view, IsSound}
+use Rattle.std.proofs.Common.{Bool, IfSome, None, Option, Some, [], ap, arith, cond, eqb-true, false, inl, inr, is_some, ltb-true, nat_lt}
+use Rattle.std.proofs.Common.{not, refl, subst, sym, true, unwrap_or, ℕ, ◌&&◌, ◌<◌, ◌==◌, ◌||◌, ◌∙◌, ◌∷◌, ◌≡◌}
+use Rattle.rk_message.specs.declared.message.Body.TheVariants as bodies
 use Rattle.rk_types.specs.declared.call.Answer.TheVariants as answers
 use Rattle.rk_types.specs.declared.node.Node.TheVariants as nodes
-use Rattle.rk_message.specs.declared.message.Body.TheVariants as bodies
-use Rattle.rk_world.specs.declared.error.StepError.TheVariants as errors
-use Rattle.rk_world.specs.declared.event.Taken.TheVariants as takes
 use Rattle.rk_world.specs.Calls.{asked_by_session, is_next}
 use Rattle.rk_world.specs.Client.{MOST_REQUESTS, accepted_by, accepted_of, answer_accepted, ignoring, looking_up, range_of, request_of}
 use Rattle.rk_world.specs.Client.{turn_by, turn_to}
 use Rattle.rk_world.specs.Refusals.{is_for}
-use Rattle.rk_sound.specs.Changes.{MayAsk}
-use Rattle.rk_sound.specs.Small.{client_come, request_saved}
+use Rattle.rk_world.specs.declared.error.StepError.TheVariants as errors
+use Rattle.rk_world.specs.declared.event.Taken.TheVariants as takes
+use Rattle.rk_inv_base.proofs.Words.{All-contains, Answer, AnswerFits, Body, Call, IsAccepted, IsAfterStart, IsRecordAt, IsSound, LastCall}
+use Rattle.rk_inv_base.proofs.Words.{Located, MayAccept, MayAct, Message, Node, Outcome, Reply, RequestFits, Says, Session, StepError}
+use Rattle.rk_inv_base.proofs.Words.{WasAsked, World, accept, accept_by, accept_refusal, accepting, and_parts, ask, ask_by, ask_refusal}
+use Rattle.rk_inv_base.proofs.Words.{asked_by, asking, asking_by, call_lane, client_added, fits_with, get, is_accepted, is_added, is_asked}
+use Rattle.rk_inv_base.proofs.Words.{is_call, is_last, ledger_asked, ledger_requested, ledger_taken, option_or, sent_again, session_turn}
+use Rattle.rk_inv_base.proofs.Words.{taking, turn_of, untouched, view, where_true, with_asked, with_ledger, with_sends, world_visited}
 use Rattle.rk_inv_base.proofs.calls.Accepted.{sound_accepted, stands_there}
 use Rattle.rk_inv_base.proofs.calls.CallAsked.{asked_put, sound_asked}
 use Rattle.rk_inv_base.proofs.calls.Come.{sound_come}
-use Rattle.rk_inv_base.proofs.views.Put.{put_here}
 use Rattle.rk_inv_base.proofs.calls.Saved.{sound_saved}
-use Rattle.rk_inv_base.proofs.wire.Sent.{sound_sent}
+use Rattle.rk_inv_events.proofs.Words.{MayAsk, client_come, not-true, put_here, request_saved, sound_sent}
 use Rattle.rk_inv_events.proofs.events.SameCalls.{accepted_found, found_accepted, same_call}
 use Rattle.rk_inv_events.proofs.events.Sending.{may_look_up, may_request, may_send_again}
 
 -- ---- a client comes, or sends its last request again
 
 pub sound_added : (w : World) (client : ℕ) → IsSound w → IsSound (client_added w client)
-sound_added w client sound =
-    go (get w.ledger.clients client) refl
+sound_added w client sound = go (get w.ledger.clients client) refl
   where
     go : (found : Option (Option LastCall)) → get w.ledger.clients client ≡ found → IsSound (cond (is_some found) w (client_come w client))
     go None is = sound_come w client sound (record { new = ap (λ (kept : Option (Option LastCall)). unwrap_or kept None) is })
     go (Some last) is = sound
 
 pub sound_again : (w : World) (client : ℕ) → IsSound w → IsSound (sent_again w (get w.ledger.requests client)).world
-sound_again w client sound =
-    go (get w.ledger.requests client) refl
+sound_again w client sound = go (get w.ledger.requests client) refl
   where
     go : (found : Option Message) → get w.ledger.requests client ≡ found → IsSound (sent_again w found).world
     go None is = sound
@@ -60,10 +53,7 @@ pub asked_is : (call : Call) (seen : ℕ) (asked : Option LastCall) → is_last 
 asked_is call seen None is = absurd (cc is)
 asked_is call seen (Some last) is =
     let parts = and_parts (is_call last.call call) (last.seen == seen) is in
-    last_is last call seen (same_call last.call call parts.0) (eqb-true last.seen seen parts.1)
-  where
-    last_is : (last : LastCall) (call : Call) (seen : ℕ) → last.call ≡ call → last.seen ≡ seen → Some last ≡ Some (record { call = call; seen = seen })
-    last_is last call seen one two i = Some (record { call = one i; seen = two i })
+    (λ i. Some (record { call = same_call last.call call parts.0 i; seen = eqb-true last.seen seen parts.1 i }))
 
 module _ (w : World) (session : Session) (call : Call) (sound : IsSound w) (own : call.client ≡ session.client) (after : IsAfterStart w.base call) where
   -- a client's earlier call, where the lane takes the next one, has its accepted record
@@ -71,14 +61,13 @@ module _ (w : World) (session : Session) (call : Call) (sound : IsSound w) (own 
   accepted_before old is found =
       let it = found_accepted w.ledger.journal session.client old.call.seq found in
       let was : WasAsked (Some old) w.ledger.journal it.placed.call =
-      subst (λ o. WasAsked o w.ledger.journal it.placed.call) (ap (asked_by w.ledger) it.client_is ∙ is)
-      (All-contains (λ placed. WasAsked (asked_by w.ledger placed.call.client) w.ledger.journal placed.call) w.ledger.journal it.placed sound.asked.recorded it.stands) in
+      rw (ap (asked_by w.ledger) it.client_is ∙ is) at
+      (All-contains (λ placed. WasAsked (asked_by w.ledger placed.call.client) w.ledger.journal placed.call) w.ledger.journal it.placed
+      sound.asked.recorded it.stands) in
       record {
         placed = it.placed;
         stands = it.stands;
-        call_is =
-            ⊎_elim (λ (same : old.call ≡ it.placed.call). sym same)
-            (λ (earlier : (it.placed.call.seq < old.call.seq) × IsAccepted w.ledger.journal it.placed.call). absurd (omega (arith, earlier.0, it.seq_is))) was;
+        call_is = elim was [ inl same ↦ sym same | inr earlier ↦ absurd (omega (arith, earlier.0, it.seq_is)) ];
         accepted = it.accepted;
       }
 
@@ -113,7 +102,9 @@ module _ (w : World) (session : Session) (call : Call) (sound : IsSound w) (own 
       now test = with_ledger w (cond test w.ledger (with_asked w.ledger session.client (record { call = call; seen = session.seen })))
 
       last : is_asked w.ledger session call ≡ true → HasAsked w session call
-      last is = asked_is call session.seen (asked_by w.ledger session.client) (and_parts (is_last call session.seen (asked_by w.ledger session.client)) (not (is_accepted w.ledger.journal session.client call.seq)) is).0
+      last is = asked_is call session.seen (asked_by w.ledger session.client)
+          (and_parts (is_last call session.seen (asked_by w.ledger session.client))
+          (not (is_accepted w.ledger.journal session.client call.seq)) is).0
 
       go : (test : Bool) → is_asked w.ledger session call ≡ test → (test || (call_lane call == w.lane && is_next w.ledger session call (asked_by w.ledger session.client))) ≡ true
           → IsSound (now test) × HasAsked (now test) session call
@@ -122,7 +113,8 @@ module _ (w : World) (session : Session) (call : Call) (sound : IsSound w) (own 
           let parts = and_parts (call_lane call == w.lane) (is_next w.ledger session call (asked_by w.ledger session.client)) either in (
             sound_asked w session.client (record { call = call; seen = session.seen }) sound
                 (may_ask parts.1 (eqb-true (call_lane call) w.lane parts.0)),
-            asked_put w.ledger session.client (record { call = call; seen = session.seen }) session.client ∙ put_here (asked_by w.ledger) session.client (Some (record { call = call; seen = session.seen })) session.client refl,
+            asked_put w.ledger session.client (record { call = call; seen = session.seen }) session.client
+                ∙ put_here (asked_by w.ledger) session.client (Some (record { call = call; seen = session.seen })) session.client refl,
           )
 
 -- what a turn sends of a call that was asked leaves the lane sound
@@ -139,10 +131,7 @@ module _ (w : World) (session : Session) (call : Call) (own : call.client ≡ se
   of_call i = record call { client = own i }
 
   request_fits : (tablet master : ℕ) → RequestFits (asked_by w.ledger) w.ledger.journal session.client (record { tablet = tablet; seq = call.seq; seen = session.seen; table = call.table; key = call.key; op = call.op })
-  request_fits tablet master = record {
-    was_asked = subst (λ o. WasAsked o w.ledger.journal (record call { client = session.client })) (sym asked) (inl of_call);
-    seen = subst (λ o. HasSeen o (record call { client = session.client }) session.seen) (sym asked) (λ same. refl);
-  }
+  request_fits tablet master = record { was_asked = rw asked (inl of_call); seen = rw asked (λ same. refl) }
 
   requested : (tablet master : ℕ) → IsSound (turned_by (request_of session call tablet master))
   requested tablet master =
@@ -167,14 +156,13 @@ module _ (w : World) (session : Session) (call : Call) (own : call.client ≡ se
 module _ (w : World) (session : Session) (sound : IsSound w) (may : MayAct w.coordinator.masters session) (after : IfSome session.outstanding (IsAfterStart w.base)) where
   takes_turn : (outstanding : Option Call) → session.outstanding ≡ outstanding → IsSound (asking w session outstanding).world
   takes_turn None is = sound
-  takes_turn (Some call) is =
-      go (fits_with w session call) refl
+  takes_turn (Some call) is = go (fits_with w session call) refl
     where
       own : call.client ≡ session.client
       own = (subst (λ o. IfSome o (λ (c : Call). (c.client ≡ session.client) × (c.seq ≡ session.last))) is may.own).0
 
       later : IsAfterStart w.base call
-      later = subst (λ o. IfSome o (IsAfterStart w.base)) is after
+      later = rw is at after
 
       turn_is : session_turn session ≡ Some (turn_by session call (range_of session call))
       turn_is = ap (turn_of session) is
@@ -183,12 +171,11 @@ module _ (w : World) (session : Session) (sound : IsSound w) (may : MayAct w.coo
       go false is = sound
       go true is =
           let there = asked_there w session call sound own later is in
-          subst (λ turn. IsSound (asking_by w session call turn).world) (sym turn_is)
+          rw turn_is
           (turned (asked_world w session call sound own later) session call own there.sound_there there.asked_there (range_of session call))
 
   pub sound_asks : IsSound (world_visited w (ask w session))
-  sound_asks =
-      go (ask_refusal w session)
+  sound_asks = go (ask_refusal w session)
     where
       go : (refusal : Option StepError) → IsSound (world_visited w (ask_by w session refusal))
       go None = takes_turn session.outstanding refl
@@ -199,27 +186,33 @@ module _ (w : World) (session : Session) (sound : IsSound w) (may : MayAct w.coo
 -- a client takes its answer, where that says that the call was carried out and this lane asked for it
 module _ (w : World) (number : ℕ) (session : Session) (call : Call) (sound : IsSound w) (asked : is_asked w.ledger session call ≡ true) (own : call.client ≡ session.client) where
   pub is_last_there : HasAsked w session call
-  is_last_there = asked_is call session.seen (asked_by w.ledger session.client) (and_parts (is_last call session.seen (asked_by w.ledger session.client)) (not (is_accepted w.ledger.journal session.client call.seq)) asked).0
+  is_last_there = asked_is call session.seen (asked_by w.ledger session.client)
+      (and_parts (is_last call session.seen (asked_by w.ledger session.client)) (not (is_accepted w.ledger.journal session.client call.seq))
+      asked).0
 
   none_accepted : is_accepted w.ledger.journal session.client call.seq ≡ false
-  none_accepted = not-true _ (and_parts (is_last call session.seen (asked_by w.ledger session.client)) (not (is_accepted w.ledger.journal session.client call.seq)) asked).1
+  none_accepted =
+      not-true _
+      (and_parts (is_last call session.seen (asked_by w.ledger session.client)) (not (is_accepted w.ledger.journal session.client call.seq))
+      asked).1
 
   pub may_accept : (reply : Reply) (outcome : Outcome) → reply.seq ≡ call.seq → IsRecordAt w.ledger.journal session.client reply outcome → MayAccept (view w) reply.place
   may_accept reply outcome seq_is at =
       let stands = stands_there w.ledger.journal reply.place at.placed at.stands in
-      let last : asked_by w.ledger at.placed.call.client ≡ Some (record { call = call; seen = session.seen }) = ap (asked_by w.ledger) at.client_is ∙ is_last_there in
+      let last = ap (asked_by w.ledger) at.client_is ∙ is_last_there in
       let was : WasAsked (Some (record { call = call; seen = session.seen })) w.ledger.journal at.placed.call =
-      subst (λ o. WasAsked o w.ledger.journal at.placed.call) last
-      (All-contains (λ placed. WasAsked (asked_by w.ledger placed.call.client) w.ledger.journal placed.call) w.ledger.journal at.placed sound.asked.recorded stands) in
+      rw last at
+      (All-contains (λ placed. WasAsked (asked_by w.ledger placed.call.client) w.ledger.journal placed.call) w.ledger.journal at.placed
+      sound.asked.recorded stands) in
       let same : call ≡ at.placed.call =
-      ⊎_elim (λ (same : call ≡ at.placed.call). same)
-      (λ (earlier : (at.placed.call.seq < call.seq) × IsAccepted w.ledger.journal at.placed.call). absurd (omega (arith, earlier.0, at.seq_is, seq_is))) was in
+      elim was [ inl same ↦ same | inr earlier ↦ absurd (omega (arith, earlier.0, at.seq_is, seq_is)) ] in
       record {
         placed = at.placed;
         stands = at.stands;
-        last = subst (λ o. IfSome o (λ (last : LastCall). last.call ≡ at.placed.call)) (sym last) same;
+        last = rw last same;
         first = λ accepted.
-            absurd (cc (
+            absurd
+            (cc (
               accepted_found w.ledger.journal at.placed.call accepted,
               ap (λ (client : ℕ). is_accepted w.ledger.journal client at.placed.call.seq) at.client_is,
               ap (λ (seq : ℕ). is_accepted w.ledger.journal session.client seq) (at.seq_is ∙ seq_is),
@@ -232,8 +225,7 @@ module _ (w : World) (number : ℕ) (session : Session) (call : Call) (sound : I
       → (same : Bool) → (reply.seq == call.seq) ≡ same
       → IsSound (with_ledger w (ledger_taken w.ledger (bodies.Reply reply) (cond same (answer_accepted session call reply answer) (ignoring session)).taken))
   replied reply answer is says false differs = sound
-  replied reply (answers.Done outcome) is says true seq_is =
-      sound_accepted w reply.place sound
+  replied reply (answers.Done outcome) is says true seq_is = sound_accepted w reply.place sound
       (may_accept reply outcome (eqb-true reply.seq call.seq seq_is) (subst (AnswerFits w.ledger.journal session.client reply) is says))
   replied reply (answers.Moved tablet) is says true seq_is = sound
   replied reply (answers.NotYet key) is says true seq_is = sound
@@ -241,49 +233,26 @@ module _ (w : World) (number : ℕ) (session : Session) (call : Call) (sound : I
   took : (body : Body) → Says w.ledger.journal (nodes.Client session.client) body
       → IsSound (with_ledger w (ledger_taken w.ledger body (accepted_by session call body).taken))
   took (bodies.Reply reply) says = replied reply reply.answer refl says (reply.seq == call.seq) refl
-  took (bodies.Request it) says = sound
-  took (bodies.Lookup it) says = sound
-  took (bodies.Located located) says = sound
-  took (bodies.Append it) says = sound
-  took (bodies.Stored it) says = sound
-  took (bodies.Prepare it) says = sound
-  took (bodies.Ready it) says = sound
-  took (bodies.Close it) says = sound
-  took (bodies.Transfer it) says = sound
-  took (bodies.Grant it) says = sound
-  took (bodies.Pull it) says = sound
-  took (bodies.Pulled it) says = sound
-  took (bodies.Want it) says = sound
-  took (bodies.Got it) says = sound
-  took (bodies.Joined it) says = sound
-  took (bodies.Own it) says = sound
-  took (bodies.Release it) says = sound
-  took (bodies.Rebuild it) says = sound
-  took (bodies.Read it) says = sound
-  took (bodies.Copy it) says = sound
-  took (bodies.Rebuilt it) says = sound
+  took _ says = sound
 
 -- a client's answer
 module _ (w : World) (number : ℕ) (session : Session) (sound : IsSound w) (may : MayAct w.coordinator.masters session) where
   -- a message for a node that is this client
   pub for_client : (to : Node) → is_for session.client to ≡ true → to ≡ nodes.Client session.client
   for_client (nodes.Client other) is = ap nodes.Client (eqb-true other session.client is)
-  for_client nodes.Coordinator is = absurd (cc is)
-  for_client (nodes.Master master) is = absurd (cc is)
-  for_client (nodes.Backup backup) is = absurd (cc is)
+  for_client _ is = absurd (cc is)
 
   takes_one : (message : Message) → get w.wire.messages number ≡ Some message → is_for session.client message.to ≡ true
       → (outstanding : Option Call) → session.outstanding ≡ outstanding
       → IsSound (cond (asked_by_session w session outstanding) (taking w session message.body) (untouched w session (Some takes.Ignored))).world
   takes_one message is to None none = sound
-  takes_one message is to (Some call) some =
-      go (is_asked w.ledger session call) refl
+  takes_one message is to (Some call) some = go (is_asked w.ledger session call) refl
     where
       own : call.client ≡ session.client
       own = (subst (λ o. IfSome o (λ (c : Call). (c.client ≡ session.client) × (c.seq ≡ session.last))) some may.own).0
 
       says : Says w.ledger.journal (nodes.Client session.client) message.body
-      says = subst (λ to. Says w.ledger.journal to message.body) (for_client message.to to) (sound.messages.others number message is)
+      says = rw (for_client message.to to) at (sound.messages.others number message is)
 
       go : (asked : Bool) → is_asked w.ledger session call ≡ asked → IsSound (cond asked (taking w session message.body) (untouched w session (Some takes.Ignored))).world
       go false is = sound
@@ -294,8 +263,7 @@ module _ (w : World) (number : ℕ) (session : Session) (sound : IsSound w) (may
   accepts_by : (found : Option Message) → get w.wire.messages number ≡ found
       → IsSound (world_visited w (accept_by w number session (accept_refusal w number session.client found)))
   accepts_by None is = sound
-  accepts_by (Some message) is =
-      go (is_for session.client message.to) refl
+  accepts_by (Some message) is = go (is_for session.client message.to) refl
     where
       done : (stranger : Bool) → is_for session.client message.to ≡ true → IsSound (world_visited w (accept_by w number session (cond stranger (Some (errors.Stranger session.client)) None)))
       done true to = sound

@@ -1,120 +1,90 @@
--- A sound and well formed lane stays sound when a tablet is added, when one begins to move, and when crashes are noticed.
-use Rattle.std.proofs.Common.{◌≡◌, ◌==◌, ◌≤◌, ◌+◌, ◌&&◌, ◌++◌, ℕ, zero, suc, Bool, true, false, cond, List, [], ◌∷◌, All, Option, Some}
-use Rattle.std.proofs.Common.{None, refl, sym, ap, subst, arith, Contains, IfSome, filter, fold, map, not, unwrap_or, option_map, eq-eqb}
-use Rattle.rk_inv_base.proofs.Words.{All-append, All-cons, All-filter, All-head, All-map, All-nil, All-tail, All-weaker, range_with_len}
-use Rattle.rk_inv_base.proofs.Words.{option_or, EachIn, get, Node, Range, Entry, add_fault, row_of, Phase, Moving, Opening, Owned}
-use Rattle.rk_inv_base.proofs.Words.{Rebuilding, Row, Body, Coordinator, is_noticed, new_row, IsFormedMaster, IsFormedRow, IsWellFormed}
-use Rattle.rk_inv_base.proofs.Words.{IsFormedEntry, Limits, limits_of, Master, new_master, tablet_at, migrating, row_migrated}
-use Rattle.rk_inv_base.proofs.Words.{tablet_migrated, coordinator_notice, notice_one, notice_order, phase_noticed, row_noticed, IsMaster}
-use Rattle.rk_inv_base.proofs.Words.{MayHappen, fault_of, refusal, where_true, worn, Tablet, no_tablet, World, crashed_masters, has_crashed}
-use Rattle.rk_inv_base.proofs.Words.{master_at, with_coordinator, StepError, HasSome, range_in, view, IsSound}
+-- A sound and well formed lane stays sound when a tablet is added, when one begins to move or is split, and when crashes are noticed.
+use Rattle.std.proofs.Common.{All, Bool, Contains, IfSome, List, None, Option, Some, [], ap, arith, cond, eq-eqb, false, filter, fold, map}
+use Rattle.std.proofs.Common.{not, option_map, refl, subst, suc, true, unwrap_or, zero, ℕ, ◌&&◌, ◌++◌, ◌+◌, ◌==◌, ◌∷◌, ◌≡◌, ◌≤◌}
 use Rattle.rk_entry.specs.declared.entry.Entry.TheVariants as entries
 use Rattle.rk_message.specs.declared.message.Body.TheVariants as bodies
-use Rattle.rk_world.specs.declared.error.MoveError.TheVariants as moves
-use Rattle.rk_world.specs.declared.error.StepError.TheVariants as errors
-use Rattle.rk_world.specs.declared.event.Event.TheVariants as events
+use Rattle.rk_tablet_map.specs.Rows.{split_fault}
 use Rattle.rk_world.specs.Limits.{IsFormedBody}
 use Rattle.rk_world.specs.Migrations.{migrate_fault_by, migrate_fault_of}
 use Rattle.rk_world.specs.Notices.{is_named}
-use Rattle.rk_sound.specs.Moves.{HasSomeIn, MayAdd, MayNotice}
-use Rattle.rk_sound.specs.Small.{crash_noticed_in}
-use Rattle.rk_world.specs.Step.{tablet_added}
+use Rattle.rk_world.specs.Splits.{tablet_split, tablet_split_fault_by, tablet_split_fault_of}
+use Rattle.rk_world.specs.declared.error.MoveError.TheVariants as moves
+use Rattle.rk_world.specs.declared.error.StepError.TheVariants as errors
+use Rattle.rk_world.specs.declared.event.Event.TheVariants as events
+use Rattle.rk_inv_base.proofs.Words.{All-append, All-cons, All-contains, All-filter, All-head, All-map, All-nil, All-tail, All-weaker, Body}
+use Rattle.rk_inv_base.proofs.Words.{Coordinator, EachIn, Entry, HasSome, IsFormedEntry, IsFormedMaster, IsFormedRow, IsMaster, IsSound}
+use Rattle.rk_inv_base.proofs.Words.{IsWellFormed, Limits, Master, MayHappen, Node, Owned, Phase, Range, Row, Tablet, World, add_fault}
+use Rattle.rk_inv_base.proofs.Words.{coordinator_notice, crashed_masters, get, has_crashed, is_noticed, limits_of, master_at, migrating}
+use Rattle.rk_inv_base.proofs.Words.{new_master, new_row, no_tablet, notice_one, notice_order, number_of, option_or, phase_noticed}
+use Rattle.rk_inv_base.proofs.Words.{range_in, range_with_len, refusal, row_migrated, row_noticed, row_of, tablet_at, tablet_in}
+use Rattle.rk_inv_base.proofs.Words.{tablet_migrated, view, where_true, with_coordinator}
 use Rattle.rk_inv_base.proofs.rows.CrashNoticed.{sound_crash_noticed}
 use Rattle.rk_inv_base.proofs.rows.MigrationBegun.{sound_migrated}
 use Rattle.rk_inv_base.proofs.rows.RowAdded.{sound_added}
-use Rattle.rk_inv_base.proofs.rows.Serving.{found_stands}
-
--- ---- what is refused
-
--- of two causes there is none
-pub record NoCause {X : Type 0} (a b : Option X) : Type 0 where
-  pub first : a ≡ None
-  pub second : b ≡ None
-
-pub no_cause : {X : Type 0} (a b : Option X) → option_or a b ≡ None → NoCause a b
-no_cause None b is = record { first = refl; second = is }
-no_cause (Some x) b is = absurd (cc is)
-
-pub no_mapped : {X Y : Type 0} (f : X → Y) (a : Option X) → option_map f a ≡ None → a ≡ None
-no_mapped f None is = refl
-no_mapped f (Some x) is = absurd (cc is)
-
-not_there : (holds : Bool) (cause : StepError) → where_true holds cause ≡ None → holds ≡ false
-not_there false cause is = refl
-not_there true cause is = absurd (cc is)
+use Rattle.rk_inv_wellformed.proofs.lanes.Events.{does_not_hold, has_no_fault, no_first, no_inner, no_second}
+use Rattle.rk_inv_rows.proofs.split.Split.{sound_split}
+use Rattle.rk_inv_events.proofs.Words.{HasSomeIn, MayAdd, MayNotice, all_by, crash_noticed_in, filter_from, found_stands, kept_passes}
+use Rattle.rk_inv_events.proofs.Words.{tablet_added}
 
 -- ---- ranges of a well formed lane are not empty
 
 entry_some : (limits : Limits) (entry : Entry) → IsFormedEntry limits entry → HasSomeIn entry
-entry_some limits (entries.Held held) formed = tt
-entry_some limits (entries.Refused refused) formed = tt
 entry_some limits (entries.Carried carried) formed = formed.lawful.range.last.least_is
 entry_some limits (entries.Joined joined) formed = formed.lawful.range.last.least_is
+entry_some limits _ formed = tt
 
 module _ (w : World) (formed : IsWellFormed w) where
+  -- what a new master has, and each that is well formed, each master of the lane has
+  pub of_master : (P : Master → Type 0) (q : ℕ) → P (new_master q [])
+      → ((m : Master) → get w.masters q ≡ Some m → IsFormedMaster (limits_of w) q m → P m) → P (master_at w q)
+  of_master P q new each = go (get w.masters q) refl
+    where
+      go : (found : Option Master) → get w.masters q ≡ found → P (unwrap_or found (new_master q []))
+      go None is = new
+      go (Some m) is = each m is (formed.masters q m is)
+
+  -- so it is of their tablets
+  pub of_tablet : (P : Tablet → Type 0) (q number : ℕ) → P no_tablet
+      → ((m : Master) → IsFormedMaster (limits_of w) q m → (t : Tablet) → get m.tablets number ≡ Some t → P t) → P (tablet_in w q number)
+  of_tablet P q number none each = of_master (λ m. P (tablet_at m number)) q none (λ m is its. go m its (get m.tablets number) refl)
+    where
+      go : (m : Master) → IsFormedMaster (limits_of w) q m → (found : Option Tablet) → get m.tablets number ≡ found → P (unwrap_or found no_tablet)
+      go m its None is = none
+      go m its (Some t) is = each m its t is
+
+  -- the ranges of its rows are not empty
+  pub rows_some : All (λ row. row.range.first ≤ row.range.last) w.coordinator.rows
+  rows_some = All-weaker (IsFormedRow (limits_of w)) (λ row. row.range.first ≤ row.range.last) (λ row it. it.range.last.least_is)
+      w.coordinator.rows formed.coordinator.rows
+
   logs_some : (q : ℕ) → All HasSomeIn (master_at w q).log.entries
-  logs_some q =
-      go (get w.masters q) refl
-    where
-      go : (found : Option Master) → get w.masters q ≡ found → All HasSomeIn (unwrap_or found (new_master q [])).log.entries
-      go None is = All-nil HasSomeIn
-      go (Some master) is =
-          All-weaker (IsFormedEntry (limits_of w)) HasSomeIn (entry_some (limits_of w)) master.log.entries (formed.masters q master is).written
+  logs_some q = of_master (λ m. All HasSomeIn m.log.entries) q (All-nil HasSomeIn)
+      (λ m is its. All-weaker (IsFormedEntry (limits_of w)) HasSomeIn (entry_some (limits_of w)) m.log.entries its.written)
 
-  tablets_some : (q tablet : ℕ) → 1 ≤ (tablet_at (master_at w q) tablet).handover.term → HasSome (tablet_at (master_at w q) tablet).handover.range
-  tablets_some q tablet =
-      go (get w.masters q) refl
-    where
-      has : (master : Master) → IsFormedMaster (limits_of w) q master → (found : Option Tablet) → get master.tablets tablet ≡ found
-          → 1 ≤ (unwrap_or found no_tablet).handover.term → HasSome (unwrap_or found no_tablet).handover.range
-      has master its None is begun = absurd (omega (arith, begun))
-      has master its (Some it) is begun = (its.tablets tablet it is).range.last.least_is
-
-      go : (found : Option Master) → get w.masters q ≡ found
-          → 1 ≤ (tablet_at (unwrap_or found (new_master q [])) tablet).handover.term → HasSome (tablet_at (unwrap_or found (new_master q [])) tablet).handover.range
-      go None is begun = absurd (omega (arith, begun))
-      go (Some master) is begun = has master (formed.masters q master is) (get master.tablets tablet) refl begun
+  tablets_some : (q tablet : ℕ) → 1 ≤ (tablet_in w q tablet).handover.term → HasSome (tablet_in w q tablet).handover.range
+  tablets_some q tablet = of_tablet (λ t. 1 ≤ t.handover.term → HasSome t.handover.range) q tablet (λ begun. absurd (omega (arith, begun)))
+      (λ m its t is begun. (its.tablets tablet t is).range.last.least_is)
 
   orders_some : EachIn (λ number message. IfSome (range_in message.body) HasSome) w.wire.messages
-  orders_some number message found =
-      by_body message.from message.body (formed.wire.each number message found).says
+  orders_some number message found = by_body message.from message.body (formed.wire.each number message found).says
     where
       by_body : (from : Node) (body : Body) → IsFormedBody (limits_of w) from body → IfSome (range_in body) HasSome
       by_body from (bodies.Prepare prepare) says = says.1.last.least_is
       by_body from (bodies.Rebuild rebuild) says = says.range.last.least_is
-      by_body from (bodies.Request it) says = tt
-      by_body from (bodies.Reply it) says = tt
-      by_body from (bodies.Lookup it) says = tt
-      by_body from (bodies.Located it) says = tt
-      by_body from (bodies.Append it) says = tt
-      by_body from (bodies.Stored it) says = tt
-      by_body from (bodies.Ready it) says = tt
-      by_body from (bodies.Close it) says = tt
-      by_body from (bodies.Transfer it) says = tt
-      by_body from (bodies.Grant it) says = tt
-      by_body from (bodies.Pull it) says = tt
-      by_body from (bodies.Pulled it) says = tt
-      by_body from (bodies.Want it) says = tt
-      by_body from (bodies.Got it) says = tt
-      by_body from (bodies.Joined it) says = tt
-      by_body from (bodies.Own it) says = tt
-      by_body from (bodies.Release it) says = tt
-      by_body from (bodies.Read it) says = tt
-      by_body from (bodies.Copy it) says = tt
-      by_body from (bodies.Rebuilt it) says = tt
+      by_body from _ says = tt
 
 -- ---- a tablet is added
 
 module _ (w : World) (tablet : ℕ) (range : Range) (master : ℕ) (sound : IsSound w) (formed : IsWellFormed w) (may : MayHappen w (events.AddTablet tablet range master)) (none : refusal w (events.AddTablet tablet range master) ≡ None) where
-  causes : NoCause (where_true (has_crashed w master) (errors.Dead master)) (option_map errors.Map (add_fault w.coordinator.rows (new_row tablet range master)))
-  causes =
-      no_cause _ _ (no_cause (option_map errors.Worn (worn w)) (fault_of w (events.AddTablet tablet range master)) none).second
+  no_cause : option_or (where_true (has_crashed w master) (errors.Dead master))
+      (option_map errors.Map (add_fault w.coordinator.rows (new_row tablet range master))) ≡ None
+  no_cause = has_no_fault w (events.AddTablet tablet range master) none
 
   may_add : MayAdd (view w) (new_row tablet range master) master
   may_add = record {
-    lives = ap not (not_there (has_crashed w master) (errors.Dead master) causes.first);
+    lives = ap not (does_not_hold (has_crashed w master) (errors.Dead master) (no_first _ _ no_cause));
     there = may.2;
-    fits = no_mapped errors.Map (add_fault w.coordinator.rows (new_row tablet range master)) causes.second;
+    fits = no_inner errors.Map (add_fault w.coordinator.rows (new_row tablet range master)) (no_second _ _ no_cause);
     begins = refl;
     first_term = refl;
     some = may.1.last.least_is;
@@ -131,18 +101,12 @@ module _ (w : World) (tablet : ℕ) (range : Range) (master : ℕ) (sound : IsSo
 
 module _ (w : World) (tablet to : ℕ) (sound : IsSound w) (may : MayHappen w (events.Migrate tablet to)) (none : refusal w (events.Migrate tablet to) ≡ None) where
   no_fault : migrate_fault_of w.coordinator (row_of w.coordinator.rows tablet) to ≡ None
-  no_fault =
-      no_mapped errors.Move (migrate_fault_of w.coordinator (row_of w.coordinator.rows tablet) to)
-      (no_cause (where_true (has_crashed w to) (errors.Dead to)) _
-      (no_cause (option_map errors.Worn (worn w)) (fault_of w (events.Migrate tablet to)) none).second).second
+  no_fault = no_inner errors.Move (migrate_fault_of w.coordinator (row_of w.coordinator.rows tablet) to)
+      (no_second (where_true (has_crashed w to) (errors.Dead to)) _ (has_no_fault w (events.Migrate tablet to) none))
 
   begins : (row : Row) → Contains w.coordinator.rows row → (phase : Phase) → row.phase ≡ phase → migrate_fault_by w.coordinator row phase to ≡ None
       → IsSound (with_coordinator w (migrating w.coordinator row phase to))
-  begins row stands (Opening source sfrom target dfrom) is fits = absurd (cc fits)
-  begins row stands (Moving source sfrom target dfrom) is fits = absurd (cc fits)
-  begins row stands (Rebuilding lineage rebuilder) is fits = absurd (cc fits)
-  begins row stands (Owned owner from) is fits =
-      sound_migrated w row to sound
+  begins row stands (Owned owner from) is fits = sound_migrated w row to sound
       (record {
         has_row = stands;
         there = may;
@@ -155,14 +119,44 @@ module _ (w : World) (tablet to : ℕ) (sound : IsSound w) (may : MayHappen w (e
       differs : (is_same : Bool) → is_same ≡ true → cond is_same (Some (moves.SameMaster to)) (cond (is_noticed w.coordinator to) (Some (moves.DeadMaster to)) None) ≡ None → ⊥
       differs true same fit = absurd (cc fit)
       differs false same fit = absurd (cc same)
+  begins row stands _ is fits = absurd (cc fits)
 
   pub sound_tablet_migrated : IsSound (with_coordinator w (tablet_migrated w.coordinator tablet to))
-  sound_tablet_migrated =
-      go (row_of w.coordinator.rows tablet) refl no_fault
+  sound_tablet_migrated = go (row_of w.coordinator.rows tablet) refl no_fault
     where
       go : (found : Option Row) → row_of w.coordinator.rows tablet ≡ found → migrate_fault_of w.coordinator found to ≡ None → IsSound (with_coordinator w (row_migrated w.coordinator found to))
       go None is fits = sound
       go (Some row) is fits = begins row (found_stands w.coordinator.rows tablet row is) row.phase refl fits
+
+-- ---- a tablet is split
+
+module _ (w : World) (tablet at new : ℕ) (sound : IsSound w) (none : refusal w (events.Split tablet at new) ≡ None) where
+  no_split_fault : tablet_split_fault_of w.coordinator (row_of w.coordinator.rows tablet) at new ≡ None
+  no_split_fault = no_inner errors.Move (tablet_split_fault_of w.coordinator (row_of w.coordinator.rows tablet) at new)
+      (has_no_fault w (events.Split tablet at new) none)
+
+  -- a row that may be split is owned
+  halves : (row : Row) → Contains w.coordinator.rows row → (phase : Phase) → row.phase ≡ phase
+      → tablet_split_fault_by w.coordinator row phase at new ≡ None → IsSound (tablet_split w row.tablet at new)
+  halves row stands (Owned owner from) is fits = sound_split w row at new sound
+      (record {
+        has_row = stands;
+        owner = owner;
+        from = from;
+        phase_is = is;
+        fits = no_inner moves.Map (split_fault w.coordinator.rows row.tablet at new) fits;
+      })
+  halves row stands _ is fits = absurd (cc fits)
+
+  pub sound_event_split : IsSound (tablet_split w tablet at new)
+  sound_event_split = go (row_of w.coordinator.rows tablet) refl no_split_fault
+    where
+      go : (found : Option Row) → row_of w.coordinator.rows tablet ≡ found → tablet_split_fault_of w.coordinator found at new ≡ None
+          → IsSound (tablet_split w tablet at new)
+      go None is fits = absurd (cc fits)
+      go (Some row) is fits =
+          subst (λ (number : ℕ). IsSound (tablet_split w number at new)) (number_of w.coordinator.rows tablet row is)
+          (halves row (found_stands w.coordinator.rows tablet row is) row.phase refl fits)
 
 -- ---- crashes are noticed
 
@@ -198,17 +192,9 @@ sound_all_noticed w (master ∷ dead) sound may =
     (record { each = All-tail Fits master dead may.each; ranges = ranges_stay w master may.ranges })
 
 -- those of a list that a test finds
-tested : (P : ℕ → Type 0) (test : ℕ → Bool) (list : List ℕ) → All P list → All (λ m. P m × (test m ≡ true)) (filter test list)
-tested P test [] all = All-nil _
-tested P test (m ∷ list) all =
-    go (test m) refl (tested P test list (All-tail P m list all))
-  where
-    Both : ℕ → Type 0
-    Both n = P n × (test n ≡ true)
-
-    go : (b : Bool) → test m ≡ b → All Both (filter test list) → All Both (cond b (m ∷ filter test list) (filter test list))
-    go true is rest = All-cons Both m (filter test list) (All-head P m list all, is) rest
-    go false is rest = rest
+pub tested : {X : Type 0} (P : X → Type 0) (test : X → Bool) (list : List X) → All P list → All (λ x. P x × (test x ≡ true)) (filter test list)
+tested P test list all = all_by (λ x. P x × (test x ≡ true)) (filter test list)
+    (λ x stands. (All-contains P list x all (filter_from test list x stands), kept_passes test list x stands))
 
 -- the masters from one on are those of their count
 pub masters_from : (start count most : ℕ) → 1 ≤ start → start + count ≤ most + 1 → All (IsMaster most) (range_with_len start count)
@@ -220,10 +206,8 @@ masters_from start (suc count) most first last =
 module _ (w : World) (master : ℕ) (sound : IsSound w) (formed : IsWellFormed w) where
   -- who crashed is there
   crashed_there : All (λ m. IsMaster w.coordinator.masters m × (has_crashed w m ≡ true)) (crashed_masters w)
-  crashed_there =
-      tested (IsMaster w.coordinator.masters) (has_crashed w) (map (λ entry. entry.0) w.masters)
-      (subst (λ (list : List ℕ). All (IsMaster w.coordinator.masters) list) (sym formed.masters_are)
-      (masters_from 1 w.coordinator.masters w.coordinator.masters (omega arith) (omega arith)))
+  crashed_there = tested (IsMaster w.coordinator.masters) (has_crashed w) (map (λ entry. entry.0) w.masters)
+      (rw formed.masters_are (masters_from 1 w.coordinator.masters w.coordinator.masters (omega arith) (omega arith)))
 
   abbrev unnoticed : List ℕ
   unnoticed = filter (λ m. not (is_noticed w.coordinator m)) (crashed_masters w)
@@ -237,9 +221,8 @@ module _ (w : World) (master : ℕ) (sound : IsSound w) (formed : IsWellFormed w
       (All-filter (λ m. is_named w.coordinator.rows m && (m == master)) Fits unnoticed each))
 
   pub sound_noticed : IsSound (with_coordinator w (coordinator_notice w.coordinator master (crashed_masters w)))
-  sound_noticed =
-      sound_all_noticed w (notice_order w.coordinator.rows master unnoticed) sound
+  sound_noticed = sound_all_noticed w (notice_order w.coordinator.rows master unnoticed) sound
       (record {
         each = in_order;
-        ranges = All-weaker (IsFormedRow (limits_of w)) (λ row. row.range.first ≤ row.range.last) (λ row it. it.range.last.least_is) w.coordinator.rows formed.coordinator.rows;
+        ranges = rows_some w formed;
       })

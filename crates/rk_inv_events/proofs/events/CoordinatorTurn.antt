@@ -1,23 +1,155 @@
--- A sound lane stays sound when the coordinator takes its turn: it sends each row's duty.
-use Rattle.std.proofs.Common.{◌≡◌, ◌==◌, ◌≤◌, ◌&&◌, ◌++◌, ℕ, Bool, true, false, cond, List, [], ◌∷◌, All, Option, Some, None, refl, sym, ap}
-use Rattle.std.proofs.Common.{subst, suc, ◌∙◌, arith, Contains, IfSome, unwrap_or, flat_map, eqb-true}
-use Rattle.rk_inv_base.proofs.Words.{and_parts, All-append, All-cons, All-contains, All-nil, get, get_or, Handover, lineage_of, Phase}
-use Rattle.rk_inv_base.proofs.Words.{Moving, Opening, Owned, Rebuilding, Row, Grant, Handed, row_tenure, coordinator_turn, row_duty}
-use Rattle.rk_inv_base.proofs.Words.{second_of, with_sends, World, AreHandedOver, MaySend, IsNext, handed_by, handed_for_grant, is_waiting}
-use Rattle.rk_inv_base.proofs.Words.{is_waiting_at, is_wanting, second_has, GrantIn, IsMovingOrOwned, SaysOf, HandedFits, KeepTerm}
-use Rattle.rk_inv_base.proofs.Words.{SentFits, View, rests, truths, view, IsSound, SoundView}
-use Rattle.rk_types.specs.declared.node.Node.TheVariants as nodes
+-- What the coordinator may order: each row's duty, and what it tells an owner and a source, says just what its receiver may follow. So a
+-- sound lane stays sound when the coordinator takes its turn, and sends each row's duty.
+use Rattle.std.proofs.Common.{All, Bool, Contains, IfSome, List, None, Option, Some, [], ap, arith, cond, eq-eqb, eqb-true, false, inl, inr}
+use Rattle.std.proofs.Common.{is_some, ne_eqb, refl, subst, sym, true, unwrap_or, ℕ, ◌&&◌, ◌==◌, ◌||◌, ◌∙◌, ◌≡◌, ◌≢◌, ◌≤◌}
 use Rattle.rk_message.specs.declared.message.Body.TheVariants as bodies
-use Rattle.rk_inv_base.proofs.views.Lists.{all_by}
-use Rattle.rk_inv_events.proofs.events.AllSent.{sound_all_sent}
-use Rattle.rk_inv_events.proofs.events.Orders.{may_close, may_order_prepare, may_order_rebuild, of_number}
-use Rattle.rk_inv_events.proofs.events.RowsApart.{row_found, same_row, within_term}
+use Rattle.rk_transfer.specs.declared.role.Role.TheVariants as roles
+use Rattle.rk_types.specs.declared.node.Node.TheVariants as nodes
+use Rattle.rk_inv_base.proofs.Words.{All-nil, AsksFor, Bystander, Grant, GrantIn, Handed, HandedFits, Handover, HasLineage, HasSource}
+use Rattle.rk_inv_base.proofs.Words.{Holds, InvitedTarget, IsClosing, IsMovingOrOwned, IsOwnedBy, IsOwnedByOther, IsOwner, IsRebuiltBy}
+use Rattle.rk_inv_base.proofs.Words.{IsSound, MaySend, Member, Moving, Opening, OpeningSource, Owned, Owner, Phase, Prepare, Rebuilding}
+use Rattle.rk_inv_base.proofs.Words.{Role, Row, SoundView, View, World, and_parts, bond_of, cases_eq, coordinator_turn, get, get_or}
+use Rattle.rk_inv_base.proofs.Words.{handed_by, handed_for_grant, is_member, is_waiting, is_waiting_at, is_wanting, lineage_of, own_to}
+use Rattle.rk_inv_base.proofs.Words.{post_of, release_to, row_duty, row_of, row_tenure, second_has, second_of, view, with_sends}
+use Rattle.rk_inv_events.proofs.Words.{SoundRow, role_fits, row_formed, row_in}
+use Rattle.rk_inv_events.proofs.events.RowsApart.{apart_from, below_others, its_range_within, row_found, same_row, within_term}
+use Rattle.rk_inv_events.proofs.events.Sending.{Hands, all_of_each, may_hand, may_send, one_sent, sound_all_sent}
 
--- ---- a Grant
+module _ (v : View) (row : Row) (sound : SoundView v) (stands : Contains v.rows row) where
+  -- what holds of the row holds of each other one of its number
+  pub of_number : (P : Row → Type 0) (other : Row) → Contains v.rows other → P row → row.tablet ≡ other.tablet → P other
+  of_number P other there holds same = rw (same_row v row sound stands other there (sym same)) holds
 
--- what a row that moves has handed on, by what the coordinator noted
-noted_is : (noted : Option Handed) (handed : Handed) → noted ≡ Some handed → unwrap_or noted (record { floor = 1; ends = [] }) ≡ handed
-noted_is noted handed is = ap (λ (found : Option Handed). unwrap_or found (record { floor = 1; ends = [] })) is
+  there : is_some (row_of v.rows row.tablet) ≡ true
+  there = row_found v.rows row stands
+
+  -- a Close of the source
+  pub may_close : (source sfrom target dfrom : ℕ) → row.phase ≡ Opening source sfrom target (Some dfrom)
+      → MaySend v (record { from = nodes.Coordinator; to = nodes.Master source; body = bodies.Close (row_tenure row) })
+  may_close source sfrom target dfrom is =
+      let body = bodies.Close (row_tenure row) in
+      may_send v nodes.Coordinator (nodes.Master source) body (λ row. refl) (there, tt)
+      (λ other at. (
+        record { within = within_term v row sound stands other at; below = tt },
+        record {
+          source = λ its. of_number (λ r. HasSource r.phase source) other at (rw is refl) its.tablet;
+          may_follow = λ same lives less.
+              inl
+              (of_number (λ r. row.term ≡ r.term) other at refl same, of_number (λ r. IsClosing r.phase source) other at (rw is refl) same);
+        },
+      )) (tt, tt, tt)
+
+  -- a Rebuild
+  pub may_order_rebuild : (lineage : List Member) (to : ℕ) → row.phase ≡ Rebuilding lineage to
+      → MaySend v (record { from = nodes.Coordinator; to = nodes.Master to; body = bodies.Rebuild (record { tenure = row_tenure row; range = row.range; lineage = lineage }) })
+  may_order_rebuild lineage to is =
+      let body = bodies.Rebuild (record { tenure = row_tenure row; range = row.range; lineage = lineage }) in
+      may_send v nodes.Coordinator (nodes.Master to) body (λ row. refl) (there, its_range_within v row sound stands)
+      (λ other at. (
+        record { within = within_term v row sound stands other at; below = below_others v row sound stands other at },
+        record {
+          range = λ its. of_number (λ r. row.range ≡ r.range) other at refl its.tablet;
+          lineage = λ its. of_number (λ r. HasLineage r.phase lineage) other at (rw is refl) its.tablet;
+          ordered = λ same lives less.
+              (of_number (λ r. row.term ≡ r.term) other at refl same, of_number (λ r. IsRebuiltBy r.phase to) other at (rw is refl) same);
+        },
+      )) (tt, tt, tt)
+
+  -- a Prepare of the target
+  module _ (source sfrom target : ℕ) (is : row.phase ≡ Opening source sfrom target None) where
+    abbrev preparing : Prepare
+    preparing = record { tenure = row_tenure row; range = row.range }
+
+    differ : source ≢ target
+    differ = rw is at (row_formed v sound row stands)
+
+    invited : post_of row.phase target ≡ InvitedTarget
+    invited = ap (λ (phase : Phase). post_of phase target) is
+        ∙ ap (λ (b : Bool). cond b OpeningSource (cond (target == target) InvitedTarget Bystander)) (ne_eqb source target differ)
+        ∙ ap (λ (b : Bool). cond b InvitedTarget Bystander) (eq-eqb target target refl)
+
+    no_member : is_member (lineage_of row.phase) target ≡ true → ⊥
+    no_member member =
+        let e = ap (λ (phase : Phase). is_member (lineage_of phase) target) (sym is) ∙ member in
+        differ (eqb-true source target (or_false (source == target) e))
+      where
+        or_false : (b : Bool) → (b || false) ≡ true → b ≡ true
+        or_false true e = refl
+        or_false false e = e
+
+    asks_none : (other : Row) → Contains v.rows other → AsksFor preparing other → is_member (lineage_of other.phase) target ≡ true → ⊥
+    asks_none other at asks member = elim (cases_eq other.tablet row.tablet) [
+      | inl same ↦ no_member (rw (same_row v row sound stands other at same) at member)
+      | inr differs ↦
+          elim asks [ inl its ↦ differs (sym its) | inr meeting ↦ absurd (cc (apart_from v row sound stands other at differs, meeting)) ]
+    ]
+
+    pub may_order_prepare : MaySend v (record { from = nodes.Coordinator; to = nodes.Master target; body = bodies.Prepare preparing })
+    may_order_prepare = may_send v nodes.Coordinator (nodes.Master target) (bodies.Prepare preparing) (λ row. refl)
+        (there, its_range_within v row sound stands)
+        (λ other at. (
+          record { within = within_term v row sound stands other at; below = below_others v row sound stands other at },
+          record {
+            range = λ its. of_number (λ r. row.range ≡ r.range) other at refl its.tablet;
+            invited = λ its lives less. of_number (λ r. post_of r.phase target ≡ InvitedTarget) other at invited its.tablet;
+            members = λ asks lives member. absurd (asks_none other at asks member);
+          },
+        )) (tt, tt, tt)
+
+-- ---- where a row is owned
+
+-- an owner keeps its row's term
+owner_term : (role : Role) (place term own applied : ℕ) → Holds (bond_of (Owner place) role) term own applied → own ≡ term
+owner_term roles.Serving place term own applied fits = fits
+owner_term (roles.Joining (Some entry)) place term own applied fits = fits.0
+owner_term (roles.Rebuilding from (Some entry)) place term own applied fits = fits.0
+owner_term _ place term own applied fits = absurd fits
+
+module _ (v : View) (row : Row) (sound : SoundView v) (stands : Contains v.rows row) (master from : ℕ) (is : row.phase ≡ Owned master from) where
+  post : post_of row.phase master ≡ Owner from
+  post = ap (λ (phase : Phase). post_of phase master) is ∙ ap (λ (b : Bool). cond b (Owner from) Bystander) (eq-eqb master master refl)
+
+  keeps_term : v.live master ≡ true → (v.handovers master row.tablet).term ≡ row.term
+  keeps_term lives =
+      let fits = role_fits v sound row stands master (inl lives) in
+      owner_term (v.handovers master row.tablet).role from row.term (v.handovers master row.tablet).term (v.written master).applied
+      (rw post at fits)
+
+  -- an Own of the owner
+  pub may_own : MaySend v (own_to master row)
+  may_own =
+      let body = bodies.Own (row_tenure row) in
+      may_send v nodes.Coordinator (nodes.Master master) body (λ row. refl) (row_found v.rows row stands, tt)
+      (λ other at. (
+        record { within = within_term v row sound stands other at; below = tt },
+        record {
+          owned = λ its. of_number v row sound stands (λ r. IsOwnedBy r.phase master) other at (rw is refl) its.tablet;
+          reached = λ same lives.
+              of_number v row sound stands (λ r. row.term ≤ (v.handovers master r.tablet).term) other at (omega (arith, keeps_term lives))
+              same;
+          owner = λ same lives at_term.
+              of_number v row sound stands (λ r. IsOwner (post_of r.phase master) (v.handovers master r.tablet).term r.term) other at
+              (rw post tt) same;
+        },
+      )) (tt, tt, tt)
+
+  -- a Release of another master
+  pub may_release : (other : ℕ) → master ≢ other → MaySend v (release_to other row)
+  may_release former differs =
+      let body = bodies.Release (row_tenure row) in
+      may_send v nodes.Coordinator (nodes.Master former) body (λ row. refl) (row_found v.rows row stands, tt)
+      (λ other at. (
+        record { within = within_term v row sound stands other at; below = tt },
+        record {
+          owned = λ its. of_number v row sound stands (λ r. IsOwnedByOther r.phase former) other at (rw is differs) its.tablet;
+          outside = λ same lives less.
+              of_number v row sound stands (λ r. is_member (lineage_of r.phase) former ≡ false) other at
+              (ap (λ (phase : Phase). is_member (lineage_of phase) former) is
+              ∙ ap (λ (b : Bool). b || false) (ne_eqb master former differs)) same;
+        },
+      )) (tt, tt, tt)
+
+-- ---- a Grant, where a row moves
 
 -- who waits for a grant at a term waits
 waits : (second : Option Handover) (term : ℕ) → is_waiting_at second term ≡ true → is_waiting second ≡ true
@@ -31,72 +163,55 @@ module _ (v : View) (row : Row) (sound : SoundView v) (stands : Contains v.rows 
   abbrev granting : Grant
   granting = record { tenure = row_tenure row; source = source; floor = handed.floor; ends = handed.ends }
 
+  own : SoundRow v row
+  own = row_in v sound row stands
+
   -- both keep the row's term
   at_term : ((v.handovers source row.tablet).term ≡ row.term) × ((v.handovers target row.tablet).term ≡ row.term)
-  at_term =
-      subst (λ (phase : Phase). KeepTerm phase (λ master. (v.handovers master row.tablet).term) row.term) is
-      (All-contains (λ (r : Row). KeepTerm r.phase (λ master. (v.handovers master r.tablet).term) r.term) v.rows row sound.roles.at_term stands)
+  at_term = rw is at own.at_term
 
   -- so what is noted is what the source has
   noted : get v.handed row.tablet ≡ Some handed
   noted =
-      let fits : HandedFits row v.handovers v.completions v.handed (lineage_of (Moving source sfrom target dfrom)) =
-      subst (λ (phase : Phase). HandedFits row v.handovers v.completions v.handed (lineage_of phase)) is
-      (All-contains (λ (r : Row). HandedFits r v.handovers v.completions v.handed (lineage_of r.phase)) v.rows row sound.receives.handed_on stands) in
+      let fits : HandedFits row v.handovers v.completions v.handed (lineage_of (Moving source sfrom target dfrom)) = rw is at own.handed_on in
       let told = fits (at_term.1 ∙ sym at_term.0) in
-      told ∙ ap (λ (h : Handed). Some h) (sym (noted_is (get v.handed row.tablet) _ told))
+      told ∙ ap (λ (h : Handed). Some h) (sym (ap (λ (found : Option Handed). unwrap_or found (record { floor = 1; ends = [] })) told))
 
   -- what the Grant hands over to the row, where its target waits for it
-  hands_over : (P : Row → Handed → Type 0) → ((h : Handed) → handed_for_grant row v.handovers v.handed ≡ Some h → P row h)
-      → (other : Row) → Contains v.rows other → IfSome (handed_by other v.handovers (bodies.Grant granting)) (P other)
-  hands_over P of_noted other at =
+  hands_over : (other : Row) → Contains v.rows other → IfSome (handed_by other v.handovers (bodies.Grant granting)) (Hands v other)
+  hands_over other at =
       go (row.tablet == other.tablet && is_waiting_at (second_has v.handovers other (second_of (lineage_of other.phase))) row.term) refl
     where
       go : (takes : Bool) → (row.tablet == other.tablet && is_waiting_at (second_has v.handovers other (second_of (lineage_of other.phase))) row.term) ≡ takes
-          → IfSome (cond takes (Some (record { floor = handed.floor; ends = handed.ends })) None) (P other)
+          → IfSome (cond takes (Some (record { floor = handed.floor; ends = handed.ends })) None) (Hands v other)
       go false none = tt
       go true takes =
           let parts = and_parts (row.tablet == other.tablet) (is_waiting_at (second_has v.handovers other (second_of (lineage_of other.phase))) row.term) takes in
-          let same = eqb-true row.tablet other.tablet parts.0 in
-          let waiting = waits (second_has v.handovers other (second_of (lineage_of other.phase))) row.term parts.1 in
-          let here : other ≡ row = same_row v row sound stands other at (sym same) in
-          subst (λ (r : Row). P r handed) (sym here)
-          (of_noted handed
-          (ap (λ (b : Bool). cond b (get v.handed row.tablet) None)
-          (subst (λ (r : Row). is_waiting (second_has v.handovers r (second_of (lineage_of r.phase))) ≡ true) here waiting) ∙ noted))
+          let here : other ≡ row = same_row v row sound stands other at (sym (eqb-true row.tablet other.tablet parts.0)) in
+          let waiting : is_waiting (second_has v.handovers row (second_of (lineage_of row.phase))) ≡ true =
+          subst (λ (r : Row). is_waiting (second_has v.handovers r (second_of (lineage_of r.phase))) ≡ true) here
+          (waits (second_has v.handovers other (second_of (lineage_of other.phase))) row.term parts.1) in
+          let found : handed_for_grant row v.handovers v.handed ≡ Some handed =
+          ap (λ (b : Bool). cond b (get v.handed row.tablet) None) waiting ∙ noted in
+          subst (λ (r : Row). Hands v r handed) (sym here) ((rw found at own.floor_granted), (rw found at own.ends_granted))
 
-  pub may_order_grant : MaySend v (record { from = nodes.Coordinator; to = nodes.Master target; body = bodies.Grant granting })
+  may_order_grant : MaySend v (record { from = nodes.Coordinator; to = nodes.Master target; body = bodies.Grant granting })
   may_order_grant =
-      let body = bodies.Grant granting in
-      record {
-        terms = all_by (λ other. SentFits other body) v.rows (λ other at. record { within = within_term v row sound stands other at; below = tt });
-        logs_say = tt;
-        floors =
-            all_by (λ (other : Row). IfSome (handed_by other v.handovers body) (λ h. IsNext (truths v other ++ rests v other) h.floor)) v.rows
-            (hands_over (λ r h. IsNext (truths v r ++ rests v r) h.floor)
-            (λ h found. subst (λ (o : Option Handed). IfSome o (λ told. IsNext (truths v row ++ rests v row) told.floor)) found
-            (All-contains (λ (r : Row). IfSome (handed_for_grant r v.handovers v.handed) (λ told. IsNext (truths v r ++ rests v r) told.floor)) v.rows row sound.counters.handed_on stands)));
-        ends =
-            all_by (λ (other : Row). IfSome (handed_by other v.handovers body) (λ h. AreHandedOver v.base other.range v.journal h.ends)) v.rows
-            (hands_over (λ r h. AreHandedOver v.base r.range v.journal h.ends)
-            (λ h found. subst (λ (o : Option Handed). IfSome o (λ told. AreHandedOver v.base row.range v.journal told.ends)) found
-            (All-contains (λ (r : Row). IfSome (handed_for_grant r v.handovers v.handed) (λ told. AreHandedOver v.base r.range v.journal told.ends)) v.rows row sound.calls.handed_on stands)));
-        within_rows = (row_found v.rows row stands, tt);
-        rows_say =
-            all_by (λ other. SaysOf other v.logs v.written v.stored v.handovers v.completions v.merged v.live v.handed nodes.Coordinator (nodes.Master target) body) v.rows
-            (λ other at. (
-              λ its. of_number v row sound stands (λ r. IsMovingOrOwned r.phase) other at (subst IsMovingOrOwned (sym is) tt) its.tablet,
-              record {
-                reached = λ same lives.
-                    of_number v row sound stands (λ r. row.term ≤ (v.handovers target r.tablet).term) other at (omega (arith, at_term.1)) same;
-                told = λ same lives term wanting.
-                    of_number v row sound stands (λ r. GrantIn (lineage_of r.phase) (get v.handed r.tablet) target granting) other at
-                    (subst (λ (phase : Phase). GrantIn (lineage_of phase) (get v.handed row.tablet) target granting) (sym is) (refl, refl, noted)) same;
-              },
-            ));
-        others_say = tt;
-        request_says = tt;
-      }
+      may_hand v nodes.Coordinator (nodes.Master target) (bodies.Grant granting) hands_over (row_found v.rows row stands, tt)
+      (λ other at. (
+        record { within = within_term v row sound stands other at; below = tt },
+        (
+          λ its. of_number v row sound stands (λ r. IsMovingOrOwned r.phase) other at (rw is tt) its.tablet,
+          record {
+            reached = λ same lives.
+                of_number v row sound stands (λ r. row.term ≤ (v.handovers target r.tablet).term) other at (omega (arith, at_term.1))
+                same;
+            told = λ same lives term wanting.
+                of_number v row sound stands (λ r. GrantIn (lineage_of r.phase) (get v.handed r.tablet) target granting) other at
+                (rw is (refl, refl, noted)) same;
+          },
+        ),
+      )) (tt, tt, tt)
 
 -- ---- the turn
 
@@ -104,24 +219,12 @@ module _ (v : View) (row : Row) (sound : SoundView v) (stands : Contains v.rows 
 module _ (w : World) (row : Row) (sound : IsSound w) (stands : Contains w.coordinator.rows row) where
   duty_may : (phase : Phase) → row.phase ≡ phase → All (MaySend (view w)) (row_duty w.coordinator row phase)
   duty_may (Owned master from) is = All-nil (MaySend (view w))
-  duty_may (Opening source sfrom target None) is =
-      All-cons (MaySend (view w)) _ [] (may_order_prepare (view w) row sound stands source sfrom target is) (All-nil (MaySend (view w)))
-  duty_may (Opening source sfrom target (Some dfrom)) is =
-      All-cons (MaySend (view w)) _ [] (may_close (view w) row sound stands source sfrom target dfrom is) (All-nil (MaySend (view w)))
-  duty_may (Moving source sfrom target dfrom) is =
-      All-cons (MaySend (view w)) _ [] (may_order_grant (view w) row sound stands source sfrom target dfrom is) (All-nil (MaySend (view w)))
-  duty_may (Rebuilding lineage to) is =
-      All-cons (MaySend (view w)) _ [] (may_order_rebuild (view w) row sound stands lineage to is) (All-nil (MaySend (view w)))
-
--- what is made of each thing of a list, all of which holds
-all_of_each : {X Y : Type 0} (P : Y → Type 0) (make : X → List Y) (things : List X) → ((x : X) → Contains things x → All P (make x)) → All P (flat_map make things)
-all_of_each P make [] each = All-nil P
-all_of_each P make (thing ∷ things) each =
-    All-append P (make thing) (flat_map make things) (each thing (0, omega arith, refl))
-    (all_of_each P make things (λ x (k, within, is). each x (suc k, omega (arith, within), is)))
+  duty_may (Opening source sfrom target None) is = one_sent (view w) _ (may_order_prepare (view w) row sound stands source sfrom target is)
+  duty_may (Opening source sfrom target (Some dfrom)) is = one_sent (view w) _ (may_close (view w) row sound stands source sfrom target dfrom is)
+  duty_may (Moving source sfrom target dfrom) is = one_sent (view w) _ (may_order_grant (view w) row sound stands source sfrom target dfrom is)
+  duty_may (Rebuilding lineage to) is = one_sent (view w) _ (may_order_rebuild (view w) row sound stands lineage to is)
 
 pub sound_coordinator_turn : (w : World) → IsSound w → IsSound (with_sends w (coordinator_turn w.coordinator)).world
-sound_coordinator_turn w sound =
-    sound_all_sent w (coordinator_turn w.coordinator) sound
+sound_coordinator_turn w sound = sound_all_sent w (coordinator_turn w.coordinator) sound
     (all_of_each (MaySend (view w)) (λ row. row_duty w.coordinator row row.phase) w.coordinator.rows
     (λ row stands. duty_may w row sound stands row.phase refl))

@@ -1,16 +1,53 @@
 -- What a living master may send on its turn for a tablet: it asks its source for what it lacks, reads the next segment of a rebuild, and tells the
 -- coordinator that it has joined or rebuilt the tablet.
-use Rattle.std.proofs.Common.{◌≡◌, ◌≤◌, ◌<◌, ◌++◌, ℕ, true, false, List, [], ◌∷◌, Some, refl, sym, ap, subst, ◌∙◌, inl, Contains, IfSome}
-use Rattle.std.proofs.Common.{is_some}
-use Rattle.rk_inv_base.proofs.Words.{All-contains, Token, Member, Node, Handover, Role, lineage_of, row_of, Row, Tenure, Rebuilt, is_absent}
-use Rattle.rk_inv_base.proofs.Words.{AreHandedOver, MaySend, IsNext, handed_by, AskAgrees, IsMovingOrOwned, IsOf, JoinedIn, RebuiltIn}
-use Rattle.rk_inv_base.proofs.Words.{SaysOf, StillCounts, post_of, MembersFit, is_granted, RoleFits, HandoverFits, SentFits, View, rests}
-use Rattle.rk_inv_base.proofs.Words.{truths, SoundView}
-use Rattle.rk_types.specs.declared.node.Node.TheVariants as nodes
-use Rattle.rk_transfer.specs.declared.role.Role.TheVariants as roles
+use Rattle.std.proofs.Common.{All, Contains, List, None, Option, Some, [], ap, eq-eqb, false, filter, inl, inr, is_some, map, not}
+use Rattle.std.proofs.Common.{option_map, refl, subst, sym, true, ℕ, ◌<◌, ◌==◌, ◌∙◌, ◌∷◌, ◌≡◌, ◌≤◌}
 use Rattle.rk_message.specs.declared.message.Body.TheVariants as bodies
-use Rattle.rk_inv_base.proofs.views.Lists.{all_by}
-use Rattle.rk_inv_events.proofs.events.PostsOf.{Fits, joined_in, rebuilt_in, receiving_moves}
+use Rattle.rk_transfer.specs.declared.role.Role.TheVariants as roles
+use Rattle.rk_types.specs.declared.node.Node.TheVariants as nodes
+use Rattle.rk_inv_base.proofs.Words.{AfterMove, All-contains, All-head, All-tail, All-weaker, AskAgrees, Gathered, Handover, HandoverFits}
+use Rattle.rk_inv_base.proofs.Words.{IsOf, MaySend, Member, MembersFit, Node, READ_BACKUP, Range, ReadIn, ReadSegment, Reading, Rebuilding}
+use Rattle.rk_inv_base.proofs.Words.{Rebuilt, RebuiltIn, Role, Row, SoundView, Tenure, Token, View, cases_Bool, is_absent, is_granted}
+use Rattle.rk_inv_base.proofs.Words.{lineage_of, list_any_at, next_of, next_reading, next_segment, option_or, post_of, reading_of, row_of}
+use Rattle.rk_inv_events.proofs.Words.{all_by, role_fits, row_in, row_rebuilt}
+use Rattle.rk_inv_events.proofs.copies.GatheringRow.{gathering_row}
+use Rattle.rk_inv_events.proofs.events.Coordinating.{tested}
+use Rattle.rk_inv_events.proofs.events.PostsOf.{Fits, former_member, joined_in, rebuilt_in, receiving_moves}
+use Rattle.rk_inv_events.proofs.events.Sending.{may_send}
+
+-- what is read next is of one of the members
+record IsOfMember (Q : Member → Type 0) (master : ℕ) : Type 0 where
+  member : Member
+  has : Q member
+  master_is : member.master ≡ master
+
+next_of_member : (Q : Member → Type 0) (range : Range) (members : List Gathered) (reading : Reading) → All Q (map (λ gathered. gathered.member) members)
+    → next_of range members ≡ Some reading → IsOfMember Q reading.master
+next_of_member Q range [] reading all is = absurd (cc is)
+next_of_member Q range (gathered ∷ others) reading all is = go (next_segment range gathered) is
+    (λ later. next_of_member Q range others reading (All-tail Q gathered.member (map (λ g. g.member) others) all) later)
+  where
+    go : (segment : Option ℕ) → option_or (option_map (reading_of gathered) segment) (next_of range others) ≡ Some reading
+        → (next_of range others ≡ Some reading → IsOfMember Q reading.master) → IsOfMember Q reading.master
+    go None found later = later found
+    go (Some segment) found later =
+        let same : reading_of gathered segment ≡ reading = cc found in
+        record {
+          member = gathered.member;
+          has = All-head Q gathered.member (map (λ g. g.member) others) all;
+          master_is = ap (λ (r : Reading). r.master) same;
+        }
+
+-- of a lineage, the members that are not this master
+others_of : (Q : Member → Type 0) (master : ℕ) (lineage : List Member) → All (λ member. (member.master ≡ master → ⊥) → Q member) lineage
+    → All Q (filter (λ member. not (member.master == master)) lineage)
+others_of Q master lineage all =
+    All-weaker (λ member. ((member.master ≡ master → ⊥) → Q member) × (not (member.master == master) ≡ true)) Q
+    (λ member both. both.0 (λ same. absurd (cc (both.1, eq-eqb member.master master same))))
+    (filter (λ member. not (member.master == master)) lineage)
+    (tested (λ member. (member.master ≡ master → ⊥) → Q member) (λ member. not (member.master == master)) lineage all)
+
+-- ---- a tablet of a living master
 
 module _ (v : View) (sound : SoundView v) (master number : ℕ) (lives : v.live master ≡ true) where
   abbrev handover : Handover
@@ -20,17 +57,12 @@ module _ (v : View) (sound : SoundView v) (master number : ℕ) (lives : v.live 
   tenure = record { tablet = number; term = handover.term }
 
   -- the role fits its post beside the row of the tablet
-  fits : (row : Row) → Contains v.rows row → number ≡ row.tablet → Fits (post_of row.phase master) handover.role row.term handover.term (v.written master).applied
-  fits row stands same =
-      subst (λ (n : ℕ). Fits (post_of row.phase master) (v.handovers master n).role row.term (v.handovers master n).term (v.written master).applied) (sym same)
-      (All-contains
-      (λ (r : Row). StillCounts (v.live master) (v.handovers master r.tablet).term r.term → RoleFits r master (v.handovers master r.tablet) (v.written master).applied)
-      v.rows row (sound.roles.fitting master) stands (inl lives))
-
   pub fits_as : (role : Role) → handover.role ≡ role → (row : Row) → Contains v.rows row → number ≡ row.tablet
       → Fits (post_of row.phase master) role row.term handover.term (v.written master).applied
-  fits_as role is row stands same =
-      subst (λ (r : Role). Fits (post_of row.phase master) r row.term handover.term (v.written master).applied) is (fits row stands same)
+  fits_as role is row stands same = rw is at fits
+    where
+      fits : Fits (post_of row.phase master) handover.role row.term handover.term (v.written master).applied
+      fits = rw same (role_fits v sound row stands master (inl lives))
 
   -- its term is at most that of the tablet's row
   pub within : (row : Row) → Contains v.rows row → row.tablet ≡ number → handover.term ≤ row.term
@@ -39,108 +71,124 @@ module _ (v : View) (sound : SoundView v) (master number : ℕ) (lives : v.live 
   pub known : (role : Role) → handover.role ≡ role → is_absent role ≡ false → is_some (row_of v.rows number) ≡ true
   known role is present = sound.roles.known master number lives (ap is_absent is ∙ present)
 
-  -- what a target asks for goes to its source
-  asks : (to : Node) (place : ℕ) → handover.role ≡ roles.Receiving → to ≡ nodes.Master (v.pullings master number).source
-      → (row : Row) → Contains v.rows row → AskAgrees row v.handovers (lineage_of row.phase) master to tenure
-  asks to place is source row stands = by_lineage (lineage_of row.phase) (All-contains (λ (r : Row). MembersFit r v.written v.handovers v.pullings v.records v.handed (lineage_of r.phase)) v.rows row sound.receives.targets stands)
-    where
-      by_lineage : (lineage : List Member) → MembersFit row v.written v.handovers v.pullings v.records v.handed lineage → AskAgrees row v.handovers lineage master to tenure
-      by_lineage [] fit = tt
-      by_lineage (only ∷ []) fit = tt
-      by_lineage (first ∷ last ∷ []) fit = λ own its.
-          let granted : is_granted (v.handovers last.master row.tablet).role ≡ true =
-          ap (λ (m : ℕ). is_granted (v.handovers m row.tablet).role) own
-          ∙ ap (λ (n : ℕ). is_granted (v.handovers master n).role) (sym its.tablet) ∙ ap is_granted is in
-          source ∙ ap nodes.Master
-          (ap (λ (n : ℕ). (v.pullings master n).source) its.tablet
-          ∙ ap (λ (m : ℕ). (v.pullings m row.tablet).source) (sym own) ∙ (fit granted).from_source)
-      by_lineage (first ∷ second ∷ third ∷ more) fit = tt
+  -- ---- a target pulls
 
-  -- the row moves, where the target keeps its term
-  moves : handover.role ≡ roles.Receiving → (row : Row) → Contains v.rows row → IsOf row tenure → IsMovingOrOwned row.phase
-  moves is row stands its =
-      receiving_moves row.phase master row.term handover.term (v.written master).applied its.term (fits_as roles.Receiving is row stands its.tablet)
+  module _ (is : handover.role ≡ roles.Receiving) where
+    abbrev source : Node
+    source = nodes.Master (v.pullings master number).source
 
-  abbrev from : Node
-  from = nodes.Master master
+    -- what it asks for goes to its source
+    asks : (row : Row) → Contains v.rows row → AskAgrees row v.handovers (lineage_of row.phase) master source tenure
+    asks row stands = by_lineage (lineage_of row.phase) (row_in v sound row stands).target
+      where
+        by_lineage : (lineage : List Member) → MembersFit row v.written v.handovers v.pullings v.records v.handed lineage
+            → AskAgrees row v.handovers lineage master source tenure
+        by_lineage (first ∷ last ∷ []) fit = λ own its.
+            let granted : is_granted (v.handovers last.master row.tablet).role ≡ true =
+            ap (λ (m : ℕ). is_granted (v.handovers m row.tablet).role) own
+            ∙ ap (λ (n : ℕ). is_granted (v.handovers master n).role) (sym its.tablet) ∙ ap is_granted is in
+            ap nodes.Master
+            (ap (λ (n : ℕ). (v.pullings master n).source) its.tablet
+            ∙ ap (λ (m : ℕ). (v.pullings m row.tablet).source) (sym own) ∙ (fit granted).from_source)
+        by_lineage _ fit = tt
 
-  -- a Pull of a target
-  pub may_pull : (token : Token) → handover.role ≡ roles.Receiving
-      → MaySend v (record { from = from; to = nodes.Master (v.pullings master number).source; body = bodies.Pull (record { tenure = tenure; token = token }) })
-  may_pull token is =
-      let body = bodies.Pull (record { tenure = tenure; token = token }) in
-      let to = nodes.Master (v.pullings master number).source in
-      record {
-        terms = all_by (λ row. SentFits row body) v.rows (λ row stands. record { within = within row stands; below = tt });
-        logs_say = tt;
-        floors = all_by (λ (row : Row). IfSome (handed_by row v.handovers body) (λ h. IsNext (truths v row ++ rests v row) h.floor)) v.rows (λ row stands. tt);
-        ends = all_by (λ (row : Row). IfSome (handed_by row v.handovers body) (λ h. AreHandedOver v.base row.range v.journal h.ends)) v.rows (λ row stands. tt);
-        within_rows = (known roles.Receiving is refl, tt);
-        rows_say =
-            all_by (λ row. SaysOf row v.logs v.written v.stored v.handovers v.completions v.merged v.live v.handed from to body) v.rows
-            (λ row stands. (moves is row stands, asks to 0 is refl row stands));
-        others_say = tt;
-        request_says = tt;
-      }
+    -- and the row moves, where it keeps its term
+    moves : (row : Row) → Contains v.rows row → AfterMove row tenure
+    moves row stands its = receiving_moves master row.term handover.term (v.written master).applied its.term row.phase
+        (fits_as roles.Receiving is row stands its.tablet)
 
-  -- a Want of a target
-  pub may_want : (hashes : List ℕ) → handover.role ≡ roles.Receiving
-      → MaySend v (record { from = from; to = nodes.Master (v.pullings master number).source; body = bodies.Want (record { tenure = tenure; hashes = hashes }) })
-  may_want hashes is =
-      let body = bodies.Want (record { tenure = tenure; hashes = hashes }) in
-      let to = nodes.Master (v.pullings master number).source in
-      record {
-        terms = all_by (λ row. SentFits row body) v.rows (λ row stands. record { within = within row stands; below = tt });
-        logs_say = tt;
-        floors = all_by (λ (row : Row). IfSome (handed_by row v.handovers body) (λ h. IsNext (truths v row ++ rests v row) h.floor)) v.rows (λ row stands. tt);
-        ends = all_by (λ (row : Row). IfSome (handed_by row v.handovers body) (λ h. AreHandedOver v.base row.range v.journal h.ends)) v.rows (λ row stands. tt);
-        within_rows = (known roles.Receiving is refl, tt);
-        rows_say =
-            all_by (λ row. SaysOf row v.logs v.written v.stored v.handovers v.completions v.merged v.live v.handed from to body) v.rows
-            (λ row stands. (moves is row stands, asks to 0 is refl row stands));
-        others_say = tt;
-        request_says = tt;
-      }
+    pub may_pull : (token : Token)
+        → MaySend v (record { from = nodes.Master master; to = source; body = bodies.Pull (record { tenure = tenure; token = token }) })
+    may_pull token = may_send v (nodes.Master master) source (bodies.Pull (record { tenure = tenure; token = token })) (λ row. refl)
+        (known roles.Receiving is refl, tt)
+        (λ row stands. (record { within = within row stands; below = tt }, (moves row stands, asks row stands))) (tt, tt, tt)
+
+    pub may_want : (hashes : List ℕ)
+        → MaySend v (record { from = nodes.Master master; to = source; body = bodies.Want (record { tenure = tenure; hashes = hashes }) })
+    may_want hashes = may_send v (nodes.Master master) source (bodies.Want (record { tenure = tenure; hashes = hashes })) (λ row. refl)
+        (known roles.Receiving is refl, tt)
+        (λ row stands. (record { within = within row stands; below = tt }, (moves row stands, asks row stands))) (tt, tt, tt)
+
+  -- ---- it has joined, or rebuilt the tablet
 
   -- a Joined of a target whose closing entry is applied
   pub may_tell_joined : (entry : ℕ) → handover.role ≡ roles.Joining (Some entry) → entry < (v.written master).applied
-      → MaySend v (record { from = from; to = nodes.Coordinator; body = bodies.Joined tenure })
+      → MaySend v (record { from = nodes.Master master; to = nodes.Coordinator; body = bodies.Joined tenure })
   may_tell_joined entry is closed =
-      let body = bodies.Joined tenure in
-      record {
-        terms = all_by (λ row. SentFits row body) v.rows (λ row stands. record { within = within row stands; below = tt });
-        logs_say = tt;
-        floors = all_by (λ (row : Row). IfSome (handed_by row v.handovers body) (λ h. IsNext (truths v row ++ rests v row) h.floor)) v.rows (λ row stands. tt);
-        ends = all_by (λ (row : Row). IfSome (handed_by row v.handovers body) (λ h. AreHandedOver v.base row.range v.journal h.ends)) v.rows (λ row stands. tt);
-        within_rows = (known (roles.Joining (Some entry)) is refl, tt);
-        rows_say =
-            all_by (λ row. SaysOf row v.logs v.written v.stored v.handovers v.completions v.merged v.live v.handed from nodes.Coordinator body) v.rows
-            (λ row stands. λ its.
-            subst (λ (n : ℕ). JoinedIn row.phase (v.handovers master n) (v.written master).applied row.term master) its.tablet
-            (joined_in master row.term handover.term (v.written master).applied entry its.term row.phase handover is its.term closed
-            (fits_as (roles.Joining (Some entry)) is row stands its.tablet)));
-        others_say = tt;
-        request_says = tt;
-      }
+      may_send v (nodes.Master master) nodes.Coordinator (bodies.Joined tenure) (λ row. refl) (known (roles.Joining (Some entry)) is refl, tt)
+      (λ row stands. (
+        record { within = within row stands; below = tt },
+        λ its.
+            rw its.tablet at
+            (joined_in master row.term handover.term (v.written master).applied its.term entry row.phase handover is its.term closed
+            (fits_as (roles.Joining (Some entry)) is row stands its.tablet)),
+      )) (tt, tt, tt)
 
   -- a Rebuilt of a master that merged, and whose closing entry is applied
   pub may_tell_rebuilt : (place entry : ℕ) → handover.role ≡ roles.Rebuilding place (Some entry) → entry < (v.written master).applied
-      → MaySend v (record { from = from; to = nodes.Coordinator; body = bodies.Rebuilt (record { tenure = tenure; place = place; ends = v.merged master number }) })
+      → MaySend v
+      (record {
+        from = nodes.Master master;
+        to = nodes.Coordinator;
+        body = bodies.Rebuilt
+            (record { tenure = tenure; place = place; ends = v.merged master number });
+      })
   may_tell_rebuilt place entry is closed =
       let rebuilt : Rebuilt = record { tenure = tenure; place = place; ends = v.merged master number } in
-      let body = bodies.Rebuilt rebuilt in
-      record {
-        terms = all_by (λ row. SentFits row body) v.rows (λ row stands. record { within = within row stands; below = tt });
-        logs_say = tt;
-        floors = all_by (λ (row : Row). IfSome (handed_by row v.handovers body) (λ h. IsNext (truths v row ++ rests v row) h.floor)) v.rows (λ row stands. tt);
-        ends = all_by (λ (row : Row). IfSome (handed_by row v.handovers body) (λ h. AreHandedOver v.base row.range v.journal h.ends)) v.rows (λ row stands. tt);
-        within_rows = (known (roles.Rebuilding place (Some entry)) is refl, tt);
-        rows_say =
-            all_by (λ row. SaysOf row v.logs v.written v.stored v.handovers v.completions v.merged v.live v.handed from nodes.Coordinator body) v.rows
-            (λ row stands. λ its.
-            subst (λ (n : ℕ). RebuiltIn row.phase (v.handovers master n) (v.merged master n) (v.written master).applied row.term master rebuilt) its.tablet
-            (rebuilt_in master row.term handover.term (v.written master).applied place entry its.term row.phase handover (v.merged master number) rebuilt is its.term closed refl refl
-            (fits_as (roles.Rebuilding place (Some entry)) is row stands its.tablet)));
-        others_say = tt;
-        request_says = tt;
-      }
+      may_send v (nodes.Master master) nodes.Coordinator (bodies.Rebuilt rebuilt) (λ row. refl)
+      (known (roles.Rebuilding place (Some entry)) is refl, tt)
+      (λ row stands. (
+        record { within = within row stands; below = tt },
+        λ its.
+            subst (λ (n : ℕ). RebuiltIn row.phase (v.handovers master n) (v.merged master n) (v.written master).applied row.term master rebuilt)
+            its.tablet
+            (rebuilt_in master row.term handover.term (v.written master).applied its.term place entry row.phase handover
+            (v.merged master number) rebuilt is its.term closed refl refl
+            (fits_as (roles.Rebuilding place (Some entry)) is row stands its.tablet)),
+      )) (tt, tt, tt)
+
+  -- ---- it reads on
+
+  module _ (place : ℕ) (is : handover.role ≡ roles.Rebuilding place None) (reading : Reading)
+      (next : next_reading (v.gathers master number) ≡ Some reading) where
+    abbrev IsDead : Member → Type 0
+    IsDead member = v.live member.master ≡ false
+
+    -- a member of a row that this master rebuilds, but itself, is dead
+    others_dead : (row : Row) → Contains v.rows row → (lineage : List Member) → row.phase ≡ Rebuilding lineage master
+        → All (λ member. (member.master ≡ master → ⊥) → IsDead member) lineage
+    others_dead row stands lineage phase_is = all_by (λ member. (member.master ≡ master → ⊥) → IsDead member) lineage
+        (λ member at differs. elim (cases_Bool (v.live member.master)) [
+          | inl live ↦
+              absurd
+              (former_member lineage master member.master row.term (v.handovers member.master row.tablet).term
+              (v.written member.master).applied (v.handovers member.master row.tablet).role (λ same. differs (sym same))
+              (list_any_at (λ (m : Member). m.master == member.master) lineage at.0 member at.1
+              (ap (λ (m : Member). m.master == member.master) at.2 ∙ eq-eqb member.master member.master refl))
+              (rw phase_is at (role_fits v sound row stands member.master (inl live))))
+          | inr dead ↦ dead
+        ])
+
+    abbrev read : ReadSegment
+    read = record { tenure = tenure; master = reading.master; segment = reading.segment }
+
+    -- so what is read is of a dead master's log
+    reads_in : (row : Row) → Contains v.rows row → IsOf row tenure → ReadIn row.phase v.live (nodes.Backup READ_BACKUP) read
+    reads_in row stands its =
+        let own =
+        gathering_row master place row.term handover.term (v.written master).applied row.phase
+        (fits_as (roles.Rebuilding place None) is row stands its.tablet) in
+        let rebuilder =
+        (rw own.phase_is at (row_rebuilt v sound row stands)).0 (ap (λ (n : ℕ). (v.handovers master n).term) (sym its.tablet) ∙ its.term) in
+        let members : All IsDead (map (λ gathered. gathered.member) (v.gathers master row.tablet).members) =
+        rw rebuilder.gather.members_are (others_of IsDead master own.lineage (others_dead row stands own.lineage own.phase_is)) in
+        let found =
+        next_of_member IsDead (v.gathers master row.tablet).range (v.gathers master row.tablet).members reading members
+        (ap (λ (n : ℕ). next_reading (v.gathers master n)) (sym its.tablet) ∙ next) in
+        rw own.phase_is (refl, ap v.live (sym found.master_is) ∙ found.has)
+
+    -- a Read of the next segment
+    pub may_read_segment : MaySend v (record { from = nodes.Master master; to = nodes.Backup READ_BACKUP; body = bodies.Read read })
+    may_read_segment = may_send v (nodes.Master master) (nodes.Backup READ_BACKUP) (bodies.Read read) (λ row. refl)
+        (known (roles.Rebuilding place None) is refl, tt)
+        (λ row stands. (record { within = within row stands; below = tt }, λ its. reads_in row stands its)) (tt, tt, tt)

@@ -1,159 +1,184 @@
--- What a row is like where a master has a role of its tablet at the row's own term, by the table of posts and bonds.
-use Rattle.std.proofs.Common.{◌≡◌, ◌==◌, ◌<◌, ℕ, Bool, true, false, cond, List, [], ◌∷◌, Option, None, Some, refl, sym, subst, arith}
-use Rattle.std.proofs.Common.{eqb-true}
-use Rattle.rk_inv_base.proofs.Words.{Ended, Member, Handover, Role, Phase, Moving, Opening, Owned, Rebuilding, Rebuilt, is_member}
-use Rattle.rk_inv_base.proofs.Words.{HasJoined, HasRebuilt, IsMovingOrOwned, JoinedIn, RebuiltIn, Bystander, FirstRebuilder, FormerMember}
-use Rattle.rk_inv_base.proofs.Words.{Holds, LastRebuilder, MovingSource, MovingTarget, OnlyRebuilder, OpeningSource, OutsideRebuilder}
-use Rattle.rk_inv_base.proofs.Words.{Owner, Post, bond_of, post_of, rebuilder_post, target_post}
+-- What a row is like where a master has a role of its tablet, by the table of posts and bonds.
+use Rattle.std.proofs.Common.{List, None, Option, Some, [], arith, cond, eqb-true, false, length, ne_eqb, refl, sym, true, ℕ, ◌<◌, ◌==◌}
+use Rattle.std.proofs.Common.{◌||◌, ◌∷◌, ◌≡◌, ◌≤◌}
 use Rattle.rk_transfer.specs.declared.role.Role.TheVariants as roles
+use Rattle.rk_inv_base.proofs.Words.{Bystander, Ended, FirstRebuilder, FormerMember, Handover, HasRebuilt, Holds, InvitedTarget}
+use Rattle.rk_inv_base.proofs.Words.{IsMovingOrOwned, JoinedIn, LastRebuilder, Member, Moving, MovingSource, MovingTarget, OnlyRebuilder}
+use Rattle.rk_inv_base.proofs.Words.{Opening, OpeningSource, OutsideRebuilder, Owned, Owner, Phase, Post, ReadyTarget, Rebuilding, Rebuilt}
+use Rattle.rk_inv_base.proofs.Words.{RebuiltIn, Role, bond_of, cond_both, is_granted, is_member, is_serving, lineage_of, post_of}
+use Rattle.rk_inv_base.proofs.Words.{rebuilder_post, target_post, ⊤}
 
 -- what a role asks of a post
 abbrev pub Fits : Post → Role → ℕ → ℕ → ℕ → Type 0
 Fits post role term own applied = Holds (bond_of post role) term own applied
 
--- ---- a target that pulls is that of a row that moves
+-- a master has its post in a row of this phase
+pub data HasPost (master : ℕ) : Phase → Post → Type 0 where
+  owns : (from : ℕ) → HasPost master (Owned master from) (Owner from)
+  gives : (sfrom target : ℕ) (dfrom : Option ℕ) → HasPost master (Opening master sfrom target dfrom) OpeningSource
+  invited : (source sfrom : ℕ) → HasPost master (Opening source sfrom master None) InvitedTarget
+  ready : (source sfrom dfrom : ℕ) → HasPost master (Opening source sfrom master (Some dfrom)) (ReadyTarget dfrom)
+  gave : (sfrom target dfrom : ℕ) → HasPost master (Moving master sfrom target dfrom) MovingSource
+  takes : (source sfrom dfrom : ℕ) → HasPost master (Moving source sfrom master dfrom) (MovingTarget dfrom)
+  only_heir : (only : Member) → only.master ≡ master → HasPost master (Rebuilding (only ∷ []) master) (OnlyRebuilder only.from)
+  first_heir :
+      (first last : Member) (more : List Member) → first.master ≡ master
+      → HasPost master (Rebuilding (first ∷ last ∷ more) master) (FirstRebuilder first.from)
+  last_heir :
+      (first last : Member) (more : List Member) → last.master ≡ master
+      → HasPost master (Rebuilding (first ∷ last ∷ more) master) (LastRebuilder last.from)
+  -- of two members it is none
+  outside :
+      (lineage : List Member) → (length lineage ≤ 2 → is_member lineage master ≡ false)
+      → HasPost master (Rebuilding lineage master) OutsideRebuilder
+  former : (lineage : List Member) (to : ℕ) → HasPost master (Rebuilding lineage to) FormerMember
+  beside : (phase : Phase) → is_member (lineage_of phase) master ≡ false → HasPost master phase Bystander
 
-receiving_target : (place : Option ℕ) (term own applied : ℕ) → Fits (target_post place) roles.Receiving term own applied → ⊥
-receiving_target None term own applied fits = fits
-receiving_target (Some place) term own applied fits = fits
-
-receiving_opens : (source target master : ℕ) (place : Option ℕ) (term own applied : ℕ) (a b : Bool)
-    → Fits (cond a OpeningSource (cond b (target_post place) Bystander)) roles.Receiving term own applied → ⊥
-receiving_opens source target master place term own applied true b fits = fits
-receiving_opens source target master place term own applied false true fits = receiving_target place term own applied fits
-receiving_opens source target master place term own applied false false fits = fits
-
-receiving_rebuilds : (lineage : List Member) (master term own applied : ℕ) → own ≡ term → Fits (rebuilder_post lineage master) roles.Receiving term own applied → ⊥
-receiving_rebuilds [] master term own applied same fits = fits
-receiving_rebuilds (only ∷ []) master term own applied same fits = go (only.master == master) fits
+heir : (lineage : List Member) (master : ℕ) → HasPost master (Rebuilding lineage master) (rebuilder_post lineage master)
+heir [] master = outside [] (λ few. refl)
+heir (only ∷ []) master =
+    cond_both (only.master == master) (OnlyRebuilder only.from) OutsideRebuilder (HasPost master (Rebuilding (only ∷ []) master))
+    (λ is. only_heir only (eqb-true only.master master is)) (λ is. outside (only ∷ []) (λ few i. is i || false))
+heir (first ∷ last ∷ more) master =
+    cond_both (first.master == master) (FirstRebuilder first.from) (cond (last.master == master) (LastRebuilder last.from) OutsideRebuilder) Has
+    (λ is. first_heir first last more (eqb-true first.master master is))
+    (λ one.
+    cond_both (last.master == master) (LastRebuilder last.from) OutsideRebuilder Has
+    (λ is. last_heir first last more (eqb-true last.master master is)) (λ two. outside (first ∷ last ∷ more) (neither one two more)))
   where
-    go : (a : Bool) → Fits (cond a (OnlyRebuilder only.from) OutsideRebuilder) roles.Receiving term own applied → ⊥
-    go true fits = fits
-    go false fits = fits
-receiving_rebuilds (first ∷ last ∷ more) master term own applied same fits = go (first.master == master) (last.master == master) fits
-  where
-    go : (a b : Bool) → Fits (cond a (FirstRebuilder first.from) (cond b (LastRebuilder last.from) OutsideRebuilder)) roles.Receiving term own applied → ⊥
-    go true b fits = fits
-    go false true fits = omega (arith, fits, same)
-    go false false fits = fits
+    Has : Post → Type 0
+    Has = HasPost master (Rebuilding (first ∷ last ∷ more) master)
 
-pub receiving_moves : (phase : Phase) (master term own applied : ℕ) → own ≡ term → Fits (post_of phase master) roles.Receiving term own applied → IsMovingOrOwned phase
-receiving_moves (Owned owner from) master term own applied same fits = tt
-receiving_moves (Moving source sfrom target dfrom) master term own applied same fits = tt
-receiving_moves (Opening source sfrom target dfrom) master term own applied same fits =
-    receiving_opens source target master dfrom term own applied (source == master) (target == master) fits
-receiving_moves (Rebuilding lineage to) master term own applied same fits = go (to == master) (is_member lineage master) fits
-  where
-    go : (a b : Bool) → Fits (cond a (rebuilder_post lineage master) (cond b FormerMember Bystander)) roles.Receiving term own applied → ⊥
-    go true b fits = receiving_rebuilds lineage master term own applied same fits
-    go false true fits = fits
-    go false false fits = fits
+    neither : (first.master == master) ≡ false → (last.master == master) ≡ false → (more : List Member) → length (first ∷ last ∷ more) ≤ 2
+        → is_member (first ∷ last ∷ more) master ≡ false
+    neither one two [] few = λ i. one i || (two i || false)
+    neither one two (other ∷ more) few = absurd (omega (arith, few))
 
--- ---- who gathers for a row that is rebuilt is to rebuild it
+told_target : (master source sfrom : ℕ) (dfrom : Option ℕ) → HasPost master (Opening source sfrom master dfrom) (target_post dfrom)
+told_target master source sfrom None = invited source sfrom
+told_target master source sfrom (Some place) = ready source sfrom place
 
-pub gathering_rebuilds : (lineage : List Member) (to master from term own applied : ℕ) → Fits (post_of (Rebuilding lineage to) master) (roles.Rebuilding from None) term own applied → to ≡ master
-gathering_rebuilds lineage to master from term own applied fits = go (to == master) refl (is_member lineage master) fits
-  where
-    go : (a : Bool) → (to == master) ≡ a → (b : Bool) → Fits (cond a (rebuilder_post lineage master) (cond b FormerMember Bystander)) (roles.Rebuilding from None) term own applied → to ≡ master
-    go true is b fits = eqb-true to master is
-    go false is true fits = absurd fits
-    go false is false fits = absurd fits
+pub has_post : (phase : Phase) (master : ℕ) → HasPost master phase (post_of phase master)
+has_post (Owned owner from) master =
+    cond_both (owner == master) (Owner from) Bystander (HasPost master (Owned owner from)) (λ is. rw (eqb-true owner master is) (owns from))
+    (λ is. beside (Owned owner from) (λ i. is i || false))
+has_post (Opening source sfrom target dfrom) master =
+    let Has : Post → Type 0 = HasPost master (Opening source sfrom target dfrom) in
+    cond_both (source == master) OpeningSource (cond (target == master) (target_post dfrom) Bystander) Has
+    (λ is. rw (eqb-true source master is) (gives sfrom target dfrom))
+    (λ one.
+    cond_both (target == master) (target_post dfrom) Bystander Has
+    (λ is. rw (eqb-true target master is) (told_target master source sfrom dfrom))
+    (λ two. beside (Opening source sfrom target dfrom) (λ i. one i || false)))
+has_post (Moving source sfrom target dfrom) master =
+    let Has : Post → Type 0 = HasPost master (Moving source sfrom target dfrom) in
+    cond_both (source == master) MovingSource (cond (target == master) (MovingTarget dfrom) Bystander) Has
+    (λ is. rw (eqb-true source master is) (gave sfrom target dfrom))
+    (λ one.
+    cond_both (target == master) (MovingTarget dfrom) Bystander Has (λ is. rw (eqb-true target master is) (takes source sfrom dfrom))
+    (λ two. beside (Moving source sfrom target dfrom) (λ i. one i || (two i || false))))
+has_post (Rebuilding lineage to) master =
+    let Has : Post → Type 0 = HasPost master (Rebuilding lineage to) in
+    cond_both (to == master) (rebuilder_post lineage master) (cond (is_member lineage master) FormerMember Bystander) Has
+    (λ is. rw (eqb-true to master is) (heir lineage master))
+    (λ one.
+    cond_both (is_member lineage master) FormerMember Bystander Has (λ is. former lineage to) (λ two. beside (Rebuilding lineage to) two))
 
 -- a member that lives is not among those that another master rebuilds from
 pub former_member : (lineage : List Member) (to master term own applied : ℕ) (role : Role) → (to ≡ master → ⊥) → is_member lineage master ≡ true
     → Fits (post_of (Rebuilding lineage to) master) role term own applied → ⊥
-former_member lineage to master term own applied role differs member fits = go (to == master) refl (is_member lineage master) member fits
+former_member lineage to master term own applied role differs member fits =
+    never (rw (ne_eqb to master differs) at (rw member at fits))
   where
-    go : (a : Bool) → (to == master) ≡ a → (b : Bool) → b ≡ true → Fits (cond a (rebuilder_post lineage master) (cond b FormerMember Bystander)) role term own applied → ⊥
-    go true is b yes_member fits = differs (eqb-true to master is)
-    go false is true yes_member fits = fits
-    go false is false yes_member fits = cc yes_member
+    never : Fits FormerMember role term own applied → ⊥
+    never fits = fits
 
--- ---- a target that has joined is that of a row that moves, or owns it
+-- ---- a role at the row's term
 
-module _ (master term own applied entry : ℕ) (same : own ≡ term) where
-  abbrev Joins : Post → Type 0
-  Joins post = Fits post (roles.Joining (Some entry)) term own applied
+module _ (master term own applied : ℕ) (same : own ≡ term) where
+  -- a target that pulls is that of a row that moves
+  pub receiving_moves : (phase : Phase) → Fits (post_of phase master) roles.Receiving term own applied → IsMovingOrOwned phase
+  receiving_moves phase = go (has_post phase master)
+    where
+      go : {p : Phase} {post : Post} → HasPost master p post → Fits post roles.Receiving term own applied → IsMovingOrOwned p
+      go (takes source sfrom dfrom) fits = tt
+      go (last_heir first last more here) fits = absurd (omega (arith, fits, same))
+      go _ fits = absurd fits
 
-  joined_target : (place : Option ℕ) → Joins (target_post place) → ⊥
-  joined_target None fits = fits
-  joined_target (Some place) fits = fits
+  -- a target that has joined is that of a row that moves, or owns it
+  pub joined_in : (entry : ℕ) (phase : Phase) (handover : Handover) → handover.role ≡ roles.Joining (Some entry) → handover.term ≡ term
+      → entry < applied
+      → Fits (post_of phase master) (roles.Joining (Some entry)) term own applied → JoinedIn phase handover applied term master
+  joined_in entry phase handover role at closed = go (has_post phase master)
+    where
+      go : {p : Phase} {post : Post} → HasPost master p post → Fits post (roles.Joining (Some entry)) term own applied
+          → JoinedIn p handover applied term master
+      go (owns from) fits = refl
+      go (takes source sfrom dfrom) fits = (refl, at, rw role closed)
+      go (gives sfrom target dfrom) fits = absurd (omega (arith, fits.0, same))
+      go (only_heir only here) fits = absurd (omega (arith, fits.0, same))
+      go (last_heir first last more here) fits = absurd (omega (arith, fits, same))
+      go _ fits = absurd fits
 
-  joined_rebuilds : (lineage : List Member) → Joins (rebuilder_post lineage master) → ⊥
-  joined_rebuilds [] fits = fits
-  joined_rebuilds (only ∷ []) fits = go (only.master == master) fits
+  -- who has rebuilt a row is to rebuild it, or owns it
+  pub rebuilt_in : (from entry : ℕ) (phase : Phase) (handover : Handover) (merged : List Ended) (rebuilt : Rebuilt)
+      → handover.role ≡ roles.Rebuilding from (Some entry) → handover.term ≡ term → entry < applied
+      → rebuilt.place ≡ from → rebuilt.ends ≡ merged → Fits (post_of phase master) (roles.Rebuilding from (Some entry)) term own applied
+      → RebuiltIn phase handover merged applied term master rebuilt
+  rebuilt_in from entry phase handover merged rebuilt role at closed placed ends = go (has_post phase master)
     where
-      go : (a : Bool) → Joins (cond a (OnlyRebuilder only.from) OutsideRebuilder) → ⊥
-      go true fits = omega (arith, fits.0, same)
-      go false fits = fits
-  joined_rebuilds (first ∷ last ∷ more) fits = go (first.master == master) (last.master == master) fits
-    where
-      go : (a b : Bool) → Joins (cond a (FirstRebuilder first.from) (cond b (LastRebuilder last.from) OutsideRebuilder)) → ⊥
-      go true b fits = fits
-      go false true fits = omega (arith, fits, same)
-      go false false fits = fits
+      its : HasRebuilt handover.role applied rebuilt.place
+      its = rw role (closed, sym placed)
 
-  pub joined_in : (phase : Phase) (handover : Handover) → handover.role ≡ roles.Joining (Some entry) → handover.term ≡ term → entry < applied
-      → Joins (post_of phase master) → JoinedIn phase handover applied term master
-  joined_in (Owned owner from) handover role at closed fits = go (owner == master) refl fits
-    where
-      go : (a : Bool) → (owner == master) ≡ a → Joins (cond a (Owner from) Bystander) → owner ≡ master
-      go true is fits = eqb-true owner master is
-      go false is fits = absurd fits
-  joined_in (Opening source sfrom target dfrom) handover role at closed fits = go (source == master) (target == master) fits
-    where
-      go : (a b : Bool) → Joins (cond a OpeningSource (cond b (target_post dfrom) Bystander)) → ⊥
-      go true b fits = omega (arith, fits.0, same)
-      go false true fits = joined_target dfrom fits
-      go false false fits = fits
-  joined_in (Moving source sfrom target dfrom) handover role at closed fits = go (source == master) (target == master) refl fits
-    where
-      go : (a b : Bool) → (target == master) ≡ b → Joins (cond a MovingSource (cond b (MovingTarget dfrom) Bystander))
-          → (target ≡ master) × (handover.term ≡ term) × HasJoined handover.role applied
-      go true b is fits = absurd fits
-      go false true is fits = (eqb-true target master is, at, subst (λ (r : Role). HasJoined r applied) (sym role) closed)
-      go false false is fits = absurd fits
-  joined_in (Rebuilding lineage to) handover role at closed fits = go (to == master) (is_member lineage master) fits
-    where
-      go : (a b : Bool) → Joins (cond a (rebuilder_post lineage master) (cond b FormerMember Bystander)) → ⊥
-      go true b fits = joined_rebuilds lineage fits
-      go false true fits = fits
-      go false false fits = fits
+      go : {p : Phase} {post : Post} → HasPost master p post → Fits post (roles.Rebuilding from (Some entry)) term own applied
+          → RebuiltIn p handover merged applied term master rebuilt
+      go (owns place) fits = (refl, omega (arith, fits.1.1, placed))
+      go (gives sfrom target dfrom) fits = absurd (omega (arith, fits.0, same))
+      go (only_heir only here) fits = (refl, at, its, ends)
+      go (first_heir first last more here) fits = (refl, at, its, ends)
+      go (last_heir first last more here) fits = (refl, at, its, ends)
+      go (outside lineage none) fits = (refl, at, its, ends)
+      go _ fits = absurd fits
 
--- ---- who has rebuilt a row at its term is to rebuild it, or owns it
+-- ---- a master that serves
 
-module _ (master term own applied from entry : ℕ) (same : own ≡ term) where
-  abbrev Rebuilds : Post → Type 0
-  Rebuilds post = Fits post (roles.Rebuilding from (Some entry)) term own applied
+-- what a post says of a master that serves there: only some posts let it
+abbrev pub Serves : Post → Role → ℕ → ℕ → Type 0
+Serves (Owner place) role term own = ⊤
+Serves OpeningSource role term own = ⊤
+Serves (MovingTarget place) role term own = is_granted role ≡ true
+Serves (OnlyRebuilder place) role term own = own < term
+Serves (LastRebuilder place) role term own = (is_granted role ≡ true) × (own < term)
+Serves _ role term own = ⊥
 
-  rebuilt_target : (place : Option ℕ) → Rebuilds (target_post place) → ⊥
-  rebuilt_target None fits = fits
-  rebuilt_target (Some place) fits = fits
+pub serves_in : (post : Post) (role : Role) (term own applied : ℕ) → Fits post role term own applied → is_serving role ≡ true
+    → Serves post role term own
+serves_in (Owner place) role term own applied fits serves = tt
+serves_in OpeningSource role term own applied fits serves = tt
+serves_in post roles.Absent term own applied fits serves = absurd (cc serves)
+serves_in post roles.Closing term own applied fits serves = absurd (cc serves)
+serves_in post roles.Frozen term own applied fits serves = absurd (cc serves)
+serves_in post (roles.Wanting from) term own applied fits serves = absurd (cc serves)
+serves_in post (roles.Rebuilding from entry) term own applied fits serves = absurd (cc serves)
+serves_in (MovingTarget place) roles.Receiving term own applied fits serves = refl
+serves_in (MovingTarget place) (roles.Joining entry) term own applied fits serves = refl
+serves_in (OnlyRebuilder place) roles.Serving term own applied fits serves = fits
+serves_in (OnlyRebuilder place) (roles.Joining (Some entry)) term own applied fits serves = fits.0
+serves_in (LastRebuilder place) roles.Receiving term own applied fits serves = (refl, fits)
+serves_in (LastRebuilder place) (roles.Joining entry) term own applied fits serves = (refl, fits)
+serves_in _ _ term own applied fits serves = absurd fits
 
-  pub rebuilt_in : (phase : Phase) (handover : Handover) (merged : List Ended) (rebuilt : Rebuilt) → handover.role ≡ roles.Rebuilding from (Some entry) → handover.term ≡ term → entry < applied
-      → rebuilt.place ≡ from → rebuilt.ends ≡ merged → Rebuilds (post_of phase master) → RebuiltIn phase handover merged applied term master rebuilt
-  rebuilt_in (Owned owner place) handover merged rebuilt role at closed placed ends fits = go (owner == master) refl fits
-    where
-      go : (a : Bool) → (owner == master) ≡ a → Rebuilds (cond a (Owner place) Bystander) → (owner ≡ master) × (place ≡ rebuilt.place)
-      go true is fits = (eqb-true owner master is, omega (arith, fits.1.1, placed))
-      go false is fits = absurd fits
-  rebuilt_in (Opening source sfrom target dfrom) handover merged rebuilt role at closed placed ends fits = go (source == master) (target == master) fits
-    where
-      go : (a b : Bool) → Rebuilds (cond a OpeningSource (cond b (target_post dfrom) Bystander)) → ⊥
-      go true b fits = omega (arith, fits.0, same)
-      go false true fits = rebuilt_target dfrom fits
-      go false false fits = fits
-  rebuilt_in (Moving source sfrom target dfrom) handover merged rebuilt role at closed placed ends fits = go (source == master) (target == master) fits
-    where
-      go : (a b : Bool) → Rebuilds (cond a MovingSource (cond b (MovingTarget dfrom) Bystander)) → ⊥
-      go true b fits = fits
-      go false true fits = fits
-      go false false fits = fits
-  rebuilt_in (Rebuilding lineage to) handover merged rebuilt role at closed placed ends fits = go (to == master) refl (is_member lineage master) fits
-    where
-      go : (a : Bool) → (to == master) ≡ a → (b : Bool) → Rebuilds (cond a (rebuilder_post lineage master) (cond b FormerMember Bystander))
-          → (to ≡ master) × (handover.term ≡ term) × HasRebuilt handover.role applied rebuilt.place × (rebuilt.ends ≡ merged)
-      go true is b fits =
-          (eqb-true to master is, at, subst (λ (r : Role). HasRebuilt r applied rebuilt.place) (sym role) (closed, sym placed), ends)
-      go false is true fits = absurd fits
-      go false is false fits = absurd fits
+-- who is to rebuild a row and serves keeps a smaller term
+pub rebuilder_keeps : (lineage : List Member) (to term own applied : ℕ) (role : Role)
+    → Fits (post_of (Rebuilding lineage to) to) role term own applied → is_serving role ≡ true
+    → own < term
+rebuilder_keeps lineage to term own applied role fits serves =
+    go (has_post (Rebuilding lineage to) to) refl (serves_in (post_of (Rebuilding lineage to) to) role term own applied fits serves)
+  where
+    go : {p : Phase} {post : Post} → HasPost to p post → p ≡ Rebuilding lineage to → Serves post role term own → own < term
+    go (owns from) is its = absurd (cc is)
+    go (gives sfrom target dfrom) is its = absurd (cc is)
+    go (takes source sfrom dfrom) is its = absurd (cc is)
+    go (only_heir only here) is its = its
+    go (last_heir first last more here) is its = its.1
+    go _ is its = absurd its

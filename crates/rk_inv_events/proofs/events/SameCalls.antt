@@ -5,59 +5,30 @@ use Rattle.rk_inv_base.proofs.Words.{is_accepted, is_of_call, IsAccepted}
 use Rattle.rk_types.specs.declared.call.Op.TheVariants as ops
 use Rattle.rk_world.specs.Calls.{is_op}
 
--- conditional writes
-same_conditional : (expected other : ℕ) (a b : List ℕ) → expected ≡ other → a ≡ b → ops.CondPut expected a ≡ ops.CondPut other b
-same_conditional expected other a b one two i = ops.CondPut (one i) (two i)
-
 -- operations
 same_op : (a b : Op) → is_op a b ≡ true → a ≡ b
 same_op ops.Get ops.Get is = refl
 same_op (ops.Put a) (ops.Put b) is = ap ops.Put ((bytes_eq-Decides a b).0 is)
 same_op (ops.CondPut expected a) (ops.CondPut other b) is =
     let parts = and_parts (expected == other) (bytes_eq a b) is in
-    same_conditional expected other a b (eqb-true expected other parts.0) ((bytes_eq-Decides a b).0 parts.1)
+    (λ i. ops.CondPut (eqb-true expected other parts.0 i) ((bytes_eq-Decides a b).0 parts.1 i))
 same_op ops.Delete ops.Delete is = refl
-same_op ops.Get (ops.Put b) is = absurd (cc is)
-same_op ops.Get (ops.CondPut other b) is = absurd (cc is)
-same_op ops.Get ops.Delete is = absurd (cc is)
-same_op (ops.Put a) ops.Get is = absurd (cc is)
-same_op (ops.Put a) (ops.CondPut other b) is = absurd (cc is)
-same_op (ops.Put a) ops.Delete is = absurd (cc is)
-same_op (ops.CondPut expected a) ops.Get is = absurd (cc is)
-same_op (ops.CondPut expected a) (ops.Put b) is = absurd (cc is)
-same_op (ops.CondPut expected a) ops.Delete is = absurd (cc is)
-same_op ops.Delete ops.Get is = absurd (cc is)
-same_op ops.Delete (ops.Put b) is = absurd (cc is)
-same_op ops.Delete (ops.CondPut other b) is = absurd (cc is)
+same_op _ _ is = absurd (cc is)
 
--- what two calls have in common that are tested to be one
-record AreOne (a b : Call) : Type 0 where
-  client : a.client ≡ b.client
-  seq : a.seq ≡ b.seq
-  table : a.table ≡ b.table
-  key : a.key ≡ b.key
-  op : a.op ≡ b.op
-
-are_one : (a b : Call) → is_call a b ≡ true → AreOne a b
-are_one a b is =
+-- calls that are tested to be one are one
+pub same_call : (a b : Call) → is_call a b ≡ true → a ≡ b
+same_call a b is =
     let four = and_parts (a.client == b.client && (a.seq == b.seq) && (a.table == b.table) && bytes_eq a.key b.key) (is_op a.op b.op) is in
     let three = and_parts (a.client == b.client && (a.seq == b.seq) && (a.table == b.table)) (bytes_eq a.key b.key) four.0 in
     let two = and_parts (a.client == b.client && (a.seq == b.seq)) (a.table == b.table) three.0 in
     let one = and_parts (a.client == b.client) (a.seq == b.seq) two.0 in
-    record {
-      client = eqb-true a.client b.client one.0;
-      seq = eqb-true a.seq b.seq one.1;
-      table = eqb-true a.table b.table two.1;
-      key = (bytes_eq-Decides a.key b.key).0 three.1;
-      op = same_op a.op b.op four.1;
-    }
-
-of_parts : (a b : Call) → AreOne a b → a ≡ b
-of_parts a b one i = record { client = one.client i; seq = one.seq i; table = one.table i; key = one.key i; op = one.op i }
-
--- calls that are tested to be one are one
-pub same_call : (a b : Call) → is_call a b ≡ true → a ≡ b
-same_call a b is = of_parts a b (are_one a b is)
+    (λ i. record {
+      client = eqb-true a.client b.client one.0 i;
+      seq = eqb-true a.seq b.seq one.1 i;
+      table = eqb-true a.table b.table two.1 i;
+      key = (bytes_eq-Decides a.key b.key).0 three.1 i;
+      op = same_op a.op b.op four.1 i;
+    })
 
 -- an accepted record that the test finds
 pub record IsFound (journal : List Placed) (client seq : ℕ) : Type 0 where
@@ -86,6 +57,5 @@ accepted_found journal call it =
     list_any_at (λ (placed : Placed). placed.accepted && is_of_call call.client call.seq placed) journal it.stands.0 it.placed it.stands.1
     (ap (λ (placed : Placed). placed.accepted && is_of_call call.client call.seq placed) it.stands.2
     ∙ and_from it.placed.accepted _ it.accepted
-    (and_from (it.placed.call.client == call.client) _
-    (eq-eqb it.placed.call.client call.client (ap (λ (c : Call). c.client) it.call_is))
+    (and_from (it.placed.call.client == call.client) _ (eq-eqb it.placed.call.client call.client (ap (λ (c : Call). c.client) it.call_is))
     (eq-eqb it.placed.call.seq call.seq (ap (λ (c : Call). c.seq) it.call_is))))

@@ -1,37 +1,17 @@
--- A sound lane stays sound where a rebuild of a living master goes on: while there is a segment to read nothing changes, and once all is gathered
--- that is merged, where the log has room.
-use Rattle.std.proofs.Common.{◌≡◌, ◌<◌, ℕ, Bool, true, cond, [], ◌∷◌, Option, Some, None, refl, sym, ap, subst, ◌∙◌, length, eq-eqb}
-use Rattle.rk_inv_base.proofs.Words.{NumberMap, FIRST_SIDE_SEGMENT, carried, in_role, Handover, Role, cut, by_member, with_marks, Master}
-use Rattle.rk_inv_base.proofs.Words.{tablet_at, with_all, as_entries, merge, merging, own_material, own_place, rebuild_merged}
-use Rattle.rk_inv_base.proofs.Words.{rebuilding_on, is_gathering, worked_at, World, log_in, master_at, with_ledger, with_master, Merged}
-use Rattle.rk_inv_base.proofs.Words.{Reading, view, IsSound}
-use Rattle.rk_transfer.specs.Handover.{role_carried}
+-- What a rebuild of a living master that goes on leaves: while there is a segment to read nothing changes, and once all is gathered that is
+-- merged, where the log has room.
+use Rattle.std.proofs.Common.{None, Option, Some, [], ap, arith, length, refl, subst, sym, true, ℕ, ◌++◌, ◌<◌, ◌∙◌, ◌∷◌, ◌≡◌}
 use Rattle.rk_transfer.specs.declared.role.Role.TheVariants as roles
 use Rattle.rk_world.specs.Rebuilds.{piece_of}
-use Rattle.rk_inv_base.proofs.views.Masters.{master_same}
-use Rattle.rk_inv_tablets.proofs.merge.RebuildMerged.{sound_merged}
-use Rattle.rk_inv_tablets.specs.merge.Moves.{MayMergeFormed}
-use Rattle.rk_inv_tablets.specs.merge.Small.{as_merged, rebuild_merged_in}
-use Rattle.rk_inv_events.proofs.turn.Pairs.{insert_twice}
-use Rattle.rk_inv_events.proofs.orders.Taken.{changes}
-
--- a role that gathers takes its closing entry
-gathering_carried : (old : Handover) (place floor : ℕ) (role : Role) → is_gathering role ≡ true
-    → in_role (record old { counter = floor }) (role_carried place role) ≡ Some (record old { role = roles.Rebuilding (own_place role) (Some place); counter = floor })
-gathering_carried old place floor (roles.Rebuilding from None) is = refl
-gathering_carried old place floor (roles.Rebuilding from (Some entry)) is = absurd (cc is)
-gathering_carried old place floor roles.Absent is = absurd (cc is)
-gathering_carried old place floor roles.Serving is = absurd (cc is)
-gathering_carried old place floor roles.Closing is = absurd (cc is)
-gathering_carried old place floor roles.Frozen is = absurd (cc is)
-gathering_carried old place floor (roles.Wanting from) is = absurd (cc is)
-gathering_carried old place floor roles.Receiving is = absurd (cc is)
-gathering_carried old place floor (roles.Joining entry) is = absurd (cc is)
-
-carried_is : (old : Handover) (place floor : ℕ) → is_gathering old.role ≡ true → carried old old.term place floor ≡ Some (as_merged place floor old)
-carried_is old place floor gathers =
-    ap (λ (b : Bool). cond b (in_role (record old { counter = floor }) (role_carried place old.role)) None) (eq-eqb old.term old.term refl)
-    ∙ gathering_carried old place floor old.role gathers
+use Rattle.rk_inv_base.proofs.Words.{FIRST_SIDE_SEGMENT, Handover, HasRoom, IsSound, Ledger, Master, Merged, Reading, Role, View, Worked}
+use Rattle.rk_inv_base.proofs.Words.{World, as_entries, by_member, carried, changed, cut, get_same, insert, is_gathering, log_bytes, log_in}
+use Rattle.rk_inv_base.proofs.Words.{merge, merging, own_material, own_place, rebuild_merged, rebuilding_on, tablet_at, view, with_all}
+use Rattle.rk_inv_base.proofs.Words.{with_ledger, with_marks, with_master, worked_at}
+use Rattle.rk_inv_tablets.proofs.merge.RebuildMerged.{merged_is}
+use Rattle.rk_inv_events.proofs.Words.{as_merged, master_same, merge_in, piece_entries, put_here, rebuild_merged_in, role_carried}
+use Rattle.rk_inv_events.proofs.Words.{segments_few, with_entries, within_sum_of}
+use Rattle.rk_inv_events.proofs.copies.Gathers.{gathers}
+use Rattle.rk_inv_events.proofs.events.Working.{moved_itself, put_again}
 
 -- the log of a master has no more main segments than there can be
 abbrev pub HasFewSegments : ℕ → World → Type 0
@@ -41,44 +21,72 @@ HasFewSegments master w = length (cut (log_in w master).entries) < FIRST_SIDE_SE
 abbrev pub IsSoundWhere : ℕ → World → Type 0
 IsSoundWhere master w = HasFewSegments master w → IsSound w
 
-module _ (w : World) (master tablet : ℕ) (now : Master) (sound : IsSound (with_master w master now)) where
+-- it is so after any work of a master that leaves room
+pub few_worked : (w : World) (master seen : ℕ) (worked : Worked) → HasRoom (worked_at w master seen worked).world
+    → HasFewSegments master (worked_at w master seen worked).world
+few_worked w master seen worked room =
+    let part = within_sum_of log_bytes (insert w.masters master worked.master) master worked.master (get_same w.masters master worked.master master refl) in
+    let few = segments_few worked.master.log (omega (arith, room.bytes, part)) in
+    subst (λ (m : Master). length (cut m.log.entries) < FIRST_SIDE_SEGMENT) (sym (master_same w master worked.master master refl)) (omega (arith, few))
+
+-- a rebuild without its closing entry takes one
+pub carried_is : (handover : Handover) (place floor : ℕ) → is_gathering handover.role ≡ true
+    → carried handover handover.term place floor ≡ Some (as_merged place floor handover)
+carried_is handover place floor gathers =
+    moved_itself handover.term (record handover { counter = floor }) (role_carried place handover.role)
+    (roles.Rebuilding (own_place handover.role) (Some place))
+    (by_role handover.role gathers)
+  where
+    by_role : (role : Role) → is_gathering role ≡ true → role_carried place role ≡ Some (roles.Rebuilding (own_place role) (Some place))
+    by_role (roles.Rebuilding from None) is = refl
+    by_role _ is = absurd (cc is)
+
+-- what a master merges of a tablet, and its handover then
+abbrev pub merges : ℕ → Master → Merged
+merges tablet m = merge (own_material m (tablet_at m tablet)) (by_member (tablet_at m tablet).gather (own_material m (tablet_at m tablet)))
+
+abbrev pub merged_as : ℕ → Master → Handover
+merged_as tablet m = as_merged (length (with_all m (as_entries (merges tablet m).copies)).log.entries) (merges tablet m).floor
+    (tablet_at m tablet).handover
+
+module _ (w : World) (master tablet : ℕ) (now : Master) where
   abbrev before : World
   before = with_master w master now
 
-  here : master_at before master ≡ now
-  here = master_same w master now master refl
-
-  -- what a master merges that is so
-  abbrev merges : Master → Merged
-  merges m = merge (own_material m (tablet_at m tablet)) (by_member (tablet_at m tablet).gather (own_material m (tablet_at m tablet)))
-
-  abbrev place : Master → ℕ
-  place m = length (with_all m (as_entries (merges m).copies)).log.entries
-
-  abbrev merged_as : Master → Handover
-  merged_as m = as_merged (place m) (merges m).floor (tablet_at m tablet).handover
-
+  -- a master once it has merged, and the ledger then
   abbrev merged : Master → Master
-  merged m = rebuild_merged m tablet (tablet_at m tablet) (merges m) (merged_as m)
+  merged m = rebuild_merged m tablet (tablet_at m tablet) (merges tablet m) (merged_as tablet m)
 
-  -- the lane once a master that is so has merged
-  abbrev world_of : Master → World
-  world_of m =
-      with_ledger (with_master before master (merged m)) (with_marks w.ledger (piece_of m tablet (merges m) (merged_as m) ∷ []))
+  abbrev marked : Master → Ledger
+  marked m = with_marks w.ledger (piece_of m tablet (merges tablet m) (merged_as tablet m) ∷ [])
 
-  world_is : rebuild_merged_in before master tablet ≡ with_ledger (with_master w master (merged now)) (with_marks w.ledger (piece_of now tablet (merges now) (merged_as now) ∷ []))
-  world_is =
-      ap world_of here
-      ∙ ap
-      (λ (masters : NumberMap Master).
-      record (with_ledger w (with_marks w.ledger (piece_of now tablet (merges now) (merged_as now) ∷ []))) { masters = masters })
-      (insert_twice w.masters master now (merged now))
+  world_is : rebuild_merged_in before master tablet ≡ with_ledger (with_master w master (merged now)) (marked now)
+  world_is = ap (λ (m : Master). with_ledger (with_master before master (merged m)) (marked m)) (master_same w master now master refl)
+      ∙ ap (λ (u : World). with_ledger u (marked now)) (put_again w master now (λ m. merged now))
 
-  pub sound_goes_on : is_gathering (tablet_at now tablet).handover.role ≡ true → (reading : Option Reading)
-      → (reading ≡ None → HasFewSegments master (rebuild_merged_in before master tablet) → MayMergeFormed (view before) master tablet)
-      → IsSoundWhere master (worked_at w master 0 (rebuilding_on now tablet reading)).world
-  sound_goes_on gathers (Some reading) may = λ few. changes w master now sound
-  sound_goes_on gathers None may =
-      subst (λ (moved : Option Handover). IsSoundWhere master (worked_at w master 0 (merging now tablet (tablet_at now tablet) (merges now) moved)).world)
-      (sym (carried_is (tablet_at now tablet).handover (place now) (merges now).floor gathers))
-      (subst (IsSoundWhere master) world_is (λ few. sound_merged before master tablet sound (may refl few)))
+  -- so it is of the lane once it has worked
+  abbrev pub ComesOf : (World → Type 0) → Type 0
+  ComesOf P = P (with_ledger (with_master w master (merged now)) (marked now))
+      → P (worked_at w master 0 (merging now tablet (tablet_at now tablet) (merges tablet now) (Some (merged_as tablet now)))).world
+
+  -- while there is a segment to read nothing changes, and once all is gathered that is merged
+  pub gathering_goes_on : (P : World → Type 0) → ComesOf P → is_gathering (tablet_at now tablet).handover.role ≡ true → (reading : Option Reading)
+      → P (worked_at w master 0 (changed now)).world → (reading ≡ None → P (rebuild_merged_in before master tablet))
+      → P (worked_at w master 0 (rebuilding_on now tablet reading)).world
+  gathering_goes_on P comes is_so (Some reading) stays merges_then = stays
+  gathering_goes_on P comes is_so None stays merges_then =
+      subst (λ (h : Option Handover). P (worked_at w master 0 (merging now tablet (tablet_at now tablet) (merges tablet now) h)).world)
+      (sym
+      (carried_is (tablet_at now tablet).handover (length (with_all now (as_entries (merges tablet now).copies)).log.entries)
+      (merges tablet now).floor is_so)) (comes (subst P world_is (merges_then refl)))
+
+-- the log has room for what is merged where it has few segments then
+pub merge_room : (w : World) (master tablet : ℕ) → IsSound w → HasFewSegments master (rebuild_merged_in w master tablet)
+    → length (cut (((view w).logs master).entries ++ piece_entries ((view w).handovers master tablet) (merge_in (view w) master tablet)))
+    < FIRST_SIDE_SEGMENT
+merge_room w master tablet sound few =
+    let u : View = view w in
+    rw
+    (ap (λ (x : View). x.logs master) (merged_is w master tablet (sound.nodes.numbered master))
+    ∙ put_here u.logs master (with_entries (u.logs master) (piece_entries (u.handovers master tablet) (merge_in u master tablet)))
+    master refl) at few

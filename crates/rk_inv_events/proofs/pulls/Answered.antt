@@ -1,39 +1,29 @@
 -- A sound lane stays sound when a Got reaches a target that lives: it replays the items, each of which is its source's, and the hashes are
 -- resolved.
-use Rattle.std.proofs.Common.{◌≡◌, ℕ, Bool, true, false, cond, List, [], ◌∷◌, Some, refl, sym, ap, subst, ◌∙◌, arith, ◌&&◌, not, Contains}
-use Rattle.std.proofs.Common.{flat_map, eqb-true}
-use Rattle.rk_inv_base.proofs.Words.{and_parts, All-contains, get, Held, Member, at_hash, Role, lineage_of, Row, is_batch, Got, items_of}
-use Rattle.rk_inv_base.proofs.Words.{Master, as_entries, got_taken, hashes_resolved, replay, is_receiving, is_receiving_at, to_master}
-use Rattle.rk_inv_base.proofs.Words.{worked_at, Tablet, changed, World, has_crashed, master_at, tablet_in, with_master, GotAgrees, SaysOf}
-use Rattle.rk_inv_base.proofs.Words.{IsPulling, source_items, View, view, IsSound}
-use Rattle.rk_types.specs.declared.node.Node.TheVariants as nodes
-use Rattle.rk_transfer.specs.declared.role.Role.TheVariants as roles
+use Rattle.std.proofs.Common.{Bool, Contains, List, Some, [], ap, arith, cond, eqb-true, false, flat_map, not, refl, subst, sym, true, ℕ}
+use Rattle.std.proofs.Common.{◌&&◌, ◌∙◌, ◌∷◌, ◌≡◌}
 use Rattle.rk_message.specs.declared.message.Body.TheVariants as bodies
+use Rattle.rk_transfer.specs.declared.role.Role.TheVariants as roles
+use Rattle.rk_types.specs.declared.node.Node.TheVariants as nodes
+use Rattle.rk_inv_base.proofs.Words.{Got, GotAgrees, Held, IsPulling, IsSound, Master, Member, Role, Row, Tablet, View, World, and_parts}
+use Rattle.rk_inv_base.proofs.Words.{as_entries, at_hash, changed, get, got_taken, has_crashed, hashes_resolved, is_batch, is_receiving}
+use Rattle.rk_inv_base.proofs.Words.{is_receiving_at, items_of, lineage_of, master_at, replay, source_items, tablet_in, to_master, view}
+use Rattle.rk_inv_base.proofs.Words.{with_master, worked_at}
 use Rattle.rk_inv_base.proofs.pulls.HashesResolved.{sound_resolved}
-use Rattle.rk_inv_events.proofs.turn.Sending.{sends_none, sound_sends}
-use Rattle.rk_inv_events.proofs.pulls.Asked.{reaches, stays}
-use Rattle.rk_inv_events.proofs.pulls.Replaying.{found_in, put_again, replayed_all, same_source, still_pulls}
+use Rattle.rk_inv_events.proofs.Words.{row_said}
+use Rattle.rk_inv_events.proofs.events.Working.{put_again, reached, sound_changed, stays}
+use Rattle.rk_inv_events.proofs.pulls.Replaying.{found_in, replayed_all, same_source, still_pulls}
 use Rattle.rk_inv_events.proofs.pulls.Targets.{found_there, of_some_hash, target_of}
 
 -- a role that the test says to pull does
 pub receiving_is : (role : Role) → is_receiving role ≡ true → role ≡ roles.Receiving
 receiving_is roles.Receiving holds = refl
-receiving_is roles.Frozen holds = absurd (cc holds)
-receiving_is roles.Absent holds = absurd (cc holds)
-receiving_is roles.Serving holds = absurd (cc holds)
-receiving_is roles.Closing holds = absurd (cc holds)
-receiving_is (roles.Wanting from) holds = absurd (cc holds)
-receiving_is (roles.Joining entry) holds = absurd (cc holds)
-receiving_is (roles.Rebuilding from entry) holds = absurd (cc holds)
+receiving_is _ holds = absurd (cc holds)
 
 -- the items of entries that are items
 pub items_again : (items : List Held) → items_of (as_entries items) ≡ items
 items_again [] = refl
 items_again (item ∷ items) = ap (λ (list : List Held). item ∷ list) (items_again items)
-
--- a master changes and does no more
-pub sound_changed : (w : World) (master : ℕ) (now : Master) → IsSound (with_master w master now) → IsSound (worked_at w master 0 (changed now)).world
-sound_changed w master now = sound_sends w master 0 (changed now) (sends_none (view (with_master w master now)) now)
 
 -- ---- a target
 
@@ -74,10 +64,9 @@ module _ (w : World) (number sender master : ℕ) (message : Got) (sound : IsSou
   -- what is said of it to a target
   got_says : (row : Row) → Contains v.rows row → (lineage : List _) → lineage_of row.phase ≡ lineage → GotAgrees row v.written v.handovers v.live lineage (nodes.Master sender) master message
   got_says row stands lineage is =
-      subst (λ (members : List Member). GotAgrees row v.written v.handovers v.live members (nodes.Master sender) master message) is
-      (All-contains
-      (λ (r : Row). SaysOf r v.logs v.written v.stored v.handovers v.completions v.merged v.live v.handed (nodes.Master sender) (nodes.Master master) (bodies.Got message))
-      v.rows row (sound.messages.of_rows number (record { from = nodes.Master sender; to = nodes.Master master; body = bodies.Got message }) there) stands).1
+      rw is at
+      (row_said v sound row stands number (record { from = nodes.Master sender; to = nodes.Master master; body = bodies.Got message })
+      there).1
 
   taken : is_receiving_at kept message.tenure.term ≡ true
       → IsSound (with_master w master (hashes_resolved (replay (master_at w master) message.tenure.tablet 0 (items_of message.entries)) message.tenure.tablet message.hashes))
@@ -95,14 +84,12 @@ module _ (w : World) (number sender master : ℕ) (message : Got) (sound : IsSou
       (sound_items w sound its.row its.source its.target its.pulls message.hashes (items_of message.entries) items))
 
   pub sound_got : IsSound (to_master w master (record { from = nodes.Master sender; to = nodes.Master master; body = bodies.Got message })).world
-  sound_got =
-      reaches w master sound 0 (got_taken (master_at w master) message) lives
+  sound_got = reached w master 0 (got_taken (master_at w master) message) lives
       (go (is_receiving_at kept message.tenure.term) (is_batch kept.pulling.hashes.outstanding message.hashes) refl)
     where
       go : (receives batch : Bool) → is_receiving_at kept message.tenure.term ≡ receives
           → IsSound (worked_at w master 0 (cond (receives && batch)
           (changed (hashes_resolved (replay (master_at w master) message.tenure.tablet 0 (items_of message.entries)) message.tenure.tablet message.hashes))
           (changed (master_at w master)))).world
-      go true true is = sound_changed w master _ (taken is)
-      go true false is = stays w master sound 0
-      go false batch is = stays w master sound 0
+      go true true is = sound_changed w master 0 _ (taken is)
+      go _ batch is = stays w master 0 sound

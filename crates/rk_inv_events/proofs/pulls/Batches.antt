@@ -1,29 +1,24 @@
 -- A sound lane stays sound when a Pulled reaches a target that lives: it replays the batch of its token and passes on, and behind the last
 -- batch it seals what it copied.
-use Rattle.std.proofs.Common.{◌≡◌, ◌≤◌, ◌<◌, ◌+◌, ℕ, Bool, true, false, cond, List, [], ◌∷◌, All, length, Some, refl, sym, ap, subst, ◌∙◌}
-use Rattle.std.proofs.Common.{⊎_elim, inl, arith, ◌&&◌, ◌%◌, ◌^◌, not, Contains, eqb-true}
+use Rattle.std.proofs.Common.{Bool, Contains, List, Some, [], ap, arith, cond, eqb-true, false, inl, inr, not, refl, subst, sym, true, ℕ}
+use Rattle.std.proofs.Common.{◌%◌, ◌&&◌, ◌+◌, ◌<◌, ◌∙◌, ◌∷◌, ◌≡◌}
 use Rattle.std.proofs.lemmas.Nat.{mod_below}
-use Rattle.rk_inv_base.proofs.Words.{and_parts, cases_eq, All-contains, get, meets, Held, Token, Member, Range, FIRST_SIDE_SEGMENT, found}
-use Rattle.rk_inv_base.proofs.Words.{is_newer, batch_at, end, Handover, lineage_of, Row, Log, BATCH_BYTES, Pulled, items_of, IsFormedRow}
-use Rattle.rk_inv_base.proofs.Words.{IsWellFormed, limits_of, is_member, Master, tablet_at, with_tablet, batch_taken, is_token}
-use Rattle.rk_inv_base.proofs.Words.{item_replayed, pulled_all, pulled_taken, replay, replay_one, token_passed, with_pulled, with_pulling}
-use Rattle.rk_inv_base.proofs.Words.{is_receiving_at, sealed_sides, to_master, worked_at, Pulling, Tablet, changed, World, has_crashed}
-use Rattle.rk_inv_base.proofs.Words.{log_in, master_at, tablet_in, with_master, HasSegmentLeft, PulledAgrees, SaysOf, source_items}
-use Rattle.rk_inv_base.proofs.Words.{StillCounts, View, view, IsSound}
-use Rattle.rk_types.specs.declared.node.Node.TheVariants as nodes
-use Rattle.rk_transfer.specs.declared.role.Role.TheVariants as roles
 use Rattle.rk_message.specs.declared.message.Body.TheVariants as bodies
+use Rattle.rk_transfer.specs.declared.role.Role.TheVariants as roles
+use Rattle.rk_types.specs.declared.node.Node.TheVariants as nodes
 use Rattle.rk_world.specs.Master.{with_item}
-use Rattle.rk_inv_base.proofs.views.Masters.{master_same, tablet_apart, tablet_here}
-use Rattle.rk_inv_base.proofs.calls.Rebuilders.{last_member}
-use Rattle.rk_inv_rows.proofs.lineage.TargetMaterial.{meets_itself}
-use Rattle.rk_inv_tablets.specs.seal.Moves.{MaySealThere}
-use Rattle.rk_inv_events.specs.pulls.Moves.{MaySealBehind, batch_replayed}
-use Rattle.rk_inv_events.proofs.pulls.Answered.{items_again, receiving_is, sound_changed}
-use Rattle.rk_inv_events.proofs.pulls.Asked.{reaches, stays}
+use Rattle.rk_inv_base.proofs.Words.{All-contains, BATCH_BYTES, Handover, HasSegmentLeft, Held, IsFormedRow, IsSound, IsWellFormed, Master}
+use Rattle.rk_inv_base.proofs.Words.{Member, Pulled, PulledAgrees, Pulling, Range, Row, Tablet, Token, View, World, and_parts, batch_at}
+use Rattle.rk_inv_base.proofs.Words.{batch_taken, cases_eq, changed, cond_both, end, found, get, has_crashed, is_member, is_newer}
+use Rattle.rk_inv_base.proofs.Words.{is_receiving_at, is_token, item_replayed, items_of, limits_of, lineage_of, log_in, master_at, meets}
+use Rattle.rk_inv_base.proofs.Words.{pulled_all, pulled_taken, replay, replay_one, source_items, tablet_at, tablet_in, to_master}
+use Rattle.rk_inv_base.proofs.Words.{token_passed, view, with_master, with_pulled, with_pulling, with_tablet, worked_at}
+use Rattle.rk_inv_events.proofs.Words.{MaySealThere, last_member, master_same, meets_itself, row_in, row_said, tablet_apart, tablet_here}
+use Rattle.rk_inv_events.proofs.events.Working.{put_again, reached, sound_changed, stays}
+use Rattle.rk_inv_events.proofs.pulls.Answered.{items_again, receiving_is}
 use Rattle.rk_inv_events.proofs.pulls.Passing.{sound_batch, sound_pulled_all}
-use Rattle.rk_inv_events.proofs.pulls.Replaying.{put_again}
 use Rattle.rk_inv_events.proofs.pulls.Targets.{IsTargetOf, target_of}
+use Rattle.rk_inv_events.specs.pulls.Moves.{MaySealBehind, batch_replayed}
 
 -- tokens that the test says to be one are
 token_is : (a b : Token) → is_token a b ≡ true → a ≡ b
@@ -31,17 +26,13 @@ token_is a b same =
     let both = and_parts _ _ same in
     (λ i. record { bucket = eqb-true a.bucket b.bucket both.0 i; skip = eqb-true a.skip b.skip both.1 i })
 
--- there are four workers
-some_worker : (batches : ℕ) → batches % 4 < 4
-some_worker batches = mod_below batches 4 (omega arith)
-
 -- ---- what stays of a master that takes a batch
 
 -- a master with the same log, and the same handovers and sealed segments of each tablet
-record KeepsTablets (old new : Master) : Type 0 where
-  log : new.log ≡ old.log
-  handover : (r : ℕ) → (tablet_at new r).handover ≡ (tablet_at old r).handover
-  sealed : (r : ℕ) → (tablet_at new r).pulling.sealed ≡ (tablet_at old r).pulling.sealed
+pub record KeepsTablets (old new : Master) : Type 0 where
+  pub log : new.log ≡ old.log
+  pub handover : (r : ℕ) → (tablet_at new r).handover ≡ (tablet_at old r).handover
+  pub sealed : (r : ℕ) → (tablet_at new r).pulling.sealed ≡ (tablet_at old r).pulling.sealed
 
 keeps_then : (a b c : Master) → KeepsTablets a b → KeepsTablets b c → KeepsTablets a c
 keeps_then a b c first later = record {
@@ -55,20 +46,14 @@ keeps_with : (m : Master) (number : ℕ) (pulling : Pulling) → pulling.sealed 
     → KeepsTablets m (with_tablet m number (with_pulling (tablet_at m number) pulling))
 keeps_with m number pulling same = record {
   log = refl;
-  handover = λ r.
-      ⊎_elim
-      (λ (is : r ≡ number).
-      subst (λ (n : ℕ). (tablet_at (with_tablet m number tablet) n).handover ≡ (tablet_at m n).handover) (sym is)
-      (ap (λ (t : Tablet). t.handover) (tablet_here m number tablet)))
-      (λ (apart : r ≡ number → ⊥). ap (λ (t : Tablet). t.handover) (tablet_apart m number tablet r apart))
-      (cases_eq r number);
-  sealed = λ r.
-      ⊎_elim
-      (λ (is : r ≡ number).
-      subst (λ (n : ℕ). (tablet_at (with_tablet m number tablet) n).pulling.sealed ≡ (tablet_at m n).pulling.sealed) (sym is)
-      (ap (λ (t : Tablet). t.pulling.sealed) (tablet_here m number tablet) ∙ same))
-      (λ (apart : r ≡ number → ⊥). ap (λ (t : Tablet). t.pulling.sealed) (tablet_apart m number tablet r apart))
-      (cases_eq r number);
+  handover = λ r. elim (cases_eq r number) [
+    | inl is ↦ rw is (ap (λ (t : Tablet). t.handover) (tablet_here m number tablet))
+    | inr apart ↦ ap (λ (t : Tablet). t.handover) (tablet_apart m number tablet r apart)
+  ];
+  sealed = λ r. elim (cases_eq r number) [
+    | inl is ↦ rw is (ap (λ (t : Tablet). t.pulling.sealed) (tablet_here m number tablet) ∙ same)
+    | inr apart ↦ ap (λ (t : Tablet). t.pulling.sealed) (tablet_apart m number tablet r apart)
+  ];
 }
   where
     tablet : Tablet
@@ -78,16 +63,13 @@ keeps_itself : (m : Master) → KeepsTablets m m
 keeps_itself m = record { log = refl; handover = λ r. refl; sealed = λ r. refl }
 
 keeps_one : (number worker : ℕ) (m : Master) (item : Held) → KeepsTablets m (replay_one number worker m item)
-keeps_one number worker m item = go (is_newer item (found item.table item.key m.records))
-  where
-    with_it : KeepsTablets (with_item m item) (item_replayed number worker m item)
-    with_it = keeps_with (with_item m item) number (with_pulled (tablet_at m number).pulling worker item) refl
+keeps_one number worker m item =
+    let with_it : KeepsTablets (with_item m item) (item_replayed number worker m item) =
+    keeps_with (with_item m item) number (with_pulled (tablet_at m number).pulling worker item) refl in
+    cond_both (is_newer item (found item.table item.key m.records)) (item_replayed number worker m item) m (KeepsTablets m)
+    (λ newer. assumption with_it) (λ older. keeps_itself m)
 
-    go : (newer : Bool) → KeepsTablets m (cond newer (item_replayed number worker m item) m)
-    go true = record { log = with_it.log; handover = with_it.handover; sealed = with_it.sealed }
-    go false = keeps_itself m
-
-keeps_all : (number worker : ℕ) (m : Master) (items : List Held) → KeepsTablets m (replay m number worker items)
+pub keeps_all : (number worker : ℕ) (m : Master) (items : List Held) → KeepsTablets m (replay m number worker items)
 keeps_all number worker m [] = keeps_itself m
 keeps_all number worker m (item ∷ items) =
     let one = replay_one number worker m item in
@@ -119,10 +101,9 @@ module _ (w : World) (number sender master : ℕ) (message : Pulled) (sound : Is
   -- what is said of it to a target
   says : (row : Row) → Contains v.rows row → (lineage : List Member) → lineage_of row.phase ≡ lineage → PulledAgrees row v.written v.handovers v.live lineage (nodes.Master sender) master message
   says row stands lineage is =
-      subst (λ (members : List Member). PulledAgrees row v.written v.handovers v.live members (nodes.Master sender) master message) is
-      (All-contains
-      (λ (r : Row). SaysOf r v.logs v.written v.stored v.handovers v.completions v.merged v.live v.handed (nodes.Master sender) (nodes.Master master) (bodies.Pulled message))
-      v.rows row (sound.messages.of_rows number (record { from = nodes.Master sender; to = nodes.Master master; body = bodies.Pulled message }) there) stands).1
+      rw is at
+      (row_said v sound row stands number (record { from = nodes.Master sender; to = nodes.Master master; body = bodies.Pulled message })
+      there).1
 
   module _ (receives : is_receiving_at kept message.tenure.term ≡ true) (at_token : is_token message.token kept.pulling.token ≡ true) where
     role_is : kept.handover.role ≡ roles.Receiving
@@ -140,11 +121,12 @@ module _ (w : World) (number sender master : ℕ) (message : Pulled) (sound : Is
         }) in
         let batch : List Held = batch_at message.token BATCH_BYTES (source_items v its.row its.source) in
         let worker : ℕ = kept.pulling.batches % 4 in
+        let few : worker < 4 = mod_below kept.pulling.batches 4 (omega arith) in
         let token : message.token ≡ (v.pullings its.target.master its.row.tablet).token =
         token_is message.token kept.pulling.token at_token ∙ (λ i. (v.pullings (sym its.here i) (sym its.number_is i)).token) in
         subst (λ (n : ℕ). IsSound (with_master w master (token_passed (replay own n worker (items_of message.entries)) n message.next))) its.number_is
         (subst (λ (q : ℕ). IsSound (with_master w q (token_passed (replay (master_at w q) its.row.tablet worker (items_of message.entries)) its.row.tablet message.next))) its.here
-        (sound_batch w sound its.row its.source its.target its.pulls worker (some_worker kept.pulling.batches) message.token message.next
+        (sound_batch w sound its.row its.source its.target its.pulls worker few message.token message.next
         (items_of message.entries) token (ap items_of said.0.items_are ∙ items_again batch) said.1))
 
     -- the range of the tablet is that of its row, so it is not empty
@@ -152,13 +134,12 @@ module _ (w : World) (number sender master : ℕ) (message : Pulled) (sound : Is
     meets_own =
         let ranged : kept.handover.range ≡ its.row.range =
         ap (λ (n : ℕ). (v.handovers master n).range) (sym its.number_is)
-        ∙ All-contains
-        (λ (r : Row). StillCounts (v.live master) (v.handovers master r.tablet).term r.term → is_member (lineage_of r.phase) master ≡ true → (v.handovers master r.tablet).range ≡ r.range)
-        v.rows its.row (sound.roles.ranged master) its.pulls.has_row (inl (ap not lives))
+        ∙ (row_in v sound its.row its.pulls.has_row).ranged master (inl (ap not lives))
         (ap (λ (members : List Member). is_member members master) its.pulls.lineage_is
         ∙ last_member (its.source ∷ its.target ∷ []) its.target master refl its.here) in
-        subst (λ (range : Range). meets range range ≡ true) (sym ranged)
-        (meets_itself its.row.range (All-contains (IsFormedRow (limits_of w)) v.rows its.row formed.coordinator.rows its.pulls.has_row).range.last.least_is)
+        rw ranged
+        (meets_itself its.row.range
+        (All-contains (IsFormedRow (limits_of w)) v.rows its.row formed.coordinator.rows its.pulls.has_row).range.last.least_is)
 
     abbrev after : World
     after = with_master w master passed
@@ -188,42 +169,28 @@ module _ (w : World) (number sender master : ℕ) (message : Pulled) (sound : Is
     may_seal last = record {
       may = record {
         lives = ap not lives;
-        room =
-            subst (λ (lists : List (List Held)). FIRST_SIDE_SEGMENT + (length (log_in after master).sides + length (sealed_sides lists)) ≤ 2 ^ 32)
-            (sym (ap (λ (p : Pulling). p.sides) pulling_is))
-            (subst
-            (λ (log : Log). FIRST_SIDE_SEGMENT + (length log.sides + length (sealed_sides (tablet_at replayed tablet).pulling.sides)) ≤ 2 ^ 32) (sym log_is)
-            (may last).sides);
+        room = rw (ap (λ (p : Pulling). p.sides) pulling_is) (rw log_is (may last).sides);
         receiving = ap (λ (h : Handover). h.role) handover_is ∙ role_is;
         pulled = ap (λ (p : Pulling). p.token) pulling_is ∙ last;
       };
-      there = λ r.
-          subst (λ (log : Log). All (λ n. n < FIRST_SIDE_SEGMENT + length log.sides) (tablet_in after master r).pulling.sealed) (sym log_is)
-          (subst (All (λ n. n < FIRST_SIDE_SEGMENT + length (log_in w master).sides))
-          (sym (ap (λ (m : Master). (tablet_at m r).pulling.sealed) own_after ∙ keeps.sealed r)) ((may last).there r));
+      there = λ r. rw log_is (rw (ap (λ (m : Master). (tablet_at m r).pulling.sealed) own_after ∙ keeps.sealed r) ((may last).there r));
     }
 
     -- and behind the last batch it is sound with what is sealed
     sound_last : message.next ≡ end → IsSound (with_master w master (pulled_all passed tablet))
-    sound_last last =
-        subst IsSound (put_again w master passed (λ m. pulled_all m tablet))
+    sound_last last = subst IsSound (put_again w master passed (λ m. pulled_all m tablet))
         (sound_pulled_all after sound_taken master tablet (may_seal last) (subst HasSegmentLeft (sym log_is) (may last).room)
         (subst (λ (range : Range). meets range range ≡ true) (sym (ap (λ (h : Handover). h.range) handover_is)) meets_own))
 
     sound_batch_taken : IsSound (with_master w master (batch_taken own tablet message))
-    sound_batch_taken = go (is_token message.next end) refl
-      where
-        go : (last : Bool) → is_token message.next end ≡ last → IsSound (with_master w master (cond last (pulled_all passed tablet) passed))
-        go true is = sound_last (token_is message.next end is)
-        go false is = sound_taken
+    sound_batch_taken = cond_both (is_token message.next end) (pulled_all passed tablet) passed (λ (m : Master). IsSound (with_master w master m))
+        (λ last. sound_last (token_is message.next end last)) (λ more. sound_taken)
 
   pub sound_pulled : IsSound (to_master w master (record { from = nodes.Master sender; to = nodes.Master master; body = bodies.Pulled message })).world
-  sound_pulled =
-      reaches w master sound 0 (pulled_taken own message) lives
+  sound_pulled = reached w master 0 (pulled_taken own message) lives
       (go (is_receiving_at kept message.tenure.term) (is_token message.token kept.pulling.token) refl refl)
     where
       go : (receives at_token : Bool) → is_receiving_at kept message.tenure.term ≡ receives → is_token message.token kept.pulling.token ≡ at_token
           → IsSound (worked_at w master 0 (cond (receives && at_token) (changed (batch_taken own tablet message)) (changed own))).world
-      go true true is at = sound_changed w master (batch_taken own tablet message) (sound_batch_taken is at)
-      go true false is at = stays w master sound 0
-      go false at_token is at = stays w master sound 0
+      go true true is at = sound_changed w master 0 (batch_taken own tablet message) (sound_batch_taken is at)
+      go _ at_token is at = stays w master 0 sound

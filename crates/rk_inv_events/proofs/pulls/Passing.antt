@@ -1,25 +1,21 @@
 -- What a target makes of a batch of its source: it replays the items and passes on to the next token; behind the last batch it seals what it
 -- copied, and where it copied nothing it appends its closing entry at once.
-use Rattle.std.proofs.Common.{◌≡◌, ◌<◌, ◌++◌, ℕ, true, List, [], ◌∷◌, All, length, fold, Option, None, Some, refl, sym, ap, subst, ◌∙◌}
-use Rattle.std.proofs.Common.{⊎_elim, ◌==◌, Contains, eq-eqb}
-use Rattle.rk_inv_base.proofs.Words.{cond-true, All-nil, Contains-append_cases, NumberMap, meets, Held, Token, Member, Range, Entry}
-use Rattle.rk_inv_base.proofs.Words.{batch_at, next_token, passed, in_role, joined, Handover, Role, Row, is_side_stored, with_entry}
-use Rattle.rk_inv_base.proofs.Words.{BATCH_BYTES, Master, tablet_at, with_side_segment, with_tablet, joining_at, joining_by, next_sides}
-use Rattle.rk_inv_base.proofs.Words.{pulled_all, replay, sealing, token_passed, with_pulling, sealed_sides, Tablet, with_handover}
-use Rattle.rk_inv_base.proofs.Words.{closing_appended, closing_entry, joined_entry, World, log_in, master_at, tablet_in, with_master}
-use Rattle.rk_inv_base.proofs.Words.{member_truth, HasSegmentLeft, IsPulling, source_items, as_closed, View, view, IsSound}
-use Rattle.rk_table.proofs.Tokens.{law_passed}
-use Rattle.rk_transfer.specs.Handover.{role_joined}
+use Rattle.std.proofs.Common.{All, Contains, List, None, Option, Some, [], ap, fold, inl, inr, length, refl, subst, sym, true, ℕ, ◌++◌, ◌<◌}
+use Rattle.std.proofs.Common.{◌∙◌, ◌∷◌, ◌≡◌}
 use Rattle.rk_transfer.specs.declared.role.Role.TheVariants as roles
-use Rattle.rk_inv_base.proofs.logs.ClosingAppended.{sound_closing}
-use Rattle.rk_inv_base.proofs.views.Masters.{master_same, tablet_here}
-use Rattle.rk_inv_base.proofs.views.Put.{put_here}
+use Rattle.rk_inv_base.proofs.Words.{All-nil, BATCH_BYTES, Contains-append_cases, Entry, Handover, HasSegmentLeft, Held, IsPulling, IsSound}
+use Rattle.rk_inv_base.proofs.Words.{Master, Member, NumberMap, Range, Row, Tablet, Token, View, World, as_closed, batch_at}
+use Rattle.rk_inv_base.proofs.Words.{closing_appended, closing_entry, is_side_stored, joined, joined_entry, joining_at, joining_by, log_in}
+use Rattle.rk_inv_base.proofs.Words.{master_at, meets, member_truth, next_sides, next_token, passed, pulled_all, replay, sealed_sides}
+use Rattle.rk_inv_base.proofs.Words.{sealing, source_items, tablet_at, tablet_in, token_passed, view, with_entry, with_handover}
+use Rattle.rk_inv_base.proofs.Words.{with_master, with_pulling, with_side_segment, with_tablet}
 use Rattle.rk_inv_base.proofs.pulls.TokenPassed.{sound_passed}
-use Rattle.rk_inv_events.proofs.turn.Pairs.{insert_twice}
-use Rattle.rk_inv_tablets.specs.seal.Moves.{MaySealThere}
-use Rattle.rk_inv_tablets.specs.seal.Small.{as_joining, as_sealed, side_lists_sealed_in, with_sides}
 use Rattle.rk_inv_tablets.proofs.seal.Sealed.{sealed_is, sound_sealed}
-use Rattle.rk_inv_events.proofs.pulls.Replaying.{found_in, put_again, replayed_all, same_source, still_pulls}
+use Rattle.rk_inv_tablets.specs.seal.Small.{as_joining, as_sealed, side_lists_sealed_in, with_sides}
+use Rattle.rk_inv_events.proofs.Words.{MaySealThere, law_passed, master_same, put_here, role_joined, sound_closing, tablet_here}
+use Rattle.rk_inv_events.proofs.events.Pairs.{insert_twice}
+use Rattle.rk_inv_events.proofs.events.Working.{moved_itself, put_again}
+use Rattle.rk_inv_events.proofs.pulls.Replaying.{found_in, replayed_all, same_source, still_pulls}
 use Rattle.rk_inv_events.proofs.pulls.Scans.{scan_in_order}
 use Rattle.rk_inv_events.proofs.pulls.Targets.{batch_stands, found_there, passed_found, passed_stands}
 
@@ -36,8 +32,8 @@ module _ (w : World) (sound : IsSound w) (row : Row) (source target : Member) (p
   sound_batch worker few token next items token_is items_are next_is =
       let now : Master = replay (master_at w target.master) row.tablet worker items in
       let truth : List Entry = member_truth (view w).written row.range source in
-      let from_source : (x : Held) → Contains items x → Contains all x = λ x at.
-      batch_stands truth token x (subst (λ (list : List Held). Contains list x) items_are at) in
+      let from_source : (x : Held) → Contains items x → Contains all x =
+      λ x at. batch_stands truth token x (subst (λ (list : List Held). Contains list x) items_are at) in
       let done = replayed_all row source target worker few w items sound pulls from_source in
       let after : World = with_master w target.master now in
       let still = still_pulls w row source target items now done pulls in
@@ -46,28 +42,25 @@ module _ (w : World) (sound : IsSound w) (row : Row) (source target : Member) (p
       ap (λ (t : Token). passed t all) next_is ∙ law_passed token BATCH_BYTES all (scan_in_order truth)
       ∙ ap (λ (list : List Held). passed token all ++ list) (sym items_are) in
       subst IsSound (put_again w target.master now (λ m. token_passed m row.tablet next))
-      (sound_passed after row source target next done.sound (record {
+      (sound_passed after row source target next done.sound
+      (record {
         pulling = still;
         arrived = λ item at.
             found_there (view after) done.sound row source target still item
             (passed_stands (member_truth (view after).written row.range source) next item at)
             (found_in w row source target items now done item
-            (⊎_elim
-            (λ (before : Contains (passed token all) item).
-            done.still item
-            (passed_found (view w) sound row source target pulls item (subst (λ (t : Token). Contains (passed t all) item) token_is before)))
-            (λ (came : Contains items item). done.found item came)
+            (elim
             (Contains-append_cases (passed token all) items item
-            (subst (λ (list : List Held). Contains list item) (ap (passed next) same ∙ behind) at))));
+            (subst (λ (list : List Held). Contains list item) (ap (passed next) same ∙ behind) at)) [
+              | inl before ↦
+                  done.still item
+                  (passed_found (view w) sound row source target pulls item
+                  (subst (λ (t : Token). Contains (passed t all) item) token_is before))
+              | inr came ↦ done.found item came
+            ]));
       }))
 
 -- ---- behind the last one
-
--- a target that pulls may join
-joins : (handover : Handover) (entry : Option ℕ) → handover.role ≡ roles.Receiving → joined handover handover.term entry ≡ Some (record handover { role = roles.Joining entry })
-joins handover entry receives =
-    cond-true (handover.term == handover.term) (in_role handover (role_joined entry handover.role)) None (eq-eqb handover.term handover.term refl)
-    ∙ ap (λ (role : Role). in_role handover (role_joined entry role)) receives
 
 module _ (w : World) (sound : IsSound w) (master number : ℕ) (may : MaySealThere (view w) master number) (room : HasSegmentLeft (log_in w master))
     (some : meets (tablet_in w master number).handover.range (tablet_in w master number).handover.range ≡ true) where
@@ -105,30 +98,28 @@ module _ (w : World) (sound : IsSound w) (master number : ℕ) (may : MaySealThe
 
   -- what is seen of the tablet then
   tablet_is : tablet_in waiting master number ≡ with_handover full (as_joining kept.handover)
-  tablet_is =
-      ap (λ (m : Master). tablet_at m number) (master_same w master joining master refl)
+  tablet_is = ap (λ (m : Master). tablet_at m number) (master_same w master joining master refl)
       ∙ tablet_here cut number (with_handover full (as_joining kept.handover))
 
   room_left : HasSegmentLeft (log_in waiting master)
   room_left =
-      subst HasSegmentLeft
-      (sym (ap (λ (v : View). v.logs master) (ap view (sym waiting_is) ∙ sealed_is w master number)
-      ∙ put_here (view w).logs master (with_sides (log_in w master) (sealed_sides kept.pulling.sides)) master refl))
-      room
+      rw
+      (ap (λ (v : View). v.logs master) (ap view (sym waiting_is) ∙ sealed_is w master number)
+      ∙ put_here (view w).logs master (with_sides (log_in w master) (sealed_sides kept.pulling.sides)) master refl) room
 
   -- and where nothing was to be sealed, its closing entry is appended
   abbrev closes : Master → Master
   closes m = closing_appended m number (tablet_at m number) (as_closed (length m.log.entries) (tablet_at m number).handover)
 
   sound_closes : numbers ≡ [] → IsSound (with_master w master (closes joining))
-  sound_closes none =
-      subst IsSound (put_again w master joining closes)
-      (sound_closing waiting master number sound_waiting (record {
+  sound_closes none = subst IsSound (put_again w master joining closes)
+      (sound_closing waiting master number sound_waiting
+      (record {
         lives = may.may.lives;
         joining = ap (λ (t : Tablet). t.handover.role) tablet_is;
         room = room_left;
-        stored =
-            subst (All (λ segment. is_side_stored (log_in waiting master) segment ≡ true)) (sym (ap (λ (t : Tablet). t.pulling.sealed) tablet_is ∙ none))
+        stored = subst (All (λ segment. is_side_stored (log_in waiting master) segment ≡ true))
+            (sym (ap (λ (t : Tablet). t.pulling.sealed) tablet_is ∙ none))
             (All-nil (λ segment. is_side_stored (log_in waiting master) segment ≡ true));
         some = subst (λ (range : Range). meets range range ≡ true) (sym (ap (λ (t : Tablet). t.handover.range) tablet_is)) some;
       }))
@@ -141,16 +132,18 @@ module _ (w : World) (sound : IsSound w) (master number : ℕ) (may : MaySealThe
       ∙ ap (λ (tablets : NumberMap Tablet). record cut { tablets = tablets; log = with_entry cut.log (joined_entry full) })
       (insert_twice cut.tablets number (with_handover full (as_joining kept.handover)) last)
 
+  joins : (entry : Option ℕ) → joined kept.handover kept.handover.term entry ≡ Some (record kept.handover { role = roles.Joining entry })
+  joins entry = moved_itself kept.handover.term kept.handover (role_joined entry kept.handover.role) (roles.Joining entry)
+      (ap (role_joined entry) may.may.receiving)
+
   by_numbers : (list : List ℕ) → numbers ≡ list → IsSound (with_master w master (joining_by cut number full list))
-  by_numbers [] none =
-      subst (λ (h : Option Handover). IsSound (with_master w master (closing_entry cut number full h)))
-      (sym (joins kept.handover (Some (length cut.log.entries)) may.may.receiving))
+  by_numbers [] none = subst (λ (h : Option Handover). IsSound (with_master w master (closing_entry cut number full h)))
+      (sym (joins (Some (length cut.log.entries))))
       (subst (λ (m : Master). IsSound (with_master w master m)) closes_is (sound_closes none))
-  by_numbers (segment ∷ more) is =
-      subst (λ (h : Option Handover). IsSound (with_master w master (joining_at cut number full h)))
-      (sym (joins kept.handover None may.may.receiving)) sound_waiting
+  by_numbers (segment ∷ more) is = subst (λ (h : Option Handover). IsSound (with_master w master (joining_at cut number full h)))
+      (sym (joins None)) sound_waiting
 
   -- a target has pulled all
   pub sound_pulled_all : IsSound (with_master w master (pulled_all own number))
-  sound_pulled_all =
-      subst (λ (t : Tablet). IsSound (with_master w master (joining_by cut number t t.pulling.sealed))) (sym full_is) (by_numbers numbers refl)
+  sound_pulled_all = subst (λ (t : Tablet). IsSound (with_master w master (joining_by cut number t t.pulling.sealed))) (sym full_is)
+      (by_numbers numbers refl)

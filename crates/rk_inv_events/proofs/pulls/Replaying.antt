@@ -1,67 +1,12 @@
 -- What a target leaves that replays items of its source one after the other: the lane stays sound, and each of them is found in its records.
-use Rattle.std.proofs.Common.{◌≡◌, ◌<◌, ℕ, Bool, true, false, cond, List, [], ◌∷◌, Option, None, Some, refl, sym, ap, subst, ◌∙◌, ⊎_elim}
-use Rattle.std.proofs.Common.{arith, nat_lt, Contains, ltb-false}
-use Rattle.rk_inv_base.proofs.Words.{cases_Bool, NumberMap, Held, Member, same_older, found, is_newer, with_newer, Row, behind_stands}
-use Rattle.rk_inv_base.proofs.Words.{first_stands, none_stands, stands_cases, is_of_from, Master, item_replayed, replay, replay_one}
-use Rattle.rk_inv_base.proofs.Words.{with_pulled, Pulling, World, master_at, with_master, IsPulling, source_items, IsFound, put, put2, View}
-use Rattle.rk_inv_base.proofs.Words.{view, IsSound}
-use Rattle.rk_table.specs.Items.{is_at}
-use Rattle.rk_inv_base.proofs.views.Masters.{master_same}
-use Rattle.rk_inv_base.proofs.calls.Records.{found_still, newer_stands}
+use Rattle.std.proofs.Common.{Bool, Contains, List, [], ap, cond, false, inl, inr, refl, subst, sym, true, ℕ, ⊎_elim, ◌<◌, ◌∙◌, ◌∷◌, ◌≡◌}
+use Rattle.rk_inv_base.proofs.Words.{Held, IsFound, IsPulling, IsSound, Master, Member, Pulling, Row, View, World, behind_stands}
+use Rattle.rk_inv_base.proofs.Words.{first_stands, found, is_newer, item_replayed, master_at, none_stands, put, put2, replay, replay_one}
+use Rattle.rk_inv_base.proofs.Words.{same_older, source_items, stands_cases, view, with_master, with_newer, with_pulled}
 use Rattle.rk_inv_base.proofs.pulls.Replayed.{sound_replayed, view_item}
-use Rattle.rk_inv_events.proofs.turn.OnlyPulls.{sound_unchanged}
-use Rattle.rk_inv_events.proofs.turn.Pairs.{insert_twice}
-
--- ---- records
-
--- what is found stands there, and has the key
-record StandsOf (table : ℕ) (key : List ℕ) (items : List Held) (item : Held) : Type 0 where
-  stands : Contains items item
-  same_key : is_at table key item ≡ true
-
-found_there : (table : ℕ) (key : List ℕ) (items : List Held) (old : Held) → found table key items ≡ Some old → StandsOf table key items old
-found_there table key [] old is = absurd (cc is)
-found_there table key (item ∷ items) old is = go (is_at table key item) refl is (found_there table key items old)
-  where
-    go : (here : Bool) → is_at table key item ≡ here → cond here (Some item) (found table key items) ≡ Some old
-        → (found table key items ≡ Some old → StandsOf table key items old) → StandsOf table key (item ∷ items) old
-    go true here is later =
-        let same : item ≡ old = cc is in
-        record { stands = subst (Contains (item ∷ items)) same (first_stands item items); same_key = ap (is_at table key) (sym same) ∙ here }
-    go false here is later =
-        let behind = later is in
-        record { stands = behind_stands item items old behind.stands; same_key = behind.same_key }
-
--- an item that is put is found, or one that is as new
-pub put_found : (item : Held) (items : List Held) → IsFound (with_newer item items) item
-put_found item items = go (found item.table item.key items) refl
-  where
-    itself : is_newer item (found item.table item.key items) ≡ true → IsFound (with_newer item items) item
-    itself newer = record {
-      there = item;
-      stands = newer_stands item items newer;
-      same_key = is_of_from item.table item.key item refl refl;
-      as_new = omega arith;
-    }
-
-    go : (old : Option Held) → found item.table item.key items ≡ old → IsFound (with_newer item items) item
-    go None is = itself (ap (is_newer item) is)
-    go (Some old) is =
-        ⊎_elim (λ (newer : nat_lt old.version item.version ≡ true). itself (ap (is_newer item) is ∙ newer))
-        (λ (older : nat_lt old.version item.version ≡ false).
-        let its = found_there item.table item.key items old is in
-        subst (λ (list : List Held). IsFound list item) (sym (same_older item items (ap (is_newer item) is ∙ older)))
-        (record { there = old; stands = its.stands; same_key = its.same_key; as_new = ltb-false old.version item.version older }))
-        (cases_Bool (nat_lt old.version item.version))
-
--- ---- the lane
-
--- what is put last for a master is there
-pub put_again : (w : World) (master : ℕ) (now : Master) (change : Master → Master)
-    → with_master (with_master w master now) master (change (master_at (with_master w master now) master)) ≡ with_master w master (change now)
-put_again w master now change =
-    ap (λ (m : Master). with_master (with_master w master now) master (change m)) (master_same w master now master refl)
-    ∙ ap (λ (masters : NumberMap Master). record w { masters = masters }) (insert_twice w.masters master now (change now))
+use Rattle.rk_inv_logs.proofs.apply.ItemPut.{put_found}
+use Rattle.rk_inv_events.proofs.Words.{found_still, master_same}
+use Rattle.rk_inv_events.proofs.events.Working.{put_again, sound_unchanged, view_unchanged}
 
 -- a view with other records, where this is pulled
 abbrev pub with_items : View → (ℕ → List Held) → (ℕ → ℕ → Pulling) → View
@@ -80,18 +25,11 @@ pub record IsReplayed (w : World) (master : ℕ) (items : List Held) (now : Mast
 -- a target pulls whatever its records are, and its source has the same items
 pulls_with : (v : View) (row : Row) (source target : Member) (records : ℕ → List Held) (pullings : ℕ → ℕ → Pulling) → IsPulling v row source target
     → IsPulling (with_items v records pullings) row source target
-pulls_with v row source target records pullings pulls = record {
-  lives = pulls.lives;
-  has_row = pulls.has_row;
-  lineage_is = pulls.lineage_is;
-  receiving = pulls.receiving;
-}
+pulls_with v row source target records pullings pulls = assumption pulls
 
 module _ (w : World) (row : Row) (source target : Member) (items : List Held) (now : Master) (replayed : IsReplayed w target.master items now) where
   pub still_pulls : IsPulling (view w) row source target → IsPulling (view (with_master w target.master now)) row source target
-  still_pulls pulls =
-      subst (λ (v : View). IsPulling v row source target) (sym replayed.view_is)
-      (pulls_with (view w) row source target replayed.records replayed.pullings pulls)
+  still_pulls pulls = rw replayed.view_is (pulls_with (view w) row source target replayed.records replayed.pullings pulls)
 
   pub same_source : source_items (view (with_master w target.master now)) row source ≡ source_items (view w) row source
   same_source = ap (λ (v : View). source_items v row source) replayed.view_is
@@ -103,12 +41,11 @@ module _ (w : World) (row : Row) (source target : Member) (items : List Held) (n
 -- none is
 replayed_none : (w : World) (master : ℕ) → IsSound w → IsReplayed w master [] (master_at w master)
 replayed_none w master sound =
-    let same = sound_unchanged w master sound in
     record {
-      sound = same.sound;
+      sound = sound_unchanged w master sound;
       records = (view w).records;
-      pullings = same.pullings;
-      view_is = same.view_is;
+      pullings = (view w).pullings;
+      view_is = view_unchanged w master;
       still = λ x is. is;
       found = λ x at. absurd (none_stands x at);
     }
@@ -120,15 +57,13 @@ replayed_then : (w : World) (master : ℕ) (item : Held) (items : List Held) (no
 replayed_then w master item items now change first later =
     let same = master_same w master now master refl in
     let end : change (master_at (with_master w master now) master) ≡ change now = ap change same in
-    let still : (x : Held) → IsFound now.records x → IsFound (change now).records x = λ x is.
-    subst (λ (m : Master). IsFound m.records x) end
-    (later.still x (subst (λ (m : Master). IsFound m.records x) (sym same) is)) in
+    let still : (x : Held) → IsFound now.records x → IsFound (change now).records x =
+    λ x is. subst (λ (m : Master). IsFound m.records x) end (later.still x (subst (λ (m : Master). IsFound m.records x) (sym same) is)) in
     record {
       sound = subst IsSound (put_again w master now change) later.sound;
       records = later.records;
       pullings = later.pullings;
-      view_is =
-          ap view (sym (put_again w master now change)) ∙ later.view_is
+      view_is = ap view (sym (put_again w master now change)) ∙ later.view_is
           ∙ ap (λ (v : View). with_items v later.records later.pullings) first.view_is;
       still = λ x is. still x (first.still x is);
       found = λ x at.
@@ -151,9 +86,10 @@ module _ (row : Row) (source target : Member) (worker : ℕ) (few : worker < 4) 
       own = master_at w target.master
 
       found_one : (list : List Held) → with_newer item own.records ≡ list → (x : Held) → Contains (item ∷ []) x → IsFound list x
-      found_one list is x at =
-          ⊎_elim (λ (same : item ≡ x). subst (IsFound list) same (subst (λ (l : List Held). IsFound l item) is (put_found item own.records)))
-          (λ (none : Contains [] x). absurd (none_stands x none)) (stands_cases item [] x at)
+      found_one list is x at = elim (stands_cases item [] x at) [
+        | inl same ↦ rw same at (rw is at (put_found item own.records))
+        | inr none ↦ absurd (none_stands x none)
+      ]
 
       go : (newer : Bool) → is_newer item (found item.table item.key own.records) ≡ newer
           → IsReplayed w target.master (item ∷ []) (cond newer (item_replayed row.tablet worker own item) own)

@@ -1,18 +1,14 @@
 -- The live items of a range in records are the scan of what counts for it, where the records have the newest of each key.
-use Rattle.std.proofs.Common.{◌≡◌, Bool, true, List, [], ◌∷◌, ⊎_elim, ◌&&◌, filter, fold, is_some, Contains}
+use Rattle.std.proofs.Common.{Bool, Contains, List, [], filter, fold, inl, inr, is_some, true, ◌&&◌, ◌∷◌, ◌≡◌}
 use Rattle.std.specs.List.Sorted.{IsStrictlySortedBy}
-use Rattle.rk_inv_base.proofs.Words.{and_parts, All-contains, Held, Range, Entry, is_in, with_item, IsInScanOrder, none_stands}
-use Rattle.rk_inv_base.proofs.Words.{newest_items, items_of, scan_items, IsTableOf}
-use Rattle.rk_table.specs.Items.{is_live_in, live_in}
-use Rattle.rk_table.specs.Order.{item_cmp}
+use Rattle.rk_overlay.proofs.Ordered.{one_order}
 use Rattle.rk_table.proofs.Changes.{order_live}
 use Rattle.rk_table.proofs.Found.{order_with_item}
 use Rattle.rk_table.proofs.InOrder.{item_total}
-use Rattle.rk_overlay.proofs.Ordered.{one_order}
-use Rattle.rk_inv_base.proofs.logs.InRange.{AreIn, IsIn}
+use Rattle.rk_inv_base.proofs.Words.{All-contains, Entry, Held, IsInScanOrder, IsTableOf, Range, and_parts, is_in, items_of, newest_items}
+use Rattle.rk_inv_base.proofs.Words.{none_stands, scan_items, with_item}
 use Rattle.rk_inv_base.proofs.pulls.Joining.{kept_stands, scanned, stands_kept}
-use Rattle.rk_inv_base.proofs.calls.Records.{put_all_from}
-use Rattle.rk_inv_rows.proofs.lineage.Scanned.{newest_scanned, scan_newest}
+use Rattle.rk_inv_events.proofs.Words.{AreIn, IsIn, is_live_in, item_cmp, live_in, newest_scanned, put_all_from, scan_newest}
 
 -- items that are put one after the other stand in scan order
 order_put : (done items : List Held) → IsInScanOrder done → IsInScanOrder (fold (λ list item. with_item item list) done items)
@@ -31,9 +27,10 @@ scan_in_order list = order_put [] (filter (λ item. is_some item.value) (newest_
 scan_is_live : (list : List Entry) (item : Held) → Contains (scan_items list) item → is_some item.value ≡ true
 scan_is_live list item stands =
     let is_live : Held → Bool = λ x. is_some x.value in
-    ⊎_elim (λ (none : Contains [] item). absurd (none_stands item none))
-    (λ (kept : Contains (filter is_live (newest_items (items_of list))) item). (kept_stands is_live (newest_items (items_of list)) item kept).1)
-    (put_all_from [] (filter is_live (newest_items (items_of list))) item stands)
+    elim (put_all_from [] (filter is_live (newest_items (items_of list))) item stands) [
+      | inl none ↦ absurd (none_stands item none)
+      | inr kept ↦ (kept_stands is_live (newest_items (items_of list)) item kept).1
+    ]
 
 module _ (range : Range) (list : List Entry) (records : List Held) (order : IsInScanOrder records) (inside : AreIn range (items_of list)) (table : IsTableOf range list records) where
   live_scanned : (item : Held) → Contains (live_in range records) item → Contains (scan_items list) item
@@ -50,6 +47,5 @@ module _ (range : Range) (list : List Entry) (records : List Held) (order : IsIn
 
   -- the live items of the range are the scan
   pub records_scanned : live_in range records ≡ scan_items list
-  records_scanned =
-      one_order item_cmp item_total (live_in range records) (scan_items list) (order_live range records order) (scan_in_order list)
-      (λ item. (live_scanned item, scanned_live item))
+  records_scanned = one_order item_cmp item_total (live_in range records) (scan_items list) (order_live range records order)
+      (scan_in_order list) (λ item. (live_scanned item, scanned_live item))

@@ -1,17 +1,14 @@
 -- All that is applied of the own entries of a master that rebuilt a row is what counts of its log once the marks of the tablet are gone.
-use Rattle.std.proofs.Common.{◌≡◌, ℕ, suc, ◌+◌, ◌≤◌, true, false, eqb, List, [], ◌∷◌, ◌++◌, Some, refl, sym, ap, ◌∙◌, All, drop, fold}
-use Rattle.std.proofs.Common.{nat_le, not, slice_get, Contains, flat_map, eq-eqb, le-leb}
-use Rattle.rk_inv_base.proofs.Words.{and_from, false≢true, All-contains, meets, Entry, Row, is_mark_of, is_marked, unmarked, counting}
-use Rattle.rk_inv_base.proofs.Words.{named, named_by, side_entries, with_number, Written, applied_entries, member_truth, Mark, HasSome}
-use Rattle.rk_inv_base.proofs.Words.{MarkFits, applied_from, View, SoundView}
+use Rattle.std.proofs.Common.{All, Contains, List, Some, [], ap, drop, eq-eqb, eqb, flat_map, fold, le-leb, nat_le, not, refl, slice_get}
+use Rattle.std.proofs.Common.{suc, sym, true, ℕ, ◌++◌, ◌+◌, ◌∙◌, ◌∷◌, ◌≡◌, ◌≤◌}
 use Rattle.rk_tablet_map.specs.Phase.{member as member_at}
+use Rattle.rk_inv_base.proofs.Words.{All-contains, Entry, HasSome, Mark, MarkFits, Row, SoundView, View, Written, and_from, applied_entries}
+use Rattle.rk_inv_base.proofs.Words.{applied_from, counting, false≢true, is_mark_of, is_marked, member_truth, named, named_by, side_entries}
+use Rattle.rk_inv_base.proofs.Words.{unmarked, with_number}
 use Rattle.rk_inv_base.proofs.logs.MarkedApart.{apart_either, place_of}
-use Rattle.rk_inv_base.proofs.calls.Records.{filter_from}
-use Rattle.rk_inv_rows.specs.lineage.Small.{marks_taken}
-use Rattle.rk_inv_rows.proofs.lineage.Among.{kept_passes, taken_from}
 use Rattle.rk_inv_rows.proofs.lineage.FewerMarks.{AreFewer, IsSilent, free_counts, free_names}
 use Rattle.rk_inv_rows.proofs.lineage.MarksTaken.{apart, silent_apart}
-use Rattle.rk_inv_rows.proofs.lineage.Pieces.{IsCovered, covered_by, covered_of}
+use Rattle.rk_inv_events.proofs.Words.{IsCovered, covered_by, covered_of, filter_from, kept_passes, marks_taken, row_in, taken_from}
 
 -- without marks no entry bears one
 none_marked : (place : ℕ) (list : List Entry) → unmarked [] place list ≡ list
@@ -40,9 +37,7 @@ module _ (v : View) (row : Row) (to place : ℕ) (sound : SoundView v) (has_row 
       let kept = kept_passes (λ m. not (is_mark_of row.tablet row.term m)) w.marks m stands in
       let fits : MarkFits row to (v.handovers to row.tablet) (v.live to) w m =
       All-contains (λ m. m.tablet ≡ row.tablet → MarkFits row to (v.handovers to row.tablet) (v.live to) w m) w.marks m
-      (All-contains (λ r. All (λ m. m.tablet ≡ r.tablet → MarkFits r to (v.handovers to r.tablet) (v.live to) w m) w.marks) v.rows row
-      (sound.rebuilds.marks to) has_row)
-      (filter_from (λ m. not (is_mark_of row.tablet row.term m)) w.marks m stands) its in
+      ((row_in v sound row has_row).marks to) (filter_from (λ m. not (is_mark_of row.tablet row.term m)) w.marks m stands) its in
       let both : is_mark_of row.tablet row.term m ≡ true =
       and_from (eqb m.tablet row.tablet) (nat_le m.term row.term) (eq-eqb m.tablet row.tablet its) (le-leb m.term row.term fits.within) in
       false≢true (ap not (sym both) ∙ kept)
@@ -59,7 +54,7 @@ module _ (v : View) (row : Row) (to place : ℕ) (sound : SoundView v) (has_row 
       } in
       let of = covered_of v sound to n entry stands before in
       let unlike : of.row.tablet ≡ row.tablet → ⊥ = λ its. left_apart covered.mark covered.stands (sym of.number ∙ its) in
-      let beside : meets row.range of.row.range ≡ false = apart v row sound has_row of.row of.stands unlike (some_of of.row of.stands) in
+      let beside = apart v row sound has_row of.row of.stands unlike (some_of of.row of.stands) in
       silent_apart of.row.range row.range (apart_either row.range of.row.range beside) beside (some_of row has_row) entry of.of
 
   fewer : AreFewer row.range left_marks [] place front

@@ -1,11 +1,10 @@
 -- Own items with the newest of all, except those that they have, are the newest of all, and leave the records that all leave.
-use Rattle.std.proofs.Common.{◌≡◌, ℕ, ◌≤◌, true, false, not, ◌&&◌, eqb, List, Option, Some, None, refl, sym, ap, ◌∙◌, subst, ⊎_elim, arith}
-use Rattle.std.proofs.Common.{bytes_eq, ◌↔◌, Contains, eqb-true}
-use Rattle.rk_inv_base.proofs.Words.{and_parts, cases_Bool, Any-from_list_any, bytes_eq-Decides, Held, Range, is_in, IsInScanOrder}
-use Rattle.rk_inv_base.proofs.Words.{newest_found, newest_is, newest_none, is_of_from, is_of_parts, newest_items_are, newest_own, live}
-use Rattle.rk_inv_base.proofs.Words.{record_of, newest, newest_items, IsPlain, copies_of, has_version, IsFound}
-use Rattle.rk_inv_base.proofs.calls.Records.{filter_from, filter_stands, stands_is_found}
-use Rattle.rk_inv_rows.proofs.lineage.TakenOver.{HasBoth, plain_fewer, table_over}
+use Rattle.std.proofs.Common.{Contains, List, None, Option, Some, ap, arith, bytes_eq, eqb, eqb-true, inl, inr, not, refl, sym, true, ℕ}
+use Rattle.std.proofs.Common.{◌&&◌, ◌↔◌, ◌∙◌, ◌≡◌, ◌≤◌}
+use Rattle.rk_inv_base.proofs.Words.{Any-from_list_any, Held, IsFound, IsInScanOrder, IsPlain, Range, and_parts, bytes_eq-Decides}
+use Rattle.rk_inv_base.proofs.Words.{cases_Bool, copies_of, has_version, is_in, is_of_from, is_of_parts, live, newest, newest_found}
+use Rattle.rk_inv_base.proofs.Words.{newest_is, newest_items, newest_items_are, newest_none, newest_own, record_of}
+use Rattle.rk_inv_events.proofs.Words.{HasBoth, filter_from, filter_stands, plain_fewer, stands_is_found, table_over}
 
 -- an item of the version of one stands among these
 record HasVersion (items : List Held) (item : Held) : Type 0 where
@@ -39,24 +38,20 @@ copy_of_all own all item stands =
 module _ (own all target : List Held) (plain : IsPlain all) (within : (x : Held) → Contains own x → Contains all x) (both : HasBoth own (copies_of own all) target) where
   -- the newest of a key is an own item, or a copy
   newest_there : (table : ℕ) (key : List ℕ) (x : Held) → newest all table key ≡ Some x → Contains target x
-  newest_there table key x is =
-      let best = newest_is all table key x is in
-      ⊎_elim
-      (λ (has : has_version own x ≡ true).
-      let its = has_parts own x has in
-      let same : its.other ≡ x =
-      plain its.other x (within its.other its.stands) best.stands its.table_is its.key_is its.version_is in
-      both.has_own x (subst (Contains own) same its.stands))
-      (λ (none : has_version own x ≡ false).
-      both.has_copied x
-      (filter_stands (λ y. not (has_version own y)) (newest_items all) x
-      (((newest_items_are all).newest x).1 (newest_own all table key x is)) (ap not none)))
-      (cases_Bool (has_version own x))
+  newest_there table key x is = elim (cases_Bool (has_version own x)) [
+    | inl has ↦
+        let its = has_parts own x has in
+        let same : its.other ≡ x =
+        plain its.other x (within its.other its.stands) (newest_is all table key x is).stands its.table_is its.key_is its.version_is in
+        both.has_own x (rw same at its.stands)
+    | inr none ↦
+        both.has_copied x
+        (filter_stands (λ y. not (has_version own y)) (newest_items all) x
+        (((newest_items_are all).newest x).1 (newest_own all table key x is)) (ap not none))
+  ]
 
   pub in_all : (x : Held) → Contains target x → Contains all x
-  in_all x stands =
-      ⊎_elim (λ (mine : Contains own x). within x mine) (λ (copy : Contains (copies_of own all) x). copy_of_all own all x copy)
-      (both.from x stands)
+  in_all x stands = elim (both.from x stands) [ inl mine ↦ within x mine | inr copy ↦ copy_of_all own all x copy ]
 
   pub target_plain : IsPlain target
   target_plain = plain_fewer target all in_all plain
@@ -102,10 +97,10 @@ module _ (own all target : List Held) (plain : IsPlain all) (within : (x : Held)
           (is_of_from x.table x.key its.there (of_y.0 ∙ of_x.0) (of_y.1 ∙ of_x.1)) in
           let same : Some its.there ≡ Some x = sym b ∙ a in
           let one : its.there ≡ x = cc same in
-          let as_new : y.version ≤ x.version = subst (λ (h : Held). y.version ≤ h.version) one its.as_new in
+          let as_new : y.version ≤ x.version = rw one at its.as_new in
           let above : x.version ≤ y.version = best.greatest x there (is_of_from x.table x.key x refl refl) in
           let is_y : y ≡ x = plain y x best.stands there of_x.0 of_x.1 (omega (arith, as_new, above)) in
-          subst (Contains target) is_y in_target
+          rw is_y at in_target
 
       back : (x : Held) → Contains records x → is_in range x ≡ true → Contains target x
       back x stands inside = is_newest x stands (come x stands inside) (newest all x.table x.key) refl

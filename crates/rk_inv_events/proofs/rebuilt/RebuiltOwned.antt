@@ -1,24 +1,21 @@
 -- The master that rebuilt a row may own it, once the rebuild is told: what it read is the truth of the row and a first part of its rest, and
 -- the ends of the merge make the records of just that part.
-use Rattle.std.proofs.Common.{◌≡◌, ◌≤◌, ◌⊎◌, ℕ, Bool, true, false, cond, eqb, List, [], ◌∷◌, ◌++◌, Option, Some, refl, sym, ap, subst, ◌∙◌}
-use Rattle.std.proofs.Common.{⊎_elim, inl, inr, append-nil, All, IfSome, map, Contains}
-use Rattle.rk_inv_base.proofs.Words.{cond-true, flat_map-append, All-contains, All-nil, Contains-append_cases, Contains-append_left}
-use Rattle.rk_inv_base.proofs.Words.{Contains-append_right, Any-from_list_any, Ended, Held, Placed, Member, Carried, Entry, Completions}
-use Rattle.rk_inv_base.proofs.Words.{completions_from, ends_of, Role, Phase, Owned, Rebuilding, Row, first_stands, stands_cases, items_in}
-use Rattle.rk_inv_base.proofs.Words.{items_of, told, told_by, Gather, by_member, is_of_lineage, material_by, as_entries, merge, merged_ends}
-use Rattle.rk_inv_base.proofs.Words.{own_place, member_material, member_truth, LastCall, Merged, IsLastCall, IsKnown, ReachAll, HasSome}
-use Rattle.rk_inv_base.proofs.Words.{MayTakeRebuilt, row_at, IsRebuildTable, RowIsRebuilt, applied_from, closing_carried, call_ends}
-use Rattle.rk_inv_base.proofs.Words.{IsTableOf, View, truths, rests, SoundView}
+use Rattle.std.proofs.Common.{All, Bool, Contains, IfSome, List, Option, Some, [], ap, append-nil, cond, eqb, false, inl, inr, map, refl}
+use Rattle.std.proofs.Common.{subst, sym, true, ℕ, ◌++◌, ◌∙◌, ◌∷◌, ◌≡◌, ◌≤◌, ◌⊎◌}
 use Rattle.rk_tablet_map.specs.Phase.{member as member_at}
-use Rattle.rk_inv_base.proofs.views.Lists.{all_by}
-use Rattle.rk_inv_logs.specs.read.ReadBack.{IsReadBack, TellInOrder, all_of}
-use Rattle.rk_inv_rows.specs.lineage.Lineages.{TellHistory}
-use Rattle.rk_inv_rows.specs.lineage.Rebuilt.{MakeRecords, MayOwnRebuilt, journal_with, made_of}
-use Rattle.rk_inv_rows.specs.lineage.Small.{marks_taken}
-use Rattle.rk_inv_rows.proofs.lineage.Among.{flat_among, to_flat}
+use Rattle.rk_inv_base.proofs.Words.{All-contains, All-nil, Any-from_list_any, Carried, Completions, Contains-append_cases}
+use Rattle.rk_inv_base.proofs.Words.{Contains-append_left, Contains-append_right, Ended, Entry, Gather, HasSome, Held, IsKnown, IsLastCall}
+use Rattle.rk_inv_base.proofs.Words.{IsRebuildTable, IsTableOf, LastCall, MayTakeRebuilt, Member, Merged, Owned, Phase, Placed, ReachAll}
+use Rattle.rk_inv_base.proofs.Words.{Rebuilding, Role, Row, RowIsRebuilt, SoundView, View, applied_from, as_entries, by_member, call_ends}
+use Rattle.rk_inv_base.proofs.Words.{closing_carried, completions_from, cond-true, ends_of, first_stands, flat_map-append, is_of_lineage}
+use Rattle.rk_inv_base.proofs.Words.{items_in, items_of, material_by, member_material, member_truth, merge, merged_ends, own_place, rests}
+use Rattle.rk_inv_base.proofs.Words.{row_at, stands_cases, told, told_by, truths}
 use Rattle.rk_inv_rows.proofs.lineage.Histories.{history_of}
-use Rattle.rk_inv_rows.proofs.lineage.RebuiltMaterial.{at as rebuilt_here, merged_is, now_done, own_done, truth_from, truth_has_own, truth_has_piece}
+use Rattle.rk_inv_rows.proofs.lineage.RebuiltMaterial.{at as rebuilt_here, merged_is}
 use Rattle.rk_inv_logs.proofs.apply.MergedEnds.{mapped}
+use Rattle.rk_inv_logs.specs.read.ReadBack.{IsReadBack, TellInOrder, all_of}
+use Rattle.rk_inv_events.proofs.Words.{MakeRecords, MayOwnRebuilt, TellHistory, all_by, flat_among, journal_with, made_of, marks_taken}
+use Rattle.rk_inv_events.proofs.Words.{now_done, own_done, row_rebuilt, to_flat, truth_from, truth_has_own, truth_has_piece}
 use Rattle.rk_inv_events.proofs.rebuilt.AppliedOwn.{applied_own}
 use Rattle.rk_inv_events.proofs.rebuilt.InPlace.{HasPiece, StandsIn, all_plain, both, in_place}
 use Rattle.rk_inv_events.proofs.rebuilt.Newest.{in_all, table_same}
@@ -49,34 +46,30 @@ module _ (truth part : List Entry) (members : List (List Entry)) (order : TellIn
   here = order.first ++ told part ++ order.behind
 
   of_either : (end : Ended) → Contains (told truth) end ⊎ Contains (told part) end → Contains told_whole end
-  of_either end either =
-      subst (λ (l : List Ended). Contains l end) (sym (flat_map-append told_by truth part))
-      (⊎_elim (λ (a : Contains (told truth) end). Contains-append_left (told truth) (told part) end a)
-      (λ (b : Contains (told part) end). Contains-append_right (told truth) (told part) end b) either)
+  of_either end either = subst (λ (l : List Ended). Contains l end) (sym (flat_map-append told_by truth part))
+      (elim either [
+        | inl a ↦ Contains-append_left (told truth) (told part) end a
+        | inr b ↦ Contains-append_right (told truth) (told part) end b
+      ])
 
   of_here : (end : Ended) → Contains here end → Contains told_whole end
-  of_here end stands =
-      ⊎_elim
-      (λ (front : Contains (order.first ++ told part) end).
-      ⊎_elim
-      (λ (first : Contains order.first end). of_either end (inl (All-contains (Contains (told truth)) order.first end order.first_told first)))
-      (λ (own : Contains (told part) end). of_either end (inr own))
-      (Contains-append_cases order.first (told part) end front))
-      (λ (behind : Contains order.behind end). All-contains (Contains told_whole) order.behind end order.behind_told behind)
-      (Contains-append_cases (order.first ++ told part) order.behind end stands)
+  of_here end stands = elim (Contains-append_cases (order.first ++ told part) order.behind end stands) [
+    | inl front ↦ elim (Contains-append_cases order.first (told part) end front) [
+      | inl first ↦ of_either end (inl (All-contains (Contains (told truth)) order.first end order.first_told first))
+      | inr own ↦ of_either end (inr own)
+    ]
+    | inr behind ↦ All-contains (Contains told_whole) order.behind end order.behind_told behind
+  ]
 
   of_member : (ends : List Ended) → Contains (order.before ++ here ∷ order.after) ends → All (Contains told_whole) ends
-  of_member ends stands =
-      ⊎_elim
-      (λ (before : Contains order.before ends). All-contains (λ ends. All (Contains told_whole) ends) order.before ends order.before_told before)
-      (λ (from : Contains (here ∷ order.after) ends).
-      ⊎_elim
-      (λ (is : here ≡ ends). subst (λ (ends : List Ended). All (Contains told_whole) ends) is (all_by (Contains told_whole) here of_here))
-      (λ (after : Contains order.after ends).
-      subst (λ (ends : List Ended). All (Contains told_whole) ends)
-      (sym (All-contains (λ ends. ends ≡ []) order.after ends order.after_none after)) (All-nil (Contains told_whole)))
-      (stands_cases here order.after ends from))
-      (Contains-append_cases order.before (here ∷ order.after) ends stands)
+  of_member ends stands = elim (Contains-append_cases order.before (here ∷ order.after) ends stands) [
+    | inl before ↦ All-contains (λ ends. All (Contains told_whole) ends) order.before ends order.before_told before
+    | inr from ↦ elim (stands_cases here order.after ends from) [
+      | inl is ↦ subst (λ (ends : List Ended). All (Contains told_whole) ends) is (all_by (Contains told_whole) here of_here)
+      | inr after ↦ subst (λ (ends : List Ended). All (Contains told_whole) ends)
+          (sym (All-contains (λ ends. ends ≡ []) order.after ends order.after_none after)) (All-nil (Contains told_whole))
+    ]
+  ]
 
   read_told : (m : List Entry) → Contains members m → All (Contains told_whole) (told m)
   read_told m stands =
@@ -84,8 +77,7 @@ module _ (truth part : List Entry) (members : List (List Entry)) (order : TellIn
 
 -- what was read of the lineage of a row that a master rebuilt
 abbrev pub read_of : View → Row → ℕ → ℕ → List (List Entry)
-read_of v row to place =
-    by_member (v.gathers to row.tablet) (member_material v.written row.range (member_at to place))
+read_of v row to place = by_member (v.gathers to row.tablet) (member_material v.written row.range (member_at to place))
 
 module _ (v : View) (row : Row) (lineage : List Member) (to place : ℕ) (ends : List Ended) (sound : SoundView v) (ranges : All (λ other. HasSome other.range) v.rows) (taken : MayTakeRebuilt v row lineage to place ends) (back : IsReadBack (truths v row) (rests v row) (read_of v row to place)) where
   some : row.range.first ≤ row.range.last
@@ -106,12 +98,10 @@ module _ (v : View) (row : Row) (lineage : List Member) (to place : ℕ) (ends :
       its.own
 
   pub part_served : IsServed v.base row.range v.asked whole back.left (v.journal ++ made)
-  part_served =
-      all_served v.base row.range v.asked own_last (truths v row) back.part back.left v.journal
+  part_served = all_served v.base row.range v.asked own_last (truths v row) back.part back.left v.journal
       (record {
         legal = sound.truth.legal;
-        history =
-            subst (λ (rest : List Entry). TellHistory v.base row.range (truths v row) rest v.journal v.asked) back.split
+        history = subst (λ (rest : List Entry). TellHistory v.base row.range (truths v row) rest v.journal v.asked) back.split
             (history_of v row sound taken.has_row);
       })
 
@@ -154,16 +144,12 @@ module _ (v : View) (row : Row) (lineage : List Member) (to place : ℕ) (ends :
       let is = merged_is v row lineage to place ends sound some taken in
       let done = own_done v row lineage to place ends sound some taken in
       record {
-        from = λ entry stands.
-            ⊎_elim
-            (λ (mine : Contains (member_truth v.written row.range own_member) entry).
-            inl (subst (λ (l : List Entry). Contains l entry) (sym done.all) mine))
-            (λ (inside : Contains (piece_with is.merged) entry).
-            inr (subst (λ (m : Merged). Contains (piece_with m) entry) is.merged_is inside))
-            (truth_from v row lineage to place ends sound some taken entry stands);
+        from = λ entry stands. elim (truth_from v row lineage to place ends sound some taken entry stands) [
+          | inl mine ↦ inl (subst (λ (l : List Entry). Contains l entry) (sym done.all) mine)
+          | inr inside ↦ inr (subst (λ (m : Merged). Contains (piece_with m) entry) is.merged_is inside)
+        ];
         has_own = λ entry mine.
-            truth_has_own v row lineage to place ends sound some taken entry
-            (subst (λ (l : List Entry). Contains l entry) done.all mine);
+            truth_has_own v row lineage to place ends sound some taken entry (subst (λ (l : List Entry). Contains l entry) done.all mine);
         has_piece = λ entry inside.
             truth_has_piece v row lineage to place ends sound some taken entry
             (subst (λ (m : Merged). Contains (piece_with m) entry) (sym is.merged_is) inside);
@@ -173,8 +159,7 @@ module _ (v : View) (row : Row) (lineage : List Member) (to place : ℕ) (ends :
   own_stands = own_list (v.gathers to row.tablet) own
 
   own_items : (item : Held) → Contains (items_of own) item → Contains (items_of (all_of members)) item
-  own_items =
-      flat_among items_in own (all_of members) (λ entry mine. to_flat (λ list. list) members own entry own_stands mine)
+  own_items = flat_among items_in own (all_of members) (λ entry mine. to_flat (λ list. list) members own entry own_stands mine)
 
   -- ---- with the records of the part
 
@@ -211,20 +196,17 @@ module _ (v : View) (row : Row) (lineage : List Member) (to place : ℕ) (ends :
         let fit =
         in_phase
         (λ p. RowIsRebuilt row p (truths v row) v.logs v.written v.stored v.handovers v.completions v.gathers v.merged v.records v.live)
-        (All-contains
-        (λ r. RowIsRebuilt r r.phase (truths v r) v.logs v.written v.stored v.handovers v.completions v.gathers v.merged v.records v.live)
-        v.rows row sound.rebuilds.rebuilt taken.has_row) in
-        subst (λ (role : Role). IsRebuildTable row.range (truths v row) (applied_from row.range (own_place role) (v.written to)) (v.records to))
+        (row_rebuilt v sound row taken.has_row) in
+        subst
+        (λ (role : Role). IsRebuildTable row.range (truths v row) (applied_from row.range (own_place role) (v.written to)) (v.records to))
         (rebuilt_here v row lineage to place ends sound some taken).role_is (fit.0 taken.term_is).items
 
     table_now : IsRebuildTable row.range (truths v row) truth_now (v.records to)
-    table_now =
-        subst (λ (l : List Entry). IsRebuildTable row.range (truths v row) l (v.records to))
+    table_now = subst (λ (l : List Entry). IsRebuildTable row.range (truths v row) l (v.records to))
         (applied_own v row to place sound taken.has_row ranges) its_table
 
     all_items : (item : Held) → Contains (items_of truth_now) item → Contains (items_of (all_of members)) item
-    all_items =
-        in_all (items_of own) (items_of (all_of members)) (items_of truth_now)
+    all_items = in_all (items_of own) (items_of (all_of members)) (items_of truth_now)
         (all_plain v.base row.range v.asked (v.journal ++ made) whole own (all_of members) truth_now carried whole_tells stands_in piece)
         own_items (both own (all_of members) truth_now carried piece)
 
@@ -234,13 +216,10 @@ module _ (v : View) (row : Row) (lineage : List Member) (to place : ℕ) (ends :
         (flat_among items_in (truths v row) whole (λ entry there. Contains-append_left (truths v row) back.part entry there) item stands)
 
     full : IsTableOf row.range truth_now (v.records to)
-    full =
-        table_same (items_of own) (items_of (all_of members)) (items_of truth_now)
+    full = table_same (items_of own) (items_of (all_of members)) (items_of truth_now)
         (all_plain v.base row.range v.asked (v.journal ++ made) whole own (all_of members) truth_now carried whole_tells stands_in piece)
         own_items (both own (all_of members) truth_now carried piece) row.range (v.records to) (sound.records.ordered to)
-        (λ x stands inside.
-        ⊎_elim (λ (mine : Contains (items_of truth_now) x). all_items x mine)
-        (λ (there : Contains (items_of (truths v row)) x). truth_items x there) (table_now.come x stands inside))
+        (λ x stands inside. elim (table_now.come x stands inside) [ inl mine ↦ all_items x mine | inr there ↦ truth_items x there ])
         table_now.found
 
     -- ---- so it may own it

@@ -1,28 +1,26 @@
 -- The first entries of a rest are served: each call that left one gets its record, and the entry comes to the end of the truth. Truth and
 -- rest then tell the history with these records.
-use Rattle.std.proofs.Common.{◌≡◌, ℕ, suc, true, false, ◌&&◌, eqb, List, [], ◌∷◌, ◌++◌, Option, Some, refl, sym, ap, ◌∙◌, subst, ⊎_elim}
-use Rattle.std.proofs.Common.{arith, inl, inr, append-nil, append_assoc, ◌≢◌, not, All, AllPairs, Contains, eq-eqb}
-use Rattle.rk_inv_base.proofs.Words.{and_from, cases_Bool, cond-true, All-contains, All-head, All-nil, All-push, All-tail, All-weaker}
-use Rattle.rk_inv_base.proofs.Words.{Contains-push, Call, Ended, Outcome, Held, Placed, Range, IsLegal-append, legal_back, legal_push}
-use Rattle.rk_inv_base.proofs.Words.{map_after-append, IsLegal, Map, map_after, map_with, with_change, change_of, is_mutation, Entry}
-use Rattle.rk_inv_base.proofs.Words.{first_stands, none_stands, stands_cases, IsPlain, Base, base_map, item_end, items_in, items_of}
-use Rattle.rk_inv_base.proofs.Words.{outcome_of, refusal_end, told, told_by, has_record, next_record, of_key, tells_of, LastCall, IsKnown}
-use Rattle.rk_inv_base.proofs.Words.{IsReached, TellAll, is_record_in, AreAboveMap, IsEntryOf, IsLast, IsLastAsked, IsRest, IsStaged}
-use Rattle.rk_inv_base.proofs.Words.{call_end, call_ends, record_of_last, records_of}
-use Rattle.rk_model.specs.History.{record_of as map_record_of}
+use Rattle.std.proofs.Common.{All, AllPairs, Contains, List, Option, Some, [], ap, append-nil, append_assoc, arith, eq-eqb, eqb, false, inl}
+use Rattle.std.proofs.Common.{inr, not, refl, subst, suc, sym, true, ℕ, ◌&&◌, ◌++◌, ◌∙◌, ◌∷◌, ◌≡◌, ◌≢◌}
 use Rattle.rk_entry.specs.declared.entry.Entry.TheVariants as entries
+use Rattle.rk_model.specs.History.{record_of as map_record_of}
 use Rattle.rk_overlay.specs.Live.{live as live_items}
-use Rattle.rk_sound.specs.Rest.{IsOfCall}
+use Rattle.rk_inv_base.proofs.Words.{All-contains, All-head, All-nil, All-push, All-tail, All-weaker, Base, Call, Contains-push, Ended}
+use Rattle.rk_inv_base.proofs.Words.{Entry, Held, IsEntryOf, IsKnown, IsLastAsked, IsLegal, IsLegal-append, IsReached, IsRest, IsStaged}
+use Rattle.rk_inv_base.proofs.Words.{LastCall, Map, Outcome, Placed, Range, TellAll, and_from, base_map, call_end, call_ends, change_of}
+use Rattle.rk_inv_base.proofs.Words.{cond-true, first_stands, has_record, is_mutation, is_record_in, item_end, items_in, items_of}
+use Rattle.rk_inv_base.proofs.Words.{legal_back, legal_push, map_after, map_after-append, map_with, next_record, none_stands, of_key}
+use Rattle.rk_inv_base.proofs.Words.{outcome_of, record_of_last, records_of, refusal_end, stands_cases, tells_of, told, told_by}
+use Rattle.rk_inv_base.proofs.Words.{with_change}
 use Rattle.rk_inv_base.proofs.calls.Histories.{record_for}
-use Rattle.rk_inv_base.proofs.views.Lists.{all_by}
 use Rattle.rk_inv_base.proofs.calls.MoreRecords.{known_still}
-use Rattle.rk_inv_rows.specs.lineage.Lineages.{TellHistory}
-use Rattle.rk_inv_rows.specs.lineage.Rebuilt.{made_by, made_of}
-use Rattle.rk_inv_logs.proofs.apply.Inserted.{AreNewest, IsInserted, above_first, above_inserted, inserted_kept, inserted_last, inserted_out, plain_inserted, same_items, told_cases, told_new, told_still}
-use Rattle.rk_inv_logs.proofs.apply.Applying.{IsCallEnd, call_ended, change_by, leaves_so}
-use Rattle.rk_inv_logs.proofs.apply.AppliedTruth.{live_last}
+use Rattle.rk_inv_logs.proofs.apply.AppliedCalls.{told_of_key}
 use Rattle.rk_inv_logs.proofs.apply.AppliedCounters.{key_floor, low_inserted, tells_its}
 use Rattle.rk_inv_logs.proofs.apply.AppliedRest.{all_staged}
+use Rattle.rk_inv_logs.proofs.apply.AppliedTruth.{live_last}
+use Rattle.rk_inv_logs.proofs.apply.Inserted.{AreNewest, IsInserted, above_first, above_inserted, inserted_kept, inserted_last}
+use Rattle.rk_inv_logs.proofs.apply.Inserted.{plain_inserted, same_items, told_cases, told_new}
+use Rattle.rk_inv_events.proofs.Words.{IsCallEnd, IsOfCall, TellHistory, all_by, call_ended, change_by, leaves_so, made_by, made_of}
 
 -- a call left an entry, ended so, and is the last that its client asked
 pub record HasLeft (asked : ℕ → Option LastCall) (journal : List Placed) (entry : Entry) : Type 0 where
@@ -35,16 +33,6 @@ pub record HasLeft (asked : ℕ → Option LastCall) (journal : List Placed) (en
   pub mutation : is_mutation call.op ≡ true
   pub unrecorded : has_record journal call.client call.seq ≡ false
   pub leaves : change_of call.op (outcome_of end.end) ≡ change_by entry
-
--- what is told of a key is told with one more entry
-told_of_key : (entry : Entry) (old now : List Entry) → IsInserted entry old now → (table : ℕ) (key : List ℕ) (end : Ended) → Contains (told (of_key table key old)) end → Contains (told (of_key table key now)) end
-told_of_key entry old now put table key end at =
-    ⊎_elim
-    (λ (tells : tells_of table key entry ≡ true).
-    told_still entry (of_key table key old) (of_key table key now) (inserted_kept entry old now put (tells_of table key) tells) told_by end at)
-    (λ (silent : tells_of table key entry ≡ false).
-    subst (λ (l : List Entry). Contains (told l) end) (sym (inserted_out entry old now put (tells_of table key) silent)) at)
-    (cases_Bool (tells_of table key entry))
 
 -- entries tell all with one more of them
 tell_with : (range : Range) (journal : List Placed) (entry : Entry) (old now : List Entry) → IsInserted entry old now → TellAll range journal old → TellAll range journal now
@@ -89,8 +77,7 @@ module _ (base : Base) (range : Range) (asked : ℕ → Option LastCall) where
 
     -- the end makes it
     makes : made_by journal left.end (asked left.end.client) ≡ new ∷ []
-    makes =
-        ap (made_by journal left.end) (ap asked left.ended.client ∙ left.asked_is)
+    makes = ap (made_by journal left.end) (ap asked left.ended.client ∙ left.asked_is)
         ∙ cond-true ((eqb left.call.seq left.end.seq) && not (has_record journal left.end.client left.end.seq)) (new ∷ []) []
         (and_from (eqb left.call.seq left.end.seq) (not (has_record journal left.end.client left.end.seq))
         (eq-eqb left.call.seq left.end.seq (sym left.ended.seq))
@@ -115,9 +102,8 @@ module _ (base : Base) (range : Range) (asked : ℕ → Option LastCall) where
         ∙ ap (λ (o : Option LastCall). record_of_last left.end o ++ more) (ap asked left.ended.client ∙ left.asked_is)
 
     was_legal : IsLegal map_was (record_for left.call outcome ∷ records_of asked (call_ends rest))
-    was_legal =
-        legal_back (base_map base) journal (record_for left.call outcome ∷ records_of asked (call_ends rest))
-        (subst (λ (more : List Placed). IsLegal (base_map base) (journal ++ more)) records_first was.goes_on.legal)
+    was_legal = legal_back (base_map base) journal (record_for left.call outcome ∷ records_of asked (call_ends rest))
+        (rw records_first at was.goes_on.legal)
 
     legal_now : IsLegal (base_map base) (journal ++ new ∷ [])
     legal_now = legal_push (base_map base) journal new legal was_legal.0
@@ -140,23 +126,23 @@ module _ (base : Base) (range : Range) (asked : ℕ → Option LastCall) where
     })
 
     tells_it : Contains (told_by entry) left.end
-    tells_it = subst (λ (l : List Ended). Contains l left.end) (sym left.ended.tells) (first_stands left.end [])
+    tells_it = rw left.ended.tells (first_stands left.end [])
 
     tells_end : (end : Ended) → Contains (told_by entry) end → left.end ≡ end
-    tells_end end at =
-        ⊎_elim (λ (is : left.end ≡ end). is) (λ (none : Contains [] end). absurd (none_stands end none))
-        (stands_cases left.end [] end (subst (λ (l : List Ended). Contains l end) left.ended.tells at))
+    tells_end end at = elim (stands_cases left.end [] end (subst (λ (l : List Ended). Contains l end) left.ended.tells at)) [
+      | inl is ↦ is
+      | inr none ↦ absurd (none_stands end none)
+    ]
 
     ends_now : TellAll range (journal ++ new ∷ []) now
     ends_now =
         All-push
-        (λ placed. is_record_in range placed ≡ true → is_mutation placed.call.op ≡ true
-        → IsReached (told (of_key placed.call.table placed.call.key now)) placed)
-        journal new (tell_with range journal entry truth now put was.ends)
-        (λ inside is. record {
+        (λ placed.
+        is_record_in range placed ≡ true → is_mutation placed.call.op ≡ true
+        → IsReached (told (of_key placed.call.table placed.call.key now)) placed) journal new
+        (tell_with range journal entry truth now put was.ends) (λ inside is. record {
           end = left.end;
-          stands =
-              told_new entry (of_key left.call.table left.call.key truth) (of_key left.call.table left.call.key now)
+          stands = told_new entry (of_key left.call.table left.call.key truth) (of_key left.call.table left.call.key now)
               (inserted_kept entry truth now put (tells_of left.call.table left.call.key) (tells_its left.call entry left.own)) told_by
               left.end tells_it;
           reaches = record { client = left.ended.client; reached = inr (sym left.ended.seq, refl) };
@@ -164,44 +150,33 @@ module _ (base : Base) (range : Range) (asked : ℕ → Option LastCall) where
 
     known_now : All (IsKnown base (journal ++ new ∷ [])) (told now)
     known_now =
-        all_by (IsKnown base (journal ++ new ∷ [])) (told now)
-        (λ end at.
-        ⊎_elim
-        (λ (own : Contains (told_by entry) end). subst (IsKnown base (journal ++ new ∷ [])) (tells_end end own) known_new)
-        (λ (old : Contains (told truth) end).
-        known_still journal (new ∷ []) base end (All-contains (IsKnown base journal) (told truth) end was.known old))
-        (told_cases entry truth now put told_by end at))
+        all_by (IsKnown base (journal ++ new ∷ [])) (told now) (λ end at. elim (told_cases entry truth now put told_by end at) [
+          | inl own ↦ subst (IsKnown base (journal ++ new ∷ [])) (tells_end end own) known_new
+          | inr old ↦ known_still journal (new ∷ []) base end (All-contains (IsKnown base journal) (told truth) end was.known old)
+        ])
 
     -- ---- what goes on
 
     its_one : AllPairs (λ x y. x.client ≢ y.client) (left.end ∷ call_ends rest)
-    its_one =
-        subst (λ (l : List Ended). AllPairs (λ x y. x.client ≢ y.client) (l ++ call_ends rest)) left.ended.ends_it was.goes_on.one
+    its_one = rw left.ended.ends_it at was.goes_on.one
 
     its_others : All (λ end. end.client ≢ left.call.client) (call_ends rest)
-    its_others k d within same =
-        its_one 0 (suc k) d (omega arith) (omega (arith, within)) (left.ended.client ∙ sym same)
+    its_others k d within same = its_one 0 (suc k) d (omega arith) (omega (arith, within)) (left.ended.client ∙ sym same)
 
     goes_on : IsRest base range now rest (journal ++ new ∷ []) asked
     goes_on =
         let start : Map = base_map base in
         let made : List Placed = records_of asked (call_ends rest) in
-        let behind : ◌≡◌ {A = Map} (map_after start ((journal ++ new ∷ []) ++ made)) (map_after (map_with map_was new) made) =
-        map_after-append start (journal ++ new ∷ []) made ∙ ap (λ (m : Map). map_after m made) map_with_new in
+        let behind = map_after-append start (journal ++ new ∷ []) made ∙ ap (λ (m : Map). map_after m made) map_with_new in
         record {
-          legal =
-              IsLegal-append start (journal ++ new ∷ []) made legal_now
-              (subst (λ (m : Map). IsLegal m made) (sym map_with_new) was_legal.1);
+          legal = IsLegal-append start (journal ++ new ∷ []) made legal_now (rw map_with_new was_legal.1);
           live = λ table key inside.
               ap (λ (l : List Entry). live_items (items_of l) table key) (append_assoc truth (entry ∷ []) rest)
               ∙ was.goes_on.live table key inside
               ∙ ap (λ (m : Map). map_record_of (m table key))
               (ap (λ (l : List Placed). map_after start (journal ++ l)) records_first
-              ∙ map_after-append start journal (record_for left.call outcome ∷ made)
-              ∙ sym behind);
-          staged =
-              all_staged base journal asked new rest its_others
-              (All-tail (IsStaged base asked journal) entry rest was.goes_on.staged);
+              ∙ map_after-append start journal (record_for left.call outcome ∷ made) ∙ sym behind);
+          staged = all_staged base journal asked new rest its_others (All-tail (IsStaged base asked journal) entry rest was.goes_on.staged);
           one = λ i j d before within. its_one (suc i) (suc j) d (omega (arith, before)) (omega (arith, within));
         }
 
@@ -216,9 +191,7 @@ module _ (base : Base) (range : Range) (asked : ℕ → Option LastCall) where
       above = above_inserted entry truth now rest put was.above;
       ends = ends_now;
       known = known_now;
-      low =
-          subst (λ (m : Map). AreAboveMap range m now) (sym map_is)
-          (low_inserted range map_was left.call entry truth now left.own put was.low);
+      low = rw map_is (low_inserted range map_was left.call entry truth now left.own put was.low);
       goes_on = goes_on;
     }
 
@@ -240,31 +213,25 @@ module _ (base : Base) (range : Range) (asked : ℕ → Option LastCall) where
     pub quiet_served : Tells with_it rest journal
     quiet_served = record {
       leaves = record {
-        plain = subst IsPlain (sym items_are) was.leaves.plain;
+        plain = rw items_are was.leaves.plain;
         live = λ table key inside. ap (λ (items : List Held). live_items items table key) items_are ∙ was.leaves.live table key inside;
       };
       above = above_inserted entry truth with_it rest put_last was.above;
       ends = tell_with range journal entry truth with_it put_last was.ends;
       known =
-          all_by (IsKnown base journal) (told with_it)
-          (λ end at.
-          ⊎_elim
-          (λ (own : Contains (told_by entry) end). All-contains (IsKnown base journal) (told_by entry) end known own)
-          (λ (old : Contains (told truth) end). All-contains (IsKnown base journal) (told truth) end was.known old)
-          (told_cases entry truth with_it put_last told_by end at));
-      low = λ table key inside.
-          let below = was.low table key inside in
-          let grows = key_floor entry truth with_it put_last table key in
-          omega (arith, below, grows);
+          all_by (IsKnown base journal) (told with_it) (λ end at. elim (told_cases entry truth with_it put_last told_by end at) [
+            | inl own ↦ All-contains (IsKnown base journal) (told_by entry) end known own
+            | inr old ↦ All-contains (IsKnown base journal) (told truth) end was.known old
+          ]);
+      low = λ table key inside. omega (arith, was.low table key inside, key_floor entry truth with_it put_last table key);
       goes_on = record {
-        legal = subst (λ (more : List Placed). IsLegal (base_map base) (journal ++ more)) records_are was.goes_on.legal;
+        legal = rw records_are at was.goes_on.legal;
         live = λ table key inside.
             ap (λ (l : List Entry). live_items (items_of l) table key) (append_assoc truth (entry ∷ []) rest)
             ∙ was.goes_on.live table key inside
             ∙ ap (λ (more : List Placed). map_record_of (map_after (base_map base) (journal ++ more) table key)) records_are;
         staged = All-tail (IsStaged base asked journal) entry rest was.goes_on.staged;
-        one =
-            subst (λ (l : List Ended). AllPairs (λ x y. x.client ≢ y.client) (l ++ call_ends rest)) no_end was.goes_on.one;
+        one = rw no_end at was.goes_on.one;
       };
     }
 
@@ -281,8 +248,14 @@ module _ (base : Base) (range : Range) (asked : ℕ → Option LastCall) where
     of_last journal entry client seq table key last of staged =
         let call : Call = last.last.call in
         let client_is : call.client ≡ client = own client last.last last.asked_is in
-        let its : IsEntryOf call entry =
-        of call (record { client_is = client_is; seq_is = last.seq_is; table_is = last.table_is; key_is = last.key_is }) in
+        let its =
+        of call
+        (record {
+          client_is = client_is;
+          seq_is = last.seq_is;
+          table_is = last.table_is;
+          key_is = last.key_is;
+        }) in
         let asked_is : asked call.client ≡ Some last.last = ap asked client_is ∙ last.asked_is in
         let ended = call_ended call entry its in
         record {
@@ -294,67 +267,55 @@ module _ (base : Base) (range : Range) (asked : ℕ → Option LastCall) where
           ended = ended.1;
           mutation = last.mutation;
           unrecorded = (λ i. has_record journal (client_is i) (last.seq_is i)) ∙ last.unrecorded;
-          leaves =
-              leaves_so base journal asked call entry ended.0 (subst (λ (o : Option LastCall). IsLast o call) (sym asked_is) refl) its ended.1 staged;
+          leaves = leaves_so base journal asked call entry ended.0 (rw asked_is refl) its ended.1 staged;
         }
 
     abbrev made : List Placed → List Ended → List Placed
     made = made_of asked
 
-    -- what one end makes stands before what the others make
-    joined : (truth part left : List Entry) (entry : Entry) (journal : List Placed) (end : Ended) (new : Placed) → made_by journal end (asked end.client) ≡ new ∷ [] → IsServed ((truth ++ entry ∷ []) ++ part) left ((journal ++ new ∷ []) ++ made (journal ++ new ∷ []) (call_ends part))
+    -- the first entry is that of a call, which gets its record before the others get theirs
+    call_first : (truth part left : List Entry) (entry : Entry) (journal : List Placed) (end : Ended)
+        (was : IsServed truth (entry ∷ part ++ left) journal)
+        (its : HasLeft asked journal entry) → its.end ≡ end
+        → ((later : List Placed) → IsServed (truth ++ entry ∷ []) (part ++ left) later
+        → IsServed ((truth ++ entry ∷ []) ++ part) left (later ++ made later (call_ends part)))
         → IsServed (truth ++ entry ∷ part) left (journal ++ made journal (end ∷ call_ends part))
-    joined truth part left entry journal end new makes done =
-        subst (λ (j : List Placed). IsServed (truth ++ entry ∷ part) left j)
+    call_first truth part left entry journal end was its end_is others =
+        let new : Placed = next_record journal its.call (outcome_of its.end.end) its.seen in
+        let makes_it : made_by journal end (asked end.client) ≡ new ∷ [] =
+        subst (λ (e : Ended). made_by journal e (asked e.client) ≡ new ∷ []) end_is
+        (makes truth (part ++ left) entry journal was.history was.legal its) in
+        let done =
+        others (journal ++ new ∷ []) (record {
+          legal = legal_now truth (part ++ left) entry journal was.history was.legal its;
+          history = call_served truth (part ++ left) entry journal was.history was.legal its;
+        }) in
+        rw
         (append_assoc journal (new ∷ []) (made (journal ++ new ∷ []) (call_ends part))
-        ∙ ap (λ (l : List Placed). journal ++ (l ++ made (journal ++ l) (call_ends part))) (sym makes))
-        (subst (λ (t : List Entry). IsServed t left ((journal ++ new ∷ []) ++ made (journal ++ new ∷ []) (call_ends part)))
-        (append_assoc truth (entry ∷ []) part) done)
+        ∙ ap (λ (l : List Placed). journal ++ (l ++ made (journal ++ l) (call_ends part))) (sym makes_it)) at
+        (rw (append_assoc truth (entry ∷ []) part) at done)
 
     pub all_served : (truth part left : List Entry) (journal : List Placed) → IsServed truth (part ++ left) journal → IsServed (truth ++ part) left (journal ++ made journal (call_ends part))
-    all_served truth [] left journal was =
-        subst (λ (t : List Entry). IsServed t left (journal ++ [])) (sym (append-nil truth))
-        (subst (IsServed truth left) (sym (append-nil journal)) was)
+    all_served truth [] left journal was = rw (append-nil truth) (rw (append-nil journal) was)
     all_served truth (entries.Held held ∷ part) left journal was =
         let entry : Entry = entries.Held held in
-        let staged : IsStaged base asked journal entry = All-head (IsStaged base asked journal) entry (part ++ left) was.history.goes_on.staged in
-        let its : HasLeft asked journal entry =
-        of_last journal entry held.client held.seq held.table held.key staged.last (λ call of. of) staged in
-        let new : Placed = next_record journal its.call (outcome_of its.end.end) its.seen in
-        let end_is : its.end ≡ item_end held = cc its.ended.ends_it in
-        joined truth part left entry journal (item_end held) new
-        (subst (λ (e : Ended). made_by journal e (asked e.client) ≡ new ∷ []) end_is (makes truth (part ++ left) entry journal was.history was.legal its))
-        (all_served (truth ++ entry ∷ []) part left (journal ++ new ∷ [])
-        (record {
-          legal = legal_now truth (part ++ left) entry journal was.history was.legal its;
-          history = call_served truth (part ++ left) entry journal was.history was.legal its;
-        }))
+        let staged = All-head (IsStaged base asked journal) entry (part ++ left) was.history.goes_on.staged in
+        let its = of_last journal entry held.client held.seq held.table held.key staged.last (λ call of. of) staged in
+        call_first truth part left entry journal (item_end held) was its (cc its.ended.ends_it) (all_served (truth ++ entry ∷ []) part left)
     all_served truth (entries.Refused refused ∷ part) left journal was =
         let entry : Entry = entries.Refused refused in
-        let staged : IsStaged base asked journal entry = All-head (IsStaged base asked journal) entry (part ++ left) was.history.goes_on.staged in
-        let its : HasLeft asked journal entry =
-        of_last journal entry refused.client refused.seq refused.table refused.key staged (λ call of. of) staged in
-        let new : Placed = next_record journal its.call (outcome_of its.end.end) its.seen in
-        let end_is : its.end ≡ refusal_end refused = cc its.ended.ends_it in
-        joined truth part left entry journal (refusal_end refused) new
-        (subst (λ (e : Ended). made_by journal e (asked e.client) ≡ new ∷ []) end_is (makes truth (part ++ left) entry journal was.history was.legal its))
-        (all_served (truth ++ entry ∷ []) part left (journal ++ new ∷ [])
-        (record {
-          legal = legal_now truth (part ++ left) entry journal was.history was.legal its;
-          history = call_served truth (part ++ left) entry journal was.history was.legal its;
-        }))
+        let staged = All-head (IsStaged base asked journal) entry (part ++ left) was.history.goes_on.staged in
+        let its = of_last journal entry refused.client refused.seq refused.table refused.key staged (λ call of. of) staged in
+        call_first truth part left entry journal (refusal_end refused) was its (cc its.ended.ends_it) (all_served (truth ++ entry ∷ []) part left)
     all_served truth (entries.Carried carried ∷ part) left journal was =
         let entry : Entry = entries.Carried carried in
-        let staged : IsStaged base asked journal entry = All-head (IsStaged base asked journal) entry (part ++ left) was.history.goes_on.staged in
-        subst (λ (t : List Entry). IsServed t left (journal ++ made journal (call_ends part))) (append_assoc truth (entry ∷ []) part)
+        let staged = All-head (IsStaged base asked journal) entry (part ++ left) was.history.goes_on.staged in
+        rw (append_assoc truth (entry ∷ []) part) at
         (all_served (truth ++ entry ∷ []) part left journal
-        (record {
-          legal = was.legal;
-          history = quiet_served truth (part ++ left) entry journal was.history refl refl staged;
-        }))
+        (record { legal = was.legal; history = quiet_served truth (part ++ left) entry journal was.history refl refl staged }))
     all_served truth (entries.Joined joining ∷ part) left journal was =
         let entry : Entry = entries.Joined joining in
-        subst (λ (t : List Entry). IsServed t left (journal ++ made journal (call_ends part))) (append_assoc truth (entry ∷ []) part)
+        rw (append_assoc truth (entry ∷ []) part) at
         (all_served (truth ++ entry ∷ []) part left journal
         (record {
           legal = was.legal;
@@ -370,10 +331,9 @@ module _ (base : Base) (range : Range) (asked : ℕ → Option LastCall) where
     known = was.history.known;
     low = was.history.low;
     goes_on = record {
-      legal = subst (IsLegal (base_map base)) (sym (append-nil journal)) was.legal;
+      legal = rw (append-nil journal) was.legal;
       live = λ table key inside.
-          ap (λ (l : List Entry). live_items (items_of l) table key) (append-nil truth)
-          ∙ was.history.leaves.live table key inside
+          ap (λ (l : List Entry). live_items (items_of l) table key) (append-nil truth) ∙ was.history.leaves.live table key inside
           ∙ ap (λ (j : List Placed). map_record_of (map_after (base_map base) j table key)) (sym (append-nil journal));
       staged = All-nil (IsStaged base asked journal);
       one = λ i j d before within. absurd (omega (arith, within));

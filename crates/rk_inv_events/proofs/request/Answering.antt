@@ -1,34 +1,31 @@
--- A sound lane stays sound when a master answers a Request and serves no call: it ignores it, tells of another master, or asks the client
--- to come again, once what it lacks of the key is wanted.
-use Rattle.std.proofs.Common.{◌≡◌, ℕ, List, [], ◌∷◌, sym, ap, subst, append-nil}
-use Rattle.rk_inv_base.proofs.Words.{hash_of, Request, Message, Ledger, with_marks, Master, filled, answering, call_of, worked_at, changed}
-use Rattle.rk_inv_base.proofs.Words.{sending, World, master_at, with_all_sent, with_ledger, with_master, Redirects, Ignores, Wants, Mark}
-use Rattle.rk_inv_base.proofs.Words.{MaySend, view, IsSound}
+-- A sound lane stays sound when a master takes a Request, where it does so with what the master chooses at each living master. So it does
+-- when a master answers and serves no call: it ignores the Request, tells of another master, or asks the client to come again, once what it
+-- lacks of the key is wanted.
+use Rattle.std.proofs.Common.{ap, not, subst, sym, true, ℕ, ◌≡◌}
 use Rattle.rk_types.specs.declared.call.Answer.TheVariants as answers
 use Rattle.rk_world.specs.Requests.{hash_wanted}
+use Rattle.rk_inv_base.proofs.Words.{Choice, Ignores, IsSound, Master, Redirects, Request, Wants, World, answering, call_of, chosen}
+use Rattle.rk_inv_base.proofs.Words.{hash_of, lives, master_at, to_master, view, with_master, worked_at}
 use Rattle.rk_inv_base.proofs.pulls.HashWanted.{sound_wanted}
-use Rattle.rk_inv_base.proofs.wire.Sent.{sound_sent}
-use Rattle.rk_inv_events.proofs.request.Replying.{may_reply, sound_unchanged}
-use Rattle.rk_inv_events.proofs.request.Choosing.{done_as}
+use Rattle.rk_inv_events.proofs.events.Sending.{may_reply}
+use Rattle.rk_inv_events.proofs.events.Working.{reached_or_lost, sound_changed, sound_sending, sound_unchanged}
+use Rattle.rk_inv_events.specs.request.Small.{choice_in, request_message}
 
--- where no piece is marked the ledger keeps its marks
-pub marks_same : (ledger : Ledger) → with_marks ledger [] ≡ ledger
-marks_same ledger = ap (λ (marks : List Mark). record ledger { marks = marks }) (append-nil ledger.marks)
+-- the world once a master did what this choice says with a Request
+abbrev pub done_as : World → ℕ → ℕ → Request → Choice → World
+done_as w master client request choice =
+    (worked_at w master request.seen (chosen (master_at w master) request.tablet (call_of client request) choice)).world
 
--- a master has changed, and nothing else happens
-pub sound_changed : (w : World) (master seen : ℕ) (now : Master) → IsSound (with_master w master now) → IsSound (worked_at w master seen (changed now)).world
-sound_changed w master seen now sound =
-    subst (λ (l : Ledger). IsSound (with_ledger (with_master w master now) l)) (sym (marks_same w.ledger)) sound
+pub sound_chosen : (w : World) (master client : ℕ) (request : Request) (choice : Choice) → IsSound w
+    → choice_in w master client request ≡ choice
+    → (lives w master ≡ true → IsSound (done_as w master client request choice))
+    → IsSound (to_master w master (request_message client master request)).world
+sound_chosen w master client request choice sound is done =
+    reached_or_lost w master request.seen
+    (chosen (master_at w master) request.tablet (call_of client request) (choice_in w master client request)) sound
+    (λ alive. subst (λ (c : Choice). IsSound (done_as w master client request c)) (sym is) (done (ap not alive)))
 
--- a master has changed, and sends a message that may be sent once it is filled in
-pub sound_sending : (w : World) (master seen : ℕ) (now : Master) (message : Message) → IsSound (with_master w master now)
-    → MaySend (view (with_master w master now)) (filled w.ledger.journal [] message)
-    → IsSound (worked_at w master seen (sending now message)).world
-sound_sending w master seen now message sound may =
-    let after = with_master w master now in
-    subst (λ (l : Ledger). IsSound (with_all_sent (with_ledger after l) (filled w.ledger.journal [] message ∷ [])))
-    (sym (marks_same w.ledger))
-    (sound_sent after (filled w.ledger.journal [] message) sound may)
+-- ---- it serves no call
 
 module _ (w : World) (master client : ℕ) (request : Request) (sound : IsSound w) where
   pub sound_ignored : IsSound (done_as w master client request Ignores)

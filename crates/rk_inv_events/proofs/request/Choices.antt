@@ -1,13 +1,14 @@
 -- What a master found, by what it chose to do with a call.
-use Rattle.std.proofs.Common.{◌≡◌, ℕ, Bool, true, false, cond, List, Option, Some, None, refl, sym, subst, ◌∙◌, ◌==◌, is_some, not, ◌&&◌}
-use Rattle.rk_inv_base.proofs.Words.{⊤, hash_of, Call, End, Op, is_mutation, look, record_of, Master, serving, choice_of, fresh_choice}
-use Rattle.rk_inv_base.proofs.Words.{is_known, needs_state, operation, state_of, version_of, Tablet, Choice, Redirects, Repeats, Ignores}
-use Rattle.rk_inv_base.proofs.Words.{Wants, Writes, Refuses}
-use Rattle.rk_types.specs.declared.call.Op.TheVariants as ops
+use Rattle.std.proofs.Common.{Bool, None, Option, Some, ap, cond, false, is_some, not, refl, subst, sym, true, ℕ, ◌&&◌, ◌==◌, ◌∙◌, ◌≡◌}
 use Rattle.rk_done.specs.declared.completion.Look.{Look}
 use Rattle.rk_done.specs.declared.completion.Look.TheVariants as looks
-use Rattle.rk_world.specs.Master.{is_staged}
-use Rattle.rk_world.specs.Requests.{choice_at, mutation_choice}
+use Rattle.rk_types.specs.declared.call.Op.TheVariants as ops
+use Rattle.rk_world.specs.Requests.{choice_at, mutation_choice, read_of}
+use Rattle.rk_inv_base.proofs.Words.{Call, Choice, End, Held, Ignores, Master, Op, Outcome, Reads, Redirects, Refuses, Repeats, Tablet}
+use Rattle.rk_inv_base.proofs.Words.{Wants, Writes, choice_of, cond_both, fresh_choice, hash_of, is_known, is_mutation, look, needs_state}
+use Rattle.rk_inv_base.proofs.Words.{operation, record_of, serving, state_of, version_of, ⊤}
+use Rattle.rk_inv_events.proofs.Words.{is_staged, not-false}
+use Rattle.rk_inv_events.specs.answer.Small.{StagesNothing}
 
 -- a call that ended is repeated: a tablet serves it whose completions have the end
 pub record IsRepeated (master : Master) (call : Call) (end : End) : Type 0 where
@@ -33,93 +34,135 @@ IsOfFresh (Repeats end) = ⊥
 IsOfFresh Ignores = ⊥
 IsOfFresh choice = ⊤
 
--- a fresh call is not repeated
-never_repeats : (number : ℕ) (op : Op) (found : Option (ℕ × List ℕ)) (end : End) → operation number op found ≡ Repeats end → ⊥
-never_repeats number ops.Get found end is = absurd (cc is)
-never_repeats number (ops.Put value) found end is = absurd (cc is)
-never_repeats number (ops.CondPut expected value) found end is = by (expected == version_of found) is
+-- ---- a fresh call
+
+-- what is done with a fresh call: what is lacking of its key is wanted, a get of which all is known tells what was found, and a mutation is
+-- staged
+data FreshIs (number : ℕ) (tablet : Tablet) (call : Call) (state : Option Held) : Choice → Type 0 where
+  wants : FreshIs number tablet call state (Wants number)
+  finds :
+      call.op ≡ ops.Get → is_known tablet (hash_of call.key) state ≡ true
+      → FreshIs number tablet call state (Reads (read_of (record_of state)))
+  stages : (choice : Choice) → is_mutation call.op ≡ true → (StagesNothing choice → ⊥) → FreshIs number tablet call state choice
+
+module _ (number : ℕ) (tablet : Tablet) (call : Call) (state : Option Held) where
+  abbrev Is : Choice → Type 0
+  Is = FreshIs number tablet call state
+
+  fresh_is : Is (fresh_choice number tablet call state)
+  fresh_is = cond_both (needs_state call.op && not (is_known tablet (hash_of call.key) state)) (Wants number)
+      (operation number call.op (record_of state)) Is (λ lacks. wants) (by_op call.op refl)
+    where
+      by_op : (op : Op) → call.op ≡ op → (needs_state op && not (is_known tablet (hash_of call.key) state)) ≡ false
+          → Is (operation number op (record_of state))
+      by_op ops.Get is has = finds is (not-false (is_known tablet (hash_of call.key) state) has)
+      by_op (ops.Put value) is has = stages (Writes number (Some value)) (ap is_mutation is) (λ none. none)
+      by_op (ops.CondPut expected value) is has =
+          cond_both (expected == version_of (record_of state)) (Writes number (Some value)) (Refuses (version_of (record_of state)) false) Is
+          (λ same. stages (Writes number (Some value)) (ap is_mutation is) (λ none. none))
+          (λ other. stages (Refuses (version_of (record_of state)) false) (ap is_mutation is) (λ none. none))
+      by_op ops.Delete is has = cond_both (is_some (record_of state)) (Writes number None) (Refuses 0 true) Is
+          (λ there. stages (Writes number None) (ap is_mutation is) (λ none. none))
+          (λ gone. stages (Refuses 0 true) (ap is_mutation is) (λ none. none))
+
+  never_repeats : (end : End) → fresh_choice number tablet call state ≡ Repeats end → ⊥
+  never_repeats end = go fresh_is
+    where
+      go : {choice : Choice} → Is choice → choice ≡ Repeats end → ⊥
+      go wants is = absurd (cc is)
+      go (finds op known) is = absurd (cc is)
+      go (stages choice mutates never) is = never (subst StagesNothing (sym is) tt)
+
+  -- a get of which all is known tells what was found
+  pub record IsRead (outcome : Outcome) : Type 0 where
+    pub op_is : call.op ≡ ops.Get
+    pub known : is_known tablet (hash_of call.key) state ≡ true
+    pub outcome_is : outcome ≡ read_of (record_of state)
+
+  pub reads : (outcome : Outcome) → fresh_choice number tablet call state ≡ Reads outcome → IsRead outcome
+  reads outcome = go fresh_is
+    where
+      go : {choice : Choice} → Is choice → choice ≡ Reads outcome → IsRead outcome
+      go wants is = absurd (cc is)
+      go (finds op known) is = let same : read_of (record_of state) ≡ outcome = cc is in record { op_is = op; known = known; outcome_is = sym same }
+      go (stages choice mutates never) is = absurd (never (subst StagesNothing (sym is) tt))
+
+  -- only a mutation is staged
+  pub staging_mutates : (choice : Choice) → fresh_choice number tablet call state ≡ choice → (StagesNothing choice → ⊥) → is_mutation call.op ≡ true
+  staging_mutates choice = go fresh_is
+    where
+      go : {made : Choice} → Is made → made ≡ choice → (StagesNothing choice → ⊥) → is_mutation call.op ≡ true
+      go wants is stages_it = absurd (stages_it (subst StagesNothing is tt))
+      go (finds op known) is stages_it = absurd (stages_it (subst StagesNothing is tt))
+      go (stages made mutates never) is stages_it = mutates
+
+-- ---- what was chosen
+
+-- a call that a master chose to do something with
+data Chose (master : Master) (call : Call) : Choice → Type 0 where
+  redirects : Chose master call Redirects
+  ignores : Chose master call Ignores
+  repeated : (end : End) → IsRepeated master call end → Chose master call (Repeats end)
+  as_fresh : (choice : Choice) → IsFresh master call choice → Chose master call choice
+
+chose : (master : Master) (call : Call) → Chose master call (choice_of master call)
+chose master call = at (serving master call.table call.key) refl
   where
-    by : (b : Bool) → cond b (Writes number (Some value)) (Refuses (version_of found) false) ≡ Repeats end → ⊥
-    by true is = absurd (cc is)
-    by false is = absurd (cc is)
-never_repeats number ops.Delete found end is = by (is_some found) is
-  where
-    by : (b : Bool) → cond b (Writes number None) (Refuses 0 true) ≡ Repeats end → ⊥
-    by true is = absurd (cc is)
-    by false is = absurd (cc is)
-
-fresh_apart : (master : Master) (number : ℕ) (tablet : Tablet) (call : Call) (end : End) → fresh_choice number tablet call (state_of master call) ≡ Repeats end → ⊥
-fresh_apart master number tablet call end is =
-    by (needs_state call.op && not (is_known tablet (hash_of call.key) (state_of master call))) is
-  where
-    by : (b : Bool) → cond b (Wants number) (operation number call.op (record_of (state_of master call))) ≡ Repeats end → ⊥
-    by true is = absurd (cc is)
-    by false is = never_repeats number call.op (record_of (state_of master call)) end is
-
-pub repeats : (master : Master) (call : Call) (end : End) → choice_of master call ≡ Repeats end → IsRepeated master call end
-repeats master call end chose = at (serving master call.table call.key) refl chose
-  where
-    unstaged : (number : ℕ) (tablet : Tablet) (b : Bool) → cond b Ignores (fresh_choice number tablet call (state_of master call)) ≡ Repeats end → ⊥
-    unstaged number tablet true is = absurd (cc is)
-    unstaged number tablet false is = fresh_apart master number tablet call end is
-
-    by : (number : ℕ) (tablet : Tablet) → serving master call.table call.key ≡ Some (number, tablet)
-        → (mutates : Bool) → is_mutation call.op ≡ mutates
-        → (known : Look) → look tablet.completions call.client call.seq ≡ known
-        → cond mutates (mutation_choice master number tablet call known) (fresh_choice number tablet call (state_of master call)) ≡ Repeats end
-        → IsRepeated master call end
-    by number tablet serves false mutates known looked is = absurd (fresh_apart master number tablet call end is)
-    by number tablet serves true mutates looks.New looked is = absurd (unstaged number tablet (is_staged master call.client call.seq) is)
-    by number tablet serves true mutates (looks.Same other) looked is =
-        let same : other ≡ end = cc is in
-        record { number = number; tablet = tablet; serves = serves; mutation = mutates; same = looked ∙ (λ i. looks.Same (same i)) }
-    by number tablet serves true mutates (looks.Old seq) looked is = absurd (cc is)
-
-    at : (found : Option (ℕ × Tablet)) → serving master call.table call.key ≡ found → choice_at master call found ≡ Repeats end → IsRepeated master call end
-    at None serves is = absurd (cc is)
-    at (Some (number, tablet)) serves is =
-        by number tablet serves (is_mutation call.op) refl (look tablet.completions call.client call.seq) refl is
-
-pub fresh : (master : Master) (call : Call) (choice : Choice) → IsOfFresh choice → choice_of master call ≡ choice → IsFresh master call choice
-fresh master call choice of_fresh chose = at (serving master call.table call.key) refl chose
-  where
-    -- a choice that is made for no fresh call
-    other : (made : Choice) → made ≡ choice → (IsOfFresh made → ⊥) → ⊥
-    other made is none = none (subst IsOfFresh (sym is) of_fresh)
-
     unstaged : (number : ℕ) (tablet : Tablet) → serving master call.table call.key ≡ Some (number, tablet)
         → look tablet.completions call.client call.seq ≡ looks.New
         → (b : Bool) → is_staged master call.client call.seq ≡ b
-        → cond b Ignores (fresh_choice number tablet call (state_of master call)) ≡ choice → IsFresh master call choice
-    unstaged number tablet serves new true staged is = absurd (other Ignores is (λ none. none))
-    unstaged number tablet serves new false staged is = record {
-      number = number;
-      tablet = tablet;
-      serves = serves;
-      new = λ mutates. new;
-      unstaged = λ mutates. staged;
-      choice_is = is;
-    }
+        → Chose master call (cond b Ignores (fresh_choice number tablet call (state_of master call)))
+    unstaged number tablet serves new true staged = ignores
+    unstaged number tablet serves new false staged =
+        as_fresh (fresh_choice number tablet call (state_of master call))
+        (record {
+          number = number;
+          tablet = tablet;
+          serves = serves;
+          new = λ mutates. new;
+          unstaged = λ mutates. staged;
+          choice_is = refl;
+        })
 
     by : (number : ℕ) (tablet : Tablet) → serving master call.table call.key ≡ Some (number, tablet)
         → (mutates : Bool) → is_mutation call.op ≡ mutates
         → (known : Look) → look tablet.completions call.client call.seq ≡ known
-        → cond mutates (mutation_choice master number tablet call known) (fresh_choice number tablet call (state_of master call)) ≡ choice
-        → IsFresh master call choice
-    by number tablet serves false reads known looked is = record {
-      number = number;
-      tablet = tablet;
-      serves = serves;
-      new = λ mutates. absurd (cc (reads, mutates));
-      unstaged = λ mutates. absurd (cc (reads, mutates));
-      choice_is = is;
-    }
-    by number tablet serves true mutates looks.New looked is =
-        unstaged number tablet serves looked (is_staged master call.client call.seq) refl is
-    by number tablet serves true mutates (looks.Same end) looked is = absurd (other (Repeats end) is (λ none. none))
-    by number tablet serves true mutates (looks.Old seq) looked is = absurd (other Ignores is (λ none. none))
+        → Chose master call (cond mutates (mutation_choice master number tablet call known) (fresh_choice number tablet call (state_of master call)))
+    by number tablet serves false reads known looked =
+        as_fresh (fresh_choice number tablet call (state_of master call))
+        (record {
+          number = number;
+          tablet = tablet;
+          serves = serves;
+          new = λ mutates. absurd (cc (reads, mutates));
+          unstaged = λ mutates. absurd (cc (reads, mutates));
+          choice_is = refl;
+        })
+    by number tablet serves true mutates looks.New looked =
+        unstaged number tablet serves looked (is_staged master call.client call.seq) refl
+    by number tablet serves true mutates (looks.Same end) looked =
+        repeated end (record { number = number; tablet = tablet; serves = serves; mutation = mutates; same = looked })
+    by number tablet serves true mutates (looks.Old seq) looked = ignores
 
-    at : (found : Option (ℕ × Tablet)) → serving master call.table call.key ≡ found → choice_at master call found ≡ choice → IsFresh master call choice
-    at None serves is = absurd (other Redirects is (λ none. none))
-    at (Some (number, tablet)) serves is =
-        by number tablet serves (is_mutation call.op) refl (look tablet.completions call.client call.seq) refl is
+    at : (found : Option (ℕ × Tablet)) → serving master call.table call.key ≡ found → Chose master call (choice_at master call found)
+    at None serves = redirects
+    at (Some (number, tablet)) serves =
+        by number tablet serves (is_mutation call.op) refl (look tablet.completions call.client call.seq) refl
+
+pub repeats : (master : Master) (call : Call) (end : End) → choice_of master call ≡ Repeats end → IsRepeated master call end
+repeats master call end = go (chose master call)
+  where
+    go : {choice : Choice} → Chose master call choice → choice ≡ Repeats end → IsRepeated master call end
+    go redirects is = absurd (cc is)
+    go ignores is = absurd (cc is)
+    go (repeated other its) is = let same : other ≡ end = cc is in subst (IsRepeated master call) same its
+    go (as_fresh choice its) is = absurd (never_repeats its.number its.tablet call (state_of master call) end (its.choice_is ∙ is))
+
+pub fresh : (master : Master) (call : Call) (choice : Choice) → IsOfFresh choice → choice_of master call ≡ choice → IsFresh master call choice
+fresh master call choice of_fresh = go (chose master call)
+  where
+    go : {made : Choice} → Chose master call made → made ≡ choice → IsFresh master call choice
+    go redirects is = absurd (subst IsOfFresh (sym is) of_fresh)
+    go ignores is = absurd (subst IsOfFresh (sym is) of_fresh)
+    go (repeated end its) is = absurd (subst IsOfFresh (sym is) of_fresh)
+    go (as_fresh made its) is = subst (IsFresh master call) is its

@@ -1,20 +1,45 @@
 -- A lane stays sound when a living master applies the entries that every backup is known to hold, one after the other, and each call that
 -- ends with one of them has its record then.
-use Rattle.std.proofs.Common.{◌≡◌, ℕ, ◌<◌, ◌≤◌, Bool, true, false, cond, List, [], ◌∷◌, ◌++◌, Option, Some, None, refl, sym, ap, ◌∙◌, subst}
-use Rattle.std.proofs.Common.{arith, take, drop, slice_get, All, append_assoc}
-use Rattle.rk_inv_base.proofs.Words.{cond-false, cond-true, All-append, All-cons, All-nil, All-weaker, fold-append, get, Call, Ended}
-use Rattle.rk_inv_base.proofs.Words.{Placed, is_mutation, Entry, committed, apply_entries, apply_entry, with_ended, outcome_of, told_by}
-use Rattle.rk_inv_base.proofs.Words.{has_record, next_record, Ledger, asked_by, seen_of, with_all_served, with_mutation, with_record}
-use Rattle.rk_inv_base.proofs.Words.{Master, Worked, World, lives, master_at, Served, MayApply, view, IsSound}
-use Rattle.rk_world.specs.Ledger.{with_served}
-use Rattle.rk_inv_base.proofs.views.Masters.{master_same}
-use Rattle.rk_inv_logs.specs.apply.Small.{entry_applied_in, worked_in}
-use Rattle.rk_inv_logs.proofs.apply.Applying.{Applying, applying, its_last, mutation}
+use Rattle.std.proofs.Common.{All, List, None, Option, Some, [], ap, append_assoc, arith, cond, drop, false, length-take, refl, slice_get}
+use Rattle.std.proofs.Common.{subst, suc, sym, take, take-append-drop, true, zero, ℕ, ◌++◌, ◌+◌, ◌<◌, ◌∙◌, ◌∷◌, ◌≡◌, ◌≤◌}
+use Rattle.std.proofs.Math.Numerals.{add-one}
+use Rattle.rk_inv_base.proofs.Words.{All-append, All-cons, All-nil, All-weaker, Call, Ended, Entry, IsSound, Ledger, Master, MayApply}
+use Rattle.rk_inv_base.proofs.Words.{Placed, Served, Worked, World, apply_entries, apply_entry, asked_by, committed, cond-false, cond-true}
+use Rattle.rk_inv_base.proofs.Words.{cond_both, fold-append, get, has_record, is_mutation, lives, master_at, next_record, outcome_of}
+use Rattle.rk_inv_base.proofs.Words.{seen_of, slice_get_front, slice_get_within, told_by, view, with_all_served, with_ended, with_mutation}
+use Rattle.rk_inv_base.proofs.Words.{with_record}
 use Rattle.rk_inv_logs.proofs.apply.EntryApplied.{sound_applied}
-use Rattle.rk_inv_events.specs.stored.Small.{with_work}
-use Rattle.rk_inv_events.proofs.stored.NextEntries.{next_stands, next_within, others_behind}
-use Rattle.rk_inv_events.proofs.stored.Twice.{insert_twice}
+use Rattle.rk_inv_events.proofs.Words.{Applying, applying, entry_applied_in, its_last, master_same, mutation, with_served, worked_in}
+use Rattle.rk_inv_events.proofs.events.Pairs.{insert_twice}
 use Rattle.rk_inv_events.proofs.stored.Work.{apply_is, entry_applied_next, entry_told, passed}
+use Rattle.rk_inv_events.specs.stored.Small.{with_work}
+
+-- ---- the next of the entries that are held, and those behind it
+
+module _ {X : Type 0} where
+  first_of : (list : List X) (place : ℕ) (x : X) (more : List X) → drop place list ≡ x ∷ more → slice_get list place ≡ Some x
+  first_of [] zero x more is = absurd (cc is)
+  first_of [] (suc place) x more is = absurd (cc is)
+  first_of (first ∷ list) zero x more is = cc is
+  first_of (first ∷ list) (suc place) x more is = first_of list place x more is
+
+  behind_first : (list : List X) (place : ℕ) (x : X) (more : List X) → drop place list ≡ x ∷ more → drop (suc place) list ≡ more
+  behind_first [] zero x more is = absurd (cc is)
+  behind_first [] (suc place) x more is = absurd (cc is)
+  behind_first (first ∷ list) zero x more is = cc is
+  behind_first (first ∷ list) (suc place) x more is = behind_first list place x more is
+
+  module _ (list : List X) (count place : ℕ) (x : X) (more : List X) (next : drop place (take count list) ≡ x ∷ more) where
+    pub next_stands : slice_get list place ≡ Some x
+    next_stands = rw (take-append-drop count list) at
+        (slice_get_front (take count list) (drop count list) place x (first_of (take count list) place x more next))
+
+    pub next_within : place < count
+    next_within =
+        omega (arith, slice_get_within (take count list) place x (first_of (take count list) place x more next), length-take count list)
+
+    pub others_behind : drop (place + 1) (take count list) ≡ more
+    others_behind = rw add-one (behind_first (take count list) place x more next)
 
 -- ---- the record of a served call
 
@@ -43,13 +68,14 @@ first_still journal more one has = record {
 }
 
 served_still : (ledger : Ledger) (next one : Served) → HasFirst ledger.journal one → HasFirst (with_served 0 ledger next).journal one
-served_still ledger next one has = by (is_mutation next.call.op) (has_record ledger.journal next.call.client next.call.seq)
-  where
-    by : (mutates known : Bool)
-        → HasFirst (cond mutates (cond known ledger (with_record ledger next.call next.outcome (seen_of (asked_by ledger next.call.client)))) (with_record ledger next.call next.outcome 0)).journal one
-    by true true = has
-    by true false = first_still ledger.journal _ one has
-    by false known = first_still ledger.journal _ one has
+served_still ledger next one has =
+    let Has : Ledger → Type 0 = λ (l : Ledger). HasFirst l.journal one in
+    let new : Ledger = with_record ledger next.call next.outcome (seen_of (asked_by ledger next.call.client)) in
+    cond_both (is_mutation next.call.op) (cond (has_record ledger.journal next.call.client next.call.seq) ledger new)
+    (with_record ledger next.call next.outcome 0) Has
+    (λ mutates.
+    cond_both (has_record ledger.journal next.call.client next.call.seq) ledger new Has (λ known. has)
+    (λ unknown. first_still ledger.journal _ one has)) (λ reads. first_still ledger.journal _ one has)
 
 all_still : (later : List Served) (ledger : Ledger) (one : Served) → HasFirst ledger.journal one → HasFirst (with_all_served 0 ledger later).journal one
 all_still [] ledger one has = has
@@ -62,28 +88,25 @@ module _ (w : World) (master : ℕ) (now : Master) (ledger : Ledger) where
   here = master_same w master now master refl
 
   step_is : (entry : Entry) → entry_applied_in (with_work w master now ledger) master entry ≡ with_work w master (apply_entry now entry).master (with_all_served 0 ledger (apply_entry now entry).served)
-  step_is entry =
-      ap (λ (m : Master). worked_in (with_work w master now ledger) master (apply_entry m entry)) here
+  step_is entry = ap (λ (m : Master). worked_in (with_work w master now ledger) master (apply_entry m entry)) here
       ∙ (λ i. record w {
-        masters = insert_twice master now (apply_entry now entry).master w.masters i;
+        masters = insert_twice w.masters master now (apply_entry now entry).master i;
         ledger = with_all_served 0 ledger (apply_entry now entry).served;
       })
 
   module _ (sound : IsSound (with_work w master now ledger)) (alive : lives w master ≡ true) (held : now.applied < committed now.log) (entry : Entry) (stands : slice_get now.log.entries now.applied ≡ Some entry) where
     may : MayApply (view (with_work w master now ledger)) master
-    may = record { lives = alive; held = subst (λ (m : Master). m.applied < committed m.log) (sym here) held }
+    may = record { lives = alive; held = rw here held }
 
     sound_step : IsSound (with_work w master (apply_entry now entry).master (with_all_served 0 ledger (apply_entry now entry).served))
-    sound_step =
-        subst IsSound (step_is entry)
+    sound_step = subst IsSound (step_is entry)
         (sound_applied (with_work w master now ledger) master sound may entry
         (subst (λ (m : Master). slice_get m.log.entries m.applied ≡ Some entry) (sym here) stands))
 
     -- the call that waits for it has no record yet, and gets it
     module _ (call : Call) (waits : get now.calls now.applied ≡ Some call) where
       abbrev its : Applying (view (with_work w master now ledger))
-      its = applying (view (with_work w master now ledger)) master call sound
-          (record { held = may; waits = subst (λ (m : Master). get m.calls m.applied ≡ Some call) (sym here) waits })
+      its = applying (view (with_work w master now ledger)) master call sound (record { held = may; waits = rw here waits })
 
       gets : (end : Ended) → HasFirst (with_all_served 0 ledger ((record { call = call; outcome = outcome_of end.end }) ∷ [])).journal (record { call = call; outcome = outcome_of end.end })
       gets end =
@@ -93,7 +116,7 @@ module _ (w : World) (master : ℕ) (now : Master) (ledger : Ledger) where
           let is : with_served 0 ledger one ≡ new =
           cond-true (is_mutation call.op) (with_mutation ledger one) (with_record ledger call (outcome_of end.end) 0) (mutation v its)
           ∙ cond-false (has_record ledger.journal call.client call.seq) ledger new (its_last v its).unrecorded in
-          subst (λ (l : Ledger). HasFirst l.journal one) (sym is)
+          rw is
           (record {
             before = ledger.journal;
             placed = next_record ledger.journal call (outcome_of end.end) (seen_of (asked_by ledger call.client));
@@ -106,9 +129,7 @@ module _ (w : World) (master : ℕ) (now : Master) (ledger : Ledger) where
           })
 
     step_has : All (HasFirst (with_all_served 0 ledger (apply_entry now entry).served).journal) (apply_entry now entry).served
-    step_has =
-        subst (λ (worked : Worked). All (HasFirst (with_all_served 0 ledger worked.served).journal) worked.served) (sym (apply_is now entry))
-        (by (get now.calls now.applied) refl (told_by entry))
+    step_has = rw (apply_is now entry) (by (get now.calls now.applied) refl (told_by entry))
       where
         by : (waits : Option Call) → get now.calls now.applied ≡ waits → (ends : List Ended)
             → All (HasFirst (with_all_served 0 ledger (with_ended (passed now entry) now.applied waits ends).served).journal)
@@ -139,19 +160,17 @@ sound_all_applied w master alive (entry ∷ entries) now ledger count sound with
     let before = next_within now.log.entries count now.applied entry entries next in
     let held : now.applied < committed now.log = omega (arith, before, within) in
     let told = entry_told now entry in
-    let rest = sound_all_applied w master alive entries first.master then count
-    (sound_step w master now ledger sound alive held entry stands)
+    let rest =
+    sound_all_applied w master alive entries first.master then count (sound_step w master now ledger sound alive held entry stands)
     (subst (λ log. count ≤ committed log) (sym told.log) within)
     ((λ i. drop (entry_applied_next now entry i) (take count (told.log i).entries))
     ∙ others_behind now.log.entries count now.applied entry entries next) in
-    let ends : with_all_served 0 then later.served ≡ with_all_served 0 ledger (first.served ++ later.served) =
-    sym (fold-append (with_served 0) ledger first.served later.served) in
+    let ends = sym (fold-append (with_served 0) ledger first.served later.served) in
     record {
       sound = subst (λ (l : Ledger). IsSound (with_work w master later.master l)) ends rest.sound;
-      have =
-          subst (λ (l : Ledger). All (HasFirst l.journal) (first.served ++ later.served)) ends
+      have = subst (λ (l : Ledger). All (HasFirst l.journal) (first.served ++ later.served)) ends
           (All-append (HasFirst (with_all_served 0 then later.served).journal) first.served later.served
-          (All-weaker (HasFirst then.journal) (HasFirst (with_all_served 0 then later.served).journal) (λ one has. all_still later.served then one has)
-          first.served (step_has w master now ledger sound alive held entry stands))
+          (All-weaker (HasFirst then.journal) (HasFirst (with_all_served 0 then later.served).journal)
+          (λ one has. all_still later.served then one has) first.served (step_has w master now ledger sound alive held entry stands))
           rest.have);
     }

@@ -1,185 +1,148 @@
 -- A lane stays sound when what a living master waited for goes on at its tablets, one after the other: a tablet that closes freezes once
 -- nothing of it is staged, and a target whose side segments are stored appends its closing entry.
-use Rattle.std.proofs.Common.{◌≡◌, ◌≤◌, ◌<◌, ℕ, ◌+◌, Bool, true, false, cond, not, [], ◌∷◌, length, Option, Some, None, refl, sym, ap, ◌∙◌}
-use Rattle.std.proofs.Common.{subst, arith, ◌==◌, unwrap_or, All, eq-eqb}
-use Rattle.rk_inv_base.proofs.Words.{cond-true, All-contains, All-head, All-tail, All-weaker, sum_by-cons, list_any, NumberMap, get, meets}
-use Rattle.rk_inv_base.proofs.Words.{spelled, FIRST_SIDE_SEGMENT, frozen, in_role, joined, Handover, Role, cut_push, cut, is_side_stored}
-use Rattle.rk_inv_base.proofs.Words.{Ledger, Master, is_settled, staged, tablet_at, touches, with_tablet, Tablet, no_tablet, with_handover}
-use Rattle.rk_inv_base.proofs.Words.{all_going_on, closing_appended, closing_entry, freezing, going_on_in, is_sealed_stored, joined_entry}
-use Rattle.rk_inv_base.proofs.Words.{tablet_frozen, World, lives, master_at, with_master, as_closed, as_frozen, IsSound}
-use Rattle.rk_transfer.specs.Handover.{role_frozen, role_joined}
+use Rattle.std.proofs.Common.{All, None, Option, Some, [], ap, arith, cond, length, refl, subst, sym, true, unwrap_or, ℕ, ◌+◌, ◌<◌, ◌∙◌}
+use Rattle.std.proofs.Common.{◌∷◌, ◌≡◌, ◌≤◌}
 use Rattle.rk_transfer.specs.declared.role.Role.TheVariants as roles
-use Rattle.rk_world.specs.Formed.{side_waits, side_waits_in, side_waits_of}
-use Rattle.rk_inv_base.proofs.logs.ClosingAppended.{sound_closing}
-use Rattle.rk_inv_base.proofs.roles.Frozen.{sound_frozen}
-use Rattle.rk_inv_base.proofs.views.Lists.{all_in}
-use Rattle.rk_inv_base.proofs.views.Masters.{master_same, tablet_apart}
-use Rattle.rk_inv_base.proofs.logs.Segments.{with_bytes_few}
+use Rattle.rk_inv_base.proofs.Words.{All-contains, All-head, All-tail, All-weaker, FIRST_SIDE_SEGMENT, IsSound, Ledger, Master, NumberMap}
+use Rattle.rk_inv_base.proofs.Words.{Role, Tablet, World, all_going_on, as_closed, as_frozen, closing, closing_appended, closing_entry}
+use Rattle.rk_inv_base.proofs.Words.{cond_both, cut, cut_push, freezing, frozen, get, going_on_in, is_sealed_stored, is_settled}
+use Rattle.rk_inv_base.proofs.Words.{is_side_stored, joined, joined_entry, list_any, lives, log_in, master_at, meets, no_tablet, spelled}
+use Rattle.rk_inv_base.proofs.Words.{staged, sum_by-cons, tablet_at, tablet_frozen, tablet_in, touches, view, with_handover, with_ledger}
+use Rattle.rk_inv_base.proofs.Words.{with_master}
+use Rattle.rk_inv_events.proofs.Words.{MayFreeze, all_in, master_same, not-true, order_tail, role_frozen, role_joined, side_waits}
+use Rattle.rk_inv_events.proofs.Words.{side_waits_of, sound_closing, sound_frozen, tablet_apart, with_bytes_few}
+use Rattle.rk_inv_events.proofs.events.Pairs.{all_pass, each_found, others_apart}
+use Rattle.rk_inv_events.proofs.events.Working.{moved_itself, put_again, sound_unchanged}
 use Rattle.rk_inv_events.specs.stored.Small.{MayGoOn, with_work}
-use Rattle.rk_inv_events.proofs.stored.OrderedTablets.{all_pass, behind_apart, behind_in_order, each_found}
-use Rattle.rk_inv_events.proofs.stored.Twice.{insert_twice}
 
 -- ---- one tablet
 
+module _ (w : World) (master number : ℕ) where
+  abbrev own : Master
+  own = master_at w master
+
+  abbrev kept : Tablet
+  kept = tablet_in w master number
+
+  -- a tablet that closes freezes where nothing of it is staged, and else stays as it is
+  pub freezes_as : (P : Master → Type 0) → lives w master ≡ true → kept.handover.role ≡ roles.Closing → P own
+      → (MayFreeze (view w) master number → P (tablet_frozen own number kept (as_frozen kept.handover)))
+      → P (freezing own number kept (frozen kept.handover kept.handover.term))
+  freezes_as P alive closing stays freezes =
+      rw (moved_itself kept.handover.term kept.handover (role_frozen kept.handover.role) roles.Frozen (ap role_frozen closing))
+      (cond_both (is_settled own kept.handover.range) (tablet_frozen own number kept (as_frozen kept.handover)) own P
+      (λ settled.
+      freezes (record { lives = alive; closing = closing; settled = not-true (list_any (touches kept.handover.range) (staged own)) settled }))
+      (λ waits. stays))
+
+  -- a target whose side segments are stored appends its closing entry, and else stays as it is
+  closes_as : (P : Master → Type 0) → kept.handover.role ≡ roles.Joining None → P own
+      → (is_sealed_stored own kept ≡ true → P (closing_appended own number kept (as_closed (length own.log.entries) kept.handover)))
+      → P (cond (is_sealed_stored own kept)
+      (closing_entry own number kept (joined kept.handover kept.handover.term (Some (length own.log.entries)))) own)
+  closes_as P joining stays closes =
+      rw
+      (moved_itself kept.handover.term kept.handover (role_joined (Some (length own.log.entries)) kept.handover.role)
+      (roles.Joining (Some (length own.log.entries))) (ap (role_joined (Some (length own.log.entries))) joining))
+      (cond_both (is_sealed_stored own kept) (closing_appended own number kept (as_closed (length own.log.entries) kept.handover)) own P closes
+      (λ waits. stays))
+
 -- one tablet of a master goes on: its lane is sound, its other tablets are as they were, and the log has few more segments
-record HasGoneOn (w : World) (master : ℕ) (ledger : Ledger) (was now : Master) (number waited : ℕ) : Type 0 where
-  sound : IsSound (with_work w master now ledger)
-  others : (other : ℕ) → (other ≡ number → ⊥) → tablet_at now other ≡ tablet_at was other
-  few : length (cut now.log.entries) ≤ length (cut was.log.entries) + waited
+record HasGoneOn (w : World) (master number waited : ℕ) (now : Master) : Type 0 where
+  sound : IsSound (with_master w master now)
+  others : (other : ℕ) → (other ≡ number → ⊥) → tablet_at now other ≡ tablet_in w master other
+  few : length (cut now.log.entries) ≤ length (cut (log_in w master).entries) + waited
 
-module _ (w : World) (master : ℕ) (alive : lives w master ≡ true) (ledger : Ledger) (m : Master) (number : ℕ) (tablet : Tablet) (kept : tablet_at m number ≡ tablet) (sound : IsSound (with_work w master m ledger)) where
-  m_here : m ≡ master_at (with_work w master m ledger) master
-  m_here = sym (master_same w master m master refl)
+module _ (w : World) (master number : ℕ) (alive : lives w master ≡ true) (sound : IsSound w)
+    (some : meets (tablet_in w master number).handover.range (tablet_in w master number).handover.range ≡ true)
+    (room : length (cut (log_in w master).entries) + side_waits_of (tablet_in w master number) < FIRST_SIDE_SEGMENT) where
+  abbrev m : Master
+  m = master_at w master
 
-  -- the master with its tablet changed, as it stands in the lane
-  abbrev changed_there : (Master → Tablet → Master) → Master
-  changed_there change =
-      change (master_at (with_work w master m ledger) master) (tablet_at (master_at (with_work w master m ledger) master) number)
+  abbrev t : Tablet
+  t = tablet_in w master number
 
-  -- it is put in the place of the one before
-  put_again : (change : Master → Tablet → Master) → with_master (with_work w master m ledger) master (changed_there change) ≡ with_work w master (change m tablet) ledger
-  put_again change =
-      ap (λ (n : Master). with_master (with_work w master m ledger) master (change n (tablet_at n number))) (sym m_here)
-      ∙ ap (λ (t : Tablet). with_master (with_work w master m ledger) master (change m t)) kept
-      ∙ (λ i. record w { masters = insert_twice master m (change m tablet) w.masters i; ledger = ledger })
+  abbrev Goes : Master → Type 0
+  Goes = HasGoneOn w master number (side_waits_of (tablet_in w master number))
 
-  -- what holds of the tablet holds of the one in the lane
-  as_kept : (P : Tablet → Type 0) → P tablet → P (tablet_at (master_at (with_work w master m ledger) master) number)
-  as_kept P its = subst (λ (n : Master). P (tablet_at n number)) m_here (subst P (sym kept) its)
+  as_it_was : Goes m
+  as_it_was = record { sound = sound_unchanged w master sound; others = λ other apart. refl; few = omega arith }
 
-  as_it_was : HasGoneOn w master ledger m m number (side_waits_of tablet)
-  as_it_was = record { sound = sound; others = λ other apart. refl; few = omega arith }
-
-  -- a tablet that closes, of which nothing is staged, freezes
-  has_frozen : tablet.handover.role ≡ roles.Closing → is_settled m tablet.handover.range ≡ true
-      → HasGoneOn w master ledger m (tablet_frozen m number tablet (as_frozen tablet.handover)) number (side_waits_of tablet)
-  has_frozen closing settled =
-      let unstaged : list_any (touches tablet.handover.range) (staged m) ≡ false = negated (list_any (touches tablet.handover.range) (staged m)) settled in
+  closes : t.handover.role ≡ roles.Joining None → is_sealed_stored m t ≡ true
+      → Goes (closing_appended m number t (as_closed (length m.log.entries) t.handover))
+  closes joining stored =
+      let waited : 1 ≤ side_waits_of t = rw joining (omega arith) in
       record {
-        sound =
-            subst IsSound (put_again (λ n t. with_tablet n number (with_handover t (as_frozen t.handover))))
-            (sound_frozen (with_work w master m ledger) master number sound
+        sound = sound_closing w master number sound
             (record {
               lives = alive;
-              closing = as_kept (λ t. t.handover.role ≡ roles.Closing) closing;
-              settled =
-                  subst (λ (n : Master). list_any (touches (tablet_at n number).handover.range) (staged n) ≡ false) m_here
-                  (subst (λ (t : Tablet). list_any (touches t.handover.range) (staged m) ≡ false) (sym kept) unstaged);
-            }));
-        others = tablet_apart m number (with_handover tablet (as_frozen tablet.handover));
-        few = omega arith;
+              joining = joining;
+              room = omega (arith, room, waited);
+              stored = all_pass (is_side_stored m.log) t.pulling.sealed stored;
+              some = some;
+            });
+        others = tablet_apart m number (with_handover t (as_closed (length m.log.entries) t.handover));
+        few = omega (
+          arith,
+          waited,
+          ap length (cut_push [] m.log.entries (joined_entry t)),
+          with_bytes_few (cut m.log.entries) (spelled (joined_entry t)),
+        );
       }
-    where
-      negated : (b : Bool) → not b ≡ true → b ≡ false
-      negated true is = absurd (cc is)
-      negated false is = refl
-
-  freezes : tablet.handover.role ≡ roles.Closing → HasGoneOn w master ledger m (freezing m number tablet (frozen tablet.handover tablet.handover.term)) number (side_waits_of tablet)
-  freezes closing =
-      subst (λ (o : Option Handover). HasGoneOn w master ledger m (freezing m number tablet o) number (side_waits_of tablet)) (sym frozen_is)
-      (by (is_settled m tablet.handover.range) refl)
-    where
-      frozen_is : frozen tablet.handover tablet.handover.term ≡ Some (as_frozen tablet.handover)
-      frozen_is =
-          cond-true (tablet.handover.term == tablet.handover.term) (in_role tablet.handover (role_frozen tablet.handover.role)) None
-          (eq-eqb tablet.handover.term tablet.handover.term refl)
-          ∙ ap (λ (r : Role). in_role tablet.handover (role_frozen r)) closing
-
-      by : (b : Bool) → is_settled m tablet.handover.range ≡ b → HasGoneOn w master ledger m (cond b (tablet_frozen m number tablet (as_frozen tablet.handover)) m) number (side_waits_of tablet)
-      by true is = has_frozen closing is
-      by false is = as_it_was
-
-  -- a target whose side segments are stored appends its closing entry
-  module _ (some : meets tablet.handover.range tablet.handover.range ≡ true) (room : length (cut m.log.entries) + side_waits_of tablet < FIRST_SIDE_SEGMENT) (joining : tablet.handover.role ≡ roles.Joining None) where
-    abbrev closed : Handover
-    closed = as_closed (length m.log.entries) tablet.handover
-
-    waited : 1 ≤ side_waits_of tablet
-    waited = subst (λ (r : Role). 1 ≤ side_waits_in r tablet.pulling.sealed) (sym joining) (omega arith)
-
-    has_closed : is_sealed_stored m tablet ≡ true → HasGoneOn w master ledger m (closing_appended m number tablet (as_closed (length m.log.entries) tablet.handover)) number (side_waits_of tablet)
-    has_closed stored = record {
-      sound =
-          subst IsSound (put_again (λ n t. closing_appended n number t (as_closed (length n.log.entries) t.handover)))
-          (sound_closing (with_work w master m ledger) master number sound
-          (record {
-            lives = alive;
-            joining = as_kept (λ t. t.handover.role ≡ roles.Joining None) joining;
-            room = subst (λ (n : Master). length (cut n.log.entries) + 1 < FIRST_SIDE_SEGMENT) m_here (omega (arith, room, waited));
-            stored =
-                subst (λ (n : Master). All (λ segment. is_side_stored n.log segment ≡ true) (tablet_at n number).pulling.sealed) m_here
-                (subst (λ (t : Tablet). All (λ segment. is_side_stored m.log segment ≡ true) t.pulling.sealed) (sym kept)
-                (all_pass (is_side_stored m.log) tablet.pulling.sealed stored));
-            some = as_kept (λ t. meets t.handover.range t.handover.range ≡ true) some;
-          }));
-      others = tablet_apart m number (with_handover tablet closed);
-      few =
-          omega (arith, waited, ap length (cut_push [] m.log.entries (joined_entry tablet)), with_bytes_few (cut m.log.entries) (spelled (joined_entry tablet)));
-    }
-
-    closes : HasGoneOn w master ledger m
-        (cond (is_sealed_stored m tablet) (closing_entry m number tablet (joined tablet.handover tablet.handover.term (Some (length m.log.entries)))) m)
-        number (side_waits_of tablet)
-    closes =
-        subst (λ (o : Option Handover). HasGoneOn w master ledger m (cond (is_sealed_stored m tablet) (closing_entry m number tablet o) m) number (side_waits_of tablet))
-        (sym joined_is) (by (is_sealed_stored m tablet) refl)
-      where
-        joined_is : joined tablet.handover tablet.handover.term (Some (length m.log.entries)) ≡ Some (as_closed (length m.log.entries) tablet.handover)
-        joined_is =
-            cond-true (tablet.handover.term == tablet.handover.term) (in_role tablet.handover (role_joined (Some (length m.log.entries)) tablet.handover.role)) None
-            (eq-eqb tablet.handover.term tablet.handover.term refl)
-            ∙ ap (λ (r : Role). in_role tablet.handover (role_joined (Some (length m.log.entries)) r)) joining
-
-        by : (b : Bool) → is_sealed_stored m tablet ≡ b
-            → HasGoneOn w master ledger m (cond b (closing_appended m number tablet (as_closed (length m.log.entries) tablet.handover)) m) number (side_waits_of tablet)
-        by true is = has_closed is
-        by false is = as_it_was
 
   -- what it waited for goes on, by its role
-  goes_on : meets tablet.handover.range tablet.handover.range ≡ true → length (cut m.log.entries) + side_waits_of tablet < FIRST_SIDE_SEGMENT
-      → (role : Role) → tablet.handover.role ≡ role → HasGoneOn w master ledger m (going_on_in m number tablet role) number (side_waits_of tablet)
-  goes_on some room roles.Closing is = freezes is
-  goes_on some room (roles.Joining None) is = closes some room is
-  goes_on some room (roles.Joining (Some place)) is = as_it_was
-  goes_on some room roles.Absent is = as_it_was
-  goes_on some room roles.Serving is = as_it_was
-  goes_on some room roles.Frozen is = as_it_was
-  goes_on some room (roles.Wanting from) is = as_it_was
-  goes_on some room roles.Receiving is = as_it_was
-  goes_on some room (roles.Rebuilding from entry) is = as_it_was
+  goes_on : (role : Role) → t.handover.role ≡ role → Goes (going_on_in m number t role)
+  goes_on roles.Closing is = freezes_as w master number Goes alive is as_it_was (λ may. record {
+    sound = sound_frozen w master number sound may;
+    others = tablet_apart m number (with_handover t (as_frozen t.handover));
+    few = omega arith;
+  })
+  goes_on (roles.Joining None) is = closes_as w master number Goes is as_it_was (closes is)
+  goes_on _ is = as_it_was
 
 -- ---- all of them
 
 -- the tablets go on, one after the other; each of them is as it was until it goes on
-pub all_go_on : (w : World) (master : ℕ) → lives w master ≡ true → (ledger : Ledger) (tablets : NumberMap Tablet) (m : Master)
-    → IsSound (with_work w master m ledger) → All (λ entry. tablet_at m entry.0 ≡ entry.1) tablets → MayGoOn m.log tablets
-    → IsSound (with_work w master (all_going_on m tablets) ledger)
-all_go_on w master alive ledger [] m sound kept may = sound
-all_go_on w master alive ledger (entry ∷ tablets) m sound kept may =
-    let Kept : Master → ℕ × Tablet → Type 0 = λ (n : Master) (e : ℕ × Tablet). tablet_at n e.0 ≡ e.1 in
+all_go_on : (w : World) (master : ℕ) → lives w master ≡ true → IsSound w → (tablets : NumberMap Tablet)
+    → All (λ entry. tablet_in w master entry.0 ≡ entry.1) tablets → MayGoOn (log_in w master) tablets
+    → IsSound (with_master w master (all_going_on (master_at w master) tablets))
+all_go_on w master alive sound [] kept may = sound_unchanged w master sound
+all_go_on w master alive sound (entry ∷ tablets) kept may =
+    let own : Master = master_at w master in
+    let now : Master = going_on_in own entry.0 entry.1 entry.1.handover.role in
+    let Kept : World → ℕ × Tablet → Type 0 = λ (u : World) (e : ℕ × Tablet). tablet_in u master e.0 ≡ e.1 in
     let HasSome : ℕ × Tablet → Type 0 = λ (e : ℕ × Tablet). meets e.1.handover.range e.1.handover.range ≡ true in
-    let now : Master = going_on_in m entry.0 entry.1 entry.1.handover.role in
-    let waits : side_waits (entry ∷ tablets) ≡ side_waits_of entry.1 + side_waits tablets =
-    sum_by-cons (λ (e : ℕ × Tablet). side_waits_of e.1) entry tablets in
-    let one : HasGoneOn w master ledger m now entry.0 (side_waits_of entry.1) =
-    goes_on w master alive ledger m entry.0 entry.1 (All-head (Kept m) entry tablets kept) sound (All-head HasSome entry tablets may.some)
-    (omega (arith, may.room, waits)) entry.1.handover.role refl in
-    all_go_on w master alive ledger tablets now one.sound
-    (all_in (Kept m) (Kept now) tablets
+    let here : master_at (with_master w master now) master ≡ now = master_same w master now master refl in
+    let waits = sum_by-cons (λ (e : ℕ × Tablet). side_waits_of e.1) entry tablets in
+    let one : HasGoneOn w master entry.0 (side_waits_of entry.1) now =
+    subst
+    (λ (t : Tablet).
+    meets t.handover.range t.handover.range ≡ true → length (cut own.log.entries) + side_waits_of t < FIRST_SIDE_SEGMENT
+    → HasGoneOn w master entry.0 (side_waits_of t) (going_on_in own entry.0 t t.handover.role)) (All-head (Kept w) entry tablets kept)
+    (λ some room. goes_on w master entry.0 alive sound some room (tablet_in w master entry.0).handover.role refl)
+    (All-head HasSome entry tablets may.some) (omega (arith, may.room, waits)) in
+    subst IsSound (put_again w master now (λ m. all_going_on m tablets))
+    (all_go_on (with_master w master now) master alive one.sound tablets
+    (all_in (Kept w) (Kept (with_master w master now)) tablets
     (λ other stands was.
-    one.others other.0 (All-contains (λ (e : ℕ × Tablet). e.0 ≡ entry.0 → ⊥) tablets other (behind_apart entry tablets may.order) stands) ∙ was)
-    (All-tail (Kept m) entry tablets kept))
+    ap (λ (m : Master). tablet_at m other.0) here
+    ∙ one.others other.0 (All-contains (λ (e : ℕ × Tablet). e.0 ≡ entry.0 → ⊥) tablets other (others_apart entry tablets may.order) stands)
+    ∙ was) (All-tail (Kept w) entry tablets kept))
     (record {
-      order = behind_in_order entry tablets may.order;
+      order = order_tail entry tablets may.order;
       some = All-tail HasSome entry tablets may.some;
-      room = omega (arith, may.room, waits, one.few);
-    })
+      room = subst (λ (m : Master). length (cut m.log.entries) + side_waits tablets < FIRST_SIDE_SEGMENT) (sym here)
+          (omega (arith, may.room, waits, one.few));
+    }))
 
 -- so do those of a master
 pub sound_going_on : (w : World) (master : ℕ) → lives w master ≡ true → (ledger : Ledger) (m : Master) → MayGoOn m.log m.tablets
     → IsSound (with_work w master m ledger) → IsSound (with_work w master (all_going_on m m.tablets) ledger)
 sound_going_on w master alive ledger m may sound =
-    all_go_on w master alive ledger m.tablets m sound
-    (All-weaker (λ (e : ℕ × Tablet). get m.tablets e.0 ≡ Some e.1) (λ (e : ℕ × Tablet). tablet_at m e.0 ≡ e.1)
-    (λ e found. ap (λ (o : Option Tablet). unwrap_or o no_tablet) found) m.tablets (each_found m.tablets may.order))
-    may
+    let u : World = with_work w master m ledger in
+    let here : master_at u master ≡ m = master_same w master m master refl in
+    subst IsSound (ap (λ (x : World). with_ledger x ledger) (put_again w master m (λ n. all_going_on n m.tablets)))
+    (all_go_on u master alive sound m.tablets
+    (All-weaker (λ (e : ℕ × Tablet). get m.tablets e.0 ≡ Some e.1) (λ (e : ℕ × Tablet). tablet_in u master e.0 ≡ e.1)
+    (λ e found. ap (λ (n : Master). tablet_at n e.0) here ∙ ap (λ (o : Option Tablet). unwrap_or o no_tablet) found) m.tablets
+    (each_found m.tablets may.order)) (subst (λ (n : Master). MayGoOn n.log m.tablets) (sym here) may))

@@ -1,16 +1,14 @@
 -- What a master makes of its next entry: its number and its log stay, one more entry is applied, and each call that it served is told.
-use Rattle.std.proofs.Common.{◌≡◌, ◌<◌, ℕ, ◌+◌, Bool, true, false, cond, not, ◌&&◌, List, [], ◌∷◌, ◌++◌, length, map, Option, Some, None}
-use Rattle.std.proofs.Common.{refl, sym, ap, ◌∙◌, subst, fold}
-use Rattle.rk_inv_base.proofs.Words.{map-append, All-map, All-weaker, NumberMap, get, meets, Call, Ended, Entry, FIRST_SIDE_SEGMENT, noted}
-use Rattle.rk_inv_base.proofs.Words.{Handover, cut, Log, Message, apply_entries, apply_entry, noting, with_applied, with_ended, told_by}
-use Rattle.rk_inv_base.proofs.Words.{Master, has_key, is_absent, Tablet, Worked, Served}
-use Rattle.rk_types.specs.declared.call.Answer.TheVariants as answers
-use Rattle.rk_types.specs.declared.node.Node.TheVariants as nodes
+use Rattle.std.proofs.Common.{List, None, Option, Some, [], ap, fold, map, not, refl, subst, sym, true, ℕ, ◌&&◌, ◌++◌, ◌+◌, ◌∙◌, ◌∷◌, ◌≡◌}
 use Rattle.rk_message.specs.declared.message.Body.TheVariants as bodies
 use Rattle.rk_types.proofs.NumberMaps.{in_order_changed}
-use Rattle.rk_world.specs.Formed.{side_waits, side_waits_in, side_waits_of}
-use Rattle.rk_inv_logs.specs.apply.Small.{with_item_of}
+use Rattle.rk_types.specs.declared.call.Answer.TheVariants as answers
+use Rattle.rk_types.specs.declared.node.Node.TheVariants as nodes
+use Rattle.rk_inv_base.proofs.Words.{All-map, All-weaker, Call, Ended, Entry, Handover, Log, Master, Message, NumberMap, Served, Tablet}
+use Rattle.rk_inv_base.proofs.Words.{Worked, apply_entries, apply_entry, cond_both, get, has_key, is_absent, map-append, meets, noted}
+use Rattle.rk_inv_base.proofs.Words.{noting, told_by, with_applied, with_ended}
 use Rattle.rk_inv_logs.proofs.apply.EntryPassed.{item_put}
+use Rattle.rk_inv_events.proofs.Words.{side_waits, side_waits_in, side_waits_of, with_item_of}
 use Rattle.rk_inv_events.specs.stored.Small.{MayGoOn}
 
 -- the reply to a call that was served
@@ -40,12 +38,9 @@ apply_is master entry =
 -- a tablet that notes an end is else as it was
 noted_same : (call : Call) (end : Ended) (tablet : Tablet) → ((noting call end tablet).handover ≡ tablet.handover) × ((noting call end tablet).pulling ≡ tablet.pulling)
 noted_same call end tablet =
-    by (not (is_absent tablet.handover.role) && has_key tablet.handover.range call.table call.key)
-  where
-    by : (b : Bool) → ((cond b (record tablet { completions = noted tablet.completions end }) tablet).handover ≡ tablet.handover)
-        × ((cond b (record tablet { completions = noted tablet.completions end }) tablet).pulling ≡ tablet.pulling)
-    by true = (refl, refl)
-    by false = (refl, refl)
+    cond_both (not (is_absent tablet.handover.role) && has_key tablet.handover.range call.table call.key)
+    (record tablet { completions = noted tablet.completions end }) tablet
+    (λ (t : Tablet). (t.handover ≡ tablet.handover) × (t.pulling ≡ tablet.pulling)) (λ notes. (refl, refl)) (λ passes. (refl, refl))
 
 waits_from : (call : Call) (end : Ended) (before : ℕ) (tablets : NumberMap Tablet)
     → fold (λ (n : ℕ) (entry : ℕ × Tablet). n + side_waits_of entry.1) before (map (λ entry. (entry.0, noting call end entry.1)) tablets)
@@ -65,11 +60,11 @@ still_goes_on call end log tablets may =
     let HasSome : Handover → Type 0 = λ (handover : Handover). meets handover.range handover.range ≡ true in
     record {
       order = in_order_changed (λ number tablet. noting call end tablet) tablets may.order;
-      some =
-          All-map (λ (entry : ℕ × Tablet). HasSome entry.1.handover) (λ (entry : ℕ × Tablet). (entry.0, noting call end entry.1)) tablets
-          (All-weaker (λ (entry : ℕ × Tablet). HasSome entry.1.handover) (λ (entry : ℕ × Tablet). HasSome (noting call end entry.1).handover)
+      some = All-map (λ (entry : ℕ × Tablet). HasSome entry.1.handover) (λ (entry : ℕ × Tablet). (entry.0, noting call end entry.1)) tablets
+          (All-weaker (λ (entry : ℕ × Tablet). HasSome entry.1.handover)
+          (λ (entry : ℕ × Tablet). HasSome (noting call end entry.1).handover)
           (λ entry. subst HasSome (sym (noted_same call end entry.1).0)) tablets may.some);
-      room = subst (λ (n : ℕ). length (cut log.entries) + n < FIRST_SIDE_SEGMENT) (sym (waits_same call end tablets)) may.room;
+      room = rw (waits_same call end tablets) may.room;
     }
 
 ended_told : (master : Master) (place : ℕ) (waits : Option Call) (ends : List Ended) → IsTold master (with_ended master place waits ends)
@@ -90,16 +85,13 @@ ended_applied master place (Some call) (end ∷ ends) = refl
 
 pub entry_told : (master : Master) (entry : Entry) → IsTold master (apply_entry master entry)
 entry_told master entry =
-    as_of
-    (subst (IsTold (passed master entry)) (sym (apply_is master entry))
-    (ended_told (passed master entry) master.applied (get master.calls master.applied) (told_by entry)))
+    as_of (rw (apply_is master entry) (ended_told (passed master entry) master.applied (get master.calls master.applied) (told_by entry)))
   where
     as_of : IsTold (passed master entry) (apply_entry master entry) → IsTold master (apply_entry master entry)
     as_of told = record { number = told.number; log = told.log; sends = told.sends; marked = told.marked; goes_on = told.goes_on }
 
 pub entry_applied_next : (master : Master) (entry : Entry) → (apply_entry master entry).master.applied ≡ master.applied + 1
-entry_applied_next master entry =
-    ap (λ (worked : Worked). worked.master.applied) (apply_is master entry)
+entry_applied_next master entry = ap (λ (worked : Worked). worked.master.applied) (apply_is master entry)
     ∙ ended_applied (passed master entry) master.applied (get master.calls master.applied) (told_by entry)
 
 -- so is it of entries that are applied one after the other

@@ -1,61 +1,45 @@
 -- Work of a master that sends messages alone: it serves no call and marks no piece, and none of its messages is a reply. A sound lane stays
--- sound where a master does such work.
-use Rattle.std.proofs.Common.{◌≡◌, ℕ, ◌++◌, List, [], ◌∷◌, All, refl, sym, ap, subst, ◌∙◌, map, append-nil}
-use Rattle.rk_inv_base.proofs.Words.{All-append, All-cons, All-head, All-nil, All-tail, All-weaker, Placed, Message, Ledger}
-use Rattle.rk_inv_base.proofs.Words.{with_all_served, with_marks, Master, filled, ledger_after, worked_at, Worked, changed, sending, World}
-use Rattle.rk_inv_base.proofs.Words.{with_all_sent, with_ledger, with_master, Mark, Served, MaySend, View, view, IsSound}
+-- sound where a master does such work. So it does where a master asks for batches on its turn, which changes what is pulled alone.
+use Rattle.std.proofs.Common.{All, List, [], ap, append-nil, map, refl, subst, sym, ℕ, ◌++◌, ◌∙◌, ◌≡◌}
+use Rattle.rk_world.specs.MasterTurn.{batch_asked}
 use Rattle.rk_world.specs.Worked.{then_works}
-use Rattle.rk_inv_events.proofs.events.AllSent.{sound_all_sent}
-
--- a message that is sent as it is: no reply, which would get the stamp and place of a record
-abbrev pub IsSentAsIs : Message → Type 0
-IsSentAsIs message = (journal : List Placed) (served : List Served) → filled journal served message ≡ message
-
--- a message that may be sent, and is sent as it is
-pub record MaySendAsIs (v : View) (message : Message) : Type 0 where
-  pub may : MaySend v message
-  pub as_is : IsSentAsIs message
+use Rattle.rk_inv_base.proofs.Words.{All-append, All-cons, All-map, All-nil, All-weaker, IsSound, Ledger, Mark, Master, MaySend, Message}
+use Rattle.rk_inv_base.proofs.Words.{Pulling, Served, Tablet, View, Worked, World, changed, filled, ledger_after, put2, sending, tablet_at}
+use Rattle.rk_inv_base.proofs.Words.{view, with_all_sent, with_all_served, with_ledger, with_marks, with_master, worked_at}
+use Rattle.rk_inv_base.proofs.pulls.HashWanted.{sound_asked_for}
+use Rattle.rk_inv_events.proofs.Words.{asking_batch, batch_asked_in, view_pulled}
+use Rattle.rk_inv_events.proofs.events.Sending.{MaySendFilled, sound_all_sent}
+use Rattle.rk_inv_events.proofs.events.Working.{put_again}
 
 -- work that sends messages alone
 pub record OnlySends (v : View) (worked : Worked) : Type 0 where
-  pub sends : All (MaySendAsIs v) worked.sends
+  pub sends : All (MaySendFilled v) worked.sends
   pub served : worked.served ≡ []
   pub marked : worked.marked ≡ []
 
 -- nothing is sent
 pub sends_none : (v : View) (master : Master) → OnlySends v (changed master)
-sends_none v master = record { sends = All-nil (MaySendAsIs v); served = refl; marked = refl }
+sends_none v master = record { sends = All-nil (MaySendFilled v); served = refl; marked = refl }
 
 -- a message is sent
-pub sends_one : (v : View) (master : Master) (message : Message) → MaySendAsIs v message → OnlySends v (sending master message)
-sends_one v master message may = record { sends = All-cons (MaySendAsIs v) message [] may (All-nil (MaySendAsIs v)); served = refl; marked = refl }
-
--- two empty lists make an empty one
-both_empty : {X : Type 0} (first later : List X) → first ≡ [] → later ≡ [] → first ++ later ≡ []
-both_empty {X} first later none none_later = ap (λ (list : List X). list ++ later) none ∙ none_later
+pub sends_one : (v : View) (master : Master) (message : Message) → MaySendFilled v message → OnlySends v (sending master message)
+sends_one v master message may =
+    record { sends = All-cons (MaySendFilled v) message [] may (All-nil (MaySendFilled v)); served = refl; marked = refl }
 
 -- so does work that goes on after such work
 pub sends_then : (v : View) (first : Worked) (next : Master → Worked) → OnlySends v first → OnlySends v (next first.master) → OnlySends v (then_works first next)
 sends_then v first next before later =
     let after = next first.master in
     record {
-      sends = All-append (MaySendAsIs v) first.sends after.sends before.sends later.sends;
-      served = both_empty first.served after.served before.served later.served;
-      marked = both_empty first.marked after.marked before.marked later.marked;
+      sends = All-append (MaySendFilled v) first.sends after.sends before.sends later.sends;
+      served = (λ i. before.served i ++ later.served i);
+      marked = (λ i. before.marked i ++ later.marked i);
     }
-
--- messages that are sent as they are stay what they are
-all_as_is : (v : View) (journal : List Placed) (served : List Served) (messages : List Message) → All (MaySendAsIs v) messages → map (filled journal served) messages ≡ messages
-all_as_is v journal served [] may = refl
-all_as_is v journal served (message ∷ messages) may =
-    λ i. (All-head (MaySendAsIs v) message messages may).as_is journal served i
-    ∷ all_as_is v journal served messages (All-tail (MaySendAsIs v) message messages may) i
 
 module _ (w : World) (master seen : ℕ) (worked : Worked) (only : OnlySends (view (with_master w master worked.master)) worked) where
   -- the ledger stays as it is
   ledger_is : ledger_after w.ledger master seen worked ≡ w.ledger
-  ledger_is =
-      ap (λ (served : List Served). with_marks (with_all_served seen w.ledger served) worked.marked) only.served
+  ledger_is = ap (λ (served : List Served). with_marks (with_all_served seen w.ledger served) worked.marked) only.served
       ∙ ap (λ (marked : List Mark). with_marks w.ledger marked) only.marked
       ∙ ap (λ (marks : List Mark). record w.ledger { marks = marks }) (append-nil w.ledger.marks)
 
@@ -64,8 +48,46 @@ module _ (w : World) (master seen : ℕ) (worked : Worked) (only : OnlySends (vi
   sound_sends sound =
       let now = with_master w master worked.master in
       let ledger = ledger_after w.ledger master seen worked in
-      subst (λ (messages : List Message). IsSound (with_all_sent (with_ledger now ledger) messages))
-      (sym (all_as_is (view now) ledger.journal worked.served worked.sends only.sends))
-      (subst (λ (l : Ledger). IsSound (with_all_sent (with_ledger now l) worked.sends)) (sym ledger_is)
-      (sound_all_sent now worked.sends sound
-      (All-weaker (MaySendAsIs (view now)) (MaySend (view now)) (λ message it. it.may) worked.sends only.sends)))
+      let sends : List Message = map (filled ledger.journal worked.served) worked.sends in
+      subst (λ (l : Ledger). IsSound (with_all_sent (with_ledger now l) sends)) (sym ledger_is)
+      (sound_all_sent now sends sound
+      (All-map (MaySend (view now)) (filled ledger.journal worked.served) worked.sends
+      (All-weaker (MaySendFilled (view now)) (λ message. MaySend (view now) (filled ledger.journal worked.served message))
+      (λ message may. may ledger.journal worked.served) worked.sends only.sends)))
+
+-- ---- what is pulled
+
+-- a view where this is pulled
+abbrev pub with_pullings : View → (ℕ → ℕ → Pulling) → View
+with_pullings v pullings = record v { pullings = pullings }
+
+-- what may be sent does not depend on what is pulled
+pub may_send_pulling : (v : View) (pullings : ℕ → ℕ → Pulling) (message : Message) → MaySend v message → MaySend (with_pullings v pullings) message
+may_send_pulling v pullings message may = assumption may
+
+-- a lane is sound with this master, which differs from the one that it has in what it pulls alone
+pub record IsSoundPulling (w : World) (master : ℕ) (now : Master) : Type 0 where
+  pub sound : IsSound (with_master w master now)
+  pub pullings : ℕ → ℕ → Pulling
+  pub view_is : view (with_master w master now) ≡ with_pullings (view w) pullings
+
+module _ (w : World) (master : ℕ) (now : Master) (number : ℕ) (tablet : Tablet) (its : tablet_at now number ≡ tablet) (so_far : IsSoundPulling w master now) where
+  -- the lane with the master so far
+  abbrev before : World
+  before = with_master w master now
+
+  world_is : batch_asked_in before master number ≡ with_master w master (batch_asked now number tablet)
+  world_is = put_again w master now (λ m. batch_asked m number (tablet_at m number))
+      ∙ ap (λ (t : Tablet). with_master w master (batch_asked now number t)) its
+
+  -- a batch of the wanted hashes is asked for
+  pub sound_batch_asked : IsSoundPulling w master (batch_asked now number tablet)
+  sound_batch_asked =
+      let asked : Pulling = asking_batch ((view before).pullings master number) in
+      let pullings : ℕ → ℕ → Pulling = put2 (view before).pullings master number asked in
+      record {
+        sound = subst IsSound world_is (sound_asked_for before master number so_far.sound);
+        pullings = pullings;
+        view_is =
+            ap view (sym world_is) ∙ view_pulled before master number asked ∙ ap (λ (v : View). with_pullings v pullings) so_far.view_is;
+      }

@@ -1,13 +1,12 @@
 -- How a fresh mutation ends, by what its master chose: the record that stands at its key allows it.
-use Rattle.std.proofs.Common.{◌≡◌, ℕ, ◌<◌, Bool, true, false, not, ◌&&◌, List, Option, Some, None, refl, sym, ap, subst, ◌∙◌, MatchBool}
-use Rattle.std.proofs.Common.{◌==◌}
+use Rattle.std.proofs.Common.{◌≡◌, ℕ, ◌<◌, Bool, true, false, not, ◌&&◌, List, Option, Some, None, refl, sym, ap, ◌∙◌, ◌==◌}
 use Rattle.rk_inv_base.proofs.Words.{cond_both, ⊤, hash_of, Call, Op, Held, Allowed, change_of, last_version, never, record_of}
 use Rattle.rk_inv_base.proofs.Words.{map_entry_of, end_of_item, outcome_of, fresh_choice, is_known, item_of, needs_state, operation}
 use Rattle.rk_inv_base.proofs.Words.{version_of, Tablet, Choice, Writes, Refuses, Wants, refused_as}
 use Rattle.rk_types.specs.declared.call.Op.TheVariants as ops
 use Rattle.rk_types.specs.declared.call.Outcome.TheVariants as outcomes
 use Rattle.rk_model.specs.History.{record_of as map_record_of}
-use Rattle.rk_model.specs.Machine.{Entry as MapEntry, IsWrittenAbove, gone, live, live_version}
+use Rattle.rk_model.specs.Machine.{Entry as MapEntry, gone, live, live_version}
 
 -- a call may write this value, for the tablet of a number, where the map has this entry at its key: it takes this version
 pub record MayWrite (number version : ℕ) (call : Call) (entry : MapEntry) (other : ℕ) (value : Option (List ℕ)) : Type 0 where
@@ -37,43 +36,28 @@ module _ (number version : ℕ) (call : Call) where
   put_fits : (entry : MapEntry) (expected : ℕ) (value : List ℕ) → call.op ≡ ops.CondPut expected value → last_version entry < version
       → FitsCall number version call entry (operation number (ops.CondPut expected value) (map_record_of entry))
   put_fits entry expected value is low =
-      let same : (expected == version_of (map_record_of entry)) ≡ (expected == live_version entry) = ap (λ (n : ℕ). expected == n) (version_same entry) in
-      cond_both (expected == version_of (map_record_of entry)) (Writes number (Some value)) (Refuses (version_of (map_record_of entry)) false)
-      (FitsCall number version call entry)
+      let same = ap (λ (n : ℕ). expected == n) (version_same entry) in
+      cond_both (expected == version_of (map_record_of entry)) (Writes number (Some value))
+      (Refuses (version_of (map_record_of entry)) false) (FitsCall number version call entry)
       (λ equal. record {
         number_is = refl;
-        allowed =
-            subst (λ (op : Op). Allowed entry op (outcomes.Written version)) (sym is)
-            (subst (λ (b : Bool). MatchBool b (IsWrittenAbove (last_version entry) (outcomes.Written version)) (outcomes.Written version ≡ outcomes.Mismatch (live_version entry)))
-            (sym (sym same ∙ equal)) low);
+        allowed = rw is (rw (sym same ∙ equal) low);
         leaves = ap (λ (op : Op). change_of op (outcomes.Written version)) is;
-      })
-      (λ other. record {
-        allowed =
-            subst (λ (op : Op). Allowed entry op (outcomes.Mismatch (version_of (map_record_of entry)))) (sym is)
-            (subst
-            (λ (b : Bool). MatchBool b (IsWrittenAbove (last_version entry) (outcomes.Mismatch (version_of (map_record_of entry))))
-            (outcomes.Mismatch (version_of (map_record_of entry)) ≡ outcomes.Mismatch (live_version entry)))
-            (sym (sym same ∙ other)) (ap outcomes.Mismatch (version_same entry)));
+      }) (λ other. record {
+        allowed = rw is (rw (sym same ∙ other) (ap outcomes.Mismatch (version_same entry)));
         leaves = ap (λ (op : Op). change_of op (outcomes.Mismatch (version_of (map_record_of entry)))) is;
       })
 
   -- a removal
   removal_fits : (entry : MapEntry) → call.op ≡ ops.Delete → last_version entry < version
       → FitsCall number version call entry (operation number ops.Delete (map_record_of entry))
-  removal_fits never is low = record {
-    allowed = subst (λ (op : Op). Allowed never op outcomes.Absent) (sym is) refl;
-    leaves = ap (λ (op : Op). change_of op outcomes.Absent) is;
-  }
+  removal_fits never is low = record { allowed = rw is refl; leaves = ap (λ (op : Op). change_of op outcomes.Absent) is }
   removal_fits (live old value) is low = record {
     number_is = refl;
-    allowed = subst (λ (op : Op). Allowed (live old value) op (outcomes.Deleted version)) (sym is) low;
+    allowed = rw is low;
     leaves = ap (λ (op : Op). change_of op (outcomes.Deleted version)) is;
   }
-  removal_fits (gone old) is low = record {
-    allowed = subst (λ (op : Op). Allowed (gone old) op outcomes.Absent) (sym is) refl;
-    leaves = ap (λ (op : Op). change_of op outcomes.Absent) is;
-  }
+  removal_fits (gone old) is low = record { allowed = rw is refl; leaves = ap (λ (op : Op). change_of op outcomes.Absent) is }
 
   -- any operation, by the record that is found, which an operation that needs it has right
   operation_fits : (entry : MapEntry) (found : Option (ℕ × List ℕ)) (op : Op) → call.op ≡ op → (needs_state op ≡ true → found ≡ map_record_of entry)
@@ -81,22 +65,17 @@ module _ (number version : ℕ) (call : Call) where
   operation_fits entry found ops.Get is tells low = tt
   operation_fits entry found (ops.Put value) is tells low = record {
     number_is = refl;
-    allowed = subst (λ (op : Op). Allowed entry op (outcomes.Written version)) (sym is) low;
+    allowed = rw is low;
     leaves = ap (λ (op : Op). change_of op (outcomes.Written version)) is;
   }
-  operation_fits entry found (ops.CondPut expected value) is tells low =
-      subst (λ (o : Option (ℕ × List ℕ)). FitsCall number version call entry (operation number (ops.CondPut expected value) o)) (sym (tells refl))
-      (put_fits entry expected value is low)
-  operation_fits entry found ops.Delete is tells low =
-      subst (λ (o : Option (ℕ × List ℕ)). FitsCall number version call entry (operation number ops.Delete o)) (sym (tells refl)) (removal_fits entry is low)
+  operation_fits entry found (ops.CondPut expected value) is tells low = rw (tells refl) (put_fits entry expected value is low)
+  operation_fits entry found ops.Delete is tells low = rw (tells refl) (removal_fits entry is low)
 
   -- what is done with a call that has not ended
   pub fresh_fits : (tablet : Tablet) (state : Option Held) (entry : MapEntry) → (is_known tablet (hash_of call.key) state ≡ true → record_of state ≡ map_record_of entry)
       → last_version entry < version → FitsCall number version call entry (fresh_choice number tablet call state)
-  fresh_fits tablet state entry tells low =
-      cond_both (needs_state call.op && not (is_known tablet (hash_of call.key) state)) (Wants number) (operation number call.op (record_of state))
-      (FitsCall number version call entry) (λ wants. tt)
-      (λ knows.
+  fresh_fits tablet state entry tells low = cond_both (needs_state call.op && not (is_known tablet (hash_of call.key) state)) (Wants number)
+      (operation number call.op (record_of state)) (FitsCall number version call entry) (λ wants. tt) (λ knows.
       operation_fits entry (record_of state) call.op refl
       (λ needs. tells (known (needs_state call.op) (is_known tablet (hash_of call.key) state) needs knows)) low)
     where

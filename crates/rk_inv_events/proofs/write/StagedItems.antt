@@ -1,41 +1,33 @@
 -- What a master that serves a row has staged of a key is what the row's rest has, so what it finds of a key leaves the record that truth and
 -- rest leave together.
-use Rattle.std.proofs.Common.{◌≡◌, ℕ, ◌+◌, ◌≤◌, ◌<◌, true, List, [], ◌∷◌, ◌++◌, max, Option, None, Some, refl, sym, ap, subst, ◌∙◌, ⊎_elim}
-use Rattle.std.proofs.Common.{inl, arith, drop, slice_get, Contains}
-use Rattle.rk_inv_base.proofs.Words.{cases_eq, false≢true, flat_map-append, All-contains, All-contains_itself, Contains-append_cases}
-use Rattle.rk_inv_base.proofs.Words.{Contains-append_left, Contains-append_right, Contains-push, option_or, Call, Held, Member, Range}
-use Rattle.rk_inv_base.proofs.Words.{Entry, found, is_in, is_serving, lineage_of, Row, newest_found, newest_is, newest_none}
-use Rattle.rk_inv_base.proofs.Words.{newest_from-append, stands_cases, none_stands, is_of_from, is_of_parts, live, record_of, is_of, newest}
-use Rattle.rk_inv_base.proofs.Words.{none_found, IsPlain, items_in, items_of, last_of, unmarked_from, counting, counts, has_key, Written}
-use Rattle.rk_inv_base.proofs.Words.{AreAbove, IsAboveAll, StillCounts, post_of, IsEntryOf, Waits, is_call_entry, RoleFits, IsTruth, View}
-use Rattle.rk_inv_base.proofs.Words.{rests, truths, SoundView}
+use Rattle.std.proofs.Common.{Contains, List, None, Option, Some, [], ap, arith, drop, inl, inr, max, refl, slice_get, subst, sym, true, ℕ}
+use Rattle.std.proofs.Common.{◌++◌, ◌+◌, ◌<◌, ◌∙◌, ◌∷◌, ◌≡◌, ◌≤◌}
 use Rattle.rk_entry.specs.declared.entry.Entry.TheVariants as entries
 use Rattle.rk_overlay.proofs.Folds.{newest_from-none}
-use Rattle.rk_sound.specs.Rest.{HasCall}
-use Rattle.rk_inv_base.proofs.rows.Apart.{in_one_row, same_number}
-use Rattle.rk_inv_base.proofs.logs.InRest.{lineage_last, of_waiting}
+use Rattle.rk_inv_base.proofs.Words.{All-contains, All-contains_itself, AreAbove, Call, Contains-append_cases, Contains-append_left}
+use Rattle.rk_inv_base.proofs.Words.{Contains-append_right, Contains-push, Entry, Held, IsEntryOf, IsPlain, Member, Range, Row, SoundView}
+use Rattle.rk_inv_base.proofs.Words.{View, Waits, Written, cases_eq, counting, counts, false≢true, flat_map-append, found, has_key}
+use Rattle.rk_inv_base.proofs.Words.{is_call_entry, is_in, is_of, is_of_from, is_of_parts, is_serving, items_in, items_of, last_of}
+use Rattle.rk_inv_base.proofs.Words.{lineage_of, live, newest, newest_found, newest_from-append, newest_is, newest_none, none_found}
+use Rattle.rk_inv_base.proofs.Words.{none_stands, option_or, record_of, rests, stands_cases, truths, unmarked_from}
 use Rattle.rk_inv_base.proofs.logs.MarkedApart.{place_of}
-use Rattle.rk_inv_base.proofs.calls.Records.{filter_from}
-use Rattle.rk_inv_base.proofs.rows.Speakers.{speaker_is, speaker_of, speaks_serving}
+use Rattle.rk_inv_base.proofs.rows.Apart.{same_number}
+use Rattle.rk_inv_logs.proofs.apply.Keeps.{plain_all}
+use Rattle.rk_inv_events.proofs.Words.{HasCall, filter_from, flat_among, from_flat, in_one_row, later_stands, lineage_last, of_waiting}
+use Rattle.rk_inv_events.proofs.Words.{place_in, row_in, row_true, to_flat, unmarked_place, unmarked_stood}
 use Rattle.rk_inv_events.proofs.answer.OwnCounts.{bare_at}
 use Rattle.rk_inv_events.proofs.answer.RecordFound.{Knows, record_found}
-use Rattle.rk_inv_rows.proofs.lineage.Among.{flat_among, from_flat, later_stands, place_in, to_flat}
-use Rattle.rk_inv_rows.proofs.lineage.Pieces.{unmarked_place, unmarked_stood}
-use Rattle.rk_inv_logs.proofs.apply.Keeps.{plain_all}
 
 -- ---- items above those before them
 
 -- an item is above each of its key before all
 pub above_before : (before items : List Held) (x y : Held) → AreAbove before items → Contains items x → Contains before y → is_of x.table x.key y ≡ true → y.version < x.version
 above_before before [] x y above at there of = absurd (none_stands x at)
-above_before before (item ∷ items) x y above at there of =
-    ⊎_elim
-    (λ (is : item ≡ x).
-    All-contains (λ (other : Held). is_of x.table x.key other ≡ true → other.version < x.version) before y
-    (subst (IsAboveAll before) is above.0) there of)
-    (λ (later : Contains items x).
-    above_before (before ++ item ∷ []) items x y above.1 later (Contains-append_left before (item ∷ []) y there) of)
-    (stands_cases item items x at)
+above_before before (item ∷ items) x y above at there of = elim (stands_cases item items x at) [
+  | inl is ↦
+      All-contains (λ (other : Held). is_of x.table x.key other ≡ true → other.version < x.version) before y (rw is at above.0) there of
+  | inr later ↦ above_before (before ++ item ∷ []) items x y above.1 later (Contains-append_left before (item ∷ []) y there) of
+]
 
 -- ---- what truth and rest leave, by what some items that have just those of the rest of a key leave
 
@@ -47,25 +39,25 @@ module _ (truth rest staged : List Held) (table : ℕ) (key : List ℕ) (plain :
       let best = newest_is staged table key x is in
       let stands : Contains rest x = back x best.stands best.of_record in
       let mine = is_of_parts table key x best.of_record in
-      newest_found (truth ++ rest) table key x plain (record {
+      newest_found (truth ++ rest) table key x plain
+      (record {
         stands = Contains-append_right truth rest x stands;
         of_record = best.of_record;
-        greatest = λ other at of.
-            ⊎_elim
-            (λ (there : Contains truth other).
-            let its = is_of_parts table key other of in
-            let less = above_before truth rest x other above stands there (is_of_from x.table x.key other (its.0 ∙ sym mine.0) (its.1 ∙ sym mine.1)) in
-            omega (arith, less))
-            (λ (there : Contains rest other). best.greatest other (forth other there) of)
-            (Contains-append_cases truth rest other at);
+        greatest = λ other at of. elim (Contains-append_cases truth rest other at) [
+          | inl there ↦
+              let its = is_of_parts table key other of in
+              let less =
+              above_before truth rest x other above stands there
+              (is_of_from x.table x.key other (its.0 ∙ sym mine.0) (its.1 ∙ sym mine.1)) in
+              omega (arith, less)
+          | inr there ↦ best.greatest other (forth other there) of
+        ];
       })
 
   -- where none is staged, that of the truth is
   none_newest : newest staged table key ≡ None → newest (truth ++ rest) table key ≡ newest truth table key
-  none_newest none =
-      ap (λ (f : ℕ → List ℕ → Option Held). f table key) (newest_from-append none_found truth rest)
-      ∙ newest_from-none (newest truth) rest table key
-      (λ x at. (newest_none staged table key).0 none x (forth x at))
+  none_newest none = ap (λ (f : ℕ → List ℕ → Option Held). f table key) (newest_from-append none_found truth rest)
+      ∙ newest_from-none (newest truth) rest table key (λ x at. (newest_none staged table key).0 none x (forth x at))
 
   pub state_record : (here : Option Held) → (newest staged table key ≡ None → record_of here ≡ live truth table key)
       → record_of (option_or (newest staged table key) here) ≡ live (truth ++ rest) table key
@@ -80,10 +72,8 @@ module _ (truth rest staged : List Held) (table : ℕ) (key : List ℕ) (plain :
 -- an entry that has an item is that item
 held_in : (entry : Entry) (item : Held) → Contains (items_in entry) item → entry ≡ entries.Held item
 held_in (entries.Held held) item at =
-    ⊎_elim (λ (is : held ≡ item). ap entries.Held is) (λ (none : Contains [] item). absurd (none_stands item none)) (stands_cases held [] item at)
-held_in (entries.Refused refused) item at = absurd (none_stands item at)
-held_in (entries.Carried carried) item at = absurd (none_stands item at)
-held_in (entries.Joined joined) item at = absurd (none_stands item at)
+    elim (stands_cases held [] item at) [ inl is ↦ ap entries.Held is | inr none ↦ absurd (none_stands item none) ]
+held_in _ item at = absurd (none_stands item at)
 
 -- ---- a master that serves a row
 
@@ -105,34 +95,23 @@ module _ (v : View) (sound : SoundView v) (row : Row) (has_row : Contains v.rows
   abbrev pub waiting : List Entry
   waiting = drop (v.written master).applied (v.written master).entries
 
-  -- it speaks for the row
-  speaks : master ≡ speaker_of row.phase
-  speaks =
-      speaker_is row master (v.handovers master row.tablet) w.applied
-      (All-contains (λ (r : Row). StillCounts (v.live master) (v.handovers master r.tablet).term r.term → RoleFits r master (v.handovers master r.tablet) w.applied)
-      v.rows row (sound.roles.fitting master) has_row (inl lives))
-      (speaks_serving (post_of row.phase master) (v.handovers master row.tablet) row.term serves)
-
   rest_is : rests v row ≡ counting row.range (unmarked_from w.marks (max last.from w.applied) w.entries)
-  rest_is =
-      lineage_last v.written row.range (lineage_of row.phase) last is_last
-      ∙ ap (λ (m : ℕ). counting row.range (unmarked_from (v.written m).marks (max last.from (v.written m).applied) (v.written m).entries)) here
+  rest_is = lineage_last v.written row.range (lineage_of row.phase) last is_last
+      ∙ ap (λ (m : ℕ). counting row.range (unmarked_from (v.written m).marks (max last.from (v.written m).applied) (v.written m).entries))
+      here
 
   -- what the rest has is staged
   pub rest_waits : (entry : Entry) → Contains (rests v row) entry → Contains waiting entry
-  rest_waits entry stands =
-      later_stands w.applied (max last.from w.applied) w.entries entry (omega arith)
+  rest_waits entry stands = later_stands w.applied (max last.from w.applied) w.entries entry (omega arith)
       (unmarked_stood w.marks (max last.from w.applied) (drop (max last.from w.applied) w.entries) entry
-      (filter_from (counts row.range) (unmarked_from w.marks (max last.from w.applied) w.entries) entry
-      (subst (λ (l : List Entry). Contains l entry) rest_is stands)))
+      (filter_from (counts row.range) (unmarked_from w.marks (max last.from w.applied) w.entries) entry (rw rest_is at stands)))
 
   -- the call of each of its entries waits
   pub rest_calls : (entry : Entry) → Contains (rests v row) entry → is_call_entry entry ≡ true → (place : ℕ) × HasCall (v.calls master) place entry
   rest_calls entry stands of_call =
       let free =
       unmarked_place w.marks (max last.from w.applied) (drop (max last.from w.applied) w.entries) entry
-      (filter_from (counts row.range) (unmarked_from w.marks (max last.from w.applied) w.entries) entry
-      (subst (λ (l : List Entry). Contains l entry) rest_is stands)) in (
+      (filter_from (counts row.range) (unmarked_from w.marks (max last.from w.applied) w.entries) entry (rw rest_is at stands)) in (
         max last.from w.applied + free.k,
         sound.rest.found master lives (max last.from w.applied + free.k) entry (omega arith)
             (place_of w.entries (max last.from w.applied) free.k (max last.from w.applied + free.k) entry refl free.at) of_call free.free,
@@ -140,22 +119,21 @@ module _ (v : View) (sound : SoundView v) (row : Row) (has_row : Contains v.rows
 
   -- two rows that have a key are one
   one_row : (other : Row) → Contains v.rows other → (table : ℕ) (key : List ℕ) → has_key row.range table key ≡ true → has_key other.range table key ≡ true → other ≡ row
-  one_row other stands table key first second =
-      ⊎_elim (λ (same : other.tablet ≡ row.tablet). same_number v.rows other row sound.rows.apart stands has_row same)
-      (λ (apart : other.tablet ≡ row.tablet → ⊥).
-      absurd (false≢true (sym (in_one_row v.rows row other table key sound.rows.apart has_row stands apart first) ∙ second)))
-      (cases_eq other.tablet row.tablet)
+  one_row other stands table key first second = elim (cases_eq other.tablet row.tablet) [
+    | inl same ↦ same_number v.rows other row sound.rows.apart stands has_row same
+    | inr apart ↦ absurd (false≢true (sym (in_one_row v.rows row other table key sound.rows.apart has_row stands apart first) ∙ second))
+  ]
 
   -- the rest has an item of the row whose call waits
   call_rest : (place : ℕ) (x : Held) (call : Call) → IsEntryOf call (entries.Held x) → Waits v.rows (v.handovers master) w master place call
       → slice_get w.entries place ≡ Some (entries.Held x) → is_in row.range x ≡ true → Contains (rests v row) (entries.Held x)
   call_rest place x call own waits there inside =
-      let in_row : has_key row.range call.table call.key ≡ true = has_by_key row.range call.table x.table call.key x.key own.table_is own.key_is ∙ inside in
+      let in_row = has_by_key row.range call.table x.table call.key x.key own.table_is own.key_is ∙ inside in
       let same : waits.row ≡ row = one_row waits.row waits.has_row call.table call.key in_row waits.in_row in
       let rest : Contains (rests v waits.row) waits.entry =
-      of_waiting (Contains (rests v waits.row)) v.rows (v.handovers master) v.written master place call waits (All-contains_itself (rests v waits.row)) in
-      subst (λ (r : Row). Contains (rests v r) (entries.Held x)) same
-      (subst (Contains (rests v waits.row)) (one_at w.entries place waits.entry (entries.Held x) waits.stands there) rest)
+      of_waiting (Contains (rests v waits.row)) v.rows (v.handovers master) v.written master place call waits
+      (All-contains_itself (rests v waits.row)) in
+      rw same at (rw (one_at w.entries place waits.entry (entries.Held x) waits.stands there) at rest)
 
   -- so it has each staged item of the row
   placed_rest : (place : ℕ) (x : Held) → w.applied ≤ place → slice_get w.entries place ≡ Some (entries.Held x) → is_in row.range x ≡ true
@@ -185,13 +163,13 @@ module _ (v : View) (sound : SoundView v) (row : Row) (has_row : Contains v.rows
     state_tells knows =
         let all : items_of (truths v row ++ rests v row) ≡ items_of (truths v row) ++ items_of (rests v row) =
         flat_map-append items_in (truths v row) (rests v row) in
-        let above : AreAbove (items_of (truths v row)) (items_of (rests v row)) =
-        All-contains (λ (r : Row). AreAbove (items_of (truths v r)) (items_of (rests v r))) v.rows row sound.order.above has_row in
-        let plain : IsPlain (items_of (truths v row)) =
-        (All-contains (λ (r : Row). IsTruth v.base r.range (truths v r) v.journal) v.rows row sound.truth.true has_row).plain in
+        let above : AreAbove (items_of (truths v row)) (items_of (rests v row)) = (row_in v sound row has_row).above in
+        let plain : IsPlain (items_of (truths v row)) = (row_true v sound row has_row).plain in
         state_record (items_of (truths v row)) (items_of (rests v row)) (items_of waiting) table key
         (subst IsPlain all (plain_all (truths v row) (rests v row) plain above)) above
-        (λ x at of. let parts = is_of_parts table key x of in waits_rest x at (has_by_key row.range x.table table x.key key parts.0 parts.1 ∙ in_row))
+        (λ x at of.
+        let parts = is_of_parts table key x of in
+        waits_rest x at (has_by_key row.range x.table table x.key key parts.0 parts.1 ∙ in_row))
         (flat_among items_in (rests v row) waiting rest_waits) (found table key (v.records master))
-        (λ none. record_found v sound row master has_row lives serves table key in_row speaks (knows none))
+        (λ none. record_found v sound row master has_row lives serves table key in_row (knows none))
         ∙ sym (ap (λ (l : List Held). live l table key) all)

@@ -1,36 +1,19 @@
 -- A master that chose to write, or to refuse, may stage the call: it answers calls for the key, the call is its client's last, has no record
 -- and is not staged, and what truth and rest leave at its key allows the end.
-use Rattle.std.proofs.Common.{◌≡◌, ℕ, Bool, true, cond, ◌&&◌, not, List, Option, Some, None, refl, sym, ap, subst, ◌∙◌}
-use Rattle.rk_inv_base.proofs.Words.{cond_both, option_or, hash_of, get, Call, Op, Outcome, Held, Range, Allowed, is_mutation, found}
-use Rattle.rk_inv_base.proofs.Words.{is_serving, record_of, newest, Request, end_of_item, items_of, outcome_of, IsWellFormed, Master}
-use Rattle.rk_inv_base.proofs.Words.{staged, IsMaster, has_key, call_of, fresh_choice, is_known, needs_state, operation, state_of, Tablet}
-use Rattle.rk_inv_base.proofs.Words.{World, lives, log_in, master_at, tablet_in, Choice, Writes, Refuses, Wants, WasAsked, HasSegmentLeft}
-use Rattle.rk_inv_base.proofs.Words.{IsServedIn, refused_as, View, view, IsSound}
-use Rattle.rk_types.specs.declared.call.Op.TheVariants as ops
+use Rattle.std.proofs.Common.{Bool, List, None, Option, Some, ap, cond, subst, sym, true, ℕ, ◌∙◌, ◌≡◌}
 use Rattle.rk_model.specs.History.{record_of as map_record_of}
-use Rattle.rk_sound.specs.Changes.{MayEndIn, next_version}
-use Rattle.rk_sound.specs.Small.{refusal_staged_in, write_staged_in}
+use Rattle.rk_inv_base.proofs.Words.{Allowed, Call, Choice, HasSegmentLeft, Held, IsMaster, IsServedIn, IsSound, IsWellFormed, Master}
+use Rattle.rk_inv_base.proofs.Words.{Outcome, Range, Refuses, Request, Tablet, View, WasAsked, World, Writes, call_of, end_of_item, found}
+use Rattle.rk_inv_base.proofs.Words.{get, has_key, hash_of, is_known, is_mutation, is_serving, items_of, lives, log_in, master_at, newest}
+use Rattle.rk_inv_base.proofs.Words.{option_or, outcome_of, record_of, refused_as, staged, state_of, tablet_in, view}
 use Rattle.rk_inv_base.proofs.calls.RefusalStaged.{sound_refused}
 use Rattle.rk_inv_base.proofs.calls.WriteStaged.{sound_staged}
-use Rattle.rk_inv_events.specs.request.Small.{choice_in, request_message}
-use Rattle.rk_inv_events.proofs.request.Choices.{IsFresh, fresh}
-use Rattle.rk_inv_events.proofs.request.Served.{served_row}
-use Rattle.rk_inv_events.specs.answer.Small.{StagesNothing}
-use Rattle.rk_inv_events.proofs.answer.AtMaster.{ends_order, has_here, served_here, tablet_is}
+use Rattle.rk_inv_events.proofs.Words.{MayEndIn, next_version, refusal_staged_in, write_staged_in}
+use Rattle.rk_inv_events.proofs.request.Choices.{IsFresh, fresh, staging_mutates}
+use Rattle.rk_inv_events.proofs.request.Served.{ends_order, has_here, served_here, served_row, tablet_is}
 use Rattle.rk_inv_events.proofs.write.Choosing.{FitsCall, fresh_fits}
 use Rattle.rk_inv_events.proofs.write.Ending.{HasTablet, found_state, found_tells, left_at_key, may_end, version_above}
-
--- only a mutation is staged
-staging_mutates : (number : ℕ) (tablet : Tablet) (call : Call) (state : Option Held) → (StagesNothing (fresh_choice number tablet call state) → ⊥) → is_mutation call.op ≡ true
-staging_mutates number tablet call state =
-    cond_both (needs_state call.op && not (is_known tablet (hash_of call.key) state)) (Wants number) (operation number call.op (record_of state))
-    (λ choice. (StagesNothing choice → ⊥) → is_mutation call.op ≡ true) (λ wants stages. absurd (stages tt)) (λ knows. by_op call.op (record_of state))
-  where
-    by_op : (op : Op) (there : Option (ℕ × List ℕ)) → (StagesNothing (operation number op there) → ⊥) → is_mutation op ≡ true
-    by_op ops.Get there stages = absurd (stages tt)
-    by_op (ops.Put value) there stages = refl
-    by_op (ops.CondPut expected value) there stages = refl
-    by_op ops.Delete there stages = refl
+use Rattle.rk_inv_events.specs.request.Small.{choice_in, request_message}
 
 -- a master answers calls for the key of a call, by the tablet of this number
 record IsServedAt (v : View) (master : ℕ) (call : Call) (number : ℕ) : Type 0 where
@@ -63,7 +46,7 @@ module _ (w : World) (number master client : ℕ) (request : Request) (sound : I
     -- so calls for the key are answered here
     is_served : IsServedAt v master call its.number
     is_served =
-        let of = served_row v master its.number sound.rows sound.roles alive serves in
+        let of = served_row v sound master its.number alive serves in
         let inside : has_key (v.handovers master of.row.tablet).range call.table call.key ≡ true =
         ap (λ (n : ℕ). has_key (v.handovers master n).range call.table call.key) of.number
         ∙ has_here w master call.table call.key its.number its.tablet formed here its.serves in
@@ -103,20 +86,18 @@ module _ (w : World) (number master client : ℕ) (request : Request) (sound : I
           (λ (b : Bool). option_or (cond b (newest (items_of (staged own)) call.table call.key) None) (found call.table call.key own.records)) mutates
 
       tells : is_known its.tablet (hash_of call.key) (state_of own call) ≡ true → record_of (state_of own call) ≡ map_record_of (left_at_key v sound master call served)
-      tells known =
-          ap record_of state_is
+      tells known = ap record_of state_is
           ∙ found_tells v sound master call served its.tablet (has_tablet served.row.tablet number_is)
           (subst (λ (o : Option Held). is_known its.tablet (hash_of call.key) o ≡ true) state_is known)
 
       pub fits : FitsCall its.number (v.handovers master served.row.tablet).counter call (left_at_key v sound master call served) choice
-      fits =
-          subst (FitsCall its.number (v.handovers master served.row.tablet).counter call (left_at_key v sound master call served)) its.choice_is
-          (fresh_fits its.number (v.handovers master served.row.tablet).counter call its.tablet (state_of own call) (left_at_key v sound master call served) tells
-          (version_above v sound master call served))
+      fits = subst (FitsCall its.number (v.handovers master served.row.tablet).counter call (left_at_key v sound master call served))
+          its.choice_is
+          (fresh_fits its.number (v.handovers master served.row.tablet).counter call its.tablet (state_of own call)
+          (left_at_key v sound master call served) tells (version_above v sound master call served))
 
       pub ends : (outcome : Outcome) → Allowed (left_at_key v sound master call served) call.op outcome → MayEndIn v served.row call outcome
-      ends =
-          may_end v sound master call served its.tablet.completions (has_tablet served.row.tablet number_is).completions
+      ends = may_end v sound master call served its.tablet.completions (has_tablet served.row.tablet number_is).completions
           (ends_order w master call.table call.key its.number its.tablet formed here its.serves) (its.new mutates) mutates
           (its.unstaged mutates) was_asked
 
@@ -126,7 +107,7 @@ module _ (w : World) (number master client : ℕ) (request : Request) (sound : I
     pub sound_written : (tablet : ℕ) (value : Option (List ℕ)) → choice_in w master client request ≡ Writes tablet value → IsSound (write_staged_in w master tablet call value)
     sound_written tablet value chose =
         let its = fresh own call (Writes tablet value) tt chose in
-        let mutates = staging_mutates its.number its.tablet call (state_of own call) (λ none. subst StagesNothing its.choice_is none) in
+        let mutates = staging_mutates its.number its.tablet call (state_of own call) (Writes tablet value) its.choice_is (λ none. none) in
         let at = is_served (Writes tablet value) its mutates in
         let fit = fits (Writes tablet value) its mutates at.served at.number_is in
         subst (λ (n : ℕ). IsSound (write_staged_in w master n call value)) (at.number_is ∙ sym fit.number_is)
@@ -141,7 +122,7 @@ module _ (w : World) (number master client : ℕ) (request : Request) (sound : I
     pub sound_refusal : (there : ℕ) (absent : Bool) → choice_in w master client request ≡ Refuses there absent → IsSound (refusal_staged_in w master call there absent)
     sound_refusal there absent chose =
         let its = fresh own call (Refuses there absent) tt chose in
-        let mutates = staging_mutates its.number its.tablet call (state_of own call) (λ none. subst StagesNothing its.choice_is none) in
+        let mutates = staging_mutates its.number its.tablet call (state_of own call) (Refuses there absent) its.choice_is (λ none. none) in
         let at = is_served (Refuses there absent) its mutates in
         let fit = fits (Refuses there absent) its mutates at.served at.number_is in
         sound_refused w master call there absent sound

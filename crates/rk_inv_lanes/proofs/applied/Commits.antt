@@ -1,67 +1,22 @@
--- A master is caught up where a backup told what it holds, and stays so where it appends entries and where what waited goes on.
+-- A master is caught up where a backup told what it holds, and stays so at each other message, at its turn and where a tablet is split.
 use Rattle.std.proofs.Common.{◌≡◌, ◌+◌, ◌≤◌, ℕ, Bool, true, false, cond, List, [], ◌∷◌, length, nat_lt, Option, None, Some, refl, sym}
 use Rattle.std.proofs.Common.{subst, ◌∙◌, arith, ltb-false}
-use Rattle.rk_inv_base.proofs.Words.{NumberMap, get, Call, Ended, Entry, frozen, joined, Handover, Role, Log, bytes_of, overreach}
-use Rattle.rk_inv_base.proofs.Words.{Overreach, Stored, apply_entries, apply_entry, newly_held, stored_taken, told_length, with_applied}
-use Rattle.rk_inv_base.proofs.Words.{with_ended, with_entry_item, told_by, Master, is_settled, with_all, with_appended, with_known, Tablet}
-use Rattle.rk_inv_base.proofs.Words.{all_going_on, closing_entry, freezing, going_on_in, is_sealed_stored, joined_entry, tablet_frozen}
-use Rattle.rk_inv_base.proofs.Words.{Worked}
-use Rattle.rk_entry.specs.declared.entry.Entry.TheVariants as entries
-use Rattle.rk_transfer.specs.declared.role.Role.TheVariants as roles
-use Rattle.rk_inv_wellformed.proofs.lanes.Ledgers.{kept_by_fold}
+use Rattle.rk_inv_base.proofs.Words.{get, Call, Ended, Entry, Log, bytes_of, overreach, Overreach, Stored, apply_entries, apply_entry}
+use Rattle.rk_inv_base.proofs.Words.{newly_held, stored_taken, told_length, with_applied, with_ended, with_entry_item, told_by, Master}
+use Rattle.rk_inv_base.proofs.Words.{with_known, Message, as_entries, master_step, master_turn, spelled_all, with_split, ⊤}
 use Rattle.rk_inv_lanes.specs.applied.CaughtUp.{AreApplied, IsCaughtUp}
-use Rattle.rk_inv_lanes.proofs.applied.Logs.{applied_entry, applied_told}
+use Rattle.rk_inv_lanes.proofs.applied.Logs.{applied_entry, applied_side, applied_told}
+use Rattle.rk_inv_lanes.proofs.masters.Changes.{IsLasting, all_going_on_has}
+use Rattle.rk_inv_lanes.proofs.masters.Steps.{split_has, told_has, turn_has}
 
--- ---- tests
-
--- what is made where a test holds, and what where it does not
-pub either_caught : (test : Bool) (one other : Master) → IsCaughtUp one → IsCaughtUp other → IsCaughtUp (cond test one other)
-either_caught true one other first second = first
-either_caught false one other first second = second
-
-pub either_work : (test : Bool) (one other : Worked) → IsCaughtUp one.master → IsCaughtUp other.master → IsCaughtUp (cond test one other).master
-either_work true one other first second = first
-either_work false one other first second = second
-
--- ---- entries are appended
-
-pub all_caught : (master : Master) (list : List Entry) → IsCaughtUp master → IsCaughtUp (with_all master list)
-all_caught master list caught =
-    kept_by_fold IsCaughtUp with_appended (λ now entry kept. applied_entry now.log entry now.applied kept) list master caught
-
--- ---- what waited
-
-pub freezing_caught : (master : Master) (number : ℕ) (tablet : Tablet) (handover : Option Handover)
-    → IsCaughtUp master → IsCaughtUp (freezing master number tablet handover)
-freezing_caught master number tablet None caught = caught
-freezing_caught master number tablet (Some handover) caught =
-    either_caught (is_settled master tablet.handover.range) (tablet_frozen master number tablet handover) master caught caught
-
-pub closing_entry_caught : (master : Master) (number : ℕ) (tablet : Tablet) (handover : Option Handover)
-    → IsCaughtUp master → IsCaughtUp (closing_entry master number tablet handover)
-closing_entry_caught master number tablet None caught = caught
-closing_entry_caught master number tablet (Some handover) caught =
-    applied_entry master.log (joined_entry tablet) master.applied caught
-
-going_on_caught : (master : Master) (number : ℕ) (tablet : Tablet) (role : Role) → IsCaughtUp master → IsCaughtUp (going_on_in master number tablet role)
-going_on_caught master number tablet roles.Closing caught =
-    freezing_caught master number tablet (frozen tablet.handover tablet.handover.term) caught
-going_on_caught master number tablet (roles.Joining None) caught =
-    let handover = joined tablet.handover tablet.handover.term (Some (length master.log.entries)) in
-    either_caught (is_sealed_stored master tablet) (closing_entry master number tablet handover) master
-    (closing_entry_caught master number tablet handover caught) caught
-going_on_caught master number tablet (roles.Joining (Some entry)) caught = caught
-going_on_caught master number tablet roles.Absent caught = caught
-going_on_caught master number tablet roles.Serving caught = caught
-going_on_caught master number tablet roles.Frozen caught = caught
-going_on_caught master number tablet (roles.Wanting from) caught = caught
-going_on_caught master number tablet roles.Receiving caught = caught
-going_on_caught master number tablet (roles.Rebuilding from entry) caught = caught
-
-all_going_on_caught : (master : Master) (tablets : NumberMap Tablet) → IsCaughtUp master → IsCaughtUp (all_going_on master tablets)
-all_going_on_caught master tablets caught =
-    kept_by_fold IsCaughtUp (λ now (entry : ℕ × Tablet). going_on_in now entry.0 entry.1 entry.1.handover.role)
-    (λ now entry kept. going_on_caught now entry.0 entry.1 entry.1.handover.role kept) tablets master caught
+-- what is applied stays so where a log grows
+caught_last : IsLasting (λ log applied calls sides records. AreApplied log applied) (λ item. ⊤)
+caught_last = record {
+  appended = λ master entry caught. applied_entry master.log entry caught;
+  sealed = λ master items caught. applied_side (spelled_all (as_entries items)) caught;
+  put = λ master item fits caught. caught;
+  dropped = λ master range caught. caught;
+}
 
 -- ---- entries are applied
 
@@ -71,10 +26,8 @@ record Applies (master after : Master) (count : ℕ) : Type 0 where
   applied : after.applied ≡ master.applied + count
 
 item_applies : (master : Master) (entry : Entry) → Applies master (with_applied (with_entry_item master entry)) 1
-item_applies master (entries.Held held) = record { log = refl; applied = refl }
-item_applies master (entries.Refused refused) = record { log = refl; applied = refl }
-item_applies master (entries.Carried carried) = record { log = refl; applied = refl }
-item_applies master (entries.Joined joined) = record { log = refl; applied = refl }
+item_applies master (Entry.Held held) = record { log = refl; applied = refl }
+item_applies master _ = record { log = refl; applied = refl }
 
 ended_applies : (master : Master) (place : ℕ) (call : Option Call) (ends : List Ended) → Applies master (with_ended master place call ends).master 0
 ended_applies master place (Some call) (end ∷ ends) = record { log = refl; applied = omega arith }
@@ -103,10 +56,8 @@ told_caught master backup stored fits caught =
     let known = with_known master backup stored.segment stored.length in
     let now = (apply_entries known (newly_held known)).master in
     let applies = entries_apply (newly_held known) known in
-    all_going_on_caught now now.tablets
-    (subst (λ (log : Log). AreApplied log now.applied) (sym applies.log)
-    (subst (AreApplied known.log) (sym applies.applied)
-    (applied_told master.log backup stored.segment stored.length master.applied fits caught)))
+    all_going_on_has caught_last now now.tablets (rw applies.log (subst (AreApplied known.log) (sym applies.applied)
+    (applied_told backup stored.segment stored.length fits caught)))
 
 -- where a length does not reach beyond the segment, it is at most that of the segment
 within_reach : (log : Log) (segment size : ℕ) → overreach log segment size ≡ None → size ≤ length (bytes_of log segment)
@@ -118,10 +69,22 @@ within_reach log segment size none = by (nat_lt (length (bytes_of log segment)) 
     by true is none = absurd (cc none)
     by false is none = ltb-false (length (bytes_of log segment)) size is
 
-pub stored_caught : (master : Master) (backup : ℕ) (stored : Stored) → IsCaughtUp master
+stored_caught : (master : Master) (backup : ℕ) (stored : Stored) → IsCaughtUp master
     → IsCaughtUp (stored_taken master backup stored (overreach master.log stored.segment stored.length)).master
 stored_caught master backup stored caught = by (overreach master.log stored.segment stored.length) refl
   where
     by : (beyond : Option Overreach) → overreach master.log stored.segment stored.length ≡ beyond → IsCaughtUp (stored_taken master backup stored beyond).master
     by None is = told_caught master backup stored (within_reach master.log stored.segment stored.length is) caught
     by (Some beyond) is = caught
+
+-- ---- all that a master does
+
+pub step_caught : (master : Master) (message : Message) → IsCaughtUp master → IsCaughtUp (master_step master message).master
+step_caught master message caught = told_has caught_last master message.from message.body (λ call. caught)
+    (λ backup stored. stored_caught master backup stored caught) (λ place none inside. tt) caught
+
+pub turn_caught : (master : Master) → IsCaughtUp master → IsCaughtUp (master_turn master).master
+turn_caught master caught = turn_has caught_last master caught
+
+pub split_caught : (master : Master) (number at new term : ℕ) → IsCaughtUp master → IsCaughtUp (with_split master number at new term)
+split_caught master number at new term caught = split_has caught_last master number at new term caught

@@ -1,11 +1,11 @@
 -- Where not every backup is known to hold all entries of a log, some backup is to be sent bytes.
 use Rattle.std.proofs.Common.{◌≡◌, ◌+◌, ◌-◌, ◌<◌, ◌≤◌, ℕ, zero, suc, Bool, true, false, ◌&&◌, not, List, [], ◌∷◌, length, get_or, Option}
 use Rattle.std.proofs.Common.{None, Some, refl, ap, ◌∙◌, subst, arith, length-append, is_some, find, option_map, leb-false}
-use Rattle.std.proofs.lemmas.Bool.{lt-leb}
-use Rattle.std.proofs.lemmas.List.Sums.{prefix_len_stops}
 use Rattle.rk_inv_base.proofs.Words.{cond-true, cond_both, get_or_append_left, list_all, NumberedBytes, spelled, Entry, length-ends, cut}
 use Rattle.rk_inv_base.proofs.Words.{ends, ends_after, with_bytes, Known, is_whole, known_length, nothing, IsBackup, Log, committed}
 use Rattle.rk_inv_base.proofs.Words.{is_held, known_of, numbered, pending, side_segments, EntryEnd}
+use Rattle.std.proofs.lemmas.Bool.{lt-leb}
+use Rattle.std.proofs.lemmas.List.Sums.{prefix_len_stops}
 use Rattle.rk_log.proofs.Cuts.{ends_within}
 use Rattle.rk_log.specs.Cut.{cut_after}
 use Rattle.rk_log.specs.Known.{reaches}
@@ -51,7 +51,7 @@ cut_longer segments [] place = omega arith
 cut_longer segments (entry ∷ entries) place =
     omega (
       arith,
-      first_part_length (get_or segments place []) (get_or (with_bytes segments (spelled entry)) place []) (with_bytes_front segments (spelled entry) place),
+      first_part_length (with_bytes_front segments (spelled entry) place),
       cut_longer (with_bytes segments (spelled entry)) entries place,
     )
 

@@ -1,17 +1,15 @@
 -- The masters of a lane are caught up: in a new lane, after each event, and after a client's turn or answer.
 use Rattle.std.proofs.Common.{◌≡◌, ◌<◌, ◌≤◌, ◌-◌, ℕ, [], length, Option, None, Some, refl, sym, ap, subst, ⊎_elim, arith, unwrap_or}
 use Rattle.rk_inv_base.proofs.Words.{cases_eq, get, get_or, FIRST_SIDE_SEGMENT, cut, Known, known_length, committed, Called, accept, ask}
-use Rattle.rk_inv_base.proofs.Words.{Session, IsWellFormed, Master, log_bytes, new_master, tablet_at, master_step, master_turn, MOST_BYTES}
-use Rattle.rk_inv_base.proofs.Words.{world_visited, has_parts, with_halves, with_split, happened, World, bytes_of_logs, log_in, master_at}
-use Rattle.rk_inv_base.proofs.Words.{new_world, with_master, Event}
+use Rattle.rk_inv_base.proofs.Words.{Session, IsWellFormed, Master, log_bytes, new_master, MOST_BYTES, world_visited, happened, World}
+use Rattle.rk_inv_base.proofs.Words.{bytes_of_logs, log_in, master_at, new_world, with_master, Event}
 use Rattle.rk_inv_wellformed.proofs.maps.Bounds.{within_sum_of}
+use Rattle.rk_inv_base.proofs.logs.Segments.{segments_few}
 use Rattle.rk_inv_base.proofs.views.Fresh.{each_fresh}
 use Rattle.rk_inv_base.proofs.views.Masters.{master_other, master_same}
-use Rattle.rk_inv_base.proofs.logs.Segments.{segments_few}
 use Rattle.rk_inv_tablets.proofs.steady.Walks.{IsKept, Part, accept_keeps, ask_keeps, event_keeps}
 use Rattle.rk_inv_lanes.specs.applied.CaughtUp.{AllCaughtUp, IsCaughtUp}
-use Rattle.rk_inv_lanes.proofs.applied.Commits.{either_caught}
-use Rattle.rk_inv_lanes.proofs.applied.Steps.{step_caught, turn_caught}
+use Rattle.rk_inv_lanes.proofs.applied.Commits.{split_caught, step_caught, turn_caught}
 
 -- ---- events
 
@@ -21,22 +19,16 @@ AreCaughtUp masters count backups = (master : ℕ) → IsCaughtUp (get_or (new_m
 module _ (w : World) (caught : AllCaughtUp w) where
   put_caught : (number : ℕ) (master : Master) → IsCaughtUp master → AllCaughtUp (with_master w number master)
   put_caught number master now q =
-      ⊎_elim
-      (λ (is : q ≡ number). subst IsCaughtUp (sym (master_same w number master q is)) now)
-      (λ (apart : q ≡ number → ⊥). subst IsCaughtUp (sym (master_other w number master q apart)) (caught q))
-      (cases_eq q number)
+      ⊎_elim (λ (is : q ≡ number). subst IsCaughtUp (sym (master_same w number master q is)) now)
+      (λ (apart : q ≡ number → ⊥). subst IsCaughtUp (sym (master_other w number master q apart)) (caught q)) (cases_eq q number)
 
   caught_kept : IsKept AreCaughtUp w
   caught_kept = record {
     now = caught;
-    steps = λ master message. put_caught master (master_step (master_at w master) message).master (step_caught (master_at w master) (caught master) message);
-    turns = λ master. put_caught master (master_turn (master_at w master)).master (turn_caught (master_at w master) (caught master));
+    steps = λ master message. put_caught master _ (step_caught (master_at w master) message (caught master));
+    turns = λ master. put_caught master _ (turn_caught (master_at w master) (caught master));
     adds = λ master tablet range. put_caught master _ (caught master);
-    splits = λ master tablet at new term.
-        let before = master_at w master in
-        put_caught master (with_split before tablet at new term)
-        (either_caught (has_parts (tablet_at before tablet).handover.range at) (with_halves before tablet (tablet_at before tablet) at new term) before
-        (caught master) (caught master));
+    splits = λ master tablet at new term. put_caught master _ (split_caught (master_at w master) tablet at new term (caught master));
     stores = λ number segments. caught;
   }
 

@@ -1,13 +1,14 @@
 -- What is applied of a log stays all that is held where the log grows, and becomes so again when a backup tells what it holds.
-use Rattle.std.proofs.Common.{◌≡◌, ℕ, ◌+◌, ◌-◌, ◌<◌, ◌≤◌, false, List, [], ◌∷◌, ◌++◌, length, get_or, set, take, drop, sym, ap, subst, ◌∙◌}
-use Rattle.std.proofs.Common.{⊎_elim, arith, length-append, length-set, get_or-set_same, get_or-set_other, length-drop, length-take-le}
-use Rattle.std.proofs.lemmas.Bool.{lt-leb}
-use Rattle.std.proofs.lemmas.List.{set_past}
-use Rattle.std.proofs.lemmas.List.Folds.{list_all_at}
+use Rattle.std.proofs.Common.{◌≡◌, ℕ, ◌+◌, ◌-◌, ◌<◌, ◌≤◌, false, List, [], ◌∷◌, ◌++◌, length, get_or, set, take, drop, sym, ap, subst}
+use Rattle.std.proofs.Common.{◌∙◌, ⊎_elim, arith, length-append, length-set, get_or-set_same, get_or-set_other, length-drop}
+use Rattle.std.proofs.Common.{length-take-le}
 use Rattle.rk_inv_base.proofs.Words.{cases_eq, cases_lt, cond_both, get_or_past, get_or_push, prefix_len-le-length, prefix_len, spelled}
 use Rattle.rk_inv_base.proofs.Words.{Entry, FIRST_SIDE_SEGMENT, cut_push, length-ends, room_some, told_other, cut, end_of, ends, has_room}
 use Rattle.rk_inv_base.proofs.Words.{in_last, with_bytes, Known, known_length, nothing, Log, bytes_of, committed, is_held, known_of}
 use Rattle.rk_inv_base.proofs.Words.{with_entry, IsFirstPart}
+use Rattle.std.proofs.lemmas.Bool.{lt-leb}
+use Rattle.std.proofs.lemmas.List.{set_past}
+use Rattle.std.proofs.lemmas.List.Folds.{list_all_at}
 use Rattle.rk_log.proofs.Cuts.{ends_push, some_segments, spelled_some}
 use Rattle.rk_log.proofs.KnownLaws.{told_length}
 use Rattle.rk_log.proofs.LogLaws.{committed_told}
@@ -20,8 +21,8 @@ use Rattle.rk_inv_lanes.specs.applied.CaughtUp.{AreApplied, IsKnownThere}
 
 -- ---- one more entry
 
-pub first_part_length : (front whole : List ℕ) → IsFirstPart front whole → length front ≤ length whole
-first_part_length front whole first = omega (arith, ap length first.parts, length-append front first.more)
+pub first_part_length : {front whole : List ℕ} → IsFirstPart front whole → length front ≤ length whole
+first_part_length {front} first = omega (arith, ap length first.parts, length-append front first.more)
 
 -- the bytes of the last segment go past those that stood under its number
 past_before : (segments : List (List ℕ)) (bytes : List ℕ) → 0 < length bytes
@@ -56,15 +57,14 @@ module _ (log : Log) (entry : Entry) where
 
   more_main : (segment : ℕ) → segment < FIRST_SIDE_SEGMENT → length (bytes_of log segment) ≤ length (bytes_of (with_entry log entry) segment)
   more_main segment main =
-      ⊎_elim
-      (λ (none : segment < 1). omega (arith, ap length (bytes_zero log segment none)))
+      ⊎_elim (λ (none : segment < 1). omega (arith, ap length (bytes_zero log segment none)))
       (λ (some : 1 ≤ segment).
       omega (
         arith,
         ap length (bytes_main log segment some main),
         ap length (bytes_main (with_entry log entry) segment some main),
         ap (λ (s : List (List ℕ)). length (get_or s (segment - 1) [])) (cut_push [] log.entries entry),
-        first_part_length (get_or (cut log.entries) (segment - 1) []) (get_or more (segment - 1) [])
+        first_part_length
             (with_bytes_front (cut log.entries) (spelled entry) (segment - 1)),
       ))
       (cases_lt segment 1)
@@ -82,18 +82,16 @@ module _ (log : Log) (entry : Entry) where
         )
 
     not_held : is_held log.known (end_of more) ≡ false
-    not_held =
-        list_all_at (λ (backup : Known). reaches backup (end_of more)) log.known 0 nothing some
+    not_held = list_all_at (λ (backup : Known). reaches backup (end_of more)) log.known 0 nothing some
         (lt-leb (length (last_of more)) (known_length (known_of log 1) (length more)) not_known)
 
     committed_same : committed (with_entry log entry) ≡ committed log
-    committed_same =
-        ap (prefix_len (is_held log.known)) (ends_push [] log.entries entry)
+    committed_same = ap (prefix_len (is_held log.known)) (ends_push [] log.entries entry)
         ∙ prefix_len_push_no (is_held log.known) (ends log.entries) (end_of more) not_held
 
   -- nothing more is held where an entry is appended
-  pub applied_entry : (count : ℕ) → AreApplied log count → AreApplied (with_entry log entry) count
-  applied_entry count before = record {
+  pub applied_entry : {count : ℕ} → AreApplied log count → AreApplied (with_entry log entry) count
+  applied_entry before = record {
     known = λ backup segment main. omega (arith, before.known backup segment main, more_main segment main);
     count_is = λ some few.
         let was_few : length (cut log.entries) < FIRST_SIDE_SEGMENT =
@@ -103,11 +101,10 @@ module _ (log : Log) (entry : Entry) where
 
 -- ---- one more side segment
 
-pub applied_side : (log : Log) (bytes : List ℕ) (count : ℕ) → AreApplied log count → AreApplied (with_side log bytes) count
-applied_side log bytes count before = record {
+pub applied_side : {log : Log} (bytes : List ℕ) {count : ℕ} → AreApplied log count → AreApplied (with_side log bytes) count
+applied_side {log} bytes before = record {
   known = λ backup segment main.
-      ⊎_elim
-      (λ (none : segment < 1). omega (arith, before.known backup segment main, ap length (bytes_zero log segment none)))
+      ⊎_elim (λ (none : segment < 1). omega (arith, before.known backup segment main, ap length (bytes_zero log segment none)))
       (λ (some : 1 ≤ segment).
       omega (
         arith,
@@ -146,8 +143,7 @@ module _ (log : Log) (teller segment size : ℕ) where
 
   told_there : size ≤ length (bytes_of log segment) → IsKnownThere log → (other : ℕ) → other < FIRST_SIDE_SEGMENT
       → known_length (told (known_of log teller) segment size) other ≤ length (bytes_of log other)
-  told_there fits known other main =
-      ⊎_elim
+  told_there fits known other main = ⊎_elim
       (λ (its : other ≡ segment).
       omega (
         arith,
@@ -160,9 +156,8 @@ module _ (log : Log) (teller segment size : ℕ) where
 
   -- a backup tells no more than is there
   pub known_told : size ≤ length (bytes_of log segment) → IsKnownThere log → IsKnownThere (with_told log teller segment size)
-  known_told fits known backup other main =
-      by_backup (λ k. known_length k other ≤ length (bytes_of log other)) backup (λ same. told_there fits known other main)
-      (known backup other main)
+  known_told fits known backup other main = by_backup (λ k. known_length k other ≤ length (bytes_of log other)) backup
+      (λ same. told_there fits known other main) (known backup other main)
 
 -- so many entries behind those that are applied are held
 pub held_count : (log : Log) (count : ℕ) → count ≤ committed log
@@ -178,9 +173,9 @@ held_count log count less =
     )
 
 -- once they are applied, all that is held is
-pub applied_told : (log : Log) (teller segment size count : ℕ) → size ≤ length (bytes_of log segment) → AreApplied log count
+pub applied_told : {log : Log} (teller segment size : ℕ) {count : ℕ} → size ≤ length (bytes_of log segment) → AreApplied log count
     → AreApplied (with_told log teller segment size) (count + length (drop count (take (committed (with_told log teller segment size)) log.entries)))
-applied_told log teller segment size count fits before = record {
+applied_told {log} teller segment size {count} fits before = record {
   known = known_told log teller segment size fits before.known;
   count_is = λ some few.
       let backed : 1 ≤ length log.known =

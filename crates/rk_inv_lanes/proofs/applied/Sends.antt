@@ -1,13 +1,12 @@
 -- A master with staged entries that is caught up sends something on its turn.
 use Rattle.std.proofs.Common.{◌≡◌, ◌≢◌, true, ◌+◌, ◌-◌, ◌<◌, ◌≤◌, ℕ, List, [], ◌∷◌, length, get_or, map, Option, None, Some, refl, ap}
 use Rattle.std.proofs.Common.{⊎_elim, arith, length-append, fold, is_some, unwrap_or, length-drop}
-use Rattle.std.proofs.lemmas.List.Folds.{length-flat_map-take}
-use Rattle.std.proofs.lemmas.List.FromFn.{get_or-range_with_len, length-range_with_len}
 use Rattle.rk_inv_base.proofs.Words.{cases_lt, length-map, range_with_len, get, Entry, committed, pending, PlacedBytes, Traffic}
 use Rattle.rk_inv_base.proofs.Words.{with_message, Message, Called, IsWellFormed, Master, new_master, staged, append_of, appends, duties}
-use Rattle.rk_inv_base.proofs.Words.{master_turn, filled, MOST_BYTES, happened, ledger_after, World, bytes_of_logs, master_at}
-use Rattle.rk_types.specs.declared.node.Node.TheVariants as nodes
-use Rattle.rk_world.specs.declared.event.Event.TheVariants as events
+use Rattle.rk_inv_base.proofs.Words.{master_turn, filled, MOST_BYTES, happened, ledger_after, World, bytes_of_logs, master_at, Node}
+use Rattle.rk_inv_base.proofs.Words.{Event}
+use Rattle.std.proofs.lemmas.List.Folds.{length-flat_map-take}
+use Rattle.std.proofs.lemmas.List.FromFn.{get_or-range_with_len, length-range_with_len}
 use Rattle.rk_inv_lanes.specs.applied.CaughtUp.{AllCaughtUp, IsCaughtUp}
 use Rattle.rk_inv_lanes.proofs.applied.Lacking.{Lacks, lacks}
 use Rattle.rk_inv_lanes.proofs.applied.Lanes.{HasFew, few_of}
@@ -35,8 +34,7 @@ appends_some master lack =
 
 -- where entries are staged, not all are applied
 some_staged : (master : Master) → staged master ≢ [] → master.applied < length master.log.entries
-some_staged master some =
-    ⊎_elim (λ (less : master.applied < length master.log.entries). less)
+some_staged master some = ⊎_elim (λ (less : master.applied < length master.log.entries). less)
     (λ (past : length master.log.entries ≤ master.applied).
     absurd (some (none (staged master) (omega (arith, past, length-drop master.applied master.log.entries)))))
     (cases_lt master.applied (length master.log.entries))
@@ -58,9 +56,9 @@ turn_some master has caught some =
 -- ---- a lane
 
 -- a master of a lane sends one message at least
-sends_one : (w : World) (master : ℕ) → IsWellFormed w → bytes_of_logs w < MOST_BYTES → AllCaughtUp w → staged (master_at w master) ≢ []
+sends_one : {w : World} (master : ℕ) → IsWellFormed w → bytes_of_logs w < MOST_BYTES → AllCaughtUp w → staged (master_at w master) ≢ []
     → 1 ≤ length (master_turn (master_at w master)).sends
-sends_one w master formed room caught = by (get w.masters master) refl (caught master)
+sends_one {w} master formed room caught = by (get w.masters master) refl (caught master)
   where
     by : (found : Option Master) → get w.masters master ≡ found → IsCaughtUp (unwrap_or found (new_master master []))
         → staged (unwrap_or found (new_master master [])) ≢ [] → 1 ≤ length (master_turn (unwrap_or found (new_master master []))).sends
@@ -70,7 +68,7 @@ sends_one w master formed room caught = by (get w.masters master) refl (caught m
 pub sends_some : (w : World) (master : ℕ) → IsWellFormed w → bytes_of_logs w < MOST_BYTES → AllCaughtUp w → staged (master_at w master) ≢ []
     → (master_turn (master_at w master)).sends ≢ []
 sends_some w master formed room caught some none =
-    omega (arith, sends_one w master formed room caught some, ap (λ (list : List Message). length list) none)
+    omega (arith, sends_one master formed room caught some, ap (λ (list : List Message). length list) none)
 
 -- ---- the wire
 
@@ -79,13 +77,13 @@ sent_counted [] wire = omega arith
 sent_counted (message ∷ messages) wire = omega (arith, sent_counted messages (with_message message wire))
 
 pub wire_counts : (w : World) (master : ℕ) (called : Called) → IsWellFormed w → bytes_of_logs w < MOST_BYTES → AllCaughtUp w → staged (master_at w master) ≢ []
-    → w.wire.sent < (happened w (events.Turn (nodes.Master master)) called).world.wire.sent
+    → w.wire.sent < (happened w (Event.Turn (Node.Master master)) called).world.wire.sent
 wire_counts w master called formed room caught some =
     let worked = master_turn (master_at w master) in
     let filling : Message → Message = filled (ledger_after w.ledger master 0 worked).journal worked.served in
     omega (
       arith,
-      sends_one w master formed room caught some,
+      sends_one master formed room caught some,
       sent_counted (map filling worked.sends) w.wire,
       length-map worked.sends filling,
     )

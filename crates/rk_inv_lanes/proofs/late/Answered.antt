@@ -1,13 +1,9 @@
 -- What a Reply on the wire says that was not there before its Request was delivered: what the master chose to say.
-use Rattle.std.proofs.Common.{◌≡◌, ◌+◌, ℕ, Bool, true, false, cond, List, [], Option, Some, None, refl, sym, ap, subst, ⊎_elim, ◌∙◌}
-use Rattle.std.proofs.Common.{slice_get, unwrap_or}
+use Rattle.std.proofs.Common.{◌≡◌, ◌+◌, ℕ, Bool, true, false, cond, List, Option, Some, None, refl, sym, ap, ⊎_elim, ◌∙◌, slice_get}
 use Rattle.rk_inv_base.proofs.Words.{cases_eq, get_other, get_same, IsInOrder, get, Answer, Call, Placed, Traffic, with_message, Reply}
-use Rattle.rk_inv_base.proofs.Words.{Request, Body, Message, Called, outcome_of, IsWellFormed, MayAnswerMoved, Master, new_master, filled}
-use Rattle.rk_inv_base.proofs.Words.{place_of, reply_at, reply_with, answering, call_of, choice_of, chosen, ledger_after, losing, worked_at}
-use Rattle.rk_inv_base.proofs.Words.{World, has_crashed, master_at, Choice, Ignores, Reads, Redirects, Refuses, Repeats, Wants, Writes}
-use Rattle.rk_inv_base.proofs.Words.{Served}
-use Rattle.rk_types.specs.declared.call.Answer.TheVariants as answers
-use Rattle.rk_message.specs.declared.message.Body.TheVariants as bodies
+use Rattle.rk_inv_base.proofs.Words.{Request, Body, Message, Called, outcome_of, IsWellFormed, MayAnswerMoved, Master, filled, place_of}
+use Rattle.rk_inv_base.proofs.Words.{reply_at, reply_with, answering, call_of, choice_of, chosen, ledger_after, losing, worked_at, World}
+use Rattle.rk_inv_base.proofs.Words.{has_crashed, master_at, Choice, Ignores, Reads, Redirects, Refuses, Repeats, Wants, Writes, Served}
 use Rattle.rk_inv_events.specs.request.Small.{request_message}
 use Rattle.rk_inv_lanes.specs.late.Refused.{IsPutOff}
 use Rattle.rk_inv_lanes.specs.late.Sent.{IsMade}
@@ -18,7 +14,7 @@ use Rattle.rk_inv_lanes.proofs.late.Refusals.{moved_justified, not_yet_justified
 
 -- the answer of a Reply
 abbrev answer_in : Body → Option Answer
-answer_in (bodies.Reply reply) = Some reply.answer
+answer_in (Body.Reply reply) = Some reply.answer
 answer_in _ = None
 
 with_same : (reply : Reply) (place : ℕ) (there : Option Placed) → (reply_with reply place there).answer ≡ reply.answer
@@ -32,20 +28,17 @@ at_same journal reply (Some place) = with_same reply place (slice_get journal pl
 -- a Reply that is filled in says what it said
 filled_says : (journal : List Placed) (served : List Served) (master : Master) (call : Call) (answer : Answer)
     → answer_in (filled journal served (answering master call answer)).body ≡ Some answer
-filled_says journal served master call (answers.Done outcome) =
-    ap Some
-    (at_same journal (record { seq = call.seq; stamp = 0; place = 0; answer = answers.Done outcome })
+filled_says journal served master call (Answer.Done outcome) = ap Some
+    (at_same journal (record { seq = call.seq; stamp = 0; place = 0; answer = Answer.Done outcome })
     (place_of journal served call.client call.seq))
-filled_says journal served master call (answers.Moved tablet) = refl
-filled_says journal served master call (answers.NotYet key) = refl
+filled_says journal served master call _ = refl
 
 -- ---- what is on the wire
 
 -- the message that is there now is the one that was sent
 one_sent : (wire : Traffic) (sent message : Message) (new : ℕ) → get wire.messages new ≡ None
     → get (with_message sent wire).messages new ≡ Some message → sent ≡ message
-one_sent wire sent message new free there =
-    ⊎_elim
+one_sent wire sent message new free there = ⊎_elim
     (λ (is : new ≡ wire.sent + 1).
     let same : Some sent ≡ Some message = sym (get_same wire.messages (wire.sent + 1) sent new is) ∙ there in cc same)
     (λ (apart : new ≡ wire.sent + 1 → ⊥).
@@ -54,11 +47,11 @@ one_sent wire sent message new free there =
 
 -- what a choice says
 abbrev said : Choice → ℕ → Call → Option Answer
-said Redirects asked call = Some (answers.Moved asked)
-said (Repeats end) asked call = Some (answers.Done (outcome_of end))
+said Redirects asked call = Some (Answer.Moved asked)
+said (Repeats end) asked call = Some (Answer.Done (outcome_of end))
 said Ignores asked call = None
-said (Wants number) asked call = Some (answers.NotYet call.key)
-said (Reads outcome) asked call = Some (answers.Done outcome)
+said (Wants number) asked call = Some (Answer.NotYet call.key)
+said (Reads outcome) asked call = Some (Answer.Done outcome)
 said (Writes number value) asked call = None
 said (Refuses at absent) asked call = None
 
@@ -85,37 +78,33 @@ module _ (w : World) (new master seen asked : ℕ) (call : Call) (message : Mess
   pub says_choice : (choice : Choice)
       → get (worked_at w master seen (chosen own asked call choice)).world.wire.messages new ≡ Some message
       → answer_in message.body ≡ said choice asked call
-  says_choice Redirects there = says Redirects (answers.Moved asked) there
-  says_choice (Repeats end) there = says (Repeats end) (answers.Done (outcome_of end)) there
-  says_choice Ignores there = none there
-  says_choice (Wants number) there = says (Wants number) (answers.NotYet call.key) there
-  says_choice (Reads outcome) there = says (Reads outcome) (answers.Done outcome) there
-  says_choice (Writes number value) there = none there
-  says_choice (Refuses at absent) there = none there
+  says_choice Redirects there = says Redirects (Answer.Moved asked) there
+  says_choice (Repeats end) there = says (Repeats end) (Answer.Done (outcome_of end)) there
+  says_choice (Wants number) there = says (Wants number) (Answer.NotYet call.key) there
+  says_choice (Reads outcome) there = says (Reads outcome) (Answer.Done outcome) there
+  says_choice _ there = none there
 
 -- what the master chose to say is what the Reply says
-made_by_choice : (w : World) (number new master client : ℕ) (request : Request) (message : Message) (called : Called)
+made_by_choice : {w : World} {number new master client : ℕ} {request : Request} {message : Message} {called : Called}
     → IsMade w number new master client request message called
     → answer_in message.body ≡ said (choice_of (master_at w master) (call_of client request)) request.tablet (call_of client request)
-made_by_choice w number new master client request message called its =
+made_by_choice {w} {number} {new} {master} {client} {request} {message} {called} its =
     comes_to P w number master (request_message client master request) called its.asked refl (go (has_crashed w master)) its.made
   where
     P : World → Type 0
     P = λ after. get after.wire.messages new ≡ Some message
         → answer_in message.body ≡ said (choice_of (master_at w master) (call_of client request)) request.tablet (call_of client request)
 
-    go : (crashed : Bool)
-        → P (cond crashed (losing w)
+    go : (crashed : Bool) → P (cond crashed (losing w)
         (worked_at w master request.seen
         (chosen (master_at w master) request.tablet (call_of client request) (choice_of (master_at w master) (call_of client request))))).world
     go true there = none w new master request.seen request.tablet (call_of client request) message its.free there
-    go false there =
-        says_choice w new master request.seen request.tablet (call_of client request) message its.free
+    go false there = says_choice w new master request.seen request.tablet (call_of client request) message its.free
         (choice_of (master_at w master) (call_of client request)) there
 
 -- ---- what follows
 
-moves : (choice : Choice) (asked tablet : ℕ) (call : Call) → said choice asked call ≡ Some (answers.Moved tablet) → choice ≡ Redirects
+moves : (choice : Choice) (asked tablet : ℕ) (call : Call) → said choice asked call ≡ Some (Answer.Moved tablet) → choice ≡ Redirects
 moves Redirects asked tablet call is = refl
 moves _ asked tablet call is = absurd (cc is)
 
@@ -124,37 +113,34 @@ record IsWanted (choice : Choice) : Type 0 where
   tablet : ℕ
   is : choice ≡ Wants tablet
 
-wants : (choice : Choice) (asked : ℕ) (key : List ℕ) (call : Call) → said choice asked call ≡ Some (answers.NotYet key) → IsWanted choice
+wants : (choice : Choice) (asked : ℕ) (key : List ℕ) (call : Call) → said choice asked call ≡ Some (Answer.NotYet key) → IsWanted choice
 wants (Wants number) asked key call is = record { tablet = number; is = refl }
 wants _ asked key call is = absurd (cc is)
 
 -- the tablets of each master of a well formed lane stand by number
-tablets_in_order : (w : World) (master : ℕ) → IsWellFormed w → IsInOrder (master_at w master).tablets
-tablets_in_order w master formed = go (get w.masters master) refl
+tablets_in_order : {w : World} (master : ℕ) → IsWellFormed w → IsInOrder (master_at w master).tablets
+tablets_in_order {w} master formed = go (get w.masters master) refl
   where
     go : (there : Option Master) → get w.masters master ≡ there → IsInOrder (master_at w master).tablets
-    go None none = subst (λ (o : Option Master). IsInOrder (unwrap_or o (new_master master [])).tablets) (sym none) tt
-    go (Some own) some =
-        subst (λ (o : Option Master). IsInOrder (unwrap_or o (new_master master [])).tablets) (sym some)
-        (formed.masters master own some).tablets_order
+    go None none = rw none tt
+    go (Some own) some = rw some (formed.masters master own some).tablets_order
 
-module _ (w : World) (number new master client : ℕ) (request : Request) (message : Message) (called : Called) (its : IsMade w number new master client request message called) (reply : Reply) (replies : message.body ≡ bodies.Reply reply) where
+module _ (w : World) (number new master client : ℕ) (request : Request) (message : Message) (called : Called) (its : IsMade w number new master client request message called) (reply : Reply) (replies : message.body ≡ Body.Reply reply) where
   answer_is : answer_in message.body ≡ Some reply.answer
   answer_is = ap answer_in replies
 
   made : said (choice_of (master_at w master) (call_of client request)) request.tablet (call_of client request) ≡ Some reply.answer
-  made = sym (made_by_choice w number new master client request message called its) ∙ answer_is
+  made = sym (made_by_choice its) ∙ answer_is
 
-  pub told_moved : (tablet : ℕ) → reply.answer ≡ answers.Moved tablet → MayAnswerMoved (master_at w master) (call_of client request)
-  told_moved tablet is =
-      moved_justified (master_at w master) (call_of client request)
+  pub told_moved : (tablet : ℕ) → reply.answer ≡ Answer.Moved tablet → MayAnswerMoved (master_at w master) (call_of client request)
+  told_moved tablet is = moved_justified (master_at w master) (call_of client request)
       (moves (choice_of (master_at w master) (call_of client request)) request.tablet tablet (call_of client request) (made ∙ ap Some is))
 
-  pub told_not_yet : (key : List ℕ) → IsWellFormed w → reply.answer ≡ answers.NotYet key → IsPutOff (master_at w master) (call_of client request)
+  pub told_not_yet : (key : List ℕ) → IsWellFormed w → reply.answer ≡ Answer.NotYet key → IsPutOff (master_at w master) (call_of client request)
   told_not_yet key formed is =
       let wanted : IsWanted (choice_of (master_at w master) (call_of client request)) =
       wants (choice_of (master_at w master) (call_of client request)) request.tablet key (call_of client request) (made ∙ ap Some is) in
       record {
         tablet = wanted.tablet;
-        may = not_yet_justified (master_at w master) (call_of client request) wanted.tablet (tablets_in_order w master formed) wanted.is;
+        may = not_yet_justified (master_at w master) (call_of client request) wanted.tablet (tablets_in_order master formed) wanted.is;
       }

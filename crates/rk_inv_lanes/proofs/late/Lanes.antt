@@ -1,14 +1,10 @@
 -- A lane in which a message comes late: nothing has changed but what is on the wire.
-use Rattle.std.proofs.Common.{◌≡◌, ℕ, Bool, true, false, cond, List, [], ◌∷◌, Option, Some, refl, sym, ap, subst, ◌∙◌, append-nil}
+use Rattle.std.proofs.Common.{◌≡◌, ℕ, Bool, true, false, cond, List, [], ◌∷◌, Some, refl, ap, ◌∙◌, append-nil}
 use Rattle.rk_inv_base.proofs.Words.{cond-false, get, Node, row_of, Row, with_message, Prepare, Tenure, Body, Message, Called, is_noticed}
 use Rattle.rk_inv_base.proofs.Words.{Coordinated, answered, own_to, report, unanswered, ready, transfer, Ledger, with_all_served}
-use Rattle.rk_inv_base.proofs.Words.{with_marks, with_rebuilt, Master, master_step, Stepped, delivered, delivered_to, happened}
-use Rattle.rk_inv_base.proofs.Words.{ledger_after, losing, seen_in, to_master, with_sends, worked_at, Worked, changed, World, has_crashed}
-use Rattle.rk_inv_base.proofs.Words.{master_at, tablet_in, with_coordinator, with_ledger, Mark, Served, tenure_in}
-use Rattle.rk_types.specs.declared.node.Node.TheVariants as nodes
-use Rattle.rk_transfer.specs.declared.role.Role.TheVariants as roles
-use Rattle.rk_message.specs.declared.message.Body.TheVariants as bodies
-use Rattle.rk_world.specs.declared.event.Event.TheVariants as events
+use Rattle.rk_inv_base.proofs.Words.{with_marks, with_rebuilt, Master, master_step, Stepped, delivered_to, happened, ledger_after, losing}
+use Rattle.rk_inv_base.proofs.Words.{seen_in, to_master, with_sends, worked_at, Worked, changed, World, has_crashed, master_at, tablet_in}
+use Rattle.rk_inv_base.proofs.Words.{with_coordinator, with_ledger, Mark, Served, tenure_in, Role, Event}
 use Rattle.rk_inv_base.proofs.views.Masters.{same_of_each}
 use Rattle.rk_inv_lanes.specs.late.Late.{IsLateReport, IsOlder, IsPassedOver, is_told_again, is_waited_for, says_again}
 use Rattle.rk_inv_lanes.specs.late.Sent.{IsToldToOwn, order_to, report_of}
@@ -21,15 +17,13 @@ use Rattle.rk_inv_lanes.proofs.late.Reports.{report_late, report_told_again, rep
 -- what is so once its receiver has taken a message is so once that is delivered
 pub comes : (P : World → Type 0) (w : World) (number : ℕ) (message : Message) (called : Called)
     → get w.wire.messages number ≡ Some message → P (delivered_to w message message.to called).world
-    → P (happened w (events.Deliver number) called).world
-comes P w number message called there holds =
-    subst (λ (o : Option Message). P (delivered w o called).world) (sym there) holds
+    → P (happened w (Event.Deliver number) called).world
+comes P w number message called there holds = rw there holds
 
 pub comes_to : (P : World → Type 0) (w : World) (number master : ℕ) (message : Message) (called : Called)
-    → get w.wire.messages number ≡ Some message → message.to ≡ nodes.Master master → P (to_master w master message).world
-    → P (happened w (events.Deliver number) called).world
-comes_to P w number master message called there its holds =
-    comes P w number message called there (subst (λ (node : Node). P (delivered_to w message node called).world) (sym its) holds)
+    → get w.wire.messages number ≡ Some message → message.to ≡ Node.Master master → P (to_master w master message).world
+    → P (happened w (Event.Deliver number) called).world
+comes_to P w number master message called there its holds = comes P w number message called there (rw its holds)
 
 -- what is so where the master has crashed, and once it has taken the message, is so once that has reached it
 pub reaches : (P : World → Type 0) (w : World) (master : ℕ) (message : Message) → P (losing w).world
@@ -49,8 +43,7 @@ ledger_same : (ledger : Ledger) (master seen : ℕ) (worked : Worked) → worked
     → ledger_after ledger master seen worked ≡ ledger
 ledger_same ledger master seen worked served marked =
     ap (λ (calls : List Served). with_marks (with_all_served seen ledger calls) worked.marked) served
-    ∙ ap (with_marks ledger) marked
-    ∙ ap (λ (marks : List Mark). record ledger { marks = marks }) (append-nil ledger.marks)
+    ∙ ap (with_marks ledger) marked ∙ ap (λ (marks : List Mark). record ledger { marks = marks }) (append-nil ledger.marks)
 
 module _ (w : World) (master : ℕ) where
   abbrev own : Master
@@ -82,38 +75,35 @@ lost w = record {
 
 module _ (w : World) (number master : ℕ) where
   pub older_changes_nothing : (message : Message) (called : Called)
-      → get w.wire.messages number ≡ Some message → message.to ≡ nodes.Master master → IsOlder (master_at w master) message.body
-      → IsUntouched w (happened w (events.Deliver number) called).world
+      → get w.wire.messages number ≡ Some message → message.to ≡ Node.Master master → IsOlder (master_at w master) message.body
+      → IsUntouched w (happened w (Event.Deliver number) called).world
   older_changes_nothing message called there its older =
       comes_to (IsUntouched w) w number master message called there its
-      (reaches (IsUntouched w) w master message (lost w)
-      (untouched w master (seen_in message.body) (master_step (master_at w master) message)
-      (older_quiet (master_at w master) message.from message.body older)))
+      (reaches (IsUntouched w) w master message (lost w) (untouched w master (seen_in message.body)
+      (master_step (master_at w master) message) (older_quiet (master_at w master) message.from message.body older)))
 
   pub passed_changes_nothing : (message : Message) (called : Called)
-      → get w.wire.messages number ≡ Some message → message.to ≡ nodes.Master master → IsPassedOver (master_at w master) message.body
-      → IsUnchanged w (happened w (events.Deliver number) called).world
+      → get w.wire.messages number ≡ Some message → message.to ≡ Node.Master master → IsPassedOver (master_at w master) message.body
+      → IsUnchanged w (happened w (Event.Deliver number) called).world
   passed_changes_nothing message called there its passed =
       comes_to (IsUnchanged w) w number master message called there its
-      (reaches (IsUnchanged w) w master message (lost w).unchanged
-      (unchanged w master (seen_in message.body) (master_step (master_at w master) message)
-      (passed_stays (master_at w master) message.from message.body passed)))
+      (reaches (IsUnchanged w) w master message (lost w).unchanged (unchanged w master (seen_in message.body)
+      (master_step (master_at w master) message) (passed_stays (master_at w master) message.from message.body passed)))
 
   pub passed_is_silent : (message : Message) (called : Called)
-      → get w.wire.messages number ≡ Some message → message.to ≡ nodes.Master master → IsPassedOver (master_at w master) message.body
+      → get w.wire.messages number ≡ Some message → message.to ≡ Node.Master master → IsPassedOver (master_at w master) message.body
       → says_again (master_at w master) message.body ≡ false
-      → IsUntouched w (happened w (events.Deliver number) called).world
+      → IsUntouched w (happened w (Event.Deliver number) called).world
   passed_is_silent message called there its passed untold =
       comes_to (IsUntouched w) w number master message called there its
-      (reaches (IsUntouched w) w master message (lost w)
-      (untouched w master (seen_in message.body) (master_step (master_at w master) message)
-      (passed_quiet (master_at w master) message.from message.body passed untold)))
+      (reaches (IsUntouched w) w master message (lost w) (untouched w master (seen_in message.body)
+      (master_step (master_at w master) message) (passed_quiet (master_at w master) message.from message.body passed untold)))
 
   -- what a living master makes of an order
   sends_as : (body : Body) (called : Called) (message : Message) → get w.wire.messages number ≡ Some (order_to master body)
       → has_crashed w master ≡ false
       → (worked_at w master (seen_in body) (master_step (master_at w master) (order_to master body))).world.wire ≡ with_message message w.wire
-      → (happened w (events.Deliver number) called).world.wire ≡ with_message message w.wire
+      → (happened w (Event.Deliver number) called).world.wire ≡ with_message message w.wire
   sends_as body called message there lives makes =
       comes_to (λ (after : World). after.wire ≡ with_message message w.wire) w number master (order_to master body) called there refl
       (ap (λ (s : Stepped). s.world.wire)
@@ -122,22 +112,22 @@ module _ (w : World) (number master : ℕ) where
       ∙ makes)
 
   pub ready_again_sent : (prepare : Prepare) (from : ℕ) (called : Called)
-      → get w.wire.messages number ≡ Some (order_to master (bodies.Prepare prepare)) → has_crashed w master ≡ false
+      → get w.wire.messages number ≡ Some (order_to master (Body.Prepare prepare)) → has_crashed w master ≡ false
       → (tablet_in w master prepare.tenure.tablet).handover.term ≡ prepare.tenure.term
-      → (tablet_in w master prepare.tenure.tablet).handover.role ≡ roles.Wanting from
-      → (happened w (events.Deliver number) called).world.wire ≡ with_message (ready (master_at w master) prepare.tenure from) w.wire
+      → (tablet_in w master prepare.tenure.tablet).handover.role ≡ Role.Wanting from
+      → (happened w (Event.Deliver number) called).world.wire ≡ with_message (ready (master_at w master) prepare.tenure from) w.wire
   ready_again_sent prepare from called there lives same wanting =
-      sends_as (bodies.Prepare prepare) called (ready (master_at w master) prepare.tenure from) there lives
+      sends_as (Body.Prepare prepare) called (ready (master_at w master) prepare.tenure from) there lives
       (ap (λ (made : Worked). (worked_at w master 0 made).world.wire) (says_ready (master_at w master) prepare from same wanting))
 
   pub transfer_sent : (tenure : Tenure) (called : Called)
-      → get w.wire.messages number ≡ Some (order_to master (bodies.Close tenure)) → has_crashed w master ≡ false
+      → get w.wire.messages number ≡ Some (order_to master (Body.Close tenure)) → has_crashed w master ≡ false
       → (tablet_in w master tenure.tablet).handover.term ≡ tenure.term
-      → (tablet_in w master tenure.tablet).handover.role ≡ roles.Frozen
-      → (happened w (events.Deliver number) called).world.wire
+      → (tablet_in w master tenure.tablet).handover.role ≡ Role.Frozen
+      → (happened w (Event.Deliver number) called).world.wire
       ≡ with_message (transfer (master_at w master) tenure (tablet_in w master tenure.tablet)) w.wire
   transfer_sent tenure called there lives same freeze =
-      sends_as (bodies.Close tenure) called (transfer (master_at w master) tenure (tablet_in w master tenure.tablet)) there lives
+      sends_as (Body.Close tenure) called (transfer (master_at w master) tenure (tablet_in w master tenure.tablet)) there lives
       (ap (λ (made : Worked). (worked_at w master 0 made).world.wire) (says_transfer (master_at w master) tenure same freeze))
 
 -- ---- reports to the coordinator
@@ -148,32 +138,30 @@ coordinated w taken = (with_sends (with_ledger (with_coordinator w taken.coordin
 
 module _ (w : World) (number sender : ℕ) (body : Body) (tenure : Tenure) (called : Called) (there : get w.wire.messages number ≡ Some (report_of sender body)) (speaks : tenure_in body ≡ Some tenure) where
   made_as : (P : World → Type 0) (taken : Coordinated) → report w.coordinator sender body ≡ taken → P (coordinated w taken)
-      → P (happened w (events.Deliver number) called).world
-  made_as P taken is holds =
-      comes P w number (report_of sender body) called there (subst (λ (c : Coordinated). P (coordinated w c)) (sym is) holds)
+      → P (happened w (Event.Deliver number) called).world
+  made_as P taken is holds = comes P w number (report_of sender body) called there (rw is holds)
 
-  quiet : report w.coordinator sender body ≡ unanswered w.coordinator → IsUntouched w (happened w (events.Deliver number) called).world
-  quiet is =
-      made_as (IsUntouched w) (unanswered w.coordinator) is
+  quiet : report w.coordinator sender body ≡ unanswered w.coordinator → IsUntouched w (happened w (Event.Deliver number) called).world
+  quiet is = made_as (IsUntouched w) (unanswered w.coordinator) is
       (record {
         unchanged = record { masters = λ q. refl; coordinator = refl; ledger = refl; backups = refl; crashed = refl };
         silent = refl;
       })
 
-  pub late_report_changes_nothing : IsLateReport w.coordinator sender tenure → IsUntouched w (happened w (events.Deliver number) called).world
+  pub late_report_changes_nothing : IsLateReport w.coordinator sender tenure → IsUntouched w (happened w (Event.Deliver number) called).world
   late_report_changes_nothing late = quiet (report_late w.coordinator sender body tenure speaks late)
 
   module _ (row : Row) where
     pub unawaited_changes_nothing : row_of w.coordinator.rows tenure.tablet ≡ Some row
         → is_waited_for row.phase sender body ≡ false → is_told_again row.phase sender body ≡ false
-        → IsUntouched w (happened w (events.Deliver number) called).world
+        → IsUntouched w (happened w (Event.Deliver number) called).world
     unawaited_changes_nothing found other untold =
         quiet (report_unawaited w.coordinator sender body tenure row speaks found other untold)
 
     pub owner_told_again : is_noticed w.coordinator sender ≡ false
         → row_of w.coordinator.rows tenure.tablet ≡ Some row → row.term ≡ tenure.term
         → is_told_again row.phase sender body ≡ true
-        → IsToldToOwn w sender row (happened w (events.Deliver number) called).world
+        → IsToldToOwn w sender row (happened w (Event.Deliver number) called).world
     owner_told_again heard found same again =
         made_as (IsToldToOwn w sender row) (answered w.coordinator (own_to sender row ∷ []))
         (report_told_again w.coordinator sender body tenure row speaks heard found same again)

@@ -1,15 +1,12 @@
 -- A master refuses a call only where it may: by what it found as it chose.
-use Rattle.std.proofs.Common.{◌≡◌, ◌≤◌, ◌&&◌, ℕ, Bool, true, false, cond, List, Option, Some, None, refl, sym, ap, subst, ◌∙◌, ◌==◌}
-use Rattle.std.proofs.Common.{is_some, nat_lt, not, unwrap_or, ltb-false}
+use Rattle.std.proofs.Common.{◌≡◌, ◌&&◌, ℕ, Bool, true, false, cond, List, Option, Some, None, refl, ap, subst, ◌∙◌, ◌==◌, is_some}
+use Rattle.std.proofs.Common.{nat_lt, not, unwrap_or, ltb-false}
 use Rattle.rk_inv_base.proofs.Words.{and_parts, option_or, ⊤, hash_of, IsInOrder, Call, Op, Held, is_mutation, found, look, is_serving}
 use Rattle.rk_inv_base.proofs.Words.{Role, contains, record_of, newest, items_of, MayAnswerMoved, Master, serving, staged, tablet_at}
-use Rattle.rk_inv_base.proofs.Words.{has_key, choice_of, fresh_choice, is_known, needs_state, operation, state_of, version_of, is_receiving}
-use Rattle.rk_inv_base.proofs.Words.{Tablet, no_tablet, Choice, Ignores, Reads, Redirects, Refuses, Wants, Writes}
+use Rattle.rk_inv_base.proofs.Words.{has_key, choice_of, fresh_choice, is_known, needs_state, operation, state_of, version_of}
+use Rattle.rk_inv_base.proofs.Words.{is_receiving, Tablet, no_tablet, Choice, Ignores, Reads, Redirects, Refuses, Wants, Writes}
 use Rattle.rk_types.specs.Hashing.{bucket_of}
-use Rattle.rk_types.specs.declared.call.Op.TheVariants as ops
 use Rattle.rk_done.specs.declared.completion.Look.{Look}
-use Rattle.rk_done.specs.declared.completion.Look.TheVariants as looks
-use Rattle.rk_transfer.specs.declared.role.Role.TheVariants as roles
 use Rattle.rk_world.specs.Justified.{MayAnswerNotYet}
 use Rattle.rk_world.specs.Master.{is_staged, serves_key}
 use Rattle.rk_world.specs.Requests.{choice_at, mutation_choice}
@@ -31,11 +28,10 @@ IsDone (Refuses at absent) = ⊤
 IsDone _ = ⊥
 
 operation_done : (number : ℕ) (op : Op) (live : Option (ℕ × List ℕ)) → IsDone (operation number op live)
-operation_done number ops.Get live = tt
-operation_done number (ops.Put value) live = tt
-operation_done number (ops.CondPut expected value) live =
+operation_done number (Op.CondPut expected value) live =
     either IsDone (expected == version_of live) (Writes number (Some value)) (Refuses (version_of live) false) tt tt
-operation_done number ops.Delete live = either IsDone (is_some live) (Writes number None) (Refuses 0 true) tt tt
+operation_done number Op.Delete live = either IsDone (is_some live) (Writes number None) (Refuses 0 true) tt tt
+operation_done number _ live = tt
 
 -- ---- Moved
 
@@ -57,16 +53,13 @@ fresh_here number tablet call state =
     (done_here (operation number call.op (record_of state)) (operation_done number call.op (record_of state)))
 
 mutation_here : (master : Master) (number : ℕ) (tablet : Tablet) (call : Call) (known : Look) → IsHere (mutation_choice master number tablet call known)
-mutation_here master number tablet call looks.New =
-    either IsHere (is_staged master call.client call.seq) Ignores (fresh_choice number tablet call (state_of master call)) tt
-    (fresh_here number tablet call (state_of master call))
-mutation_here master number tablet call (looks.Same end) = tt
-mutation_here master number tablet call (looks.Old seq) = tt
+mutation_here master number tablet call Look.New = either IsHere (is_staged master call.client call.seq) Ignores
+    (fresh_choice number tablet call (state_of master call)) tt (fresh_here number tablet call (state_of master call))
+mutation_here master number tablet call _ = tt
 
 choice_here : (master : Master) (call : Call) (number : ℕ) (tablet : Tablet) → IsHere (choice_at master call (Some (number, tablet)))
 choice_here master call number tablet =
-    either IsHere (is_mutation call.op)
-    (mutation_choice master number tablet call (look tablet.completions call.client call.seq))
+    either IsHere (is_mutation call.op) (mutation_choice master number tablet call (look tablet.completions call.client call.seq))
     (fresh_choice number tablet call (state_of master call))
     (mutation_here master number tablet call (look tablet.completions call.client call.seq))
     (fresh_here number tablet call (state_of master call))
@@ -86,10 +79,9 @@ record IsUnknown (number other : ℕ) (tablet : Tablet) (call : Call) (state : O
   needs : needs_state call.op ≡ true
   unknown : is_known tablet (hash_of call.key) state ≡ false
 
-put_off : (number other : ℕ) (tablet : Tablet) (call : Call) (state : Option Held) → fresh_choice number tablet call state ≡ Wants other
+put_off : {number other : ℕ} {tablet : Tablet} {call : Call} {state : Option Held} → fresh_choice number tablet call state ≡ Wants other
     → IsUnknown number other tablet call state
-put_off number other tablet call state is =
-    go (needs_state call.op) refl (is_known tablet (hash_of call.key) state) refl is
+put_off {number} {other} {tablet} {call} {state} is = go (needs_state call.op) refl (is_known tablet (hash_of call.key) state) refl is
   where
     done : operation number call.op (record_of state) ≡ Wants other → ⊥
     done made = subst IsDone made (operation_done number call.op (record_of state))
@@ -102,8 +94,8 @@ put_off number other tablet call state is =
     go false needs known unknown is = absurd (done is)
 
 -- a target pulls
-pulls : (role : Role) → is_receiving role ≡ true → role ≡ roles.Receiving
-pulls roles.Receiving is = refl
+pulls : (role : Role) → is_receiving role ≡ true → role ≡ Role.Receiving
+pulls Role.Receiving is = refl
 pulls _ is = absurd (cc is)
 
 none_of : {X : Type 0} (o : Option X) → is_some o ≡ false → o ≡ None
@@ -124,7 +116,7 @@ pub not_yet_justified : (master : Master) (call : Call) (tablet : ℕ) → IsInO
 not_yet_justified master call number order chose =
     let its : IsFresh master call (Wants number) = fresh master call (Wants number) tt chose in
     let state : Option Held = state_of master call in
-    let lacks : IsUnknown its.number number its.tablet call state = put_off its.number number its.tablet call state its.choice_is in
+    let lacks : IsUnknown its.number number its.tablet call state = put_off its.choice_is in
     subst (MayAnswerNotYet master call) lacks.same
     (may its.number its.tablet its.serves lacks.needs
     (each_fails (is_some state) (not (is_receiving its.tablet.handover.role)) (contains its.tablet.pulling.hashes.resolved (hash_of call.key))
@@ -136,16 +128,14 @@ not_yet_justified master call number order chose =
         × (nat_lt (bucket_of (hash_of call.key)) tablet.pulling.token.bucket ≡ false)
         → MayAnswerNotYet master call n
     may n tablet serves needs lacks =
-        let here : tablet_at master n ≡ tablet =
-        ap (λ (o : Option Tablet). unwrap_or o no_tablet)
+        let here : tablet_at master n ≡ tablet = ap (λ (o : Option Tablet). unwrap_or o no_tablet)
         (find_is_got (λ (entry : ℕ × Tablet). serves_key call.table call.key entry.1) master.tablets (n, tablet) order serves) in
         let passes : (is_serving tablet.handover.role && has_key tablet.handover.range call.table call.key) ≡ true =
         find_passes (λ (entry : ℕ × Tablet). serves_key call.table call.key entry.1) master.tablets (n, tablet) serves in
         let none : state_of master call ≡ None = none_of (state_of master call) lacks.0 in
         record {
           receiving = ap (λ (t : Tablet). t.handover.role) here ∙ pulls tablet.handover.role (negated (is_receiving tablet.handover.role) lacks.1);
-          key_here =
-              ap (λ (t : Tablet). has_key t.handover.range call.table call.key) here
+          key_here = ap (λ (t : Tablet). has_key t.handover.range call.table call.key) here
               ∙ (and_parts (is_serving tablet.handover.role) (has_key tablet.handover.range call.table call.key) passes).1;
           needs = needs;
           absent =
@@ -153,7 +143,5 @@ not_yet_justified master call number order chose =
               (found call.table call.key master.records) none;
           undecided = none;
           unresolved = ap (λ (t : Tablet). contains t.pulling.hashes.resolved (hash_of call.key)) here ∙ lacks.2;
-          not_passed =
-              subst (λ (t : Tablet). t.pulling.token.bucket ≤ bucket_of (hash_of call.key)) (sym here)
-              (ltb-false (bucket_of (hash_of call.key)) tablet.pulling.token.bucket lacks.3);
+          not_passed = rw here (ltb-false (bucket_of (hash_of call.key)) tablet.pulling.token.bucket lacks.3);
         }

@@ -4,7 +4,6 @@ use Rattle.std.proofs.Common.{eq-eqb, eqb-true}
 use Rattle.rk_inv_base.proofs.Words.{row_of, Phase, Owned, Opening, Moving, Rebuilding, Row, Ready, Tenure, Transfer, Body, Rebuilt}
 use Rattle.rk_inv_base.proofs.Words.{Coordinator, is_noticed, Coordinated, about, answered, at_term, joined_in, own_to, ready_in}
 use Rattle.rk_inv_base.proofs.Words.{rebuilt_in, report, row_for, transfer_in, unanswered, tenure_in}
-use Rattle.rk_message.specs.declared.message.Body.TheVariants as bodies
 use Rattle.rk_inv_lanes.specs.late.Late.{HasOtherTerm, IsLateReport, is_told_again, is_waited_for}
 use Rattle.rk_inv_lanes.proofs.late.Tests.{not_at}
 
@@ -24,8 +23,7 @@ no_row : (coordinator : Coordinator) (sender : ℕ) (tenure : Tenure) → IsLate
 no_row coordinator sender tenure late =
     let noticed : Bool = is_noticed coordinator sender in
     let found : Option Row = row_of coordinator.rows tenure.tablet in
-    ⊎_elim
-    (λ (its : is_noticed coordinator sender ≡ true). ap (λ (b : Bool). cond b None (at_term tenure found)) its)
+    ⊎_elim (λ (its : is_noticed coordinator sender ≡ true). ap (λ (b : Bool). cond b None (at_term tenure found)) its)
     (λ (others : (row_of coordinator.rows tenure.tablet ≡ None) ⊎ HasOtherTerm coordinator tenure).
     either_none noticed (at_term tenure found)
     (⊎_elim
@@ -39,8 +37,7 @@ no_row coordinator sender tenure late =
 row_is : (coordinator : Coordinator) (sender : ℕ) (tenure : Tenure) (row : Row) → is_noticed coordinator sender ≡ false
     → row_of coordinator.rows tenure.tablet ≡ Some row → row.term ≡ tenure.term → row_for coordinator sender tenure ≡ Some row
 row_is coordinator sender tenure row heard found same =
-    ap (λ (b : Bool). cond b None (at_term tenure (row_of coordinator.rows tenure.tablet))) heard
-    ∙ ap (at_term tenure) found
+    ap (λ (b : Bool). cond b None (at_term tenure (row_of coordinator.rows tenure.tablet))) heard ∙ ap (at_term tenure) found
     ∙ ap (λ (b : Bool). cond b (Some row) None) (eq-eqb row.term tenure.term same)
 
 module _ (coordinator : Coordinator) (sender : ℕ) where
@@ -54,10 +51,10 @@ module _ (coordinator : Coordinator) (sender : ℕ) where
 
   pub report_late : (body : Body) (tenure : Tenure) → tenure_in body ≡ Some tenure → IsLateReport coordinator sender tenure
       → report coordinator sender body ≡ unanswered coordinator
-  report_late (bodies.Ready ready) tenure says late = about_none _ ready.tenure tenure says late
-  report_late (bodies.Transfer transfer) tenure says late = about_none _ transfer.tenure tenure says late
-  report_late (bodies.Joined joined) tenure says late = about_none _ joined tenure says late
-  report_late (bodies.Rebuilt rebuilt) tenure says late = about_none _ rebuilt.tenure tenure says late
+  report_late (Body.Ready ready) tenure says late = about_none _ ready.tenure tenure says late
+  report_late (Body.Transfer transfer) tenure says late = about_none _ transfer.tenure tenure says late
+  report_late (Body.Joined joined) tenure says late = about_none _ joined tenure says late
+  report_late (Body.Rebuilt rebuilt) tenure says late = about_none _ rebuilt.tenure tenure says late
   report_late _ tenure says late = refl
 
   -- ---- reports that no row waits for
@@ -67,34 +64,32 @@ module _ (coordinator : Coordinator) (sender : ℕ) where
       → about coordinator taken (row_for coordinator sender stated) ≡ unanswered coordinator
   about_row taken stated tenure row says found quiet =
       let same : stated ≡ tenure = cc says in
-      subst (λ (o : Option Row). about coordinator taken (cond (is_noticed coordinator sender) None (at_term stated o)) ≡ unanswered coordinator)
-      (sym (ap (λ (t : Tenure). row_of coordinator.rows t.tablet) same ∙ found))
+      rw (ap (λ (t : Tenure). row_of coordinator.rows t.tablet) same ∙ found)
       (by (is_noticed coordinator sender) (row.term == stated.term))
     where
-      by : (noticed here : Bool)
-          → about coordinator taken (cond noticed None (cond here (Some row) None)) ≡ unanswered coordinator
+      by : (noticed here : Bool) → about coordinator taken (cond noticed None (cond here (Some row) None)) ≡ unanswered coordinator
       by true here = refl
       by false true = quiet
       by false false = refl
 
-  ready_quiet : (ready : Ready) (row : Row) (phase : Phase) → is_waited_for phase sender (bodies.Ready ready) ≡ false
+  ready_quiet : (ready : Ready) (row : Row) (phase : Phase) → is_waited_for phase sender (Body.Ready ready) ≡ false
       → ready_in coordinator sender ready row phase ≡ unanswered coordinator
   ready_quiet ready row (Opening source sfrom target None) other = otherwise _ _ (unanswered coordinator) other
   ready_quiet ready row _ other = refl
 
-  transfer_quiet : (transfer : Transfer) (row : Row) (phase : Phase) → is_waited_for phase sender (bodies.Transfer transfer) ≡ false
+  transfer_quiet : (transfer : Transfer) (row : Row) (phase : Phase) → is_waited_for phase sender (Body.Transfer transfer) ≡ false
       → transfer_in coordinator sender transfer row phase ≡ unanswered coordinator
   transfer_quiet transfer row (Opening source sfrom target (Some dfrom)) other = otherwise _ _ (unanswered coordinator) other
   transfer_quiet transfer row _ other = refl
 
-  joined_quiet : (tenure : Tenure) (row : Row) (phase : Phase) → is_waited_for phase sender (bodies.Joined tenure) ≡ false
-      → is_told_again phase sender (bodies.Joined tenure) ≡ false → joined_in coordinator sender row phase ≡ unanswered coordinator
+  joined_quiet : (tenure : Tenure) (row : Row) (phase : Phase) → is_waited_for phase sender (Body.Joined tenure) ≡ false
+      → is_told_again phase sender (Body.Joined tenure) ≡ false → joined_in coordinator sender row phase ≡ unanswered coordinator
   joined_quiet tenure row (Moving source sfrom target dfrom) other untold = otherwise _ _ (unanswered coordinator) other
   joined_quiet tenure row (Owned master from) other untold = otherwise _ _ (unanswered coordinator) untold
   joined_quiet tenure row _ other untold = refl
 
-  rebuilt_quiet : (rebuilt : Rebuilt) (row : Row) (phase : Phase) → is_waited_for phase sender (bodies.Rebuilt rebuilt) ≡ false
-      → is_told_again phase sender (bodies.Rebuilt rebuilt) ≡ false → rebuilt_in coordinator sender rebuilt row phase ≡ unanswered coordinator
+  rebuilt_quiet : (rebuilt : Rebuilt) (row : Row) (phase : Phase) → is_waited_for phase sender (Body.Rebuilt rebuilt) ≡ false
+      → is_told_again phase sender (Body.Rebuilt rebuilt) ≡ false → rebuilt_in coordinator sender rebuilt row phase ≡ unanswered coordinator
   rebuilt_quiet rebuilt row (Rebuilding lineage to) other untold = otherwise _ _ (unanswered coordinator) other
   rebuilt_quiet rebuilt row (Owned master from) other untold = otherwise _ _ (unanswered coordinator) untold
   rebuilt_quiet rebuilt row _ other untold = refl
@@ -103,13 +98,13 @@ module _ (coordinator : Coordinator) (sender : ℕ) where
       → row_of coordinator.rows tenure.tablet ≡ Some row
       → is_waited_for row.phase sender body ≡ false → is_told_again row.phase sender body ≡ false
       → report coordinator sender body ≡ unanswered coordinator
-  report_unawaited (bodies.Ready ready) tenure row says found other untold =
+  report_unawaited (Body.Ready ready) tenure row says found other untold =
       about_row _ ready.tenure tenure row says found (ready_quiet ready row row.phase other)
-  report_unawaited (bodies.Transfer transfer) tenure row says found other untold =
+  report_unawaited (Body.Transfer transfer) tenure row says found other untold =
       about_row _ transfer.tenure tenure row says found (transfer_quiet transfer row row.phase other)
-  report_unawaited (bodies.Joined joined) tenure row says found other untold =
+  report_unawaited (Body.Joined joined) tenure row says found other untold =
       about_row _ joined tenure row says found (joined_quiet joined row row.phase other untold)
-  report_unawaited (bodies.Rebuilt rebuilt) tenure row says found other untold =
+  report_unawaited (Body.Rebuilt rebuilt) tenure row says found other untold =
       about_row _ rebuilt.tenure tenure row says found (rebuilt_quiet rebuilt row row.phase other untold)
   report_unawaited _ tenure row says found other untold = refl
 
@@ -122,12 +117,12 @@ module _ (coordinator : Coordinator) (sender : ℕ) where
       ap (λ (b : Bool). cond b (answered coordinator (own_to master row ∷ [])) (unanswered coordinator)) here
       ∙ ap (λ (m : ℕ). answered coordinator (own_to m row ∷ [])) (sym (eqb-true sender master here))
 
-  joined_again : (tenure : Tenure) (row : Row) (phase : Phase) → is_told_again phase sender (bodies.Joined tenure) ≡ true
+  joined_again : (tenure : Tenure) (row : Row) (phase : Phase) → is_told_again phase sender (Body.Joined tenure) ≡ true
       → joined_in coordinator sender row phase ≡ answered coordinator (own_to sender row ∷ [])
   joined_again tenure row (Owned master from) here = own_again row master here
   joined_again tenure row _ here = absurd (cc here)
 
-  rebuilt_again : (rebuilt : Rebuilt) (row : Row) (phase : Phase) → is_told_again phase sender (bodies.Rebuilt rebuilt) ≡ true
+  rebuilt_again : (rebuilt : Rebuilt) (row : Row) (phase : Phase) → is_told_again phase sender (Body.Rebuilt rebuilt) ≡ true
       → rebuilt_in coordinator sender rebuilt row phase ≡ answered coordinator (own_to sender row ∷ [])
   rebuilt_again rebuilt row (Owned master from) here = own_again row master here
   rebuilt_again rebuilt row _ here = absurd (cc here)
@@ -150,6 +145,6 @@ module _ (coordinator : Coordinator) (sender : ℕ) where
 
       go : (b : Body) → tenure_in b ≡ Some tenure → is_told_again row.phase sender b ≡ true
           → report coordinator sender b ≡ answered coordinator (own_to sender row ∷ [])
-      go (bodies.Joined joined) says again = about_found _ joined tenure row says its ∙ joined_again joined row row.phase again
-      go (bodies.Rebuilt rebuilt) says again = about_found _ rebuilt.tenure tenure row says its ∙ rebuilt_again rebuilt row row.phase again
+      go (Body.Joined joined) says again = about_found _ joined tenure row says its ∙ joined_again joined row row.phase again
+      go (Body.Rebuilt rebuilt) says again = about_found _ rebuilt.tenure tenure row says its ∙ rebuilt_again rebuilt row row.phase again
       go _ says again = absurd (cc again)

@@ -1,8 +1,8 @@
 -- What tests of orders and terms come to.
 use Rattle.std.proofs.Common.{◌≡◌, ◌≤◌, ◌<◌, ◌&&◌, ◌||◌, ℕ, Bool, true, false, cond, List, [], ◌∷◌, Option, Some, None, refl, ap, ⊎_elim}
 use Rattle.std.proofs.Common.{◌∙◌, arith, ◌==◌, not, nat_lt, All, find, le-ltb, ne_eqb}
-use Rattle.std.proofs.lemmas.List.Folds.{list_all_at}
 use Rattle.rk_inv_base.proofs.Words.{All-cons, All-nil, list_all, Range, Tenure, is_greater, Master}
+use Rattle.std.proofs.lemmas.List.Folds.{list_all_at}
 use Rattle.rk_world.specs.Handovers.{is_above}
 use Rattle.rk_inv_lanes.specs.late.Late.{IsSurpassed, KeepsNewer, kept_term}
 
@@ -45,8 +45,7 @@ none_passes {X} test (first ∷ xs) none = go (test first) refl (none_passes tes
 -- an order whose term is not greater than what a master keeps is not followed
 pub not_greater : (master : Master) (tenure : Tenure) (range : Range) → IsSurpassed master tenure range
     → is_greater master tenure.tablet tenure.term range ≡ false
-not_greater master tenure range late =
-    ⊎_elim
+not_greater master tenure range late = ⊎_elim
     (λ (own : tenure.term ≤ kept_term master tenure.tablet).
     first_fails (nat_lt (kept_term master tenure.tablet) tenure.term) (list_all (is_above range tenure.term) master.tablets)
     (le-ltb (kept_term master tenure.tablet) tenure.term own))

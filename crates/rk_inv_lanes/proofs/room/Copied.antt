@@ -2,8 +2,6 @@
 -- copies, and a closing entry.
 use Rattle.std.proofs.Common.{◌≡◌, ◌≤◌, ◌+◌, ℕ, Bool, true, false, List, [], ◌∷◌, All, length, Option, None, Some, is_some, refl, sym, ap}
 use Rattle.std.proofs.Common.{subst, ◌∙◌, arith, Contains, not, sum_by}
-use Rattle.std.specs.List.Sorted.{IsStrictlySortedBy}
-use Rattle.std.proofs.lemmas.List.Kept.{IsStrictlySortedBy-filter}
 use Rattle.rk_inv_base.proofs.Words.{cond-false, cond-true, All-nil, All-weaker, sum-map, spelled_of, IsInOrder, NumberMap, get, get_or}
 use Rattle.rk_inv_base.proofs.Words.{Held, Entry, completions_from, ends_of, Handover, number_of, row_of, Row, newest_items_are}
 use Rattle.rk_inv_base.proofs.Words.{newest_items, CopySegment, items_of, IsFormedGathered, IsFormedMaster, IsWellFormed, Gather}
@@ -11,38 +9,38 @@ use Rattle.rk_inv_base.proofs.Words.{LAST_MAIN_SEGMENT, by_member, next_reading,
 use Rattle.rk_inv_base.proofs.Words.{with_appended, as_entries, has_version, merge, IsMaster, copy_taken, own_material, rebuild_goes_on}
 use Rattle.rk_inv_base.proofs.Words.{rebuild_merged, rebuilding_on, rebuilt_entry, segment_gathered, with_gathered, with_merged, HasRoom}
 use Rattle.rk_inv_base.proofs.Words.{Tablet, no_tablet, Worked, changed, World, has_crashed, master_at, tablet_in, Merged, Reading, put2}
-use Rattle.rk_inv_base.proofs.Words.{View, view, IsSound, SoundView}
+use Rattle.rk_inv_base.proofs.Words.{View, view, IsSound, SoundView, Role}
+use Rattle.std.proofs.lemmas.List.Kept.{IsStrictlySortedBy-filter}
 use Rattle.rk_entry.proofs.Sizes.{held_spelled}
-use Rattle.rk_entry.specs.declared.entry.Entry.TheVariants as entries
-use Rattle.rk_transfer.specs.declared.role.Role.TheVariants as roles
 use Rattle.rk_overlay.specs.Overlay.{item_cmp}
 use Rattle.rk_world.specs.Formed.{MOST_BASE_CLIENTS}
 use Rattle.rk_world.specs.Limits.{IsFormedCopy}
 use Rattle.rk_world.specs.Master.{unsealed_bytes}
 use Rattle.rk_world.specs.Refusals.{MOST_CLIENTS}
-use Rattle.rk_inv_base.proofs.views.Masters.{tablet_here}
-use Rattle.rk_inv_base.proofs.views.Put.{put2_here}
-use Rattle.rk_inv_base.proofs.rows.Serving.{found_stands}
-use Rattle.rk_inv_base.proofs.views.Views.{view_gathered}
-use Rattle.rk_inv_wellformed.proofs.masters.Handovers.{one_stood}
 use Rattle.rk_inv_wellformed.proofs.bytes.EntryBytes.{carried_fits}
 use Rattle.rk_inv_wellformed.proofs.bytes.LogBytes.{bytes_appended, bytes_put}
 use Rattle.rk_inv_wellformed.proofs.bytes.PullBytes.{first_bytes, items_bytes, none_bytes}
+use Rattle.rk_inv_wellformed.proofs.lanes.Worlds.{formed_limits, master_of}
+use Rattle.rk_inv_wellformed.proofs.masters.Handovers.{one_stood}
 use Rattle.rk_inv_wellformed.proofs.masters.Rebuilding.{few_ends, formed_gathered, merge_formed, read_formed}
 use Rattle.rk_inv_wellformed.proofs.masters.Sealing.{first_holds, items_spelled}
-use Rattle.rk_inv_wellformed.proofs.lanes.Worlds.{formed_limits, master_of}
 use Rattle.rk_inv_wellformed.specs.Brought.{LONGEST_LEFT}
+use Rattle.rk_inv_base.proofs.rows.Serving.{found_stands}
+use Rattle.rk_inv_base.proofs.views.Masters.{tablet_here}
+use Rattle.rk_inv_base.proofs.views.Put.{put2_here}
+use Rattle.rk_inv_base.proofs.views.Views.{view_gathered}
 use Rattle.rk_inv_tablets.proofs.crash.MergeTells.{read_all}
-use Rattle.rk_inv_events.proofs.events.Crashing.{entries_lawful, gathered_formed, items_lawful, segments_left}
-use Rattle.rk_inv_events.proofs.events.Duties.{fits_as, known}
-use Rattle.rk_inv_tablets.specs.merge.Small.{as_merged, merge_in, own_entries}
 use Rattle.rk_inv_tablets.proofs.merge.Heirs.{gathers_from}
-use Rattle.rk_inv_events.specs.copies.Small.{awaits, copy_message, next_after}
+use Rattle.rk_inv_tablets.specs.merge.Small.{as_merged, merge_in, own_entries}
 use Rattle.rk_inv_events.proofs.copies.GatheringRow.{gathering_row}
 use Rattle.rk_inv_events.proofs.copies.Gathers.{gathers, sound_with_copy}
 use Rattle.rk_inv_events.proofs.copies.Merges.{last_is}
+use Rattle.rk_inv_events.proofs.events.Crashing.{entries_lawful, gathered_formed, items_lawful, segments_left}
+use Rattle.rk_inv_events.proofs.events.Duties.{fits_as, known}
+use Rattle.rk_inv_events.specs.copies.Small.{awaits, copy_message, next_after}
 use Rattle.rk_inv_lanes.specs.room.Logged.{IsLogged}
 use Rattle.rk_inv_lanes.proofs.room.CopiesWritten.{IsWritten, copies_written, written_logged}
+use Rattle.std.specs.List.Sorted.{IsStrictlySortedBy}
 
 -- what a rebuild copies when it takes its last Copy: items that are logged, each key once; and how many bytes its master has then
 pub record CopiesLogged (w : World) (master : ℕ) (copy : CopySegment) : Type 0 where
@@ -59,8 +57,8 @@ all_bytes [] master = omega (arith, none_bytes)
 all_bytes (item ∷ items) master =
     omega (
       arith,
-      all_bytes items (with_appended master (entries.Held item)),
-      bytes_appended master (entries.Held item),
+      all_bytes items (with_appended master (Entry.Held item)),
+      bytes_appended master (Entry.Held item),
       held_spelled item,
       first_bytes item items,
     )
@@ -91,10 +89,10 @@ merged_bytes id master merged handover order few =
     )
 
 -- nothing is copied where there are no more bytes than before
-none_copied : (w : World) (master : ℕ) (copy : CopySegment) → log_bytes (copy_taken (master_at w master) copy).master ≤ log_bytes (master_at w master)
+none_copied : {w : World} {master : ℕ} {copy : CopySegment} → log_bytes (copy_taken (master_at w master) copy).master ≤ log_bytes (master_at w master)
     → CopiesLogged w master copy
 unfolding IsStrictlySortedBy
-none_copied w master copy few = record { copies = []; apart = tt; logged = All-nil (IsLogged w); bytes = omega (arith, few) }
+none_copied {w} few = record { copies = []; apart = tt; logged = All-nil (IsLogged w); bytes = omega (arith, few) }
 
 -- ---- a Copy
 
@@ -134,8 +132,7 @@ module _ (w : World) (number backup master : ℕ) (copy : CopySegment) (sound : 
     v = record (view w) { gathers = put2 (view w).gathers master tablet (with_gathered kept copy).gather }
 
     sound_then : SoundView v
-    sound_then =
-        subst SoundView (view_gathered w master tablet (with_gathered kept copy).gather)
+    sound_then = subst SoundView (view_gathered w master tablet (with_gathered kept copy).gather)
         (sound_with_copy w number backup master copy sound lives there awaited)
 
     -- what it gathered of the tablet
@@ -152,9 +149,9 @@ module _ (w : World) (number backup master : ℕ) (copy : CopySegment) (sound : 
     -- the copies for the tablet are written
     written : All (IsWritten v.written) (merge_in v master tablet).copies
     written =
-        at (row_of v.rows tablet) refl (known v sound_then master tablet (ap not lives) (roles.Rebuilding role.0 None) role.1 refl)
+        at (row_of v.rows tablet) refl (known v sound_then master tablet (ap not lives) (Role.Rebuilding role.0 None) role.1 refl)
       where
-        role : (from : ℕ) × (kept.handover.role ≡ roles.Rebuilding from None)
+        role : (from : ℕ) × (kept.handover.role ≡ Role.Rebuilding from None)
         role = gathers_from kept.handover.role (gathers w number backup master copy sound lives there awaited).0
 
         at : (found : Option Row) → row_of v.rows tablet ≡ found → is_some found ≡ true
@@ -164,13 +161,12 @@ module _ (w : World) (number backup master : ℕ) (copy : CopySegment) (sound : 
             let stands : Contains v.rows row = found_stands v.rows tablet row found in
             let number_is : row.tablet ≡ tablet = number_of v.rows tablet row found in
             let its = gathering_row master role.0 row.term kept.handover.term (v.written master).applied row.phase
-            (fits_as v sound_then master tablet (ap not lives) (roles.Rebuilding role.0 None) role.1 row stands (sym number_is)) in
+            (fits_as v sound_then master tablet (ap not lives) (Role.Rebuilding role.0 None) role.1 row stands (sym number_is)) in
             subst (λ (n : ℕ). All (IsWritten v.written) (merge_in v master n).copies) number_is
             (copies_written v sound_then
             (record { entries = entries_lawful w formed room; items = items_lawful w formed room; room = segments_left w formed room })
             row stands its.lineage master its.phase_is (ap (λ (n : ℕ). (v.handovers master n).term) number_is ∙ its.term_is)
-            (subst (λ (gather : Gather). All (λ gathered. length gathered.main ≤ LAST_MAIN_SEGMENT) gather.members)
-            (sym (gather_is row.tablet number_is)) few))
+            (rw (gather_is row.tablet number_is) few))
 
     -- and so they are logged
     logged : All (IsLogged w) (made (with_gathered kept copy)).copies
@@ -189,7 +185,7 @@ module _ (w : World) (number backup master : ℕ) (copy : CopySegment) (sound : 
         let goes_on : copy_taken (master_at w master) copy ≡ changed now =
         cond-true (awaits (master_at w master) copy) (rebuild_goes_on now tablet) (changed (master_at w master)) awaited
         ∙ ap (λ (next : Option Reading). rebuilding_on now tablet next) (ap (λ (t : Tablet). next_reading t.gather) here ∙ is) in
-        none_copied w master copy (omega (arith, ap (λ (worked : Worked). log_bytes worked.master) goes_on, gathered_bytes))
+        none_copied (omega (arith, ap (λ (worked : Worked). log_bytes worked.master) goes_on, gathered_bytes))
     by_next None is =
         let merged : Merged = made (tablet_at now tablet) in
         let own : List Entry = own_material now (tablet_at now tablet) in
@@ -200,7 +196,7 @@ module _ (w : World) (number backup master : ℕ) (copy : CopySegment) (sound : 
           copies = merged.copies;
           apart =
               IsStrictlySortedBy-filter item_cmp (λ item. not (has_version (items_of own) item)) (newest_items read) (newest_items_are read).order;
-          logged = subst (λ (t : Tablet). All (IsLogged w) (made t).copies) (sym here) logged;
+          logged = rw here logged;
           bytes =
               omega (
                 arith,
@@ -218,11 +214,11 @@ module _ (w : World) (number backup master : ℕ) (copy : CopySegment) (sound : 
   taken_logged false is =
       let same : copy_taken (master_at w master) copy ≡ changed (master_at w master) =
       cond-false (awaits (master_at w master) copy) (rebuild_goes_on now tablet) (changed (master_at w master)) is in
-      none_copied w master copy (omega (arith, ap (λ (worked : Worked). log_bytes worked.master) same))
+      none_copied (omega (arith, ap (λ (worked : Worked). log_bytes worked.master) same))
 
 -- so it is with each Copy that reaches a living master
-pub copy_logged : (w : World) (number backup master : ℕ) (copy : CopySegment) → IsSound w → IsWellFormed w → HasRoom w
+pub copy_logged : {w : World} (number backup : ℕ) {master : ℕ} (copy : CopySegment) → IsSound w → IsWellFormed w → HasRoom w
     → IsMaster w.coordinator.masters master → has_crashed w master ≡ false
     → get w.wire.messages number ≡ Some (copy_message backup master copy) → CopiesLogged w master copy
-copy_logged w number backup master copy sound formed room is_there lives there =
+copy_logged {w} number backup {master} copy sound formed room is_there lives there =
     taken_logged w number backup master copy sound formed room is_there lives there (awaits (master_at w master) copy) refl

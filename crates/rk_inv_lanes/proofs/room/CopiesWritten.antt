@@ -10,17 +10,17 @@ use Rattle.rk_inv_base.proofs.Words.{counts, material_of, named, side_entries, c
 use Rattle.rk_inv_base.proofs.Words.{master_at, Written, stored_of, IsGathered, NeededOf, READ_BACKUP, RowIsRebuilt, TellNoMore}
 use Rattle.rk_inv_base.proofs.Words.{member_stored, View, truths, view, SoundView}
 use Rattle.rk_tablet_map.specs.Phase.{member as member_at}
-use Rattle.rk_inv_base.proofs.pulls.Joining.{kept_stands}
-use Rattle.rk_inv_base.proofs.logs.LengthTold.{each_member, members_by}
-use Rattle.rk_inv_base.proofs.views.Lists.{all_by}
-use Rattle.rk_inv_base.proofs.logs.MarkedApart.{place_of}
-use Rattle.rk_inv_base.proofs.calls.Rebuilds.{IsRebuilderIn}
 use Rattle.rk_inv_wellformed.proofs.masters.Pulls.{items_again}
-use Rattle.rk_inv_tablets.specs.crash.Moves.{AreReadable}
+use Rattle.rk_inv_base.proofs.calls.Rebuilds.{IsRebuilderIn}
+use Rattle.rk_inv_base.proofs.logs.LengthTold.{each_member, members_by}
+use Rattle.rk_inv_base.proofs.logs.MarkedApart.{place_of}
+use Rattle.rk_inv_base.proofs.pulls.Joining.{kept_stands}
+use Rattle.rk_inv_base.proofs.views.Lists.{all_by}
 use Rattle.rk_inv_tablets.proofs.crash.Among.{flat_from, flat_of, place_there}
 use Rattle.rk_inv_tablets.proofs.crash.MergeTells.{IsToldBy, all_stand_told, all_told, read_all, read_told, stands_told}
 use Rattle.rk_inv_tablets.proofs.crash.ReadTold.{AreMarksTold, counted_told, side_material, stands_there}
 use Rattle.rk_inv_tablets.proofs.crash.Unmarked.{first_among, free_place}
+use Rattle.rk_inv_tablets.specs.crash.Moves.{AreReadable}
 use Rattle.rk_inv_tablets.specs.merge.Small.{merge_in, own_entries}
 use Rattle.rk_inv_lanes.specs.room.Logged.{IsLogged}
 
@@ -88,10 +88,8 @@ written_logged w item is =
     let own : Master = master_at w is.0 in
     record {
       master = is.0;
-      stands =
-          subst (λ (items : List Held). Contains items item)
-          (flat_map-append items_in own.log.entries (flat_map as_entries own.sides)
-          ∙ ap (λ (items : List Held). items_of own.log.entries ++ items) (side_items own.sides))
+      stands = rw (← (flat_map-append items_in own.log.entries (flat_map as_entries own.sides)
+          ∙ ap (λ (items : List Held). items_of own.log.entries ++ items) (side_items own.sides)))
           is.1;
     }
 
@@ -117,12 +115,10 @@ module _ (v : View) (sound : SoundView v) (readable : AreReadable v.logs v.writt
   rebuilder : IsRebuilderIn v.logs v.written v.stored row lineage master (truths v row) (v.handovers master row.tablet)
       (v.completions master row.tablet) (v.gathers master row.tablet) (v.merged master row.tablet) (v.records master)
   rebuilder =
-      let fits =
-      subst
-      (λ (phase : Phase). RowIsRebuilt row phase (truths v row) v.logs v.written v.stored v.handovers v.completions v.gathers v.merged v.records v.live)
-      phase_is
-      (All-contains
-      (λ (r : Row). RowIsRebuilt r r.phase (truths v r) v.logs v.written v.stored v.handovers v.completions v.gathers v.merged v.records v.live)
+      let fits = subst (λ (phase : Phase). RowIsRebuilt row phase (truths v row) v.logs v.written v.stored v.handovers
+      v.completions v.gathers v.merged v.records v.live)
+      phase_is (All-contains (λ (r : Row). RowIsRebuilt r r.phase (truths v r) v.logs v.written v.stored v.handovers v.completions
+      v.gathers v.merged v.records v.live)
       v.rows row sound.rebuilds.rebuilt has_row) in
       fits.0 term_is
 
@@ -138,16 +134,13 @@ module _ (v : View) (sound : SoundView v) (readable : AreReadable v.logs v.writt
 
   -- its own entries that count are written
   own_told : All (IsToldBy all) own
-  own_told =
-      all_stand_told own all
-      (λ e at.
-      of_one (member_at master 0) (zero, omega arith, refl) e
-      (own_written (v.written master) (v.handovers master row.tablet).range (own_place (v.handovers master row.tablet).role) e at))
+  own_told = all_stand_told own all (λ e at. of_one (member_at master 0) (zero, omega arith, refl) e
+      (own_written (v.written master) (v.handovers master row.tablet).range (own_place (v.handovers master row.tablet).role) e
+      at))
 
   -- each of which something was read is a member
   read_members : All (λ gathered. Contains lineage gathered.member) gather.members
-  read_members =
-      members_by (Contains lineage) gather.members
+  read_members = members_by (Contains lineage) gather.members
       (subst (All (Contains lineage)) (sym rebuilder.gather.members_are)
       (all_by (Contains lineage) (filter is_other lineage) (λ m at. (kept_stands is_other lineage m at).0)))
     where
@@ -173,8 +166,7 @@ module _ (v : View) (sound : SoundView v) (readable : AreReadable v.logs v.writt
       let told : (e : Entry) → Contains (all_written w) e → Contains all e = of_one m (Contains-append_right (member_at master 0 ∷ []) lineage m has) in
       let stored : All (IsToldBy all) (member_stored v.logs v.written v.stored row.range m) =
       all_stand_told (member_stored v.logs v.written v.stored row.range m) all (λ e at. told e (first_written w row.range m.from _ e at)) in
-      let sides : All (IsToldBy all) (side_material row.range m w) =
-      all_stand_told (side_material row.range m w) all
+      let sides : All (IsToldBy all) (side_material row.range m w) = all_stand_told (side_material row.range m w) all
       (λ e at. told e (sides_written w row.range (named row.range (unmarked_from w.marks m.from w.entries)) e at)) in
       let marks : AreMarksTold v row m all =
       (λ place e behind before at marked inside.
@@ -188,16 +180,13 @@ module _ (v : View) (sound : SoundView v) (readable : AreReadable v.logs v.writt
 
   -- so is all that is merged
   read : TellNoMore (read_all (by_member gather own)) all
-  read =
-      all_told (read_all (by_member gather own)) all
-      (read_told all own gather own_told
-      (subst (λ (range : Range). All (λ gathered. All (IsToldBy all) (counted_of range gathered)) gather.members) (sym rebuilder.gather.range_is)
-      (all_by (λ (gathered : Gathered). All (IsToldBy all) (counted_of row.range gathered)) gather.members each_told)))
+  read = all_told (read_all (by_member gather own)) all (read_told all own gather own_told
+      (rw rebuilder.gather.range_is (all_by (λ (gathered : Gathered). All (IsToldBy all) (counted_of row.range gathered))
+      gather.members each_told)))
 
   -- and each copy
   pub copies_written : All (IsWritten v.written) (merge_in v master row.tablet).copies
-  copies_written =
-      all_by (IsWritten v.written) (merge_in v master row.tablet).copies
+  copies_written = all_by (IsWritten v.written) (merge_in v master row.tablet).copies
       (λ item at.
       let entry = flat_from items_in all item (read.items item (copies_stand (items_of own) (items_of (read_all (by_member gather own))) item at)) in
       let one = flat_from (λ (m : Member). all_written (v.written m.master)) members entry.0 entry.1 in

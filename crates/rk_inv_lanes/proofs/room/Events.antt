@@ -1,31 +1,29 @@
 -- A sound and well formed lane with room, where records are logged and entries fit, has room after each event that is not refused, and
 -- records are logged and entries fit then.
-use Rattle.std.proofs.Common.{◌≡◌, ◌≤◌, ◌<◌, ◌+◌, ◌*◌, ℕ, Bool, true, false, cond, [], Option, None, Some, refl, sym, ap, subst, ◌∙◌}
-use Rattle.std.proofs.Common.{length, arith, All, unwrap_or}
-use Rattle.rk_inv_base.proofs.Words.{get, Node, Body, Message, Called, IsWellFormed, limits_of, Master, log_bytes, new_master, master_step}
-use Rattle.rk_inv_base.proofs.Words.{told_master, IsMaster, MayHappen, refusal, HasRoom, MOST_BYTES, delivered, delivered_to, happened}
-use Rattle.rk_inv_base.proofs.Words.{losing, seen_in, to_master, worked_at, World, bytes_of_logs, has_crashed, master_at, Event, IsSound}
-use Rattle.rk_types.specs.declared.node.Node.TheVariants as nodes
-use Rattle.rk_message.specs.declared.message.Body.TheVariants as bodies
-use Rattle.rk_world.specs.declared.event.Event.TheVariants as events
+use Rattle.std.proofs.Common.{◌≡◌, ◌≤◌, ◌<◌, ◌+◌, ◌*◌, ℕ, Bool, true, false, cond, [], Option, None, Some, refl, ap, subst, ◌∙◌, length}
+use Rattle.std.proofs.Common.{arith, All, unwrap_or, sym}
+use Rattle.rk_inv_base.proofs.Words.{get, Node, Body, Message, Called, IsWellFormed, limits_of, Master, log_bytes, new_master}
+use Rattle.rk_inv_base.proofs.Words.{master_step, told_master, IsMaster, MayHappen, refusal, HasRoom, MOST_BYTES, happened, losing}
+use Rattle.rk_inv_base.proofs.Words.{seen_in, to_master, worked_at, World, bytes_of_logs, has_crashed, master_at, Event, IsSound}
+use Rattle.rk_inv_base.proofs.Words.{delivered, delivered_to}
 use Rattle.rk_world.specs.Limits.{IsThere}
 use Rattle.rk_world.specs.Premises.{MayCome}
 use Rattle.rk_world.specs.Room.{HasRoomIn}
 use Rattle.rk_world.specs.Runs.{IsCalmEvent}
 use Rattle.rk_inv_wellformed.proofs.bytes.ByteEvents.{bytes_event, logs_with, master_below}
-use Rattle.rk_inv_wellformed.proofs.lanes.Events.{comes_fresh}
-use Rattle.rk_inv_wellformed.proofs.room.RoomEvents.{room_event}
 use Rattle.rk_inv_wellformed.proofs.bytes.StepBytes.{told_bytes}
+use Rattle.rk_inv_wellformed.proofs.lanes.Events.{comes_fresh}
 use Rattle.rk_inv_wellformed.proofs.lanes.Worlds.{formed_limits, master_of}
+use Rattle.rk_inv_wellformed.proofs.room.RoomEvents.{room_event}
 use Rattle.rk_inv_wellformed.specs.Brought.{LONGEST_LEFT, brought_by, brought_in, brought_to}
 use Rattle.rk_inv_lanes.specs.room.Fits.{IsFitting}
-use Rattle.rk_inv_lanes.specs.room.Logged.{IsLogged}
-use Rattle.rk_inv_lanes.specs.room.Replayed.{replayed_in, replayed_of, replayed_to}
 use Rattle.rk_inv_lanes.specs.room.Kept.{IsKept}
+use Rattle.rk_inv_lanes.specs.room.Logged.{IsLogged}
+use Rattle.rk_inv_lanes.specs.room.Replayed.{replayed_of}
 use Rattle.rk_inv_lanes.proofs.room.Copied.{copy_logged}
 use Rattle.rk_inv_lanes.proofs.room.FittingLanes.{fits_event}
 use Rattle.rk_inv_lanes.proofs.room.Pulled.{replayed_logged}
-use Rattle.rk_inv_lanes.proofs.room.RecordLanes.{logged_event, records_were_logged}
+use Rattle.rk_inv_lanes.proofs.room.RecordLanes.{logged_event, records_were_logged, replayed_is}
 use Rattle.rk_inv_lanes.proofs.room.Replays.{got_within, pulled_within}
 use Rattle.rk_inv_lanes.proofs.room.Sums.{apart_bytes, records_few}
 
@@ -38,7 +36,7 @@ record StandsFor (w : World) (number master : ℕ) (from : Node) (body : Body) :
   room : HasRoom w
   lives : has_crashed w master ≡ false
   there : IsMaster w.coordinator.masters master
-  found : get w.wire.messages number ≡ Some (record { from = from; to = nodes.Master master; body = body })
+  found : get w.wire.messages number ≡ Some (record { from = from; to = Node.Master master; body = body })
   logged : All (IsLogged w) (replayed_of (master_at w master) body)
 
 module _ (w : World) (number master : ℕ) where
@@ -63,28 +61,28 @@ module _ (w : World) (number master : ℕ) where
         )
 
   told_few : (from : Node) (body : Body) → StandsFor w number master from body → HasFew (told_master old from body).master
-  told_few (nodes.Master sender) (bodies.Pulled pulled) stands = omega (arith, pulled_within w master pulled stands.formed stands.logged)
-  told_few (nodes.Master sender) (bodies.Got message) stands = omega (arith, got_within w master message stands.formed stands.logged)
-  told_few (nodes.Backup backup) (bodies.Copy copy) stands =
-      let copied = copy_logged w number backup master copy stands.sound stands.formed stands.room stands.there stands.lives stands.found in
-      omega (arith, copied.bytes, apart_bytes w copied.copies stands.formed copied.apart copied.logged)
-  told_few from (bodies.Pulled pulled) stands = omega arith
-  told_few from (bodies.Got message) stands = omega arith
-  told_few from (bodies.Copy copy) stands = omega arith
+  told_few (Node.Master sender) (Body.Pulled pulled) stands = omega (arith, pulled_within master pulled stands.formed stands.logged)
+  told_few (Node.Master sender) (Body.Got message) stands = omega (arith, got_within master message stands.formed stands.logged)
+  told_few (Node.Backup backup) (Body.Copy copy) stands =
+      let copied = copy_logged number backup copy stands.sound stands.formed stands.room stands.there stands.lives stands.found in
+      omega (arith, copied.bytes, apart_bytes copied.copies stands.formed copied.apart copied.logged)
+  told_few from (Body.Pulled pulled) stands = omega arith
+  told_few from (Body.Got message) stands = omega arith
+  told_few from (Body.Copy copy) stands = omega arith
   told_few from body stands = plain from body stands refl
 
 -- ---- the bytes of logs
 
 module _ (w : World) (sound : IsSound w) (formed : IsWellFormed w) (room : HasRoom w) where
-  module _ (number : ℕ) (called : Called) (none : refusal w (events.Deliver number) ≡ None) where
+  module _ (number : ℕ) (called : Called) (none : refusal w (Event.Deliver number) ≡ None) where
     abbrev after : World
-    after = (happened w (events.Deliver number) called).world
+    after = (happened w (Event.Deliver number) called).world
 
     -- a message that brings nothing
     brings_none : brought_in w (get w.wire.messages number) ≡ 0 → bytes_of_logs after < MOST_BYTES
-    brings_none is = bytes_event w (events.Deliver number) called tt none (omega (arith, is)) formed room
+    brings_none is = bytes_event w (Event.Deliver number) called tt none (omega (arith, is)) formed room
 
-    master_few : (message : Message) (master : ℕ) → get w.wire.messages number ≡ Some message → message.to ≡ nodes.Master master
+    master_few : (message : Message) (master : ℕ) → get w.wire.messages number ≡ Some message → message.to ≡ Node.Master master
         → bytes_of_logs (to_master w master message).world < MOST_BYTES
     master_few message master found to = go (has_crashed w master) refl
       where
@@ -98,11 +96,9 @@ module _ (w : World) (sound : IsSound w) (formed : IsWellFormed w) (room : HasRo
           room = room;
           lives = lives;
           there = there;
-          found = subst (λ (to : Node). get w.wire.messages number ≡ Some (record { from = message.from; to = to; body = message.body })) to found;
-          logged =
-              subst (λ (crashed : Bool). All (IsLogged w) (cond crashed [] (replayed_of (master_at w master) message.body))) lives
-              (subst (λ (to : Node). All (IsLogged w) (replayed_to w to message.body)) to
-              (subst (λ (m : Option Message). All (IsLogged w) (replayed_in w m)) found (replayed_logged w (events.Deliver number) sound)));
+          found = rw (← to) found;
+          logged = subst (All (IsLogged w)) (replayed_is w (Event.Deliver number) number master message refl found to lives)
+              (replayed_logged w (Event.Deliver number) sound);
         }
 
         go : (crashed : Bool) → has_crashed w master ≡ crashed
@@ -113,11 +109,11 @@ module _ (w : World) (sound : IsSound w) (formed : IsWellFormed w) (room : HasRo
               arith,
               told_few w number master message.from message.body (living is),
               logs_with w master (master_step (master_at w master) message).master formed,
-              (comes_fresh w (events.Deliver number) refl none).bytes,
+              (comes_fresh w (Event.Deliver number) refl none).bytes,
             )
 
     received_few : (message : Message) (to : Node) → get w.wire.messages number ≡ Some message → message.to ≡ to → bytes_of_logs after < MOST_BYTES
-    received_few message (nodes.Master master) found to =
+    received_few message (Node.Master master) found to =
         subst (λ (m : Option Message). bytes_of_logs (delivered w m called).world < MOST_BYTES) (sym found)
         (subst (λ (to : Node). bytes_of_logs (delivered_to w message to called).world < MOST_BYTES) (sym to) (master_few message master found to))
     received_few message other found to =
@@ -132,7 +128,7 @@ module _ (w : World) (sound : IsSound w) (formed : IsWellFormed w) (room : HasRo
 
   -- the bytes of all logs fit after each event that is not refused
   pub bytes_fit : (event : Event) (called : Called) → MayHappen w event → refusal w event ≡ None → bytes_of_logs (happened w event called).world < MOST_BYTES
-  bytes_fit (events.Deliver number) called may none = delivered_few number called none
+  bytes_fit (Event.Deliver number) called may none = delivered_few number called none
   bytes_fit event called may none = bytes_event w event called may none (omega arith) formed room
 
 -- ---- each event
@@ -146,14 +142,14 @@ module _ (w : World) (event : Event) (called : Called) (sound : IsSound w) (form
   pub kept_event : IsKept now
   kept_event = record {
     logged = logged_event w event called kept.logged (replayed_logged w event sound);
-    fits = fits_event w event called formed room may kept.fits (bytes_fit w sound formed room event called may none);
+    fits = fits_event formed room kept.fits event called (bytes_fit w sound formed room event called may none);
   }
 
   masters_fit : (number : ℕ) (master : Master) → get now.masters number ≡ Some master → HasRoomIn master
   masters_fit number master found =
       let is : master_at now number ≡ master = ap (λ (m : Option Master). unwrap_or m (new_master number [])) found in
       let were = subst (λ (m : Master). length m.records ≤ bytes_of_logs w) is
-      (records_few w (master_at now number) formed (records_were_logged w event called kept.logged (replayed_logged w event sound) number)) in
+      (records_few (master_at now number) formed (records_were_logged w event called kept.logged (replayed_logged w event sound) number)) in
       record {
         records = omega (arith, were, room.bytes);
         fits = (subst IsFitting is (kept_event.fits number)).entries;

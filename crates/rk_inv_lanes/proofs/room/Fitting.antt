@@ -1,7 +1,7 @@
 -- The entries of a master fit, and its tablets have sealed few side segments: it stays so where a tablet or the log changes, where what was
 -- waited for goes on, where entries are applied, and at a turn.
-use Rattle.std.proofs.Common.{◌≡◌, ◌≤◌, ◌&&◌, ℕ, Bool, true, false, cond, not, nat_lt, List, [], ◌∷◌, All, length, Option, None, Some, refl}
-use Rattle.std.proofs.Common.{arith, unwrap_or}
+use Rattle.std.proofs.Common.{◌≡◌, ◌≤◌, ◌&&◌, ℕ, Bool, true, false, cond, not, nat_lt, List, [], ◌∷◌, All, length, Option, None, Some}
+use Rattle.std.proofs.Common.{refl, arith, unwrap_or}
 use Rattle.rk_inv_base.proofs.Words.{cond_both, All-head, All-push, All-tail, each_insert, EachIn, IsInOrder, NumberMap, get, Call, Ended}
 use Rattle.rk_inv_base.proofs.Words.{Entry, noted, frozen, joined, Handover, Role, Overreach, Stored, apply_entries, apply_entry}
 use Rattle.rk_inv_base.proofs.Words.{newly_held, noting, stored_taken, with_applied, with_ended, with_entry_item, told_by, next_reading}
@@ -13,8 +13,6 @@ use Rattle.rk_types.proofs.NumberMaps.{in_order_changed, in_order_insert}
 use Rattle.rk_types.specs.NumberMap.{changed_each}
 use Rattle.rk_entry.proofs.Sizes.{spelled_count}
 use Rattle.rk_entry.specs.Kinds.{kind_of}
-use Rattle.rk_entry.specs.declared.entry.Entry.TheVariants as entries
-use Rattle.rk_transfer.specs.declared.role.Role.TheVariants as roles
 use Rattle.rk_world.specs.Commits.{with_noted}
 use Rattle.rk_inv_wellformed.proofs.bytes.EntryBytes.{FitsSegment, mark_few}
 use Rattle.rk_inv_wellformed.proofs.maps.Maps.{All_pairs, each_changed}
@@ -24,8 +22,7 @@ use Rattle.rk_inv_lanes.specs.room.Fits.{IsFitting, MOST_SEALED}
 
 -- the entry that closes the role of a target that sealed few side segments
 pub joined_fits : (tablet : Tablet) → length tablet.pulling.sealed ≤ MOST_SEALED → FitsSegment (joined_entry tablet)
-joined_fits tablet few =
-    omega (arith, few, spelled_count (joined_entry tablet), mark_few (kind_of (joined_entry tablet)))
+joined_fits tablet few = omega (arith, few, spelled_count (joined_entry tablet), mark_few (kind_of (joined_entry tablet)))
 
 -- a tablet that has sealed few side segments
 abbrev pub HasFewSealed : Tablet → Type 0
@@ -42,8 +39,8 @@ abbrev pub IsFit : Master → Type 0
 IsFit master = AreFitting master.log.entries master.tablets
 
 -- a master that fits, where its tablets are in order, and back
-pub fit_of : (master : Master) → IsInOrder master.tablets → IsFitting master → IsFit master
-fit_of master order fits = record { each = fits.entries; order = order; sealed = fits.sealed }
+pub fit_of : {master : Master} → IsInOrder master.tablets → IsFitting master → IsFit master
+fit_of order fits = record { each = fits.entries; order = order; sealed = fits.sealed }
 
 pub fitting_of : (master : Master) → IsFit master → IsFitting master
 fitting_of master fit = record { entries = fit.each; sealed = fit.sealed }
@@ -106,9 +103,8 @@ all_fit (entry ∷ list) master all fit =
 pub freezing_fit : (master : Master) (id : ℕ) (tablet : Tablet) (moved : Option Handover) → HasFewSealed tablet → IsFit master
     → IsFit (freezing master id tablet moved)
 freezing_fit master id tablet None few fit = fit
-freezing_fit master id tablet (Some handover) few fit =
-    either_fit (is_settled master tablet.handover.range) (tablet_frozen master id tablet handover) master
-    (put_fit master id (with_handover tablet handover) few fit) fit
+freezing_fit master id tablet (Some handover) few fit = either_fit (is_settled master tablet.handover.range)
+    (tablet_frozen master id tablet handover) master (put_fit master id (with_handover tablet handover) few fit) fit
 
 -- a target that has all closes its role: the entry that it leaves fits, since it names few side segments
 pub closing_fit : (master : Master) (id : ℕ) (tablet : Tablet) (moved : Option Handover) → HasFewSealed tablet → IsFit master
@@ -121,18 +117,12 @@ closing_fit master id tablet (Some handover) few fit =
 -- what was waited for at a tablet goes on
 going_on_fit : (master : Master) (id : ℕ) (tablet : Tablet) (role : Role) → HasFewSealed tablet → IsFit master
     → IsFit (going_on_in master id tablet role)
-going_on_fit master id tablet roles.Closing few fit =
+going_on_fit master id tablet Role.Closing few fit =
     freezing_fit master id tablet (frozen tablet.handover tablet.handover.term) few fit
-going_on_fit master id tablet (roles.Joining None) few fit =
+going_on_fit master id tablet (Role.Joining None) few fit =
     let moved = joined tablet.handover tablet.handover.term (Some (length master.log.entries)) in
     either_fit (is_sealed_stored master tablet) (closing_entry master id tablet moved) master (closing_fit master id tablet moved few fit) fit
-going_on_fit master id tablet (roles.Joining (Some entry)) few fit = fit
-going_on_fit master id tablet roles.Absent few fit = fit
-going_on_fit master id tablet roles.Serving few fit = fit
-going_on_fit master id tablet roles.Frozen few fit = fit
-going_on_fit master id tablet (roles.Wanting from) few fit = fit
-going_on_fit master id tablet roles.Receiving few fit = fit
-going_on_fit master id tablet (roles.Rebuilding from entry) few fit = fit
+going_on_fit master id tablet _ few fit = fit
 
 -- a list of tablets that have sealed few side segments
 abbrev AllHaveFew : NumberMap Tablet → Type 0
@@ -166,16 +156,13 @@ ended_fit master place (Some call) [] fit = fit
 ended_fit master place None ends fit = fit
 
 item_fit : (master : Master) (entry : Entry) → IsFit master → IsFit (with_applied (with_entry_item master entry))
-item_fit master (entries.Held held) fit = fit
-item_fit master (entries.Refused refused) fit = fit
-item_fit master (entries.Carried carried) fit = fit
-item_fit master (entries.Joined joined) fit = fit
+item_fit master (Entry.Held held) fit = fit
+item_fit master _ fit = fit
 
 -- entries are applied, one after the other
 applied_fit : (list : List Entry) (master : Master) → IsFit master → IsFit (apply_entries master list).master
 applied_fit [] master fit = fit
-applied_fit (entry ∷ list) master fit =
-    applied_fit list (apply_entry master entry).master
+applied_fit (entry ∷ list) master fit = applied_fit list (apply_entry master entry).master
     (ended_fit (with_applied (with_entry_item master entry)) master.applied (get master.calls master.applied) (told_by entry)
     (item_fit master entry fit))
 
@@ -199,16 +186,11 @@ reading_fit master id tablet (Some reading) fit = fit
 -- the duty for a tablet changes at most the hashes that it wants
 duty_fit : (master : Master) (id : ℕ) (tablet : Tablet) (role : Role) → HasFewSealed tablet → IsFit master
     → IsFit (tablet_duty master id tablet role).master
-duty_fit master id tablet roles.Receiving few fit = put_fit master id (with_outstanding tablet) few fit
-duty_fit master id tablet (roles.Joining (Some entry)) few fit = either_work (nat_lt entry master.applied) _ (changed master) fit fit
-duty_fit master id tablet (roles.Joining None) few fit = fit
-duty_fit master id tablet (roles.Rebuilding from None) few fit = reading_fit master id tablet (next_reading tablet.gather) fit
-duty_fit master id tablet (roles.Rebuilding from (Some entry)) few fit = either_work (nat_lt entry master.applied) _ (changed master) fit fit
-duty_fit master id tablet roles.Absent few fit = fit
-duty_fit master id tablet roles.Serving few fit = fit
-duty_fit master id tablet roles.Closing few fit = fit
-duty_fit master id tablet roles.Frozen few fit = fit
-duty_fit master id tablet (roles.Wanting from) few fit = fit
+duty_fit master id tablet Role.Receiving few fit = put_fit master id (with_outstanding tablet) few fit
+duty_fit master id tablet (Role.Joining (Some entry)) few fit = either_work (nat_lt entry master.applied) _ (changed master) fit fit
+duty_fit master id tablet (Role.Rebuilding from None) few fit = reading_fit master id tablet (next_reading tablet.gather) fit
+duty_fit master id tablet (Role.Rebuilding from (Some entry)) few fit = either_work (nat_lt entry master.applied) _ (changed master) fit fit
+duty_fit master id tablet _ few fit = fit
 
 duties_fit : (tablets : NumberMap Tablet) (master : Master) → AllHaveFew tablets → IsFit master → IsFit (duties master tablets).master
 duties_fit [] master all fit = fit

@@ -2,17 +2,17 @@
 -- makes are few.
 use Rattle.std.proofs.Common.{◌≡◌, ◌≤◌, ◌<◌, ◌+◌, ◌%◌, ◌&&◌, ℕ, Bool, true, false, cond, List, [], ◌∷◌, ◌++◌, fold, length, length-set}
 use Rattle.std.proofs.Common.{Option, None, Some, refl, ap, ◌∙◌, arith, slice_index_or, sum_by}
-use Rattle.std.proofs.lemmas.List.FromFn.{length-range_with_len}
 use Rattle.rk_inv_base.proofs.Words.{cond_both, sum_by-append, sum_by-cons, Held, Token, spelled_all, FIRST_SIDE_SEGMENT, found, is_newer}
 use Rattle.rk_inv_base.proofs.Words.{end, joined, Handover, got, is_batch, Got, Pulled, items_of, Master, log_bytes, tablet_at}
 use Rattle.rk_inv_base.proofs.Words.{with_side_segment, with_tablet, as_entries, batch_taken, got_taken, hashes_resolved, is_token}
 use Rattle.rk_inv_base.proofs.Words.{item_replayed, joining_at, joining_by, pulled_all, pulled_taken, replay, replay_one, sealing}
 use Rattle.rk_inv_base.proofs.Words.{token_passed, with_pulled, with_pulling, is_receiving_at, MOST_BYTES, sealed_sides, Tablet}
 use Rattle.rk_inv_base.proofs.Words.{with_handover, closing_entry, Worked, changed}
+use Rattle.std.proofs.lemmas.List.FromFn.{length-range_with_len}
 use Rattle.rk_world.specs.Master.{with_item}
-use Rattle.rk_inv_wellformed.proofs.lanes.Ledgers.{kept_by_fold}
 use Rattle.rk_inv_wellformed.proofs.bytes.PullBytes.{items_bytes}
 use Rattle.rk_inv_wellformed.proofs.bytes.Sizes.{side_bytes}
+use Rattle.rk_inv_wellformed.proofs.lanes.Ledgers.{kept_by_fold}
 use Rattle.rk_inv_wellformed.proofs.masters.Tablets.{tablet_with_same}
 use Rattle.rk_inv_lanes.proofs.room.Fitting.{IsFit, closing_fit, either_work, few_at, put_fit}
 use Rattle.rk_inv_lanes.proofs.room.SealedFew.{sealed_few}
@@ -25,35 +25,33 @@ record IsPulling (id : ℕ) (master : Master) : Type 0 where
   workers : length (tablet_at master id).pulling.sides ≡ 4
 
 -- the tablet is so
-pulling_put : (id : ℕ) (master : Master) (tablet : Tablet) → length tablet.pulling.sides ≡ 4
+pulling_put : {id : ℕ} (master : Master) (tablet : Tablet) → length tablet.pulling.sides ≡ 4
     → tablet.pulling.sealed ≡ (tablet_at master id).pulling.sealed
     → IsFit master → IsPulling id (with_tablet master id tablet)
-pulling_put id master tablet workers same fit = record {
+pulling_put {id} master tablet workers same fit = record {
   fit = put_fit master id tablet (omega (arith, few_at master id fit, ap (λ (list : List ℕ). length list) same)) fit;
   workers = ap (λ (t : Tablet). length t.pulling.sides) (tablet_with_same master id tablet) ∙ workers;
 }
 
 -- an item is replayed
-replayed_pulling : (id worker : ℕ) (master : Master) (item : Held) → IsPulling id master → IsPulling id (item_replayed id worker master item)
-replayed_pulling id worker master item pulls =
+replayed_pulling : {id : ℕ} (worker : ℕ) {master : Master} (item : Held) → IsPulling id master → IsPulling id (item_replayed id worker master item)
+replayed_pulling {id} worker {master} item pulls =
     let pulling = (tablet_at master id).pulling in
-    pulling_put id (with_item master item) (with_pulling (tablet_at master id) (with_pulled pulling worker item))
+    pulling_put (with_item master item) (with_pulling (tablet_at master id) (with_pulled pulling worker item))
     (length-set pulling.sides worker (slice_index_or pulling.sides worker [] ++ item ∷ []) ∙ pulls.workers) refl pulls.fit
 
 -- items are replayed, one after the other
 replay_pulling : (id worker : ℕ) (items : List Held) (master : Master) → IsPulling id master → IsPulling id (replay master id worker items)
-replay_pulling id worker items master pulls =
-    kept_by_fold (IsPulling id) (replay_one id worker)
-    (λ now item kept.
-    cond_both (is_newer item (found item.table item.key now.records)) (item_replayed id worker now item) now (IsPulling id)
-    (λ newer. replayed_pulling id worker now item kept) (λ older. kept))
+replay_pulling id worker items master pulls = kept_by_fold (IsPulling id) (replay_one id worker)
+    (λ now item kept. cond_both (is_newer item (found item.table item.key now.records)) (item_replayed id worker now item) now
+    (IsPulling id) (λ newer. replayed_pulling worker item kept) (λ older. kept))
     items master pulls
 
 -- a batch was taken
-passed_pulling : (id : ℕ) (master : Master) (next : Token) → IsPulling id master → IsPulling id (token_passed master id next)
-passed_pulling id master next pulls =
+passed_pulling : {id : ℕ} {master : Master} (next : Token) → IsPulling id master → IsPulling id (token_passed master id next)
+passed_pulling {id} {master} next pulls =
     let it = tablet_at master id in
-    pulling_put id master (with_pulling it (record it.pulling { token = next; batches = it.pulling.batches + 1 })) pulls.workers refl pulls.fit
+    pulling_put master (with_pulling it (record it.pulling { token = next; batches = it.pulling.batches + 1 })) pulls.workers refl pulls.fit
 
 -- ---- what is sealed
 
@@ -122,8 +120,7 @@ module _ (id : ℕ) (master : Master) (pulls : IsPulling id master) where
 
   -- so they are few
   sealing_fit : log_bytes (pulled_all master id) < MOST_BYTES → IsFit sealed
-  sealing_fit below =
-      put_fit (fold with_side_segment master pieces) id _
+  sealing_fit below = put_fit (fold with_side_segment master pieces) id _
       (omega (
         arith,
         below,
@@ -149,8 +146,7 @@ batch_fit id master pulled pulls below = go (is_token pulled.next end) below
     replayed = replay master id ((tablet_at master id).pulling.batches % 4) (items_of pulled.entries)
 
     passed : IsPulling id (token_passed replayed id pulled.next)
-    passed =
-        passed_pulling id replayed pulled.next
+    passed = passed_pulling pulled.next
         (replay_pulling id ((tablet_at master id).pulling.batches % 4) (items_of pulled.entries) master pulls)
 
     -- the master after it, by whether the batch is the last one

@@ -1,23 +1,23 @@
 -- How many bytes a target gets by a replay of items that are logged: it takes each of them once at most, so no more than all logs have.
-use Rattle.std.proofs.Common.{◌≡◌, ◌≤◌, ◌+◌, ◌%◌, ◌&&◌, ℕ, Bool, true, false, cond, if◌then◌else◌, nat_lt, List, [], ◌∷◌, length, All}
-use Rattle.std.proofs.Common.{Option, None, Some, refl, sym, subst, ap, ◌∙◌, ⊎_elim, arith, Contains, unwrap_or, sum_by}
-use Rattle.std.specs.List.Sorted.{IsStrictlySortedBy}
-use Rattle.std.proofs.lemmas.List.Sums.{sum_by-le-sum_by}
+use Rattle.std.proofs.Common.{◌≡◌, ◌≤◌, ◌+◌, ◌%◌, ◌&&◌, ℕ, Bool, true, false, cond, nat_lt, List, [], ◌∷◌, length, All, Option, None}
+use Rattle.std.proofs.Common.{Some, refl, sym, ap, ◌∙◌, ⊎_elim, arith, Contains, unwrap_or, sum_by, if◌then◌else◌}
 use Rattle.rk_inv_base.proofs.Words.{cases_Bool, cond-false, cond-true, cond_both, nat_tests, All-head, All-tail, All-weaker, sum-map}
 use Rattle.rk_inv_base.proofs.Words.{sum_by-cons, spelled_of, IsInOrder, get, Held, spelled_all, order_after, found, is_newer, with_newer}
 use Rattle.rk_inv_base.proofs.Words.{IsInScanOrder, end, is_batch, is_of_parts, Got, Pulled, items_of, IsWellFormed, Master, log_bytes}
 use Rattle.rk_inv_base.proofs.Words.{new_master, tablet_at, as_entries, got_taken, hashes_resolved, is_token, item_replayed, pulled_all}
-use Rattle.rk_inv_base.proofs.Words.{pulled_taken, replay, replay_one, token_passed, is_receiving_at, Worked, changed, World, bytes_of_logs}
-use Rattle.rk_inv_base.proofs.Words.{master_at}
+use Rattle.rk_inv_base.proofs.Words.{pulled_taken, replay, replay_one, token_passed, is_receiving_at, Worked, changed, World}
+use Rattle.rk_inv_base.proofs.Words.{bytes_of_logs, master_at}
+use Rattle.std.proofs.lemmas.List.Sums.{sum_by-le-sum_by}
 use Rattle.rk_table.proofs.Changes.{found_after, found_newer}
 use Rattle.rk_table.specs.Items.{is_at}
 use Rattle.rk_inv_wellformed.proofs.bytes.PullBytes.{got_bytes, pulled_bytes}
+use Rattle.rk_inv_wellformed.proofs.bytes.TurnBytes.{CLOSING_BYTES}
 use Rattle.rk_inv_wellformed.proofs.masters.Pulls.{items_again}
 use Rattle.rk_inv_wellformed.proofs.masters.Sealing.{items_spelled}
-use Rattle.rk_inv_wellformed.proofs.bytes.TurnBytes.{CLOSING_BYTES}
-use Rattle.rk_inv_lanes.proofs.room.Sums.{all_logged, logged_bytes, logged_stands, sum_less, where_few}
 use Rattle.rk_inv_lanes.specs.room.Logged.{IsLogged}
 use Rattle.rk_inv_lanes.specs.room.Replayed.{got_items, pulled_items}
+use Rattle.rk_inv_lanes.proofs.room.Sums.{all_logged, logged_bytes, logged_stands, sum_less, where_few}
+use Rattle.std.specs.List.Sorted.{IsStrictlySortedBy}
 
 -- ---- what records lack
 
@@ -37,8 +37,7 @@ newer_still item other (Some old) newer above =
 -- what is newer once a newer item was put was newer before
 newer_before : (item put : Held) (records : List Held) → IsInScanOrder records → is_newer put (found put.table put.key records) ≡ true
     → is_newer item (found item.table item.key (with_newer put records)) ≡ true → is_newer item (found item.table item.key records) ≡ true
-newer_before item put records order newer is =
-    ⊎_elim
+newer_before item put records order newer is = ⊎_elim
     (λ (here : is_at item.table item.key put ≡ true).
     let its = is_of_parts item.table item.key put here in
     let At : List Held → Option Held = λ list. found item.table item.key list in
@@ -55,8 +54,7 @@ lacks_less : (item put : Held) (records : List Held) → IsInScanOrder records �
 lacks_less item put records order newer =
     let now : Bool = is_newer item (found item.table item.key (with_newer put records)) in
     cond_both now (spelled_of item) 0 (λ (n : ℕ). n ≤ lacks records item)
-    (λ is. subst (λ (b : Bool). spelled_of item ≤ cond b (spelled_of item) 0) (sym (newer_before item put records order newer is)) (omega arith))
-    (λ none. omega arith)
+    (λ is. rw (newer_before item put records order newer is) (omega arith)) (λ none. omega arith)
 
 -- the bytes of what records lack of a list
 abbrev lacking : List Held → List Held → ℕ
@@ -116,16 +114,14 @@ replay_taken number worker (item ∷ items) master =
     let one : replay_one number worker master item ≡ put = cond-true newer put master is in
     let some : taken master.records (item ∷ items) ≡ item ∷ taken put.records items =
     cond-true newer (item ∷ taken put.records items) (taken master.records items) is in
-    ap (λ (it : Master). replay it number worker items) one
-    ∙ replay_taken number worker items put
+    ap (λ (it : Master). replay it number worker items) one ∙ replay_taken number worker items put
     ∙ sym (ap (λ (it : Master). replay it number worker (taken put.records items)) one)
     ∙ sym (ap (replay master number worker) some))
     (λ (is : newer ≡ false).
     let one : replay_one number worker master item ≡ master = cond-false newer put master is in
     let some : taken master.records (item ∷ items) ≡ taken master.records items =
     cond-false newer (item ∷ taken put.records items) (taken master.records items) is in
-    ap (λ (it : Master). replay it number worker items) one
-    ∙ replay_taken number worker items master
+    ap (λ (it : Master). replay it number worker items) one ∙ replay_taken number worker items master
     ∙ sym (ap (replay master number worker) some))
     (cases_Bool newer)
 
@@ -159,10 +155,10 @@ module _ (w : World) (number : ℕ) (formed : IsWellFormed w) where
         items_spelled some,
         sum-map spelled_of some,
         taken_few (all_logged w) items records master_order.1
-            (All-weaker (IsLogged w) (λ item. Contains (all_logged w) item) (λ item is. logged_stands w item is) items logged),
+            (All-weaker (IsLogged w) (λ item. Contains (all_logged w) item) (λ item is. logged_stands is) items logged),
         sum_by-le-sum_by (lacks records) spelled_of (all_logged w)
             (λ item. where_few (is_newer item (found item.table item.key records)) (spelled_of item)),
-        logged_bytes w formed,
+        logged_bytes formed,
       )
 
 -- ---- what a target takes
@@ -195,12 +191,12 @@ got_same master message =
     (λ replayed. changed (hashes_resolved replayed id message.hashes)) id 0 (items_of message.entries) master
 
 -- a master that takes a Pulled whose items are logged has at most the bytes of all logs more, and those of a closing entry
-pub pulled_within : (w : World) (number : ℕ) (pulled : Pulled) → IsWellFormed w → All (IsLogged w) (pulled_items (master_at w number) pulled)
+pub pulled_within : {w : World} (number : ℕ) (pulled : Pulled) → IsWellFormed w → All (IsLogged w) (pulled_items (master_at w number) pulled)
     → log_bytes (pulled_taken (master_at w number) pulled).master ≤ log_bytes (master_at w number) + bytes_of_logs w + CLOSING_BYTES
-pulled_within w number pulled formed logged =
+pulled_within {w} number pulled formed logged =
     let master : Master = master_at w number in
     let items : List Held = pulled_items master pulled in
-    subst (λ (worked : Worked). log_bytes worked.master ≤ log_bytes master + bytes_of_logs w + CLOSING_BYTES) (sym (pulled_same master pulled))
+    rw (pulled_same master pulled)
     (omega (
       arith,
       pulled_bytes master (record pulled { entries = as_entries (taken master.records items) }) (master_order w number formed).0,
@@ -208,12 +204,12 @@ pulled_within w number pulled formed logged =
     ))
 
 -- and one that takes such a Got at most the bytes of all logs more
-pub got_within : (w : World) (number : ℕ) (message : Got) → IsWellFormed w → All (IsLogged w) (got_items (master_at w number) message)
+pub got_within : {w : World} (number : ℕ) (message : Got) → IsWellFormed w → All (IsLogged w) (got_items (master_at w number) message)
     → log_bytes (got_taken (master_at w number) message).master ≤ log_bytes (master_at w number) + bytes_of_logs w
-got_within w number message formed logged =
+got_within {w} number message formed logged =
     let master : Master = master_at w number in
     let items : List Held = got_items master message in
-    subst (λ (worked : Worked). log_bytes worked.master ≤ log_bytes master + bytes_of_logs w) (sym (got_same master message))
+    rw (got_same master message)
     (omega (
       arith,
       got_bytes master (record message { entries = as_entries (taken master.records items) }) (master_order w number formed).0,

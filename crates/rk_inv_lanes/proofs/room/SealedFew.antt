@@ -1,12 +1,12 @@
 -- A target seals few side segments: each begins where an item does not fit the one before it, so two neighbours among those of a worker
 -- have more bytes than a segment may have.
-use Rattle.std.proofs.Common.{◌≡◌, ◌≤◌, ◌<◌, ◌+◌, ◌*◌, ℕ, false, List, [], ◌∷◌, ◌++◌, length, map, nat_le, sum, refl, arith, length-append}
-use Rattle.std.proofs.Common.{sum_by}
+use Rattle.std.proofs.Common.{◌≡◌, ◌≤◌, ◌<◌, ◌+◌, ◌*◌, ℕ, false, List, [], ◌∷◌, ◌++◌, length, map, nat_le, sum, refl, arith}
+use Rattle.std.proofs.Common.{length-append, sum_by}
 use Rattle.rk_inv_base.proofs.Words.{cond_both, nat_tests, sum_by-append, sum_by-cons, spelled_of, Held, sealed_sides}
 use Rattle.rk_types.specs.declared.held.TheConstants.{SEGMENT_BYTES}
 use Rattle.rk_world.specs.SideLogs.{cut_items, with_side_item}
-use Rattle.rk_inv_wellformed.proofs.lanes.Ledgers.{kept_by_fold}
 use Rattle.rk_inv_wellformed.proofs.bytes.PullBytes.{first_bytes, items_bytes, none_bytes}
+use Rattle.rk_inv_wellformed.proofs.lanes.Ledgers.{kept_by_fold}
 use Rattle.rk_inv_wellformed.proofs.masters.Sealing.{items_spelled, sum_pushed}
 
 -- ---- items
@@ -44,11 +44,10 @@ AreFew less most pieces = SEGMENT_BYTES * length pieces + last_bytes pieces + le
 
 -- there is one where an item was put
 one_at_least : (pieces : List (List Held)) (item : Held) → 1 ≤ length (with_side_item pieces item)
-one_at_least [] item = omega arith
 one_at_least (items ∷ []) item =
     cond_both (nat_le (sum (map spelled_of items) + spelled_of item) SEGMENT_BYTES) ((items ++ item ∷ []) ∷ []) (items ∷ (item ∷ []) ∷ [])
     (λ (pieces : List (List Held)). 1 ≤ length pieces) (λ fits. omega arith) (λ beyond. omega arith)
-one_at_least (items ∷ next ∷ more) item = omega arith
+one_at_least _ item = omega arith
 
 -- the last one behind another one
 last_behind : (items : List Held) (pieces : List (List Held)) → 1 ≤ length pieces → last_bytes (items ∷ pieces) ≡ last_bytes pieces

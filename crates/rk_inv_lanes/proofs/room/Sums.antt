@@ -1,29 +1,29 @@
 -- How many bytes what is logged in a lane has: no more than its logs. So items in strict order that are logged have no more either, and
 -- records are no more than the logs have bytes.
 use Rattle.std.proofs.Common.{◌≡◌, ◌≤◌, ◌+◌, ℕ, Bool, true, false, cond, List, [], ◌∷◌, ◌++◌, length, map, All, Option, None, Some, refl}
-use Rattle.std.proofs.Common.{sym, subst, ap, ◌∙◌, ⊎_elim, arith, Contains, unwrap_or, flat_map, sum_by, is_lt, nat_cmp}
-use Rattle.std.specs.Cmp.{IsTotalOrder, tied_itself}
-use Rattle.std.specs.List.Sorted.{IsStrictlySortedBy}
+use Rattle.std.proofs.Common.{sym, subst, ap, ◌∙◌, ⊎_elim, arith, Contains, unwrap_or, flat_map, sum_by, is_lt, nat_cmp, Ordering, Less}
+use Rattle.rk_inv_base.proofs.Words.{All-contains, All-head, All-tail, Contains-append_left, Contains-append_right, sum-map}
+use Rattle.rk_inv_base.proofs.Words.{sum_by-append, sum_by-cons, eq_by_cmp, NumberMap, get, Held, spelled, Entry, behind_stands}
+use Rattle.rk_inv_base.proofs.Words.{first_stands, none_stands, stands_cases, cut, items_of, IsFormedMaster, IsWellFormed, Limits, Master}
+use Rattle.rk_inv_base.proofs.Words.{log_bytes, new_master, as_entries, World, bytes_of_logs}
 use Rattle.std.proofs.lemmas.List.Concat.{length-flat_map}
 use Rattle.std.proofs.lemmas.List.Recursion.{is_sum_by}
 use Rattle.std.proofs.lemmas.List.Sums.{sum_by-le-sum_by}
 use Rattle.std.proofs.lemmas.Map.Views.{All-after_first}
-use Rattle.rk_inv_base.proofs.Words.{All-contains, All-head, All-tail, Contains-append_left, Contains-append_right, sum-map, sum_by-append}
-use Rattle.rk_inv_base.proofs.Words.{sum_by-cons, eq_by_cmp, Ordering, Less, NumberMap, get, Held, spelled, Entry, behind_stands}
-use Rattle.rk_inv_base.proofs.Words.{first_stands, none_stands, stands_cases, cut, items_of, IsFormedMaster, IsWellFormed, Limits}
-use Rattle.rk_inv_base.proofs.Words.{limits_of, Master, log_bytes, new_master, as_entries, World, bytes_of_logs}
-use Rattle.rk_types.specs.Held.{spelled_of}
-use Rattle.rk_entry.specs.Entries.{spelled_all}
-use Rattle.rk_overlay.proofs.Ordered.{item_total}
-use Rattle.rk_overlay.specs.Overlay.{item_cmp}
+use Rattle.std.specs.Cmp.{IsTotalOrder, tied_itself}
 use Rattle.rk_table.proofs.InOrder.{item_total as table_total}
 use Rattle.rk_table.specs.Order.{item_cmp as table_cmp}
+use Rattle.rk_overlay.proofs.Ordered.{item_total}
+use Rattle.rk_overlay.specs.Overlay.{item_cmp}
+use Rattle.rk_inv_wellformed.proofs.bytes.PullBytes.{items_few}
+use Rattle.rk_inv_wellformed.proofs.bytes.Sizes.{bytes_spelled}
 use Rattle.rk_inv_wellformed.proofs.maps.Maps.{All_pairs}
 use Rattle.rk_inv_wellformed.proofs.maps.Numbered.{numbered_order}
-use Rattle.rk_inv_wellformed.proofs.bytes.PullBytes.{items_few}
 use Rattle.rk_inv_wellformed.proofs.masters.Sealing.{items_spelled}
-use Rattle.rk_inv_wellformed.proofs.bytes.Sizes.{bytes_spelled}
 use Rattle.rk_inv_lanes.specs.room.Logged.{HasRecordsOf, IsLogged, logged_by}
+use Rattle.rk_types.specs.Held.{spelled_of}
+use Rattle.rk_entry.specs.Entries.{spelled_all}
+use Rattle.std.specs.List.Sorted.{IsStrictlySortedBy}
 
 -- ---- sums
 
@@ -37,12 +37,10 @@ module _ {X : Type 0} where
   pub sum_less : (f g : X → ℕ) (less : ℕ) (xs : List X) (x : X) → ((y : X) → f y ≤ g y) → Contains xs x → f x + less ≤ g x
       → sum_by f xs + less ≤ sum_by g xs
   sum_less f g less [] x each stands it = absurd (none_stands x stands)
-  sum_less f g less (y ∷ xs) x each stands it =
-      ⊎_elim
-      (λ (same : y ≡ x).
-      omega (arith, it, ap f same, ap g same, sum_by-le-sum_by f g xs each, sum_by-cons f y xs, sum_by-cons g y xs))
-      (λ (behind : Contains xs x).
-      omega (arith, sum_less f g less xs x each behind it, each y, sum_by-cons f y xs, sum_by-cons g y xs))
+  sum_less f g less (y ∷ xs) x each stands it = ⊎_elim (λ (same : y ≡ x). omega
+      (arith, it, ap f same, ap g same, sum_by-le-sum_by f g xs each, sum_by-cons f y xs, sum_by-cons g y xs))
+      (λ (behind : Contains xs x). omega
+      (arith, sum_less f g less xs x each behind it, each y, sum_by-cons f y xs, sum_by-cons g y xs))
       (stands_cases y xs x stands)
 
   -- the sum of things in strict order that stand in a list is no greater than that of the list, where none counts for more in it
@@ -57,9 +55,7 @@ module _ {X : Type 0} where
         arith,
         sum_by-cons size x xs,
         sorted_within cmp size later xs ys total order.1 (λ y stands. within y (behind_stands x xs y stands))
-            (λ y stands.
-            subst (λ (b : Bool). size y ≤ cond b (most y) 0) (sym (ap is_lt (All-contains (λ y. cmp x y ≡ Less) xs y behind stands)))
-            (few y (behind_stands x xs y stands))),
+            (λ y stands. rw (ap is_lt (All-contains (λ y. cmp x y ≡ Less) xs y behind stands)) (few y (behind_stands x xs y stands))),
         sum_less later most (size x) ys x (λ y. where_few (is_lt (cmp x y)) (most y)) (within x (first_stands x xs))
             (subst (λ (b : Bool). cond b (most x) 0 + size x ≤ most x) (sym (ap is_lt (tied_itself total x)))
             (omega (arith, few x (first_stands x xs)))),
@@ -80,13 +76,13 @@ found_stands (first ∷ rest) number master item found stands =
     elim (eq_by_cmp nat_cmp number first.0) as (λ b. cond b (Some first.1) (get rest number) ≡ Some master → Contains (logged_by first.1 ++ others) item) [
       | true ↦ λ same.
           let is : first.1 ≡ master = cc same in
-          Contains-append_left (logged_by first.1) others item (subst (λ (it : Master). Contains (logged_by it) item) (sym is) stands)
+          Contains-append_left (logged_by first.1) others item (rw is stands)
       | false ↦ λ later. Contains-append_right (logged_by first.1) others item (found_stands rest number master item later stands)
     ] found
 
 -- what is logged stands there
-pub logged_stands : (w : World) (item : Held) → IsLogged w item → Contains (all_logged w) item
-logged_stands w item logged = go (get w.masters logged.master) refl logged.stands
+pub logged_stands : {w : World} {item : Held} → IsLogged w item → Contains (all_logged w) item
+logged_stands {w} {item} logged = go (get w.masters logged.master) refl logged.stands
   where
     go : (found : Option Master) → get w.masters logged.master ≡ found → Contains (logged_by (unwrap_or found (new_master logged.master []))) item
         → Contains (all_logged w) item
@@ -115,9 +111,9 @@ sides_bytes (items ∷ sides) =
     )
 
 -- the items of a master's log have no more bytes than its log
-master_bytes : (limits : Limits) (number : ℕ) (master : Master) → IsFormedMaster limits number master
+master_bytes : {limits : Limits} {number : ℕ} {master : Master} → IsFormedMaster limits number master
     → sum_by spelled_of (logged_by master) ≤ log_bytes master
-master_bytes limits number master formed =
+master_bytes {master} formed =
     omega (
       arith,
       sum_by-append spelled_of (items_of master.log.entries) (flat_map (λ items. items) master.sides),
@@ -144,28 +140,28 @@ masters_bytes (first ∷ rest) all =
     )
 
 -- all that is logged has no more bytes than the logs
-pub logged_bytes : (w : World) → IsWellFormed w → sum_by spelled_of (all_logged w) ≤ bytes_of_logs w
-logged_bytes w formed =
+pub logged_bytes : {w : World} → IsWellFormed w → sum_by spelled_of (all_logged w) ≤ bytes_of_logs w
+logged_bytes {w} formed =
     omega (
       arith,
       masters_bytes w.masters
           (All_pairs (λ number master. sum_by spelled_of (logged_by master) ≤ log_bytes master) w.masters
           (numbered_order w.masters w.coordinator.masters formed.masters_are)
-          (λ number master there. master_bytes (limits_of w) number master (formed.masters number master there))),
+          (λ number master there. master_bytes (formed.masters number master there))),
       sum-map (λ (entry : ℕ × Master). log_bytes entry.1) w.masters,
     )
 
 -- ---- what has no more
 
 -- items in order that are logged have no more bytes than all logs
-pub apart_bytes : (w : World) (items : List Held) → IsWellFormed w → IsStrictlySortedBy item_cmp items → All (IsLogged w) items
+pub apart_bytes : {w : World} (items : List Held) → IsWellFormed w → IsStrictlySortedBy item_cmp items → All (IsLogged w) items
     → sum_by spelled_of items ≤ bytes_of_logs w
-apart_bytes w items formed order logged =
+apart_bytes {w} items formed order logged =
     omega (
       arith,
-      logged_bytes w formed,
+      logged_bytes formed,
       sorted_within item_cmp spelled_of spelled_of items (all_logged w) item_total order
-          (λ item stands. logged_stands w item (All-contains (IsLogged w) items item logged stands)) (λ item stands. omega arith),
+          (λ item stands. logged_stands (All-contains (IsLogged w) items item logged stands)) (λ item stands. omega arith),
     )
 
 -- an item has a byte
@@ -174,12 +170,12 @@ unfolding spelled_of
 item_some item = omega arith
 
 -- and records are no more than all logs have bytes
-pub records_few : (w : World) (master : Master) → IsWellFormed w → HasRecordsOf (IsLogged w) master → length master.records ≤ bytes_of_logs w
-records_few w master formed has =
+pub records_few : {w : World} (master : Master) → IsWellFormed w → HasRecordsOf (IsLogged w) master → length master.records ≤ bytes_of_logs w
+records_few {w} master formed has =
     omega (
       arith,
-      logged_bytes w formed,
+      logged_bytes formed,
       is_sum_by (λ (items : List Held). length items) (λ item. 1) refl (λ item items. omega arith) master.records,
       sorted_within table_cmp (λ item. 1) spelled_of master.records (all_logged w) table_total has.ordered
-          (λ item stands. logged_stands w item (All-contains (IsLogged w) master.records item has.logged stands)) (λ item stands. item_some item),
+          (λ item stands. logged_stands (All-contains (IsLogged w) master.records item has.logged stands)) (λ item stands. item_some item),
     )

@@ -1,13 +1,12 @@
 -- What counts of a log that is read back from where it is stored, once all of it is applied and nothing is marked, is what counts of
 -- the applied entries.
-use Rattle.std.proofs.Common.{◌≡◌, ℕ, suc, zero, ◌<◌, ◌≤◌, true, List, [], ◌∷◌, ◌++◌, length, Option, refl, sym, ap, ◌∙◌, arith, drop, take}
-use Rattle.std.proofs.Common.{All, Contains, flat_map, take_all}
+use Rattle.std.proofs.Common.{◌≡◌, ℕ, suc, zero, ◌<◌, ◌≤◌, true, List, [], ◌∷◌, ◌++◌, length, Option, refl, sym, ap, ◌∙◌, arith, drop}
+use Rattle.std.proofs.Common.{take, All, Contains, flat_map, take_all}
 use Rattle.rk_inv_base.proofs.Words.{cond_both, All-contains, All-drop, Contains-append_right, meets, Range, entries_of, IsLawfulEntry}
 use Rattle.rk_inv_base.proofs.Words.{IsLawfulHeld, Entry, FIRST_SIDE_SEGMENT, cut, IsBackup, Log, is_side_stored, LAST_MAIN_SEGMENT}
-use Rattle.rk_inv_base.proofs.Words.{unmarked, counting, log_material, material_of, named, named_by, side_entries, Written, applied_entries}
-use Rattle.rk_inv_base.proofs.Words.{Mark, IsLog, segments_in}
+use Rattle.rk_inv_base.proofs.Words.{unmarked, counting, log_material, material_of, named, named_by, side_entries, Written}
+use Rattle.rk_inv_base.proofs.Words.{applied_entries, Mark, IsLog, segments_in}
 use Rattle.rk_outside.specs.Segments.{bytes_of as stored_bytes}
-use Rattle.rk_entry.specs.declared.entry.Entry.TheVariants as entries
 use Rattle.rk_log.specs.Stored.{stored_entries}
 use Rattle.rk_inv_tablets.proofs.crash.Among.{named_from}
 use Rattle.rk_inv_lanes.proofs.stands.MainStored.{entries_back}
@@ -21,12 +20,9 @@ flat_same f g (x ∷ xs) same =
 
 -- the segments that an entry names for a range are among those that it names
 named_in : (range : Range) (entry : Entry) (number : ℕ) → Contains (named_by range entry) number → Contains (segments_in entry) number
-named_in range (entries.Joined joined) number =
-    cond_both (meets joined.range range) joined.segments [] (λ numbers. Contains numbers number → Contains joined.segments number)
-    (λ e at. at) (λ e at. absurd (omega (arith, at.1)))
-named_in range (entries.Held held) number = λ at. at
-named_in range (entries.Refused refused) number = λ at. at
-named_in range (entries.Carried carried) number = λ at. at
+named_in range (Entry.Joined joined) number = cond_both (meets joined.range range) joined.segments []
+    (λ numbers. Contains numbers number → Contains joined.segments number) (λ e at. at) (λ e at. absurd (omega (arith, at.1)))
+named_in range _ number = λ at. at
 
 -- without marks each entry bears none
 unmarked_all : (place : ℕ) (list : List Entry) → unmarked [] place list ≡ list

@@ -1,17 +1,17 @@
 -- A log of which all is applied has each main segment stored whole at every backup, and is read back from them.
 use Rattle.std.proofs.Common.{◌≡◌, ℕ, zero, suc, ◌+◌, ◌-◌, ◌<◌, ◌≤◌, List, [], ◌∷◌, ◌++◌, length, get_or, map, Option, Some, None, refl}
-use Rattle.std.proofs.Common.{sym, ap, subst, ◌∙◌, arith, length-append, IfSome, slice_get, All, append-nil}
+use Rattle.std.proofs.Common.{sym, ap, subst, ◌∙◌, arith, length-append, All, append-nil, IfSome, slice_get}
 use Rattle.rk_inv_base.proofs.Words.{All-head, All-tail, recursion_from_All, slice_get-get_or, entries_of, spelled_all, IsLawfulEntry}
 use Rattle.rk_inv_base.proofs.Words.{spelled, Entry, FIRST_SIDE_SEGMENT, cut_filled, length-ends, cut, ends, IsBackup, Log, bytes_of}
 use Rattle.rk_inv_base.proofs.Words.{EntryEnd, LAST_MAIN_SEGMENT, Written, IsLog}
 use Rattle.rk_outside.specs.Segments.{bytes_of as stored_bytes}
 use Rattle.rk_log.proofs.CutLaws.{cut_again}
 use Rattle.rk_log.specs.Stored.{spelled_in, stored_entries, written_from, written_then}
-use Rattle.rk_inv_tablets.proofs.crash.FirstRead.{read_none}
-use Rattle.rk_inv_tablets.proofs.crash.Groups.{cut_groups, ends_in, group_ends, spelled_first, spelled_none, spelled_one}
 use Rattle.rk_inv_wellformed.proofs.maps.Lists.{all_back, all_front}
 use Rattle.rk_inv_base.proofs.logs.Holding.{applied_stored}
 use Rattle.rk_inv_base.proofs.logs.Segments.{bytes_main}
+use Rattle.rk_inv_tablets.proofs.crash.FirstRead.{read_none}
+use Rattle.rk_inv_tablets.proofs.crash.Groups.{cut_groups, ends_in, group_ends, spelled_first, spelled_none, spelled_one}
 
 -- bytes that have all of what they begin
 pub whole_part : (whole bytes more : List ℕ) → whole ≡ bytes ++ more → length whole ≤ length bytes → bytes ≡ whole
@@ -33,8 +33,7 @@ module _ (stored : ℕ → List ℕ) where
       omega (arith, last, ap length (spelled_one entry))
   group_stored segment offset (entry ∷ next ∷ more) some all =
       let past : ℕ = offset + length (spelled entry) in
-      let later =
-      group_stored segment past (next ∷ more) (omega arith)
+      let later = group_stored segment past (next ∷ more) (omega arith)
       (All-tail (IsStored stored) (record { segment = segment; offset = past }) (ends_in segment past (next ∷ more)) all) in
       omega (arith, later, ap length (spelled_first entry (next ∷ more)), length-append (spelled entry) (spelled_all (next ∷ more)))
 
@@ -46,10 +45,9 @@ module _ (stored : ℕ → List ℕ) where
       let at : first ≡ segment = omega (arith, is) in
       let here = all_front (IsStored stored) (ends_in first 0 (entry ∷ list)) (group_ends (suc first) groups) all in
       let whole = group_stored first 0 (entry ∷ list) (omega arith) here in
-      subst (λ (n : ℕ). length (spelled_all (entry ∷ list)) ≤ length (stored n)) at (omega (arith, whole))
-  groups_stored first (group ∷ groups) all (suc k) segment is =
-      groups_stored (suc first) groups (all_back (IsStored stored) (ends_in first 0 group) (group_ends (suc first) groups) all) k segment
-      (omega (arith, is))
+      rw (← at) (omega (arith, whole))
+  groups_stored first (group ∷ groups) all (suc k) segment is = groups_stored (suc first) groups
+      (all_back (IsStored stored) (ends_in first 0 group) (group_ends (suc first) groups) all) k segment (omega (arith, is))
 
 -- ---- segments that are read
 
@@ -59,8 +57,7 @@ unfolding written_from
 segments_back segments first zero [] filled few are = refl
 segments_back segments first zero (x ∷ list) filled few are = absurd (omega (arith, few))
 segments_back segments first (suc most) [] filled few are =
-    go (segments first)
-    (are zero first (omega arith) (omega arith))
+    go (segments first) (are zero first (omega arith) (omega arith))
     (segments_back segments (suc first) most [] (λ k within. absurd (omega arith)) (omega arith)
     (λ k number is within. are (suc k) number (omega (arith, is)) (omega (arith, within))))
   where
@@ -68,8 +65,7 @@ segments_back segments first (suc most) [] filled few are =
     go None none later = refl
     go (Some bytes) none later = (λ i. entries_of (none i) ++ later i) ∙ append-nil (entries_of []) ∙ read_none
 segments_back segments first (suc most) (x ∷ list) filled few are =
-    go (segments first)
-    (are zero first (omega arith) (omega arith))
+    go (segments first) (are zero first (omega arith) (omega arith))
     (segments_back segments (suc first) most list (λ k within. filled (suc k) (omega (arith, within))) (omega (arith, few))
     (λ k number is within. are (suc k) number (omega (arith, is)) (omega (arith, within))))
   where
@@ -106,8 +102,7 @@ module _ (log : Log) (w : Written) (stored : ℕ → ℕ → List ℕ) (kept : I
 
   -- so the entries are read back
   pub entries_back : All IsLawfulEntry w.entries → (segments : ℕ → Option (List ℕ)) → ((number : ℕ) → stored_bytes (segments number) ≡ stored backup number) → stored_entries LAST_MAIN_SEGMENT segments ≡ w.entries
-  entries_back lawful segments are =
-      segments_back segments 1 LAST_MAIN_SEGMENT (cut log.entries)
+  entries_back lawful segments are = segments_back segments 1 LAST_MAIN_SEGMENT (cut log.entries)
       (cut_filled [] log.entries (λ k within. absurd (omega arith))) (omega (arith, few))
       (λ k number is within. are number ∙ main_whole k number is (omega (arith, is, within)))
       ∙ cut_again log.entries (recursion_from_All IsLawfulEntry log.entries (subst (All IsLawfulEntry) (sym kept.entries_are) lawful))

@@ -1,32 +1,31 @@
 -- In a quiet lane no log bears a mark and all of each owner's log is applied, so what a backup stores of a row is the row's truth.
 use Rattle.std.proofs.Common.{◌≡◌, ℕ, ◌<◌, ◌≤◌, Bool, true, false, List, [], ◌∷◌, ◌++◌, length, Option, Some, None, refl, sym, ap, subst}
 use Rattle.std.proofs.Common.{arith, length-drop, is_some, not, unwrap_or, All, Contains, flat_map, eq-eqb}
-use Rattle.rk_inv_base.proofs.Words.{All-contains, All-head, All-nil, All-weaker, EachIn, get, Range, Segments, live_after, IsLawfulEntry}
-use Rattle.rk_inv_base.proofs.Words.{IsLawfulHeld, Entry, FIRST_SIDE_SEGMENT, Handover, number_of, lineage_of, member, row_of, Phase, Owned}
-use Rattle.rk_inv_base.proofs.Words.{Opening, Moving, Rebuilding, Row, cut, IsBackup, no_segments, base_map, Session, items_of}
-use Rattle.rk_inv_base.proofs.Words.{IsWellFormed, IsFormedEntry, IsFormedHeld, limits_of, Master, new_master, staged, names, IsMaster}
-use Rattle.rk_inv_base.proofs.Words.{AgreeIn, HasRoom, World, backup_at, has_crashed, log_in, master_at, written_in, Written, lineage_truth}
-use Rattle.rk_inv_base.proofs.Words.{member_truth, Mark, stored_of, MarkFits, IsTruth, truths, view, IsSound}
+use Rattle.rk_inv_base.proofs.Words.{All-contains, All-head, All-nil, All-weaker, EachIn, get, Range, Segments, IsLawfulEntry}
+use Rattle.rk_inv_base.proofs.Words.{IsLawfulHeld, FIRST_SIDE_SEGMENT, Handover, number_of, lineage_of, member, row_of, Phase, Owned, Row}
+use Rattle.rk_inv_base.proofs.Words.{cut, IsBackup, no_segments, Session, IsWellFormed, IsFormedEntry, IsFormedHeld, limits_of, Master}
+use Rattle.rk_inv_base.proofs.Words.{new_master, staged, names, IsMaster, HasRoom, World, backup_at, has_crashed, log_in, master_at}
+use Rattle.rk_inv_base.proofs.Words.{written_in, Written, lineage_truth, member_truth, Mark, stored_of, MarkFits, IsTruth, truths, view}
+use Rattle.rk_inv_base.proofs.Words.{IsSound}
 use Rattle.rk_outside.specs.Segments.{bytes_of as stored_bytes}
-use Rattle.rk_overlay.specs.Live.{live as live_items}
 use Rattle.rk_world.specs.Quiet.{IsOwnedLive, IsQuiet}
 use Rattle.rk_world.specs.Stands.{Stands, StandsIn, stored_material}
 use Rattle.rk_world.specs.World.{live_masters}
 use Rattle.rk_inv_wellformed.proofs.lanes.Backups.{lawful_of}
-use Rattle.rk_inv_wellformed.proofs.maps.Maps.{All_pairs, each_from_pairs}
 use Rattle.rk_inv_wellformed.proofs.lanes.Worlds.{room_of_master}
-use Rattle.rk_inv_base.proofs.pulls.Joining.{stands_kept}
-use Rattle.rk_inv_base.proofs.views.Lists.{all_by}
+use Rattle.rk_inv_wellformed.proofs.maps.Maps.{All_pairs, each_from_pairs}
 use Rattle.rk_inv_base.proofs.logs.Segments.{segments_few}
+use Rattle.rk_inv_base.proofs.pulls.Joining.{stands_kept}
 use Rattle.rk_inv_base.proofs.rows.Serving.{found_stands}
+use Rattle.rk_inv_base.proofs.views.Lists.{all_by}
 use Rattle.rk_inv_lanes.specs.stands.Backups.{HasOwnBackups}
 use Rattle.rk_inv_lanes.proofs.stands.LogBack.{material_back}
 
 -- ---- marks
 
 -- a row that a living master owns has no mark
-owned_unmarked : (crashed : List ℕ) (row : Row) (master : ℕ) (handover : Handover) (live : Bool) (written : Written) (mark : Mark) → IsOwnedLive crashed row.phase → MarkFits row master handover live written mark → ⊥
-owned_unmarked crashed row master handover live written mark owned fits = subst (IsOwnedLive crashed) fits.rebuilt.2 owned
+owned_unmarked : (crashed : List ℕ) {row : Row} {master : ℕ} {handover : Handover} {live : Bool} {written : Written} {mark : Mark} → IsOwnedLive crashed row.phase → MarkFits row master handover live written mark → ⊥
+owned_unmarked crashed owned fits = subst (IsOwnedLive crashed) fits.rebuilt.2 owned
 
 -- so no log has one, where each tablet of a mark has a row
 none_marked : (crashed : List ℕ) (rows : List Row) (master : ℕ) (handovers : ℕ → Handover) (live : Bool) (written : Written) (marks : List Mark) → All (λ row. IsOwnedLive crashed row.phase) rows → All (λ mark. is_some (row_of rows mark.tablet) ≡ true) marks → All (λ row. All (λ mark. mark.tablet ≡ row.tablet → MarkFits row master (handovers row.tablet) live written mark) marks) rows → marks ≡ []
@@ -43,8 +42,7 @@ none_marked crashed rows master handovers live written (mark ∷ marks) owned kn
         (All-contains
         (λ (row : Row). All (λ mark. mark.tablet ≡ row.tablet → MarkFits row master (handovers row.tablet) live written mark) (mark ∷ marks))
         rows row fit stands) in
-        owned_unmarked crashed row master (handovers row.tablet) live written mark
-        (All-contains (λ (row : Row). IsOwnedLive crashed row.phase) rows row owned stands)
+        owned_unmarked crashed (All-contains (λ (row : Row). IsOwnedLive crashed row.phase) rows row owned stands)
         (fits (sym (number_of rows mark.tablet row found)))
 
 -- ---- what a well formed lane has
@@ -52,8 +50,7 @@ none_marked crashed rows master handovers live written (mark ∷ marks) owned kn
 module _ (w : World) (formed : IsWellFormed w) where
   -- what logs have is lawful
   entries_lawful : (q : ℕ) → All IsLawfulEntry (master_at w q).log.entries
-  entries_lawful q =
-      go (get w.masters q) refl
+  entries_lawful q = go (get w.masters q) refl
     where
       go : (found : Option Master) → get w.masters q ≡ found → All IsLawfulEntry (unwrap_or found (new_master q [])).log.entries
       go None is = All-nil IsLawfulEntry
@@ -62,19 +59,16 @@ module _ (w : World) (formed : IsWellFormed w) where
           (formed.masters q master is).written
 
   items_lawful : (q : ℕ) → All IsLawfulHeld (flat_map (λ items. items) (master_at w q).sides)
-  items_lawful q =
-      go (get w.masters q) refl
+  items_lawful q = go (get w.masters q) refl
     where
       go : (found : Option Master) → get w.masters q ≡ found → All IsLawfulHeld (flat_map (λ items. items) (unwrap_or found (new_master q [])).sides)
       go None is = All-nil IsLawfulHeld
-      go (Some master) is =
-          All-weaker (IsFormedHeld (limits_of w)) IsLawfulHeld (λ held it. it.lawful) (flat_map (λ items. items) master.sides)
-          (formed.masters q master is).items
+      go (Some master) is = All-weaker (IsFormedHeld (limits_of w)) IsLawfulHeld (λ held it. it.lawful)
+          (flat_map (λ items. items) master.sides) (formed.masters q master is).items
 
   -- with room there are numbers for all main segments
   segments_numbered : HasRoom w → (q : ℕ) → length (cut (log_in w q).entries) < FIRST_SIDE_SEGMENT
-  segments_numbered room q =
-      go (get w.masters q) refl
+  segments_numbered room q = go (get w.masters q) refl
     where
       go : (found : Option Master) → get w.masters q ≡ found → length (cut (unwrap_or found (new_master q [])).log.entries) < FIRST_SIDE_SEGMENT
       go None is = omega arith
@@ -96,17 +90,14 @@ module _ (w : World) (sessions : List Session) (sound : IsSound w) (formed : IsW
 
   -- nothing is staged at a living master
   settled : EachIn (λ number master. has_crashed w number ≡ false → staged master ≡ []) w.masters
-  settled =
-      each_from_pairs (λ number master. has_crashed w number ≡ false → staged master ≡ []) w.masters
+  settled = each_from_pairs (λ number master. has_crashed w number ≡ false → staged master ≡ []) w.masters
       (all_by (λ (pair : ℕ × Master). has_crashed w pair.0 ≡ false → staged pair.1 ≡ []) w.masters
-      (λ pair at alive.
-      All-contains (λ (entry : ℕ × Master). staged entry.1 ≡ []) (live_masters w) pair quiet.settled
+      (λ pair at alive. All-contains (λ (entry : ℕ × Master). staged entry.1 ≡ []) (live_masters w) pair quiet.settled
       (stands_kept (λ (entry : ℕ × Master). not (has_crashed w entry.0)) w.masters pair at (ap not alive))))
 
   -- so all of its log is applied
   all_applied : (q : ℕ) → has_crashed w q ≡ false → length (written_in w q).entries ≤ (written_in w q).applied
-  all_applied q alive =
-      go (get w.masters q) refl
+  all_applied q alive = go (get w.masters q) refl
     where
       go : (found : Option Master) → get w.masters q ≡ found → length (unwrap_or found (new_master q [])).log.entries ≤ (unwrap_or found (new_master q [])).applied
       go None is = omega arith
@@ -116,8 +107,8 @@ module _ (w : World) (sessions : List Session) (sound : IsSound w) (formed : IsW
 
   module _ (number : ℕ) (segments : Segments) (found : get w.backups number ≡ Some segments) where
     -- what the backup stores of a living master's log counts as what is applied does
-    member_back : (range : Range) (master from : ℕ) → IsMaster w.coordinator.masters master → has_crashed w master ≡ false → stored_material segments range (member master from) ≡ member_truth (written_in w) range (member master from)
-    member_back range master from is_there alive =
+    member_back : (range : Range) {master : ℕ} (from : ℕ) → IsMaster w.coordinator.masters master → has_crashed w master ≡ false → stored_material segments range (member master from) ≡ member_truth (written_in w) range (member master from)
+    member_back range {master} from is_there alive =
         let one = told.numbered number segments found in
         let first = one.first in
         let last = one.last in
@@ -132,29 +123,24 @@ module _ (w : World) (sessions : List Session) (sound : IsSound w) (formed : IsW
     -- so it is with the lineage of a row that a living master owns
     lineage_back : (range : Range) (phase : Phase) → IsOwnedLive w.crashed phase → ((master : ℕ) → names phase master ≡ true → IsMaster w.coordinator.masters master) → flat_map (stored_material segments range) (lineage_of phase) ≡ lineage_truth w.base (written_in w) range (lineage_of phase)
     lineage_back range (Owned master from) alive named =
-        λ i. member_back range master from (named master (eq-eqb master master refl)) alive i ++ []
-    lineage_back range (Opening source sfrom target dfrom) alive named = absurd alive
-    lineage_back range (Moving source sfrom target dfrom) alive named = absurd alive
-    lineage_back range (Rebuilding lineage to) alive named = absurd alive
+        λ i. member_back range from (named master (eq-eqb master master refl)) alive i ++ []
+    lineage_back range _ alive named = absurd alive
 
     -- the backup stands for the row
     row_stands : (row : Row) → Contains w.coordinator.rows row → StandsIn w row segments
     row_stands row has =
         let its = All-contains (λ (row : Row). IsTruth w.base row.range (truths (view w) row) w.ledger.journal) rows row sound.truth.true has in
-        subst (λ (list : List Entry). AgreeIn row.range (live_items (items_of list)) (live_after (base_map w.base) w.ledger.journal))
-        (sym
-        (lineage_back row.range row.phase (All-contains (λ (row : Row). IsOwnedLive w.crashed row.phase) rows row quiet.owned has)
+        rw (lineage_back row.range row.phase (All-contains (λ (row : Row). IsOwnedLive w.crashed row.phase) rows row quiet.owned has)
         (λ master.
         All-contains (λ (row : Row). names row.phase master ≡ true → IsMaster w.coordinator.masters master) rows row
-        (sound.nodes.named master) has)))
+        (sound.nodes.named master) has))
         its.live
 
   -- all of them do for each
   pub quiet_stands : Stands w
   quiet_stands =
       all_by (λ (row : Row). All (λ (backup : ℕ × Segments). StandsIn w row backup.1) w.backups) w.coordinator.rows
-      (λ row has.
-      All_pairs (λ number segments. StandsIn w row segments) w.backups told.order
+      (λ row has. All_pairs (λ number segments. StandsIn w row segments) w.backups told.order
       (λ number segments found. row_stands number segments found row has))
 
 -- so they do with room

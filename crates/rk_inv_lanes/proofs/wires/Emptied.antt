@@ -1,9 +1,8 @@
 -- A wire from which the oldest message is taken off, again and again, is empty once no delivery is left.
-use Rattle.std.proofs.Common.{◌≡◌, ◌≤◌, ◌<◌, ◌+◌, ℕ, List, [], ◌∷◌, length, Option, Some, None, refl, sym, subst, sum_by, arith}
-use Rattle.rk_inv_base.proofs.Words.{IsInOrder, NumberMap, get, Message, Gave, IsWellFormed, world_stepped, stepped_by, World}
+use Rattle.std.proofs.Common.{◌≡◌, ◌≤◌, ◌<◌, ◌+◌, ℕ, List, [], ◌∷◌, length, Option, Some, None, refl, sum_by, arith, subst, sym}
+use Rattle.rk_inv_base.proofs.Words.{IsInOrder, NumberMap, get, Message, Gave, IsWellFormed, world_stepped, stepped_by, World, Event}
 use Rattle.rk_message.specs.Wire.{number_at}
 use Rattle.rk_world.specs.Refusals.{wire_fault}
-use Rattle.rk_world.specs.declared.event.Event.TheVariants as events
 use Rattle.rk_inv_wellformed.proofs.maps.Maps.{get_first}
 use Rattle.rk_inv_wellformed.proofs.maps.Numbered.{numbered_order}
 use Rattle.rk_inv_lanes.specs.wires.Emptied.{Arrival, arrived, deliveries_left, deliveries_of, emptied, emptied_by, forgotten, taken_off}
@@ -29,7 +28,7 @@ taken_off_fewer w number message arrival order there =
 forgotten_order : (w : World) (number : ℕ) → IsInOrder w.masters → IsInOrder (forgotten w number).masters
 forgotten_order w number order = go (get w.wire.messages number)
   where
-    go : (found : Option Message) → IsInOrder (world_stepped w (stepped_by w (events.Forget number) (Gave None) (wire_fault number found))).masters
+    go : (found : Option Message) → IsInOrder (world_stepped w (stepped_by w (Event.Forget number) (Gave None) (wire_fault number found))).masters
     go None = order
     go (Some message) = order
 

@@ -1,12 +1,10 @@
 -- What a master sends, and how many calls wait at it then, when it takes a message: together they come to less than the message itself.
-use Rattle.std.proofs.Common.{◌≡◌, ◌≤◌, ◌<◌, ◌+◌, ℕ, Bool, true, false, cond, List, [], ◌∷◌, length, Option, Some, None, ap, arith, sum_by}
+use Rattle.std.proofs.Common.{◌≡◌, ◌≤◌, ◌<◌, ◌+◌, ℕ, List, [], ◌∷◌, length, Option, Some, None, ap, arith, sum_by, refl}
 use Rattle.rk_inv_base.proofs.Words.{sum_by-append, NumberMap, get, Call, Ended, Entry, Overreach, Body, Message, Stored, apply_entries}
 use Rattle.rk_inv_base.proofs.Words.{apply_entry, newly_held, stored_taken, with_applied, with_ended, with_entry_item, told_by, Master}
-use Rattle.rk_inv_base.proofs.Words.{with_known, chosen, Worked, changed, sending, Choice, Redirects, Repeats, Ignores, Wants, Reads}
-use Rattle.rk_inv_base.proofs.Words.{Writes, Refuses}
-use Rattle.rk_message.specs.declared.message.Body.TheVariants as bodies
+use Rattle.rk_inv_base.proofs.Words.{with_known, chosen, Worked, Choice, Writes, Refuses, ⊤}
 use Rattle.rk_inv_lanes.specs.wires.Emptied.{deliveries_of}
-use Rattle.rk_inv_lanes.proofs.wires.Calls.{all_going_on_keeps, item_keeps}
+use Rattle.rk_inv_lanes.proofs.masters.Changes.{IsLasting, all_going_on_has}
 use Rattle.rk_inv_lanes.proofs.wires.Sums.{length_inserted, length_removed}
 
 -- the deliveries that messages bring
@@ -19,41 +17,24 @@ Spends most master worked = deliveries_in worked.sends + length worked.master.ca
 
 -- each message brings its own delivery
 pub one_delivery : (body : Body) → 1 ≤ deliveries_of body
-one_delivery (bodies.Request request) = omega arith
-one_delivery (bodies.Lookup lookup) = omega arith
-one_delivery (bodies.Append append) = omega arith
-one_delivery (bodies.Prepare prepare) = omega arith
-one_delivery (bodies.Close tenure) = omega arith
-one_delivery (bodies.Pull pull) = omega arith
-one_delivery (bodies.Want want) = omega arith
-one_delivery (bodies.Read read) = omega arith
-one_delivery (bodies.Rebuilt rebuilt) = omega arith
-one_delivery (bodies.Joined tenure) = omega arith
+one_delivery (Body.Joined tenure) = omega arith
 one_delivery body = omega arith
 
--- where nothing is sent
-pub changed_spends : (most : ℕ) (master now : Master) → 1 ≤ most → now.calls ≡ master.calls → Spends most master (changed now)
-changed_spends most master now some kept = omega (arith, some, ap (λ (calls : NumberMap Call). length calls) kept)
-
--- where one message is sent that brings no more than itself
-pub sending_spends : (master now : Master) (message : Message) → deliveries_of message.body ≡ 1 → now.calls ≡ master.calls → Spends 2 master (sending now message)
-sending_spends master now message one kept = omega (arith, one, ap (λ (calls : NumberMap Call). length calls) kept)
-
-pub either_spends : (most : ℕ) (master : Master) (b : Bool) (one other : Worked) → Spends most master one → Spends most master other
-    → Spends most master (cond b one other)
-either_spends most master true one other less also = less
-either_spends most master false one other less also = also
+-- calls that wait stay the same in all that a master does but taking a Request and applying entries
+pub same_calls : (calls : NumberMap Call) → IsLasting (λ log applied now sides records. now ≡ calls) (λ item. ⊤)
+same_calls calls = record {
+  appended = λ master entry kept. kept;
+  sealed = λ master items kept. kept;
+  put = λ master item fits kept. kept;
+  dropped = λ master range kept. kept;
+}
 
 -- ---- a Request
 
 pub chosen_spends : (master : Master) (asked : ℕ) (call : Call) (choice : Choice) → Spends 2 master (chosen master asked call choice)
-chosen_spends master asked call Redirects = omega arith
-chosen_spends master asked call (Repeats end) = omega arith
-chosen_spends master asked call Ignores = omega arith
-chosen_spends master asked call (Wants number) = omega arith
-chosen_spends master asked call (Reads outcome) = omega arith
 chosen_spends master asked call (Writes number value) = omega (arith, length_inserted master.calls (length master.log.entries) call)
 chosen_spends master asked call (Refuses found absent) = omega (arith, length_inserted master.calls (length master.log.entries) call)
+chosen_spends master asked call _ = omega arith
 
 -- ---- a Stored: each call that is answered waits no more
 
@@ -65,8 +46,11 @@ ended_answers : (master : Master) (place : ℕ) (call : Option Call) (ends : Lis
     → Answers master (with_ended master place call ends)
 ended_answers master place (Some call) (end ∷ ends) there = omega (arith, length_removed master.calls place call there)
 ended_answers master place (Some call) [] there = omega arith
-ended_answers master place None [] there = omega arith
-ended_answers master place None (end ∷ ends) there = omega arith
+ended_answers master place None ends there = omega arith
+
+item_keeps : (master : Master) (entry : Entry) → (with_entry_item master entry).calls ≡ master.calls
+item_keeps master (Entry.Held held) = refl
+item_keeps master entry = refl
 
 entry_answers : (master : Master) (entry : Entry) → Answers master (apply_entry master entry)
 entry_answers master entry =
@@ -98,5 +82,5 @@ stored_spends master backup stored None =
       arith,
       entries_answer (newly_held known) known,
       sum_by-append (λ (message : Message). deliveries_of message.body) worked.sends [],
-      ap (λ (calls : NumberMap Call). length calls) (all_going_on_keeps worked.master worked.master.tablets),
+      ap (λ (calls : NumberMap Call). length calls) (all_going_on_has (same_calls worked.master.calls) worked.master worked.master.tablets refl),
     )

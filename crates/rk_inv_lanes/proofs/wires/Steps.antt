@@ -1,18 +1,16 @@
 -- A message that arrives leaves fewer deliveries, in whatever state its lane is.
 use Rattle.std.proofs.Common.{◌≡◌, ◌≤◌, ◌<◌, ◌+◌, ℕ, Bool, true, false, cond, List, [], ◌∷◌, fold, length, map, Option, Some, None, refl}
-use Rattle.std.proofs.Common.{sym, ap, subst, unwrap_or, arith}
+use Rattle.std.proofs.Common.{sym, ap, unwrap_or, arith}
 use Rattle.rk_inv_base.proofs.Words.{sum_by-cons, IsInOrder, NumberMap, get, remove, Node, Segments, Traffic, with_message, Body, Message}
 use Rattle.rk_inv_base.proofs.Words.{Backed, Called, Gave, backup_step, stored_after, accept_by, accepting, is_asked_here, taking}
 use Rattle.rk_inv_base.proofs.Words.{untouched, Session, coordinator_step, with_rebuilt, Master, new_master, master_step, accept_refusal}
-use Rattle.rk_inv_base.proofs.Words.{refusal, filled, world_stepped, world_visited, backed_at, delivered, delivered_to, ledger_after}
-use Rattle.rk_inv_base.proofs.Words.{log_bytes_of, losing, quietly, seen_in, stepped_by, to_backup, to_coordinator, to_master, with_sends}
-use Rattle.rk_inv_base.proofs.Words.{worked_at, Worked, World, has_crashed, is_backup, master_at, with_coordinator, with_ledger}
-use Rattle.rk_inv_base.proofs.Words.{with_master, with_stored_by, StepError}
+use Rattle.rk_inv_base.proofs.Words.{refusal, filled, world_stepped, world_visited, backed_at, delivered_to, ledger_after, log_bytes_of}
+use Rattle.rk_inv_base.proofs.Words.{losing, quietly, seen_in, stepped_by, to_backup, to_coordinator, to_master, with_sends, worked_at}
+use Rattle.rk_inv_base.proofs.Words.{Worked, World, has_crashed, is_backup, master_at, with_coordinator, with_ledger, with_master}
+use Rattle.rk_inv_base.proofs.Words.{with_stored_by, StepError, Event}
 use Rattle.rk_types.proofs.NumberMaps.{in_order_insert}
-use Rattle.rk_types.specs.declared.node.Node.TheVariants as nodes
 use Rattle.rk_world.specs.Refusals.{wire_fault}
-use Rattle.rk_world.specs.declared.event.Event.TheVariants as events
-use Rattle.rk_world.specs.declared.event.Taken.TheVariants as takes
+use Rattle.rk_world.specs.declared.event.Taken.{Taken}
 use Rattle.rk_inv_wellformed.proofs.maps.MapSums.{size_found, sum_inserted}
 use Rattle.rk_inv_lanes.specs.wires.Emptied.{Accepts, Arrival, Delivers, Loses, arrived, deliveries_left, deliveries_of, forgotten}
 use Rattle.rk_inv_lanes.proofs.wires.Answers.{all_filled_same, backup_less, coordinator_less}
@@ -39,7 +37,7 @@ pub forgotten_leaves : (w : World) (number : ℕ) → deliveries_left (forgotten
 forgotten_leaves w number = go (get w.wire.messages number) refl
   where
     go : (found : Option Message) → get w.wire.messages number ≡ found
-        → deliveries_left (world_stepped w (stepped_by w (events.Forget number) (Gave None) (wire_fault number found))) ≡ others_on w.wire number + waiting w.masters
+        → deliveries_left (world_stepped w (stepped_by w (Event.Forget number) (Gave None) (wire_fault number found))) ≡ others_on w.wire number + waiting w.masters
     go None there = ap (λ (n : ℕ). n + waiting w.masters) (sym (removed_none brought w.wire.messages number there))
     go (Some message) there = refl
 
@@ -76,8 +74,8 @@ sends_leave w number brings messages less =
 
 -- ---- at each receiver
 
-coordinator_leaves : (w : World) (number : ℕ) (message : Message) → LeavesFewer w number (deliveries_of message.body) (to_coordinator w message).world
-coordinator_leaves w number message =
+coordinator_leaves : {w : World} {number : ℕ} (message : Message) → LeavesFewer w number (deliveries_of message.body) (to_coordinator w message).world
+coordinator_leaves {w} {number} message =
     let taken = coordinator_step w.coordinator message in
     let now = with_ledger (with_coordinator w taken.coordinator) (with_rebuilt w.ledger taken.rebuilt) in
     let left = sends_leave now number (deliveries_of message.body) taken.sends (coordinator_less w.coordinator message) in
@@ -99,9 +97,9 @@ waiting_with w number master order =
     )
 
 -- a master has worked
-master_worked : (w : World) (number master seen most : ℕ) (worked : Worked) → IsInOrder w.masters → Spends most (master_at w master) worked
-    → LeavesFewer w number most (worked_at w master seen worked).world
-master_worked w number master seen most worked order spends =
+master_worked : {w : World} {number : ℕ} (master seen : ℕ) {most : ℕ} (worked : Worked) → IsInOrder w.masters
+    → Spends most (master_at w master) worked → LeavesFewer w number most (worked_at w master seen worked).world
+master_worked {w} {number} master seen worked order spends =
     let ledger = ledger_after w.ledger master seen worked in
     let now = with_ledger (with_master w master worked.master) ledger in
     let messages = map (filled ledger.journal worked.served) worked.sends in
@@ -117,18 +115,16 @@ master_worked w number master seen most worked order spends =
       order = λ order. in_order_insert w.masters master worked.master order;
     }
 
-master_leaves : (w : World) (number master : ℕ) (message : Message) → IsInOrder w.masters
+master_leaves : {w : World} {number : ℕ} (master : ℕ) (message : Message) → IsInOrder w.masters
     → LeavesFewer w number (deliveries_of message.body) (to_master w master message).world
-master_leaves w number master message order = go (has_crashed w master)
+master_leaves {w} {number} master message order = go (has_crashed w master)
   where
     worked : Worked
     worked = master_step (master_at w master) message
 
     go : (b : Bool) → LeavesFewer w number (deliveries_of message.body) (cond b (losing w) (worked_at w master (seen_in message.body) worked)).world
     go true = record { fewer = (same_leaves w number message.body).fewer; order = λ order. order }
-    go false =
-        master_worked w number master (seen_in message.body) (deliveries_of message.body) worked order
-        (master_spends (master_at w master) message)
+    go false = master_worked master (seen_in message.body) worked order (master_spends (master_at w master) message)
 
 -- a backup has worked
 backed_leaves : (w : World) (number : ℕ) (body : Body) (backed : Backed) → deliveries_in backed.sends < deliveries_of body
@@ -140,17 +136,17 @@ backed_leaves w number body backed less = go backed.lost
     go false = sends_leave w number (deliveries_of body) backed.sends less
 
 -- whatever it stores then
-stored_leaves : (w : World) (number backup : ℕ) (body : Body) (store : Segments → Segments) (stored : Option Segments) (backed : Backed)
+stored_leaves : {w : World} {number : ℕ} (backup : ℕ) (body : Body) (store : Segments → Segments) (stored : Option Segments) (backed : Backed)
     → deliveries_in backed.sends < deliveries_of body
     → LeavesFewer w number (deliveries_of body) (backed_at (with_stored_by w backup store stored) backed).world
-stored_leaves w number backup body store None backed less = backed_leaves w number body backed less
-stored_leaves w number backup body store (Some segments) backed less =
+stored_leaves {w} {number} backup body store None backed less = backed_leaves w number body backed less
+stored_leaves {w} {number} backup body store (Some segments) backed less =
     let left = backed_leaves (with_stored_by w backup store (Some segments)) number body backed less in
     record { fewer = left.fewer; order = left.order }
 
-backup_leaves : (w : World) (number backup : ℕ) (sender : Node) (body : Body) (called : Called)
+backup_leaves : {w : World} {number : ℕ} (backup : ℕ) (sender : Node) (body : Body) (called : Called)
     → LeavesFewer w number (deliveries_of body) (to_backup w backup sender body called).world
-backup_leaves w number backup sender body called = go (is_backup w backup)
+backup_leaves {w} {number} backup sender body called = go (is_backup w backup)
   where
     backed : Backed
     backed = backup_step backup sender body (log_bytes_of w) called
@@ -159,42 +155,39 @@ backup_leaves w number backup sender body called = go (is_backup w backup)
     store segments = stored_after segments sender body called
 
     go : (b : Bool) → LeavesFewer w number (deliveries_of body) (cond b (backed_at (with_stored_by w backup store (get w.backups backup)) backed) (quietly w)).world
-    go true = stored_leaves w number backup body store (get w.backups backup) backed (backup_less backup sender body (log_bytes_of w) called)
+    go true = stored_leaves backup body store (get w.backups backup) backed (backup_less backup sender body (log_bytes_of w) called)
     go false = record { fewer = (same_leaves w number body).fewer; order = λ order. order }
 
 -- ---- an arrival
 
 receiver_leaves : (w : World) (number : ℕ) (message : Message) (to : Node) (called : Called) → IsInOrder w.masters
     → LeavesFewer w number (deliveries_of message.body) (delivered_to w message to called).world
-receiver_leaves w number message (nodes.Client client) called order =
+receiver_leaves w number message (Node.Client client) called order =
     record { fewer = (same_leaves w number message.body).fewer; order = λ order. order }
-receiver_leaves w number message nodes.Coordinator called order = coordinator_leaves w number message
-receiver_leaves w number message (nodes.Master master) called order = master_leaves w number master message order
-receiver_leaves w number message (nodes.Backup backup) called order =
-    backup_leaves w number backup message.from message.body called
+receiver_leaves w number message Node.Coordinator called order = coordinator_leaves message
+receiver_leaves w number message (Node.Master master) called order = master_leaves master message order
+receiver_leaves w number message (Node.Backup backup) called order = backup_leaves backup message.from message.body called
 
 -- the message of a number is delivered, unless that is refused
-delivery_leaves : (w : World) (number : ℕ) (message : Message) (called : Called) → IsInOrder w.masters
+delivery_leaves : {w : World} {number : ℕ} (message : Message) (called : Called) → IsInOrder w.masters
     → get w.wire.messages number ≡ Some message
     → LeavesFewer w number (deliveries_of message.body) (arrived w number (Delivers called))
-delivery_leaves w number message called order there = go (refusal w (events.Deliver number))
+delivery_leaves {w} {number} message called order there = go (refusal w (Event.Deliver number))
   where
-    go : (why : Option StepError) → LeavesFewer w number (deliveries_of message.body) (world_stepped w (stepped_by w (events.Deliver number) called why))
+    go : (why : Option StepError) → LeavesFewer w number (deliveries_of message.body) (world_stepped w (stepped_by w (Event.Deliver number) called why))
     go (Some error) = same_leaves w number message.body
-    go None =
-        subst (λ (found : Option Message). LeavesFewer w number (deliveries_of message.body) (delivered w found called).world) (sym there)
-        (receiver_leaves w number message message.to called order)
+    go None = rw there (receiver_leaves w number message message.to called order)
 
 -- a client takes it, unless that is refused: nothing is sent, and no more calls wait
-accepted_leaves : (w : World) (number : ℕ) (session : Session) (body : Body)
+accepted_leaves : {w : World} {number : ℕ} (session : Session) (body : Body)
     → LeavesFewer w number (deliveries_of body) (arrived w number (Accepts session))
-accepted_leaves w number session body = go (accept_refusal w number session.client (get w.wire.messages number))
+accepted_leaves {w} {number} session body = go (accept_refusal w number session.client (get w.wire.messages number))
   where
     same : LeavesFewer w number (deliveries_of body) w
     same = same_leaves w number body
 
     tested : (b : Bool) (message : Message)
-        → LeavesFewer w number (deliveries_of body) (cond b (taking w session message.body) (untouched w session (Some takes.Ignored))).world
+        → LeavesFewer w number (deliveries_of body) (cond b (taking w session message.body) (untouched w session (Some Taken.Ignored))).world
     tested true message = record { fewer = same.fewer; order = same.order }
     tested false message = same
 
@@ -209,6 +202,6 @@ accepted_leaves w number session body = go (accept_refusal w number session.clie
 -- a message arrives
 pub arrival_leaves : (w : World) (number : ℕ) (message : Message) (arrival : Arrival) → IsInOrder w.masters
     → get w.wire.messages number ≡ Some message → LeavesFewer w number (deliveries_of message.body) (arrived w number arrival)
-arrival_leaves w number message (Delivers called) order there = delivery_leaves w number message called order there
-arrival_leaves w number message (Accepts session) order there = accepted_leaves w number session message.body
+arrival_leaves w number message (Delivers called) order there = delivery_leaves message called order there
+arrival_leaves w number message (Accepts session) order there = accepted_leaves session message.body
 arrival_leaves w number message Loses order there = same_leaves w number message.body

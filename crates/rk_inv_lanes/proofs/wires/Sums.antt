@@ -1,6 +1,7 @@
 -- Sums over a map by number, where a thing is put under a number and what is under a number is taken out.
-use Rattle.std.proofs.Common.{◌≡◌, ◌≤◌, ◌+◌, ℕ, Bool, true, false, cond, not, [], ◌∷◌, length, None, Some, refl, ap, arith, sum_by, nat_cmp}
-use Rattle.rk_inv_base.proofs.Words.{sum_by-cons, by_order, eq_by_cmp, Less, Equal, Greater, NumberMap, get, insert, remove}
+use Rattle.std.proofs.Common.{◌≡◌, ◌≤◌, ◌+◌, ℕ, Bool, true, false, cond, not, [], ◌∷◌, length, None, Some, refl, ap, arith, sum_by}
+use Rattle.std.proofs.Common.{nat_cmp, Less, Equal, Greater}
+use Rattle.rk_inv_base.proofs.Words.{sum_by-cons, by_order, eq_by_cmp, NumberMap, get, insert, remove}
 
 -- the sizes of all things of a map, added
 abbrev pub total : {X : Type 0} → (X → ℕ) → NumberMap X → ℕ
@@ -63,8 +64,7 @@ module _ {X : Type 0} (size : X → ℕ) where
   -- with one thing more, at most that one is left more
   pub removed_inserted : (things : NumberMap X) (number : ℕ) (thing : X) (out : ℕ)
       → total size (remove (insert things number thing) out) ≤ total size (remove things out) + size thing
-  removed_inserted [] number thing out =
-      omega (arith, kept_most (not (eq_by_cmp nat_cmp out number)) (number, thing) [])
+  removed_inserted [] number thing out = omega (arith, kept_most (not (eq_by_cmp nat_cmp out number)) (number, thing) [])
   removed_inserted (here ∷ things) number thing out =
       let before : NumberMap X = remove (here ∷ things) out in
       elim (nat_cmp number here.0) as (λ o. total size (remove (by_order o ((number, thing) ∷ here ∷ things) ((here.0, thing) ∷ things) (here ∷ insert things number thing)) out) ≤ total size before + size thing) [

@@ -1,21 +1,23 @@
 -- What targets, rebuilds and messages have once the entry of a call is applied: the target of the row has one more entry of its own; where
 -- the master rebuilds the row, one more is found in its records, and what it merged has the end of the call already.
-use Rattle.std.proofs.Common.{◌≡◌, ℕ, ◌≤◌, ◌<◌, true, cond, List, [], ◌∷◌, Option, Some, None, refl, sym, ap, ◌∙◌, subst, ⊎_elim, inl, inr}
-use Rattle.std.proofs.Common.{arith, map, false, ◌==◌, if◌then◌else◌, slice_index_or, Contains, flat_map, eq-eqb, eqb-true, ne_eqb}
-use Rattle.rk_inv_base.proofs.Words.{cond-false, cond-true, false≢true, Contains-append_left, Contains-get_or, Any-from_list_any, get}
-use Rattle.rk_inv_base.proofs.Words.{meets, Held, Member, Range, Entry, Completions, completions_from, Handover, Role, lineage_of, Phase}
-use Rattle.rk_inv_base.proofs.Words.{Rebuilding, Row, items_in, items_of, told, told_by, Gather, by_member, is_of_lineage, material_by}
-use Rattle.rk_inv_base.proofs.Words.{is_member, last_of, unmarked_from, counting, counts, named, side_entries, merge, merged_ends}
-use Rattle.rk_inv_base.proofs.Words.{own_place, is_absent, may_have_staged, Written, member_material, Merged, is_wanting, Bystander}
-use Rattle.rk_inv_base.proofs.Words.{FormerMember, LastRebuilder, OnlyRebuilder, FirstRebuilder, OutsideRebuilder, Holds, Post, bond_of}
-use Rattle.rk_inv_base.proofs.Words.{post_of, rebuilder_post, HandedFits, IsHandedBy, AreApart, View, truths, ReceivesOf, MessagesOf}
+use Rattle.std.proofs.Common.{◌≡◌, ℕ, ◌≤◌, ◌<◌, true, cond, List, [], ◌∷◌, Option, Some, None, refl, sym, ap, ◌∙◌, subst, inl, inr, arith}
+use Rattle.std.proofs.Common.{map, false, ◌==◌, if◌then◌else◌, slice_index_or, Contains, flat_map, eq-eqb, eqb-true, ne_eqb}
+use Rattle.rk_inv_base.proofs.Words.{cond-false, cond-true, false≢true, Contains-append_left, Contains-get_or, Any-from_list_any, get, Held}
+use Rattle.rk_inv_base.proofs.Words.{Member, Range, Entry, completions_from, Handover, Role, lineage_of, Phase, Rebuilding, Row, items_in}
+use Rattle.rk_inv_base.proofs.Words.{items_of, told, told_by, Gather, by_member, is_of_lineage, material_by, is_member, last_of}
+use Rattle.rk_inv_base.proofs.Words.{unmarked_from, counting, counts, named, side_entries, merge, merged_ends, own_place, is_absent}
+use Rattle.rk_inv_base.proofs.Words.{may_have_staged, Written, member_material, Merged, is_wanting, Bystander, FormerMember, LastRebuilder}
+use Rattle.rk_inv_base.proofs.Words.{OnlyRebuilder, FirstRebuilder, OutsideRebuilder, Holds, Post, bond_of, post_of, rebuilder_post}
+use Rattle.rk_inv_base.proofs.Words.{HandedFits, IsHandedBy, AreApart, View, truths, ReceivesOf, MessagesOf}
 use Rattle.rk_transfer.specs.declared.role.Role.TheVariants as roles
 use Rattle.rk_tablet_map.specs.Phase.{member as member_at}
 use Rattle.rk_inv_logs.proofs.apply.Inserted.{told_still}
 use Rattle.rk_inv_logs.proofs.apply.ItemPut.{bare_with}
-use Rattle.rk_inv_logs.proofs.apply.MergedEnds.{HasReached, among_all, mapped, merged_reaches, noted_again}
+use Rattle.rk_inv_logs.proofs.apply.MergedEnds.{mapped, merged_reaches, noted_again}
 use Rattle.rk_inv_logs.proofs.apply.NextEntry.{counted_next}
-use Rattle.rk_inv_logs.proofs.apply.Applying.{Applying, after, apart_in, entry, inside, its_fits, its_member, its_row, names, of_completions, outside, place, row_cases, same_row, truth_beside_row, truth_here, first_apart, its_range, truth_same, new}
+use Rattle.rk_inv_logs.proofs.apply.Applying.{Applying, after, apart_in, entry, inside, its_fits, its_member, its_row, names}
+use Rattle.rk_inv_logs.proofs.apply.Applying.{of_completions, outside, place, row_cases, same_row, truth_beside_row, truth_here}
+use Rattle.rk_inv_logs.proofs.apply.Applying.{first_apart, its_range, truth_same, new}
 use Rattle.rk_inv_logs.proofs.apply.AppliedCalls.{tells_it}
 use Rattle.rk_inv_base.proofs.rows.Apart.{key_outside}
 use Rattle.rk_inv_base.proofs.logs.Shares.{counts_call}
@@ -23,6 +25,7 @@ use Rattle.rk_inv_logs.proofs.apply.Stagers.{staging_present, staging_wants}
 use Rattle.rk_inv_logs.proofs.apply.TargetApplied.{applied_with}
 use Rattle.rk_inv_logs.proofs.apply.Applies.{Applies, StaysBare, HasApplied, bare_at, members_at, named_at, says_now}
 use Rattle.rk_inv_base.proofs.calls.MoreRecords.{says_still}
+use Rattle.rk_inv_rows.proofs.lineage.Among.{to_flat}
 
 -- ---- data
 
@@ -44,14 +47,9 @@ module _ (last : Member) (master : ℕ) (here : last.master ≡ master) (from : 
   only_from : (closing : Option ℕ) → Holds (bond_of (OnlyRebuilder last.from) (roles.Rebuilding from closing)) term own applied → from ≡ last.from
   only_from None holds = holds.1
   only_from (Some entry) holds =
-      ⊎_elim
-      (λ (behind : (own < term) × (entry < applied)).
-      let below : own < term = behind.0 in absurd (omega (arith, below, at_term)))
-      (λ (equal : (own ≡ term) × (from ≡ last.from)). equal.1)
-      holds
+      elim holds [ inl behind ↦ let below : own < term = behind.0 in absurd (omega (arith, below, at_term)) | inr equal ↦ equal.1 ]
 
   last_from : (lineage : List Member) → AreApart lineage → last_of lineage ≡ Some last → Holds (bond_of (rebuilder_post lineage master) (roles.Rebuilding from closing)) term own applied → from ≡ last.from
-  last_from [] apart is holds = absurd apart
   last_from (only ∷ []) apart is holds =
       let same : only ≡ last = cc is in
       let at : only.master ≡ master = ap (λ (m : Member). m.master) same ∙ here in
@@ -63,26 +61,24 @@ module _ (last : Member) (master : ℕ) (here : last.master ≡ master) (from : 
       let same : second ≡ last = cc is in
       let at : second.master ≡ master = ap (λ (m : Member). m.master) same ∙ here in
       let post : rebuilder_post (first ∷ second ∷ []) master ≡ LastRebuilder second.from =
-      cond-false (first.master == master) (FirstRebuilder first.from) (cond (second.master == master) (LastRebuilder second.from) OutsideRebuilder)
+      cond-false (first.master == master) (FirstRebuilder first.from)
+      (cond (second.master == master) (LastRebuilder second.from) OutsideRebuilder)
       (ne_eqb first.master master (λ e. absurd (apart (e ∙ sym at))))
       ∙ cond-true (second.master == master) (LastRebuilder second.from) OutsideRebuilder (eq-eqb second.master master at) in
-      let holds_last : (own ≡ term) × (from ≡ second.from) =
-      subst (λ (p : Post). Holds (bond_of p (roles.Rebuilding from closing)) term own applied) post holds in
+      let holds_last : (own ≡ term) × (from ≡ second.from) = rw post at holds in
       holds_last.1 ∙ ap (λ (m : Member). m.from) same
-  last_from (first ∷ second ∷ third ∷ more) apart is holds = absurd apart
+  last_from _ apart is holds = absurd apart
 
 module _ (v : View) (a : Applying v) where
   -- the truth of a row tells what it told
   pub truth_still : (other : Row) → Contains v.rows other → (x : Held) → Contains (items_of (truths v other)) x → Contains (items_of (truths (after v a) other)) x
-  truth_still other has x at =
-      ⊎_elim
-      (λ (same : other ≡ its_row v a).
-      subst (λ (r : Row). Contains (items_of (truths (after v a) r)) x) (sym same)
-      (told_still (entry v a) (truths v (its_row v a)) (truths (after v a) (its_row v a)) (truth_here v a) items_in x
-      (subst (λ (r : Row). Contains (items_of (truths v r)) x) same at)))
-      (λ (differs : other.tablet ≡ (its_row v a).tablet → ⊥).
-      subst (λ (l : List Entry). Contains (items_of l) x) (sym (truth_beside_row v a other has differs)) at)
-      (row_cases v a other has)
+  truth_still other has x at = elim (row_cases v a other has) [
+    | inl same ↦
+        rw same
+        (told_still (entry v a) (truths v (its_row v a)) (truths (after v a) (its_row v a)) (truth_here v a) items_in x
+        (subst (λ (r : Row). Contains (items_of (truths v r)) x) same at))
+    | inr differs ↦ subst (λ (l : List Entry). Contains (items_of l) x) (sym (truth_beside_row v a other has differs)) at
+  ]
 
   -- ---- the master that rebuilds its row
 
@@ -95,32 +91,22 @@ module _ (v : View) (a : Applying v) where
       let post : post_of (Rebuilding lineage a.master) a.master ≡ rebuilder_post lineage a.master =
       cond-true (a.master == a.master) (rebuilder_post lineage a.master) (cond (is_member lineage a.master) FormerMember Bystander)
       (eq-eqb a.master a.master refl) in
-      let fits : Holds (bond_of (rebuilder_post lineage a.master) (roles.Rebuilding from closing)) row.term kept.term (place v a) =
-      subst (λ (r : Role). Holds (bond_of (rebuilder_post lineage a.master) r) row.term kept.term (place v a)) role_is
-      (subst (λ (p : Post). Holds (bond_of p kept.role) row.term kept.term (place v a)) (ap (λ (p : Phase). post_of p a.master) is ∙ post) (its_fits v a)) in
+      let fits = rw role_is at (rw (ap (λ (p : Phase). post_of p a.master) is ∙ post) at (its_fits v a)) in
       let lineage_is : lineage_of row.phase ≡ lineage = ap lineage_of is in
       let same : from ≡ a.waits.last.from =
       last_from a.waits.last a.master a.waits.here from closing row.term kept.term (place v a) at_term lineage
-      (subst AreApart lineage_is (apart_in v a row a.waits.has_row))
-      (sym (ap last_of lineage_is) ∙ a.waits.is_last) fits in
-      let behind : a.waits.last.from ≤ place v a = a.waits.from in
-      omega (arith, same, behind)
-  own_from roles.Absent lineage is at_term role_is = omega arith
-  own_from roles.Serving lineage is at_term role_is = omega arith
-  own_from roles.Closing lineage is at_term role_is = omega arith
-  own_from roles.Frozen lineage is at_term role_is = omega arith
-  own_from (roles.Wanting from) lineage is at_term role_is = omega arith
-  own_from roles.Receiving lineage is at_term role_is = omega arith
-  own_from (roles.Joining closing) lineage is at_term role_is = omega arith
+      (rw lineage_is at (apart_in v a row a.waits.has_row)) (sym (ap last_of lineage_is) ∙ a.waits.is_last) fits in
+      let behind : a.waits.last.from ≤ place v a = a.waits.from in omega (arith, same, behind)
+  own_from _ lineage is at_term role_is = omega arith
 
   -- its own entries tell the end of the call
   own_tells : (from : ℕ) → from ≤ place v a → (range : Range) → counts range (entry v a) ≡ true → Contains (told (member_material v.written range (member_at a.master from))) a.end
   own_tells from behind range inside =
       let w : Written = v.written a.master in
       let own : List Entry = counting range (unmarked_from w.marks from w.entries) in
-      among_all told_by (member_material v.written range (member_at a.master from)) (entry v a) a.end
-      (Contains-append_left own (counting range (flat_map (side_entries w.sides) (named range (unmarked_from w.marks from w.entries)))) (entry v a)
-      (counted_next range w.entries w.applied (entry v a) a.waits.stands w.marks from inside a.waits.unmarked behind))
+      to_flat told_by (member_material v.written range (member_at a.master from)) (entry v a) a.end
+      (Contains-append_left own (counting range (flat_map (side_entries w.sides) (named range (unmarked_from w.marks from w.entries))))
+      (entry v a) (counted_next range w.entries w.applied (entry v a) a.waits.stands w.marks from inside a.waits.unmarked behind))
       (tells_it v a)
 
   module _ (other : Row) (has : Contains v.rows other) (lineage : List Member) (phase_is : other.phase ≡ Rebuilding lineage a.master) (at_term : (v.handovers a.master other.tablet).term ≡ other.term) where
@@ -135,15 +121,13 @@ module _ (v : View) (a : Applying v) where
 
     -- an entry of the row stands behind the place where its own ones begin
     behind_own : counts other.range (entry v a) ≡ true → own_place (v.handovers a.master other.tablet).role ≤ place v a
-    behind_own counted =
-        ⊎_elim
-        (λ (same : other ≡ its_row v a).
-        subst (λ (r : Row). own_place (v.handovers a.master r.tablet).role ≤ place v a) (sym same)
-        (own_from (v.handovers a.master (its_row v a).tablet).role lineage
-        (ap (λ (r : Row). r.phase) (sym same) ∙ phase_is)
-        (subst (λ (r : Row). (v.handovers a.master r.tablet).term ≡ r.term) same at_term) refl))
-        (λ (differs : other.tablet ≡ (its_row v a).tablet → ⊥). absurd (false≢true (sym (outside v a other has differs) ∙ counted)))
-        (row_cases v a other has)
+    behind_own counted = elim (row_cases v a other has) [
+      | inl same ↦
+          rw same
+          (own_from (v.handovers a.master (its_row v a).tablet).role lineage (ap (λ (r : Row). r.phase) (sym same) ∙ phase_is)
+          (rw same at at_term) refl)
+      | inr differs ↦ absurd (false≢true (sym (outside v a other has differs) ∙ counted))
+    ]
 
     -- what it merged has the end of the call, if that is of the row
     pub completions_same : (merged : Merged) → merged ≡ merge own (by_member (v.gathers a.master other.tablet) own) → v.completions a.master other.tablet ≡ completions_from [] merged.ends
@@ -155,41 +139,38 @@ module _ (v : View) (a : Applying v) where
         let same : other ≡ its_row v a = same_row v a other has its in
         let counted : counts other.range (entry v a) ≡ true = ap (λ (r : Row). counts r.range (entry v a)) same ∙ inside v a in
         let member : is_member lineage a.master ≡ true =
-        ap (λ (l : List Member). is_member l a.master) (ap lineage_of (sym phase_is) ∙ ap (λ (r : Row). lineage_of r.phase) same) ∙ its_member v a in
+        ap (λ (l : List Member). is_member l a.master) (ap lineage_of (sym phase_is) ∙ ap (λ (r : Row). lineage_of r.phase) same)
+        ∙ its_member v a in
         let told_it : Contains (flat_map told (by_member gather own)) a.end =
-        among_all told (by_member gather own) own a.end (own_among gather own lineage a.master lineage_is own_is member)
+        to_flat told (by_member gather own) own a.end (own_among gather own lineage a.master lineage_is own_is member)
         (own_tells (own_place (v.handovers a.master other.tablet).role) (behind_own counted) other.range counted) in
-        let reached : HasReached (completions_from [] (merged_ends (by_member gather own))) a.end.client a.end.seq =
-        merged_reaches (by_member gather own) a.end told_it in
+        let reached = merged_reaches (by_member gather own) a.end told_it in
         let ends_are : merged.ends ≡ merged_ends (by_member gather own) = ap (λ (m : Merged). m.ends) merged_is in
-        noted_again (v.completions a.master other.tablet) a.end
-        (subst (λ (c : Completions). HasReached c a.end.client a.end.seq) (sym (completions ∙ ap (completions_from []) ends_are)) reached)
-        ∙ completions)
-        (λ apart. completions)
+        noted_again (v.completions a.master other.tablet) a.end (rw (completions ∙ ap (completions_from []) ends_are) reached)
+        ∙ completions) (λ apart. completions)
 
   pub own_now : (row : Row) (has : Contains v.rows row) (lineage : List Member) (is : row.phase ≡ Rebuilding lineage a.master) (term : (v.handovers a.master row.tablet).term ≡ row.term)
       → HasApplied row.range (own_place (v.handovers a.master row.tablet).role) (v.written a.master) (entry v a) (v.records a.master)
   own_now row has lineage is term =
-      let has_own = applied_with row.range (v.written a.master) (entry v a) a.waits.stands (names v a row.range)
+      let has_own =
+      applied_with row.range (v.written a.master) (entry v a) a.waits.stands (names v a row.range)
       (own_place (v.handovers a.master row.tablet).role) (λ counted x at. behind_own row has lineage is term counted) in
       record {
         still = has_own.still;
         new = has_own.new;
-        cases = λ x at. ⊎_elim (λ its. inl its) (λ was. inr (inl was)) (has_own.cases x at);
+        cases = λ x at. elim (has_own.cases x at) [ inl its ↦ inl its | inr was ↦ inr (inl was) ];
       }
 
   -- ---- targets
 
   -- an entry of the row of a target stands behind its place
   pub own_behind : (other : Row) → Contains v.rows other → (last : Member) → last_of (lineage_of other.phase) ≡ Some last → counts other.range (entry v a) ≡ true → last.from ≤ place v a
-  own_behind other has last is counted =
-      ⊎_elim
-      (λ (same : other ≡ its_row v a).
-      let ends : Some last ≡ Some a.waits.last = sym is ∙ ap (λ (r : Row). last_of (lineage_of r.phase)) same ∙ a.waits.is_last in
-      let its : last ≡ a.waits.last = cc ends in
-      subst (λ (m : Member). m.from ≤ place v a) (sym its) a.waits.from)
-      (λ (differs : other.tablet ≡ (its_row v a).tablet → ⊥). absurd (false≢true (sym (outside v a other has differs) ∙ counted)))
-      (row_cases v a other has)
+  own_behind other has last is counted = elim (row_cases v a other has) [
+    | inl same ↦
+        let ends : Some last ≡ Some a.waits.last = sym is ∙ ap (λ (r : Row). last_of (lineage_of r.phase)) same ∙ a.waits.is_last in
+        let its : last ≡ a.waits.last = cc ends in rw its a.waits.from
+    | inr differs ↦ absurd (false≢true (sym (outside v a other has differs) ∙ counted))
+  ]
 
   -- no other tablet that is there has the key
   tablet_outside : (number : ℕ) → (number ≡ (its_row v a).tablet → ⊥) → is_absent (v.handovers a.master number).role ≡ false → counts (v.handovers a.master number).range (entry v a) ≡ false
@@ -197,10 +178,9 @@ module _ (v : View) (a : Applying v) where
       let range : Range = (v.handovers a.master number).range in
       counts_call range a.call (entry v a) a.waits.own
       ∙ key_outside range (its_row v a).range a.call.table a.call.key
-      (subst (λ (other : Range). meets range other ≡ false) (its_range v a)
+      (rw (its_range v a) at
       (a.sound.terms.apart a.master number (its_row v a).tablet apart there
-      (staging_present (v.handovers a.master (its_row v a).tablet).role a.waits.may_stage)))
-      a.waits.in_row
+      (staging_present (v.handovers a.master (its_row v a).tablet).role a.waits.may_stage))) a.waits.in_row
 
   -- so none that waits for its grant has it
   pub waiting_apart : (r : ℕ) → is_wanting (v.handovers a.master r).role ≡ true → is_absent (v.handovers a.master r).role ≡ false → StaysBare v a.master (entry v a) r
@@ -214,12 +194,10 @@ module _ (v : View) (a : Applying v) where
 
   -- a frozen source is not the master
   pub frozen_same : (q tablet : ℕ) → (v.handovers q tablet).role ≡ roles.Frozen → (after v a).completions q tablet ≡ v.completions q tablet
-  frozen_same q tablet frozen =
-      of_completions v a (λ c. c ≡ v.completions q tablet) q tablet
+  frozen_same q tablet frozen = of_completions v a (λ c. c ≡ v.completions q tablet) q tablet
       (λ at its.
       let idle : may_have_staged (v.handovers q tablet).role ≡ false = ap may_have_staged frozen in
-      absurd (false≢true (sym idle ∙ (λ i. may_have_staged (v.handovers (at i) (its i)).role) ∙ a.waits.may_stage)))
-      (λ apart. refl)
+      absurd (false≢true (sym idle ∙ (λ i. may_have_staged (v.handovers (at i) (its i)).role) ∙ a.waits.may_stage))) (λ apart. refl)
 
   -- ---- the parts
 
@@ -238,16 +216,13 @@ module _ (v : View) (a : Applying v) where
     still = truth_still;
     own = λ row has lineage is term found. own_now row has lineage is term;
     kept = (after v a).completions;
-    others = λ q tablet apart.
-        of_completions v a (λ c. c ≡ v.completions q tablet) q tablet (λ at its. absurd (apart at)) (λ other. refl);
+    others = λ q tablet apart. of_completions v a (λ c. c ≡ v.completions q tablet) q tablet (λ at its. absurd (apart at)) (λ other. refl);
     merged = λ row has lineage is term gather m merged_is same.
         completions_same row has lineage is term m merged_is same gather.lineage_is gather.own_is;
     frozen = frozen_same;
   }
 
   handed_at : (other : Row) → Contains v.rows other → (lineage : List Member) → AreApart lineage → lineage_of other.phase ≡ lineage → HandedFits other v.handovers v.completions v.handed lineage → HandedFits other v.handovers (after v a).completions v.handed lineage
-  handed_at other has [] apart is fit = tt
-  handed_at other has (only ∷ []) apart is fit = tt
   handed_at other has (first ∷ last ∷ []) apart is fit = λ one.
       of_completions v a (IsHandedBy (get v.handed other.tablet) (v.handovers first.master other.tablet)) first.master other.tablet
       (λ at its.
@@ -256,7 +231,7 @@ module _ (v : View) (a : Applying v) where
       (false≢true
       (sym (first_apart v a other has first last [] apart is at) ∙ ap (λ (r : Row). counts r.range (entry v a)) same ∙ inside v a)))
       (λ _. fit one)
-  handed_at other has (first ∷ second ∷ third ∷ more) apart is fit = tt
+  handed_at other has _ apart is fit = tt
 
   pub receives : ReceivesOf (after v a)
   receives = record {

@@ -1,6 +1,6 @@
 -- The records of masters once the entry of a call is applied: whoever has all of a tablet has the newest of it still.
-use Rattle.std.proofs.Common.{◌≡◌, ℕ, ◌≤◌, ◌<◌, Option, Bool, true, false, cond, List, [], ◌∷◌, ◌++◌, Some, None, refl, sym, ap, ◌∙◌, subst}
-use Rattle.std.proofs.Common.{⊎_elim, ◌==◌, IfSome, slice_index_or, Contains, eqb-true}
+use Rattle.std.proofs.Common.{◌≡◌, ℕ, ◌≤◌, ◌<◌, Option, Bool, true, false, cond, List, [], ◌∷◌, ◌++◌, Some, None, refl, sym, ap, ◌∙◌, ◌==◌}
+use Rattle.std.proofs.Common.{IfSome, slice_index_or, Contains, eqb-true, inl, inr}
 use Rattle.rk_inv_base.proofs.Words.{All-weaker, All-contains, Contains-get_or, IfSome_then, Held, Member, Range, Entry, IsInScanOrder}
 use Rattle.rk_inv_base.proofs.Words.{Handover, lineage_of, Phase, Owned, Opening, Moving, Rebuilding, Row, is_of, items_in, items_of}
 use Rattle.rk_inv_base.proofs.Words.{first_of, is_member, last_of, lineage_truth, member_truth, IsAboveAll, Bystander, FirstRebuilder}
@@ -11,7 +11,8 @@ use Rattle.rk_inv_base.proofs.views.Lists.{all_by}
 use Rattle.rk_inv_base.proofs.logs.Shares.{append_nil}
 use Rattle.rk_inv_logs.proofs.apply.Inserted.{AreNewest}
 use Rattle.rk_inv_logs.proofs.apply.ItemPut.{order_with, table_apart, table_inserted}
-use Rattle.rk_inv_logs.proofs.apply.Applying.{Applying, after, apart_in, entry, inside, its_row, of_records, outside, place, row_cases, truth_grows, truth_same}
+use Rattle.rk_inv_logs.proofs.apply.Applying.{Applying, after, apart_in, entry, inside, its_row, of_records, outside, place, row_cases}
+use Rattle.rk_inv_logs.proofs.apply.Applying.{truth_grows, truth_same}
 use Rattle.rk_inv_logs.proofs.apply.AppliedTruth.{newest_here}
 
 -- ---- who has all of a tablet is the first of its lineage
@@ -59,14 +60,11 @@ has_all_first (Rebuilding lineage to) master term handover has = go (to == maste
 module _ (v : View) (a : Applying v) where
   -- the entry is above what its master told of the row
   newest_alone : (list : List Entry) → ((x : Held) → Contains (items_of list) x → Contains (items_of (truths v (its_row v a))) x) → AreNewest list (entry v a)
-  newest_alone list within =
-      All-weaker (IsAboveAll (items_of (truths v (its_row v a)))) (IsAboveAll (items_of list))
+  newest_alone list within = All-weaker (IsAboveAll (items_of (truths v (its_row v a)))) (IsAboveAll (items_of list))
       (λ item above.
-      all_by (λ other. is_of item.table item.key other ≡ true → other.version < item.version) (items_of list)
-      (λ other at.
-      All-contains (λ (x : Held). is_of item.table item.key x ≡ true → x.version < item.version) (items_of (truths v (its_row v a))) other above
-      (within other at)))
-      (items_in (entry v a)) (newest_here v a)
+      all_by (λ other. is_of item.table item.key other ≡ true → other.version < item.version) (items_of list) (λ other at.
+      All-contains (λ (x : Held). is_of item.table item.key x ≡ true → x.version < item.version) (items_of (truths v (its_row v a))) other
+      above (within other at))) (items_in (entry v a)) (newest_here v a)
 
   -- the records of the first member have the newest of the row, also where that is the master
   items_here : (q : ℕ) (lineage : List Member) → lineage_of (its_row v a).phase ≡ lineage → AreApart lineage → last_of lineage ≡ Some a.waits.last → IfSome (first_of lineage) (λ m. m.master ≡ q)
@@ -77,49 +75,38 @@ module _ (v : View) (a : Applying v) where
       let range : Range = (its_row v a).range in
       let same : only ≡ a.waits.last = cc last in
       let at : only.master ≡ a.master = ap (λ (m : Member). m.master) same ∙ a.waits.here in
-      let from : only.from ≤ place v a = subst (λ (m : Member). m.from ≤ place v a) (sym same) a.waits.from in
-      let all : truths v (its_row v a) ≡ member_truth v.written range only ++ [] =
-      ap (lineage_truth v.base v.written range) is in
+      let from : only.from ≤ place v a = rw same a.waits.from in
+      let all : truths v (its_row v a) ≡ member_truth v.written range only ++ [] = ap (lineage_truth v.base v.written range) is in
       of_records v a (IsTableOf range (member_truth (after v a).written range only)) q
       (λ _.
       table_inserted range (member_truth v.written range only) (member_truth (after v a).written range only) (v.records q)
       (a.sound.records.ordered q) old (entry v a) (truth_grows v a range only at from (inside v a))
-      (newest_alone (member_truth v.written range only)
-      (λ x there. subst (λ (l : List Entry). Contains (items_of l) x) (sym (all ∙ append_nil (member_truth v.written range only))) there))
-      (inside v a))
-      (λ other. absurd (other (sym first ∙ at)))
+      (newest_alone (member_truth v.written range only) (λ x there. rw (all ∙ append_nil (member_truth v.written range only)) there))
+      (inside v a)) (λ other. absurd (other (sym first ∙ at)))
   items_here q (first ∷ second ∷ []) is apart last at old =
       let same : second ≡ a.waits.last = cc last in
       let here : second.master ≡ a.master = ap (λ (m : Member). m.master) same ∙ a.waits.here in
       let range : Range = (its_row v a).range in
-      of_records v a (IsTableOf range (member_truth (after v a).written range first)) q
-      (λ q_is. absurd (apart (at ∙ q_is ∙ sym here)))
-      (λ _.
-      subst (λ (truth : List Entry). IsTableOf range truth (v.records q))
-      (sym (truth_same v a range first (λ first_is. absurd (apart (first_is ∙ sym here))))) old)
+      of_records v a (IsTableOf range (member_truth (after v a).written range first)) q (λ q_is. absurd (apart (at ∙ q_is ∙ sym here)))
+      (λ _. rw (truth_same v a range first (λ first_is. absurd (apart (first_is ∙ sym here)))) old)
   items_here q (first ∷ second ∷ third ∷ more) is apart last at old = absurd apart
 
   -- so they do of each row
   items_at : (q : ℕ) (other : Row) → Contains v.rows other → has_all_items (post_of other.phase q) (v.handovers q other.tablet) other.term ≡ true → HasItems other v.written (v.records q) → HasItems other (after v a).written ((after v a).records q)
-  items_at q other has all old =
-      ⊎_elim
-      (λ (same : other ≡ its_row v a).
-      subst (λ (r : Row). HasItems r (after v a).written ((after v a).records q)) (sym same)
-      (items_here q (lineage_of (its_row v a).phase) refl (apart_in v a (its_row v a) a.waits.has_row) a.waits.is_last
-      (has_all_first (its_row v a).phase q (its_row v a).term (v.handovers q (its_row v a).tablet)
-      (subst (λ (r : Row). has_all_items (post_of r.phase q) (v.handovers q r.tablet) r.term ≡ true) same all))
-      (subst (λ (r : Row). HasItems r v.written (v.records q)) same old)))
-      (λ (differs : other.tablet ≡ (its_row v a).tablet → ⊥).
-      IfSome_then (first_of (lineage_of other.phase)) old
-      (λ member table.
-      let beside : IsTableOf other.range (member_truth (after v a).written other.range member) (v.records q) =
-      subst (λ (truth : List Entry). IsTableOf other.range truth (v.records q))
-      (sym (truth_same v a other.range member (λ at. outside v a other has differs))) table in
-      of_records v a (IsTableOf other.range (member_truth (after v a).written other.range member)) q
-      (λ at.
-      table_apart other.range (entry v a) (member_truth (after v a).written other.range member) (v.records q) (outside v a other has differs) beside)
-      (λ apart. beside)))
-      (row_cases v a other has)
+  items_at q other has all old = elim (row_cases v a other has) [
+    | inl same ↦
+        rw same
+        (items_here q (lineage_of (its_row v a).phase) refl (apart_in v a (its_row v a) a.waits.has_row) a.waits.is_last
+        (has_all_first (its_row v a).phase q (its_row v a).term (v.handovers q (its_row v a).tablet) (rw same at all)) (rw same at old))
+    | inr differs ↦
+        IfSome_then (first_of (lineage_of other.phase)) old (λ member table.
+        let beside : IsTableOf other.range (member_truth (after v a).written other.range member) (v.records q) =
+        rw (truth_same v a other.range member (λ at. outside v a other has differs)) table in
+        of_records v a (IsTableOf other.range (member_truth (after v a).written other.range member)) q
+        (λ at.
+        table_apart other.range (entry v a) (member_truth (after v a).written other.range member) (v.records q)
+        (outside v a other has differs) beside) (λ apart. beside))
+  ]
 
   pub tables : TablesOf (after v a)
   tables = record {

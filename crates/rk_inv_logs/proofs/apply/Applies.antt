@@ -1,17 +1,17 @@
 -- The next entry of a master's log is applied: what is asked of it beside its rows and records, and the parts of who has what, of targets,
 -- of rebuilds and of messages.
-use Rattle.std.proofs.Common.{◌≡◌, ℕ, ◌+◌, true, false, List, [], ◌∷◌, Some, refl, sym, ap, ◌∙◌, subst, ⊎_elim, inl, inr, ◌⊎◌, arith, ◌≤◌}
-use Rattle.std.proofs.Common.{◌<◌, Contains, flat_map, All, IfSome, slice_get, slice_index_or}
+use Rattle.std.proofs.Common.{◌≡◌, ℕ, ◌+◌, true, false, List, [], ◌∷◌, Some, refl, sym, ap, ◌∙◌, subst, inl, inr, ◌⊎◌, arith, ◌≤◌, ◌<◌}
+use Rattle.std.proofs.Common.{Contains, All, IfSome, slice_get, slice_index_or}
 use Rattle.rk_inv_base.proofs.Words.{All-contains, Contains-get_or, All-cons, All-nil, IfSome_then, get_or_from_slice_get, slice_get_within}
-use Rattle.rk_inv_base.proofs.Words.{get, Ended, Held, Member, Node, Range, Entry, at_hash, batch_at, next_token, Completions}
-use Rattle.rk_inv_base.proofs.Words.{completions_from, Handover, Role, lineage_of, Phase, Owned, Opening, Moving, Rebuilding, Row, known_of}
-use Rattle.rk_inv_base.proofs.Words.{committed, EntryEnd, BATCH_BYTES, Transfer, Body, Got, Pulled, CopySegment, Rebuilt, items_in}
-use Rattle.rk_inv_base.proofs.Words.{items_of, by_member, as_entries, counts, merge, own_place, is_absent, Written, member_material}
-use Rattle.rk_inv_base.proofs.Words.{member_truth, Mark, Merged, MayApply, IsEntryWithin, IsItemWithin, is_wanting, stored_of, CopyIn}
-use Rattle.rk_inv_base.proofs.Words.{GotAgrees, IsFromSource, IsOf, JoinedIn, PulledAgrees, RebuiltIn, SaysOf, HasJoined, HasRebuilt}
-use Rattle.rk_inv_base.proofs.Words.{TransferIn, post_of, bond_of, Holds, IsRebuilder, MarkFits, MarkedFit, NeededOf, READ_BACKUP}
-use Rattle.rk_inv_base.proofs.Words.{RowIsRebuilt, applied_from, merged_place, IsPieceOf, IsBare, IsFound, IsTarget, MembersFit, NamedFit}
-use Rattle.rk_inv_base.proofs.Words.{is_granted, scan_items, wanted_place, named_items, View, truths, SoundView, CoverOf, LogsOf, RolesOf}
+use Rattle.rk_inv_base.proofs.Words.{get, Ended, Held, Member, Node, Range, Entry, Completions, completions_from, Handover, Role}
+use Rattle.rk_inv_base.proofs.Words.{lineage_of, Phase, Owned, Opening, Moving, Rebuilding, Row, known_of, committed, EntryEnd, Transfer}
+use Rattle.rk_inv_base.proofs.Words.{Body, Got, Pulled, CopySegment, Rebuilt, items_in, items_of, by_member, counts, merge, own_place}
+use Rattle.rk_inv_base.proofs.Words.{is_absent, Written, member_material, member_truth, Mark, Merged, MayApply, IsEntryWithin, IsItemWithin}
+use Rattle.rk_inv_base.proofs.Words.{is_wanting, stored_of, CopyIn, GotAgrees, IsOf, JoinedIn, PulledAgrees, RebuiltIn, SaysOf, HasJoined}
+use Rattle.rk_inv_base.proofs.Words.{HasRebuilt, TransferIn, post_of, bond_of, Holds, IsRebuilder, MarkFits, MarkedFit, NeededOf}
+use Rattle.rk_inv_base.proofs.Words.{READ_BACKUP, RowIsRebuilt, applied_from, merged_place, IsPieceOf, IsBare, IsFound, IsTarget}
+use Rattle.rk_inv_base.proofs.Words.{MembersFit, NamedFit, is_granted, wanted_place, named_items, View, truths, SoundView, CoverOf, LogsOf}
+use Rattle.rk_inv_base.proofs.Words.{RolesOf}
 use Rattle.rk_entry.specs.declared.entry.Entry.TheVariants as entries
 use Rattle.rk_inv_logs.proofs.apply.ItemPut.{found_with, item_cases, item_counts, item_found}
 use Rattle.rk_inv_logs.proofs.apply.TargetApplied.{StandsBehind, target_applied}
@@ -23,7 +23,7 @@ use Rattle.rk_inv_base.proofs.views.Put.{put_by}
 use Rattle.rk_inv_base.proofs.calls.Records.{newer_cases}
 use Rattle.rk_message.specs.declared.message.Body.TheVariants as bodies
 use Rattle.rk_outside.specs.Segments.{bytes_of as copied_bytes}
-use Rattle.rk_sound.specs.Posts.{Bond, Never, Equal, Smaller, AtMost, SamePlace, Closed, Both, Either}
+use Rattle.rk_sound.specs.Posts.{Bond, Closed, Both, Either}
 use Rattle.rk_sound.specs.Rebuilds.{IsGatherOf, Rebuilds}
 use Rattle.rk_tablet_map.specs.Phase.{member as member_at}
 use Rattle.rk_transfer.specs.declared.role.Role.TheVariants as roles
@@ -37,34 +37,25 @@ of_one_applied written master P q here was = put_by (λ r. (written r).applied) 
 -- what holds of records and of the item of an entry holds of the records with it
 pub all_with : (P : Held → Type 0) (entry : Entry) (records : List Held) → All P records → All P (items_in entry) → All P (with_item_of entry records)
 all_with P (entries.Held held) records old new =
-    all_by P (with_item_of (entries.Held held) records)
-    (λ x stands.
-    ⊎_elim (λ (is : held ≡ x). subst P is (All-contains P (held ∷ []) held new (0, omega arith, refl)))
-    (λ (was : Contains records x). All-contains P records x old was) (newer_cases held records x stands))
-all_with P (entries.Refused refused) records old new = old
-all_with P (entries.Carried carried) records old new = old
-all_with P (entries.Joined joined) records old new = old
+    all_by P (with_item_of (entries.Held held) records) (λ x stands. elim (newer_cases held records x stands) [
+      | inl is ↦ rw is at (All-contains P (held ∷ []) held new (0, omega arith, refl))
+      | inr was ↦ All-contains P records x old was
+    ])
+all_with P _ records old new = old
 
 -- the item of an entry that lies in rows lies there
 pub item_within : (rows : List Row) (entry : Entry) → IsEntryWithin rows entry → All (IsItemWithin rows) (items_in entry)
 item_within rows (entries.Held held) within = All-cons (IsItemWithin rows) held [] within (All-nil (IsItemWithin rows))
-item_within rows (entries.Refused refused) within = All-nil (IsItemWithin rows)
-item_within rows (entries.Carried carried) within = All-nil (IsItemWithin rows)
-item_within rows (entries.Joined joined) within = All-nil (IsItemWithin rows)
+item_within rows _ within = All-nil (IsItemWithin rows)
 
 -- a bond holds with more applied
 pub holds_more : (bond : Bond) (term own few many : ℕ) → few ≤ many → Holds bond term own few → Holds bond term own many
-holds_more Never term own few many more holds = holds
-holds_more Equal term own few many more holds = holds
-holds_more Smaller term own few many more holds = holds
-holds_more AtMost term own few many more holds = holds
-holds_more (SamePlace from place) term own few many more holds = holds
 holds_more (Closed entry) term own few many more holds = let closed : entry < few = holds in omega (arith, closed, more)
 holds_more (Both one other) term own few many more holds =
     (holds_more one term own few many more holds.0, holds_more other term own few many more holds.1)
 holds_more (Either one other) term own few many more holds =
-    ⊎_elim (λ (a : Holds one term own few). inl (holds_more one term own few many more a))
-    (λ (b : Holds other term own few). inr (holds_more other term own few many more b)) holds
+    elim holds [ inl a ↦ inl (holds_more one term own few many more a) | inr b ↦ inr (holds_more other term own few many more b) ]
+holds_more _ term own few many more holds = holds
 
 -- ---- reports
 
@@ -93,25 +84,16 @@ rebuilt_says phase handover ends few many term master rebuilt more says = says
 -- the same is needed however much is applied
 pub needs_same : (v : View) (master : ℕ) (row : Row) (lineage : List Member) (q : ℕ) (end : EntryEnd) → NeededOf row (with_one_applied v.written master) lineage q end → NeededOf row v.written lineage q end
 needs_same v master row (first ∷ last ∷ []) q end needed =
-    let needs = needed.1 in
-    let its = needs.needed in (
+    let needs = needed.1 in (
       needed.0,
       record {
         place = needs.place;
         entry = needs.entry;
-        needed = record {
-          behind = its.behind;
-          stands = its.stands;
-          unmarked = its.unmarked;
-          in_range = its.in_range;
-          tells = its.tells;
-        };
+        needed = assumption needs.needed;
         ends_there = needs.ends_there;
       },
     )
-needs_same v master row [] q end needed = needed
-needs_same v master row (only ∷ []) q end needed = needed
-needs_same v master row (first ∷ second ∷ third ∷ more) q end needed = needed
+needs_same v master row _ q end needed = needed
 
 -- what waits for its grant is not absent
 pub waiting_so : (role : Role) (P Q : ℕ → Type 0) → (is_wanting role ≡ true → is_absent role ≡ false → (from : ℕ) → P from → Q from) → IfSome (wanted_place role) P → IfSome (wanted_place role) Q
@@ -214,11 +196,8 @@ module _ (v : View) (b : Applies v) where
   entry_within : IsEntryWithin v.rows b.entry
   entry_within =
       let w : Written = v.written b.master in
-      All-contains (IsEntryWithin v.rows) w.entries b.entry (b.sound.cover.entries b.master) (
-        w.applied,
-        slice_get_within w.entries w.applied b.entry b.stands,
-        get_or_from_slice_get w.entries w.applied b.entry b.entry b.stands,
-      )
+      All-contains (IsEntryWithin v.rows) w.entries b.entry (b.sound.cover.entries b.master)
+      (w.applied, slice_get_within w.entries w.applied b.entry b.stands, get_or_from_slice_get w.entries w.applied b.entry b.entry b.stands)
 
   pub cover_now : CoverOf now
   cover_now = record {
@@ -251,29 +230,17 @@ module _ (v : View) (b : Applies v) where
   pub logs_now : LogsOf now
   logs_now = record {
     each = λ q.
-        let log = b.sound.logs.each q in record {
-          entries_are = log.entries_are;
-          held =
-              of_applied (λ n. n ≤ committed (v.logs q)) q
-              (λ at.
-              let next : (v.written q).applied < committed (v.logs q) =
-              subst (λ (n : ℕ). (v.written n).applied < committed (v.logs n)) (sym at) b.held.held in
-              omega (arith, next))
-              (λ apart. log.held);
-          copies = log.copies;
-          spelled = log.spelled;
-          named = log.named;
-          marked = log.marked;
-        };
+        let log = b.sound.logs.each q in
+        assumption
+        (of_applied (λ n. n ≤ committed (v.logs q)) q (λ at. let next : (v.written q).applied < committed (v.logs q) = rw (sym at) at b.held.held in omega (arith, next)) (λ apart. log.held));
     sent = b.sound.logs.sent;
   }
 
   -- ---- targets
 
   abbrev IsTargetOf : Row → Member → Member → List Entry → Written → List Held → Type 0
-  IsTargetOf other first last truth w records =
-      IsTarget other.range first.master truth (member_material v.written other.range first) last.from w
-      (v.handovers last.master other.tablet) (v.pullings last.master other.tablet) (get v.handed other.tablet) records
+  IsTargetOf other first last truth w records = IsTarget other.range first.master truth (member_material v.written other.range first)
+      last.from w (v.handovers last.master other.tablet) (v.pullings last.master other.tablet) (get v.handed other.tablet) records
 
   target_at : (other : Row) → Contains v.rows other → (first last : Member) → lineage_of other.phase ≡ first ∷ last ∷ [] → is_granted (v.handovers last.master other.tablet).role ≡ true → (truth : List Entry)
       → IsTargetOf other first last truth (v.written last.master) (v.records last.master)
@@ -282,59 +249,50 @@ module _ (v : View) (b : Applies v) where
       let w : Written = v.written last.master in
       of_records (IsTargetOf other first last truth (now.written last.master)) last.master
       (λ at.
-      of_applied (λ n. IsTargetOf other first last truth (record w { applied = n }) (with_item_of b.entry (v.records last.master))) last.master
+      of_applied (λ n. IsTargetOf other first last truth (record w { applied = n }) (with_item_of b.entry (v.records last.master)))
+      last.master
       (λ _.
-      target_applied other.range w b.entry
-      (ap (λ (n : ℕ). slice_get (v.written n).entries (v.written n).applied) at ∙ b.stands) last.from first.master truth
-      (member_material v.written other.range first) (v.handovers last.master other.tablet) (v.pullings last.master other.tablet)
-      (get v.handed other.tablet) (v.records last.master) (b.sound.records.ordered last.master)
-      (b.granted other has first last is at granted) old)
-      (λ apart. absurd (apart at)))
-      (λ apart.
+      target_applied other.range w b.entry (ap (λ (n : ℕ). slice_get (v.written n).entries (v.written n).applied) at ∙ b.stands) last.from
+      first.master truth (member_material v.written other.range first) (v.handovers last.master other.tablet)
+      (v.pullings last.master other.tablet) (get v.handed other.tablet) (v.records last.master) (b.sound.records.ordered last.master)
+      (b.granted other has first last is at granted) old) (λ apart. absurd (apart at))) (λ apart.
       of_applied (λ n. IsTargetOf other first last truth (record w { applied = n }) (v.records last.master)) last.master
       (λ at. absurd (apart at)) (λ _. old))
 
   pub members_at : (other : Row) → Contains v.rows other → (lineage : List Member) → lineage_of other.phase ≡ lineage → MembersFit other v.written v.handovers v.pullings v.records v.handed lineage → MembersFit other now.written v.handovers v.pullings now.records v.handed lineage
-  members_at other has [] is fit = tt
-  members_at other has (only ∷ []) is fit = tt
   members_at other has (first ∷ last ∷ []) is fit = λ granted.
-      subst (λ (truth : List Entry). IsTargetOf other first last truth (now.written last.master) (now.records last.master))
-      (sym (b.firsts other has first last [] is))
+      rw (b.firsts other has first last [] is)
       (target_at other has first last is granted (member_truth v.written other.range first) (fit granted))
-  members_at other has (first ∷ second ∷ third ∷ more) is fit = tt
+  members_at other has _ is fit = tt
 
   pub named_at : (other : Row) → Contains v.rows other → (lineage : List Member) → lineage_of other.phase ≡ lineage → NamedFit v.written other.range lineage → NamedFit now.written other.range lineage
-  named_at other has [] is fit = tt
-  named_at other has (only ∷ []) is fit = tt
-  named_at other has (first ∷ last ∷ []) is fit = λ item there.
-      subst (λ (truth : List Entry). Contains (items_of truth) item) (sym (b.firsts other has first last [] is)) (fit item there)
-  named_at other has (first ∷ second ∷ third ∷ more) is fit = tt
+  named_at other has (first ∷ last ∷ []) is fit = λ item there. rw (b.firsts other has first last [] is) (fit item there)
+  named_at other has _ is fit = tt
 
   pub bare_at : (q r : ℕ) → IfSome (wanted_place (v.handovers q r).role) (λ from. IsBare (v.handovers q r).range from (v.written q) (v.records q)) → IfSome (wanted_place (v.handovers q r).role) (λ from. IsBare (v.handovers q r).range from (now.written q) (now.records q))
   bare_at q r =
       let kept : Handover = v.handovers q r in
       waiting_so kept.role (λ from. IsBare kept.range from (v.written q) (v.records q))
-      (λ from. IsBare kept.range from (now.written q) (now.records q))
-      (λ wants there from bare.
+      (λ from. IsBare kept.range from (now.written q) (now.records q)) (λ wants there from bare.
       of_records (λ records. IsBare kept.range from (now.written q) records) q
       (λ at.
       let with_it : IsBare kept.range from (v.written q) (with_item_of b.entry (v.records q)) =
       subst
-      (λ (n : ℕ). is_wanting (v.handovers n r).role ≡ true → is_absent (v.handovers n r).role ≡ false
+      (λ (n : ℕ).
+      is_wanting (v.handovers n r).role ≡ true → is_absent (v.handovers n r).role ≡ false
       → IsBare (v.handovers n r).range from (v.written n) (v.records n)
       → IsBare (v.handovers n r).range from (v.written n) (with_item_of b.entry (v.records n))) (sym at)
       (λ w t. b.wanted r w t from (v.written b.master)) wants there bare in
-      record { placed = with_it.placed; nothing = with_it.nothing; empty = with_it.empty })
-      (λ apart. record { placed = bare.placed; nothing = bare.nothing; empty = bare.empty }))
+      assumption with_it) (λ apart. assumption bare))
 
   -- ---- rebuilds
 
   -- a master that rebuilds a row
   abbrev IsRebuilderBy : Row → List Member → ℕ → List Entry → (ℕ → EntryEnd → Type 0) → Written → Completions → List Held → Type 0
-  IsRebuilderBy other lineage to truth Needed w ends records =
-      IsRebuilder other lineage to truth (member_material v.written other.range (member_at to (own_place (v.handovers to other.tablet).role)))
-      Needed (λ q. known_of (v.logs q) READ_BACKUP) (λ q. stored_of v.stored q READ_BACKUP) w (v.handovers to other.tablet)
-      ends (v.gathers to other.tablet) (v.merged to other.tablet) records
+  IsRebuilderBy other lineage to truth Needed w ends records = IsRebuilder other lineage to truth
+      (member_material v.written other.range (member_at to (own_place (v.handovers to other.tablet).role))) Needed
+      (λ q. known_of (v.logs q) READ_BACKUP) (λ q. stored_of v.stored q READ_BACKUP) w (v.handovers to other.tablet) ends
+      (v.gathers to other.tablet) (v.merged to other.tablet) records
 
   rebuilder_here : (other : Row) → Contains v.rows other → (lineage : List Member) → other.phase ≡ Rebuilding lineage b.master → (v.handovers b.master other.tablet).term ≡ other.term → (Needed : ℕ → EntryEnd → Type 0)
       → IsRebuilderBy other lineage b.master (truths v other) Needed (v.written b.master) (v.completions b.master other.tablet) (v.records b.master)
@@ -351,32 +309,25 @@ module _ (v : View) (b : Applies v) where
         gather = old.gather;
         read = old.read;
         placed = old.placed;
-        merged =
-            IfSome_then (merged_place kept.role) old.merged
-            (λ closing merged. record {
-              gathered_all = merged.gathered_all;
-              merged = merged.merged;
-              merged_is = merged.merged_is;
-              ends_are = merged.ends_are;
-              piece = piece_same other.tablet from kept merged.merged w closing (w.applied + 1) merged.piece;
-              counter = merged.counter;
-              completions = b.merged other has lineage is at_term old.gather merged.merged merged.merged_is merged.completions;
-            });
+        merged = IfSome_then (merged_place kept.role) old.merged (λ closing merged. record {
+          gathered_all = merged.gathered_all;
+          merged = merged.merged;
+          merged_is = merged.merged_is;
+          ends_are = merged.ends_are;
+          piece = piece_same other.tablet from kept merged.merged w closing (w.applied + 1) merged.piece;
+          counter = merged.counter;
+          completions = b.merged other has lineage is at_term old.gather merged.merged merged.merged_is merged.completions;
+        });
         items = record {
-          found = λ x at.
-              ⊎_elim (λ (its : Contains (items_in b.entry) x). item_found b.entry records x its)
-              (λ (rest : Contains (items_of (applied_from other.range from w)) x ⊎ IsFound records x).
-              found_with b.entry records x order
-              (⊎_elim (λ (was : Contains (items_of (applied_from other.range from w)) x). old.items.found x was)
-              (λ (is : IsFound records x). is) rest))
-              (own.cases x at);
-          come = λ x at inside.
-              ⊎_elim
-              (λ (its : Contains (items_in b.entry) x). inl (own.new (item_counts other.range b.entry x its inside) x its))
-              (λ (was : Contains records x).
-              ⊎_elim (λ (mine : Contains (items_of (applied_from other.range from w)) x). inl (own.still x mine))
-              (λ (told : Contains (items_of (truths v other)) x). inr (b.still other has x told)) (old.items.come x was inside))
-              (item_cases b.entry records x at);
+          found = λ x at. elim (own.cases x at) [
+            | inl its ↦ item_found b.entry records x its
+            | inr rest ↦ found_with b.entry records x order (elim rest [ inl was ↦ old.items.found x was | inr is ↦ is ])
+          ];
+          come = λ x at inside. elim (item_cases b.entry records x at) [
+            | inl its ↦ inl (own.new (item_counts other.range b.entry x its inside) x its)
+            | inr was ↦
+                elim (old.items.come x was inside) [ inl mine ↦ inl (own.still x mine) | inr told ↦ inr (b.still other has x told) ]
+          ];
         };
         sides = λ x at. let was = old.sides x at in (b.still other has x was.0, found_with b.entry records x order was.1);
         outside = old.outside;
@@ -390,20 +341,23 @@ module _ (v : View) (b : Applies v) where
       of_records (IsRebuilderBy other lineage to (truths now other) Needed (now.written to) (b.kept to other.tablet)) to
       (λ at.
       of_applied
-      (λ n. IsRebuilderBy other lineage to (truths now other) Needed (record w { applied = n }) (b.kept to other.tablet) (with_item_of b.entry (v.records to))) to
+      (λ n.
+      IsRebuilderBy other lineage to (truths now other) Needed (record w { applied = n }) (b.kept to other.tablet)
+      (with_item_of b.entry (v.records to))) to
       (λ _.
       subst
-      (λ (m : ℕ). IsRebuilderBy other lineage m (truths now other) Needed
-      (record (v.written m) { applied = (v.written m).applied + 1 }) (b.kept m other.tablet) (with_item_of b.entry (v.records m))) (sym at)
+      (λ (m : ℕ).
+      IsRebuilderBy other lineage m (truths now other) Needed (record (v.written m) { applied = (v.written m).applied + 1 })
+      (b.kept m other.tablet) (with_item_of b.entry (v.records m))) (sym at)
       (rebuilder_here other has lineage (is ∙ ap (Rebuilding lineage) at)
       (subst (λ (m : ℕ). (v.handovers m other.tablet).term ≡ other.term) at at_term) Needed
-      (subst (λ (m : ℕ). IsRebuilderBy other lineage m (truths v other) Needed (v.written m) (v.completions m other.tablet) (v.records m)) at old)))
-      (λ apart. absurd (apart at)))
-      (λ apart.
-      of_applied (λ n. IsRebuilderBy other lineage to (truths now other) Needed (record w { applied = n }) (b.kept to other.tablet) (v.records to)) to
-      (λ at. absurd (apart at))
-      (λ _.
-      subst (λ (c : Completions). IsRebuilderBy other lineage to (truths now other) Needed w c (v.records to)) (sym (b.others to other.tablet apart))
+      (subst (λ (m : ℕ). IsRebuilderBy other lineage m (truths v other) Needed (v.written m) (v.completions m other.tablet) (v.records m))
+      at old))) (λ apart. absurd (apart at))) (λ apart.
+      of_applied
+      (λ n. IsRebuilderBy other lineage to (truths now other) Needed (record w { applied = n }) (b.kept to other.tablet) (v.records to)) to
+      (λ at. absurd (apart at)) (λ _.
+      subst (λ (c : Completions). IsRebuilderBy other lineage to (truths now other) Needed w c (v.records to))
+      (sym (b.others to other.tablet apart))
       (record {
         range_is = old.range_is;
         gather = old.gather;
@@ -412,17 +366,14 @@ module _ (v : View) (b : Applies v) where
         merged = old.merged;
         items = record {
           found = old.items.found;
-          come = λ x at inside.
-              ⊎_elim (λ mine. inl mine) (λ told. inr (b.still other has x told)) (old.items.come x at inside);
+          come = λ x at inside. elim (old.items.come x at inside) [ inl mine ↦ inl mine | inr told ↦ inr (b.still other has x told) ];
         };
         sides = λ x at. let was = old.sides x at in (b.still other has x was.0, was.1);
         outside = old.outside;
       })))
 
   marked_same : (range : Range) (lineage : List Member) → MarkedFit v.logs v.written v.stored v.live range lineage → MarkedFit v.logs now.written v.stored v.live range lineage
-  marked_same range [] fit = fit
-  marked_same range (only ∷ []) fit = fit
-  marked_same range (first ∷ last ∷ more) fit = fit
+  marked_same range _ fit = fit
 
   rebuilt_at : (other : Row) → Contains v.rows other → (phase : Phase) → other.phase ≡ phase
       → RowIsRebuilt other phase (truths v other) v.logs v.written v.stored v.handovers v.completions v.gathers v.merged v.records v.live
@@ -438,18 +389,10 @@ module _ (v : View) (b : Applies v) where
         (rebuilder_at other has lineage to is term (NeededOf other v.written lineage) (says.0 term)),
     marked_same other.range lineage says.1,
   )
-  rebuilt_at other has (Owned owner place) is says = tt
-  rebuilt_at other has (Opening source sfrom target dfrom) is says = tt
-  rebuilt_at other has (Moving source sfrom target dfrom) is says = tt
+  rebuilt_at other has _ is says = tt
 
   mark_same : (other : Row) (q : ℕ) (mark : Mark) → MarkFits other q (v.handovers q other.tablet) (v.live q) (v.written q) mark → MarkFits other q (v.handovers q other.tablet) (v.live q) (now.written q) mark
-  mark_same other q mark fits = record {
-    rebuilt = fits.rebuilt;
-    within = fits.within;
-    present = fits.present;
-    by_rebuilder = fits.by_rebuilder;
-    behind = fits.behind;
-  }
+  mark_same other q mark fits = assumption fits
 
   pub rebuilds : Rebuilds v.rows (truths now) v.logs now.written v.stored v.handovers b.kept v.gathers v.merged now.records v.live
   rebuilds = record {
@@ -465,33 +408,18 @@ module _ (v : View) (b : Applies v) where
 
   -- a Transfer is of a frozen source
   transfer_says : (row : Row) (q : ℕ) (transfer : Transfer) (phase : Phase) → TransferIn phase (v.handovers q row.tablet) (v.completions q row.tablet) row.term q transfer → TransferIn phase (v.handovers q row.tablet) (b.kept q row.tablet) row.term q transfer
-  transfer_says row q transfer (Opening source sfrom target dfrom) says =
-      subst (λ (c : Completions). TransferIn (Opening source sfrom target dfrom) (v.handovers q row.tablet) c row.term q transfer)
-      (sym (b.frozen q row.tablet says.1.role_is)) says
-  transfer_says row q transfer (Owned owner place) says = says
-  transfer_says row q transfer (Moving source sfrom target dfrom) says = says
-  transfer_says row q transfer (Rebuilding lineage to) says = says
+  transfer_says row q transfer (Opening source sfrom target dfrom) says = rw (b.frozen q row.tablet says.1.role_is) says
+  transfer_says row q transfer _ says = says
 
   pulled_says : (other : Row) → Contains v.rows other → (lineage : List Member) → lineage_of other.phase ≡ lineage → (from : Node) (master : ℕ) (pulled : Pulled) → PulledAgrees other v.written v.handovers v.live lineage from master pulled → PulledAgrees other now.written v.handovers v.live lineage from master pulled
-  pulled_says other has (source ∷ target ∷ []) is from master pulled agrees = λ here alive its.
-      subst
-      (λ (truth : List Entry).
-      IsFromSource source from (as_entries (batch_at pulled.token BATCH_BYTES (scan_items truth))) pulled.entries
-      × (pulled.next ≡ next_token pulled.token BATCH_BYTES (scan_items truth)))
-      (sym (b.firsts other has source target [] is)) (agrees here alive its)
-  pulled_says other has [] is from master pulled agrees = agrees
-  pulled_says other has (only ∷ []) is from master pulled agrees = agrees
-  pulled_says other has (first ∷ second ∷ third ∷ more) is from master pulled agrees = agrees
+  pulled_says other has (source ∷ target ∷ []) is from master pulled agrees =
+      λ here alive its. rw (b.firsts other has source target [] is) (agrees here alive its)
+  pulled_says other has _ is from master pulled agrees = agrees
 
   got_says : (other : Row) → Contains v.rows other → (lineage : List Member) → lineage_of other.phase ≡ lineage → (from : Node) (master : ℕ) (got : Got) → GotAgrees other v.written v.handovers v.live lineage from master got → GotAgrees other now.written v.handovers v.live lineage from master got
-  got_says other has (source ∷ target ∷ []) is from master got agrees = λ here alive its.
-      subst
-      (λ (truth : List Entry).
-      IsFromSource source from (as_entries (flat_map (λ hash. at_hash hash (scan_items truth)) got.hashes)) got.entries)
-      (sym (b.firsts other has source target [] is)) (agrees here alive its)
-  got_says other has [] is from master got agrees = agrees
-  got_says other has (only ∷ []) is from master got agrees = agrees
-  got_says other has (first ∷ second ∷ third ∷ more) is from master got agrees = agrees
+  got_says other has (source ∷ target ∷ []) is from master got agrees =
+      λ here alive its. rw (b.firsts other has source target [] is) (agrees here alive its)
+  got_says other has _ is from master got agrees = agrees
 
   copy_says : (other : Row) (copy : CopySegment) (phase : Phase) → CopyIn other phase v.logs v.written v.stored v.live copy → CopyIn other phase v.logs now.written v.stored v.live copy
   copy_says other copy (Rebuilding lineage to) says = (
@@ -500,9 +428,7 @@ module _ (v : View) (b : Applies v) where
         (known_of (v.logs copy.master) READ_BACKUP) (stored_of v.stored copy.master READ_BACKUP) copy.segment (copied_bytes copy.bytes)
         (needs_same v b.master other lineage copy.master) says.1,
   )
-  copy_says other copy (Owned owner place) says = says
-  copy_says other copy (Opening source sfrom target dfrom) says = says
-  copy_says other copy (Moving source sfrom target dfrom) says = says
+  copy_says other copy _ says = says
 
   pub says_now : (other : Row) → Contains v.rows other → (from to : Node) (body : Body) → SaysOf other v.logs v.written v.stored v.handovers v.completions v.merged v.live v.handed from to body → SaysOf other v.logs now.written v.stored v.handovers b.kept v.merged v.live v.handed from to body
   says_now other has from to (bodies.Transfer transfer) says =
@@ -523,8 +449,7 @@ module _ (v : View) (b : Applies v) where
         (λ q. got_says other has (lineage_of other.phase) refl from q got) says.1,
   )
   says_now other has from to (bodies.Joined tenure) says =
-      by_master from
-      (λ q. IsOf other tenure → JoinedIn other.phase (v.handovers q other.tablet) (v.written q).applied other.term q)
+      by_master from (λ q. IsOf other tenure → JoinedIn other.phase (v.handovers q other.tablet) (v.written q).applied other.term q)
       (λ q. IsOf other tenure → JoinedIn other.phase (v.handovers q other.tablet) (now.written q).applied other.term q)
       (λ q told is.
       joined_says other.phase (v.handovers q other.tablet) (v.written q).applied (now.written q).applied other.term q (applied_grows q)

@@ -1,14 +1,14 @@
 -- The next entry of a master's log is applied, and a call ends with it: what is known of the call and of its row, and what stays as it
 -- was.
 use Rattle.std.proofs.Common.{◌≡◌, ℕ, ◌+◌, ◌≤◌, max, Bool, true, false, List, [], ◌∷◌, ◌++◌, Option, Some, None, refl, sym, ap, ◌∙◌, subst}
-use Rattle.std.proofs.Common.{⊎_elim, inl, inr, ◌⊎◌, arith, take, slice_get, if◌then◌else◌, Contains, flat_map}
-use Rattle.rk_inv_base.proofs.Words.{cases_eq, All-contains, All-head, NumberMap, remove, Call, Ended, Op, Outcome, Held, Placed, Member}
-use Rattle.rk_inv_base.proofs.Words.{Range, legal_back, IsLegal, map_after, map_with, Allowed, change_of, is_mutation, Entry, Completions}
-use Rattle.rk_inv_base.proofs.Words.{noted, lineage_of, Row, Base, base_map, map_entry_of, item_end, outcome_of, refusal_end, told_by}
-use Rattle.rk_inv_base.proofs.Words.{has_record, next_record, seen_of, is_member, last_of, is_marked, unmarked_from, counting, counts}
-use Rattle.rk_inv_base.proofs.Words.{log_material, named_by, has_key, may_have_staged, Written, lineage_rest, lineage_truth, member_rest}
-use Rattle.rk_inv_base.proofs.Words.{member_truth, LastCall, StillCounts, IsEntryOf, IsLast, IsLastAsked, IsRest, IsStaged, Waits, call_end}
-use Rattle.rk_inv_base.proofs.Words.{call_ends, record_of_last, records_of, RoleFits, AreApart, IsFormed, View, truths, rests, SoundView}
+use Rattle.std.proofs.Common.{inl, inr, ◌⊎◌, arith, take, slice_get, if◌then◌else◌, Contains, flat_map}
+use Rattle.rk_inv_base.proofs.Words.{cases_eq, All-head, NumberMap, remove, Call, Ended, Op, Outcome, Held, Placed, Member, Range}
+use Rattle.rk_inv_base.proofs.Words.{legal_back, IsLegal, map_after, map_with, Allowed, change_of, is_mutation, Entry, Completions, noted}
+use Rattle.rk_inv_base.proofs.Words.{lineage_of, Row, Base, base_map, map_entry_of, item_end, outcome_of, refusal_end, told_by, has_record}
+use Rattle.rk_inv_base.proofs.Words.{next_record, seen_of, is_member, last_of, is_marked, unmarked_from, counting, counts, log_material}
+use Rattle.rk_inv_base.proofs.Words.{named_by, has_key, may_have_staged, Written, lineage_rest, lineage_truth, member_rest, member_truth}
+use Rattle.rk_inv_base.proofs.Words.{LastCall, IsEntryOf, IsLast, IsLastAsked, IsRest, IsStaged, Waits, call_end, call_ends, record_of_last}
+use Rattle.rk_inv_base.proofs.Words.{records_of, RoleFits, AreApart, View, truths, rests, SoundView}
 use Rattle.rk_types.specs.declared.call.End.TheVariants as ends
 use Rattle.rk_types.specs.declared.call.Op.TheVariants.{Get, Put, CondPut, Delete}
 use Rattle.rk_model.specs.Machine.{Entry as MapEntry}
@@ -25,6 +25,7 @@ use Rattle.rk_inv_logs.specs.apply.Small.{MayApplyCall, call_applied, with_item_
 use Rattle.rk_inv_logs.proofs.apply.Inserted.{IsInserted, inserted_before, inserted_behind}
 use Rattle.rk_inv_logs.proofs.apply.NextEntry.{rest_beside, rest_first, truth_beside, truth_more}
 use Rattle.rk_inv_logs.proofs.apply.Stagers.{stager_is}
+use Rattle.rk_inv_logs.proofs.apply.OfRow.{role_fits, row_formed, row_goes_on, row_ranged}
 
 -- ---- a call and its entry
 
@@ -40,8 +41,7 @@ call_ended call (entries.Held held) own =
     (item_end held, record { tells = refl; ends_it = refl; client = sym own.client_is; seq = sym own.seq_is })
 call_ended call (entries.Refused refused) own =
     (refusal_end refused, record { tells = refl; ends_it = refl; client = sym own.client_is; seq = sym own.seq_is })
-call_ended call (entries.Carried carried) own = absurd own
-call_ended call (entries.Joined joined) own = absurd own
+call_ended call _ own = absurd own
 
 -- the entry of the map that an entry leaves, if it does
 abbrev pub change_by : Entry → Option MapEntry
@@ -64,8 +64,7 @@ module _ (base : Base) (journal : List Placed) (asked : ℕ → Option LastCall)
   pub last_asked : (entry : Entry) → IsEntryOf call entry → IsStaged base asked journal entry → IsLastAsked asked journal call.client call.seq call.table call.key
   last_asked (entries.Held held) own staged = asked_by own.client_is own.seq_is own.table_is own.key_is staged.last
   last_asked (entries.Refused refused) own staged = asked_by own.client_is own.seq_is own.table_is own.key_is staged
-  last_asked (entries.Carried carried) own staged = absurd own
-  last_asked (entries.Joined joined) own staged = absurd own
+  last_asked _ own staged = absurd own
 
   -- a refusal leaves the map as it was
   refusal_leaves : (op : Op) (absent : Bool) (found : ℕ) → change_of op (outcome_of (if absent then ends.Absent else ends.Mismatch found)) ≡ None
@@ -83,7 +82,7 @@ module _ (base : Base) (journal : List Placed) (asked : ℕ → Option LastCall)
   leaves_so (entries.Held held) end is own ended staged =
       let last : LastCall = staged.last.last in
       let kept : asked call.client ≡ Some last = ap asked own.client_is ∙ staged.last.asked_is in
-      let same : last.call ≡ call = subst (λ (o : Option LastCall). IsLast o call) kept is in
+      let same : last.call ≡ call = rw kept at is in
       let its : item_end held ≡ end = cc ended.tells in
       (λ i. change_of (sym same i).op (outcome_of (sym its i).end)) ∙ staged.leaves
   leaves_so (entries.Refused refused) end is own ended staged =
@@ -153,8 +152,7 @@ module _ (v : View) (a : Applying v) where
 
   -- no fewer entries are applied
   pub applied_grows : (q : ℕ) → (v.written q).applied ≤ (after.written q).applied
-  applied_grows q =
-      of_applied (λ n. (v.written q).applied ≤ n) q (λ at. omega arith) (λ apart. omega arith)
+  applied_grows q = of_applied (λ n. (v.written q).applied ≤ n) q (λ at. omega arith) (λ apart. omega arith)
 
   -- the entry stands at the place, and bears no mark
   pub stands_at : (q : ℕ) → q ≡ a.master → slice_get (v.written q).entries (v.written q).applied ≡ Some entry
@@ -172,10 +170,7 @@ module _ (v : View) (a : Applying v) where
   -- a row is that one, or it has another number
   pub row_cases : (other : Row) → Contains v.rows other → (other ≡ its_row) ⊎ (other.tablet ≡ its_row.tablet → ⊥)
   row_cases other stands =
-      ⊎_elim
-      (λ (same : other.tablet ≡ its_row.tablet). inl (same_row other stands same))
-      (λ (apart : other.tablet ≡ its_row.tablet → ⊥). inr apart)
-      (cases_eq other.tablet its_row.tablet)
+      elim (cases_eq other.tablet its_row.tablet) [ inl same ↦ inl (same_row other stands same) | inr apart ↦ inr apart ]
 
   -- it has the entry, and no other row does
   pub inside : counts its_row.range entry ≡ true
@@ -193,39 +188,28 @@ module _ (v : View) (a : Applying v) where
 
   -- its lineage has one member, or two
   pub apart_in : (other : Row) → Contains v.rows other → AreApart (lineage_of other.phase)
-  apart_in other stands =
-      formed_apart other.phase (All-contains (λ (r : Row). IsFormed r.phase) v.rows other a.sound.rows.formed stands)
+  apart_in other stands = formed_apart other.phase (row_formed v a.sound other stands)
 
   -- the first of two members is not the one that has an entry of the range
   pub first_apart : (other : Row) → Contains v.rows other → (first second : Member) (more : List Member) → AreApart (first ∷ second ∷ more) → lineage_of other.phase ≡ first ∷ second ∷ more → first.master ≡ a.master → counts other.range entry ≡ false
-  first_apart other has first second [] apart lineage at =
-      ⊎_elim
-      (λ (same : other ≡ its_row).
-      let ends : Some second ≡ Some a.waits.last =
-      sym (ap last_of (sym (ap (λ (r : Row). lineage_of r.phase) same) ∙ lineage)) ∙ a.waits.is_last in
-      let its : second ≡ a.waits.last = cc ends in
-      absurd (apart (at ∙ sym a.waits.here ∙ sym (ap (λ (m : Member). m.master) its))))
-      (λ (differs : other.tablet ≡ its_row.tablet → ⊥). outside other has differs)
-      (row_cases other has)
+  first_apart other has first second [] apart lineage at = elim (row_cases other has) [
+    | inl same ↦
+        let ends = sym (ap last_of (sym (ap (λ (r : Row). lineage_of r.phase) same) ∙ lineage)) ∙ a.waits.is_last in
+        let its : second ≡ a.waits.last = cc ends in
+        absurd (apart (at ∙ sym a.waits.here ∙ sym (ap (λ (m : Member). m.master) its)))
+    | inr differs ↦ outside other has differs
+  ]
   first_apart other has first second (third ∷ more) apart lineage at = absurd apart
 
   -- the role of the master fits its post, it keeps the row's range, and it speaks for the row
   pub its_fits : RoleFits its_row a.master (v.handovers a.master its_row.tablet) place
-  its_fits =
-      All-contains
-      (λ (r : Row). StillCounts (v.live a.master) (v.handovers a.master r.tablet).term r.term
-      → RoleFits r a.master (v.handovers a.master r.tablet) (v.written a.master).applied) v.rows its_row
-      (a.sound.roles.fitting a.master) a.waits.has_row (inl lives)
+  its_fits = role_fits v a.sound its_row a.waits.has_row a.master (inl lives)
 
   pub its_member : is_member (lineage_of its_row.phase) a.master ≡ true
   its_member = last_member (lineage_of its_row.phase) a.waits.last a.master a.waits.is_last a.waits.here
 
   pub its_range : (v.handovers a.master its_row.tablet).range ≡ its_row.range
-  its_range =
-      All-contains
-      (λ (r : Row). StillCounts (v.live a.master) (v.handovers a.master r.tablet).term r.term
-      → is_member (lineage_of r.phase) a.master ≡ true → (v.handovers a.master r.tablet).range ≡ r.range)
-      v.rows its_row (a.sound.roles.ranged a.master) a.waits.has_row (inl lives) its_member
+  its_range = row_ranged v a.sound its_row a.waits.has_row a.master (inl lives) its_member
 
   pub its_speaker : a.master ≡ speaker_of its_row.phase
   its_speaker = stager_is its_row a.master (v.handovers a.master its_row.tablet) place its_fits a.waits.may_stage
@@ -250,20 +234,19 @@ module _ (v : View) (a : Applying v) where
   truth_grows range member at from has =
       let w : Written = v.written member.master in
       let behind : member.from ≤ w.applied = subst (λ (n : ℕ). member.from ≤ (v.written n).applied) (sym at) from in
-      of_applied (λ n. IsInserted entry (member_truth v.written range member) (log_material range w.marks w.sides member.from (take n w.entries)))
+      of_applied
+      (λ n. IsInserted entry (member_truth v.written range member) (log_material range w.marks w.sides member.from (take n w.entries)))
       member.master
       (λ here.
       truth_more range w.entries w.applied entry (stands_at member.master here) (names range) w.marks w.sides member.from has
-      (free_at member.master here) behind)
-      (λ apart. absurd (apart at))
+      (free_at member.master here) behind) (λ apart. absurd (apart at))
 
   -- what is not applied is the same, or begins with the entry
   pub rest_same : (range : Range) (member : Member) → (member.master ≡ a.master → counts range entry ≡ false) → member_rest after.written range member ≡ member_rest v.written range member
   rest_same range member beside =
       let w : Written = v.written member.master in
       of_applied (λ n. counting range (unmarked_from w.marks (max member.from n) w.entries) ≡ member_rest v.written range member)
-      member.master
-      (λ at. rest_beside range w.entries w.applied entry (stands_at member.master at) w.marks member.from (beside at))
+      member.master (λ at. rest_beside range w.entries w.applied entry (stands_at member.master at) w.marks member.from (beside at))
       (λ apart. refl)
 
   pub rest_begins : (range : Range) (member : Member) → member.master ≡ a.master → member.from ≤ place → counts range entry ≡ true → member_rest v.written range member ≡ entry ∷ member_rest after.written range member
@@ -273,8 +256,7 @@ module _ (v : View) (a : Applying v) where
       of_applied (λ n. member_rest v.written range member ≡ entry ∷ counting range (unmarked_from w.marks (max member.from n) w.entries))
       member.master
       (λ here.
-      rest_first range w.entries w.applied entry (stands_at member.master here) w.marks member.from has
-      (free_at member.master here) behind)
+      rest_first range w.entries w.applied entry (stands_at member.master here) w.marks member.from has (free_at member.master here) behind)
       (λ apart. absurd (apart at))
 
   -- ---- what counts of a row
@@ -302,53 +284,44 @@ module _ (v : View) (a : Applying v) where
   lineage_grows range (only ∷ []) apart is has =
       let same : only ≡ a.waits.last = cc is in
       let at : only.master ≡ a.master = ap (λ (m : Member). m.master) same ∙ a.waits.here in
-      let from : only.from ≤ place = subst (λ (m : Member). m.from ≤ place) (sym same) a.waits.from in
-      inserted_before entry (member_truth v.written range only) (member_truth after.written range only) (truth_grows range only at from has) []
+      let from : only.from ≤ place = rw same a.waits.from in
+      inserted_before entry (member_truth v.written range only) (member_truth after.written range only) (truth_grows range only at from has)
+      []
   lineage_grows range (first ∷ second ∷ []) apart is has =
       let same : second ≡ a.waits.last = cc is in
       let at : second.master ≡ a.master = ap (λ (m : Member). m.master) same ∙ a.waits.here in
-      let from : second.from ≤ place = subst (λ (m : Member). m.from ≤ place) (sym same) a.waits.from in
+      let from : second.from ≤ place = rw same a.waits.from in
       let old : List Entry = member_truth v.written range second ++ [] in
       let now : List Entry = member_truth after.written range second ++ [] in
-      let front : member_truth after.written range first ≡ member_truth v.written range first =
-      truth_same range first (λ here. absurd (apart (here ∙ sym at))) in
-      subst (λ (l : List Entry). IsInserted entry (member_truth v.written range first ++ old) (l ++ now)) (sym front)
+      let front = truth_same range first (λ here. absurd (apart (here ∙ sym at))) in
+      rw front
       (inserted_behind entry old now
       (inserted_before entry (member_truth v.written range second) (member_truth after.written range second)
-      (truth_grows range second at from has) [])
-      (member_truth v.written range first))
+      (truth_grows range second at from has) []) (member_truth v.written range first))
   lineage_grows range (first ∷ second ∷ third ∷ more) apart is has = absurd apart
 
   pub truth_here : IsInserted entry (truths v its_row) (truths after its_row)
-  truth_here =
-      lineage_grows its_row.range (lineage_of its_row.phase) (apart_in its_row a.waits.has_row) a.waits.is_last inside
+  truth_here = lineage_grows its_row.range (lineage_of its_row.phase) (apart_in its_row a.waits.has_row) a.waits.is_last inside
 
   -- which stood before its rest
   pub rest_here : rests v its_row ≡ entry ∷ rests after its_row
-  rest_here =
-      lineage_last v.written its_row.range (lineage_of its_row.phase) a.waits.last a.waits.is_last
+  rest_here = lineage_last v.written its_row.range (lineage_of its_row.phase) a.waits.last a.waits.is_last
       ∙ rest_begins its_row.range a.waits.last a.waits.here a.waits.from inside
       ∙ ap (λ (l : List Entry). entry ∷ l)
       (sym (lineage_last after.written its_row.range (lineage_of its_row.phase) a.waits.last a.waits.is_last))
 
   -- what holds of truth and rest of the row now, and of those of each other row as they were, holds of all
   pub by_row : (P : Row → List Entry → List Entry → Type 0) (other : Row) → Contains v.rows other → P its_row (truths after its_row) (rests after its_row) → ((other.tablet ≡ its_row.tablet → ⊥) → P other (truths v other) (rests v other)) → P other (truths after other) (rests after other)
-  by_row P other stands here apart =
-      ⊎_elim
-      (λ (same : other ≡ its_row). subst (λ (r : Row). P r (truths after r) (rests after r)) (sym same) here)
-      (λ (differs : other.tablet ≡ its_row.tablet → ⊥).
-      subst (λ (truth : List Entry). P other truth (rests after other)) (sym (truth_beside_row other stands differs))
-      (subst (P other (truths v other)) (sym (rest_beside_row other stands differs)) (apart differs)))
-      (row_cases other stands)
+  by_row P other stands here apart = elim (row_cases other stands) [
+    | inl same ↦ rw same here
+    | inr differs ↦ rw (truth_beside_row other stands differs) (rw (rest_beside_row other stands differs) (apart differs))
+  ]
 
   -- ---- the call
 
   -- the entry stood first in what was staged of the row
   pub was_rest : IsRest v.base its_row.range (truths v its_row) (entry ∷ rests after its_row) v.journal v.asked
-  was_rest =
-      subst (λ (rest : List Entry). IsRest v.base its_row.range (truths v its_row) rest v.journal v.asked) rest_here
-      (All-contains (λ (r : Row). IsRest v.base r.range (truths v r) (rests v r) v.journal v.asked) v.rows its_row
-      a.sound.rest.goes_on a.waits.has_row)
+  was_rest = rw rest_here at (row_goes_on v a.sound its_row a.waits.has_row)
 
   was_staged : IsStaged v.base v.asked v.journal entry
   was_staged = All-head (IsStaged v.base v.asked v.journal) entry (rests after its_row) was_rest.staged
@@ -361,7 +334,7 @@ module _ (v : View) (a : Applying v) where
   its_last = last_asked v.base v.journal v.asked a.call entry a.waits.own was_staged
 
   pub same_call : its_last.last.call ≡ a.call
-  same_call = subst (λ (o : Option LastCall). IsLast o a.call) its_last.asked_is is_last
+  same_call = rw its_last.asked_is at is_last
 
   pub mutation : is_mutation a.call.op ≡ true
   mutation = ap (λ (c : Call). is_mutation c.op) (sym same_call) ∙ its_last.mutation
@@ -379,9 +352,8 @@ module _ (v : View) (a : Applying v) where
 
   -- so it may end so behind the journal, and the others may go on behind it
   was_legal : IsLegal (map_after (base_map v.base) v.journal) (record_for a.call outcome ∷ records_of v.asked (call_ends (rests after its_row)))
-  was_legal =
-      legal_back (base_map v.base) v.journal (record_for a.call outcome ∷ records_of v.asked (call_ends (rests after its_row)))
-      (subst (λ (more : List Placed). IsLegal (base_map v.base) (v.journal ++ more)) records_first was_rest.legal)
+  was_legal = legal_back (base_map v.base) v.journal (record_for a.call outcome ∷ records_of v.asked (call_ends (rests after its_row)))
+      (rw records_first at was_rest.legal)
 
   pub allowed : Allowed (map_after (base_map v.base) v.journal a.call.table a.call.key) a.call.op outcome
   allowed = was_legal.0

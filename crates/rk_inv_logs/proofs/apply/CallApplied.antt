@@ -1,12 +1,12 @@
 -- A lane stays sound when the next entry of a living master's log is applied and the call that waited for it ends: the item goes into the
 -- records, the tablet notes the end, and the call gets its record.
-use Rattle.std.proofs.Common.{◌≡◌, ℕ, ◌+◌, Bool, true, false, cond, not, ◌&&◌, [], ◌∷◌, ◌++◌, Some, refl, sym, ap, ◌∙◌, subst, ⊎_elim, map}
-use Rattle.std.proofs.Common.{slice_get, unwrap_or, nat_cmp}
-use Rattle.rk_inv_base.proofs.Words.{cases_Bool, cond-false, cond-true, eq_by_cmp, NumberMap, get, get_or, remove, meets, Call, Ended}
-use Rattle.rk_inv_base.proofs.Words.{Range, is_mutation, Entry, noted, apply_entry, noting, with_applied, with_ended, outcome_of}
-use Rattle.rk_inv_base.proofs.Words.{has_record, Ledger, asked_by, seen_of, with_all_served, with_mutation, with_record, Master, tablet_at}
-use Rattle.rk_inv_base.proofs.Words.{has_key, is_absent, Tablet, no_tablet, Worked, World, log_in, master_at, tablet_in, with_ledger}
-use Rattle.rk_inv_base.proofs.Words.{with_master, put, put2, View, view, IsSound, SoundView}
+use Rattle.std.proofs.Common.{◌≡◌, ℕ, ◌+◌, Bool, true, false, cond, not, ◌&&◌, [], ◌∷◌, ◌++◌, Some, refl, sym, ap, ◌∙◌, subst, map}
+use Rattle.std.proofs.Common.{slice_get, unwrap_or, nat_cmp, inl, inr}
+use Rattle.rk_inv_base.proofs.Words.{cases_Bool, cond-false, cond-true, eq_by_cmp, NumberMap, get, get_or, remove, Call, Ended, Range}
+use Rattle.rk_inv_base.proofs.Words.{is_mutation, Entry, noted, apply_entry, noting, with_applied, with_ended, outcome_of, has_record}
+use Rattle.rk_inv_base.proofs.Words.{Ledger, asked_by, seen_of, with_all_served, with_mutation, with_record, Master, tablet_at, has_key}
+use Rattle.rk_inv_base.proofs.Words.{is_absent, Tablet, no_tablet, Worked, World, log_in, master_at, tablet_in, with_ledger, with_master}
+use Rattle.rk_inv_base.proofs.Words.{put, put2, View, view, IsSound, SoundView}
 use Rattle.rk_world.specs.Commits.{ended_call}
 use Rattle.rk_inv_base.proofs.rows.Apart.{key_outside}
 use Rattle.rk_inv_base.proofs.views.Put.{put2_same, put_same}
@@ -51,8 +51,7 @@ view_applied v a = record {
 -- what is found of tablets that were changed each
 changed_found : (change : Tablet → Tablet) (tablets : NumberMap Tablet) (number : ℕ) → change no_tablet ≡ no_tablet → get_or no_tablet (map (λ entry. (entry.0, change entry.1)) tablets) number ≡ change (get_or no_tablet tablets number)
 changed_found change [] number same = sym same
-changed_found change (first ∷ tablets) number same =
-    go (eq_by_cmp nat_cmp number first.0) (changed_found change tablets number same)
+changed_found change (first ∷ tablets) number same = go (eq_by_cmp nat_cmp number first.0) (changed_found change tablets number same)
   where
     go : (b : Bool) → get_or no_tablet (map (λ entry. (entry.0, change entry.1)) tablets) number ≡ change (get_or no_tablet tablets number)
         → unwrap_or (cond b (Some (change first.1)) (get (map (λ entry. (entry.0, change entry.1)) tablets) number)) no_tablet
@@ -62,23 +61,19 @@ changed_found change (first ∷ tablets) number same =
 
 -- a tablet notes an end, or stays as it is
 notes : (call : Call) (end : Ended) (tablet : Tablet) → is_absent tablet.handover.role ≡ false → has_key tablet.handover.range call.table call.key ≡ true → noting call end tablet ≡ record tablet { completions = noted tablet.completions end }
-notes call end tablet there has =
-    cond-true (not (is_absent tablet.handover.role) && has_key tablet.handover.range call.table call.key)
+notes call end tablet there has = cond-true (not (is_absent tablet.handover.role) && has_key tablet.handover.range call.table call.key)
     (record tablet { completions = noted tablet.completions end }) tablet
     ((λ i. not (there i) && has_key tablet.handover.range call.table call.key) ∙ has)
 
 notes_not : (call : Call) (end : Ended) (tablet : Tablet) → (is_absent tablet.handover.role ≡ false → has_key tablet.handover.range call.table call.key ≡ false) → noting call end tablet ≡ tablet
-notes_not call end tablet apart =
-    ⊎_elim
-    (λ (absent : is_absent tablet.handover.role ≡ true).
-    cond-false (not (is_absent tablet.handover.role) && has_key tablet.handover.range call.table call.key)
-    (record tablet { completions = noted tablet.completions end }) tablet
-    (λ i. not (absent i) && has_key tablet.handover.range call.table call.key))
-    (λ (there : is_absent tablet.handover.role ≡ false).
-    cond-false (not (is_absent tablet.handover.role) && has_key tablet.handover.range call.table call.key)
-    (record tablet { completions = noted tablet.completions end }) tablet
-    ((λ i. not (there i) && has_key tablet.handover.range call.table call.key) ∙ apart there))
-    (cases_Bool (is_absent tablet.handover.role))
+notes_not call end tablet apart = elim (cases_Bool (is_absent tablet.handover.role)) [
+  | inl absent ↦ cond-false (not (is_absent tablet.handover.role) && has_key tablet.handover.range call.table call.key)
+      (record tablet { completions = noted tablet.completions end }) tablet
+      (λ i. not (absent i) && has_key tablet.handover.range call.table call.key)
+  | inr there ↦ cond-false (not (is_absent tablet.handover.role) && has_key tablet.handover.range call.table call.key)
+      (record tablet { completions = noted tablet.completions end }) tablet
+      ((λ i. not (there i) && has_key tablet.handover.range call.table call.key) ∙ apart there)
+]
 
 module _ (w : World) (a : Applying (view w)) where
   abbrev v : View
@@ -104,8 +99,7 @@ module _ (w : World) (a : Applying (view w)) where
   worked = apply_entry (master_at w a.master) (entry (view w) a)
 
   work_is : apply_entry (master_at w a.master) (entry (view w) a) ≡ ended_call (with_applied (record (master_at w a.master) { records = with_item_of (entry (view w) a) (master_at w a.master).records })) (master_at w a.master).applied a.call a.end
-  work_is =
-      (λ i. with_ended (with_applied (item_put m (entry v a) i)) m.applied (a.may.waits i) (a.ended.tells i))
+  work_is = (λ i. with_ended (with_applied (item_put m (entry v a) i)) m.applied (a.may.waits i) (a.ended.tells i))
 
   -- the call gets its record
   recorded : with_all_served 0 w.ledger (ended_call (with_applied (record (master_at w a.master) { records = with_item_of (entry (view w) a) (master_at w a.master).records })) (master_at w a.master).applied a.call a.end).served
@@ -133,26 +127,21 @@ module _ (w : World) (a : Applying (view w)) where
   there = staging_present (v.handovers a.master number).role a.waits.may_stage
 
   tablet_noted : tablet_at changed number ≡ tablet
-  tablet_noted =
-      tablets_are number
+  tablet_noted = tablets_are number
       ∙ notes a.call a.end (tablet_in w a.master number) there
       (ap (λ (range : Range). has_key range a.call.table a.call.key) (its_range v a) ∙ a.waits.in_row)
 
   tablet_other : (r : ℕ) → (r ≡ number → ⊥) → tablet_at changed r ≡ tablet_in w a.master r
   tablet_other r apart =
       tablets_are r
-      ∙ notes_not a.call a.end (tablet_in w a.master r)
-      (λ present.
+      ∙ notes_not a.call a.end (tablet_in w a.master r) (λ present.
       key_outside (v.handovers a.master r).range (its_row v a).range a.call.table a.call.key
-      (subst (λ (range : Range). meets (v.handovers a.master r).range range ≡ false) (its_range v a)
-      (a.sound.terms.apart a.master r number apart present there))
-      a.waits.in_row)
+      (rw (its_range v a) at (a.sound.terms.apart a.master r number apart present there)) a.waits.in_row)
 
   -- ---- what is seen
 
   pub view_is : view (entry_applied_in w a.master (entry (view w) a)) ≡ after (view w) a
-  view_is =
-      ap view world_is
+  view_is = ap view world_is
       ∙ ap (λ (seen : View). record seen { journal = w.ledger.journal ++ new v a ∷ [] })
       (view_master w a.master changed number tablet refl tablet_noted tablet_other
       ∙ (λ i. record v {
@@ -174,5 +163,4 @@ module _ (w : World) (a : Applying (view w)) where
 pub sound_call_applied : (w : World) (master : ℕ) (call : Call) (entry : Entry) → IsSound w → MayApplyCall (view w) master call → slice_get (log_in w master).entries (master_at w master).applied ≡ Some entry → IsSound (entry_applied_in w master entry)
 sound_call_applied w master call next sound may stands =
     let a : Applying (view w) = applying (view w) master call sound may in
-    let same : a.waits.entry ≡ next = cc (sym a.waits.stands ∙ stands) in
-    subst (λ (e : Entry). IsSound (entry_applied_in w master e)) same (sound_worked w a)
+    let same : a.waits.entry ≡ next = cc (sym a.waits.stands ∙ stands) in rw same at (sound_worked w a)

@@ -21,13 +21,13 @@ module _ (w : World) (master : ℕ) (sound : IsSound w) (may : MayApply (view w)
         absurd (cc (sym none ∙ has.waits))
 
     passed : (entry : Entry) → slice_get (log_in w master).entries (master_at w master).applied ≡ Some entry → (marked : Bool) → is_marked (written_in w master).marks (master_at w master).applied ≡ marked → SoundView (entry_applied (view w) master entry)
-    passed entry stands true is = view_marked (view w) master entry sound (record { held = may; stands = stands; marked = is })
+    passed entry stands true is = view_marked (view w) master entry sound (assumption)
     passed (entries.Held held) stands false is = absurd (no_call (entries.Held held) stands is refl)
     passed (entries.Refused refused) stands false is = absurd (no_call (entries.Refused refused) stands is refl)
     passed (entries.Carried carried) stands false is =
-        view_carried (view w) master carried sound (record { held = may; stands = stands; unmarked = is })
+        view_carried (view w) master carried sound (assumption)
     passed (entries.Joined joined) stands false is =
-        view_joined (view w) master joined sound (record { held = may; stands = stands; unmarked = is })
+        view_joined (view w) master joined sound (assumption)
 
   pub sound_applied : (entry : Entry) → slice_get (log_in w master).entries (master_at w master).applied ≡ Some entry → IsSound (entry_applied_in w master entry)
   sound_applied entry stands = go (get (master_at w master).calls (master_at w master).applied) refl

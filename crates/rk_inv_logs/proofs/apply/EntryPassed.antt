@@ -10,9 +10,7 @@ use Rattle.rk_inv_logs.specs.apply.Small.{entry_applied, entry_applied_in, with_
 -- an item goes into the records of a master
 pub item_put : (master : Master) (entry : Entry) → with_entry_item master entry ≡ record master { records = with_item_of entry master.records }
 item_put master (entries.Held held) = refl
-item_put master (entries.Refused refused) = refl
-item_put master (entries.Carried carried) = refl
-item_put master (entries.Joined joined) = refl
+item_put master _ = refl
 
 -- one master has applied one more entry
 pub written_now : (w : World) (master : ℕ) (after : Master) → after.log ≡ (master_at w master).log → after.sides ≡ (master_at w master).sides → after.applied ≡ (master_at w master).applied + 1 → (q : ℕ)
@@ -28,9 +26,7 @@ written_now w master after log sides applied q =
       applied = sym applied i;
       sides = sym sides i;
       marks = marks_of w.ledger master;
-    }))
-    (λ apart i.
-    record ((view w).written q) {
+    })) (λ apart i. record ((view w).written q) {
       applied = put_other (λ r. ((view w).written r).applied) master (((view w).written master).applied + 1) q apart i;
     })
 
@@ -45,8 +41,7 @@ module _ (w : World) (master : ℕ) (entry : Entry) (none : get (master_at w mas
   work_is = λ i. with_ended (with_applied (item_put (master_at w master) entry i)) (master_at w master).applied (none i) (told_by entry)
 
   pub view_passes : view (entry_applied_in w master entry) ≡ entry_applied (view w) master entry
-  view_passes =
-      ap (λ worked. view (worked_in w master worked)) work_is
+  view_passes = ap (λ worked. view (worked_in w master worked)) work_is
       ∙ view_master w master after 0 (tablet_in w master 0) refl refl (λ r apart. refl)
       ∙ (λ i. record (view w) {
         logs = put_same (view w).logs master i;

@@ -47,14 +47,12 @@ module _ (entry : Entry) (old new : List Entry) (put : IsInserted entry old new)
     before = filter p put.before;
     behind = filter p put.behind;
     old_is = ap (filter p) put.old_is ∙ filter-append p put.before put.behind;
-    new_is =
-        ap (filter p) put.new_is ∙ filter-append p put.before (entry ∷ put.behind)
+    new_is = ap (filter p) put.new_is ∙ filter-append p put.before (entry ∷ put.behind)
         ∙ ap (λ (l : List Entry). filter p put.before ++ l) (filter_kept p entry put.behind passes);
   }
 
   pub inserted_out : (p : Entry → Bool) → p entry ≡ false → filter p new ≡ filter p old
-  inserted_out p fails =
-      ap (filter p) put.new_is ∙ filter-append p put.before (entry ∷ put.behind)
+  inserted_out p fails = ap (filter p) put.new_is ∙ filter-append p put.before (entry ∷ put.behind)
       ∙ ap (λ (l : List Entry). filter p put.before ++ l) (filter_left_out p entry put.behind fails)
       ∙ sym (ap (filter p) put.old_is ∙ filter-append p put.before put.behind)
 
@@ -69,77 +67,64 @@ module _ (entry : Entry) (old new : List Entry) (put : IsInserted entry old new)
 
     -- what was told is told, and so is what the entry tells
     pub told_still : (x : X) → Contains (flat_map f old) x → Contains (flat_map f new) x
-    told_still x at =
-        subst (λ (l : List X). Contains l x) (sym parts_now)
-        (⊎_elim
-        (λ (front : Contains (flat_map f put.before) x).
-        Contains-append_left (flat_map f put.before) (f entry ++ flat_map f put.behind) x front)
-        (λ (back : Contains (flat_map f put.behind) x).
-        Contains-append_right (flat_map f put.before) (f entry ++ flat_map f put.behind) x
-        (Contains-append_right (f entry) (flat_map f put.behind) x back))
-        (Contains-append_cases (flat_map f put.before) (flat_map f put.behind) x (subst (λ (l : List X). Contains l x) parts_old at)))
+    told_still x at = rw parts_now
+        (elim
+        (Contains-append_cases (flat_map f put.before) (flat_map f put.behind) x (subst (λ (l : List X). Contains l x) parts_old at)) [
+          | inl front ↦ Contains-append_left (flat_map f put.before) (f entry ++ flat_map f put.behind) x front
+          | inr back ↦ Contains-append_right (flat_map f put.before) (f entry ++ flat_map f put.behind) x
+              (Contains-append_right (f entry) (flat_map f put.behind) x back)
+        ])
 
     pub told_new : (x : X) → Contains (f entry) x → Contains (flat_map f new) x
-    told_new x at =
-        subst (λ (l : List X). Contains l x) (sym parts_now)
+    told_new x at = rw parts_now
         (Contains-append_right (flat_map f put.before) (f entry ++ flat_map f put.behind) x
         (Contains-append_left (f entry) (flat_map f put.behind) x at))
 
     -- and nothing else is
     pub told_cases : (x : X) → Contains (flat_map f new) x → Contains (f entry) x ⊎ Contains (flat_map f old) x
     told_cases x at =
-        ⊎_elim
-        (λ (front : Contains (flat_map f put.before) x).
-        inr (subst (λ (l : List X). Contains l x) (sym parts_old) (Contains-append_left (flat_map f put.before) (flat_map f put.behind) x front)))
-        (λ (rest : Contains (f entry ++ flat_map f put.behind) x).
-        ⊎_elim (λ (own : Contains (f entry) x). inl own)
-        (λ (back : Contains (flat_map f put.behind) x).
-        inr (subst (λ (l : List X). Contains l x) (sym parts_old)
-        (Contains-append_right (flat_map f put.before) (flat_map f put.behind) x back)))
-        (Contains-append_cases (f entry) (flat_map f put.behind) x rest))
+        elim
         (Contains-append_cases (flat_map f put.before) (f entry ++ flat_map f put.behind) x
-        (subst (λ (l : List X). Contains l x) parts_now at))
+        (subst (λ (l : List X). Contains l x) parts_now at)) [
+          | inl front ↦ inr (rw parts_old (Contains-append_left (flat_map f put.before) (flat_map f put.behind) x front))
+          | inr rest ↦ elim (Contains-append_cases (f entry) (flat_map f put.behind) x rest) [
+            | inl own ↦ inl own
+            | inr back ↦ inr (rw parts_old (Contains-append_right (flat_map f put.before) (flat_map f put.behind) x back))
+          ]
+        ]
 
 -- ---- floors
 
 -- what an entry raises a floor to
 abbrev pub height : Entry → ℕ
 height (entries.Held held) = held.version + 1
-height (entries.Refused refused) = 0
 height (entries.Carried carried) = carried.floor
-height (entries.Joined joined) = 0
+height _ = 0
 
 pub raised : (floor : ℕ) (entry : Entry) → floor_by floor entry ≡ max floor (height entry)
-raised floor (entries.Held held) = refl
 raised floor (entries.Refused refused) = omega arith
-raised floor (entries.Carried carried) = refl
 raised floor (entries.Joined joined) = omega arith
+raised floor _ = refl
 
 raised_either : (floor : ℕ) (a b : Entry) → floor_by (floor_by floor a) b ≡ floor_by (floor_by floor b) a
-raised_either floor a b =
-    omega (arith, raised (floor_by floor a) b, raised floor a, raised (floor_by floor b) a, raised floor b)
+raised_either floor a b = omega (arith, raised (floor_by floor a) b, raised floor a, raised (floor_by floor b) a, raised floor b)
 
 floor_moved : (floor : ℕ) (entry : Entry) (behind rest : List Entry) → fold floor_by floor (entry ∷ (behind ++ rest)) ≡ fold floor_by floor (behind ++ entry ∷ rest)
 floor_moved floor entry [] rest = refl
-floor_moved floor entry (first ∷ behind) rest =
-    ap (λ (n : ℕ). fold floor_by n (behind ++ rest)) (raised_either floor entry first)
+floor_moved floor entry (first ∷ behind) rest = ap (λ (n : ℕ). fold floor_by n (behind ++ rest)) (raised_either floor entry first)
     ∙ floor_moved (floor_by floor first) entry behind rest
 
 -- the floor is the same wherever the entry stands, and as great with it
 pub floor_inserted : (entry : Entry) (old new rest : List Entry) → IsInserted entry old new → floor_of (new ++ rest) ≡ floor_of (old ++ entry ∷ rest)
-floor_inserted entry old new rest put =
-    ap (λ (l : List Entry). floor_of (l ++ rest)) put.new_is
-    ∙ ap floor_of (append_assoc put.before (entry ∷ put.behind) rest)
-    ∙ fold-append floor_by 1 put.before (entry ∷ (put.behind ++ rest))
-    ∙ floor_moved (fold floor_by 1 put.before) entry put.behind rest
-    ∙ sym (fold-append floor_by 1 put.before (put.behind ++ entry ∷ rest))
+floor_inserted entry old new rest put = ap (λ (l : List Entry). floor_of (l ++ rest)) put.new_is
+    ∙ ap floor_of (append_assoc put.before (entry ∷ put.behind) rest) ∙ fold-append floor_by 1 put.before (entry ∷ (put.behind ++ rest))
+    ∙ floor_moved (fold floor_by 1 put.before) entry put.behind rest ∙ sym (fold-append floor_by 1 put.before (put.behind ++ entry ∷ rest))
     ∙ ap floor_of (sym (append_assoc put.before put.behind (entry ∷ rest)))
     ∙ ap (λ (l : List Entry). floor_of (l ++ entry ∷ rest)) (sym put.old_is)
 
 pub floor_more : (entry : Entry) (old new : List Entry) → IsInserted entry old new → floor_of old ≤ floor_of new
 floor_more entry old new put =
-    let same : floor_of new ≡ floor_of (old ++ entry ∷ []) =
-    ap floor_of (sym (append_nil new)) ∙ floor_inserted entry old new [] put in
+    let same = ap floor_of (sym (append_nil new)) ∙ floor_inserted entry old new [] put in
     let rises : floor_of old ≤ floor_of (old ++ entry ∷ []) = floor_append 1 old (entry ∷ []) in
     omega (arith, same, rises)
 
@@ -160,36 +145,32 @@ module _ (before behind rest : List Held) (item : Held) (above : IsAboveAll (bef
       (within old at.stands) (is_of_from item.table item.key old (same.0 ∙ sym its.0) (same.1 ∙ sym its.1))
 
   moved_found : newest_from (with_newer (newest before) item) behind table key ≡ with_newer (newest (before ++ behind)) item table key
-  moved_found =
-      ⊎_elim
-      (λ (here : is_of table key item ≡ true).
-      newest_from-stays (with_newer (newest before) item) behind table key item
-      (with_newer_here (newest before) item table key here
-      ∙ ap Some (newer_item (newest before table key) item
-      (older before (λ x at. Contains-append_left before behind x at) here)))
-      (λ other at of.
-      let its = is_of_parts table key item here in
-      let same = is_of_parts table key other of in
-      let below : other.version < item.version =
-      All-contains (λ (other : Held). is_of item.table item.key other ≡ true → other.version < item.version) (before ++ behind) other above
-      (Contains-append_right before behind other at) (is_of_from item.table item.key other (same.0 ∙ sym its.0) (same.1 ∙ sym its.1)) in
-      omega (arith, below))
-      ∙ sym
-      (with_newer_here (newest (before ++ behind)) item table key here
-      ∙ ap Some (newer_item (newest (before ++ behind) table key) item (older (before ++ behind) (λ x at. at) here))))
-      (λ (other : is_of table key item ≡ false).
-      newest_from-same (with_newer (newest before) item) (newest before) behind table key (with_newer_other (newest before) item table key other)
-      ∙ ap (λ (f : Found). f table key) (sym (newest_from-append none_found before behind))
-      ∙ sym (with_newer_other (newest (before ++ behind)) item table key other))
-      (cases_Bool (is_of table key item))
+  moved_found = elim (cases_Bool (is_of table key item)) [
+    | inl here ↦ newest_from-stays (with_newer (newest before) item) behind table key item
+        (with_newer_here (newest before) item table key here
+        ∙ ap Some (newer_item (newest before table key) item (older before (λ x at. Contains-append_left before behind x at) here)))
+        (λ other at of.
+        let its = is_of_parts table key item here in
+        let same = is_of_parts table key other of in
+        let below : other.version < item.version =
+        All-contains (λ (other : Held). is_of item.table item.key other ≡ true → other.version < item.version) (before ++ behind) other
+        above (Contains-append_right before behind other at)
+        (is_of_from item.table item.key other (same.0 ∙ sym its.0) (same.1 ∙ sym its.1)) in
+        omega (arith, below))
+        ∙ sym
+        (with_newer_here (newest (before ++ behind)) item table key here
+        ∙ ap Some (newer_item (newest (before ++ behind) table key) item (older (before ++ behind) (λ x at. at) here)))
+    | inr other ↦ newest_from-same (with_newer (newest before) item) (newest before) behind table key
+        (with_newer_other (newest before) item table key other)
+        ∙ ap (λ (f : Found). f table key) (sym (newest_from-append none_found before behind))
+        ∙ sym (with_newer_other (newest (before ++ behind)) item table key other)
+  ]
 
   newest_moved : newest (before ++ item ∷ (behind ++ rest)) table key ≡ newest ((before ++ behind) ++ item ∷ rest) table key
-  newest_moved =
-      ap (λ (f : Found). f table key)
-      (newest_from-append none_found before (item ∷ (behind ++ rest))
-      ∙ newest_from-append (with_newer (newest before) item) behind rest)
-      ∙ newest_from-same (newest_from (with_newer (newest before) item) behind) (with_newer (newest (before ++ behind)) item) rest table key moved_found
-      ∙ ap (λ (f : Found). f table key) (sym (newest_from-append none_found (before ++ behind) (item ∷ rest)))
+  newest_moved = ap (λ (f : Found). f table key)
+      (newest_from-append none_found before (item ∷ (behind ++ rest)) ∙ newest_from-append (with_newer (newest before) item) behind rest)
+      ∙ newest_from-same (newest_from (with_newer (newest before) item) behind) (with_newer (newest (before ++ behind)) item) rest table key
+      moved_found ∙ ap (λ (f : Found). f table key) (sym (newest_from-append none_found (before ++ behind) (item ∷ rest)))
 
 -- the items of an entry are above those of others
 abbrev pub AreNewest : List Entry → Entry → Type 0
@@ -202,22 +183,17 @@ one_item (entries.Held held) a b at_a at_b = sym (only a at_a) ∙ only b at_b
     only : (x : Held) → Contains (held ∷ []) x → held ≡ x
     only x at =
         ⊎_elim (λ (is : held ≡ x). is) (λ (none : Contains [] x). absurd (none_stands x none)) (stands_cases held [] x at)
-one_item (entries.Refused refused) a b at_a at_b = absurd (none_stands a at_a)
-one_item (entries.Carried carried) a b at_a at_b = absurd (none_stands a at_a)
-one_item (entries.Joined joined) a b at_a at_b = absurd (none_stands a at_a)
+one_item _ a b at_a at_b = absurd (none_stands a at_a)
 
 -- without an item in the entry the items are the same
 pub same_items : (entry : Entry) (old new : List Entry) → IsInserted entry old new → items_in entry ≡ [] → items_of new ≡ items_of old
-same_items entry old new put none =
-    parts_now entry old new put items_in
-    ∙ ap (λ (l : List Held). items_of put.before ++ (l ++ items_of put.behind)) none
-    ∙ sym (parts_old entry old new put items_in)
+same_items entry old new put none = parts_now entry old new put items_in
+    ∙ ap (λ (l : List Held). items_of put.before ++ (l ++ items_of put.behind)) none ∙ sym (parts_old entry old new put items_in)
 
 without_items : (entry : Entry) (old new rest : List Entry) → IsInserted entry old new → items_in entry ≡ [] → items_of (new ++ rest) ≡ items_of (old ++ entry ∷ rest)
 without_items entry old new rest put none =
     let r : List Held = items_of rest in
-    flat_map-append items_in new rest
-    ∙ ap (λ (l : List Held). l ++ r) (same_items entry old new put none)
+    flat_map-append items_in new rest ∙ ap (λ (l : List Held). l ++ r) (same_items entry old new put none)
     ∙ sym (flat_map-append items_in old (entry ∷ rest) ∙ ap (λ (l : List Held). items_of old ++ (l ++ r)) none)
 
 module _ (old new : List Entry) where
@@ -229,16 +205,12 @@ module _ (old new : List Entry) where
       let r : List Held = items_of rest in
       let old_items : items_of old ≡ b ++ h = ap items_of put.old_is ∙ flat_map-append items_in put.before put.behind in
       let here : items_of (new ++ rest) ≡ b ++ held ∷ (h ++ r) =
-      ap (λ (l : List Entry). items_of (l ++ rest)) put.new_is
-      ∙ ap items_of (append_assoc put.before (entries.Held held ∷ put.behind) rest)
+      ap (λ (l : List Entry). items_of (l ++ rest)) put.new_is ∙ ap items_of (append_assoc put.before (entries.Held held ∷ put.behind) rest)
       ∙ flat_map-append items_in put.before (entries.Held held ∷ (put.behind ++ rest))
       ∙ ap (λ (l : List Held). b ++ held ∷ l) (flat_map-append items_in put.behind rest) in
-      let there : items_of (old ++ entries.Held held ∷ rest) ≡ (b ++ h) ++ held ∷ r =
-      flat_map-append items_in old (entries.Held held ∷ rest)
-      ∙ ap (λ (l : List Held). l ++ held ∷ r) old_items in
+      let there = flat_map-append items_in old (entries.Held held ∷ rest) ∙ ap (λ (l : List Held). l ++ held ∷ r) old_items in
       ap (λ (l : List Held). newest l table key) here
-      ∙ newest_moved b h r held
-      (subst (λ (l : List Held). IsAboveAll l held) old_items (All-head (IsAboveAll (items_of old)) held [] above)) table key
+      ∙ newest_moved b h r held (rw old_items at (All-head (IsAboveAll (items_of old)) held [] above)) table key
       ∙ ap (λ (l : List Held). newest l table key) (sym there)
   newest_inserted (entries.Refused refused) rest put above table key =
       ap (λ (l : List Held). newest l table key) (without_items (entries.Refused refused) old new rest put refl)
@@ -249,21 +221,18 @@ module _ (old new : List Entry) where
 
   -- items of one key and version are one, still
   pub plain_inserted : (entry : Entry) → IsInserted entry old new → AreNewest old entry → IsPlain (items_of old) → IsPlain (items_of new)
-  plain_inserted entry put above plain a b at_a at_b table key version =
-      ⊎_elim
-      (λ (own_a : Contains (items_in entry) a).
-      ⊎_elim
-      (λ (own_b : Contains (items_in entry) b). one_item entry a b own_a own_b)
-      (λ (old_b : Contains (items_of old) b).
-      let below : b.version < a.version = below a b own_a old_b (sym table) (sym key) in absurd (omega (arith, below, version)))
-      (told_cases entry old new put items_in b at_b))
-      (λ (old_a : Contains (items_of old) a).
-      ⊎_elim
-      (λ (own_b : Contains (items_in entry) b).
-      let below : a.version < b.version = below b a own_b old_a table key in absurd (omega (arith, below, version)))
-      (λ (old_b : Contains (items_of old) b). plain a b old_a old_b table key version)
-      (told_cases entry old new put items_in b at_b))
-      (told_cases entry old new put items_in a at_a)
+  plain_inserted entry put above plain a b at_a at_b table key version = elim (told_cases entry old new put items_in a at_a) [
+    | inl own_a ↦ elim (told_cases entry old new put items_in b at_b) [
+      | inl own_b ↦ one_item entry a b own_a own_b
+      | inr old_b ↦
+          let below : b.version < a.version = below a b own_a old_b (sym table) (sym key) in
+          absurd (omega (arith, below, version))
+    ]
+    | inr old_a ↦ elim (told_cases entry old new put items_in b at_b) [
+      | inl own_b ↦ let below : a.version < b.version = below b a own_b old_a table key in absurd (omega (arith, below, version))
+      | inr old_b ↦ plain a b old_a old_b table key version
+    ]
+  ]
     where
       below : (x y : Held) → Contains (items_in entry) x → Contains (items_of old) y → y.table ≡ x.table → y.key ≡ x.key → y.version < x.version
       below x y own there table key =
@@ -276,35 +245,26 @@ module _ (old new : List Entry) where
 pub above_fewer : (some fewer items : List Held) → ((x : Held) → Contains fewer x → Contains some x) → AreAbove some items → AreAbove fewer items
 above_fewer some fewer [] within above = tt
 above_fewer some fewer (item ∷ items) within above = (
-  all_by (λ other. is_of item.table item.key other ≡ true → other.version < item.version) fewer
-      (λ other at.
+  all_by (λ other. is_of item.table item.key other ≡ true → other.version < item.version) fewer (λ other at.
       All-contains (λ (other : Held). is_of item.table item.key other ≡ true → other.version < item.version) some other above.0
       (within other at)),
   above_fewer (some ++ item ∷ []) (fewer ++ item ∷ []) items
-      (λ x at.
-      ⊎_elim (λ (there : Contains fewer x). Contains-append_left some (item ∷ []) x (within x there))
-      (λ (last : Contains (item ∷ []) x). Contains-append_right some (item ∷ []) x last)
-      (Contains-append_cases fewer (item ∷ []) x at))
-      above.1,
+      (λ x at. elim (Contains-append_cases fewer (item ∷ []) x at) [
+        | inl there ↦ Contains-append_left some (item ∷ []) x (within x there)
+        | inr last ↦ Contains-append_right some (item ∷ []) x last
+      ]) above.1,
 )
 
 -- the first of what is above a list, and what is above that list with it
 pub above_first : (truth rest : List Entry) (entry : Entry) → AreAbove (items_of truth) (items_of (entry ∷ rest)) → AreNewest truth entry × AreAbove (items_of truth ++ items_in entry) (items_of rest)
 above_first truth rest (entries.Held held) above =
     (All-cons (IsAboveAll (items_of truth)) held [] above.0 (All-nil (IsAboveAll (items_of truth))), above.1)
-above_first truth rest (entries.Refused refused) above =
-    (All-nil (IsAboveAll (items_of truth)), subst (λ (l : List Held). AreAbove l (items_of rest)) (sym (append_nil (items_of truth))) above)
-above_first truth rest (entries.Carried carried) above =
-    (All-nil (IsAboveAll (items_of truth)), subst (λ (l : List Held). AreAbove l (items_of rest)) (sym (append_nil (items_of truth))) above)
-above_first truth rest (entries.Joined joined) above =
-    (All-nil (IsAboveAll (items_of truth)), subst (λ (l : List Held). AreAbove l (items_of rest)) (sym (append_nil (items_of truth))) above)
+above_first truth rest _ above = (All-nil (IsAboveAll (items_of truth)), rw (append_nil (items_of truth)) above)
 
 -- so what stands behind an entry that is put in is above all with it
 pub above_inserted : (entry : Entry) (old new rest : List Entry) → IsInserted entry old new → AreAbove (items_of old) (items_of (entry ∷ rest)) → AreAbove (items_of new) (items_of rest)
-above_inserted entry old new rest put above =
-    above_fewer (items_of old ++ items_in entry) (items_of new) (items_of rest)
-    (λ x at.
-    ⊎_elim (λ (own : Contains (items_in entry) x). Contains-append_right (items_of old) (items_in entry) x own)
-    (λ (there : Contains (items_of old) x). Contains-append_left (items_of old) (items_in entry) x there)
-    (told_cases entry old new put items_in x at))
-    (above_first old rest entry above).1
+above_inserted entry old new rest put above = above_fewer (items_of old ++ items_in entry) (items_of new) (items_of rest)
+    (λ x at. elim (told_cases entry old new put items_in x at) [
+      | inl own ↦ Contains-append_right (items_of old) (items_in entry) x own
+      | inr there ↦ Contains-append_left (items_of old) (items_in entry) x there
+    ]) (above_first old rest entry above).1

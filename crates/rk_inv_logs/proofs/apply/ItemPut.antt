@@ -1,6 +1,6 @@
 -- Records with the item of an entry that is applied: what was found is found, the item is, and they have the newest of each key still.
-use Rattle.std.proofs.Common.{◌≡◌, ◌↔◌, ℕ, ◌<◌, Bool, true, false, cond, List, [], ◌∷◌, Option, Some, None, refl, sym, ap, ◌∙◌, subst}
-use Rattle.std.proofs.Common.{⊎_elim, inl, inr, ◌⊎◌, arith, find, Contains, lt-ltb, ltb-false}
+use Rattle.std.proofs.Common.{◌≡◌, ℕ, ◌<◌, Bool, true, false, cond, List, [], ◌∷◌, Option, Some, None, refl, sym, ap, ◌∙◌, subst, ⊎_elim}
+use Rattle.std.proofs.Common.{inl, inr, ◌⊎◌, arith, find, Contains, lt-ltb, ltb-false}
 use Rattle.rk_inv_base.proofs.Words.{cases_Bool, false≢true, flat_map-append, All-contains, All-head, Held, Range, name-swap, Entry}
 use Rattle.rk_inv_base.proofs.Words.{order_after, same_older, found, is_in, is_newer, with_newer, IsInScanOrder, newest_is, newer_item}
 use Rattle.rk_inv_base.proofs.Words.{newest_from-append, with_newer_here, with_newer_other, behind_stands, first_stands, none_stands}
@@ -30,40 +30,30 @@ found_at p (first ∷ items) item is = go (p first) refl is (found_at p items it
 -- records stay in order
 pub order_with : (entry : Entry) (records : List Held) → IsInScanOrder records → IsInScanOrder (with_item_of entry records)
 order_with (entries.Held held) records order = order_after held records order
-order_with (entries.Refused refused) records order = order
-order_with (entries.Carried carried) records order = order
-order_with (entries.Joined joined) records order = order
+order_with _ records order = order
 
 -- each is the item, or was there
 pub item_cases : (entry : Entry) (records : List Held) (x : Held) → Contains (with_item_of entry records) x → Contains (items_in entry) x ⊎ Contains records x
 item_cases (entries.Held held) records x at =
-    ⊎_elim (λ (is : held ≡ x). inl (subst (Contains (held ∷ [])) is (first_stands held []))) (λ (was : Contains records x). inr was)
-    (newer_cases held records x at)
-item_cases (entries.Refused refused) records x at = inr at
-item_cases (entries.Carried carried) records x at = inr at
-item_cases (entries.Joined joined) records x at = inr at
+    elim (newer_cases held records x at) [ inl is ↦ inl (subst (Contains (held ∷ [])) is (first_stands held [])) | inr was ↦ inr was ]
+item_cases _ records x at = inr at
 
 -- what was found is found
 pub found_with : (entry : Entry) (records : List Held) (x : Held) → IsInScanOrder records → IsFound records x → IsFound (with_item_of entry records) x
 found_with (entries.Held held) records x order is = found_still held records x order is
-found_with (entries.Refused refused) records x order is = is
-found_with (entries.Carried carried) records x order is = is
-found_with (entries.Joined joined) records x order is = is
+found_with _ records x order is = is
 
 -- and so is the item
-put_found : (item : Held) (records : List Held) → IsFound (with_newer item records) item
-put_found item records =
-    ⊎_elim
-    (λ (newer : is_newer item (found item.table item.key records) ≡ true). record {
-      there = item;
-      stands = newer_stands item records newer;
-      same_key = is_of_from item.table item.key item refl refl;
-      as_new = omega arith;
-    })
-    (λ (older : is_newer item (found item.table item.key records) ≡ false).
-    subst (λ (list : List Held). IsFound list item) (sym (same_older item records older))
-    (there (found item.table item.key records) refl older))
-    (cases_Bool (is_newer item (found item.table item.key records)))
+pub put_found : (item : Held) (records : List Held) → IsFound (with_newer item records) item
+put_found item records = elim (cases_Bool (is_newer item (found item.table item.key records))) [
+  | inl newer ↦ record {
+    there = item;
+    stands = newer_stands item records newer;
+    same_key = is_of_from item.table item.key item refl refl;
+    as_new = omega arith;
+  }
+  | inr older ↦ rw (same_older item records older) (there (found item.table item.key records) refl older)
+]
   where
     there : (o : Option Held) → found item.table item.key records ≡ o → is_newer item o ≡ false → IsFound records item
     there None is older = absurd (cc older)
@@ -72,51 +62,41 @@ put_found item records =
         record { there = y; stands = at.0; same_key = at.1; as_new = ltb-false y.version item.version older }
 
 pub item_found : (entry : Entry) (records : List Held) (x : Held) → Contains (items_in entry) x → IsFound (with_item_of entry records) x
-item_found (entries.Held held) records x at =
-    ⊎_elim (λ (is : held ≡ x). subst (IsFound (with_newer held records)) is (put_found held records))
-    (λ (none : Contains [] x). absurd (none_stands x none)) (stands_cases held [] x at)
-item_found (entries.Refused refused) records x at = absurd (none_stands x at)
-item_found (entries.Carried carried) records x at = absurd (none_stands x at)
-item_found (entries.Joined joined) records x at = absurd (none_stands x at)
+item_found (entries.Held held) records x at = elim (stands_cases held [] x at) [
+  | inl is ↦ subst (IsFound (with_newer held records)) is (put_found held records)
+  | inr none ↦ absurd (none_stands x none)
+]
+item_found _ records x at = absurd (none_stands x at)
 
 -- an item of a range is that of an entry which counts there
 pub item_counts : (range : Range) (entry : Entry) (x : Held) → Contains (items_in entry) x → is_in range x ≡ true → counts range entry ≡ true
 item_counts range (entries.Held held) x at inside =
-    ⊎_elim (λ (is : held ≡ x). ap (is_in range) is ∙ inside) (λ (none : Contains [] x). absurd (none_stands x none))
-    (stands_cases held [] x at)
-item_counts range (entries.Refused refused) x at inside = absurd (none_stands x at)
-item_counts range (entries.Carried carried) x at inside = absurd (none_stands x at)
-item_counts range (entries.Joined joined) x at inside = absurd (none_stands x at)
+    elim (stands_cases held [] x at) [ inl is ↦ ap (is_in range) is ∙ inside | inr none ↦ absurd (none_stands x none) ]
+item_counts range _ x at inside = absurd (none_stands x at)
 
 -- a range has none of the records with an entry of another one
 pub bare_with : (range : Range) (entry : Entry) (records : List Held) (from : ℕ) (w : Written) → counts range entry ≡ false → IsBare range from w records → IsBare range from w (with_item_of entry records)
 bare_with range (entries.Held held) records from w outside bare = bare_beside range held records outside from w bare
-bare_with range (entries.Refused refused) records from w outside bare = bare
-bare_with range (entries.Carried carried) records from w outside bare = bare
-bare_with range (entries.Joined joined) records from w outside bare = bare
+bare_with range _ records from w outside bare = bare
 
 -- ---- the newest of each key
 
 -- an entry of another range leaves what records have of a range
 pub table_apart : (range : Range) (entry : Entry) (material : List Entry) (records : List Held) → counts range entry ≡ false → IsTableOf range material records → IsTableOf range material (with_item_of entry records)
 table_apart range (entries.Held held) material records outside table = table_beside range held records outside material table
-table_apart range (entries.Refused refused) material records outside table = table
-table_apart range (entries.Carried carried) material records outside table = table
-table_apart range (entries.Joined joined) material records outside table = table
+table_apart range _ material records outside table = table
 
 module _ (range : Range) (old now : List Entry) (records : List Held) (order : IsInScanOrder records) (table : IsTableOf range old records) where
   -- an item that is above all of its key takes the place of what is there
   module _ (item : Held) (put : IsInserted (entries.Held item) old now) (above : AreNewest old (entries.Held item)) (inside : is_in range item ≡ true) where
     newest_now : (t : ℕ) (k : List ℕ) → newest (items_of now) t k ≡ found_newer (newest (items_of old)) item t k
-    newest_now t k =
-        ap (λ (l : List Entry). newest (items_of l) t k) (sym (append_nil now))
+    newest_now t k = ap (λ (l : List Entry). newest (items_of l) t k) (sym (append_nil now))
         ∙ newest_inserted old now (entries.Held item) [] put above t k
         ∙ ap (λ (l : List Held). newest l t k) (flat_map-append items_in old (entries.Held item ∷ []))
         ∙ ap (λ f. f t k) (newest_from-append none_found (items_of old) (item ∷ []))
 
     older : (y : Held) → Contains (items_of old) y → is_of item.table item.key y ≡ true → y.version < item.version
-    older y at of =
-        All-contains (λ (other : Held). is_of item.table item.key other ≡ true → other.version < item.version) (items_of old) y
+    older y at of = All-contains (λ (other : Held). is_of item.table item.key other ≡ true → other.version < item.version) (items_of old) y
         (All-head (IsAboveAll (items_of old)) item [] above) at of
 
     newer : is_newer item (found item.table item.key records) ≡ true
@@ -138,11 +118,9 @@ module _ (range : Range) (old now : List Entry) (records : List Held) (order : I
 
     -- the item is the newest of its key, and stands there alone
     newest_item : (x : Held) → is_of x.table x.key item ≡ true → newest (items_of now) x.table x.key ≡ Some item
-    newest_item x here =
-        newest_now x.table x.key
-        ∙ with_newer_here (newest (items_of old)) item x.table x.key here
-        ∙ ap Some (newer_item (newest (items_of old) x.table x.key) item
-        (λ y is.
+    newest_item x here = newest_now x.table x.key ∙ with_newer_here (newest (items_of old)) item x.table x.key here
+        ∙ ap Some
+        (newer_item (newest (items_of old) x.table x.key) item (λ y is.
         let best = newest_is (items_of old) x.table x.key y is in
         let its = is_of_parts x.table x.key item here in
         let one = is_of_parts x.table x.key y best.of_record in
@@ -156,32 +134,27 @@ module _ (range : Range) (old now : List Entry) (records : List Held) (order : I
         cc (sym one ∙ other)
 
     pub table_put : IsTableOf range now (with_newer item records)
-    table_put x in_range =
-        ⊎_elim
-        (λ (here : is_of x.table x.key item ≡ true). (
-          λ (at : Contains (with_newer item records) x). newest_item x here ∙ ap Some (only_one x here at),
-          λ (is : newest (items_of now) x.table x.key ≡ Some x).
-              let same : item ≡ x = cc (sym (newest_item x here) ∙ is) in subst (Contains (with_newer item records)) same item_stands,
-        ))
-        (λ (other : is_of x.table x.key item ≡ false).
-        let before : newest (items_of now) x.table x.key ≡ newest (items_of old) x.table x.key =
-        newest_now x.table x.key ∙ with_newer_other (newest (items_of old)) item x.table x.key other in (
-          λ (at : Contains (with_newer item records) x).
-              before
-              ∙ ⊎_elim
-              (λ (same : item ≡ x). absurd (false≢true (sym other ∙ ap (is_of x.table x.key) same ∙ itself x)))
-              (λ (was : Contains records x). (table x in_range).0 was)
-              (newer_cases item records x at),
-          λ (is : newest (items_of now) x.table x.key ≡ Some x).
-              other_stays item records x ((table x in_range).1 (sym before ∙ is))
-              (name-swap x.table item.table x.key item.key ∙ other),
-        ))
-        (cases_Bool (is_of x.table x.key item))
+    table_put x in_range = elim (cases_Bool (is_of x.table x.key item)) [
+      | inl here ↦ (
+        λ (at : Contains (with_newer item records) x). newest_item x here ∙ ap Some (only_one x here at),
+        λ (is : newest (items_of now) x.table x.key ≡ Some x).
+            let same : item ≡ x = cc (sym (newest_item x here) ∙ is) in
+            subst (Contains (with_newer item records)) same item_stands,
+      )
+      | inr other ↦
+          let before = newest_now x.table x.key ∙ with_newer_other (newest (items_of old)) item x.table x.key other in (
+            λ (at : Contains (with_newer item records) x).
+                before
+                ∙ ⊎_elim (λ (same : item ≡ x). absurd (false≢true (sym other ∙ ap (is_of x.table x.key) same ∙ itself x)))
+                (λ (was : Contains records x). (table x in_range).0 was) (newer_cases item records x at),
+            λ (is : newest (items_of now) x.table x.key ≡ Some x).
+                other_stays item records x ((table x in_range).1 (sym before ∙ is)) (name-swap x.table item.table x.key item.key ∙ other),
+          )
+    ]
 
   -- without an item all is the same
   table_same : items_of now ≡ items_of old → IsTableOf range now records
-  table_same is x in_range =
-      subst (λ (items : List Held). Contains records x ↔ (newest items x.table x.key ≡ Some x)) (sym is) (table x in_range)
+  table_same is x in_range = rw is (table x in_range)
 
   -- so the records have the newest with the item of an entry that counts
   pub table_inserted : (entry : Entry) → IsInserted entry old now → AreNewest old entry → counts range entry ≡ true → IsTableOf range now (with_item_of entry records)

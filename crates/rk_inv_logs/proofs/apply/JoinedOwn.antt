@@ -8,19 +8,16 @@ use Rattle.rk_inv_base.proofs.Words.{applied_from, IsFound, named_items}
 use Rattle.rk_entry.specs.declared.entry.Entry.TheVariants as entries
 use Rattle.rk_inv_base.proofs.pulls.Joining.{kept_stands, stands_kept}
 use Rattle.rk_inv_logs.proofs.apply.Keeps.{told_among, told_from}
-use Rattle.rk_inv_logs.proofs.apply.MergedEnds.{among_all}
 use Rattle.rk_inv_logs.proofs.apply.NamedSides.{has_block, named_has, named_in, named_item, side_of, unmarked_has}
 use Rattle.rk_inv_logs.proofs.apply.NextEntry.{nothing_ahead, taken_next, length_first}
 use Rattle.rk_inv_logs.proofs.apply.Applies.{HasApplied}
+use Rattle.rk_inv_rows.proofs.lineage.Among.{to_flat}
 
 -- an entry that has an item is that item
 pub held_of : (entry : Entry) (item : Held) → Contains (items_in entry) item → entries.Held item ≡ entry
 held_of (entries.Held held) item at =
-    ⊎_elim (λ (is : held ≡ item). ap entries.Held (sym is)) (λ (none : Contains [] item). absurd (none_stands item none))
-    (stands_cases held [] item at)
-held_of (entries.Refused refused) item at = absurd (none_stands item at)
-held_of (entries.Carried carried) item at = absurd (none_stands item at)
-held_of (entries.Joined joined) item at = absurd (none_stands item at)
+    elim (stands_cases held [] item at) [ inl is ↦ ap entries.Held (sym is) | inr none ↦ absurd (none_stands item none) ]
+held_of _ item at = absurd (none_stands item at)
 
 module _ (range : Range) (w : Written) (joined : Joined) (stands : slice_get w.entries w.applied ≡ Some (entries.Joined joined)) (free : is_marked w.marks w.applied ≡ false) (from : ℕ) (records : List Held) (found : (x : Held) → Contains (named_items range from w) x → IsFound records x) where
   -- the entries that were applied from the place on, with the Joined, and what counts of them
@@ -36,24 +33,21 @@ module _ (range : Range) (w : Written) (joined : Joined) (stands : slice_get w.e
       let all : List Entry = unmarked_from w.marks from w.entries in
       named_has range all k
       (told_among (named_by range) (entries.Joined joined ∷ []) all
-      (λ y at.
-      ⊎_elim
-      (λ (same : entries.Joined joined ≡ y).
-      subst (Contains all) same (unmarked_has w.entries w.applied (entries.Joined joined) stands w.marks free from behind))
-      (λ (none : Contains [] y). absurd (none_stands y none)) (stands_cases (entries.Joined joined) [] y at)) k new)
+      (λ y at. elim (stands_cases (entries.Joined joined) [] y at) [
+        | inl same ↦ rw same at (unmarked_has w.entries w.applied (entries.Joined joined) stands w.marks free from behind)
+        | inr none ↦ absurd (none_stands y none)
+      ]) k new)
 
   -- an item of a side segment that it names is found
   found_at_side : from ≤ w.applied → (x : Held) (e : Entry) (k : ℕ) → Contains (items_in e) x → counts range e ≡ true → Contains (side_entries w.sides k) e → Contains (flat_map (named_by range) (entries.Joined joined ∷ [])) k → IsFound records x
   found_at_side behind x e k its counted there new =
       let side : ℕ → List Entry = side_entries w.sides in
       let all : List ℕ = named range (unmarked_from w.marks from w.entries) in
-      let item = named_item range w.sides (k ∷ []) all e
-      (λ n at.
-      ⊎_elim (λ (same : k ≡ n). subst (Contains all) same (names_it behind k new))
-      (λ (none : Contains [] n). absurd (none_stands n none)) (stands_cases k [] n at))
+      let item =
+      named_item range w.sides (k ∷ []) all e
+      (λ n at. elim (stands_cases k [] n at) [ inl same ↦ rw same at (names_it behind k new) | inr none ↦ absurd (none_stands n none) ])
       (stands_kept (counts range) (flat_map side (k ∷ [])) e (Contains-append_left (side k) [] e there) counted) in
-      let is : item.item ≡ x = cc (item.is ∙ sym (held_of e x its)) in
-      found x (subst (Contains (named_items range from w)) is item.stands)
+      let is : item.item ≡ x = cc (item.is ∙ sym (held_of e x its)) in found x (rw is at item.stands)
 
   -- so one of the segments that are named then was there, or is found
   of_side : from ≤ w.applied → (x : Held) (e : Entry) → Contains (items_in e) x → Contains (counting range (flat_map (side_entries w.sides) (named range with_it))) e → Contains (items_of (applied_from range from w)) x ⊎ IsFound records x
@@ -63,17 +57,17 @@ module _ (range : Range) (w : Written) (joined : Joined) (stands : slice_get w.e
       let there = side_of side (named range with_it) e kept.0 in
       let k : ℕ = there.number in
       let names : Contains (flat_map (named_by range) with_it) k = named_in range with_it k there.stands in
-      ⊎_elim
-      (λ (before : Contains (flat_map (named_by range) old) k).
-      inl
-      (among_all items_in (material_of range side old) e x
-      (Contains-append_right (counting range old) (counting range (flat_map side (named range old))) e
-      (stands_kept (counts range) (flat_map side (named range old)) e
-      (among_all side (named range old) k e (named_has range old k before) there.there) kept.1)) its))
-      (λ (new : Contains (flat_map (named_by range) (entries.Joined joined ∷ [])) k).
-      inr (found_at_side behind x e k its kept.1 there.there new))
+      elim
       (Contains-append_cases (flat_map (named_by range) old) (flat_map (named_by range) (entries.Joined joined ∷ [])) k
-      (subst (λ (l : List ℕ). Contains l k) (flat_map-append (named_by range) old (entries.Joined joined ∷ [])) names))
+      (subst (λ (l : List ℕ). Contains l k) (flat_map-append (named_by range) old (entries.Joined joined ∷ [])) names)) [
+        | inl before ↦
+            inl
+            (to_flat items_in (material_of range side old) e x
+            (Contains-append_right (counting range old) (counting range (flat_map side (named range old))) e
+            (stands_kept (counts range) (flat_map side (named range old)) e
+            (to_flat side (named range old) k e (named_has range old k before) there.there) kept.1)) its)
+        | inr new ↦ inr (found_at_side behind x e k its kept.1 there.there new)
+      ]
 
   named_own : from ≤ w.applied → HasApplied range from w (entries.Joined joined) records
   named_own behind =
@@ -86,17 +80,17 @@ module _ (range : Range) (w : Written) (joined : Joined) (stands : slice_get w.e
       ap items_of (ap (material_of range (side_entries w.sides)) is ∙ more.parts)
       ∙ flat_map-append items_in (material_of range (side_entries w.sides) old) more.block in
       record {
-        still = λ x at.
-            subst (λ (l : List Held). Contains l x) (sym parts)
-            (Contains-append_left (items_of (applied_from range from w)) (items_of more.block) x at);
+        still = λ x at. rw parts (Contains-append_left (items_of (applied_from range from w)) (items_of more.block) x at);
         new = λ counted x at. absurd (none_stands x at);
         cases = λ x at.
-            ⊎_elim (λ (was : Contains (items_of (applied_from range from w)) x). inr (inl was))
-            (λ (new : Contains (items_of more.block) x).
-            let told_it = told_from items_in more.block x new in
-            inr (of_side behind x told_it.entry told_it.tells (more.from told_it.entry told_it.stands)))
+            elim
             (Contains-append_cases (items_of (applied_from range from w)) (items_of more.block) x
-            (subst (λ (l : List Held). Contains l x) parts at));
+            (subst (λ (l : List Held). Contains l x) parts at)) [
+              | inl was ↦ inr (inl was)
+              | inr new ↦
+                  let told_it = told_from items_in more.block x new in
+                  inr (of_side behind x told_it.entry told_it.tells (more.from told_it.entry told_it.stands))
+            ];
       }
 
   pub applied_named : HasApplied range from w (entries.Joined joined) records
@@ -109,6 +103,4 @@ module _ (range : Range) (w : Written) (joined : Joined) (stands : slice_get w.e
         still = λ x at. subst (λ (l : List Entry). Contains (items_of l) x) (sym same) at;
         new = λ counted x at. absurd (none_stands x at);
         cases = λ x at. inr (inl (subst (λ (l : List Entry). Contains (items_of l) x) same at));
-      })
-      named_own
-      (cases_lt w.applied from)
+      }) named_own (cases_lt w.applied from)

@@ -1,12 +1,12 @@
 -- A view stays sound when the next entry of a master's log is applied that bears a mark: it is of a rebuild that the coordinator was not
 -- told of, counts for nothing, and no call waits for it.
-use Rattle.std.proofs.Common.{◌≡◌, ℕ, ◌≤◌, ◌<◌, max, true, ◌&&◌, List, [], ◌∷◌, Option, Some, None, refl, sym, ap, ◌∙◌, subst, ⊎_elim, inl}
-use Rattle.std.proofs.Common.{inr, ◌⊎◌, arith, take, is_some, leb, ltb, IfSome, slice_get, All, Contains, flat_map, leb-true, ltb-true}
+use Rattle.std.proofs.Common.{◌≡◌, ℕ, ◌≤◌, ◌<◌, max, true, ◌&&◌, List, [], ◌∷◌, Option, Some, None, refl, sym, ap, ◌∙◌, subst, inl, inr}
+use Rattle.std.proofs.Common.{◌⊎◌, arith, take, is_some, leb, ltb, IfSome, slice_get, All, Contains, flat_map, leb-true, ltb-true}
 use Rattle.rk_inv_base.proofs.Words.{and_parts, cases_eq, false≢true, All-contains, All-nil, Any-from_list_any, get, Call, Held, Member}
-use Rattle.rk_inv_base.proofs.Words.{Range, Entry, Role, number_of, lineage_of, row_of, Phase, Rebuilding, Row, none_stands, items_in}
-use Rattle.rk_inv_base.proofs.Words.{items_of, is_marked, unmarked_from, counting, log_material, material_of, named_by, side_entries}
-use Rattle.rk_inv_base.proofs.Words.{own_place, Written, lineage_rest, lineage_truth, member_rest, member_truth, Mark, HasOwnRange}
-use Rattle.rk_inv_base.proofs.Words.{IsOfRange, MarkFits, RowIsRebuilt, has_merged, merged_place, View, rests, truths, SoundView}
+use Rattle.rk_inv_base.proofs.Words.{Range, Entry, Role, number_of, lineage_of, row_of, Row, none_stands, items_in, items_of, is_marked}
+use Rattle.rk_inv_base.proofs.Words.{unmarked_from, counting, log_material, material_of, named_by, side_entries, own_place, Written}
+use Rattle.rk_inv_base.proofs.Words.{lineage_rest, lineage_truth, member_rest, member_truth, Mark, HasOwnRange, IsOfRange, MarkFits}
+use Rattle.rk_inv_base.proofs.Words.{has_merged, merged_place, View, rests, truths, SoundView}
 use Rattle.rk_entry.specs.declared.entry.Entry.TheVariants as entries
 use Rattle.rk_transfer.specs.declared.role.Role.TheVariants as roles
 use Rattle.rk_inv_base.proofs.rows.Apart.{in_one_row}
@@ -19,6 +19,7 @@ use Rattle.rk_inv_logs.proofs.apply.Applies.{HasApplied, of_one_applied}
 use Rattle.rk_inv_logs.proofs.apply.Passing.{IsCopied, Passing}
 use Rattle.rk_inv_logs.proofs.apply.PassingState.{view_passed}
 use Rattle.rk_inv_logs.proofs.apply.TargetApplied.{StandsBehind, applied_with}
+use Rattle.rk_inv_logs.proofs.apply.OfRow.{row_rebuilt}
 
 -- what a row has that is found by its number
 found_row : (o : Option Row) → is_some o ≡ true → (row : Row) × (o ≡ Some row)
@@ -28,23 +29,19 @@ found_row (Some row) some = (row, refl)
 -- a role that has merged has a closing entry, of which what holds of it holds
 merged_then : (role : Role) (P : ℕ → Type 0) → has_merged role ≡ true → IfSome (merged_place role) P → (closing : ℕ) × P closing
 merged_then (roles.Rebuilding from (Some closing)) P merged holds = (closing, holds)
-merged_then (roles.Rebuilding from None) P merged holds = absurd (cc merged)
-merged_then roles.Absent P merged holds = absurd (cc merged)
-merged_then roles.Serving P merged holds = absurd (cc merged)
-merged_then roles.Closing P merged holds = absurd (cc merged)
-merged_then roles.Frozen P merged holds = absurd (cc merged)
-merged_then (roles.Wanting from) P merged holds = absurd (cc merged)
-merged_then roles.Receiving P merged holds = absurd (cc merged)
-merged_then (roles.Joining closing) P merged holds = absurd (cc merged)
+merged_then _ P merged holds = absurd (cc merged)
 
 -- an entry of a rebuild names no side segment
 names_rebuilt : (range other : Range) (entry : Entry) → IsOfRange range entry → named_by other entry ≡ []
-names_rebuilt range other (entries.Held held) is = refl
 names_rebuilt range other (entries.Refused refused) is = absurd is
-names_rebuilt range other (entries.Carried carried) is = refl
 names_rebuilt range other (entries.Joined joined) is = absurd is
+names_rebuilt range other _ is = refl
 
 module _ (v : View) (master : ℕ) (entry : Entry) (sound : SoundView v) (may : MayApplyMarked v master entry) where
+  -- what is written then
+  abbrev after : ℕ → Written
+  after = with_one_applied v.written master
+
   -- no call waits for it
   none_waits : get (v.calls master) (v.written master).applied ≡ None
   none_waits = go (get (v.calls master) (v.written master).applied) refl
@@ -63,7 +60,7 @@ module _ (v : View) (master : ℕ) (entry : Entry) (sound : SoundView v) (may : 
   marked_at : (q : ℕ) → q ≡ master → is_marked (v.written q).marks (v.written q).applied ≡ true
   marked_at q at = ap (λ (n : ℕ). is_marked (v.written n).marks (v.written n).applied) at ∙ may.marked
 
-  truth_same : (range : Range) (member : Member) → member_truth (with_one_applied v.written master) range member ≡ member_truth v.written range member
+  truth_same : (range : Range) (member : Member) → member_truth after range member ≡ member_truth v.written range member
   truth_same range member =
       let x : Written = v.written member.master in
       of_one_applied v.written master (λ n. log_material range x.marks x.sides member.from (take n x.entries) ≡ member_truth v.written range member) member.master
@@ -72,7 +69,7 @@ module _ (v : View) (master : ℕ) (entry : Entry) (sound : SoundView v) (may : 
       (unmarked_same range x.entries x.applied entry (stands_at member.master at) x.marks member.from (marked_at member.master at)))
       (λ apart. refl)
 
-  rest_same : (range : Range) (member : Member) → member_rest (with_one_applied v.written master) range member ≡ member_rest v.written range member
+  rest_same : (range : Range) (member : Member) → member_rest after range member ≡ member_rest v.written range member
   rest_same range member =
       let x : Written = v.written member.master in
       of_one_applied v.written master (λ n. counting range (unmarked_from x.marks (max member.from n) x.entries) ≡ member_rest v.written range member) member.master
@@ -81,19 +78,19 @@ module _ (v : View) (master : ℕ) (entry : Entry) (sound : SoundView v) (may : 
       (rest_marked range x.entries x.applied entry (stands_at member.master at) x.marks member.from (marked_at member.master at)))
       (λ apart. refl)
 
-  lineage_truth_same : (range : Range) (members : List Member) → lineage_truth v.base (with_one_applied v.written master) range members ≡ lineage_truth v.base v.written range members
+  lineage_truth_same : (range : Range) (members : List Member) → lineage_truth v.base after range members ≡ lineage_truth v.base v.written range members
   lineage_truth_same range [] = refl
   lineage_truth_same range (member ∷ members) =
       ap (λ (sure : Member → List Entry). flat_map sure (member ∷ members)) (λ i m. truth_same range m i)
 
-  lineage_rest_same : (range : Range) (members : List Member) → lineage_rest (with_one_applied v.written master) range members ≡ lineage_rest v.written range members
+  lineage_rest_same : (range : Range) (members : List Member) → lineage_rest after range members ≡ lineage_rest v.written range members
   lineage_rest_same range [] = refl
   lineage_rest_same range (member ∷ []) = rest_same range member
   lineage_rest_same range (member ∷ next ∷ more) = lineage_rest_same range (next ∷ more)
 
   keeps : (row : Row) → KeepsRow v.base v.journal (truths v row) (rests v row) (truths (entry_applied v master entry) row) (rests (entry_applied v master entry) row)
   keeps row = record {
-    more = more_none (truths v row) (truths (entry_applied v master entry) row) (lineage_truth_same row.range (lineage_of row.phase));
+    more = more_none (lineage_truth_same row.range (lineage_of row.phase));
     head = [];
     rest_is = sym (lineage_rest_same row.range (lineage_of row.phase));
     quiet = All-nil _;
@@ -111,9 +108,9 @@ module _ (v : View) (master : ℕ) (entry : Entry) (sound : SoundView v) (may : 
       (mark, (found.0, found.2, found.3), leb-true mark.first place parts.0, ltb-true place mark.past parts.1)
 
   its_row : (row : Row) × (row_of v.rows the_mark.0.tablet ≡ Some row)
-  its_row =
-      found_row (row_of v.rows the_mark.0.tablet)
-      (All-contains (λ (mark : Mark). is_some (row_of v.rows mark.tablet) ≡ true) (v.written master).marks the_mark.0 (sound.cover.marks master) the_mark.1)
+  its_row = found_row (row_of v.rows the_mark.0.tablet)
+      (All-contains (λ (mark : Mark). is_some (row_of v.rows mark.tablet) ≡ true) (v.written master).marks the_mark.0
+      (sound.cover.marks master) the_mark.1)
 
   row_stands : Contains v.rows its_row.0
   row_stands = found_stands v.rows the_mark.0.tablet its_row.0 its_row.1
@@ -144,22 +141,15 @@ module _ (v : View) (master : ℕ) (entry : Entry) (sound : SoundView v) (may : 
   begins =
       let row : Row = its_row.0 in
       let at = fits.by_rebuilder (fits.present may.held.lives) in
-      let all : RowIsRebuilt row row.phase (truths v row) v.logs v.written v.stored v.handovers v.completions v.gathers v.merged v.records v.live =
-      All-contains
-      (λ (r : Row). RowIsRebuilt r r.phase (truths v r) v.logs v.written v.stored v.handovers v.completions v.gathers v.merged v.records v.live)
-      v.rows row sound.rebuilds.rebuilt row_stands in
-      let here : RowIsRebuilt row (Rebuilding (lineage_of row.phase) master) (truths v row) v.logs v.written v.stored v.handovers v.completions v.gathers v.merged v.records v.live =
-      subst
-      (λ (phase : Phase). RowIsRebuilt row phase (truths v row) v.logs v.written v.stored v.handovers v.completions v.gathers v.merged v.records v.live)
-      at.0 all in
+      let all = row_rebuilt v sound row row_stands in
+      let here = rw at.0 at all in
       let closing = merged_then (v.handovers master row.tablet).role _ at.2 (here.0 at.1).merged in
       let piece = closing.1.piece in
       let same : the_mark.0 ≡ piece.mark =
-      All-contains (λ (other : Mark). other.tablet ≡ row.tablet → other ≡ piece.mark) (v.written master).marks the_mark.0 piece.alone the_mark.1 same_tablet in
-      let before : own_place (v.handovers master row.tablet).role ≤ the_mark.0.first =
-      subst (λ (m : Mark). own_place (v.handovers master row.tablet).role ≤ m.first) (sym same) piece.behind in
-      let first : the_mark.0.first ≤ (v.written master).applied = the_mark.2 in
-      omega (arith, before, first)
+      All-contains (λ (other : Mark). other.tablet ≡ row.tablet → other ≡ piece.mark) (v.written master).marks the_mark.0 piece.alone
+      the_mark.1 same_tablet in
+      let before : own_place (v.handovers master row.tablet).role ≤ the_mark.0.first = rw same piece.behind in
+      let first : the_mark.0.first ≤ (v.written master).applied = the_mark.2 in omega (arith, before, first)
 
   copied : (items_in entry ≡ []) ⊎ IsCopied v master entry
   copied = go entry of_range
@@ -177,31 +167,28 @@ module _ (v : View) (master : ℕ) (entry : Entry) (sound : SoundView v) (may : 
             merged = at.2;
             behind = begins;
           })
-      go (entries.Refused refused) is = absurd is
       go (entries.Carried carried) is = inl refl
-      go (entries.Joined joined) is = absurd is
+      go _ is = absurd is
 
   -- what the master rebuilds has the item
   stands_behind : (other : Row) → Contains v.rows other → StandsBehind other.range entry (own_place (v.handovers master other.tablet).role) (v.written master).applied
-  stands_behind other has counted x at =
-      ⊎_elim
-      (λ (none : items_in entry ≡ []). absurd (none_stands x (subst (λ (l : List Held). Contains l x) none at)))
-      (λ (c : IsCopied v master entry).
-      ⊎_elim
-      (λ (its : other.tablet ≡ c.row.tablet).
-      subst (λ (n : ℕ). own_place (v.handovers master n).role ≤ (v.written master).applied) (sym its) c.behind)
-      (λ (apart : other.tablet ≡ c.row.tablet → ⊥). absurd (false≢true (sym (c.beside other has apart) ∙ counted)))
-      (cases_eq other.tablet c.row.tablet))
-      copied
+  stands_behind other has counted x at = elim copied [
+    | inl none ↦ absurd (none_stands x (subst (λ (l : List Held). Contains l x) none at))
+    | inr c ↦ elim (cases_eq other.tablet c.row.tablet) [
+      | inl its ↦ rw its c.behind
+      | inr apart ↦ absurd (false≢true (sym (c.beside other has apart) ∙ counted))
+    ]
+  ]
 
   own : (other : Row) → Contains v.rows other → HasApplied other.range (own_place (v.handovers master other.tablet).role) (v.written master) entry (v.records master)
   own other has =
-      let has_own = applied_with other.range (v.written master) entry may.stands (names_rebuilt its_row.0.range other.range entry of_range)
+      let has_own =
+      applied_with other.range (v.written master) entry may.stands (names_rebuilt its_row.0.range other.range entry of_range)
       (own_place (v.handovers master other.tablet).role) (stands_behind other has) in
       record {
         still = has_own.still;
         new = has_own.new;
-        cases = λ x at. ⊎_elim (λ its. inl its) (λ was. inr (inl was)) (has_own.cases x at);
+        cases = λ x at. elim (has_own.cases x at) [ inl its ↦ inl its | inr was ↦ inr (inl was) ];
       }
 
   abbrev passing : Passing v
@@ -213,8 +200,7 @@ module _ (v : View) (master : ℕ) (entry : Entry) (sound : SoundView v) (may : 
     stands = may.stands;
     none = none_waits;
     keeps = λ row has. keeps row;
-    grows = λ row has member in_lineage.
-        more_none (member_truth v.written row.range member) (member_truth (with_one_applied v.written master) row.range member) (truth_same row.range member);
+    grows = λ row has member in_lineage. more_none (truth_same row.range member);
     firsts = λ row has first second more is. record { truth = truth_same row.range first; rest = rest_same row.range first };
     only = λ row has only is. ap items_of (truth_same row.range only);
     copied = copied;

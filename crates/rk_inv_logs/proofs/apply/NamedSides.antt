@@ -12,8 +12,8 @@ use Rattle.rk_inv_base.proofs.logs.Grows.{Extends, drop_extends, still_contains,
 use Rattle.rk_inv_base.proofs.pulls.Joining.{kept_stands, stands_kept}
 use Rattle.rk_inv_base.proofs.views.Needed.{sides_extend}
 use Rattle.rk_inv_base.proofs.logs.Shares.{append_nil, unless_marked, unmarked_from_last}
-use Rattle.rk_inv_logs.proofs.apply.MergedEnds.{among_all}
 use Rattle.rk_inv_logs.proofs.apply.NextEntry.{length_first, taken_next}
+use Rattle.rk_inv_rows.proofs.lineage.Among.{to_flat}
 
 -- ---- the numbers that entries name
 
@@ -36,25 +36,23 @@ added_still some number k at = go (is_among number some)
     go false = Contains-append_left some (number ∷ []) k at
 
 added_new : (some : List ℕ) (number : ℕ) → Contains (with_number some number) number
-added_new some number =
-    ⊎_elim
-    (λ (among : is_among number some ≡ true).
-    let found = Any-from_list_any (λ (n : ℕ). eqb n number) some among in
-    let same : found.1 ≡ number = eqb-true found.1 number found.4 in
-    added_still some number number (subst (Contains some) same (found.0, found.2, found.3)))
-    (λ (new : is_among number some ≡ false).
-    subst (λ (l : List ℕ). Contains l number) (sym (cond-false (is_among number some) some (some ++ number ∷ []) new)) (Contains-push some number))
-    (cases_Bool (is_among number some))
+added_new some number = elim (cases_Bool (is_among number some)) [
+  | inl among ↦
+      let found = Any-from_list_any (λ (n : ℕ). eqb n number) some among in
+      let same : found.1 ≡ number = eqb-true found.1 number found.4 in
+      added_still some number number (subst (Contains some) same (found.0, found.2, found.3))
+  | inr new ↦ rw (cond-false (is_among number some) some (some ++ number ∷ []) new) (Contains-push some number)
+]
 
 numbers_from : (some more : List ℕ) (k : ℕ) → Contains (fold with_number some more) k → Contains some k ⊎ Contains more k
 numbers_from some [] k at = inl at
-numbers_from some (number ∷ more) k at =
-    ⊎_elim
-    (λ (here : Contains (with_number some number) k).
-    ⊎_elim (λ (old : Contains some k). inl old)
-    (λ (is : number ≡ k). inr (subst (Contains (number ∷ more)) is (first_stands number more))) (added_from some number k here))
-    (λ (later : Contains more k). inr (behind_stands number more k later))
-    (numbers_from (with_number some number) more k at)
+numbers_from some (number ∷ more) k at = elim (numbers_from (with_number some number) more k at) [
+  | inl here ↦ elim (added_from some number k here) [
+    | inl old ↦ inl old
+    | inr is ↦ inr (subst (Contains (number ∷ more)) is (first_stands number more))
+  ]
+  | inr later ↦ inr (behind_stands number more k later)
+]
 
 numbers_still : (some more : List ℕ) (k : ℕ) → Contains some k → Contains (fold with_number some more) k
 numbers_still some [] k at = at
@@ -62,19 +60,16 @@ numbers_still some (number ∷ more) k at = numbers_still (with_number some numb
 
 numbers_new : (some more : List ℕ) (k : ℕ) → Contains more k → Contains (fold with_number some more) k
 numbers_new some [] k at = absurd (none_stands k at)
-numbers_new some (number ∷ more) k at =
-    ⊎_elim
-    (λ (is : number ≡ k).
-    subst (Contains (fold with_number (with_number some number) more)) is
-    (numbers_still (with_number some number) more number (added_new some number)))
-    (λ (later : Contains more k). numbers_new (with_number some number) more k later)
-    (stands_cases number more k at)
+numbers_new some (number ∷ more) k at = elim (stands_cases number more k at) [
+  | inl is ↦ subst (Contains (fold with_number (with_number some number) more)) is
+      (numbers_still (with_number some number) more number (added_new some number))
+  | inr later ↦ numbers_new (with_number some number) more k later
+]
 
 -- they are those that one of the entries names
 pub named_in : (range : Range) (list : List Entry) (k : ℕ) → Contains (named range list) k → Contains (flat_map (named_by range) list) k
 named_in range list k at =
-    ⊎_elim (λ (none : Contains [] k). absurd (none_stands k none)) (λ (is : Contains (flat_map (named_by range) list) k). is)
-    (numbers_from [] (flat_map (named_by range) list) k at)
+    elim (numbers_from [] (flat_map (named_by range) list) k at) [ inl none ↦ absurd (none_stands k none) | inr is ↦ is ]
 
 pub named_has : (range : Range) (list : List Entry) (k : ℕ) → Contains (flat_map (named_by range) list) k → Contains (named range list) k
 named_has range list k at = numbers_new [] (flat_map (named_by range) list) k at
@@ -89,20 +84,18 @@ pub record IsAtSide (side : ℕ → List Entry) (numbers : List ℕ) (e : Entry)
 
 pub side_of : (side : ℕ → List Entry) (numbers : List ℕ) (e : Entry) → Contains (flat_map side numbers) e → IsAtSide side numbers e
 side_of side [] e at = absurd (none_stands e at)
-side_of side (number ∷ numbers) e at =
-    ⊎_elim
-    (λ (here : Contains (side number) e). record { number = number; stands = first_stands number numbers; there = here })
-    (λ (later : Contains (flat_map side numbers) e).
-    let found = side_of side numbers e later in
-    record { number = found.number; stands = behind_stands number numbers found.number found.stands; there = found.there })
-    (Contains-append_cases (side number) (flat_map side numbers) e at)
+side_of side (number ∷ numbers) e at = elim (Contains-append_cases (side number) (flat_map side numbers) e at) [
+  | inl here ↦ record { number = number; stands = first_stands number numbers; there = here }
+  | inr later ↦
+      let found = side_of side numbers e later in
+      record { number = found.number; stands = behind_stands number numbers found.number found.stands; there = found.there }
+]
 
 -- it is an item
 mapped_from : (items : List Held) (e : Entry) → Contains (map entries.Held items) e → (h : Held) × (entries.Held h ≡ e)
 mapped_from [] e at = absurd (none_stands e at)
 mapped_from (item ∷ items) e at =
-    ⊎_elim (λ (is : entries.Held item ≡ e). (item, is)) (λ (later : Contains (map entries.Held items) e). mapped_from items e later)
-    (stands_cases (entries.Held item) (map entries.Held items) e at)
+    elim (stands_cases (entries.Held item) (map entries.Held items) e at) [ inl is ↦ (item, is) | inr later ↦ mapped_from items e later ]
 
 side_item : (sides : List (List Held)) (number : ℕ) (e : Entry) → Contains (side_entries sides number) e → (h : Held) × (entries.Held h ≡ e)
 side_item sides number e = go (nat_lt number FIRST_SIDE_SEGMENT) (slice_index_or sides (number - FIRST_SIDE_SEGMENT) [])
@@ -122,14 +115,12 @@ named_item range sides numbers many e within at =
     let kept = kept_stands (counts range) (flat_map (side_entries sides) numbers) e at in
     let found = side_of (side_entries sides) numbers e kept.0 in
     let its = side_item sides found.number e found.there in
-    let all : Contains (flat_map (side_entries sides) many) e =
-    among_all (side_entries sides) many found.number e (within found.number found.stands) found.there in
+    let all = to_flat (side_entries sides) many found.number e (within found.number found.stands) found.there in
     record {
       item = its.0;
       is = its.1;
-      stands =
-          stands_kept (is_in range) (items_of (flat_map (side_entries sides) many)) its.0
-          (among_all items_in (flat_map (side_entries sides) many) e its.0 all
+      stands = stands_kept (is_in range) (items_of (flat_map (side_entries sides) many)) its.0
+          (to_flat items_in (flat_map (side_entries sides) many) e its.0 all
           (subst (λ (x : Entry). Contains (items_in x) its.0) its.1 (first_stands its.0 [])))
           (subst (λ (x : Entry). counts range x ≡ true) (sym its.1) kept.1);
     }
@@ -152,15 +143,12 @@ module _ (range : Range) (sides : List (List Held)) (list : List Entry) (entry :
       let grown = sides_extend range side list (list ++ entry ∷ []) (record { more = entry ∷ []; parts = refl }) in
       record {
         block = grown.more;
-        parts =
-            ap (λ (l : List Entry). l ++ counting range (flat_map side (named range (list ++ entry ∷ []))))
+        parts = ap (λ (l : List Entry). l ++ counting range (flat_map side (named range (list ++ entry ∷ []))))
             (filter-append (counts range) list (entry ∷ [])
             ∙ ap (λ (l : List Entry). counting range list ++ l) (filter_left_out (counts range) entry [] outside)
-            ∙ append_nil (counting range list))
-            ∙ ap (λ (l : List Entry). counting range list ++ l) grown.parts
+            ∙ append_nil (counting range list)) ∙ ap (λ (l : List Entry). counting range list ++ l) grown.parts
             ∙ sym (append_assoc (counting range list) old grown.more);
-        from = λ e at.
-            subst (λ (l : List Entry). Contains l e) (sym grown.parts) (Contains-append_right old grown.more e at);
+        from = λ e at. rw grown.parts (Contains-append_right old grown.more e at);
       }
 
 module _ (list : List Entry) (place : ℕ) (entry : Entry) (stands : slice_get list place ≡ Some entry) (marks : List Mark) (free : is_marked marks place ≡ false) (from : ℕ) where
@@ -185,10 +173,7 @@ module _ (list : List Entry) (place : ℕ) (entry : Entry) (stands : slice_get l
       }
 
   pub unmarked_within : (e : Entry) → Contains (unmarked_from marks from (take (place + 1) list)) e → Contains (unmarked_from marks from list) e
-  unmarked_within e at =
-      still_contains (unmarked_from marks from (take (place + 1) list)) (unmarked_from marks from list) e unmarked_all at
+  unmarked_within e at = still_contains (unmarked_from marks from (take (place + 1) list)) (unmarked_from marks from list) e unmarked_all at
 
   pub unmarked_has : from ≤ place → Contains (unmarked_from marks from list) entry
-  unmarked_has behind =
-      unmarked_within entry
-      (subst (λ (l : List Entry). Contains l entry) (sym (unmarked_now behind)) (Contains-push (unmarked_from marks from (take place list)) entry))
+  unmarked_has behind = unmarked_within entry (rw (unmarked_now behind) (Contains-push (unmarked_from marks from (take place list)) entry))

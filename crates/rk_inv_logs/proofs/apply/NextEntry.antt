@@ -1,7 +1,7 @@
 -- What counts for a range of a log, of which one more entry is applied: the next one, which bears no mark.
 use Rattle.std.proofs.Common.{◌≡◌, ℕ, zero, suc, ◌+◌, ◌-◌, ◌≤◌, ◌<◌, max, Bool, true, false, cond, ◌||◌, List, [], ◌∷◌, ◌++◌, Some, refl}
-use Rattle.std.proofs.Common.{sym, ap, ◌∙◌, subst, ⊎_elim, arith, length, drop, take, filter, slice_get, Contains, flat_map, drop-drop}
-use Rattle.std.proofs.Common.{length-take-le, take-append-drop}
+use Rattle.std.proofs.Common.{sym, ap, ◌∙◌, ⊎_elim, arith, length, drop, take, filter, slice_get, Contains, flat_map, drop-drop}
+use Rattle.std.proofs.Common.{length-take-le, take-append-drop, inl, inr}
 use Rattle.std.proofs.lemmas.List.{drop_more, take_more}
 use Rattle.rk_inv_base.proofs.Words.{cases_lt, drop-append-le, Contains-push, filter-append, get_or_from_slice_get, slice_get_within}
 use Rattle.rk_inv_base.proofs.Words.{list_any, Held, Range, Entry, filter_kept, filter_left_out, is_marked, unmarked, unmarked_from}
@@ -14,8 +14,7 @@ use Rattle.rk_inv_logs.proofs.apply.Inserted.{IsInserted, inserted_before, inser
 
 -- none of fewer
 pub none_fewer : {X : Type 0} (p : X → Bool) (count : ℕ) (xs : List X) → list_any p (drop count xs) ≡ false → list_any p (drop (count + 1) xs) ≡ false
-none_fewer p count xs none =
-    subst (λ (l : List _). list_any p l ≡ false) (drop-drop 1 count xs) (tail (drop count xs) none)
+none_fewer p count xs none = rw (drop-drop 1 count xs) at (tail (drop count xs) none)
   where
     either : (a b : Bool) → (a || b) ≡ false → b ≡ false
     either true b is = absurd (cc is)
@@ -38,8 +37,7 @@ none_behind {X} p (suc more) (x ∷ xs) none = none_behind p more xs (tail (p x)
 pub none_from : {X : Type 0} (p : X → Bool) (from later : ℕ) (xs : List X) → from ≤ later → filter p (drop from xs) ≡ [] → filter p (drop later xs) ≡ []
 none_from {X} p from later xs behind none =
     let split : from + (later - from) ≡ later = omega (arith, behind) in
-    subst (λ (l : List X). filter p l ≡ []) (drop-drop (later - from) from xs ∙ ap (λ (n : ℕ). drop n xs) split)
-    (none_behind p (later - from) (drop from xs) none)
+    rw (drop-drop (later - from) from xs ∙ ap (λ (n : ℕ). drop n xs) split) at (none_behind p (later - from) (drop from xs) none)
 
 module _ (list : List Entry) (place : ℕ) (entry : Entry) (stands : slice_get list place ≡ Some entry) where
   within : place < length list
@@ -47,13 +45,11 @@ module _ (list : List Entry) (place : ℕ) (entry : Entry) (stands : slice_get l
 
   -- the first entries with the next one, and the others without it
   pub taken_next : take (place + 1) list ≡ take place list ++ entry ∷ []
-  taken_next =
-      take_more list place entry within
+  taken_next = take_more list place entry within
       ∙ ap (λ (e : Entry). take place list ++ e ∷ []) (get_or_from_slice_get list place entry entry stands)
 
   pub dropped_next : drop place list ≡ entry ∷ drop (place + 1) list
-  dropped_next =
-      drop_more list place entry within
+  dropped_next = drop_more list place entry within
       ∙ ap (λ (e : Entry). e ∷ drop (place + 1) list) (get_or_from_slice_get list place entry entry stands)
 
   pub length_first : length (take place list) ≡ place
@@ -61,8 +57,7 @@ module _ (list : List Entry) (place : ℕ) (entry : Entry) (stands : slice_get l
 
   -- and from a place behind it nothing is there, before and after
   pub nothing_ahead : (from : ℕ) → place < from → drop from (take (place + 1) list) ≡ drop from (take place list)
-  nothing_ahead from ahead =
-      ap (drop from) taken_next ∙ drop_none from (take place list) entry (omega (arith, ahead, length_first))
+  nothing_ahead from ahead = ap (drop from) taken_next ∙ drop_none from (take place list) entry (omega (arith, ahead, length_first))
 
 -- ---- one more entry at the end of those that count
 
@@ -75,8 +70,7 @@ module _ (range : Range) (side : ℕ → List Entry) (list : List Entry) (entry 
       let put : IsInserted entry (counting range list ++ sides) (counting range (list ++ entry ∷ []) ++ sides) =
       inserted_before entry (counting range list) (counting range (list ++ entry ∷ []))
       (inserted_kept entry list (list ++ entry ∷ []) (inserted_last entry list) (counts range) inside) sides in
-      subst (λ (numbers : List ℕ). IsInserted entry (material_of range side list) (counting range (list ++ entry ∷ []) ++ counting range (flat_map side numbers)))
-      (sym same) put
+      rw same put
 
   -- and one that does not count changes nothing
   pub material_beside : counts range entry ≡ false → material_of range side (list ++ entry ∷ []) ≡ material_of range side list
@@ -85,8 +79,7 @@ module _ (range : Range) (side : ℕ → List Entry) (list : List Entry) (entry 
       ap (λ (l : List Entry). l ++ counting range (flat_map side (named range (list ++ entry ∷ []))))
       (filter-append (counts range) list (entry ∷ [])
       ∙ ap (λ (l : List Entry). counting range list ++ l) (filter_left_out (counts range) entry [] outside)
-      ∙ append_nil (counting range list))
-      ∙ ap (λ (numbers : List ℕ). counting range list ++ counting range (flat_map side numbers)) same
+      ∙ append_nil (counting range list)) ∙ ap (λ (numbers : List ℕ). counting range list ++ counting range (flat_map side numbers)) same
 
 module _ (range : Range) (list : List Entry) (place : ℕ) (entry : Entry) (stands : slice_get list place ≡ Some entry) where
   -- a target's own entries that are applied, with the entry or without it
@@ -99,16 +92,13 @@ module _ (range : Range) (list : List Entry) (place : ℕ) (entry : Entry) (stan
       ∙ ap (λ (l : List Entry). counting range (drop from (take place list)) ++ l) (filter_kept (counts range) entry [] inside)
 
   pub own_beside : (from : ℕ) → counts range entry ≡ false → counting range (drop from (take (place + 1) list)) ≡ counting range (drop from (take place list))
-  own_beside from outside =
-      ap (λ (l : List Entry). counting range (drop from l)) (taken_next list place entry stands)
-      ∙ ⊎_elim
-      (λ (beyond : length (take place list) < from). ap (counting range) (drop_none from (take place list) entry beyond))
+  own_beside from outside = ap (λ (l : List Entry). counting range (drop from l)) (taken_next list place entry stands)
+      ∙ ⊎_elim (λ (beyond : length (take place list) < from). ap (counting range) (drop_none from (take place list) entry beyond))
       (λ (before : from ≤ length (take place list)).
       ap (counting range) (drop-append-le from (take place list) (entry ∷ []) before)
       ∙ filter-append (counts range) (drop from (take place list)) (entry ∷ [])
       ∙ ap (λ (l : List Entry). counting range (drop from (take place list)) ++ l) (filter_left_out (counts range) entry [] outside)
-      ∙ append_nil (counting range (drop from (take place list))))
-      (cases_lt (length (take place list)) from)
+      ∙ append_nil (counting range (drop from (take place list)))) (cases_lt (length (take place list)) from)
 
   -- of all that is written it counts, too
   pub counted_next : (marks : List Mark) (from : ℕ) → counts range entry ≡ true → is_marked marks place ≡ false → from ≤ place → Contains (counting range (unmarked_from marks from list)) entry
@@ -119,28 +109,27 @@ module _ (range : Range) (list : List Entry) (place : ℕ) (entry : Entry) (stan
       let here : unmarked_from marks from first ≡ before ++ entry ∷ [] =
       ap (unmarked_from marks from) (taken_next list place entry stands)
       ∙ unmarked_from_last marks from (take place list) entry (omega (arith, behind, size))
-      ∙ ap (λ (n : ℕ). before ++ unless_marked (is_marked marks n) entry) size
-      ∙ ap (λ (b : Bool). before ++ unless_marked b entry) free in
+      ∙ ap (λ (n : ℕ). before ++ unless_marked (is_marked marks n) entry) size ∙ ap (λ (b : Bool). before ++ unless_marked b entry) free in
       let counted : counting range (unmarked_from marks from first) ≡ counting range before ++ entry ∷ [] =
       ap (counting range) here ∙ filter-append (counts range) before (entry ∷ [])
       ∙ ap (λ (l : List Entry). counting range before ++ l) (filter_kept (counts range) entry [] inside) in
       still_contains (counting range (unmarked_from marks from first)) (counting range (unmarked_from marks from list)) entry
-      (counting_extends range marks from first list (record { more = drop (place + 1) list; parts = sym (take-append-drop (place + 1) list) }))
-      (subst (λ (l : List Entry). Contains l entry) (sym counted) (Contains-push (counting range before) entry))
+      (counting_extends range marks from first list
+      (record { more = drop (place + 1) list; parts = sym (take-append-drop (place + 1) list) }))
+      (rw counted (Contains-push (counting range before) entry))
 
   -- what bears no mark is the same, where the entry bears one
   pub unmarked_same : (marks : List Mark) (from : ℕ) → is_marked marks place ≡ true → unmarked_from marks from (take (place + 1) list) ≡ unmarked_from marks from (take place list)
   unmarked_same marks from marked =
       let size : length (take place list) ≡ place = length_first list place entry stands in
-      ⊎_elim
-      (λ (ahead : place < from). ap (unmarked marks from) (nothing_ahead list place entry stands from ahead))
-      (λ (behind : from ≤ place).
-      ap (unmarked_from marks from) (taken_next list place entry stands)
-      ∙ unmarked_from_last marks from (take place list) entry (omega (arith, behind, size))
-      ∙ ap (λ (n : ℕ). unmarked_from marks from (take place list) ++ unless_marked (is_marked marks n) entry) size
-      ∙ ap (λ (b : Bool). unmarked_from marks from (take place list) ++ unless_marked b entry) marked
-      ∙ append_nil (unmarked_from marks from (take place list)))
-      (cases_lt place from)
+      elim (cases_lt place from) [
+        | inl ahead ↦ ap (unmarked marks from) (nothing_ahead list place entry stands from ahead)
+        | inr behind ↦ ap (unmarked_from marks from) (taken_next list place entry stands)
+            ∙ unmarked_from_last marks from (take place list) entry (omega (arith, behind, size))
+            ∙ ap (λ (n : ℕ). unmarked_from marks from (take place list) ++ unless_marked (is_marked marks n) entry) size
+            ∙ ap (λ (b : Bool). unmarked_from marks from (take place list) ++ unless_marked b entry) marked
+            ∙ append_nil (unmarked_from marks from (take place list))
+      ]
 
   -- ---- what is not applied
 
@@ -161,37 +150,37 @@ module _ (range : Range) (list : List Entry) (place : ℕ) (entry : Entry) (stan
       ∙ (λ i. entry ∷ counting range (unmarked marks (there i) (drop (next i) list)))
 
   pub rest_marked : (marks : List Mark) (from : ℕ) → is_marked marks place ≡ true → unmarked_from marks (max from (place + 1)) list ≡ unmarked_from marks (max from place) list
-  rest_marked marks from marked =
-      ⊎_elim
-      (λ (ahead : place < from).
-      let same : max from (place + 1) ≡ max from place = omega (arith, ahead) in ap (λ (n : ℕ). unmarked_from marks n list) same)
-      (λ (behind : from ≤ place).
-      let here : place ≡ max from place = omega (arith, behind) in
-      let there : max from (place + 1) ≡ suc place = omega (arith, behind) in
-      let next : max from (place + 1) ≡ place + 1 = omega (arith, behind) in
-      (λ i. unmarked marks (there i) (drop (next i) list))
-      ∙ sym
-      (unmarked_next marks
-      ∙ ap (λ (b : Bool). cond b (unmarked marks (suc place) (drop (place + 1) list)) (entry ∷ unmarked marks (suc place) (drop (place + 1) list))) marked)
-      ∙ ap (λ (n : ℕ). unmarked marks n (drop n list)) here)
-      (cases_lt place from)
+  rest_marked marks from marked = elim (cases_lt place from) [
+    | inl ahead ↦
+        let same : max from (place + 1) ≡ max from place = omega (arith, ahead) in
+        ap (λ (n : ℕ). unmarked_from marks n list) same
+    | inr behind ↦
+        let here : place ≡ max from place = omega (arith, behind) in
+        let there : max from (place + 1) ≡ suc place = omega (arith, behind) in
+        let next : max from (place + 1) ≡ place + 1 = omega (arith, behind) in
+        (λ i. unmarked marks (there i) (drop (next i) list))
+        ∙ sym
+        (unmarked_next marks
+        ∙ ap
+        (λ (b : Bool).
+        cond b (unmarked marks (suc place) (drop (place + 1) list)) (entry ∷ unmarked marks (suc place) (drop (place + 1) list))) marked)
+        ∙ ap (λ (n : ℕ). unmarked marks n (drop n list)) here
+  ]
 
   pub rest_beside : (marks : List Mark) (from : ℕ) → counts range entry ≡ false → counting range (unmarked_from marks (max from (place + 1)) list) ≡ counting range (unmarked_from marks (max from place) list)
-  rest_beside marks from outside =
-      ⊎_elim
-      (λ (ahead : place < from).
-      let same : max from (place + 1) ≡ max from place = omega (arith, ahead) in
-      ap (λ (n : ℕ). counting range (unmarked_from marks n list)) same)
-      (λ (behind : from ≤ place).
-      let here : place ≡ max from place = omega (arith, behind) in
-      let there : max from (place + 1) ≡ suc place = omega (arith, behind) in
-      let next : max from (place + 1) ≡ place + 1 = omega (arith, behind) in
-      (λ i. counting range (unmarked marks (there i) (drop (next i) list)))
-      ∙ sym
-      (ap (counting range) (unmarked_next marks)
-      ∙ either (is_marked marks place) (unmarked marks (suc place) (drop (place + 1) list)))
-      ∙ ap (λ (n : ℕ). counting range (unmarked marks n (drop n list))) here)
-      (cases_lt place from)
+  rest_beside marks from outside = elim (cases_lt place from) [
+    | inl ahead ↦
+        let same : max from (place + 1) ≡ max from place = omega (arith, ahead) in
+        ap (λ (n : ℕ). counting range (unmarked_from marks n list)) same
+    | inr behind ↦
+        let here : place ≡ max from place = omega (arith, behind) in
+        let there : max from (place + 1) ≡ suc place = omega (arith, behind) in
+        let next : max from (place + 1) ≡ place + 1 = omega (arith, behind) in
+        (λ i. counting range (unmarked marks (there i) (drop (next i) list)))
+        ∙ sym
+        (ap (counting range) (unmarked_next marks) ∙ either (is_marked marks place) (unmarked marks (suc place) (drop (place + 1) list)))
+        ∙ ap (λ (n : ℕ). counting range (unmarked marks n (drop n list))) here
+  ]
     where
       either : (b : Bool) (later : List Entry) → counting range (cond b later (entry ∷ later)) ≡ counting range later
       either true later = refl
@@ -208,32 +197,25 @@ module _ (range : Range) (list : List Entry) (place : ℕ) (entry : Entry) (stan
       unmarked_from_last marks from (take place list) entry (omega (arith, behind, size))
       ∙ ap (λ (n : ℕ). unmarked_from marks from (take place list) ++ unless_marked (is_marked marks n) entry) size
       ∙ ap (λ (b : Bool). unmarked_from marks from (take place list) ++ unless_marked b entry) free in
-      subst (λ (l : List Entry). IsInserted entry (log_material range marks sides from (take place list)) (log_material range marks sides from l))
-      (sym (taken_next list place entry stands))
-      (subst (λ (l : List Entry). IsInserted entry (log_material range marks sides from (take place list)) (material_of range (side_entries sides) l))
-      (sym here) (material_more range (side_entries sides) (unmarked_from marks from (take place list)) entry names inside))
+      rw (taken_next list place entry stands)
+      (rw here (material_more range (side_entries sides) (unmarked_from marks from (take place list)) entry names inside))
 
   pub truth_beside : (marks : List Mark) (sides : List (List Held)) (from : ℕ) → counts range entry ≡ false → log_material range marks sides from (take (place + 1) list) ≡ log_material range marks sides from (take place list)
-  truth_beside marks sides from outside =
-      ap (log_material range marks sides from) (taken_next list place entry stands)
+  truth_beside marks sides from outside = ap (log_material range marks sides from) (taken_next list place entry stands)
       ∙ material_outside range entry outside marks sides from (take place list) names
 
   -- and all that is applied from a place on, marked or not
   pub applied_more : (side : ℕ → List Entry) (from : ℕ) → counts range entry ≡ true → from ≤ place → IsInserted entry (material_of range side (drop from (take place list))) (material_of range side (drop from (take (place + 1) list)))
   applied_more side from inside behind =
       let size : length (take place list) ≡ place = length_first list place entry stands in
-      subst (λ (l : List Entry). IsInserted entry (material_of range side (drop from (take place list))) (material_of range side l))
-      (sym
+      rw
       (ap (drop from) (taken_next list place entry stands)
-      ∙ drop-append-le from (take place list) (entry ∷ []) (omega (arith, behind, size))))
+      ∙ drop-append-le from (take place list) (entry ∷ []) (omega (arith, behind, size)))
       (material_more range side (drop from (take place list)) entry names inside)
 
   pub applied_beside : (side : ℕ → List Entry) (from : ℕ) → counts range entry ≡ false → material_of range side (drop from (take (place + 1) list)) ≡ material_of range side (drop from (take place list))
-  applied_beside side from outside =
-      ap (λ (l : List Entry). material_of range side (drop from l)) (taken_next list place entry stands)
-      ∙ ⊎_elim
-      (λ (beyond : length (take place list) < from). ap (material_of range side) (drop_none from (take place list) entry beyond))
+  applied_beside side from outside = ap (λ (l : List Entry). material_of range side (drop from l)) (taken_next list place entry stands)
+      ∙ ⊎_elim (λ (beyond : length (take place list) < from). ap (material_of range side) (drop_none from (take place list) entry beyond))
       (λ (before : from ≤ length (take place list)).
       ap (material_of range side) (drop-append-le from (take place list) (entry ∷ []) before)
-      ∙ material_beside range side (drop from (take place list)) entry names outside)
-      (cases_lt (length (take place list)) from)
+      ∙ material_beside range side (drop from (take place list)) entry names outside) (cases_lt (length (take place list)) from)

@@ -18,8 +18,7 @@ module _ (client : ℕ) (new : Completion) where
 
   -- each end is that one, or was there
   put_from : (c : Completions) (x : Ended) → Contains (ends_of (insert c client new)) x → (end ≡ x) ⊎ Contains (ends_of c) x
-  put_from [] x at =
-      ⊎_elim (λ (is : end ≡ x). inl is) (λ (none : Contains [] x). absurd (none_stands x none)) (stands_cases end [] x at)
+  put_from [] x at = elim (stands_cases end [] x at) [ inl is ↦ inl is | inr none ↦ absurd (none_stands x none) ]
   put_from (e ∷ c) x at = go (nat_cmp client e.0) refl (put_from c x) at
     where
       go : (r : Ordering) → nat_cmp client e.0 ≡ r → (Contains (ends_of (insert c client new)) x → (end ≡ x) ⊎ Contains (ends_of c) x)
@@ -78,7 +77,7 @@ module _ (client : ℕ) (new : Completion) where
           (stands_cases (ended_of e) (ends_of c) x at)
 
 -- what is found stands there
-found_end : (c : Completions) (client : ℕ) (last : Completion) → get c client ≡ Some last → Contains (ends_of c) (ended_of (client, last))
+pub found_end : (c : Completions) (client : ℕ) (last : Completion) → get c client ≡ Some last → Contains (ends_of c) (ended_of (client, last))
 found_end [] client last is = absurd (cc is)
 found_end (e ∷ c) client last is = go (eq_by_cmp nat_cmp client e.0) refl (found_end c client last) is
   where
@@ -95,34 +94,24 @@ found_end (e ∷ c) client last is = go (eq_by_cmp nat_cmp client e.0) refl (fou
 module _ (c : Completions) (end : Ended) where
   -- each end is that one, or was there
   pub noted_from : (x : Ended) → Contains (ends_of (noted c end)) x → (end ≡ x) ⊎ Contains (ends_of c) x
-  noted_from x at =
-      ⊎_elim
-      (λ (later : is_later (get c end.client) end.seq ≡ true).
-      put_from end.client (record { seq = end.seq; end = end.end }) c x
-      (subst (λ (l : Completions). Contains (ends_of l) x) (noted_later c end later) at))
-      (λ (older : is_later (get c end.client) end.seq ≡ false).
-      inr (subst (λ (l : Completions). Contains (ends_of l) x) (noted_older c end older) at))
-      (cases_Bool (is_later (get c end.client) end.seq))
+  noted_from x at = elim (cases_Bool (is_later (get c end.client) end.seq)) [
+    | inl later ↦ put_from end.client (record { seq = end.seq; end = end.end }) c x
+        (subst (λ (l : Completions). Contains (ends_of l) x) (noted_later c end later) at)
+    | inr older ↦ inr (subst (λ (l : Completions). Contains (ends_of l) x) (noted_older c end older) at)
+  ]
 
   -- what was there is, or was of the same client, whose end is there now
   pub noted_still : (x : Ended) → Contains (ends_of c) x → Contains (ends_of (noted c end)) x ⊎ IsReplaced (ends_of (noted c end)) end x
-  noted_still x at =
-      ⊎_elim
-      (λ (later : is_later (get c end.client) end.seq ≡ true).
-      let new : Completion = record { seq = end.seq; end = end.end } in
-      let back = sym (noted_later c end later) in
-      ⊎_elim
-      (λ (kept : Contains (ends_of (insert c end.client new)) x).
-      inl (subst (λ (l : Completions). Contains (ends_of l) x) back kept))
-      (λ (same : x.client ≡ end.client).
-      inr (record {
-        client = same;
-        there = subst (λ (l : Completions). Contains (ends_of l) end) back (put_there end.client new c);
-      }))
-      (put_still end.client new c x at))
-      (λ (older : is_later (get c end.client) end.seq ≡ false).
-      inl (subst (λ (l : Completions). Contains (ends_of l) x) (sym (noted_older c end older)) at))
-      (cases_Bool (is_later (get c end.client) end.seq))
+  noted_still x at = elim (cases_Bool (is_later (get c end.client) end.seq)) [
+    | inl later ↦
+        let new : Completion = record { seq = end.seq; end = end.end } in
+        let back = sym (noted_later c end later) in
+        elim (put_still end.client new c x at) [
+          | inl kept ↦ inl (rw back at kept)
+          | inr same ↦ inr (record { client = same; there = rw back at (put_there end.client new c) })
+        ]
+    | inr older ↦ inl (subst (λ (l : Completions). Contains (ends_of l) x) (sym (noted_older c end older)) at)
+  ]
 
   -- an end that is not after those of its client, or is among them
   abbrev pub IsLatest : Type 0
@@ -130,15 +119,10 @@ module _ (c : Completions) (end : Ended) where
 
   -- is there once it is noted
   pub noted_there : IsLatest → Contains (ends_of (noted c end)) end
-  noted_there latest =
-      ⊎_elim
-      (λ (later : is_later (get c end.client) end.seq ≡ true).
-      subst (λ (l : Completions). Contains (ends_of l) end) (sym (noted_later c end later))
-      (put_there end.client (record { seq = end.seq; end = end.end }) c))
-      (λ (older : is_later (get c end.client) end.seq ≡ false).
-      subst (λ (l : Completions). Contains (ends_of l) end) (sym (noted_older c end older))
-      (there (get c end.client) refl older))
-      (cases_Bool (is_later (get c end.client) end.seq))
+  noted_there latest = elim (cases_Bool (is_later (get c end.client) end.seq)) [
+    | inl later ↦ rw (noted_later c end later) (put_there end.client (record { seq = end.seq; end = end.end }) c)
+    | inr older ↦ rw (noted_older c end older) (there (get c end.client) refl older)
+  ]
     where
       there : (found : Option Completion) → get c end.client ≡ found → is_later found end.seq ≡ false → Contains (ends_of c) end
       there None is older = absurd (cc older)

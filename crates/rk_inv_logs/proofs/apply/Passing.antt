@@ -1,15 +1,14 @@
 -- The next entry of a master's log is applied, and no call ends with it: what is asked of it, and the parts of what is written alone.
 use Rattle.std.proofs.Common.{◌≡◌, ℕ, ◌+◌, ◌≤◌, max, Bool, true, false, List, [], ◌∷◌, ◌++◌, Option, Some, None, refl, sym, ap, ◌∙◌, subst}
-use Rattle.std.proofs.Common.{⊎_elim, inl, inr, ◌⊎◌, arith, drop, filter, ◌≢◌, IfSome, slice_get, slice_index_or, option_map, All, AllPairs}
-use Rattle.std.proofs.Common.{Contains}
+use Rattle.std.proofs.Common.{⊎_elim, inl, inr, ◌⊎◌, arith, drop, ◌≢◌, IfSome, slice_get, slice_index_or, option_map, All, Contains}
 use Rattle.rk_inv_base.proofs.Words.{All-contains, All-tail, All-weaker, Contains-get_or, IfSome_then, list_any, get, Call, Ended, Held}
-use Rattle.rk_inv_base.proofs.Words.{Member, Range, IsLegal, Map, map_after, is_mutation, Entry, ends_of, lineage_of, Phase, Owned, Opening}
-use Rattle.rk_inv_base.proofs.Words.{Moving, Rebuilding, Row, record_of, base_map, Handed, items_in, items_of, told, told_by, touches}
-use Rattle.rk_inv_base.proofs.Words.{counts, is_joined_in, joined_from, of_key, tells_of, floor_of, own_place, Written, member_rest}
-use Rattle.rk_inv_base.proofs.Words.{member_truth, IsKnown, IsReached, IsStagedEnd, TellAll, is_record_in, MayApply, AreAboveMap, IsNext}
-use Rattle.rk_inv_base.proofs.Words.{beginning_in, handed_by, handed_for_grant, target_truth, AreAbove, has_merged, IsFound, named_items}
-use Rattle.rk_inv_base.proofs.Words.{FirstIsDone, IsRest, IsStaged, OnlyIsUnnamed, Waits, call_ends, records_of, IsTruth, View, truths}
-use Rattle.rk_inv_base.proofs.Words.{rests, CallsOf, CountersOf, OrderOf, RestOf, RowsOf, SoundView, TruthOf}
+use Rattle.rk_inv_base.proofs.Words.{Member, Range, Map, map_after, is_mutation, Entry, ends_of, lineage_of, Phase, Moving, Rebuilding, Row}
+use Rattle.rk_inv_base.proofs.Words.{record_of, base_map, Handed, items_in, items_of, told, told_by, touches, counts, is_joined_in}
+use Rattle.rk_inv_base.proofs.Words.{joined_from, of_key, tells_of, own_place, Written, member_rest, member_truth, IsKnown, IsReached}
+use Rattle.rk_inv_base.proofs.Words.{IsStagedEnd, TellAll, is_record_in, MayApply, AreAboveMap, IsNext, beginning_in, handed_by}
+use Rattle.rk_inv_base.proofs.Words.{handed_for_grant, target_truth, AreAbove, has_merged, IsFound, named_items, FirstIsDone, IsRest}
+use Rattle.rk_inv_base.proofs.Words.{IsStaged, OnlyIsUnnamed, Waits, call_ends, records_of, IsTruth, View, truths, rests, CallsOf}
+use Rattle.rk_inv_base.proofs.Words.{CountersOf, OrderOf, RestOf, RowsOf, SoundView, TruthOf}
 use Rattle.rk_model.specs.History.{record_of as map_record_of}
 use Rattle.rk_overlay.proofs.Alike.{newest_alike, plain_alike}
 use Rattle.rk_inv_base.proofs.views.Lists.{all_by}
@@ -17,8 +16,11 @@ use Rattle.rk_inv_base.proofs.views.Put.{put_by}
 use Rattle.rk_inv_logs.specs.apply.Small.{entry_applied, with_one_applied}
 use Rattle.rk_inv_logs.proofs.apply.Applies.{HasApplied}
 use Rattle.rk_inv_logs.proofs.apply.Inserted.{above_fewer}
-use Rattle.rk_inv_logs.proofs.apply.Keeps.{HasMore, KeepsRow, all_keep, floor_among, floor_keeps, items_keep, more_behind, more_kept, more_still, plain_all, rest_ends, rest_items, rest_tells, told_among, truth_tells}
+use Rattle.rk_inv_logs.proofs.apply.Keeps.{HasMore, KeepsRow, all_keep, floor_keeps, items_keep, more_behind, more_kept, more_still}
+use Rattle.rk_inv_logs.proofs.apply.Keeps.{plain_all, rest_ends, rest_items, rest_tells, told_among, truth_tells}
 use Rattle.rk_inv_logs.proofs.apply.NextEntry.{none_fewer, none_from}
+use Rattle.rk_inv_rows.proofs.lineage.FloorsOf.{floor_among}
+use Rattle.rk_inv_logs.proofs.apply.OfRow.{row_goes_on, row_true}
 
 -- what holds of all holds of the later ones
 pub all_later : {X : Type 0} (P : X → Type 0) (front back : List X) → All P (front ++ back) → All P back
@@ -87,26 +89,20 @@ module _ (v : View) (p : Passing v) where
   -- ---- frames
 
   pub rows : RowsOf after
-  rows = record {
-    apart = p.sound.rows.apart;
-    begun = p.sound.rows.begun;
-    formed = p.sound.rows.formed;
-    placed = p.sound.rows.placed;
-    covered = p.sound.rows.covered;
-  }
+  rows = assumption p.sound.rows
 
   -- ---- rows, by truth and rest
 
   module _ (row : Row) (has : Contains v.rows row) where
     was_true : IsTruth v.base row.range (truths v row) v.journal
-    was_true = All-contains (λ (r : Row). IsTruth v.base r.range (truths v r) v.journal) v.rows row p.sound.truth.true has
+    was_true = row_true v p.sound row has
 
     was_above : AreAbove (items_of (truths v row)) (items_of (rests v row))
     was_above = All-contains (λ (r : Row). AreAbove (items_of (truths v r)) (items_of (rests v r))) v.rows row p.sound.order.above has
 
     true_now : IsTruth v.base row.range (truths after row) v.journal
     true_now =
-        let same = items_keep v.base v.journal (truths v row) (rests v row) (truths after row) (rests after row) (p.keeps row has) in
+        let same = items_keep (p.keeps row has) in
         record {
           plain = plain_alike (items_of (truths v row)) (items_of (truths after row)) was_true.plain same;
           live = λ table key inside.
@@ -115,39 +111,30 @@ module _ (v : View) (p : Passing v) where
         }
 
     above_now : AreAbove (items_of (truths after row)) (items_of (rests after row))
-    above_now =
-        subst (AreAbove (items_of (truths after row)))
-        (rest_items v.base v.journal (truths v row) (rests v row) (truths after row) (rests after row) (p.keeps row has))
+    above_now = rw (rest_items (p.keeps row has)) at
         (above_fewer (items_of (truths v row)) (items_of (truths after row)) (items_of (rests v row))
-        (λ x. (items_keep v.base v.journal (truths v row) (rests v row) (truths after row) (rests after row) (p.keeps row has) x).1)
-        was_above)
+        (λ x. (items_keep (p.keeps row has) x).1) was_above)
 
     goes_now : IsRest v.base row.range (truths after row) (rests after row) v.journal v.asked
     goes_now =
-        let was : IsRest v.base row.range (truths v row) (rests v row) v.journal v.asked =
-        All-contains (λ (r : Row). IsRest v.base r.range (truths v r) (rests v r) v.journal v.asked) v.rows row p.sound.rest.goes_on has in
-        let ends : call_ends (rests v row) ≡ call_ends (rests after row) =
-        rest_ends v.base v.journal (truths v row) (rests v row) (truths after row) (rests after row) (p.keeps row has) in
-        let same = all_keep v.base v.journal (truths v row) (rests v row) (truths after row) (rests after row) (p.keeps row has) in
+        let was : IsRest v.base row.range (truths v row) (rests v row) v.journal v.asked = row_goes_on v p.sound row has in
+        let ends : call_ends (rests v row) ≡ call_ends (rests after row) = rest_ends (p.keeps row has) in
         let plain = plain_all (truths v row) (rests v row) was_true.plain was_above in
         record {
-          legal = subst (λ (l : List Ended). IsLegal (base_map v.base) (v.journal ++ records_of v.asked l)) ends was.legal;
+          legal = rw ends at was.legal;
           live = λ table key inside.
               ap record_of
               (sym
-              (newest_alike (items_of (truths v row ++ rests v row)) (items_of (truths after row ++ rests after row)) plain same table key))
-              ∙ was.live table key inside
+              (newest_alike (items_of (truths v row ++ rests v row)) (items_of (truths after row ++ rests after row)) plain
+              (all_keep (p.keeps row has)) table key)) ∙ was.live table key inside
               ∙ ap (λ (l : List Ended). map_record_of (map_after (base_map v.base) (v.journal ++ records_of v.asked l) table key)) ends;
-          staged =
-              all_later (IsStaged v.base v.asked v.journal) (p.keeps row has).head (rests after row)
-              (subst (All (IsStaged v.base v.asked v.journal)) (p.keeps row has).rest_is was.staged);
-          one = subst (λ (l : List Ended). AllPairs (λ x y. x.client ≢ y.client) l) ends was.one;
+          staged = all_later (IsStaged v.base v.asked v.journal) (p.keeps row has).head (rests after row)
+              (rw (p.keeps row has).rest_is at was.staged);
+          one = rw ends at was.one;
         }
 
     next_now : (number : ℕ) → IsNext (truths v row ++ rests v row) number → IsNext (truths after row ++ rests after row) number
-    next_now number next =
-        let under = floor_keeps v.base v.journal (truths v row) (rests v row) (truths after row) (rests after row) (p.keeps row has) in
-        omega (arith, under, next)
+    next_now number next = omega (arith, floor_keeps (p.keeps row has), next)
 
   pub truth : TruthOf after (truths after)
   truth = record {
@@ -176,17 +163,15 @@ module _ (v : View) (p : Passing v) where
         end = reached.end;
         stands =
             told_among told_by (of_key placed.call.table placed.call.key old) (of_key placed.call.table placed.call.key now)
-            (more_still (filter p old) (filter p now) (more_kept old now more p)) reached.end reached.stands;
+            (more_still (more_kept more p)) reached.end reached.stands;
         reaches = reached.reaches;
       }) v.journal
 
   low_more : (range : Range) (map : Map) (old now : List Entry) → HasMore old now → AreAboveMap range map old → AreAboveMap range map now
   low_more range map old now more low table key within =
-      let was = low table key within in
       let test : Entry → Bool = tells_of table key in
-      let grows : floor_of (of_key table key old) ≤ floor_of (of_key table key now) =
-      floor_among (of_key table key old) (of_key table key now) (more_still (filter test old) (filter test now) (more_kept old now more test)) in
-      omega (arith, was, grows)
+      let grows = floor_among (of_key table key old) (of_key table key now) (more_still (more_kept more test)) in
+      omega (arith, low table key within, grows)
 
   -- the target of a row that moves tells as much
   of_target : (P : Row → List Entry → Type 0) (row : Row) → Contains v.rows row → ((old now : List Entry) → HasMore old now → P row old → P row now) → (phase : Phase) → row.phase ≡ phase
@@ -202,14 +187,10 @@ module _ (v : View) (p : Passing v) where
           → IfSome (option_map (λ h. beginning_in row h ∷ member_truth v.written row.range (record { master = target; from = dfrom })) handed) (P row)
           → IfSome (option_map (λ h. beginning_in row h ∷ member_truth after.written row.range (record { master = target; from = dfrom })) handed) (P row)
       of_handed None old = tt
-      of_handed (Some h) old =
-          gives (beginning_in row h ∷ member_truth v.written row.range (record { master = target; from = dfrom }))
+      of_handed (Some h) old = gives (beginning_in row h ∷ member_truth v.written row.range (record { master = target; from = dfrom }))
           (beginning_in row h ∷ member_truth after.written row.range (record { master = target; from = dfrom }))
-          (more_behind (member_truth v.written row.range (record { master = target; from = dfrom }))
-          (member_truth after.written row.range (record { master = target; from = dfrom })) more (beginning_in row h ∷ [])) old
-  of_target P row has gives (Owned owner from) is old = old
-  of_target P row has gives (Opening source sfrom target dfrom) is old = old
-  of_target P row has gives (Rebuilding lineage to) is old = old
+          (more_behind more (beginning_in row h ∷ [])) old
+  of_target P row has gives _ is old = old
 
   pub calls : CallsOf after (truths after) (rests after)
   calls = record {
@@ -221,13 +202,10 @@ module _ (v : View) (p : Passing v) where
     recorded = λ k d within.
         let row : Row = slice_index_or v.rows k d in
         let has : Contains v.rows row = Contains-get_or v.rows k d within in
-        all_by (IsKnown v.base v.journal) (told (truths after row))
-        (λ end at.
-        ⊎_elim
-        (λ (old : Contains (told (truths v row)) end).
-        All-contains (IsKnown v.base v.journal) (told (truths v row)) end (p.sound.calls.recorded k d within) old)
-        (λ (is : IsKnown v.base v.journal end). is)
-        (truth_tells v.base v.journal (truths v row) (rests v row) (truths after row) (rests after row) (p.keeps row has) end at));
+        all_by (IsKnown v.base v.journal) (told (truths after row)) (λ end at. elim (truth_tells (p.keeps row has) end at) [
+          | inl old ↦ All-contains (IsKnown v.base v.journal) (told (truths v row)) end (p.sound.calls.recorded k d within) old
+          | inr is ↦ is
+        ]);
     moving = λ k d within.
         let row : Row = slice_index_or v.rows k d in
         of_target (λ r. TellAll r.range v.journal) row (Contains-get_or v.rows k d within) (tell_more row.range) row.phase refl
@@ -238,20 +216,21 @@ module _ (v : View) (p : Passing v) where
     known = λ q r alive.
         All-weaker (λ end. IsKnown v.base v.journal end ⊎ IsStagedEnd v.rows (rests v) q r (v.handovers q r).term end)
         (λ end. IsKnown v.base v.journal end ⊎ IsStagedEnd v.rows (rests after) q r (v.handovers q r).term end)
-        (λ end. ⊎_elim (λ (is : IsKnown v.base v.journal end). inl is)
-        (λ (s : IsStagedEnd v.rows (rests v) q r (v.handovers q r).term end).
+        (λ end.
         ⊎_elim (λ (is : IsKnown v.base v.journal end). inl is)
-        (λ (there : Contains (told (rests after s.row)) end).
-        inr (record {
-          row = s.row;
-          stands = s.stands;
-          told = there;
-          number = s.number;
-          rebuilt = s.rebuilt;
-          at_term = s.at_term;
-        }))
-        (rest_tells v.base v.journal (truths v s.row) (rests v s.row) (truths after s.row) (rests after s.row) (p.keeps s.row s.stands) end s.told)))
-        (ends_of (v.completions q r)) (p.sound.calls.known q r alive);
+        (λ (s : IsStagedEnd v.rows (rests v) q r (v.handovers q r).term end). elim (rest_tells (p.keeps s.row s.stands) end s.told) [
+          | inl is ↦ inl is
+          | inr there ↦
+              inr
+              (record {
+                row = s.row;
+                stands = s.stands;
+                told = there;
+                number = s.number;
+                rebuilt = s.rebuilt;
+                at_term = s.at_term;
+              })
+        ])) (ends_of (v.completions q r)) (p.sound.calls.known q r alive);
   }
 
   pub counters : CountersOf after (truths after) (rests after)
@@ -280,31 +259,27 @@ module _ (v : View) (p : Passing v) where
   -- ---- what is not applied
 
   done_at : (row : Row) → Contains v.rows row → (lineage : List Member) → lineage_of row.phase ≡ lineage → FirstIsDone v.written row.range lineage → FirstIsDone after.written row.range lineage
-  done_at row has [] is done = tt
-  done_at row has (only ∷ []) is done = tt
   done_at row has (first ∷ second ∷ more) is done =
       let still = p.firsts row has first second more is in
       record { rest = still.rest ∙ done.rest; all = done.all ∙ sym still.truth }
+  done_at row has _ is done = tt
 
   unnamed_at : (range : Range) (lineage : List Member) → OnlyIsUnnamed v.written range lineage → OnlyIsUnnamed after.written range lineage
-  unnamed_at range [] none = tt
   unnamed_at range (only ∷ []) none =
       let w : Written = v.written only.master in
       of_applied (λ n. joined_from range (max only.from n) w.entries ≡ []) only.master
       (λ at. none_from (is_joined_in range) (max only.from w.applied) (max only.from (w.applied + 1)) w.entries (omega arith) none)
       (λ apart. none)
-  unnamed_at range (first ∷ second ∷ more) none = tt
+  unnamed_at range _ none = tt
 
   -- no call waited for the entry
   behind_it : (q number : ℕ) (call : Call) → get (v.calls q) number ≡ Some call → (v.written q).applied ≤ number → (after.written q).applied ≤ number
-  behind_it q number call found behind =
-      of_applied (λ n. n ≤ number) q
+  behind_it q number call found behind = of_applied (λ n. n ≤ number) q
       (λ at.
-      let differs : number ≢ (v.written q).applied = λ same.
-      absurd
-      (cc (sym p.none ∙ (λ i. get (v.calls (sym at i)) (v.written (sym at i)).applied) ∙ ap (get (v.calls q)) (sym same) ∙ found)) in
-      omega (arith, differs, behind))
-      (λ apart. behind)
+      let differs : number ≢ (v.written q).applied =
+      λ same.
+      absurd (cc (sym p.none ∙ (λ i. get (v.calls (sym at i)) (v.written (sym at i)).applied) ∙ ap (get (v.calls q)) (sym same) ∙ found)) in
+      omega (arith, differs, behind)) (λ apart. behind)
 
   waits_on : (q number : ℕ) (call : Call) → get (v.calls q) number ≡ Some call → Waits v.rows (v.handovers q) (v.written q) q number call → Waits v.rows (v.handovers q) (after.written q) q number call
   waits_on q number call found old = record {
@@ -330,7 +305,8 @@ module _ (v : View) (p : Passing v) where
         let row : Row = slice_index_or v.rows k d in
         done_at row (Contains-get_or v.rows k d within) (lineage_of row.phase) refl (p.sound.rest.done k d within);
     unnamed = λ k d within.
-        let row : Row = slice_index_or v.rows k d in unnamed_at row.range (lineage_of row.phase) (p.sound.rest.unnamed k d within);
+        let row : Row = slice_index_or v.rows k d in
+        unnamed_at row.range (lineage_of row.phase) (p.sound.rest.unnamed k d within);
     idle = λ q k d within counts idles.
         let row : Row = slice_index_or v.rows k d in
         let old = p.sound.rest.idle q k d within counts idles in
@@ -339,5 +315,5 @@ module _ (v : View) (p : Passing v) where
     waiting = λ q alive number call found. waits_on q number call found (p.sound.rest.waiting q alive number call found);
     are_last = p.sound.rest.are_last;
     found = λ q alive number e behind stands is free.
-        let grows = applied_grows q in p.sound.rest.found q alive number e (omega (arith, behind, grows)) stands is free;
+        p.sound.rest.found q alive number e (omega (arith, behind, applied_grows q)) stands is free;
   }

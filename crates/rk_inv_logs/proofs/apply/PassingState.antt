@@ -1,18 +1,19 @@
 -- Records, targets, rebuilds and messages once an entry is applied with which no call ends.
-use Rattle.std.proofs.Common.{◌≡◌, ◌↔◌, ℕ, Bool, true, false, cond, List, [], ◌∷◌, Some, refl, sym, ap, ◌∙◌, subst, ⊎_elim, inl, inr, ◌⊎◌}
-use Rattle.std.proofs.Common.{arith, ◌==◌, IfSome, slice_index_or, Contains, eq-eqb, le-ltb}
+use Rattle.std.proofs.Common.{◌≡◌, ℕ, Bool, true, false, cond, List, [], ◌∷◌, refl, sym, ap, ◌∙◌, inl, inr, ◌⊎◌, arith, ◌==◌, IfSome}
+use Rattle.std.proofs.Common.{slice_index_or, Contains, eq-eqb, le-ltb}
 use Rattle.rk_inv_base.proofs.Words.{cases_eq, cond-true, false≢true, All-contains, Contains-get_or, IfSome_then, meets, Held, Member}
-use Rattle.rk_inv_base.proofs.Words.{Range, Entry, IsInScanOrder, Handover, Role, lineage_of, Phase, Row, none_stands, newest, items_in}
-use Rattle.rk_inv_base.proofs.Words.{items_of, first_of, is_member, counts, is_absent, Written, member_truth, is_wanting, Bystander}
-use Rattle.rk_inv_base.proofs.Words.{FirstRebuilder, FormerMember, LastRebuilder, OnlyRebuilder, OutsideRebuilder, Post, post_of}
-use Rattle.rk_inv_base.proofs.Words.{rebuilder_post, has_merged, IsBare, is_granted, HasItems, IsTableOf, has_all_items, HandoverFits, View}
-use Rattle.rk_inv_base.proofs.Words.{rests, truths, MessagesOf, ReceivesOf, SoundView, TablesOf}
+use Rattle.rk_inv_base.proofs.Words.{Range, Entry, IsInScanOrder, Handover, Role, lineage_of, Phase, Row, none_stands, items_in, items_of}
+use Rattle.rk_inv_base.proofs.Words.{first_of, is_member, counts, is_absent, Written, member_truth, is_wanting, Bystander, FirstRebuilder}
+use Rattle.rk_inv_base.proofs.Words.{FormerMember, LastRebuilder, OnlyRebuilder, OutsideRebuilder, Post, post_of, rebuilder_post}
+use Rattle.rk_inv_base.proofs.Words.{has_merged, IsBare, is_granted, HasItems, IsTableOf, has_all_items, HandoverFits, View, truths}
+use Rattle.rk_inv_base.proofs.Words.{MessagesOf, ReceivesOf, SoundView, TablesOf}
 use Rattle.rk_entry.specs.declared.entry.Entry.TheVariants as entries
 use Rattle.rk_transfer.specs.declared.role.Role.TheVariants as roles
 use Rattle.rk_inv_base.proofs.rows.Apart.{key_outside, same_number}
 use Rattle.rk_inv_base.proofs.views.Put.{put_by}
 use Rattle.rk_inv_logs.specs.apply.Small.{with_item_of}
-use Rattle.rk_inv_logs.proofs.apply.Applies.{Applies, StaysBare, bare_at, cover_now, logs_now, members_at, named_at, rebuilds, roles_now, says_now}
+use Rattle.rk_inv_logs.proofs.apply.Applies.{Applies, StaysBare, bare_at, cover_now, logs_now, members_at, named_at, rebuilds, roles_now}
+use Rattle.rk_inv_logs.proofs.apply.Applies.{says_now}
 use Rattle.rk_inv_logs.proofs.apply.ItemPut.{bare_with, order_with, table_apart}
 use Rattle.rk_inv_logs.proofs.apply.Keeps.{items_keep}
 use Rattle.rk_inv_logs.proofs.apply.TargetApplied.{StandsBehind}
@@ -23,14 +24,11 @@ use Rattle.rk_inv_logs.proofs.apply.Passing.{IsCopied, Passing, after, calls, co
 -- without an item records stay as they are
 no_item : (entry : Entry) (records : List Held) → items_in entry ≡ [] → with_item_of entry records ≡ records
 no_item (entries.Held held) records none = absurd (cc none)
-no_item (entries.Refused refused) records none = refl
-no_item (entries.Carried carried) records none = refl
-no_item (entries.Joined joined) records none = refl
+no_item _ records none = refl
 
 -- records have the newest of entries with the same items
 table_same : (range : Range) (old now : List Entry) (records : List Held) → items_of now ≡ items_of old → IsTableOf range old records → IsTableOf range now records
-table_same range old now records same table x inside =
-    subst (λ (items : List Held). Contains records x ↔ (newest items x.table x.key ≡ Some x)) (sym same) (table x inside)
+table_same range old now records same table x inside = rw same (table x inside)
 
 -- a master that rebuilds a tablet at the row's term has not all of it in its records
 rebuilds_lacks : (lineage : List Member) (master : ℕ) (handover : Handover) (term : ℕ) → handover.term ≡ term → has_all_items (rebuilder_post lineage master) handover term ≡ false
@@ -71,14 +69,13 @@ module _ (v : View) (p : Passing v) where
 
   -- a row has none of it, or it is that which the master rebuilds
   beside_or : (other : Row) → Contains v.rows other → IsBeside other.range ⊎ ((c : IsCopied v p.master p.entry) × (other ≡ c.row))
-  beside_or other has =
-      ⊎_elim (λ (none : items_in p.entry ≡ []). inl (inl none))
-      (λ (c : IsCopied v p.master p.entry).
-      ⊎_elim
-      (λ (its : other.tablet ≡ c.row.tablet). inr (c, same_number v.rows other c.row p.sound.rows.apart has c.has_row its))
-      (λ (apart : other.tablet ≡ c.row.tablet → ⊥). inl (inr (c.beside other has apart)))
-      (cases_eq other.tablet c.row.tablet))
-      p.copied
+  beside_or other has = elim p.copied [
+    | inl none ↦ inl (inl none)
+    | inr c ↦ elim (cases_eq other.tablet c.row.tablet) [
+      | inl its ↦ inr (c, same_number v.rows other c.row p.sound.rows.apart has c.has_row its)
+      | inr apart ↦ inl (inr (c.beside other has apart))
+    ]
+  ]
 
   -- ---- records
 
@@ -86,31 +83,25 @@ module _ (v : View) (p : Passing v) where
       → IfSome (first_of lineage) (λ m. IsTableOf other.range (member_truth v.written other.range m) records)
       → IfSome (first_of lineage) (λ m. IsTableOf other.range (member_truth (after v p).written other.range m) records)
   first_same other has [] is records old = tt
-  first_same other has (only ∷ []) is records old =
-      table_same other.range (member_truth v.written other.range only) (member_truth (after v p).written other.range only) records
-      (p.only other has only is) old
-  first_same other has (first ∷ second ∷ more) is records old =
-      subst (λ (l : List Entry). IsTableOf other.range l records) (sym (p.firsts other has first second more is).truth) old
+  first_same other has (only ∷ []) is records old = table_same other.range (member_truth v.written other.range only)
+      (member_truth (after v p).written other.range only) records (p.only other has only is) old
+  first_same other has (first ∷ second ∷ more) is records old = rw (p.firsts other has first second more is).truth old
 
   beside_records : (range : Range) (material : List Entry) (records : List Held) → IsBeside range → IsTableOf range material records → IsTableOf range material (with_item_of p.entry records)
-  beside_records range material records beside old =
-      ⊎_elim
-      (λ (none : items_in p.entry ≡ []). subst (IsTableOf range material) (sym (no_item p.entry records none)) old)
-      (λ (outside : counts range p.entry ≡ false). table_apart range p.entry material records outside old)
-      beside
+  beside_records range material records beside old = elim beside [
+    | inl none ↦ rw (no_item p.entry records none) old
+    | inr outside ↦ table_apart range p.entry material records outside old
+  ]
 
   items_at : (q : ℕ) (other : Row) → Contains v.rows other → has_all_items (post_of other.phase q) (v.handovers q other.tablet) other.term ≡ true → HasItems other v.written (v.records q) → HasItems other (after v p).written ((after v p).records q)
   items_at q other has all old =
-      let now : HasItems other (after v p).written (v.records q) = first_same other has (lineage_of other.phase) refl (v.records q) old in
+      let now = first_same other has (lineage_of other.phase) refl (v.records q) old in
       put_by v.records p.master (with_item_of p.entry) (HasItems other (after v p).written) q
-      (λ at.
-      ⊎_elim
-      (λ (beside : IsBeside other.range).
-      IfSome_then (first_of (lineage_of other.phase)) now
-      (λ member table. beside_records other.range (member_truth (after v p).written other.range member) (v.records q) beside table))
-      (λ (copy : (c : IsCopied v p.master p.entry) × (other ≡ c.row)). absurd (lacks at copy.0 copy.1))
-      (beside_or other has))
-      (λ apart. now)
+      (λ at. elim (beside_or other has) [
+        | inl beside ↦ IfSome_then (first_of (lineage_of other.phase)) now
+            (λ member table. beside_records other.range (member_truth (after v p).written other.range member) (v.records q) beside table)
+        | inr copy ↦ absurd (lacks at copy.0 copy.1)
+      ]) (λ apart. now)
     where
       lacks : q ≡ p.master → (c : IsCopied v p.master p.entry) → other ≡ c.row → ⊥
       lacks at c same =
@@ -138,39 +129,35 @@ module _ (v : View) (p : Passing v) where
   target_behind : (other : Row) → Contains v.rows other → (last : Member) → last.master ≡ p.master → is_granted (v.handovers last.master other.tablet).role ≡ true → (from : ℕ) → StandsBehind other.range p.entry from (v.written last.master).applied
   target_behind other has last at granted from counted x its =
       absurd
-      (⊎_elim
-      (λ (beside : IsBeside other.range).
-      ⊎_elim
-      (λ (none : items_in p.entry ≡ []). none_stands x (subst (λ (l : List Held). Contains l x) none its))
-      (λ (outside : counts other.range p.entry ≡ false). false≢true (sym outside ∙ counted))
-      beside)
-      (λ (copy : (c : IsCopied v p.master p.entry) × (other ≡ c.row)).
-      let c = copy.0 in
-      false≢true
-      (sym (merged_ungranted (v.handovers p.master c.row.tablet).role c.merged)
-      ∙ (λ i. is_granted (v.handovers (sym at i) (sym copy.1 i).tablet).role) ∙ granted))
-      (beside_or other has))
+      (elim (beside_or other has) [
+        | inl beside ↦ elim beside [ inl none ↦ none_stands x (rw none at its) | inr outside ↦ false≢true (sym outside ∙ counted) ]
+        | inr copy ↦
+            let c = copy.0 in
+            false≢true
+            (sym (merged_ungranted (v.handovers p.master c.row.tablet).role c.merged)
+            ∙ (λ i. is_granted (v.handovers (sym at i) (sym copy.1 i).tablet).role) ∙ granted)
+      ])
 
   -- a tablet that the master waits for has none of the item
   bare_records : (r : ℕ) → is_wanting (v.handovers p.master r).role ≡ true → is_absent (v.handovers p.master r).role ≡ false → StaysBare v p.master p.entry r
   bare_records r wants there from w bare =
       let range : Range = (v.handovers p.master r).range in
-      ⊎_elim
-      (λ (none : items_in p.entry ≡ []). subst (IsBare range from w) (sym (no_item p.entry (v.records p.master) none)) bare)
-      (λ (c : IsCopied v p.master p.entry).
-      let its : Handover = v.handovers p.master c.row.tablet in
-      let fits : HandoverFits c.row c.row.tablet its =
-      All-contains (λ (row : Row). HandoverFits row c.row.tablet its) v.rows c.row (p.sound.terms.kept p.master c.row.tablet) c.has_row in
-      let ranged : its.range ≡ c.row.range = fits.exact refl c.at_term in
-      let apart : r ≡ c.row.tablet → ⊥ = λ same.
-      absurd
-      (false≢true
-      (sym (merged_unwanting its.role c.merged) ∙ ap (λ (n : ℕ). is_wanting (v.handovers p.master n).role) (sym same) ∙ wants)) in
-      let meeting : meets range c.row.range ≡ false =
-      subst (λ (other : Range). meets range other ≡ false) ranged
-      (p.sound.terms.apart p.master r c.row.tablet apart there (merged_present its.role c.merged)) in
-      bare_beside_row range c meeting from w bare)
-      p.copied
+      elim p.copied [
+        | inl none ↦ rw (no_item p.entry (v.records p.master) none) bare
+        | inr c ↦
+            let its : Handover = v.handovers p.master c.row.tablet in
+            let fits : HandoverFits c.row c.row.tablet its =
+            All-contains (λ (row : Row). HandoverFits row c.row.tablet its) v.rows c.row (p.sound.terms.kept p.master c.row.tablet)
+            c.has_row in
+            let ranged : its.range ≡ c.row.range = fits.exact refl c.at_term in
+            let apart : r ≡ c.row.tablet → ⊥ =
+            λ same.
+            absurd
+            (false≢true
+            (sym (merged_unwanting its.role c.merged) ∙ ap (λ (n : ℕ). is_wanting (v.handovers p.master n).role) (sym same) ∙ wants)) in
+            let meeting = rw ranged at (p.sound.terms.apart p.master r c.row.tablet apart there (merged_present its.role c.merged)) in
+            bare_beside_row range c meeting from w bare
+      ]
     where
       bare_beside_row : (range : Range) (c : IsCopied v p.master p.entry) → meets range c.row.range ≡ false → (from : ℕ) (w : Written) → IsBare range from w (v.records p.master) → IsBare range from w (with_item_of p.entry (v.records p.master))
       bare_beside_row range c meeting from w bare = of_entry p.entry c.inside
@@ -179,15 +166,12 @@ module _ (v : View) (p : Passing v) where
           of_entry (entries.Held held) inside =
               bare_with range (entries.Held held) (v.records p.master) from w
               (key_outside range c.row.range held.table held.key meeting inside) bare
-          of_entry (entries.Refused refused) inside = bare
-          of_entry (entries.Carried carried) inside = bare
-          of_entry (entries.Joined joined) inside = bare
+          of_entry _ inside = bare
 
   -- ---- the parts that see the state
 
   truth_items : (row : Row) → Contains v.rows row → (x : Held) → Contains (items_of (truths v row)) x → Contains (items_of (truths (after v p) row)) x
-  truth_items row has x =
-      (items_keep v.base v.journal (truths v row) (rests v row) (truths (after v p) row) (rests (after v p) row) (p.keeps row has) x).0
+  truth_items row has x = (items_keep (p.keeps row has) x).0
 
   abbrev applies : Applies v
   applies = record {

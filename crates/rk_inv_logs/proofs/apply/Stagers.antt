@@ -1,11 +1,10 @@
 -- Whose calls may be staged for a row: those of the one master that speaks for it. While that may have some, no grant is awaited, and no
 -- Transfer counts.
-use Rattle.std.proofs.Common.{◌≡◌, ℕ, Bool, true, false, ◌&&◌, cond, eqb, List, [], ◌∷◌, Some, None, refl, sym, ap, ◌∙◌, ⊎_elim, eqb-true}
-use Rattle.rk_inv_base.proofs.Words.{cases_eq, false≢true, and_right, cond-false, Member, Node, Handover, Role, lineage_of, Phase, Owned}
-use Rattle.rk_inv_base.proofs.Words.{Opening, Moving, Rebuilding, Row, Transfer, Body, Handed, last_of, second_of, is_absent, is_idle}
-use Rattle.rk_inv_base.proofs.Words.{may_have_staged, handed_by, is_opening, is_waiting, is_waiting_at, is_wanting, second_has, SaysOf}
-use Rattle.rk_inv_base.proofs.Words.{TransferIn, Post, InvitedTarget, ReadyTarget, MovingSource, FormerMember, Bystander, bond_of, post_of}
-use Rattle.rk_inv_base.proofs.Words.{Holds, RoleFits, AreApart, View}
+use Rattle.std.proofs.Common.{◌≡◌, ℕ, Bool, true, false, ◌&&◌, cond, eqb, List, [], ◌∷◌, Some, None, refl, sym, ap, ◌∙◌, eqb-true, inl, inr}
+use Rattle.rk_inv_base.proofs.Words.{cases_eq, false≢true, and_right, cond-false, Member, Node, Handover, Role, lineage_of, Phase, Opening}
+use Rattle.rk_inv_base.proofs.Words.{Row, Transfer, Body, Handed, last_of, second_of, is_absent, is_idle, may_have_staged, handed_by}
+use Rattle.rk_inv_base.proofs.Words.{is_opening, is_waiting, is_waiting_at, is_wanting, second_has, SaysOf, TransferIn, Post, InvitedTarget}
+use Rattle.rk_inv_base.proofs.Words.{ReadyTarget, MovingSource, FormerMember, Bystander, bond_of, post_of, Holds, RoleFits, AreApart, View}
 use Rattle.rk_types.specs.declared.node.Node.TheVariants as nodes
 use Rattle.rk_transfer.specs.declared.role.Role.TheVariants as roles
 use Rattle.rk_message.specs.declared.message.Body.TheVariants as bodies
@@ -42,25 +41,23 @@ quiet_stages _ _ term own applied quiet fits stages = quiet
 
 -- so the master whose calls are staged is the one that speaks
 pub stager_is : (row : Row) (q : ℕ) (handover : Handover) (applied : ℕ) → RoleFits row q handover applied → may_have_staged handover.role ≡ true → q ≡ speaker_of row.phase
-stager_is row q handover applied fits stages =
-    ⊎_elim
-    (λ (same : q ≡ speaker_of row.phase). same)
-    (λ (apart : q ≡ speaker_of row.phase → ⊥).
-    absurd (quiet_stages (post_of row.phase q) handover.role row.term handover.term applied (quiet_others row.phase q apart) fits stages))
-    (cases_eq q (speaker_of row.phase))
+stager_is row q handover applied fits stages = elim (cases_eq q (speaker_of row.phase)) [
+  | inl same ↦ same
+  | inr apart ↦
+      absurd (quiet_stages (post_of row.phase q) handover.role row.term handover.term applied (quiet_others row.phase q apart) fits stages)
+]
 
 -- ---- what is handed over
 
 module _ (v : View) (row : Row) (last : Member) (stages : may_have_staged (v.handovers last.master row.tablet).role ≡ true) where
   -- no second member waits for its grant
   pub none_waits : (lineage : List Member) → AreApart lineage → last_of lineage ≡ Some last → is_waiting (second_has v.handovers row (second_of lineage)) ≡ false
-  none_waits [] apart is = refl
-  none_waits (only ∷ []) apart is = refl
   none_waits (first ∷ second ∷ []) apart is =
       let same : second ≡ last = cc is in
       staging_wants (v.handovers second.master row.tablet).role
       (ap (λ (m : Member). may_have_staged (v.handovers m.master row.tablet).role) same ∙ stages)
   none_waits (first ∷ second ∷ third ∷ more) apart is = absurd apart
+  none_waits _ apart is = refl
 
   -- and no Transfer counts
   opens_not : (phase : Phase) (sender : ℕ) (transfer : Transfer) (tablet term : Bool) (given : Handed) → last.master ≡ speaker_of phase
@@ -73,9 +70,7 @@ module _ (v : View) (row : Row) (last : Member) (stages : may_have_staged (v.han
       absurd (false≢true (sym idle ∙ stages))
   opens_not (Opening source sfrom target dfrom) sender transfer true false given speaks says = refl
   opens_not (Opening source sfrom target dfrom) sender transfer false term given speaks says = refl
-  opens_not (Owned owner from) sender transfer tablet term given speaks says = refl
-  opens_not (Moving source sfrom target dfrom) sender transfer tablet term given speaks says = refl
-  opens_not (Rebuilding lineage to) sender transfer tablet term given speaks says = refl
+  opens_not _ sender transfer tablet term given speaks says = refl
 
   -- so no message hands anything over for the row
   abbrev Says : Node → Node → Body → Type 0

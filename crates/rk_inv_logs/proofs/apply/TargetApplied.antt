@@ -1,9 +1,9 @@
 -- What a target has that pulls, once the next entry of its log is applied: one of its own, if it is of the range.
-use Rattle.std.proofs.Common.{◌≡◌, ℕ, ◌+◌, ◌≤◌, ◌<◌, arith, true, false, ap, List, [], Option, Some, sym, ◌∙◌, subst, ⊎_elim, inl, inr, ◌⊎◌}
-use Rattle.std.proofs.Common.{take, slice_get, Contains}
+use Rattle.std.proofs.Common.{◌≡◌, ℕ, ◌+◌, ◌≤◌, ◌<◌, arith, true, false, ap, List, [], Option, Some, sym, ◌∙◌, subst, inl, inr, ◌⊎◌, take}
+use Rattle.std.proofs.Common.{slice_get, Contains}
 use Rattle.rk_inv_base.proofs.Words.{cases_lt, cases_Bool, false≢true, Held, Range, Entry, IsInScanOrder, Handover, Handed, items_in}
 use Rattle.rk_inv_base.proofs.Words.{items_of, touches, counting, counts, material_of, named_by, side_entries, Pulling, Written}
-use Rattle.rk_inv_base.proofs.Words.{applied_entries, applied_from, HasArrived, IsOutdone, IsReceived, IsTarget, copied_items, entries_from}
+use Rattle.rk_inv_base.proofs.Words.{applied_entries, applied_from, HasArrived, IsReceived, IsTarget, copied_items, entries_from}
 use Rattle.rk_inv_base.proofs.Words.{scan_items}
 use Rattle.rk_inv_logs.specs.apply.Small.{with_item_of}
 use Rattle.rk_inv_logs.proofs.apply.Inserted.{IsInserted, inserted_last, told_cases, told_new, told_still}
@@ -18,50 +18,49 @@ pub record HasOwn (range : Range) (entry : Entry) (own now : List Held) : Type 0
 
 -- so they are of entries with that entry, or of the same ones
 pub has_own : (range : Range) (entry : Entry) (own now : List Entry) → (counts range entry ≡ true → IsInserted entry own now) → (counts range entry ≡ false → now ≡ own) → HasOwn range entry (items_of own) (items_of now)
-has_own range entry own now more same =
-    ⊎_elim
-    (λ (inside : counts range entry ≡ true).
-    let put : IsInserted entry own now = more inside in
-    record {
-      still = told_still entry own now put items_in;
-      new = λ _. told_new entry own now put items_in;
-      cases = told_cases entry own now put items_in;
-    })
-    (λ (outside : counts range entry ≡ false).
-    let is : now ≡ own = same outside in
-    record {
-      still = λ x at. subst (λ (l : List Entry). Contains (items_of l) x) (sym is) at;
-      new = λ inside x at. absurd (false≢true (sym outside ∙ inside));
-      cases = λ x at. inr (subst (λ (l : List Entry). Contains (items_of l) x) is at);
-    })
-    (cases_Bool (counts range entry))
+has_own range entry own now more same = elim (cases_Bool (counts range entry)) [
+  | inl inside ↦
+      let put : IsInserted entry own now = more inside in
+      record {
+        still = told_still entry own now put items_in;
+        new = λ _. told_new entry own now put items_in;
+        cases = told_cases entry own now put items_in;
+      }
+  | inr outside ↦
+      let is : now ≡ own = same outside in
+      record {
+        still = λ x at. subst (λ (l : List Entry). Contains (items_of l) x) (sym is) at;
+        new = λ inside x at. absurd (false≢true (sym outside ∙ inside));
+        cases = λ x at. inr (subst (λ (l : List Entry). Contains (items_of l) x) is at);
+      }
+]
 
 -- what has been received, with the entry among the own ones and in the records
 received_with : (Arrived : Held → Type 0) (range : Range) (entry : Entry) (items own now sides records : List Held) → IsInScanOrder records → HasOwn range entry own now → IsReceived Arrived range items own sides records → IsReceived Arrived range items now sides (with_item_of entry records)
 received_with Arrived range entry items own now sides records order has old = record {
   within = old.within;
-  copied = λ x stands arrived.
-      ⊎_elim (λ (copied : Contains sides x). inl copied)
-      (λ (outdone : IsOutdone own x).
-      inr (record {
-        newer = outdone.newer;
-        stands = has.still outdone.newer outdone.stands;
-        same_key = outdone.same_key;
-        above = outdone.above;
-      }))
-      (old.copied x stands arrived);
-  come = λ x stands inside.
-      ⊎_elim (λ (its : Contains (items_in entry) x). inl (has.new (item_counts range entry x its inside) x its))
-      (λ (was : Contains records x).
-      ⊎_elim (λ (mine : Contains own x). inl (has.still x mine)) (λ (copied : Contains sides x). inr copied) (old.come x was inside))
-      (item_cases entry records x stands);
-  found = λ x come.
-      ⊎_elim
-      (λ (mine : Contains now x).
-      ⊎_elim (λ (its : Contains (items_in entry) x). item_found entry records x its)
-      (λ (was : Contains own x). found_with entry records x order (old.found x (inl was))) (has.cases x mine))
-      (λ (source : Contains items x × Arrived x). found_with entry records x order (old.found x (inr source)))
-      come;
+  copied = λ x stands arrived. elim (old.copied x stands arrived) [
+    | inl copied ↦ inl copied
+    | inr outdone ↦
+        inr
+        (record {
+          newer = outdone.newer;
+          stands = has.still outdone.newer outdone.stands;
+          same_key = outdone.same_key;
+          above = outdone.above;
+        })
+  ];
+  come = λ x stands inside. elim (item_cases entry records x stands) [
+    | inl its ↦ inl (has.new (item_counts range entry x its inside) x its)
+    | inr was ↦ elim (old.come x was inside) [ inl mine ↦ inl (has.still x mine) | inr copied ↦ inr copied ]
+  ];
+  found = λ x come. elim come [
+    | inl mine ↦ elim (has.cases x mine) [
+      | inl its ↦ item_found entry records x its
+      | inr was ↦ found_with entry records x order (old.found x (inl was))
+    ]
+    | inr source ↦ found_with entry records x order (old.found x (inr source))
+  ];
 }
 
 -- the item of an entry stands behind a place, if the entry counts
@@ -70,22 +69,22 @@ StandsBehind range entry from place = counts range entry ≡ true → (x : Held)
 
 -- so the entries from there on have it, of those that are applied
 own_either : (range : Range) (entry : Entry) (from place : ℕ) (own now : List Entry) → StandsBehind range entry from place → (from ≤ place → HasOwn range entry (items_of own) (items_of now)) → (place < from → now ≡ own) → HasOwn range entry (items_of own) (items_of now)
-own_either range entry from place own now behind there ahead =
-    ⊎_elim
-    (λ (later : place < from).
-    let same : now ≡ own = ahead later in record {
-      still = λ x at. subst (λ (l : List Entry). Contains (items_of l) x) (sym same) at;
-      new = λ inside x at. let before : from ≤ place = behind inside x at in absurd (omega (arith, before, later));
-      cases = λ x at. inr (subst (λ (l : List Entry). Contains (items_of l) x) same at);
-    })
-    (λ (before : from ≤ place). there before)
-    (cases_lt place from)
+own_either range entry from place own now behind there ahead = elim (cases_lt place from) [
+  | inl later ↦
+      let same : now ≡ own = ahead later in
+      record {
+        still = λ x at. subst (λ (l : List Entry). Contains (items_of l) x) (sym same) at;
+        new = λ inside x at. let before : from ≤ place = behind inside x at in absurd (omega (arith, before, later));
+        cases = λ x at. inr (subst (λ (l : List Entry). Contains (items_of l) x) same at);
+      }
+  | inr before ↦ there before
+]
 
 -- also with the items of side segments
 pub applied_with : (range : Range) (w : Written) (entry : Entry) → slice_get w.entries w.applied ≡ Some entry → named_by range entry ≡ [] → (from : ℕ) → StandsBehind range entry from w.applied
     → HasOwn range entry (items_of (applied_from range from w)) (items_of (applied_from range from (record w { applied = w.applied + 1 })))
-applied_with range w entry stands names from behind =
-    own_either range entry from w.applied (applied_from range from w) (applied_from range from (record w { applied = w.applied + 1 })) behind
+applied_with range w entry stands names from behind = own_either range entry from w.applied (applied_from range from w)
+    (applied_from range from (record w { applied = w.applied + 1 })) behind
     (λ before.
     has_own range entry (applied_from range from w) (applied_from range from (record w { applied = w.applied + 1 }))
     (λ inside. applied_more range w.entries w.applied entry stands names (side_entries w.sides) from inside before)
@@ -100,23 +99,15 @@ module _ (range : Range) (w : Written) (entry : Entry) (stands : slice_get w.ent
       own_either range entry from w.applied own now behind
       (λ before.
       has_own range entry own now
-      (λ inside. subst (IsInserted entry own) (sym (own_more range w.entries w.applied entry stands from inside before)) (inserted_last entry own))
+      (λ inside. rw (own_more range w.entries w.applied entry stands from inside before) (inserted_last entry own))
       (λ outside. own_beside range w.entries w.applied entry stands from outside))
       (λ later. ap (counting range) (nothing_ahead w.entries w.applied entry stands from later))
 
   pub target_applied : (source : ℕ) (truth material : List Entry) (handover : Handover) (pulling : Pulling) (handed : Option Handed) (records : List Held) → IsInScanOrder records → StandsBehind range entry from w.applied
       → IsTarget range source truth material from w handover pulling handed records
       → IsTarget range source truth material from (record w { applied = w.applied + 1 }) handover pulling handed (with_item_of entry records)
-  target_applied source truth material handover pulling handed records order behind old = record {
-    from_source = old.from_source;
-    workers = old.workers;
-    pulled = old.pulled;
-    received =
-        received_with (HasArrived handover.role pulling (scan_items truth)) range entry (scan_items truth)
-        (items_of (entries_from range from (applied_entries w))) (items_of (entries_from range from (take (w.applied + 1) w.entries)))
-        (copied_items handover.role pulling w.sides) records order (own_with behind) old.received;
-    above = old.above;
-    told = old.told;
-    early = none_fewer (touches range) w.applied (take from w.entries) old.early;
-    closing = old.closing;
-  }
+  target_applied source truth material handover pulling handed records order behind old =
+      assumption (
+        received_with (HasArrived handover.role pulling (scan_items truth)) range entry (scan_items truth) (items_of (entries_from range from (applied_entries w))) (items_of (entries_from range from (take (w.applied + 1) w.entries))) (copied_items handover.role pulling w.sides) records order (own_with behind) old.received,
+        none_fewer (touches range) w.applied (take from w.entries) old.early,
+      )

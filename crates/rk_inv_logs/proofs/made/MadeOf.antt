@@ -1,6 +1,6 @@
 -- The records that ends make whose calls wait, one a client: of each the last call with its end, in their order.
-use Rattle.std.proofs.Common.{◌≡◌, ℕ, zero, suc, true, false, ◌||◌, eqb, List, [], ◌∷◌, ◌++◌, map, Option, Some, refl, sym, ap, ◌∙◌, subst}
-use Rattle.std.proofs.Common.{⊎_elim, append_assoc, ◌≢◌, IfSome, slice_get, length, All, AllPairs, Contains, ne_eqb}
+use Rattle.std.proofs.Common.{◌≡◌, ℕ, true, false, ◌||◌, eqb, List, [], ◌∷◌, ◌++◌, map, Option, Some, refl, sym, ap, ◌∙◌, append_assoc, ◌≢◌}
+use Rattle.std.proofs.Common.{IfSome, slice_get, All, AllPairs, Contains, ne_eqb, inl, inr}
 use Rattle.std.specs.List.{AllZip}
 use Rattle.rk_inv_base.proofs.Words.{and_left, and_right, All-cons, All-contains, All-head, All-nil, All-push, All-tail}
 use Rattle.rk_inv_base.proofs.Words.{Contains-push_cases, list_any-append, list_any_none, Call, Ended, Placed, IsLegal, Map, map_after}
@@ -14,6 +14,7 @@ use Rattle.rk_inv_rows.specs.lineage.Rebuilt.{made_of}
 use Rattle.rk_inv_logs.specs.made.Made.{waits, without_stamp}
 use Rattle.rk_inv_logs.proofs.made.PlacedEnds.{Differ, first_differs, later_differ}
 use Rattle.rk_inv_logs.proofs.made.Waiting.{IsWaiting, makes_one, waiting_parts}
+use Rattle.rk_inv_base.proofs.calls.Accepted.{stands_there}
 
 -- ---- stamps
 
@@ -44,12 +45,10 @@ module _ (base : Base) (lane : ℕ) (asked : ℕ → Option LastCall) (last_call
 
   -- a record of another client is none of a call
   still_none : (journal more : List Placed) (client seq : ℕ) → All (λ placed. placed.call.client ≢ client) more → has_record journal client seq ≡ false → has_record (journal ++ more) client seq ≡ false
-  still_none journal more client seq others none =
-      list_any-append (is_of_mutation client seq) journal more
-      ∙ (λ i. none i
-      || list_any_none (is_of_mutation client seq) more
-      (all_by (λ placed. is_of_mutation client seq placed ≡ false) more
-      (λ placed at.
+  still_none journal more client seq others none = list_any-append (is_of_mutation client seq) journal more
+      ∙ (λ i.
+      none i || list_any_none (is_of_mutation client seq) more
+      (all_by (λ placed. is_of_mutation client seq placed ≡ false) more (λ placed at.
       and_right (is_mutation placed.call.op) (is_of_call client seq placed)
       (and_left (eqb placed.call.client client) (eqb placed.call.seq seq)
       (ne_eqb placed.call.client client (All-contains (λ p. p.call.client ≢ client) more placed others at))))) i)
@@ -61,18 +60,16 @@ module _ (base : Base) (lane : ℕ) (asked : ℕ → Option LastCall) (last_call
   makes journal more (end ∷ ends) waiting one others =
       let w : IsWaiting journal end.client end.seq (asked end.client) =
       waiting_parts journal end.client end.seq (asked end.client) (All-head (λ e. waits asked journal e ≡ true) end ends waiting) in
-      let its : IsLastCall base lane end.client w.last =
-      subst (λ (o : Option LastCall). IfSome o (IsLastCall base lane end.client)) w.asked_is (last_calls end.client) in
+      let its : IsLastCall base lane end.client w.last = rw w.asked_is at (last_calls end.client) in
       let now : IsWaiting (journal ++ more) end.client end.seq (asked end.client) = record {
         last = w.last;
         asked_is = w.asked_is;
         seq_is = w.seq_is;
-        unrecorded =
-            still_none journal more end.client end.seq (All-head (λ e. All (λ p. p.call.client ≢ e.client) more) end ends others) w.unrecorded;
+        unrecorded = still_none journal more end.client end.seq (All-head (λ e. All (λ p. p.call.client ≢ e.client) more) end ends others)
+            w.unrecorded;
       } in
       let new : Placed = next_record (journal ++ more) w.last.call (outcome_of end.end) w.last.seen in
-      subst (λ (l : List Placed). Makes (end ∷ ends) (l ++ made_of asked ((journal ++ more) ++ l) ends))
-      (sym (makes_one (journal ++ more) end (asked end.client) now)) (
+      rw (makes_one (journal ++ more) end (asked end.client) now) (
         record {
           last = w.last;
           asked_is = w.asked_is;
@@ -82,10 +79,9 @@ module _ (base : Base) (lane : ℕ) (asked : ℕ → Option LastCall) (last_call
           outcome_is = refl;
           new = refl;
         },
-        subst (λ (l : List Placed). Makes ends (made_of asked l ends)) (sym (append_assoc journal more (new ∷ [])))
+        rw (append_assoc journal more (new ∷ []))
             (makes journal (more ++ new ∷ []) ends (All-tail (λ e. waits asked journal e ≡ true) end ends waiting) (later_differ end ends one)
-            (all_by (λ e. All (λ p. p.call.client ≢ e.client) (more ++ new ∷ [])) ends
-            (λ e at.
+            (all_by (λ e. All (λ p. p.call.client ≢ e.client) (more ++ new ∷ [])) ends (λ e at.
             All-push (λ p. p.call.client ≢ e.client) more new
             (All-contains (λ e. All (λ p. p.call.client ≢ e.client) more) ends e
             (All-tail (λ e. All (λ p. p.call.client ≢ e.client) more) end ends others) at)
@@ -94,8 +90,7 @@ module _ (base : Base) (lane : ℕ) (asked : ℕ → Option LastCall) (last_call
 
   -- so all of them do from a journal on
   pub makes_all : (journal : List Placed) (ends : List Ended) → All (λ end. waits asked journal end ≡ true) ends → AllPairs Differ ends → Makes ends (made_of asked journal ends)
-  makes_all journal ends waiting one =
-      subst (λ (l : List Placed). Makes ends (made_of asked l ends)) (append_nil journal)
+  makes_all journal ends waiting one = rw (append_nil journal) at
       (makes journal [] ends waiting one
       (all_by (λ (end : Ended). All (λ (placed : Placed). placed.call.client ≢ end.client) []) ends
       (λ end at. All-nil (λ (placed : Placed). placed.call.client ≢ end.client))))
@@ -118,8 +113,8 @@ module _ (asked : ℕ → Option LastCall) where
   made_each P Q gives [] [] zip all = All-nil Q
   made_each P Q gives [] (placed ∷ made) zip all = absurd zip
   made_each P Q gives (end ∷ ends) [] zip all = absurd zip
-  made_each P Q gives (end ∷ ends) (placed ∷ made) zip all =
-      All-cons Q placed made (gives end placed zip.0 (All-head P end ends all)) (made_each P Q gives ends made zip.1 (All-tail P end ends all))
+  made_each P Q gives (end ∷ ends) (placed ∷ made) zip all = All-cons Q placed made (gives end placed zip.0 (All-head P end ends all))
+      (made_each P Q gives ends made zip.1 (All-tail P end ends all))
 
   -- each end has its record
   pub record HasMade (made : List Placed) (end : Ended) : Type 0 where
@@ -130,17 +125,12 @@ module _ (asked : ℕ → Option LastCall) where
   pub made_for : (ends : List Ended) (made : List Placed) → AllZip (IsMadeOf asked) ends made → (end : Ended) → Contains ends end → HasMade made end
   made_for [] made zip end at = absurd (none_stands end at)
   made_for (first ∷ ends) [] zip end at = absurd zip
-  made_for (first ∷ ends) (placed ∷ made) zip end at =
-      ⊎_elim
-      (λ (is : first ≡ end). record {
-        placed = placed;
-        stands = first_stands placed made;
-        its = subst (λ (e : Ended). IsMadeOf asked e placed) is zip.0;
-      })
-      (λ (later : Contains ends end).
-      let found = made_for ends made zip.1 end later in
-      record { placed = found.placed; stands = behind_stands placed made found.placed found.stands; its = found.its })
-      (stands_cases first ends end at)
+  made_for (first ∷ ends) (placed ∷ made) zip end at = elim (stands_cases first ends end at) [
+    | inl is ↦ record { placed = placed; stands = first_stands placed made; its = rw is at zip.0 }
+    | inr later ↦
+        let found = made_for ends made zip.1 end later in
+        record { placed = found.placed; stands = behind_stands placed made found.placed found.stands; its = found.its }
+  ]
 
 -- ---- no mutation has two records
 
@@ -152,56 +142,42 @@ AreOnce journal =
 abbrev pub HasNone : List Placed → ℕ → ℕ → Type 0
 HasNone journal client seq = (placed : Placed) → Contains journal placed → placed.call.client ≡ client → placed.call.seq ≡ seq → ⊥
 
--- what is found at a place stands there
-got_stands : (journal : List Placed) (i : ℕ) (placed : Placed) → slice_get journal i ≡ Some placed → Contains journal placed
-got_stands [] i placed at = absurd (cc at)
-got_stands (first ∷ journal) zero placed at =
-    let is : first ≡ placed = cc at in subst (Contains (first ∷ journal)) is (first_stands first journal)
-got_stands (first ∷ journal) (suc i) placed at = behind_stands first journal placed (got_stands journal i placed at)
-
 once_push : (journal : List Placed) (new : Placed) → AreOnce journal → HasNone journal new.call.client new.call.seq → AreOnce (journal ++ new ∷ [])
-once_push journal new once none i j a b at_i at_j one =
-    ⊎_elim
-    (λ (first : slice_get journal i ≡ Some a).
-    ⊎_elim (λ (second : slice_get journal j ≡ Some b). once i j a b first second one)
-    (λ (last : (j ≡ length journal) × (new ≡ b)).
-    absurd
-    (none a (got_stands journal i a first) (one.client ∙ ap (λ (p : Placed). p.call.client) (sym last.1))
-    (one.seq ∙ ap (λ (p : Placed). p.call.seq) (sym last.1))))
-    (got_cases journal new j b at_j))
-    (λ (last : (i ≡ length journal) × (new ≡ a)).
-    ⊎_elim
-    (λ (second : slice_get journal j ≡ Some b).
-    absurd
-    (none b (got_stands journal j b second) (sym one.client ∙ ap (λ (p : Placed). p.call.client) (sym last.1))
-    (sym one.seq ∙ ap (λ (p : Placed). p.call.seq) (sym last.1))))
-    (λ (both : (j ≡ length journal) × (new ≡ b)). last.0 ∙ sym both.0)
-    (got_cases journal new j b at_j))
-    (got_cases journal new i a at_i)
+once_push journal new once none i j a b at_i at_j one = elim (got_cases journal new i a at_i) [
+  | inl first ↦ elim (got_cases journal new j b at_j) [
+    | inl second ↦ once i j a b first second one
+    | inr last ↦
+        absurd
+        (none a (stands_there journal i a first) (one.client ∙ ap (λ (p : Placed). p.call.client) (sym last.1))
+        (one.seq ∙ ap (λ (p : Placed). p.call.seq) (sym last.1)))
+  ]
+  | inr last ↦ elim (got_cases journal new j b at_j) [
+    | inl second ↦
+        absurd
+        (none b (stands_there journal j b second) (sym one.client ∙ ap (λ (p : Placed). p.call.client) (sym last.1))
+        (sym one.seq ∙ ap (λ (p : Placed). p.call.seq) (sym last.1)))
+    | inr both ↦ last.0 ∙ sym both.0
+  ]
+]
 
 -- the records of ends of different clients whose calls have none keep it so
 pub once_made : (asked : ℕ → Option LastCall) (journal : List Placed) (ends : List Ended) (made : List Placed) → AllZip (IsMadeOf asked) ends made → AreOnce journal → AllPairs Differ ends
     → All (λ end. HasNone journal end.client end.seq) ends → AreOnce (journal ++ made)
-once_made asked journal [] [] zip once one none = subst AreOnce (sym (append_nil journal)) once
+once_made asked journal [] [] zip once one none = rw (append_nil journal) once
 once_made asked journal [] (placed ∷ made) zip once one none = absurd zip
 once_made asked journal (end ∷ ends) [] zip once one none = absurd zip
 once_made asked journal (end ∷ ends) (placed ∷ made) zip once one none =
     let its = zip.0 in
     let client : placed.call.client ≡ end.client = ap (λ (c : Call). c.client) its.call_is ∙ its.own in
     let seq : placed.call.seq ≡ end.seq = ap (λ (c : Call). c.seq) its.call_is ∙ its.seq_is in
-    subst AreOnce (append_assoc journal (placed ∷ []) made)
+    rw (append_assoc journal (placed ∷ []) made) at
     (once_made asked (journal ++ placed ∷ []) ends made zip.1
-    (once_push journal placed once
-    (λ p at same_client same_seq.
-    All-head (λ e. HasNone journal e.client e.seq) end ends none p at (same_client ∙ client) (same_seq ∙ seq)))
-    (later_differ end ends one)
-    (all_by (λ e. HasNone (journal ++ placed ∷ []) e.client e.seq) ends
-    (λ e at p stands same_client same_seq.
-    ⊎_elim
-    (λ (before : Contains journal p).
-    All-contains (λ e. HasNone journal e.client e.seq) ends e (All-tail (λ e. HasNone journal e.client e.seq) end ends none) at p before
-    same_client same_seq)
-    (λ (is : placed ≡ p).
-    All-contains (Differ end) ends e (first_differs end ends one) at
-    (sym client ∙ ap (λ (p : Placed). p.call.client) is ∙ same_client))
-    (Contains-push_cases journal placed p stands))))
+    (once_push journal placed once (λ p at same_client same_seq.
+    All-head (λ e. HasNone journal e.client e.seq) end ends none p at (same_client ∙ client) (same_seq ∙ seq))) (later_differ end ends one)
+    (all_by (λ e. HasNone (journal ++ placed ∷ []) e.client e.seq) ends (λ e at p stands same_client same_seq.
+    elim (Contains-push_cases journal placed p stands) [
+      | inl before ↦ All-contains (λ e. HasNone journal e.client e.seq) ends e
+          (All-tail (λ e. HasNone journal e.client e.seq) end ends none) at p before same_client same_seq
+      | inr is ↦ All-contains (Differ end) ends e (first_differs end ends one) at
+          (sym client ∙ ap (λ (p : Placed). p.call.client) is ∙ same_client)
+    ])))

@@ -1,7 +1,7 @@
 -- Which ends of those that wait have their place at a member: where each of these stands in a list once, and no end of its client is
 -- later, just these, in their order.
 use Rattle.std.proofs.Common.{◌≡◌, suc, Bool, true, false, cond, not, ◌&&◌, eqb, List, [], ◌∷◌, ◌++◌, filter, refl, sym, ap, ◌∙◌, subst}
-use Rattle.std.proofs.Common.{⊎_elim, arith, append_assoc, ◌≢◌, All, AllPairs, Contains, flat_map, eq-eqb, eqb-true}
+use Rattle.std.proofs.Common.{⊎_elim, arith, append_assoc, ◌≢◌, All, AllPairs, Contains, flat_map, eq-eqb, eqb-true, inl, inr}
 use Rattle.rk_inv_base.proofs.Words.{and_from, and_parts, cases_Bool, false≢true, false_from_ne_true, flat_map-append, All-contains}
 use Rattle.rk_inv_base.proofs.Words.{All-head, All-tail, Contains-append_cases, Contains-append_left, Contains-append_right}
 use Rattle.rk_inv_base.proofs.Words.{Contains-push_cases, filter-append, list_any_at, list_any_none, list_any, Ended, filter_kept}
@@ -29,23 +29,22 @@ pub one_of_client : (list : List Ended) (a b : Ended) → AllPairs Differ list �
 one_of_client [] a b one at_a at_b same = absurd (none_stands a at_a)
 one_of_client (first ∷ list) a b one at_a at_b same =
     let others = first_differs first list one in
-    ⊎_elim
-    (λ (is_a : first ≡ a).
-    ⊎_elim (λ (is_b : first ≡ b). sym is_a ∙ is_b)
-    (λ (later_b : Contains list b). absurd (All-contains (Differ first) list b others later_b (ap (λ (e : Ended). e.client) is_a ∙ same)))
-    (stands_cases first list b at_b))
-    (λ (later_a : Contains list a).
-    ⊎_elim
-    (λ (is_b : first ≡ b).
-    absurd (All-contains (Differ first) list a others later_a (ap (λ (e : Ended). e.client) is_b ∙ sym same)))
-    (λ (later_b : Contains list b). one_of_client list a b (later_differ first list one) later_a later_b same)
-    (stands_cases first list b at_b))
-    (stands_cases first list a at_a)
+    elim (stands_cases first list a at_a) [
+      | inl is_a ↦ elim (stands_cases first list b at_b) [
+        | inl is_b ↦ sym is_a ∙ is_b
+        | inr later_b ↦ absurd (All-contains (Differ first) list b others later_b (ap (λ (e : Ended). e.client) is_a ∙ same))
+      ]
+      | inr later_a ↦ elim (stands_cases first list b at_b) [
+        | inl is_b ↦ absurd (All-contains (Differ first) list a others later_a (ap (λ (e : Ended). e.client) is_b ∙ sym same))
+        | inr later_b ↦ one_of_client list a b (later_differ first list one) later_a later_b same
+      ]
+    ]
 
 -- ---- one call
 
 pub same_itself : (end : Ended) → is_same_call end end ≡ true
-same_itself end = and_from (eqb end.client end.client) (eqb end.seq end.seq) (eq-eqb end.client end.client refl) (eq-eqb end.seq end.seq refl)
+same_itself end =
+    and_from (eqb end.client end.client) (eqb end.seq end.seq) (eq-eqb end.client end.client refl) (eq-eqb end.seq end.seq refl)
 
 -- an end is of the client and the seq of another one
 pub record AreOfOneCall (a b : Ended) : Type 0 where
@@ -54,18 +53,15 @@ pub record AreOfOneCall (a b : Ended) : Type 0 where
 
 pub one_call : (a b : Ended) → is_same_call a b ≡ true → AreOfOneCall a b
 one_call a b is =
-    let parts = and_parts (eqb a.client b.client) (eqb a.seq b.seq) is in record {
-      client = eqb-true a.client b.client parts.0;
-      seq = eqb-true a.seq b.seq parts.1;
-    }
+    let parts = and_parts (eqb a.client b.client) (eqb a.seq b.seq) is in
+    record { client = eqb-true a.client b.client parts.0; seq = eqb-true a.seq b.seq parts.1 }
 
 -- ---- the places of ends at one member
 
 -- where more stands behind ends, it has its places with them seen
 pub placed_append : (all later seen first second : List Ended) → placed_ends all later seen (first ++ second) ≡ placed_ends all later seen first ++ placed_ends all later (seen ++ first) second
 placed_append all later seen [] second = ap (λ (l : List Ended). placed_ends all later l second) (sym (append_nil seen))
-placed_append all later seen (end ∷ first) second =
-    go (is_placed all later seen end)
+placed_append all later seen (end ∷ first) second = go (is_placed all later seen end)
     (placed_append all later (seen ++ end ∷ []) first second
     ∙ ap (λ (l : List Ended). placed_ends all later (seen ++ end ∷ []) first ++ placed_ends all later l second)
     (append_assoc seen (end ∷ []) first))
@@ -82,8 +78,7 @@ pub record IsPlacedOf (all ends : List Ended) (end : Ended) : Type 0 where
   pub free : list_any (is_outrun_by end) all ≡ false
 
 placed_free : (all later seen : List Ended) (end : Ended) → is_placed all later seen end ≡ true → list_any (is_outrun_by end) all ≡ false
-placed_free all later seen end is =
-    go (list_any (is_outrun_by end) all) (list_any (is_same_call end) (later ++ seen)) is
+placed_free all later seen end is = go (list_any (is_outrun_by end) all) (list_any (is_same_call end) (later ++ seen)) is
   where
     go : (a b : Bool) → (not a && not b) ≡ true → a ≡ false
     go false b is = refl
@@ -97,31 +92,29 @@ placed_stands all later seen (first ∷ ends) end at =
     λ there.
     let found = placed_stands all later (seen ++ first ∷ []) ends end there in
     record { stands = behind_stands first ends end found.stands; free = found.free } in
-    ⊎_elim
-    (λ (is : is_placed all later seen first ≡ true).
-    ⊎_elim
-    (λ (same : first ≡ end). record {
-      stands = subst (Contains (first ∷ ends)) same (first_stands first ends);
-      free = subst (λ (e : Ended). list_any (is_outrun_by e) all ≡ false) same (placed_free all later seen first is);
-    })
-    behind
-    (stands_cases first rest end (subst (λ (b : Bool). Contains (cond b (first ∷ rest) rest) end) is at)))
-    (λ (is : is_placed all later seen first ≡ false). behind (subst (λ (b : Bool). Contains (cond b (first ∷ rest) rest) end) is at))
-    (cases_Bool (is_placed all later seen first))
+    elim (cases_Bool (is_placed all later seen first)) [
+      | inl is ↦
+          ⊎_elim
+          (λ (same : first ≡ end). record {
+            stands = subst (Contains (first ∷ ends)) same (first_stands first ends);
+            free = subst (λ (e : Ended). list_any (is_outrun_by e) all ≡ false) same (placed_free all later seen first is);
+          }) behind (stands_cases first rest end (subst (λ (b : Bool). Contains (cond b (first ∷ rest) rest) end) is at))
+      | inr is ↦ behind (subst (λ (b : Bool). Contains (cond b (first ∷ rest) rest) end) is at)
+    ]
 
 -- so it is at several members
 pub by_place_stands : (all : List Ended) (members : List (List Ended)) (end : Ended) → Contains (ends_by_place all members) end → IsPlacedOf all (flat_map (λ ends. ends) members) end
 by_place_stands all [] end at = absurd (none_stands end at)
 by_place_stands all (ends ∷ members) end at =
     let later : List Ended = flat_map (λ ends. ends) members in
-    ⊎_elim
-    (λ (here : Contains (placed_ends all later [] ends) end).
-    let found = placed_stands all later [] ends end here in
-    record { stands = Contains-append_left ends later end found.stands; free = found.free })
-    (λ (there : Contains (ends_by_place all members) end).
-    let found = by_place_stands all members end there in
-    record { stands = Contains-append_right ends later end found.stands; free = found.free })
-    (Contains-append_cases (placed_ends all later [] ends) (ends_by_place all members) end at)
+    elim (Contains-append_cases (placed_ends all later [] ends) (ends_by_place all members) end at) [
+      | inl here ↦
+          let found = placed_stands all later [] ends end here in
+          record { stands = Contains-append_left ends later end found.stands; free = found.free }
+      | inr there ↦
+          let found = by_place_stands all members end there in
+          record { stands = Contains-append_right ends later end found.stands; free = found.free }
+    ]
 
 -- the ends of members, member by member
 abbrev flat : List (List Ended) → List Ended
@@ -130,14 +123,13 @@ flat members = flat_map (λ ends. ends) members
 -- nothing is placed at members that tell nothing
 pub nothing_placed : (all : List Ended) (members : List (List Ended)) → All (λ ends. ends ≡ []) members → ends_by_place all members ≡ []
 nothing_placed all [] none = refl
-nothing_placed all (ends ∷ members) none =
-    ap (λ (l : List Ended). placed_ends all (flat members) [] l ++ ends_by_place all members) (All-head (λ (l : List Ended). l ≡ []) ends members none)
+nothing_placed all (ends ∷ members) none = ap (λ (l : List Ended). placed_ends all (flat members) [] l ++ ends_by_place all members)
+    (All-head (λ (l : List Ended). l ≡ []) ends members none)
     ∙ nothing_placed all members (All-tail (λ (l : List Ended). l ≡ []) ends members none)
 
 pub nothing_flat : (members : List (List Ended)) → All (λ ends. ends ≡ []) members → flat_map (λ ends. ends) members ≡ []
 nothing_flat [] none = refl
-nothing_flat (ends ∷ members) none =
-    ap (λ (l : List Ended). l ++ flat members) (All-head (λ (l : List Ended). l ≡ []) ends members none)
+nothing_flat (ends ∷ members) none = ap (λ (l : List Ended). l ++ flat members) (All-head (λ (l : List Ended). l ≡ []) ends members none)
     ∙ nothing_flat members (All-tail (λ (l : List Ended). l ≡ []) ends members none)
 
 -- ---- ends that wait
@@ -155,22 +147,21 @@ module _ (waits : Ended → Bool) (alike : (a b : Ended) → a.client ≡ b.clie
       let rest : List Ended = placed_ends all later (seen ++ end ∷ []) ends in
       let none : filter waits rest ≡ [] =
       none_placed later (seen ++ end ∷ []) ends
-      (all_by (λ e. waits e ≡ true → Contains (later ++ (seen ++ end ∷ [])) e) ends
-      (λ e at is.
-      subst (λ (l : List Ended). Contains l e) (append_assoc later seen (end ∷ []))
+      (all_by (λ e. waits e ≡ true → Contains (later ++ (seen ++ end ∷ [])) e) ends (λ e at is.
+      rw (append_assoc later seen (end ∷ [])) at
       (Contains-append_left (later ++ seen) (end ∷ []) e
       (All-contains (λ e. waits e ≡ true → Contains (later ++ seen) e) ends e
       (All-tail (λ e. waits e ≡ true → Contains (later ++ seen) e) end ends there) at is)))) in
-      ⊎_elim
-      (λ (is : waits end ≡ true).
-      let stands : Contains (later ++ seen) end = All-head (λ e. waits e ≡ true → Contains (later ++ seen) e) end ends there is in
-      let again : list_any (is_same_call end) (later ++ seen) ≡ true =
-      list_any_at (is_same_call end) (later ++ seen) stands.0 end stands.1 (ap (is_same_call end) stands.2 ∙ same_itself end) in
-      let out : is_placed all later seen end ≡ false =
-      ap (λ (b : Bool). not (list_any (is_outrun_by end) all) && not b) again ∙ and_none (not (list_any (is_outrun_by end) all)) in
-      ap (λ (b : Bool). filter waits (cond b (end ∷ rest) rest)) out ∙ none)
-      (λ (is : waits end ≡ false). left_out end rest (is_placed all later seen end) is ∙ none)
-      (cases_Bool (waits end))
+      elim (cases_Bool (waits end)) [
+        | inl is ↦
+            let stands : Contains (later ++ seen) end = All-head (λ e. waits e ≡ true → Contains (later ++ seen) e) end ends there is in
+            let again : list_any (is_same_call end) (later ++ seen) ≡ true =
+            list_any_at (is_same_call end) (later ++ seen) stands.0 end stands.1 (ap (is_same_call end) stands.2 ∙ same_itself end) in
+            let out : is_placed all later seen end ≡ false =
+            ap (λ (b : Bool). not (list_any (is_outrun_by end) all) && not b) again ∙ and_none (not (list_any (is_outrun_by end) all)) in
+            ap (λ (b : Bool). filter waits (cond b (end ∷ rest) rest)) out ∙ none
+        | inr is ↦ left_out end rest (is_placed all later seen end) is ∙ none
+      ]
     where
       and_none : (b : Bool) → (b && false) ≡ false
       and_none true = refl
@@ -191,14 +182,11 @@ module _ (waits : Ended → Bool) (alike : (a b : Ended) → a.client ≡ b.clie
 
   -- with one more that is seen it is so still, where none of the ends that wait is of that call
   new_still : (later seen : List Ended) (end : Ended) (ends : List Ended) → ((e : Ended) → Contains ends e → waits e ≡ true → AreOfOneCall e end → ⊥) → All (IsNew (later ++ seen)) ends → All (IsNew (later ++ (seen ++ end ∷ []))) ends
-  new_still later seen end ends apart unseen =
-      all_by (IsNew (later ++ (seen ++ end ∷ []))) ends
-      (λ e at is x there same.
-      ⊎_elim
-      (λ (before : Contains (later ++ seen) x). All-contains (IsNew (later ++ seen)) ends e unseen at is x before same)
-      (λ (last : end ≡ x). apart e at is (subst (AreOfOneCall e) (sym last) same))
-      (Contains-push_cases (later ++ seen) end x
-      (subst (λ (l : List Ended). Contains l x) (sym (append_assoc later seen (end ∷ []))) there)))
+  new_still later seen end ends apart unseen = all_by (IsNew (later ++ (seen ++ end ∷ []))) ends
+      (λ e at is x there same. elim (Contains-push_cases (later ++ seen) end x (rw (append_assoc later seen (end ∷ [])) there)) [
+        | inl before ↦ All-contains (IsNew (later ++ seen)) ends e unseen at is x before same
+        | inr last ↦ apart e at is (rw last same)
+      ])
 
   -- each is placed that none outruns, where none of its call stands at a later member, was seen or stands before it
   pub all_placed : (later seen ends : List Ended) → All (λ end. waits end ≡ true → list_any (is_outrun_by end) all ≡ false) ends → All (IsNew (later ++ seen)) ends → AllPairs Differ (filter waits ends)
@@ -210,27 +198,23 @@ module _ (waits : Ended → Bool) (alike : (a b : Ended) → a.client ≡ b.clie
       λ apart one_later.
       all_placed later (seen ++ end ∷ []) ends (All-tail (λ e. waits e ≡ true → list_any (is_outrun_by e) all ≡ false) end ends free)
       (new_still later seen end ends apart (All-tail (IsNew (later ++ seen)) end ends unseen)) one_later in
-      ⊎_elim
-      (λ (is : waits end ≡ true).
-      let its : AllPairs Differ (end ∷ filter waits ends) = subst (AllPairs Differ) (filter_kept waits end ends is) one in
-      let placed : is_placed all later seen end ≡ true =
-      placed_now later seen end (All-head (λ e. waits e ≡ true → list_any (is_outrun_by e) all ≡ false) end ends free is)
-      (All-head (IsNew (later ++ seen)) end ends unseen is) in
-      ap (λ (b : Bool). filter waits (cond b (end ∷ rest) rest)) placed
-      ∙ filter_kept waits end rest is
-      ∙ ap (λ (l : List Ended). end ∷ l)
-      (go_on
-      (λ e at waiting same.
-      All-contains (Differ end) (filter waits ends) e (first_differs end (filter waits ends) its) (filter_stands waits ends e at waiting)
-      (sym same.client))
-      (later_differ end (filter waits ends) its))
-      ∙ sym (filter_kept waits end ends is))
-      (λ (is : waits end ≡ false).
-      left_out end rest (is_placed all later seen end) is
-      ∙ go_on (λ e at waiting same. false≢true (sym is ∙ sym (alike e end same.client same.seq) ∙ waiting))
-      (subst (AllPairs Differ) (filter_left_out waits end ends is) one)
-      ∙ sym (filter_left_out waits end ends is))
-      (cases_Bool (waits end))
+      elim (cases_Bool (waits end)) [
+        | inl is ↦
+            let its : AllPairs Differ (end ∷ filter waits ends) = rw (filter_kept waits end ends is) at one in
+            let placed : is_placed all later seen end ≡ true =
+            placed_now later seen end (All-head (λ e. waits e ≡ true → list_any (is_outrun_by e) all ≡ false) end ends free is)
+            (All-head (IsNew (later ++ seen)) end ends unseen is) in
+            ap (λ (b : Bool). filter waits (cond b (end ∷ rest) rest)) placed ∙ filter_kept waits end rest is
+            ∙ ap (λ (l : List Ended). end ∷ l)
+            (go_on
+            (λ e at waiting same.
+            All-contains (Differ end) (filter waits ends) e (first_differs end (filter waits ends) its)
+            (filter_stands waits ends e at waiting) (sym same.client)) (later_differ end (filter waits ends) its))
+            ∙ sym (filter_kept waits end ends is)
+        | inr is ↦ left_out end rest (is_placed all later seen end) is
+            ∙ go_on (λ e at waiting same. false≢true (sym is ∙ sym (alike e end same.client same.seq) ∙ waiting))
+            (rw (filter_left_out waits end ends is) at one) ∙ sym (filter_left_out waits end ends is)
+      ]
 
   -- ---- several members
 
@@ -241,15 +225,13 @@ module _ (waits : Ended → Bool) (alike : (a b : Ended) → a.client ≡ b.clie
   none_before (ends ∷ before) after there =
       let later : List Ended = flat (before ++ after) in
       let split : later ≡ flat before ++ flat after = flat_map-append (λ (ends : List Ended). ends) before after in
-      let each : All (λ end. waits end ≡ true → Contains (flat after) end) ends =
-      All-head (All (λ end. waits end ≡ true → Contains (flat after) end)) ends before there in
+      let each = All-head (All (λ end. waits end ≡ true → Contains (flat after) end)) ends before there in
       filter-append waits (placed_ends all later [] ends) (ends_by_place all (before ++ after))
       ∙ ap (λ (l : List Ended). l ++ filter waits (ends_by_place all (before ++ after)))
       (none_placed later [] ends
-      (all_by (λ end. waits end ≡ true → Contains (later ++ []) end) ends
-      (λ end at is.
+      (all_by (λ end. waits end ≡ true → Contains (later ++ []) end) ends (λ end at is.
       Contains-append_left later [] end
-      (subst (λ (l : List Ended). Contains l end) (sym split)
+      (rw split
       (Contains-append_right (flat before) (flat after) end
       (All-contains (λ e. waits e ≡ true → Contains (flat after) e) ends end each at is))))))
       ∙ none_before before after (All-tail (All (λ end. waits end ≡ true → Contains (flat after) end)) ends before there)

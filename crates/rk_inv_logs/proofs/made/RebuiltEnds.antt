@@ -1,6 +1,6 @@
 -- Of a sound view, of whose row the truth and a first part of the rest were read: the ends that are merged make just the records of the
 -- calls of that part, which leave the other rows as they were; they are known then, and reach each mutation of the row.
-use Rattle.std.proofs.Common.{◌≡◌, true, false, List, [], ◌∷◌, ◌++◌, map, sym, ap, ◌∙◌, subst, arith, All, AllPairs, Contains}
+use Rattle.std.proofs.Common.{◌≡◌, true, false, List, [], ◌∷◌, ◌++◌, map, ap, ◌∙◌, arith, All, AllPairs, Contains}
 use Rattle.std.proofs.lemmas.List.Kept.{AllPairs-cons}
 use Rattle.rk_inv_base.proofs.Words.{flat_map-append, All-contains, Contains-append_left, Ended, Placed, IsLegal-append, legal_back}
 use Rattle.rk_inv_base.proofs.Words.{IsLegal, Map, map_after, Entry, completions_from, ends_of, lineage_of, Row, base_map, counts}
@@ -16,7 +16,7 @@ use Rattle.rk_inv_logs.proofs.apply.AppliedRest.{rest_counts}
 use Rattle.rk_inv_logs.specs.read.ReadBack.{IsReadBack}
 use Rattle.rk_inv_logs.specs.made.Made.{without_stamp}
 use Rattle.rk_inv_logs.proofs.made.Beside.{IsEndOfLast, history_beside, staged_ends}
-use Rattle.rk_inv_logs.proofs.made.MadeOf.{AreOnce, legal_unstamped, made_unstamped}
+use Rattle.rk_inv_logs.proofs.made.MadeOf.{legal_unstamped, made_unstamped}
 use Rattle.rk_inv_logs.proofs.made.MergedMade.{Reads, lasts_known, lasts_reach, made_inside, made_last, made_merged, made_once, made_zip}
 use Rattle.rk_inv_logs.proofs.made.PlacedEnds.{Differ, first_differs, later_differ}
 
@@ -51,9 +51,7 @@ module _ (v : View) (row : Row) (members : List (List Entry)) (sound : SoundView
   split = read.split
 
   staged : All (IsStaged v.base v.asked v.journal) part
-  staged =
-      all_front (IsStaged v.base v.asked v.journal) part read.left
-      (subst (All (IsStaged v.base v.asked v.journal)) split history.goes_on.staged)
+  staged = all_front (IsStaged v.base v.asked v.journal) part read.left (rw split at history.goes_on.staged)
 
   counted : (r : Row) → All (λ entry. counts r.range entry ≡ true) (rests v r)
   counted r = rest_counts v.written r.range (lineage_of r.phase)
@@ -69,14 +67,12 @@ module _ (v : View) (row : Row) (members : List (List Entry)) (sound : SoundView
     order = read.ends;
     known = history.known;
     staged = staged;
-    one = pairs_front (call_ends part) (call_ends read.left) (subst (AllPairs Differ) ends_split history.goes_on.one);
+    one = pairs_front (call_ends part) (call_ends read.left) (rw ends_split at history.goes_on.one);
   }
 
   ends : All (IsEndOfLast v.asked v.journal row.range) (call_ends part)
-  ends =
-      staged_ends v.base v.asked v.journal row.range part
-      (all_front (λ entry. counts row.range entry ≡ true) part read.left
-      (subst (All (λ entry. counts row.range entry ≡ true)) split (counted row))) staged
+  ends = staged_ends v.base v.asked v.journal row.range part
+      (all_front (λ entry. counts row.range entry ≡ true) part read.left (rw split at (counted row))) staged
 
   -- ---- the records
 
@@ -86,8 +82,7 @@ module _ (v : View) (row : Row) (members : List (List Entry)) (sound : SoundView
 
   -- those that the staged calls will make, but for their stamps
   pub made_staged : map without_stamp (made_of v.asked v.journal (call_ends read.part)) ≡ records_of v.asked (call_ends read.part)
-  made_staged =
-      made_unstamped v.asked (call_ends part) made (made_zip v.base v.lane v.asked v.journal (truths v row) part members reads)
+  made_staged = made_unstamped v.asked (call_ends part) made (made_zip v.base v.lane v.asked v.journal (truths v row) part members reads)
 
   pub records_staged : map without_stamp (made_of v.asked v.journal (merged_ends members)) ≡ records_of v.asked (call_ends read.part)
   records_staged = ap (map without_stamp) made_is ∙ made_staged
@@ -96,37 +91,30 @@ module _ (v : View) (row : Row) (members : List (List Entry)) (sound : SoundView
   inside = made_inside v.base v.lane v.asked v.journal (truths v row) part members reads row.range ends
 
   records_split : records_of v.asked (call_ends (rests v row)) ≡ records_of v.asked (call_ends part) ++ records_of v.asked (call_ends read.left)
-  records_split =
-      ap (records_of v.asked) ends_split
+  records_split = ap (records_of v.asked) ends_split
       ∙ flat_map-append (λ (end : Ended). record_of_last end (v.asked end.client)) (call_ends part) (call_ends read.left)
 
   legal : IsLegal start (v.journal ++ made)
-  legal =
-      IsLegal-append start v.journal made sound.truth.legal
+  legal = IsLegal-append start v.journal made sound.truth.legal
       (legal_unstamped (map_after start v.journal) made
-      (subst (IsLegal (map_after start v.journal)) (sym made_staged)
+      (rw made_staged
       (legal_front (map_after start v.journal) (records_of v.asked (call_ends part)) (records_of v.asked (call_ends read.left))
-      (subst (IsLegal (map_after start v.journal)) records_split
-      (legal_back start v.journal (records_of v.asked (call_ends (rests v row))) history.goes_on.legal)))))
+      (rw records_split at (legal_back start v.journal (records_of v.asked (call_ends (rests v row))) history.goes_on.legal)))))
 
   pub records_made : MakeRecords v row.range (merged_ends members)
   records_made = record {
-    inside = subst (All (λ placed. is_record_in row.range placed ≡ true)) (sym made_is) inside;
-    legal = subst (λ (l : List Placed). IsLegal start (v.journal ++ l)) (sym made_is) legal;
-    once =
-        subst (λ (l : List Placed). AreOnce (v.journal ++ l)) (sym made_is)
-        (made_once v.base v.lane v.asked v.journal (truths v row) part members reads row.range ends sound.calls.once);
+    inside = rw made_is inside;
+    legal = rw made_is legal;
+    once = rw made_is (made_once v.base v.lane v.asked v.journal (truths v row) part members reads row.range ends sound.calls.once);
   }
 
   -- ---- other rows
 
   pub others_tell : (other : Row) → Contains v.rows other → (other.tablet ≡ row.tablet → ⊥)
       → TellHistory v.base other.range (truths v other) (rests v other) (journal_with v (merged_ends members)) v.asked
-  others_tell other stands unlike =
-      subst (λ (l : List Placed). TellHistory v.base other.range (truths v other) (rests v other) (v.journal ++ l) v.asked) (sym made_is)
+  others_tell other stands unlike = rw made_is
       (history_beside v.base other.range v.journal made v.asked
-      (all_by (λ placed. is_record_in other.range placed ≡ false) made
-      (λ placed at.
+      (all_by (λ placed. is_record_in other.range placed ≡ false) made (λ placed at.
       in_one_row v.rows row other placed.call.table placed.call.key sound.rows.apart has stands unlike
       (All-contains (λ p. is_record_in row.range p ≡ true) made placed inside at)))
       (made_last v.base v.lane v.asked v.journal (truths v row) part members reads row.range ends) legal (truths v other) (rests v other)
@@ -135,12 +123,9 @@ module _ (v : View) (row : Row) (members : List (List Entry)) (sound : SoundView
   -- ---- the ends
 
   pub ends_known : All (IsKnown v.base (journal_with v (merged_ends members))) (ends_of (completions_from [] (merged_ends members)))
-  ends_known =
-      subst (λ (l : List Placed). All (IsKnown v.base (v.journal ++ l)) (ends_of (completions_from [] (merged_ends members)))) (sym made_is)
-      (lasts_known v.base v.lane v.asked v.journal (truths v row) part members reads row.range ends)
+  ends_known = rw made_is (lasts_known v.base v.lane v.asked v.journal (truths v row) part members reads row.range ends)
 
   pub ends_reach : ReachAll row.range (journal_with v (merged_ends members)) (ends_of (completions_from [] (merged_ends members)))
-  ends_reach =
-      subst (λ (l : List Placed). ReachAll row.range (v.journal ++ l) (ends_of (completions_from [] (merged_ends members)))) (sym made_is)
+  ends_reach = rw made_is
       (lasts_reach v.base v.lane v.asked v.journal (truths v row) part members reads row.range ends sound.calls.once read.told_all
       history.ends)

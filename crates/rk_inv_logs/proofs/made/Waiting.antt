@@ -1,6 +1,6 @@
 -- Ends of calls that wait for their records: no end that is known is one, and only they make records.
 use Rattle.std.proofs.Common.{◌≡◌, ℕ, Bool, true, false, not, ◌&&◌, ◌||◌, eqb, List, [], ◌∷◌, ◌++◌, filter, Option, Some, None, refl, sym}
-use Rattle.std.proofs.Common.{ap, ◌∙◌, subst, ⊎_elim, append_assoc, All, eq-eqb, eqb-true}
+use Rattle.std.proofs.Common.{ap, ◌∙◌, subst, append_assoc, All, eq-eqb, eqb-true, inl, inr}
 use Rattle.std.proofs.lemmas.Bool.{not-true}
 use Rattle.rk_inv_base.proofs.Words.{and_from, and_parts, cases_Bool, cond-false, cond-true, false≢true, All-head, All-tail}
 use Rattle.rk_inv_base.proofs.Words.{list_any-append, Ended, Placed, filter_kept, filter_left_out, outcome_of, has_record, is_of_mutation}
@@ -29,8 +29,7 @@ waiting_parts journal client seq (Some last) is =
     }
 
 pub waiting_from : (journal : List Placed) (client seq : ℕ) (asked : Option LastCall) → IsWaiting journal client seq asked → waits_for journal client seq asked ≡ true
-waiting_from journal client seq asked w =
-    subst (λ (o : Option LastCall). waits_for journal client seq o ≡ true) (sym w.asked_is)
+waiting_from journal client seq asked w = rw w.asked_is
     (and_from (eqb w.last.call.seq seq) (not (has_record journal client seq)) (eq-eqb w.last.call.seq seq w.seq_is) (ap not w.unrecorded))
 
 -- ends of one call wait together
@@ -52,13 +51,11 @@ waits_no_more journal more client seq (Some last) is =
 -- an end makes a record where its call waits for one, and else none
 pub makes_none : (journal : List Placed) (end : Ended) (asked : Option LastCall) → waits_for journal end.client end.seq asked ≡ false → made_by journal end asked ≡ []
 makes_none journal end None is = refl
-makes_none journal end (Some last) is =
-    cond-false (eqb last.call.seq end.seq && not (has_record journal end.client end.seq))
+makes_none journal end (Some last) is = cond-false (eqb last.call.seq end.seq && not (has_record journal end.client end.seq))
     (next_record journal last.call (outcome_of end.end) last.seen ∷ []) [] is
 
 pub makes_one : (journal : List Placed) (end : Ended) (asked : Option LastCall) (w : IsWaiting journal end.client end.seq asked) → made_by journal end asked ≡ next_record journal w.last.call (outcome_of end.end) w.last.seen ∷ []
-makes_one journal end asked w =
-    ap (made_by journal end) w.asked_is
+makes_one journal end asked w = ap (made_by journal end) w.asked_is
     ∙ cond-true (eqb w.last.call.seq end.seq && not (has_record journal end.client end.seq))
     (next_record journal w.last.call (outcome_of end.end) w.last.seen ∷ []) []
     (ap (waits_for journal end.client end.seq) (sym w.asked_is) ∙ waiting_from journal end.client end.seq asked w)
@@ -72,28 +69,24 @@ module _ (asked : ℕ → Option LastCall) (journal : List Placed) where
   sifted more (end ∷ ends) =
       let made : List Placed = made_by (journal ++ more) end (asked end.client) in
       let later : made_of asked ((journal ++ more) ++ made) ends ≡ made_of asked ((journal ++ more) ++ made) (filter (waits asked journal) ends) =
-      subst (λ (l : List Placed). made_of asked l ends ≡ made_of asked l (filter (waits asked journal) ends)) (sym (append_assoc journal more made))
-      (sifted (more ++ made) ends) in
-      ⊎_elim
-      (λ (is : waits asked journal end ≡ true).
-      ap (λ (l : List Placed). made ++ l) later
-      ∙ ap (made_of asked (journal ++ more)) (sym (filter_kept (waits asked journal) end ends is)))
-      (λ (is : waits asked journal end ≡ false).
-      let none : made ≡ [] =
-      makes_none (journal ++ more) end (asked end.client) (waits_no_more journal more end.client end.seq (asked end.client) is) in
-      ap (λ (l : List Placed). l ++ made_of asked ((journal ++ more) ++ l) ends) none
-      ∙ subst (λ (l : List Placed). made_of asked l ends ≡ made_of asked (journal ++ more) (filter (waits asked journal) ends))
-      (sym (append_nil (journal ++ more))) (sifted more ends)
-      ∙ ap (made_of asked (journal ++ more)) (sym (filter_left_out (waits asked journal) end ends is)))
-      (cases_Bool (waits asked journal end))
+      rw (append_assoc journal more made) (sifted (more ++ made) ends) in
+      elim (cases_Bool (waits asked journal end)) [
+        | inl is ↦ ap (λ (l : List Placed). made ++ l) later
+            ∙ ap (made_of asked (journal ++ more)) (sym (filter_kept (waits asked journal) end ends is))
+        | inr is ↦
+            let none : made ≡ [] =
+            makes_none (journal ++ more) end (asked end.client) (waits_no_more journal more end.client end.seq (asked end.client) is) in
+            ap (λ (l : List Placed). l ++ made_of asked ((journal ++ more) ++ l) ends) none
+            ∙ subst (λ (l : List Placed). made_of asked l ends ≡ made_of asked (journal ++ more) (filter (waits asked journal) ends))
+            (sym (append_nil (journal ++ more))) (sifted more ends)
+            ∙ ap (made_of asked (journal ++ more)) (sym (filter_left_out (waits asked journal) end ends is))
+      ]
 
   pub only_waiting : (ends : List Ended) → made_of asked journal ends ≡ made_of asked journal (filter (waits asked journal) ends)
-  only_waiting ends =
-      subst (λ (l : List Placed). made_of asked l ends ≡ made_of asked l (filter (waits asked journal) ends)) (append_nil journal) (sifted [] ends)
+  only_waiting ends = rw (append_nil journal) at (sifted [] ends)
 
   -- none of these waits
   pub none_wait : (ends : List Ended) → All (λ end. waits asked journal end ≡ false) ends → filter (waits asked journal) ends ≡ []
   none_wait [] all = refl
-  none_wait (end ∷ ends) all =
-      filter_left_out (waits asked journal) end ends (All-head (λ e. waits asked journal e ≡ false) end ends all)
+  none_wait (end ∷ ends) all = filter_left_out (waits asked journal) end ends (All-head (λ e. waits asked journal e ≡ false) end ends all)
       ∙ none_wait ends (All-tail (λ e. waits asked journal e ≡ false) end ends all)

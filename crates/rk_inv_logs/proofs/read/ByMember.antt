@@ -11,13 +11,13 @@ module _ (range : Range) (to : ℕ) (own : List Entry) where
 
   -- of the master itself its own entries count
   own_counts : (lineage : List Member) (members : List Gathered) (m : Member) → m.master ≡ to → material_by (gather_of lineage members) own m.master ≡ own
-  own_counts lineage members m same =
-      cond-true (m.master == to) own (flat_map (counted_of range) (filter (λ g. g.member.master == m.master) members)) (eq-eqb m.master to same)
+  own_counts lineage members m same = cond-true (m.master == to) own
+      (flat_map (counted_of range) (filter (λ g. g.member.master == m.master) members)) (eq-eqb m.master to same)
 
   -- of another one what was read of it
   read_counts : (lineage : List Member) (members : List Gathered) (g : Gathered) → (g.member.master ≡ to → ⊥) → filter (λ other. other.member.master == g.member.master) members ≡ g ∷ [] → material_by (gather_of lineage members) own g.member.master ≡ counted_of range g
-  read_counts lineage members g away alone =
-      cond-false (g.member.master == to) own (flat_map (counted_of range) (filter (λ other. other.member.master == g.member.master) members)) (ne_eqb g.member.master to away)
+  read_counts lineage members g away alone = cond-false (g.member.master == to) own
+      (flat_map (counted_of range) (filter (λ other. other.member.master == g.member.master) members)) (ne_eqb g.member.master to away)
       ∙ ap (flat_map (counted_of range)) alone ∙ append-nil (counted_of range g)
 
   one_kept : (g : Gathered) → filter (λ (other : Gathered). other.member.master == g.member.master) (g ∷ []) ≡ g ∷ []
@@ -35,8 +35,8 @@ module _ (range : Range) (to : ℕ) (own : List Entry) where
       λ i. own_counts (m ∷ []) members m same i ∷ of_it (m ∷ []) members (or_left (m.master == to) false (eq-eqb m.master to same)) i
 
   pub only_read : (g : Gathered) → (g.member.master ≡ to → ⊥) → by_member (gather_of (g.member ∷ []) (g ∷ [])) own ≡ counted_of range g ∷ own ∷ []
-  only_read g away =
-      λ i. read_counts (g.member ∷ []) (g ∷ []) g away (one_kept g) i
+  only_read g away = λ i.
+      read_counts (g.member ∷ []) (g ∷ []) g away (one_kept g) i
       ∷ outside (g.member ∷ []) (g ∷ []) (or_from (g.member.master == to) false (ne_eqb g.member.master to away) refl) i
 
   pub first_own : (m : Member) (g : Gathered) → m.master ≡ to → (g.member.master ≡ to → ⊥) → by_member (gather_of (m ∷ g.member ∷ []) (g ∷ [])) own ≡ own ∷ counted_of range g ∷ []
@@ -79,9 +79,8 @@ pub record OneGathered (members : List Gathered) (m : Member) : Type 0 where
   pub member_is : gathered.member ≡ m
 
 pub one_gathered : (members : List Gathered) (m : Member) → map (λ gathered. gathered.member) members ≡ m ∷ [] → OneGathered members m
-one_gathered [] m is = absurd (cc is)
 one_gathered (g ∷ []) m is = let same : g.member ≡ m = cc is in record { gathered = g; members_are = refl; member_is = same }
-one_gathered (g ∷ h ∷ members) m is = absurd (cc is)
+one_gathered _ m is = absurd (cc is)
 
 pub record TwoGathered (members : List Gathered) (m n : Member) : Type 0 where
   pub first : Gathered
@@ -91,13 +90,11 @@ pub record TwoGathered (members : List Gathered) (m n : Member) : Type 0 where
   pub last_is : last.member ≡ n
 
 pub two_gathered : (members : List Gathered) (m n : Member) → map (λ gathered. gathered.member) members ≡ m ∷ n ∷ [] → TwoGathered members m n
-two_gathered [] m n is = absurd (cc is)
-two_gathered (g ∷ []) m n is = absurd (cc is)
 two_gathered (g ∷ h ∷ []) m n is =
     let first : g.member ≡ m = cc is in
     let last : h.member ≡ n = cc is in
     record { first = g; last = h; members_are = refl; first_is = first; last_is = last }
-two_gathered (g ∷ h ∷ k ∷ members) m n is = absurd (cc is)
+two_gathered _ m n is = absurd (cc is)
 
 -- those of a lineage that another master reads
 module _ (to : ℕ) where

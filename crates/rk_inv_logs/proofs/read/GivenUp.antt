@@ -42,14 +42,14 @@ module _ (v : View) (row : Row) (a b : Gathered) (to place : ℕ) (ends : List E
   more_read : (n : ℕ) (entry : Entry) → b.member.from ≤ n → slice_get w.entries n ≡ Some entry → is_marked w.marks n ≡ false → counts row.range entry ≡ true → TellsMore given (own ++ first_counted row.range b.member.from w n) entry → n < length read_of_last
   more_read n entry behind stands free inside tells =
       let none : EntryEnd = record { segment = 0; offset = 0 } in
-      let within = slice_get_within w.entries n entry stands in
-      let there = slice_get-get_or (ends_there w.entries) n none (omega (arith, within, length-ends [] w.entries)) in
+      let there =
+      slice_get-get_or (ends_there w.entries) n none (omega (arith, slice_get_within w.entries n entry stands, length-ends [] w.entries)) in
       needed_in v row both to place ends sound readable some few may b last n _ there (
         refl,
         record {
           place = n;
           entry = entry;
-          needed = record { behind = behind; stands = stands; unmarked = free; in_range = inside; tells = tells };
+          needed = assumption;
           ends_there = there;
         },
       )
@@ -63,20 +63,20 @@ module _ (v : View) (row : Row) (a b : Gathered) (to place : ℕ) (ends : List E
       → AreAmong (member_marked v.written row.range a.member) (member_material v.written row.range a.member ++ member_stored v.logs v.written v.stored row.range b.member)
       → AreAmong marked_first others
   given_up_told others owns frees tells = (
-    each_among items_in marked_first others
-        (λ entry at x its.
+    each_among items_in marked_first others (λ entry at x its.
         all_told items_told items_in row.range b.member.from w (length read_of_last) given own others (stand_among items_in own others owns)
         (first_in items_in)
         (λ n e y behind stands free inside here wanted new.
-        more_read n e behind stands free inside (inl (record { item = y; here = here; wanted = wanted; new = new })))
-        x (flat_of items_in given entry x (of_given entry at) its) many (tells.0 x (flat_of items_in all_marked entry x (of_all entry at) its))),
-    each_among told_by marked_first others
-        (λ entry at x its.
+        more_read n e behind stands free inside (inl (record { item = y; here = here; wanted = wanted; new = new }))) x
+        (flat_of items_in given entry x (of_given entry at) its) many
+        (tells.0 x (flat_of items_in all_marked entry x (of_all entry at) its))),
+    each_among told_by marked_first others (λ entry at x its.
         all_told ends_told told_by row.range b.member.from w (length read_of_last) given own others (stand_among told_by own others owns)
         (first_in told_by)
         (λ n e y behind stands free inside here wanted new.
-        more_read n e behind stands free inside (inr (record { end = y; here = here; wanted = wanted; new = new })))
-        x (flat_of told_by given entry x (of_given entry at) its) many (tells.1 x (flat_of told_by all_marked entry x (of_all entry at) its))),
+        more_read n e behind stands free inside (inr (record { end = y; here = here; wanted = wanted; new = new }))) x
+        (flat_of told_by given entry x (of_given entry at) its) many
+        (tells.1 x (flat_of told_by all_marked entry x (of_all entry at) its))),
   )
     where
       many : ℕ
@@ -89,11 +89,10 @@ module _ (v : View) (row : Row) (a b : Gathered) (to place : ℕ) (ends : List E
       of_given entry at = given_up v row both to place ends sound readable some few may a first entry at
 
       of_all : (entry : Entry) → Contains marked_first entry → Contains (member_marked v.written row.range a.member) entry
-      of_all entry at =
-          marked_of_all row.range a.member.from (v.written a.member.master) (main v row both to place ends sound readable some few may a first) (side_read a)
+      of_all entry at = marked_of_all row.range a.member.from (v.written a.member.master)
+          (main v row both to place ends sound readable some few may a first) (side_read a)
           (is_log v row both to place ends sound readable some few may a first) entry at
 
       first_in : {X : Type 0} (f : Entry → List X) → Among f (first_counted row.range b.member.from (v.written b.member.master) (length read_of_last)) others
-      first_in f =
-          stand_among f (first_counted row.range b.member.from w (length read_of_last)) others
+      first_in f = stand_among f (first_counted row.range b.member.from w (length read_of_last)) others
           (λ entry at. frees entry (subst (λ (l : List Entry). Contains l entry) first_ones at))

@@ -1,6 +1,6 @@
 -- What a master that rebuilt a row has read of one other member, and what that makes of all: of the last one a first part of its rest.
-use Rattle.std.proofs.Common.{◌≡◌, ◌≤◌, ◌<◌, ◌⊎◌, ℕ, max, true, List, [], ◌∷◌, ◌++◌, append_assoc, length, sym, ap, subst, ◌∙◌, ⊎_elim}
-use Rattle.std.proofs.Common.{arith, drop, take, All, Contains, flat_map}
+use Rattle.std.proofs.Common.{◌≡◌, ◌≤◌, ◌⊎◌, ℕ, max, true, List, [], ◌∷◌, ◌++◌, append_assoc, length, ap, subst, ◌∙◌, arith, drop, take}
+use Rattle.std.proofs.Common.{All, Contains, flat_map, inl, inr}
 use Rattle.rk_inv_base.proofs.Words.{cases_lt, cond_both, Contains-append_cases, Contains-append_left, Contains-append_right, meets, Ended}
 use Rattle.rk_inv_base.proofs.Words.{Member, Range, Entry, Row, items_in, told_by, Gathered, LAST_MAIN_SEGMENT, counted_of, side_read}
 use Rattle.rk_inv_base.proofs.Words.{unmarked_from, counts, is_joined_in, joined_from, named, named_by, side_entries, Written}
@@ -16,7 +16,9 @@ use Rattle.rk_inv_tablets.proofs.crash.ReadTold.{stands_there}
 use Rattle.rk_inv_tablets.proofs.crash.Unmarked.{free_place, free_stands, taken_at}
 use Rattle.rk_inv_logs.specs.read.ReadBack.{IsReadBack, all_of}
 use Rattle.rk_inv_logs.proofs.read.ReadLists.{AreNone, before_has, line_has, read_back}
-use Rattle.rk_inv_logs.proofs.read.ReadMember.{IsReadLog, all_read, counted_parts, free_from, free_of_all, free_part, free_parts, later_extends, later_part, marked_of_all, marked_part, part_in, side_of_all, side_part, truth_in}
+use Rattle.rk_inv_logs.proofs.read.ReadMember.{IsReadLog, all_read, counted_parts, free_from, free_of_all, free_part, free_parts}
+use Rattle.rk_inv_logs.proofs.read.ReadMember.{later_extends, later_part, marked_of_all, marked_part, part_in, side_of_all, side_part}
+use Rattle.rk_inv_logs.proofs.read.ReadMember.{truth_in}
 use Rattle.rk_inv_logs.proofs.read.ReadOf.{is_log}
 use Rattle.rk_inv_logs.proofs.read.ReadPlaced.{main_of}
 use Rattle.rk_inv_logs.proofs.read.ReadTells.{both_told, pieces_among, stand_told}
@@ -28,12 +30,9 @@ none_in x at = omega (arith, at.1)
 
 -- an entry that names a segment for a range is a Joined of it
 names_joined : (range : Range) (e : Entry) (n : ℕ) → Contains (named_by range e) n → is_joined_in range e ≡ true
-names_joined range (entries.Joined joined) n =
-    cond_both (meets joined.range range) joined.segments [] (λ numbers. Contains numbers n → meets joined.range range ≡ true) (λ met at. met)
-    (λ apart at. absurd (none_in n at))
-names_joined range (entries.Held held) n = λ at. absurd (none_in n at)
-names_joined range (entries.Refused refused) n = λ at. absurd (none_in n at)
-names_joined range (entries.Carried carried) n = λ at. absurd (none_in n at)
+names_joined range (entries.Joined joined) n = cond_both (meets joined.range range) joined.segments []
+    (λ numbers. Contains numbers n → meets joined.range range ≡ true) (λ met at. met) (λ apart at. absurd (none_in n at))
+names_joined range _ n = λ at. absurd (none_in n at)
 
 -- where no Joined waits, what all entries name the applied ones name
 pub sides_applied : (range : Range) (from : ℕ) (w : Written) → joined_from range (max from w.applied) w.entries ≡ [] → (e : Entry) → Contains (side_part range from w w.entries) e → Contains (side_part range from w (applied_entries w)) e
@@ -45,21 +44,25 @@ sides_applied range from w none e at =
     let of = flat_from (side_entries w.sides) (named range free) e kept.0 in
     let by = named_from range free of.0 of.1 in
     let is = free_place w.marks from w.entries by.0 by.1 in
-    ⊎_elim
-    (λ (applied : is.place < w.applied).
-    let there : Contains sure by.0 =
-    free_stands w.marks from (take w.applied w.entries) by.0
-    (record { place = is.place; behind = is.behind; stands = taken_at w.entries w.applied is.place by.0 applied is.stands; free = is.free }) in
-    stands_kept (counts range) (flat_map (side_entries w.sides) (named range sure)) e
-    (flat_of (side_entries w.sides) (named range sure) of.0 e (named_of range sure by.0 of.0 there by.2) of.2) kept.1)
-    (λ (waits : w.applied ≤ is.place).
-    let found = behind_at w.entries place is.place by.0 (omega (arith, is.behind, waits)) is.stands in
-    let behind : Contains (drop place w.entries) by.0 = stands_there (drop place w.entries) found.0 by.0 found.1 in
-    absurd
-    (none_in by.0
-    (subst (λ (l : List Entry). Contains l by.0) none
-    (stands_kept (is_joined_in range) (drop place w.entries) by.0 behind (names_joined range by.0 of.0 by.2)))))
-    (cases_lt is.place w.applied)
+    elim (cases_lt is.place w.applied) [
+      | inl applied ↦
+          let there : Contains sure by.0 =
+          free_stands w.marks from (take w.applied w.entries) by.0
+          (record {
+            place = is.place;
+            behind = is.behind;
+            stands = taken_at w.entries w.applied is.place by.0 applied is.stands;
+            free = is.free;
+          }) in
+          stands_kept (counts range) (flat_map (side_entries w.sides) (named range sure)) e
+          (flat_of (side_entries w.sides) (named range sure) of.0 e (named_of range sure by.0 of.0 there by.2) of.2) kept.1
+      | inr waits ↦
+          let found = behind_at w.entries place is.place by.0 (omega (arith, is.behind, waits)) is.stands in
+          let behind : Contains (drop place w.entries) by.0 = stands_there (drop place w.entries) found.0 by.0 found.1 in
+          absurd
+          (none_in by.0
+          (rw none at (stands_kept (is_joined_in range) (drop place w.entries) by.0 behind (names_joined range by.0 of.0 by.2))))
+    ]
 
 -- ---- one member
 
@@ -92,11 +95,9 @@ module _ (v : View) (row : Row) (lineage : List Member) (to place : ℕ) (ends :
   sure = free_part row.range gathered.member.from (v.written gathered.member.master) (applied_entries (v.written gathered.member.master))
 
   parts : counted_of row.range gathered ≡ sure ++ (part ++ (marked ++ sides))
-  parts =
-      counted_parts row.range m.from w main (side_read gathered) log
+  parts = counted_parts row.range m.from w main (side_read gathered) log
       ∙ ap (λ (l : List Entry). (l ++ marked) ++ sides) (free_parts row.range m.from w main (side_read gathered) log)
-      ∙ append_assoc (sure ++ part) marked sides
-      ∙ append_assoc sure part (marked ++ sides)
+      ∙ append_assoc (sure ++ part) marked sides ∙ append_assoc sure part (marked ++ sides)
 
   abbrev truth_of_it : List Entry
   truth_of_it = member_truth v.written row.range gathered.member
@@ -117,10 +118,10 @@ module _ (v : View) (row : Row) (lineage : List Member) (to place : ℕ) (ends :
   pub free_read : (others : List Entry) → ((e : Entry) → Contains (member_truth v.written row.range gathered.member) e → Contains others e) → ((e : Entry) → Contains part e → Contains others e) → (e : Entry)
       → Contains (free_part row.range gathered.member.from (v.written gathered.member.master) main) e → Contains others e
   free_read others truths parts e at =
-      ⊎_elim
-      (λ (here : Contains sure e). truths e (Contains-append_left sure (side_part row.range m.from w (applied_entries w)) e here))
-      (λ (behind : Contains part e). parts e behind)
-      (Contains-append_cases sure part e (free_from row.range m.from w main (side_read gathered) log e at))
+      elim (Contains-append_cases sure part e (free_from row.range m.from w main (side_read gathered) log e at)) [
+        | inl here ↦ truths e (Contains-append_left sure (side_part row.range m.from w (applied_entries w)) e here)
+        | inr behind ↦ parts e behind
+      ]
 
   -- of the last member a first part of the rest was read, where the lists before tell nothing new, and have all else of the truth
   pub last_back : (truth front : List Entry) (before after : List (List Entry))
@@ -145,21 +146,18 @@ module _ (v : View) (row : Row) (lineage : List Member) (to place : ℕ) (ends :
       let in_line : (e : Entry) → Contains (counted_of row.range gathered) e → Contains (sure ++ (part ++ (marked ++ sides))) e =
       λ e at. subst (λ (l : List Entry). Contains l e) parts at in
       let all_has : (e : Entry) → Contains (truth ++ part) e → Contains (all_of (before ++ (sure ++ (part ++ (marked ++ sides))) ∷ after)) e =
-      λ e at.
-      ⊎_elim
-      (λ (its : Contains truth e).
-      ⊎_elim (λ (early : Contains (all_of before) e). before_has truth (member_rest v.written row.range m) before sure part (marked ++ sides) left.more after e early)
-      (λ (applied : Contains truth_of_it e).
-      line_has truth (member_rest v.written row.range m) before sure part (marked ++ sides) left.more after e
-      (in_line e (truth_in row.range m.from w main (side_read gathered) log e applied)))
-      (of e its))
-      (λ (behind : Contains part e).
-      line_has truth (member_rest v.written row.range m) before sure part (marked ++ sides) left.more after e
-      (in_line e (part_in row.range m.from w main (side_read gathered) log e behind)))
-      (Contains-append_cases truth part e at) in
-      subst (λ (line : List Entry). IsReadBack truth (member_rest v.written row.range m) (before ++ line ∷ after)) (sym parts)
-      (read_back truth (member_rest v.written row.range m) before sure part (marked ++ sides) left.more after left.parts all_has in_sure earlier
-      (both_told marked sides (truth ++ part) (marked_told (truth ++ part) front tells front_in free_in sides_in) of_sides) none)
+      λ e at. elim (Contains-append_cases truth part e at) [
+        | inl its ↦ elim (of e its) [
+          | inl early ↦ before_has truth (member_rest v.written row.range m) before sure part (marked ++ sides) left.more after e early
+          | inr applied ↦ line_has truth (member_rest v.written row.range m) before sure part (marked ++ sides) left.more after e
+              (in_line e (truth_in row.range m.from w main (side_read gathered) log e applied))
+        ]
+        | inr behind ↦ line_has truth (member_rest v.written row.range m) before sure part (marked ++ sides) left.more after e
+            (in_line e (part_in row.range m.from w main (side_read gathered) log e behind))
+      ] in
+      rw parts
+      (read_back truth (member_rest v.written row.range m) before sure part (marked ++ sides) left.more after left.parts all_has in_sure
+      earlier (both_told marked sides (truth ++ part) (marked_told (truth ++ part) front tells front_in free_in sides_in) of_sides) none)
 
   -- what was read of a member whose all is told tells nothing new, where its marked pieces do not
   pub first_told : (others : List Entry) → AreAmong marked others → ((e : Entry) → Contains (member_material v.written row.range gathered.member) e → Contains others e) → AreAmong (counted_of row.range gathered) others
@@ -167,11 +165,13 @@ module _ (v : View) (row : Row) (lineage : List Member) (to place : ℕ) (ends :
       let free : List Entry = free_part row.range m.from w main in
       let free_all : List Entry = free_part row.range m.from w w.entries in
       let side_all : List Entry = side_part row.range m.from w w.entries in
-      subst (λ (list : List Entry). AreAmong list others) (sym (counted_parts row.range m.from w main (side_read gathered) log))
+      rw (counted_parts row.range m.from w main (side_read gathered) log)
       (both_told (free ++ marked) sides others
       (both_told free marked others
-      (stand_told free others (λ e at. has e (Contains-append_left free_all side_all e (free_of_all row.range m.from w main (side_read gathered) log e at)))) tells)
-      (stand_told sides others (λ e at. has e (Contains-append_right free_all side_all e (side_of_all row.range m.from w main (side_read gathered) log e at)))))
+      (stand_told free others
+      (λ e at. has e (Contains-append_left free_all side_all e (free_of_all row.range m.from w main (side_read gathered) log e at)))) tells)
+      (stand_told sides others
+      (λ e at. has e (Contains-append_right free_all side_all e (side_of_all row.range m.from w main (side_read gathered) log e at)))))
 
   -- and all of it that is applied was read
   pub truth_read : (e : Entry) → Contains (member_truth v.written row.range gathered.member) e → Contains (counted_of row.range gathered) e

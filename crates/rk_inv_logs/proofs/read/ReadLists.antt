@@ -1,7 +1,7 @@
 -- What was read of members is a truth and a first part of a rest, where at one member some of the truth, that part, and what tells nothing
 -- new stand one after the other, where what was read before tells nothing new, and nothing was read behind.
-use Rattle.std.proofs.Common.{◌≡◌, List, [], ◌∷◌, ◌++◌, append_assoc, map, refl, sym, ap, subst, ◌∙◌, ⊎_elim, arith, All, Contains}
-use Rattle.std.proofs.Common.{flat_map}
+use Rattle.std.proofs.Common.{◌≡◌, List, [], ◌∷◌, ◌++◌, append_assoc, map, refl, sym, ap, ◌∙◌, ⊎_elim, arith, All, Contains, flat_map, inl}
+use Rattle.std.proofs.Common.{inr}
 use Rattle.rk_inv_base.proofs.Words.{map-append, flat_map-append, All-contains, All-map, All-weaker, Contains-append_cases}
 use Rattle.rk_inv_base.proofs.Words.{Contains-append_left, Contains-append_right, Ended, Entry, items_in, told, told_by}
 use Rattle.rk_inv_base.proofs.rows.Apart.{contains_cases}
@@ -27,21 +27,18 @@ module _ (truth rest : List Entry) (before : List (List Entry)) (front part behi
   -- each entry that was read stands before, at the one member, or nowhere
   among_all : {X : Type 0} (f : Entry → List X) → All (λ list. Among f list (truth ++ part)) before → ((entry : Entry) → Contains front entry → Contains truth entry) → Among f behind (truth ++ part) → AreNone after → Among f (all_of all) (truth ++ part)
   among_all {X = X} f earlier fronts later none =
-      each_among f (all_of all) (truth ++ part)
-      (λ entry at x its.
+      each_among f (all_of all) (truth ++ part) (λ entry at x its.
       let of = flat_from (λ (list : List Entry). list) all entry at in
-      ⊎_elim
-      (λ (here : Contains before of.0).
-      All-contains (λ (list : List Entry). Among f list (truth ++ part)) before of.0 earlier here x (flat_of f of.0 entry x of.2 its))
-      (λ (there : Contains (line ∷ after) of.0).
-      ⊎_elim
-      (λ (same : line ≡ of.0). in_line entry x its (subst (λ (list : List Entry). Contains list entry) (sym same) of.2))
-      (λ (past : Contains after of.0).
-      let empty = All-contains (λ (list : List Entry). list ≡ []) after of.0 none past in
-      let nothing : Contains [] entry = subst (λ (list : List Entry). Contains list entry) empty of.2 in
-      absurd (omega (arith, nothing.1)))
-      (contains_cases line after of.0 there))
-      (Contains-append_cases before (line ∷ after) of.0 of.1))
+      elim (Contains-append_cases before (line ∷ after) of.0 of.1) [
+        | inl here ↦
+            All-contains (λ (list : List Entry). Among f list (truth ++ part)) before of.0 earlier here x (flat_of f of.0 entry x of.2 its)
+        | inr there ↦ elim (contains_cases line after of.0 there) [
+          | inl same ↦ in_line entry x its (rw same of.2)
+          | inr past ↦
+              let empty = All-contains (λ (list : List Entry). list ≡ []) after of.0 none past in
+              let nothing : Contains [] entry = rw empty at of.2 in absurd (omega (arith, nothing.1))
+        ]
+      ])
     where
       in_line : (entry : Entry) (x : X) → Contains (f entry) x → Contains line entry → Contains (flat_map f (truth ++ part)) x
       in_line entry x its at =
@@ -55,8 +52,7 @@ module _ (truth rest : List Entry) (before : List (List Entry)) (front part behi
   -- what stands in one of the lists is of all
   pub line_has : (entry : Entry) → Contains (front ++ (part ++ behind)) entry → Contains (all_of (before ++ (front ++ (part ++ behind)) ∷ after)) entry
   line_has entry at =
-      flat_of (λ (list : List Entry). list) all line entry
-      (Contains-append_right before (line ∷ after) line (0, omega arith, refl)) at
+      flat_of (λ (list : List Entry). list) all line entry (Contains-append_right before (line ∷ after) line (0, omega arith, refl)) at
 
   pub before_has : (entry : Entry) → Contains (all_of before) entry → Contains (all_of (before ++ (front ++ (part ++ behind)) ∷ after)) entry
   before_has entry at =
@@ -70,19 +66,18 @@ module _ (truth rest : List Entry) (before : List (List Entry)) (front part behi
     first = told front;
     behind = told behind;
     after = map told after;
-    split =
-        map-append told before (line ∷ after)
+    split = map-append told before (line ∷ after)
         ∙ ap (λ (ends : List Ended). map told before ++ ends ∷ map told after)
-        (flat_map-append told_by front (part ++ behind) ∙ ap (λ (ends : List Ended). told front ++ ends) (flat_map-append told_by part behind)
+        (flat_map-append told_by front (part ++ behind)
+        ∙ ap (λ (ends : List Ended). told front ++ ends) (flat_map-append told_by part behind)
         ∙ sym (append_assoc (told front) (told part) (told behind)));
-    before_told =
-        All-map (All (Contains (told (truth ++ part)))) told before
-        (All-weaker (λ (list : List Entry). AreAmong list (truth ++ part)) (λ (list : List Entry). All (Contains (told (truth ++ part))) (told list))
+    before_told = All-map (All (Contains (told (truth ++ part)))) told before
+        (All-weaker (λ (list : List Entry). AreAmong list (truth ++ part))
+        (λ (list : List Entry). All (Contains (told (truth ++ part))) (told list))
         (λ list its. all_by (Contains (told (truth ++ part))) (told list) its.1) before earlier);
     first_told = all_by (Contains (told truth)) (told front) (stand_among told_by front truth fronts);
     behind_told = all_by (Contains (told (truth ++ part))) (told behind) later.1;
-    after_none =
-        All-map (λ (ends : List Ended). ends ≡ []) told after
+    after_none = All-map (λ (ends : List Ended). ends ≡ []) told after
         (All-weaker (λ (list : List Entry). list ≡ []) (λ (list : List Entry). told list ≡ []) (λ list is. ap told is) after none);
   }
 
@@ -99,13 +94,12 @@ module _ (truth rest : List Entry) (before : List (List Entry)) (front part behi
     split = split;
     items = λ item. (
       among_all items_in
-          (All-weaker (λ (list : List Entry). AreAmong list (truth ++ part)) (λ (list : List Entry). Among items_in list (truth ++ part)) (λ list its. its.0) before earlier)
-          fronts later.0 none item,
+          (All-weaker (λ (list : List Entry). AreAmong list (truth ++ part)) (λ (list : List Entry). Among items_in list (truth ++ part))
+          (λ list its. its.0) before earlier) fronts later.0 none item,
       stand_among items_in (truth ++ part) (all_of all) has item,
     );
     floor = (all_told (truth ++ part) (all_of all) (all_stand_told (truth ++ part) (all_of all) has)).floor;
-    told_all =
-        all_by (Contains (told (all_of all))) (told truth)
+    told_all = all_by (Contains (told (all_of all))) (told truth)
         (stand_among told_by truth (all_of all) (λ entry at. has entry (Contains-append_left truth part entry at)));
     ends = in_order fronts earlier later none;
   }

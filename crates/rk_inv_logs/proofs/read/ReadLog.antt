@@ -1,17 +1,16 @@
 -- What a rebuild gathered of a member, once nothing is left to read of it: first entries of its log, as many as are applied and all that
 -- is needed, and each side segment that these name, whole.
 use Rattle.std.proofs.Common.{◌≡◌, ℕ, zero, suc, ◌+◌, ◌-◌, ◌<◌, ◌≤◌, Bool, true, false, cond, List, [], ◌∷◌, ◌++◌, length, get_or, map, max}
-use Rattle.std.proofs.Common.{Option, Some, None, refl, sym, ap, subst, ◌∙◌, ⊎_elim, arith, length-append, ◌==◌, IfSome, drop, find}
-use Rattle.std.proofs.Common.{is_some, nat_lt, not, slice_get, unwrap_or, All, Contains, flat_map, eq-eqb, eqb-true, lt-ltb, le-ltb}
-use Rattle.std.proofs.Common.{leb-true, append-nil}
+use Rattle.std.proofs.Common.{Option, Some, None, refl, sym, ap, subst, ◌∙◌, arith, length-append, ◌==◌, drop, find, is_some, nat_lt, not}
+use Rattle.std.proofs.Common.{slice_get, unwrap_or, All, Contains, flat_map, eq-eqb, eqb-true, lt-ltb, le-ltb, leb-true, append-nil, inl}
+use Rattle.std.proofs.Common.{inr}
 use Rattle.rk_inv_base.proofs.Words.{cases_lt, cond-false, cond-true, cond_both, false≢true, All-contains, All-map, recursion_from_All}
 use Rattle.rk_inv_base.proofs.Words.{prefix_len-le-length, get_or_from_slice_get, slice_get-get_or, slice_get_within, list_all}
 use Rattle.rk_inv_base.proofs.Words.{option_map_or, get, meets, Held, Range, NumberedBytes, all_again, entries_of, spelled_all}
 use Rattle.rk_inv_base.proofs.Words.{IsLawfulEntry, IsLawfulHeld, Entry, FIRST_SIDE_SEGMENT, list_all_each, cut, ends, Known, is_whole}
-use Rattle.rk_inv_base.proofs.Words.{known_length, nothing, IsBackup, Log, bytes_of, is_held, is_side_stored, known_of, segment_of}
-use Rattle.rk_inv_base.proofs.Words.{side_segments, EntryEnd, Gathered, LAST_MAIN_SEGMENT, next_segment, side_read, as_entries, named}
-use Rattle.rk_inv_base.proofs.Words.{named_by, side_entries, Written, IsCopy, IsFirstPart, IsLog, is_main, segments_in, AreRead, IsGathered}
-use Rattle.rk_inv_base.proofs.Words.{IsReadPart, READ_BACKUP}
+use Rattle.rk_inv_base.proofs.Words.{known_length, nothing, IsBackup, Log, bytes_of, is_held, is_side_stored, known_of, EntryEnd, Gathered}
+use Rattle.rk_inv_base.proofs.Words.{LAST_MAIN_SEGMENT, next_segment, side_read, as_entries, named, named_by, side_entries, Written, IsCopy}
+use Rattle.rk_inv_base.proofs.Words.{IsLog, is_main, segments_in, AreRead, IsGathered, IsReadPart, READ_BACKUP}
 use Rattle.rk_entry.specs.declared.entry.Entry.TheVariants as entries
 use Rattle.rk_log.proofs.Cuts.{ends_within}
 use Rattle.rk_log.proofs.LogLaws.{committed_held}
@@ -34,8 +33,7 @@ pub none_of : {X : Type 0} (p : X → Bool) (xs : List X) → find p xs ≡ None
 none_of p [] none x at = absurd (omega (arith, at.1))
 none_of {X} p (y ∷ xs) none x at =
     cond_both (p y) (Some y) (find p xs) (λ (found : Option X). found ≡ None → p x ≡ false) (λ e is. absurd (cc is))
-    (λ e is.
-    ⊎_elim (λ (same : y ≡ x). ap p (sym same) ∙ e) (λ (later : Contains xs x). none_of p xs is x later) (contains_cases y xs x at)) none
+    (λ e is. elim (contains_cases y xs x at) [ inl same ↦ ap p (sym same) ∙ e | inr later ↦ none_of p xs is x later ]) none
 
 -- a first part that is as long as the whole is the whole
 pub whole_part : (whole bytes more : List ℕ) → whole ≡ bytes ++ more → length whole ≤ length bytes → bytes ≡ whole
@@ -44,12 +42,9 @@ whole_part whole bytes (x ∷ more) is enough = absurd (omega (arith, enough, ap
 
 -- the segments that an entry names for a range are among those that it names
 pub named_in : (range : Range) (entry : Entry) (n : ℕ) → Contains (named_by range entry) n → Contains (segments_in entry) n
-named_in range (entries.Joined joined) n =
-    cond_both (meets joined.range range) joined.segments [] (λ numbers. Contains numbers n → Contains joined.segments n) (λ e at. at)
-    (λ e at. absurd (omega (arith, at.1)))
-named_in range (entries.Held held) n = λ at. at
-named_in range (entries.Refused refused) n = λ at. at
-named_in range (entries.Carried carried) n = λ at. at
+named_in range (entries.Joined joined) n = cond_both (meets joined.range range) joined.segments []
+    (λ numbers. Contains numbers n → Contains joined.segments n) (λ e at. at) (λ e at. absurd (omega (arith, at.1)))
+named_in range _ n = λ at. at
 
 -- ---- bytes of groups
 
@@ -90,10 +85,8 @@ module _ (log : Log) (w : Written) (stored : ℕ → ℕ → List ℕ) (kept : I
     group_of : (k segment : ℕ) → 1 + k ≡ segment → segment < FIRST_SIDE_SEGMENT → (groups : List (List Entry)) → cut log.entries ≡ map spelled_all groups → bytes_of log segment ≡ spelled_all (get_or groups k [])
     group_of k segment is main groups are =
         let at : segment - 1 ≡ k = omega (arith, is) in
-        bytes_main log segment (omega (arith, is)) main
-        ∙ ap (λ (n : ℕ). get_or (cut log.entries) n []) at
-        ∙ ap (λ (segments : List (List ℕ)). get_or segments k []) are
-        ∙ spelled_at groups k
+        bytes_main log segment (omega (arith, is)) main ∙ ap (λ (n : ℕ). get_or (cut log.entries) n []) at
+        ∙ ap (λ (segments : List (List ℕ)). get_or segments k []) are ∙ spelled_at groups k
 
     reach_within : (end : EntryEnd) → IsReached end → (segment : ℕ) (bytes : List ℕ) → IsReadPart Needed known its segment bytes → reach_of end segment ≤ length bytes
     reach_within end reached segment bytes part =
@@ -101,9 +94,7 @@ module _ (log : Log) (w : Written) (stored : ℕ → ℕ → List ℕ) (kept : I
         cond_both (segment == end.segment) end.offset 0 (λ n. max (known_length known segment) n ≤ length bytes)
         (λ e.
         let same : segment ≡ end.segment = eqb-true segment end.segment e in
-        let enough = reached bytes (subst (λ (n : ℕ). IsReadPart Needed known its n bytes) same part) in
-        omega (arith, known_part, enough))
-        (λ e. omega (arith, known_part))
+        let enough = reached bytes (rw same at part) in omega (arith, known_part, enough)) (λ e. omega (arith, known_part))
 
     part_read : length gathered.main ≤ LAST_MAIN_SEGMENT → (end : EntryEnd) → IsReached end → (groups : List (List Entry)) → cut log.entries ≡ map spelled_all groups → (k segment : ℕ) → 1 + k ≡ segment → k < length gathered.main → IsPartRead (reach_of end) its segment (get_or groups k []) (get_or gathered.main k [])
     part_read fits end reached groups are k segment is within =
@@ -116,12 +107,10 @@ module _ (log : Log) (w : Written) (stored : ℕ → ℕ → List ℕ) (kept : I
           bytes = one.bytes;
           read_is = one.spelled;
           front = one.read.front;
-          copied = subst (IsFirstPart (its segment)) group (copy.front segment);
+          copied = rw group at (copy.front segment);
           enough = reach_within end reached segment one.bytes one.read;
           in_order = λ later behind mains some.
-              let least : length (spelled_all (get_or groups k [])) ≤ known_length known segment =
-              subst (λ (bytes : List ℕ). length bytes ≤ known_length known segment) group
-              (copy.in_order later some segment behind (lt-ltb segment FIRST_SIDE_SEGMENT main ∙ sym mains)) in
+              let least = rw group at (copy.in_order later some segment behind (lt-ltb segment FIRST_SIDE_SEGMENT main ∙ sym mains)) in
               omega (arith, least);
         }
 
@@ -130,14 +119,12 @@ module _ (log : Log) (w : Written) (stored : ℕ → ℕ → List ℕ) (kept : I
     end_read fits lawful place end at some within is_reached =
         let groups = cut_groups log.entries in
         let reach : end.offset ≤ reach_of end end.segment =
-        subst (λ (n : ℕ). end.offset ≤ max (known_length known end.segment) n)
-        (sym (cond-true (end.segment == end.segment) end.offset 0 (eq-eqb end.segment end.segment refl))) (omega arith) in
-        reached (reach_of end) its 1 groups.groups gathered.main
-        (all_groups IsLawfulEntry groups.groups (subst (All IsLawfulEntry) (sym groups.list_is) lawful))
+        rw (cond-true (end.segment == end.segment) end.offset 0 (eq-eqb end.segment end.segment refl)) (omega arith) in
+        reached (reach_of end) its 1 groups.groups gathered.main (all_groups IsLawfulEntry groups.groups (rw groups.list_is lawful))
         (part_read fits end is_reached groups.groups groups.spelled_are)
-        (λ n below. lt-ltb n FIRST_SIDE_SEGMENT (omega (arith, below, fits)))
-        place end (subst (λ (places : List EntryEnd). slice_get places place ≡ Some end) (sym groups.places_are) at) some
-        (omega (arith, within)) reach
+        (λ n below. lt-ltb n FIRST_SIDE_SEGMENT (omega (arith, below, fits))) place end
+        (subst (λ (places : List EntryEnd). slice_get places place ≡ Some end) (sym groups.places_are) at) some (omega (arith, within))
+        reach
 
     -- the end of an entry is in a main segment, and not where that begins
     record IsMainEnd (end : EntryEnd) : Type 0 where
@@ -150,10 +137,10 @@ module _ (log : Log) (w : Written) (stored : ℕ → ℕ → List ℕ) (kept : I
         let within : place < length (ends log.entries) = slice_get_within (ends log.entries) place end at in
         let same : get_or (ends log.entries) place end ≡ end = get_or_from_slice_get (ends log.entries) place end end at in
         let segments = ends_within [] log.entries place end within in
-        let last : end.segment ≤ length (cut log.entries) = subst (λ (e : EntryEnd). e.segment ≤ length (cut log.entries)) same segments.1 in
+        let last : end.segment ≤ length (cut log.entries) = rw same at segments.1 in
         record {
-          some = subst (λ (e : EntryEnd). 1 ≤ e.offset) same (end_some [] log.entries place end (λ k h. absurd (omega arith)) within);
-          first = subst (λ (e : EntryEnd). 1 ≤ e.segment) same segments.0;
+          some = rw same at (end_some [] log.entries place end (λ k h. absurd (omega arith)) within);
+          first = rw same at segments.0;
           main = lt-ltb end.segment FIRST_SIDE_SEGMENT (omega (arith, last, few));
         }
 
@@ -163,30 +150,25 @@ module _ (log : Log) (w : Written) (stored : ℕ → ℕ → List ℕ) (kept : I
       known_read place end at is_known =
           let is = end_is place end at in
           end_read fits lawful place end at is.some
-          (⊎_elim
-          (λ (beyond : length gathered.main < end.segment).
-          let none = read.passed passed end.segment beyond is.main in
-          let some = is.some in absurd (omega (arith, none, is_known, some)))
-          (λ (within : end.segment ≤ length gathered.main). within)
-          (cases_lt (length gathered.main) end.segment))
-          (λ bytes part. let enough = part.enough in omega (arith, enough, is_known))
+          (elim (cases_lt (length gathered.main) end.segment) [
+            | inl beyond ↦ absurd (omega (arith, read.passed passed end.segment beyond is.main, is_known, is.some))
+            | inr within ↦ within
+          ]) (λ bytes part. omega (arith, part.enough, is_known))
 
       -- so what is applied was read
       pub applied_read : w.applied ≤ length (flat_map (λ list. list) gathered.main)
-      applied_read =
-          ⊎_elim
-          (λ (fewer : length main < w.applied).
-          let held = kept.held in
-          let count = prefix_len-le-length (is_held log.known) (ends log.entries) in
-          let place : ℕ = length main in
-          let there = slice_get-get_or (ends log.entries) place (record { segment = 0; offset = 0 }) (omega (arith, fewer, held, count)) in
-          let end : EntryEnd = get_or (ends log.entries) place (record { segment = 0; offset = 0 }) in
-          let holds : end.offset ≤ known_length known end.segment =
-          subst (λ (o : Option EntryEnd). IfSome o (λ end. end.offset ≤ known_length (known_of log READ_BACKUP) end.segment)) there (committed_held log place READ_BACKUP (omega (arith, fewer, held)) backed) in
-          let more = known_read place end there holds in
-          absurd (omega (arith, more)))
-          (λ (enough : w.applied ≤ length main). enough)
-          (cases_lt (length main) w.applied)
+      applied_read = elim (cases_lt (length main) w.applied) [
+        | inl fewer ↦
+            let held = kept.held in
+            let count = prefix_len-le-length (is_held log.known) (ends log.entries) in
+            let place : ℕ = length main in
+            let there =
+            slice_get-get_or (ends log.entries) place (record { segment = 0; offset = 0 }) (omega (arith, fewer, held, count)) in
+            let end : EntryEnd = get_or (ends log.entries) place (record { segment = 0; offset = 0 }) in
+            let holds = rw there at (committed_held log place READ_BACKUP (omega (arith, fewer, held)) backed) in
+            absurd (omega (arith, known_read place end there holds))
+        | inr enough ↦ enough
+      ]
 
       -- and what is needed was
       pub needed_read : (place : ℕ) (end : EntryEnd) → slice_get (ends log.entries) place ≡ Some end → Needed end → place < length (flat_map (λ list. list) gathered.main)
@@ -205,15 +187,16 @@ module _ (log : Log) (w : Written) (stored : ℕ → ℕ → List ℕ) (kept : I
 
       -- a side segment that is stored has its bytes at its place
       side_at : (number : ℕ) → is_side_stored log number ≡ true → FIRST_SIDE_SEGMENT ≤ number → number - FIRST_SIDE_SEGMENT < length log.sides
-      side_at number stands side =
-          ⊎_elim
-          (λ (within : number - FIRST_SIDE_SEGMENT < length log.sides). within)
-          (λ (past : length log.sides ≤ number - FIRST_SIDE_SEGMENT).
-          absurd (false≢true
-          (sym (ap (λ (found : Option NumberedBytes). option_map_or (λ segment. list_all (λ known. is_whole known segment) log.known) found false)
-          (numbered_past number FIRST_SIDE_SEGMENT log.sides (omega (arith, past, side))))
-          ∙ stands)))
-          (cases_lt (number - FIRST_SIDE_SEGMENT) (length log.sides))
+      side_at number stands side = elim (cases_lt (number - FIRST_SIDE_SEGMENT) (length log.sides)) [
+        | inl within ↦ within
+        | inr past ↦
+            absurd
+            (false≢true
+            (sym
+            (ap
+            (λ (found : Option NumberedBytes). option_map_or (λ segment. list_all (λ known. is_whole known segment) log.known) found false)
+            (numbered_past number FIRST_SIDE_SEGMENT log.sides (omega (arith, past, side)))) ∙ stands))
+      ]
 
       -- what was read of a side segment that every backup is known to hold is all of it
       pub side_whole : All IsLawfulHeld (flat_map (λ items. items) w.sides) → (number : ℕ) → is_side_stored log number ≡ true → (list : List Entry) → get gathered.sides number ≡ Some list → list ≡ side_entries w.sides number
@@ -222,35 +205,32 @@ module _ (log : Log) (w : Written) (stored : ℕ → ℕ → List ℕ) (kept : I
           let k : ℕ = number - FIRST_SIDE_SEGMENT in
           let within : k < length log.sides = side_at number stands side in
           let bytes : List ℕ = get_or log.sides k [] in
-          let found : segment_of number (side_segments log) ≡ Some (record { number = number; bytes = bytes }) =
-          numbered_at number FIRST_SIDE_SEGMENT k log.sides (omega (arith, side)) within in
+          let found = numbered_at number FIRST_SIDE_SEGMENT k log.sides (omega (arith, side)) within in
           let all_hold : list_all (λ (known : Known). is_whole known (record { number = number; bytes = bytes })) log.known ≡ true =
-          ap (λ (o : Option NumberedBytes). option_map_or (λ segment. list_all (λ known. is_whole known segment) log.known) o false) (sym found) ∙ stands in
-          let first = backed.first in
-          let last = backed.last in
+          ap (λ (o : Option NumberedBytes). option_map_or (λ segment. list_all (λ known. is_whole known segment) log.known) o false)
+          (sym found) ∙ stands in
           let holds : length bytes ≤ known_length known number =
           leb-true (length bytes) (known_length known number)
-          (list_all_each (λ (known : Known). is_whole known (record { number = number; bytes = bytes })) log.known (READ_BACKUP - 1) nothing all_hold (omega (arith, first, last))) in
+          (list_all_each (λ (known : Known). is_whole known (record { number = number; bytes = bytes })) log.known (READ_BACKUP - 1) nothing
+          all_hold (omega (arith, backed.first, backed.last))) in
           let one = read.sides number list is in
           let bytes_are : bytes_of log number ≡ bytes = bytes_side log number few side ∙ ap bytes_in found in
           let items : List Held = get_or w.sides k [] in
-          let spelt : bytes ≡ spelled_all (as_entries items) = ap (λ (sides : List (List ℕ)). get_or sides k []) kept.spelled ∙ items_at w.sides k in
+          let spelt = ap (λ (sides : List (List ℕ)). get_or sides k []) kept.spelled ∙ items_at w.sides k in
           let part = first_part_more one.bytes (its number) (bytes_of log number) one.read.front (copy.front number) in
-          let enough = one.read.enough in
-          let same : one.bytes ≡ bytes =
-          whole_part bytes one.bytes part.more (sym bytes_are ∙ part.parts) (omega (arith, holds, enough)) in
+          let same = whole_part bytes one.bytes part.more (sym bytes_are ∙ part.parts) (omega (arith, holds, one.read.enough)) in
           let lawful_list : All IsLawfulEntry (as_entries items) =
           All-map IsLawfulEntry entries.Held items (all_at IsLawfulHeld w.sides k (all_groups IsLawfulHeld w.sides lawful_items)) in
           let its_entries : side_entries w.sides number ≡ as_entries items =
           cond-false (nat_lt number FIRST_SIDE_SEGMENT) [] (as_entries items) (le-ltb number FIRST_SIDE_SEGMENT side) in
           one.spelled ∙ ap entries_of (same ∙ spelt ∙ sym (append-nil (spelled_all (as_entries items))))
           ∙ all_again (as_entries items) [] (recursion_from_All IsLawfulEntry (as_entries items) lawful_list)
-          ∙ ap (λ (l : List Entry). as_entries items ++ l) read_none ∙ append-nil (as_entries items)
-          ∙ sym its_entries
+          ∙ ap (λ (l : List Entry). as_entries items ++ l) read_none ∙ append-nil (as_entries items) ∙ sym its_entries
 
       -- the side segments that what was read names were read
       named_read : (range : Range) → next_side range gathered ≡ None → (number : ℕ) → Contains (named range (main_entries gathered)) number → (list : List Entry) × (get gathered.sides number ≡ Some list)
-      named_read range none number at = go (get gathered.sides number) refl (none_of (λ (segment : ℕ). not (is_some (get gathered.sides segment))) (named range (main_entries gathered)) none number at)
+      named_read range none number at = go (get gathered.sides number) refl
+          (none_of (λ (segment : ℕ). not (is_some (get gathered.sides segment))) (named range (main_entries gathered)) none number at)
         where
           go : (found : Option (List Entry)) → get gathered.sides number ≡ found → not (is_some found) ≡ false → (list : List Entry) × (get gathered.sides number ≡ Some list)
           go None is missing = absurd (false≢true (sym missing))
@@ -284,7 +264,6 @@ module _ (log : Log) (w : Written) (stored : ℕ → ℕ → List ℕ) (kept : I
 
 -- of a member of which nothing is left to read the main segments are passed, and no side segment is left
 pub none_left : (range : Range) (gathered : Gathered) → next_segment range gathered ≡ None → (gathered.main_read ≡ true) × (next_side range gathered ≡ None)
-none_left range gathered =
-    cond_both gathered.main_read (next_side range gathered) (Some (length gathered.main + 1))
-    (λ (next : Option ℕ). next ≡ None → (gathered.main_read ≡ true) × (next_side range gathered ≡ None))
-    (λ e none. (e, none)) (λ e none. absurd (cc none))
+none_left range gathered = cond_both gathered.main_read (next_side range gathered) (Some (length gathered.main + 1))
+    (λ (next : Option ℕ). next ≡ None → (gathered.main_read ≡ true) × (next_side range gathered ≡ None)) (λ e none. (e, none))
+    (λ e none. absurd (cc none))

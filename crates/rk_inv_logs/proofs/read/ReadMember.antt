@@ -1,7 +1,7 @@
 -- What counts of a member of which first entries of the log were read, with each side segment that they name: its unmarked entries, first the
 -- applied ones, then a first part of the others; then what bears a mark; and then the side segments.
 use Rattle.std.proofs.Common.{◌≡◌, ℕ, zero, suc, ◌+◌, ◌-◌, ◌<◌, ◌≤◌, Bool, true, false, cond, List, [], ◌∷◌, ◌++◌, length, max, fold, Some}
-use Rattle.std.proofs.Common.{refl, sym, ap, subst, ◌∙◌, ⊎_elim, arith, drop, slice_get, take, Contains, flat_map, take-append-drop}
+use Rattle.std.proofs.Common.{refl, sym, ap, subst, ◌∙◌, arith, drop, slice_get, take, Contains, flat_map, take-append-drop, inl, inr}
 use Rattle.rk_inv_base.proofs.Words.{cases_lt, cond-false, cond-true, cond_both, drop-take, take-append-le, Contains-append_cases}
 use Rattle.rk_inv_base.proofs.Words.{Contains-append_left, Contains-append_right, filter-append, slice_get_within, Range, Entry, is_marked}
 use Rattle.rk_inv_base.proofs.Words.{unmarked, unmarked_from, counting, counts, log_material, material_of, named, named_by, side_entries}
@@ -30,8 +30,7 @@ drop_twice {X} (suc n) m [] = none m ∙ sym (none (suc n + m))
     none zero = refl
     none (suc k) = refl
 drop_twice {X} (suc n) m (x ∷ xs) =
-    let same : suc (n + m) ≡ suc n + m = omega arith in
-    drop_twice n m xs ∙ ap (λ (k : ℕ). drop k (x ∷ xs)) same
+    let same : suc (n + m) ≡ suc n + m = omega arith in drop_twice n m xs ∙ ap (λ (k : ℕ). drop k (x ∷ xs)) same
 
 -- the same for each of some elements
 pub flat_same : {X Y : Type 0} (f g : X → List Y) (xs : List X) → ((x : X) → Contains xs x → f x ≡ g x) → flat_map f xs ≡ flat_map g xs
@@ -66,15 +65,14 @@ module _ (marks : List Mark) where
   from_split from n list =
       let m : ℕ = n - from in
       let at : from + m ≡ max from n = omega arith in
-      let front : take m (drop from list) ≡ drop from (take n list) =
-      ⊎_elim
-      (λ (early : n < from).
-      let none : m ≡ 0 = omega (arith, early) in
-      ap (λ (k : ℕ). take k (drop from list)) none ∙ sym (none_behind from n list early))
-      (λ (late : from ≤ n).
-      let is : from + m ≡ n = omega (arith, late) in
-      sym (drop-take from m list) ∙ ap (λ (k : ℕ). drop from (take k list)) is)
-      (cases_lt n from) in
+      let front : take m (drop from list) ≡ drop from (take n list) = elim (cases_lt n from) [
+        | inl early ↦
+            let none : m ≡ 0 = omega (arith, early) in
+            ap (λ (k : ℕ). take k (drop from list)) none ∙ sym (none_behind from n list early)
+        | inr late ↦
+            let is : from + m ≡ n = omega (arith, late) in
+            sym (drop-take from m list) ∙ ap (λ (k : ℕ). drop from (take k list)) is
+      ] in
       unmarked_split from m (drop from list)
       ∙ ap (λ (l : List Entry). unmarked marks from l ++ unmarked marks (from + m) (drop m (drop from list))) front
       ∙ ap (λ (l : List Entry). unmarked marks from (drop from (take n list)) ++ unmarked marks (from + m) l) (drop_twice from m list)
@@ -91,8 +89,7 @@ module _ (marks : List Mark) where
   named_free range start [] none = refl
   named_free range start (entry ∷ list) none =
       let later : flat_map (named_by range) list ≡ flat_map (named_by range) (unmarked marks (suc start) list) =
-      named_free range (suc start) list
-      (λ k e at marked.
+      named_free range (suc start) list (λ k e at marked.
       let same : suc start + k ≡ start + suc k = omega arith in
       none (suc k) e at (ap (is_marked marks) (sym same) ∙ marked)) in
       cond_both (is_marked marks start) (unmarked marks (suc start) list) (entry ∷ unmarked marks (suc start) list)
@@ -111,12 +108,11 @@ module _ (marks : List Mark) where
   free_at start (first ∷ list) entry =
       let here : start + 0 ≡ start = omega arith in
       cond_both (is_marked marks start) (unmarked marks (suc start) list) (first ∷ unmarked marks (suc start) list)
-      (λ (l : List Entry). Contains l entry → IsFreeAt start (first ∷ list) entry)
-      (λ e at. behind (free_at (suc start) list entry at))
-      (λ e at.
-      ⊎_elim (λ (same : first ≡ entry). (zero, ap Some same, ap (is_marked marks) here ∙ e))
-      (λ (later : Contains (unmarked marks (suc start) list) entry). behind (free_at (suc start) list entry later))
-      (contains_cases first (unmarked marks (suc start) list) entry at))
+      (λ (l : List Entry). Contains l entry → IsFreeAt start (first ∷ list) entry) (λ e at. behind (free_at (suc start) list entry at))
+      (λ e at. elim (contains_cases first (unmarked marks (suc start) list) entry at) [
+        | inl same ↦ (zero, ap Some same, ap (is_marked marks) here ∙ e)
+        | inr later ↦ behind (free_at (suc start) list entry later)
+      ])
     where
       behind : IsFreeAt (suc start) list entry → IsFreeAt start (first ∷ list) entry
       behind found =
@@ -133,11 +129,10 @@ module _ (marks : List Mark) where
       let here : start + 0 ≡ start = omega arith in
       cond_both (is_marked marks start) (first ∷ marked_entries marks (suc start) list) (marked_entries marks (suc start) list)
       (λ (l : List Entry). Contains l entry → IsMarkedAt start (first ∷ list) entry)
-      (λ e at.
-      ⊎_elim (λ (same : first ≡ entry). (zero, ap Some same, ap (is_marked marks) here ∙ e))
-      (λ (later : Contains (marked_entries marks (suc start) list) entry). behind (marked_at (suc start) list entry later))
-      (contains_cases first (marked_entries marks (suc start) list) entry at))
-      (λ e at. behind (marked_at (suc start) list entry at))
+      (λ e at. elim (contains_cases first (marked_entries marks (suc start) list) entry at) [
+        | inl same ↦ (zero, ap Some same, ap (is_marked marks) here ∙ e)
+        | inr later ↦ behind (marked_at (suc start) list entry later)
+      ]) (λ e at. behind (marked_at (suc start) list entry at))
     where
       behind : IsMarkedAt (suc start) list entry → IsMarkedAt start (first ∷ list) entry
       behind found =
@@ -152,10 +147,9 @@ module _ (marks : List Mark) where
 
   -- what counts of an entry and those behind it, where it counts or not, and bears a mark or not
   abbrev IsCountedBy : Range → ℕ → Entry → List Entry → Bool → Bool → Type 0
-  IsCountedBy range start entry list c b =
-      cond c (entry ∷ counting range list) (counting range list)
-      ≡ counting range (cond b (unmarked marks (suc start) list) (entry ∷ unmarked marks (suc start) list))
-      ++ counting range (cond b (entry ∷ marked_entries marks (suc start) list) (marked_entries marks (suc start) list))
+  IsCountedBy range start entry list c b = cond c (entry ∷ counting range list) (counting range list)
+      ≡ counting range (cond b (unmarked marks (suc start) list) (entry ∷ unmarked marks (suc start) list)) ++ counting range
+      (cond b (entry ∷ marked_entries marks (suc start) list) (marked_entries marks (suc start) list))
 
   -- behind a marked entry that counts no unmarked one does
   none_free : (range : Range) (start : ℕ) (entry : Entry) (list : List Entry) → StandBefore range start (entry ∷ list) → counts range entry ≡ true → is_marked marks start ≡ true → counting range (unmarked marks (suc start) list) ≡ []
@@ -180,8 +174,8 @@ module _ (marks : List Mark) where
   -- so what counts are first those and then these
   pub counted_split : (range : Range) (start : ℕ) (list : List Entry) → StandBefore range start list → counting range list ≡ counting range (unmarked marks start list) ++ counting range (marked_entries marks start list)
   counted_split range start [] before = refl
-  counted_split range start (entry ∷ list) before =
-      go (counts range entry) refl (is_marked marks start) refl (counted_split range (suc start) list (stand_later range start entry list before))
+  counted_split range start (entry ∷ list) before = go (counts range entry) refl (is_marked marks start) refl
+      (counted_split range (suc start) list (stand_later range start entry list before))
     where
       go : (c : Bool) → counts range entry ≡ c → (b : Bool) → is_marked marks start ≡ b → counting range list ≡ counting range (unmarked marks (suc start) list) ++ counting range (marked_entries marks (suc start) list) → IsCountedBy range start entry list c b
       go false outside true marked later =
@@ -214,8 +208,7 @@ marked_part range from w list = counting range (marked_entries w.marks from (dro
 
 -- of the side segments that they name
 abbrev pub side_part : Range → ℕ → Written → List Entry → List Entry
-side_part range from w list =
-    counting range (flat_map (side_entries w.sides) (named range (unmarked_from w.marks from list)))
+side_part range from w list = counting range (flat_map (side_entries w.sides) (named range (unmarked_from w.marks from list)))
 
 -- of those that are not applied
 abbrev pub later_part : Range → ℕ → Written → List Entry → List Entry
@@ -248,9 +241,9 @@ unmarked_grow marks from old new grown =
 
 -- so what their side segments have
 pub side_grow : (range : Range) (from : ℕ) (w : Written) (old new : List Entry) → Extends old new → (entry : Entry) → Contains (side_part range from w old) entry → Contains (side_part range from w new) entry
-side_grow range from w old new grown entry at =
-    still_contains (side_part range from w old) (side_part range from w new) entry
-    (sides_extend range (side_entries w.sides) (unmarked_from w.marks from old) (unmarked_from w.marks from new) (unmarked_grow w.marks from old new grown)) at
+side_grow range from w old new grown entry at = still_contains (side_part range from w old) (side_part range from w new) entry
+    (sides_extend range (side_entries w.sides) (unmarked_from w.marks from old) (unmarked_from w.marks from new)
+    (unmarked_grow w.marks from old new grown)) at
 
 pub free_grow : (range : Range) (from : ℕ) (w : Written) (old new : List Entry) → Extends old new → (entry : Entry) → Contains (free_part range from w old) entry → Contains (free_part range from w new) entry
 free_grow range from w old new grown entry at =
@@ -259,9 +252,7 @@ free_grow range from w old new grown entry at =
 module _ (range : Range) (from : ℕ) (w : Written) (main : List Entry) (side : ℕ → List Entry) (read : IsReadLog range from w main side) where
   -- what stands in what was read stands in the log, at its place
   at_place : (k : ℕ) (entry : Entry) → slice_get (drop from main) k ≡ Some entry → slice_get w.entries (from + k) ≡ Some entry
-  at_place k entry at =
-      subst (λ (l : List Entry). slice_get l (from + k) ≡ Some entry) (sym read.parts)
-      (stands_front main read.more (from + k) entry (place_of main from k (from + k) entry refl at))
+  at_place k entry at = rw read.parts (stands_front main read.more (from + k) entry (place_of main from k (from + k) entry refl at))
 
   order : StandBefore w.marks range from (drop from main)
   order k j a b one other marked free first second =
@@ -271,28 +262,23 @@ module _ (range : Range) (from : ℕ) (w : Written) (main : List Entry) (side : 
       omega (arith, less)
 
   names_same : named range (drop from main) ≡ named range (unmarked_from w.marks from main)
-  names_same =
-      ap (λ (l : List ℕ). fold with_number [] l)
+  names_same = ap (λ (l : List ℕ). fold with_number [] l)
       (named_free w.marks range from (drop from main) (λ k entry at marked. read.bare (from + k) entry (at_place k entry at) marked))
 
   sides_same : flat_map side (named range (drop from main)) ≡ flat_map (side_entries w.sides) (named range (unmarked_from w.marks from main))
   sides_same =
-      flat_same side (side_entries w.sides) (named range (drop from main)) read.sides
-      ∙ ap (flat_map (side_entries w.sides)) names_same
+      flat_same side (side_entries w.sides) (named range (drop from main)) read.sides ∙ ap (flat_map (side_entries w.sides)) names_same
 
   -- what counts of what was read
   pub counted_parts : material_of range side (drop from main) ≡ (free_part range from w main ++ marked_part range from w main) ++ side_part range from w main
-  counted_parts =
-      (λ i. counted_split w.marks range from (drop from main) order i ++ counting range (sides_same i))
+  counted_parts = (λ i. counted_split w.marks range from (drop from main) order i ++ counting range (sides_same i))
 
   -- of its unmarked entries those that are applied come first
   pub first_entries : take w.applied main ≡ applied_entries w
-  first_entries =
-      sym (take-append-le w.applied main read.more read.enough) ∙ ap (take w.applied) (sym read.parts)
+  first_entries = sym (take-append-le w.applied main read.more read.enough) ∙ ap (take w.applied) (sym read.parts)
 
   pub free_parts : free_part range from w main ≡ free_part range from w (applied_entries w) ++ later_part range from w main
-  free_parts =
-      ap (counting range) (from_split w.marks from w.applied main)
+  free_parts = ap (counting range) (from_split w.marks from w.applied main)
       ∙ filter-append (counts range) (unmarked_from w.marks from (take w.applied main)) (unmarked_from w.marks (max from w.applied) main)
       ∙ ap (λ (l : List Entry). free_part range from w l ++ later_part range from w main) first_entries
 
@@ -326,20 +312,19 @@ module _ (range : Range) (from : ℕ) (w : Written) (main : List Entry) (side : 
   -- what is applied was read
   pub truth_in : (entry : Entry) → Contains (log_material range w.marks w.sides from (applied_entries w)) entry → Contains (material_of range side (drop from main)) entry
   truth_in entry at =
-      ⊎_elim
-      (λ (free : Contains (free_part range from w (applied_entries w)) entry). free_in entry (free_grow range from w (applied_entries w) main applied_extends entry free))
-      (λ (its : Contains (side_part range from w (applied_entries w)) entry).
-      in_all entry
-      (Contains-append_right (free_part range from w main ++ marked_part range from w main) (side_part range from w main) entry
-      (side_grow range from w (applied_entries w) main applied_extends entry its)))
-      (Contains-append_cases (free_part range from w (applied_entries w)) (side_part range from w (applied_entries w)) entry at)
+      elim (Contains-append_cases (free_part range from w (applied_entries w)) (side_part range from w (applied_entries w)) entry at) [
+        | inl free ↦ free_in entry (free_grow range from w (applied_entries w) main applied_extends entry free)
+        | inr its ↦
+            in_all entry
+            (Contains-append_right (free_part range from w main ++ marked_part range from w main) (side_part range from w main) entry
+            (side_grow range from w (applied_entries w) main applied_extends entry its))
+      ]
 
   -- and so was the part behind it
   pub part_in : (entry : Entry) → Contains (later_part range from w main) entry → Contains (material_of range side (drop from main)) entry
   part_in entry at =
       free_in entry
-      (subst (λ (l : List Entry). Contains l entry) (sym free_parts)
-      (Contains-append_right (free_part range from w (applied_entries w)) (later_part range from w main) entry at))
+      (rw free_parts (Contains-append_right (free_part range from w (applied_entries w)) (later_part range from w main) entry at))
 
   -- what was read and bears no mark is applied, or of the part
   pub free_from : (entry : Entry) → Contains (free_part range from w main) entry → Contains (free_part range from w (applied_entries w) ++ later_part range from w main) entry
@@ -382,10 +367,8 @@ module _ (range : Range) (from : ℕ) (w : Written) (main : List Entry) (side : 
       let kept = kept_stands (counts range) (unmarked_from w.marks from w.entries) other there in
       let free = free_place w.marks from w.entries other kept.0 in
       let less = read.last is.place entry is.stands is.marked is.inside other free kept.1 in
-      let before = is.before in
-      subst (λ (l : List Entry). Contains (free_part range from w l) other)
-      (ap (take (length main)) read.parts ∙ first_taken main read.more)
-      (first_stands w.marks range from (length main) w.entries other free (omega (arith, less, before)) kept.1)
+      rw (ap (take (length main)) read.parts ∙ first_taken main read.more) at
+      (first_stands w.marks range from (length main) w.entries other free (omega (arith, less, is.before)) kept.1)
 
   -- what was read and is marked is marked of all
   pub marked_of_all : (entry : Entry) → Contains (marked_part range from w main) entry → Contains (marked_part range from w w.entries) entry

@@ -1,6 +1,6 @@
 -- What a master that rebuilt a row has read of another member of its lineage: that has crashed, and what counts of what was read.
-use Rattle.std.proofs.Common.{◌≡◌, ◌≤◌, ◌<◌, ℕ, Bool, true, false, List, [], ◌∷◌, filter, length, Option, Some, None, refl, sym, ap, subst}
-use Rattle.std.proofs.Common.{◌∙◌, ⊎_elim, arith, ◌==◌, not, slice_get, All, Contains, option_map, eq-eqb}
+use Rattle.std.proofs.Common.{◌≡◌, ◌≤◌, ◌<◌, ℕ, Bool, true, false, List, [], ◌∷◌, filter, length, Option, Some, None, refl, sym, ap, ◌∙◌}
+use Rattle.std.proofs.Common.{arith, ◌==◌, not, slice_get, All, Contains, option_map, eq-eqb, inl, inr}
 use Rattle.rk_inv_base.proofs.Words.{cases_Bool, false≢true, or_right, All-contains, All-contains_itself, option_or, Ended, Member, Range}
 use Rattle.rk_inv_base.proofs.Words.{Entry, Phase, Row, IsBackup, known_of, EntryEnd, Gather, Gathered, LAST_MAIN_SEGMENT, next_of}
 use Rattle.rk_inv_base.proofs.Words.{next_segment, reading_of, side_read, is_member, names, IsMaster, stored_of, MayTakeRebuilt, IsGathered}
@@ -25,9 +25,10 @@ each_none : (range : Range) (members : List Gathered) → next_of range members 
 each_none range [] none gathered at = absurd (omega (arith, at.1))
 each_none range (first ∷ others) none gathered at =
     let parts = none_either (reading_of first) (next_segment range first) (next_of range others) none in
-    ⊎_elim (λ (same : first ≡ gathered). ap (next_segment range) (sym same) ∙ parts.0)
-    (λ (later : Contains others gathered). each_none range others parts.1 gathered later)
-    (contains_cases first others gathered at)
+    elim (contains_cases first others gathered at) [
+      | inl same ↦ ap (next_segment range) (sym same) ∙ parts.0
+      | inr later ↦ each_none range others parts.1 gathered later
+    ]
 
 module _ (v : View) (row : Row) (lineage : List Member) (to place : ℕ) (ends : List Ended) (sound : SoundView v) (readable : AreReadable v.logs v.written) (some : row.range.first ≤ row.range.last) (few : All (λ gathered. length gathered.main ≤ LAST_MAIN_SEGMENT) (v.gathers to row.tablet).members) (may : MayTakeRebuilt v row lineage to place ends) (gathered : Gathered) (there : Contains (v.gathers to row.tablet).members gathered) where
   abbrev m : Member
@@ -41,11 +42,9 @@ module _ (v : View) (row : Row) (lineage : List Member) (to place : ℕ) (ends :
 
   -- it is another member of the lineage
   stands : Contains (filter is_read lineage) gathered.member
-  stands =
-      All-contains (λ (g : Gathered). Contains (filter is_read lineage) g.member) gather.members gathered
+  stands = All-contains (λ (g : Gathered). Contains (filter is_read lineage) g.member) gather.members gathered
       (members_by (Contains (filter is_read lineage)) gather.members
-      (subst (All (Contains (filter is_read lineage))) (sym (rebuilder v row lineage to place ends sound some may).gather.members_are)
-      (All-contains_itself (filter is_read lineage)))) there
+      (rw (rebuilder v row lineage to place ends sound some may).gather.members_are (All-contains_itself (filter is_read lineage)))) there
 
   pub in_members : Contains lineage gathered.member
   in_members = (kept_stands is_read lineage gathered.member stands).0
@@ -58,11 +57,10 @@ module _ (v : View) (row : Row) (lineage : List Member) (to place : ℕ) (ends :
 
   -- which has crashed
   pub dead : v.live gathered.member.master ≡ false
-  dead =
-      ⊎_elim
-      (λ (lives : v.live m.master ≡ true). absurd (former_gone v sound.roles row may.has_row lineage to m.master may.phase_is lives away is_one))
-      (λ (e : v.live m.master ≡ false). e)
-      (cases_Bool (v.live m.master))
+  dead = elim (cases_Bool (v.live m.master)) [
+    | inl lives ↦ absurd (former_gone v sound.roles row may.has_row lineage to m.master may.phase_is lives away is_one)
+    | inr e ↦ e
+  ]
 
   backed : IsBackup (v.logs gathered.member.master) READ_BACKUP
   backed =
@@ -82,22 +80,19 @@ module _ (v : View) (row : Row) (lineage : List Member) (to place : ℕ) (ends :
       gather.members gathered (rebuilder v row lineage to place ends sound some may).read there
 
   none : next_segment row.range gathered ≡ None
-  none =
-      each_none row.range gather.members
-      (subst (λ (range : Range). next_of range gather.members ≡ None) (rebuilder v row lineage to place ends sound some may).gather.range_is
+  none = each_none row.range gather.members
+      (rw (rebuilder v row lineage to place ends sound some may).gather.range_is at
       (gathered_all v row lineage to place ends sound some may)) gathered there
 
   pub is_log : IsReadLog row.range gathered.member.from (v.written gathered.member.master) (main_of v sound readable row may.has_row some gathered) (side_read gathered)
-  is_log =
-      log_read v sound readable row may.has_row some gathered (NeededOf row v.written lineage m.master) backed fits its_read none
+  is_log = log_read v sound readable row may.has_row some gathered (NeededOf row v.written lineage m.master) backed fits its_read none
 
   -- an entry that is needed was read
   pub needed_in : (n : ℕ) (end : EntryEnd) → slice_get (ends_there (v.written gathered.member.master).entries) n ≡ Some end → NeededOf row v.written lineage gathered.member.master end → n < length (main_of v sound readable row may.has_row some gathered)
-  needed_in n end at needed =
-      needed_within v sound readable row may.has_row some gathered (NeededOf row v.written lineage m.master) backed fits its_read none n end at needed
+  needed_in n end at needed = needed_within v sound readable row may.has_row some gathered (NeededOf row v.written lineage m.master) backed
+      fits its_read none n end at needed
 
   -- what was read that bears a mark is of rebuilds that were given up
   pub given_up : (entry : Entry) → Contains (marked_part row.range gathered.member.from (v.written gathered.member.master) (main_of v sound readable row may.has_row some gathered)) entry → Contains (member_given_up v.written row gathered.member) entry
-  given_up entry at =
-      given_up_read v sound readable row may.has_row some gathered (NeededOf row v.written lineage m.master) backed fits its_read none lineage to
-      may.phase_is away entry at
+  given_up entry at = given_up_read v sound readable row may.has_row some gathered (NeededOf row v.written lineage m.master) backed fits
+      its_read none lineage to may.phase_is away entry at

@@ -1,18 +1,19 @@
 -- A master that rebuilt a row, with its closing entry applied: all is gathered, and all that counts of its own is applied.
 use Rattle.std.proofs.Common.{◌≡◌, ◌<◌, ◌≤◌, ◌⊎◌, inl, inr, ℕ, zero, suc, false, cond, List, [], ◌∷◌, ◌++◌, max, fold, Some, None, refl}
-use Rattle.std.proofs.Common.{sym, ap, subst, ◌∙◌, ⊎_elim, arith, ◌==◌, IfSome, drop, All, Contains, flat_map, eq-eqb, eqb-true, append-nil}
+use Rattle.std.proofs.Common.{sym, ap, subst, ◌∙◌, arith, ◌==◌, IfSome, drop, All, Contains, flat_map, eq-eqb, eqb-true, append-nil}
 use Rattle.rk_inv_base.proofs.Words.{cond-true, cond_both, or_from, or_parts, flat_map-append, All-cons, All-contains, All-drop, All-nil}
 use Rattle.rk_inv_base.proofs.Words.{filter-append, list_any, Ended, Member, Range, Entry, Handover, Role, lineage_of, Phase, Rebuilding}
 use Rattle.rk_inv_base.proofs.Words.{Row, next_reading, is_member, unmarked_from, touches, counting, counts, material_of, named_by}
-use Rattle.rk_inv_base.proofs.Words.{side_entries, with_number, own_place, Written, applied_entries, member_material, HasRebuilt}
-use Rattle.rk_inv_base.proofs.Words.{MayTakeRebuilt, Post, OnlyRebuilder, FirstRebuilder, LastRebuilder, OutsideRebuilder, FormerMember}
-use Rattle.rk_inv_base.proofs.Words.{Bystander, Holds, StillCounts, bond_of, post_of, rebuilder_post, IsMergedOf, MarkedFit, RowIsRebuilt}
-use Rattle.rk_inv_base.proofs.Words.{merged_place, IsDone, RoleFits, AreApart, IsFormed, HandoverFits, View, truths, SoundView}
+use Rattle.rk_inv_base.proofs.Words.{side_entries, with_number, own_place, Written, applied_entries, member_material, MayTakeRebuilt}
+use Rattle.rk_inv_base.proofs.Words.{OnlyRebuilder, FirstRebuilder, LastRebuilder, OutsideRebuilder, FormerMember, Bystander, Holds}
+use Rattle.rk_inv_base.proofs.Words.{StillCounts, bond_of, post_of, rebuilder_post, IsMergedOf, MarkedFit, RowIsRebuilt, merged_place}
+use Rattle.rk_inv_base.proofs.Words.{IsDone, RoleFits, AreApart, IsFormed, HandoverFits, View, truths, SoundView}
 use Rattle.rk_transfer.specs.declared.role.Role.TheVariants as roles
 use Rattle.rk_tablet_map.specs.Phase.{member as member_at}
 use Rattle.rk_inv_base.proofs.logs.Missed.{Misses, all_names_none, counting_none, unmarked_missed}
 use Rattle.rk_inv_base.proofs.calls.Rebuilds.{IsRebuilderIn}
 use Rattle.rk_inv_logs.proofs.read.ReadMember.{from_split}
+use Rattle.rk_inv_rows.proofs.lineage.RebuiltMaterial.{rebuilt_at, RebuiltAt}
 
 -- ---- members
 
@@ -33,12 +34,10 @@ later_misses range (suc n) (suc m) (entry ∷ list) behind all = later_misses ra
 missed_more : (range : Range) (side : ℕ → List Entry) (list more : List Entry) → range.first ≤ range.last → All (Misses range) more → material_of range side (list ++ more) ≡ material_of range side list
 missed_more range side list more some missed =
     let counted : counting range (list ++ more) ≡ counting range list =
-    filter-append (counts range) list more
-    ∙ ap (λ (l : List Entry). counting range list ++ l) (counting_none range more some missed)
+    filter-append (counts range) list more ∙ ap (λ (l : List Entry). counting range list ++ l) (counting_none range more some missed)
     ∙ append-nil (counting range list) in
     let numbers : flat_map (named_by range) (list ++ more) ≡ flat_map (named_by range) list =
-    flat_map-append (named_by range) list more
-    ∙ ap (λ (l : List ℕ). flat_map (named_by range) list ++ l) (all_names_none range more missed)
+    flat_map-append (named_by range) list more ∙ ap (λ (l : List ℕ). flat_map (named_by range) list ++ l) (all_names_none range more missed)
     ∙ append-nil (flat_map (named_by range) list) in
     λ i. counted i ++ counting range (flat_map side (fold with_number [] (numbers i)))
 
@@ -51,9 +50,9 @@ done_settled written range member some missed =
     unmarked_missed range w.marks place (drop place w.entries) (later_misses range w.applied place w.entries (omega arith) missed) in
     record {
       rest = counting_none range (unmarked_from w.marks place w.entries) some behind;
-      all =
-          ap (material_of range (side_entries w.sides)) (from_split w.marks member.from w.applied w.entries)
-          ∙ missed_more range (side_entries w.sides) (unmarked_from w.marks member.from (applied_entries w)) (unmarked_from w.marks place w.entries) some behind;
+      all = ap (material_of range (side_entries w.sides)) (from_split w.marks member.from w.applied w.entries)
+          ∙ missed_more range (side_entries w.sides) (unmarked_from w.marks member.from (applied_entries w))
+          (unmarked_from w.marks place w.entries) some behind;
     }
 
 -- ---- who rebuilt
@@ -63,11 +62,12 @@ builder_place : (lineage : List Member) (q term own applied from entry : ℕ) �
 builder_place [] q term own applied from entry apart at = λ holds. inl refl
 builder_place (only ∷ []) q term own applied from entry apart at =
     cond_both (only.master == q) (OnlyRebuilder only.from) OutsideRebuilder
-    (λ post. Holds (bond_of post (roles.Rebuilding from (Some entry))) term own applied → (is_member (only ∷ []) q ≡ false) ⊎ Contains (only ∷ []) (member_at q from))
+    (λ post.
+    Holds (bond_of post (roles.Rebuilding from (Some entry))) term own applied
+    → (is_member (only ∷ []) q ≡ false) ⊎ Contains (only ∷ []) (member_at q from))
     (λ e holds.
     let same : only.master ≡ q = eqb-true only.master q e in
-    ⊎_elim (λ (early : (own < term) × (entry < applied)). absurd (below early.0 at))
-    (λ (now : (own ≡ term) × (from ≡ only.from)). inr (zero, omega arith, (λ i. member_at (same i) (sym now.1 i)))) holds)
+    elim holds [ inl early ↦ absurd (below early.0 at) | inr now ↦ inr (zero, omega arith, (λ i. member_at (same i) (sym now.1 i))) ])
     (λ e holds. inl (or_from (only.master == q) false e refl))
   where
     below : own < term → own ≡ term → ⊥
@@ -90,17 +90,6 @@ builder_place (first ∷ last ∷ []) q term own applied from entry apart at =
     (λ e holds.
     inl (or_from (first.master == q) (is_member (last ∷ []) q) other (or_from (last.master == q) false e refl))))
 builder_place (first ∷ second ∷ third ∷ more) q term own applied from entry apart at = λ holds. absurd apart
-
--- a role has rebuilt a tablet, with its closing entry at a place that is applied
-pub record RebuiltAt (role : Role) (applied from : ℕ) : Type 0 where
-  pub entry : ℕ
-  pub role_is : role ≡ roles.Rebuilding from (Some entry)
-  pub within : entry < applied
-
-rebuilt_at : (role : Role) (applied from : ℕ) → HasRebuilt role applied from → RebuiltAt role applied from
-rebuilt_at (roles.Rebuilding own (Some entry)) applied from rebuilt =
-    record { entry = entry; role_is = ap (λ (n : ℕ). roles.Rebuilding n (Some entry)) rebuilt.1; within = rebuilt.0 }
-rebuilt_at _ applied from rebuilt = absurd rebuilt
 
 module _ (v : View) (row : Row) (lineage : List Member) (to place : ℕ) (ends : List Ended) (sound : SoundView v) (some : row.range.first ≤ row.range.last) (may : MayTakeRebuilt v row lineage to place ends) where
   abbrev w : Written
@@ -139,8 +128,8 @@ module _ (v : View) (row : Row) (lineage : List Member) (to place : ℕ) (ends :
   -- what it merged
   abbrev RebuiltBy : Role → Type 0
   RebuiltBy role =
-      IfSome (merged_place role)
-      (λ entry. IsMergedOf row.tablet (own_place role) (member_material v.written row.range (member_at to (own_place role))) builder
+      IfSome (merged_place role) (λ entry.
+      IsMergedOf row.tablet (own_place role) (member_material v.written row.range (member_at to (own_place role))) builder
       (v.completions to row.tablet) (v.gathers to row.tablet) (v.merged to row.tablet) w entry)
 
   merged_is : IsMergedOf row.tablet place (member_material v.written row.range (member_at to place)) builder (v.completions to row.tablet) (v.gathers to row.tablet) (v.merged to row.tablet) w at.entry
@@ -156,24 +145,22 @@ module _ (v : View) (row : Row) (lineage : List Member) (to place : ℕ) (ends :
   -- nothing of the range stands behind what is applied
   pub own_done : IsDone v.written row.range (member_at to place)
   own_done =
-      let same : builder.range ≡ row.range = (in_row (λ (r : Row). HandoverFits r row.tablet builder) (sound.terms.kept to row.tablet)).exact refl may.term_is in
-      let missed : All (Misses row.range) (drop (suc at.entry) w.entries) =
-      each_misses row.range (drop (suc at.entry) w.entries)
-      (subst (λ (range : Range). list_any (touches range) (drop (suc at.entry) w.entries) ≡ false) same merged_is.piece.last) in
-      let less = at.within in
+      let same : builder.range ≡ row.range =
+      (in_row (λ (r : Row). HandoverFits r row.tablet builder) (sound.terms.kept to row.tablet)).exact refl may.term_is in
+      let missed = each_misses row.range (drop (suc at.entry) w.entries) (rw same at merged_is.piece.last) in
       done_settled v.written row.range (member_at to place) some
-      (later_misses row.range (suc at.entry) w.applied w.entries (omega (arith, less)) missed)
+      (later_misses row.range (suc at.entry) w.applied w.entries (omega (arith, at.within)) missed)
 
   -- it is a member at that place, or of no lineage
   pub own_stands : (is_member lineage to ≡ false) ⊎ Contains lineage (member_at to place)
   own_stands =
       let fits : Holds (bond_of (post_of row.phase to) builder.role) row.term builder.term w.applied =
-      in_row (λ (r : Row). StillCounts (v.live to) (v.handovers to r.tablet).term r.term → RoleFits r to (v.handovers to r.tablet) (v.written to).applied) (sound.roles.fitting to)
-      (inr may.term_is) in
+      in_row
+      (λ (r : Row).
+      StillCounts (v.live to) (v.handovers to r.tablet).term r.term → RoleFits r to (v.handovers to r.tablet) (v.written to).applied)
+      (sound.roles.fitting to) (inr may.term_is) in
       let by_post : Holds (bond_of (post_of (Rebuilding lineage to) to) (roles.Rebuilding place (Some at.entry))) row.term builder.term w.applied =
-      subst (λ (role : Role). Holds (bond_of (post_of (Rebuilding lineage to) to) role) row.term builder.term w.applied) at.role_is
-      (in_phase (λ (p : Phase). Holds (bond_of (post_of p to) builder.role) row.term builder.term w.applied) fits) in
+      rw at.role_is at (in_phase (λ (p : Phase). Holds (bond_of (post_of p to) builder.role) row.term builder.term w.applied) fits) in
       let post : post_of (Rebuilding lineage to) to ≡ rebuilder_post lineage to =
       cond-true (to == to) (rebuilder_post lineage to) (cond (is_member lineage to) FormerMember Bystander) (eq-eqb to to refl) in
-      builder_place lineage to row.term builder.term w.applied place at.entry apart may.term_is
-      (subst (λ (p : Post). Holds (bond_of p (roles.Rebuilding place (Some at.entry))) row.term builder.term w.applied) post by_post)
+      builder_place lineage to row.term builder.term w.applied place at.entry apart may.term_is (rw post at by_post)

@@ -1,7 +1,7 @@
 -- What was read of a member of a row's lineage in a sound lane, once nothing is left to read of it: its marked pieces stand behind all of its
 -- unmarked entries that count, and each is of a rebuild that was given up where the member is another one than the master that rebuilds.
-use Rattle.std.proofs.Common.{◌≡◌, ◌&&◌, ◌<◌, ◌≤◌, ℕ, true, List, length, None, Some, sym, ap, subst, ◌∙◌, ⊎_elim, leb, eqb, arith, ◌==◌}
-use Rattle.std.proofs.Common.{drop, nat_le, nat_lt, slice_get, All, Contains, flat_map, eq-eqb, le-leb, lt-ltb}
+use Rattle.std.proofs.Common.{◌≡◌, ◌&&◌, ◌<◌, ◌≤◌, ℕ, true, List, length, None, Some, sym, ap, ◌∙◌, leb, eqb, arith, ◌==◌, drop, nat_le}
+use Rattle.std.proofs.Common.{nat_lt, slice_get, All, Contains, flat_map, eq-eqb, le-leb, lt-ltb, inl, inr}
 use Rattle.rk_inv_base.proofs.Words.{and_from, cases_eq, cases_lt, false≢true, nat_tests, list_any_at, Member, Range, IsLawfulEntry, Entry}
 use Rattle.rk_inv_base.proofs.Words.{FIRST_SIDE_SEGMENT, Rebuilding, Row, cut, ends, IsBackup, Log, known_of, EntryEnd, Gathered}
 use Rattle.rk_inv_base.proofs.Words.{LAST_MAIN_SEGMENT, next_segment, side_read, is_marked, unmarked_from, touches, counting, counts}
@@ -25,26 +25,28 @@ all_meets : (s f l t g m : ℕ) → g ≤ m → (eqb s t && leb f g && leb m l) 
 all_meets s f l t g m some all = grind (arith, nat_tests)
 
 pub counts_touches : (range : Range) (entry : Entry) → range.first ≤ range.last → counts range entry ≡ true → touches range entry ≡ true
-counts_touches range (entries.Held held) some inside = inside
-counts_touches range (entries.Refused refused) some inside = inside
 counts_touches range (entries.Carried carried) some inside =
     all_meets carried.range.table carried.range.first carried.range.last range.table range.first range.last some inside
 counts_touches range (entries.Joined joined) some inside = absurd (false≢true inside)
+counts_touches range _ some inside = inside
 
 -- where a marked piece stands last, all that counts and bears no mark stands before it
 before_piece : (range : Range) (w : Written) (mark : Mark) (from : ℕ) (entry : Entry) → range.first ≤ range.last → StandsLast range w mark → (is : IsUnmarked w.marks from w.entries entry) → counts range entry ≡ true → is.place < mark.first
-before_piece range w mark from entry some last is inside =
-    ⊎_elim (λ (before : is.place < mark.first). before)
-    (λ (behind : mark.first ≤ is.place).
-    let all : List Entry = unmarked_from w.marks mark.first w.entries in
-    let there = place_there all entry (free_stands w.marks mark.first w.entries entry (record { place = is.place; behind = behind; stands = is.stands; free = is.free })) in
-    absurd (false≢true (sym last ∙ behind_any (touches range) all 0 there.0 entry (omega arith) there.1 (counts_touches range entry some inside))))
-    (cases_lt is.place mark.first)
+before_piece range w mark from entry some last is inside = elim (cases_lt is.place mark.first) [
+  | inl before ↦ before
+  | inr behind ↦
+      let all : List Entry = unmarked_from w.marks mark.first w.entries in
+      let there =
+      place_there all entry
+      (free_stands w.marks mark.first w.entries entry (record { place = is.place; behind = behind; stands = is.stands; free = is.free })) in
+      absurd
+      (false≢true
+      (sym last ∙ behind_any (touches range) all 0 there.0 entry (omega arith) there.1 (counts_touches range entry some inside)))
+]
 
 -- a place that a mark covers is marked
 marked_here : (marks : List Mark) (mark : Mark) (place : ℕ) → Contains marks mark → mark.first ≤ place → place < mark.past → is_marked marks place ≡ true
-marked_here marks mark place at from before =
-    list_any_at (λ (m : Mark). nat_le m.first place && nat_lt place m.past) marks at.0 mark at.1
+marked_here marks mark place at from before = list_any_at (λ (m : Mark). nat_le m.first place && nat_lt place m.past) marks at.0 mark at.1
     (ap (λ (m : Mark). nat_le m.first place && nat_lt place m.past) at.2
     ∙ and_from (nat_le mark.first place) (nat_lt place mark.past) (le-leb mark.first place from) (lt-ltb place mark.past before))
 
@@ -65,7 +67,7 @@ module _ (v : View) (sound : SoundView v) (readable : AreReadable v.logs v.writt
   kept = sound.logs.each gathered.member.master
 
   lawful : All IsLawfulEntry (v.logs gathered.member.master).entries
-  lawful = subst (All IsLawfulEntry) (sym kept.entries_are) (readable.entries gathered.member.master)
+  lawful = rw kept.entries_are (readable.entries gathered.member.master)
 
   -- where a marked entry stands, by its mark
   marked_last : (place : ℕ) (entry : Entry) → slice_get w.entries place ≡ Some entry → is_marked w.marks place ≡ true → counts row.range entry ≡ true → (other : Entry) → (is : IsUnmarked w.marks m.from w.entries other) → counts row.range other ≡ true → is.place < place
@@ -74,12 +76,11 @@ module _ (v : View) (sound : SoundView v) (readable : AreReadable v.logs v.writt
       let its = marked_of_row v sound m.master place entry at found row has some inside in
       let says = mark_says v sound m.master place entry at found row has its in
       let early = before_piece row.range w found.mark m.from other some says.behind is counted in
-      let from = found.from in
-      omega (arith, early, from)
+      omega (arith, early, found.from)
 
   module _ (Needed : EntryEnd → Type 0) (backed : IsBackup (v.logs gathered.member.master) READ_BACKUP) (fits : length gathered.main ≤ LAST_MAIN_SEGMENT) (read : IsGathered Needed (known_of (v.logs gathered.member.master) READ_BACKUP) (stored_of v.stored gathered.member.master READ_BACKUP) gathered) (none : next_segment row.range gathered ≡ None) where
     room : length (cut (v.logs gathered.member.master).entries) < FIRST_SIDE_SEGMENT
-    room = let left = readable.room gathered.member.master in omega (arith, left)
+    room = omega (arith, readable.room gathered.member.master)
 
     -- what was read of the member
     pub log_read : IsReadLog row.range gathered.member.from (v.written gathered.member.master) main_of (side_read gathered)
@@ -90,8 +91,7 @@ module _ (v : View) (sound : SoundView v) (readable : AreReadable v.logs v.writt
           more = firsts.0;
           parts = firsts.1;
           enough = applied_read log w (stored_of v.stored m.master) kept backed room Needed gathered read fits lawful left.0;
-          sides =
-              sides_read log w (stored_of v.stored m.master) kept backed room Needed gathered read fits lawful left.0
+          sides = sides_read log w (stored_of v.stored m.master) kept backed room Needed gathered read fits lawful left.0
               (readable.items m.master) row.range left.1;
           bare = λ place entry at marked. marked_names_none v sound m.master place entry at (mark_of w.marks place marked) row.range;
           last = marked_last;
@@ -99,10 +99,9 @@ module _ (v : View) (sound : SoundView v) (readable : AreReadable v.logs v.writt
 
     -- an entry that is needed was read
     pub needed_within : (place : ℕ) (end : EntryEnd) → slice_get (ends (v.written gathered.member.master).entries) place ≡ Some end → Needed end → place < length main_of
-    needed_within place end at needed =
-        let left = none_left row.range gathered none in
-        needed_read log w (stored_of v.stored m.master) kept backed room Needed gathered read fits lawful left.0 place end
-        (ap (λ (list : List Entry). slice_get (ends list) place) kept.entries_are ∙ at) needed
+    needed_within place end at needed = needed_read log w (stored_of v.stored m.master) kept backed room Needed gathered read fits lawful
+        (none_left row.range gathered none).0 place end (ap (λ (list : List Entry). slice_get (ends list) place) kept.entries_are ∙ at)
+        needed
 
     -- what was read that bears a mark is of rebuilds that were given up, where another master rebuilds the row now
     pub given_up_read : (lineage : List Member) (to : ℕ) → row.phase ≡ Rebuilding lineage to → (gathered.member.master ≡ to → ⊥) → (entry : Entry) → Contains (marked_part row.range gathered.member.from (v.written gathered.member.master) main_of) entry → Contains (counting row.range (marked_entries (given_up_marks row (v.written gathered.member.master).marks) gathered.member.from (drop gathered.member.from (v.written gathered.member.master).entries))) entry
@@ -111,13 +110,10 @@ module _ (v : View) (sound : SoundView v) (readable : AreReadable v.logs v.writt
         let found : HasMark w.marks one.place = mark_of w.marks one.place one.marked in
         let its = marked_of_row v sound m.master one.place entry one.stands found row has some one.inside in
         let says = mark_says v sound m.master one.place entry one.stands found row has its in
-        let less : found.mark.term < row.term =
-        ⊎_elim
-        (λ (same : found.mark.term ≡ row.term).
-        let by = says.by_rebuilder same in
-        absurd (away (rebuilds (sym by.0 ∙ is))))
-        (λ (other : found.mark.term ≡ row.term → ⊥). let within = says.within in below within other)
-        (cases_eq found.mark.term row.term) in
+        let less : found.mark.term < row.term = elim (cases_eq found.mark.term row.term) [
+          | inl same ↦ absurd (away (rebuilds (sym (says.by_rebuilder same).0 ∙ is)))
+          | inr other ↦ below says.within other
+        ] in
         let kept_mark : Contains (given_up_marks row w.marks) found.mark =
         stands_kept (λ (mark : Mark). mark.tablet == row.tablet && nat_lt mark.term row.term) w.marks found.mark found.here
         (and_from (found.mark.tablet == row.tablet) (nat_lt found.mark.term row.term) (eq-eqb found.mark.tablet row.tablet its)

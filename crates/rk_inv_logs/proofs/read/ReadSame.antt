@@ -27,9 +27,7 @@ pub lists_told : {X : Type 0} → AreTold X → AreTold (List X)
 lists_told told [] [] = inl refl
 lists_told told [] (y ∷ ys) = inr (λ e. absurd (cc e))
 lists_told told (x ∷ xs) [] = inr (λ e. absurd (cc e))
-lists_told {X} told (x ∷ xs) (y ∷ ys) =
-    as_well (λ (p : (x ≡ y) × (xs ≡ ys)). λ i. p.0 i ∷ p.1 i)
-    (λ (e : (x ∷ xs) ≡ (y ∷ ys)). heads e)
+lists_told {X} told (x ∷ xs) (y ∷ ys) = as_well (λ (p : (x ≡ y) × (xs ≡ ys)). λ i. p.0 i ∷ p.1 i) (λ (e : (x ∷ xs) ≡ (y ∷ ys)). heads e)
     (both x y xs ys (told x y) (lists_told told xs ys))
   where
     heads : (x ∷ xs) ≡ (y ∷ ys) → (x ≡ y) × (xs ≡ ys)
@@ -52,21 +50,10 @@ version_told make a b inside = as_well (λ (e : a ≡ b). ap make e) inside (num
 
 pub outcomes_told : AreTold End
 outcomes_told (ends.Written a) (ends.Written b) = version_told ends.Written a b (λ e. cc e)
-outcomes_told (ends.Written a) (ends.Deleted b) = inr (λ e. absurd (cc e))
-outcomes_told (ends.Written a) ends.Absent = inr (λ e. absurd (cc e))
-outcomes_told (ends.Written a) (ends.Mismatch b) = inr (λ e. absurd (cc e))
-outcomes_told (ends.Deleted a) (ends.Written b) = inr (λ e. absurd (cc e))
 outcomes_told (ends.Deleted a) (ends.Deleted b) = version_told ends.Deleted a b (λ e. cc e)
-outcomes_told (ends.Deleted a) ends.Absent = inr (λ e. absurd (cc e))
-outcomes_told (ends.Deleted a) (ends.Mismatch b) = inr (λ e. absurd (cc e))
-outcomes_told ends.Absent (ends.Written b) = inr (λ e. absurd (cc e))
-outcomes_told ends.Absent (ends.Deleted b) = inr (λ e. absurd (cc e))
 outcomes_told ends.Absent ends.Absent = inl refl
-outcomes_told ends.Absent (ends.Mismatch b) = inr (λ e. absurd (cc e))
-outcomes_told (ends.Mismatch a) (ends.Written b) = inr (λ e. absurd (cc e))
-outcomes_told (ends.Mismatch a) (ends.Deleted b) = inr (λ e. absurd (cc e))
-outcomes_told (ends.Mismatch a) ends.Absent = inr (λ e. absurd (cc e))
 outcomes_told (ends.Mismatch a) (ends.Mismatch b) = version_told ends.Mismatch a b (λ e. cc e)
+outcomes_told _ _ = inr (λ e. absurd (cc e))
 
 pub ends_told : AreTold Ended
 ends_told a b =
@@ -79,9 +66,8 @@ ends_told a b =
     three (inr other) rest = inr (λ same. other (ap (λ (x : Ended). x.client) same))
 
 pub items_told : AreTold Held
-items_told a b =
-    go (numbers_told a.table b.table) (numbers_told a.version b.version) (numbers_told a.client b.client) (numbers_told a.seq b.seq)
-    (lists_told numbers_told a.key b.key) (options_told (lists_told numbers_told) a.value b.value)
+items_told a b = go (numbers_told a.table b.table) (numbers_told a.version b.version) (numbers_told a.client b.client)
+    (numbers_told a.seq b.seq) (lists_told numbers_told a.key b.key) (options_told (lists_told numbers_told) a.value b.value)
   where
     go : IsSame a.table b.table → IsSame a.version b.version → IsSame a.client b.client → IsSame a.seq b.seq → IsSame a.key b.key → IsSame a.value b.value → IsSame a b
     go (inr other) v c s k w = inr (λ same. other (ap (λ (x : Held). x.table) same))

@@ -1,7 +1,7 @@
 -- What entries tell that others do not, by kinds: items and ends. Of the last of two members all that others have to tell is read, where its
 -- first entry that tells it is.
 use Rattle.std.proofs.Common.{◌≡◌, ℕ, zero, suc, ◌<◌, ◌≤◌, true, false, List, [], ◌∷◌, ◌++◌, length, Some, sym, subst, ⊎_elim, arith, drop}
-use Rattle.std.proofs.Common.{slice_get, take, Contains, flat_map, take-append-drop}
+use Rattle.std.proofs.Common.{slice_get, take, Contains, flat_map, take-append-drop, inl, inr}
 use Rattle.rk_inv_base.proofs.Words.{Contains-append_cases, slice_get_within, Held, Range, Entry, item_end, items_in, items_of, told_by}
 use Rattle.rk_inv_base.proofs.Words.{is_marked, unmarked_from, counts, Written}
 use Rattle.rk_entry.specs.declared.entry.Entry.TheVariants as entries
@@ -20,21 +20,18 @@ abbrev pub Among : {X : Type 0} → (Entry → List X) → List Entry → List E
 Among {X} f these those = (x : X) → Contains (flat_map f these) x → Contains (flat_map f those) x
 
 pub stand_among : {X : Type 0} (f : Entry → List X) (these those : List Entry) → ((entry : Entry) → Contains these entry → Contains those entry) → Among f these those
-stand_among f these those has x at =
-    let of = flat_from f these x at in flat_of f those of.0 x (has of.0 of.1) of.2
+stand_among f these those has x at = let of = flat_from f these x at in flat_of f those of.0 x (has of.0 of.1) of.2
 
 -- where each entry tells no more, all do not
 pub each_among : {X : Type 0} (f : Entry → List X) (these those : List Entry) → ((entry : Entry) → Contains these entry → (x : X) → Contains (f entry) x → Contains (flat_map f those) x) → Among f these those
-each_among f these those each x at =
-    let of = flat_from f these x at in each of.0 of.1 x of.2
+each_among f these those each x at = let of = flat_from f these x at in each of.0 of.1 x of.2
 
 pub both_among : {X : Type 0} (f : Entry → List X) (a b those : List Entry) → Among f a those → Among f b those → Among f (a ++ b) those
 both_among f a b those first second =
-    each_among f (a ++ b) those
-    (λ entry at x its.
-    ⊎_elim (λ (here : Contains a entry). first x (flat_of f a entry x here its))
-    (λ (there : Contains b entry). second x (flat_of f b entry x there its))
-    (Contains-append_cases a b entry at))
+    each_among f (a ++ b) those (λ entry at x its. elim (Contains-append_cases a b entry at) [
+      | inl here ↦ first x (flat_of f a entry x here its)
+      | inr there ↦ second x (flat_of f b entry x there its)
+    ])
 
 -- of marked entries, where all marked ones tell no more than some entries and those of a member, the free ones of which are among these
 -- wherever there is a marked one
@@ -44,8 +41,7 @@ pub pieces_among : {X : Type 0} (f : Entry → List X) (here marked front all fr
     → ((entry : Entry) → Contains here entry → (other : Entry) → Contains all other → Contains free other)
     → Among f here those
 pieces_among f here marked front all free sides those within tells first second third each =
-    each_among f here those
-    (λ entry at x its.
+    each_among f here those (λ entry at x its.
     let told = tells x (flat_of f marked entry x (within entry at) its) in
     both_among f front (all ++ sides) those first
     (both_among f all sides those (λ y there. second y (stand_among f all free (each entry at) y there)) third) x told)
@@ -56,18 +52,15 @@ pub stand_told : (these those : List Entry) → ((entry : Entry) → Contains th
 stand_told these those has = (stand_among items_in these those has, stand_among told_by these those has)
 
 pub both_told : (a b those : List Entry) → AreAmong a those → AreAmong b those → AreAmong (a ++ b) those
-both_told a b those first second =
-    (both_among items_in a b those first.0 second.0, both_among told_by a b those first.1 second.1)
+both_told a b those first second = (both_among items_in a b those first.0 second.0, both_among told_by a b those first.1 second.1)
 
 -- entries that are items tell no more than what has these items
 pub items_among : (these those : List Entry) → ((entry : Entry) → Contains these entry → (item : Held) × (entries.Held item ≡ entry) × Contains (items_of those) item) → AreAmong these those
 items_among these those each = (
-  each_among items_in these those
-      (λ entry at x its.
+  each_among items_in these those (λ entry at x its.
       let found = each entry at in
       one found.0 x (λ y. Contains (items_of those) y) found.2 (subst (λ (e : Entry). Contains (items_in e) x) (sym found.1) its)),
-  each_among told_by these those
-      (λ entry at x its.
+  each_among told_by these those (λ entry at x its.
       let found = each entry at in
       one (item_end found.0) x (λ y. Contains (flat_map told_by those) y) (item_told those found.0 found.2)
       (subst (λ (e : Entry). Contains (told_by e) x) (sym found.1) its)),
@@ -97,16 +90,16 @@ module _ {X : Type 0} (told : AreTold X) (f : Entry → List X) (range : Range) 
     none_first : (bound : ℕ) → NoneBefore bound → Contains (flat_map f (own ++ first_counted range from last bound)) x → ⊥
     none_first bound before at =
         let of = flat_from f (own ++ first_counted range from last bound) x at in
-        ⊎_elim (λ (here : Contains own of.0). none (own_among x (flat_of f own of.0 x here of.2)))
-        (λ (there : Contains (first_counted range from last bound) of.0).
-        let kept = kept_stands (counts range) (unmarked_from last.marks from (take bound last.entries)) of.0 there in
-        let is = free_place last.marks from (take bound last.entries) of.0 kept.0 in
-        let within = slice_get_within (take bound last.entries) is.place of.0 is.stands in
-        before is.place (few bound last.entries is.place within) of.0 is.behind
-        (subst (λ (l : List Entry). slice_get l is.place ≡ Some of.0) (take-append-drop bound last.entries)
-        (stands_front (take bound last.entries) (drop bound last.entries) is.place of.0 is.stands))
-        is.free kept.1 of.2)
-        (Contains-append_cases own (first_counted range from last bound) of.0 of.1)
+        elim (Contains-append_cases own (first_counted range from last bound) of.0 of.1) [
+          | inl here ↦ none (own_among x (flat_of f own of.0 x here of.2))
+          | inr there ↦
+              let kept = kept_stands (counts range) (unmarked_from last.marks from (take bound last.entries)) of.0 there in
+              let is = free_place last.marks from (take bound last.entries) of.0 kept.0 in
+              let within = slice_get_within (take bound last.entries) is.place of.0 is.stands in
+              before is.place (few bound last.entries is.place within) of.0 is.behind
+              (rw (take-append-drop bound last.entries) at
+              (stands_front (take bound last.entries) (drop bound last.entries) is.place of.0 is.stands)) is.free kept.1 of.2
+        ]
       where
         few : (n : ℕ) (xs : List Entry) (k : ℕ) → k < length (take n xs) → k < n
         few zero xs k less = absurd (omega (arith, less))
@@ -126,7 +119,7 @@ module _ {X : Type 0} (told : AreTold X) (f : Entry → List X) (range : Range) 
 
   -- so all that is given is told, where own entries and first ones of the member tell it
   pub all_told : FirstIsRead → (x : X) → Contains (flat_map f given) x → (many : ℕ) → Contains (flat_map f (own ++ first_counted range from last many)) x → Contains (flat_map f others) x
-  all_told reads x wanted many at =
-      ⊎_elim (λ (there : Contains (flat_map f others) x). there)
-      (λ (none : Contains (flat_map f others) x → ⊥). absurd (none_first reads x wanted none many (none_before reads x wanted none many) at))
-      (stands_or_not told (flat_map f others) x)
+  all_told reads x wanted many at = elim (stands_or_not told (flat_map f others) x) [
+    | inl there ↦ there
+    | inr none ↦ absurd (none_first reads x wanted none many (none_before reads x wanted none many) at)
+  ]

@@ -3,11 +3,11 @@ use Rattle.std.proofs.Common.{◌≡◌, ◌+◌, ℕ, false, cond, List, Option
 use Rattle.std.proofs.Common.{is_some, Contains, option_map}
 use Rattle.rk_inv_base.proofs.Words.{cond_both, false≢true, All-contains, option_or, get, Member, Node, Range, Segments, number_of}
 use Rattle.rk_inv_base.proofs.Words.{add_fault, divided, lower_part, placed, replaced, row_of, upper_part, Phase, Moving, Opening, Owned}
-use Rattle.rk_inv_base.proofs.Words.{Rebuilding, Row, Message, Backed, Called, backup_step, stored_after, Coordinator, new_row}
-use Rattle.rk_inv_base.proofs.Words.{coordinator_step, told_coordinator, is_added, with_client, master_step, migrating, row_migrated}
-use Rattle.rk_inv_base.proofs.Words.{notice_order, fault_of, refusal, where_true, worn, rows_split_of, Stepped, backed_at, delivered}
-use Rattle.rk_inv_base.proofs.Words.{delivered_to, happened, log_bytes_of, losing, quietly, seen_in, sent_again, step, turned, with_sends}
-use Rattle.rk_inv_base.proofs.Words.{worked_at, World, has_crashed, is_backup, master_at, with_ledger, with_stored_by, Event, IsSound}
+use Rattle.rk_inv_base.proofs.Words.{Row, Message, Backed, Called, backup_step, stored_after, Coordinator, new_row, coordinator_step}
+use Rattle.rk_inv_base.proofs.Words.{told_coordinator, is_added, with_client, master_step, migrating, row_migrated, notice_order, fault_of}
+use Rattle.rk_inv_base.proofs.Words.{refusal, where_true, worn, rows_split_of, Stepped, backed_at, delivered, delivered_to, happened}
+use Rattle.rk_inv_base.proofs.Words.{log_bytes_of, losing, quietly, seen_in, sent_again, step, turned, with_sends, worked_at, World}
+use Rattle.rk_inv_base.proofs.Words.{has_crashed, is_backup, master_at, with_ledger, with_stored_by, Event, IsSound}
 use Rattle.rk_types.specs.declared.node.Node.TheVariants as nodes
 use Rattle.rk_tablet_map.specs.Rows.{cut_fault, split_fault, split_rows}
 use Rattle.rk_tablet_map.specs.declared.error.MapError.{MapError}
@@ -40,9 +40,8 @@ not_added (Some x) row taken other is free = absurd (cc free)
 
 -- and no split takes it
 not_split : (it there : Option Row) (row : Row) (at new : ℕ) → there ≡ Some row → cut_fault it there at new ≡ None → ⊥
-not_split None there row at new is free = absurd (cc free)
 not_split (Some x) None row at new is free = absurd (cc is)
-not_split (Some x) (Some y) row at new is free = absurd (cc free)
+not_split _ _ row at new is free = absurd (cc free)
 
 module _ (w : World) (row : Row) (source target : Member) (sound : IsSound w) (found : row_of w.coordinator.rows row.tablet ≡ Some row) (moving : row.phase ≡ Moving source.master source.from target.master target.from) where
   abbrev coordinator : Coordinator
@@ -80,9 +79,7 @@ module _ (w : World) (row : Row) (source target : Member) (sound : IsSound w) (f
       by_phase : (r : Row) (phase : Phase) → AreUnowned row.tablet (migrating coordinator r phase to).rows
       by_phase r (Owned owner from) =
           unowned_changed row.tablet coordinator.rows r.tablet (r.term + 1) (Opening owner from to None) as_before (λ same. refl)
-      by_phase r (Opening giver gfrom taker place) = as_before
-      by_phase r (Moving giver gfrom taker tfrom) = as_before
-      by_phase r (Rebuilding lineage rebuilder) = as_before
+      by_phase r _ = as_before
 
       go : (it : Option Row) → AreUnowned row.tablet (row_migrated coordinator it to).rows
       go None = as_before
@@ -111,9 +108,7 @@ module _ (w : World) (row : Row) (source target : Member) (sound : IsSound w) (f
       other r (Owned owner from) fits same =
           not_split (row_of coordinator.rows r.tablet) (row_of coordinator.rows new) row at new (found_at new same)
           (no_mapped moves.Map (split_fault coordinator.rows r.tablet at new) fits)
-      other r (Opening giver gfrom taker place) fits same = absurd (cc fits)
-      other r (Moving giver gfrom taker tfrom) fits same = absurd (cc fits)
-      other r (Rebuilding lineage rebuilder) fits same = absurd (cc fits)
+      other r _ fits same = absurd (cc fits)
 
       go : (it : Option Row) → row_of coordinator.rows tablet ≡ it → tablet_split_fault_of coordinator it at new ≡ None → AreUnowned row.tablet (rows_split_of coordinator it at new).rows
       go None is fits = as_before
@@ -135,8 +130,6 @@ module _ (w : World) (row : Row) (source target : Member) (sound : IsSound w) (f
       go : (sender : Node) → message.from ≡ sender
           → AreUnowned row.tablet (told_coordinator coordinator sender message.body).coordinator.rows ⊎ DeliversJoined w (events.Deliver number) row target.master
       go (nodes.Client client) is = inl (asked coordinator row source target sound.rows.apart found moving client message.body)
-      go nodes.Coordinator is = inl as_before
-      go (nodes.Backup backup) is = inl as_before
       go (nodes.Master sender) is =
           ⊎_elim (λ (stays : AreUnowned row.tablet (told_coordinator coordinator (nodes.Master sender) message.body).coordinator.rows). inl stays)
           (λ (joined : IsJoined coordinator row source target sound.rows.apart found moving sender message.body).
@@ -153,6 +146,7 @@ module _ (w : World) (row : Row) (source target : Member) (sound : IsSound w) (f
             heard = joined.heard;
           }))
           (reported coordinator row source target sound.rows.apart found moving sender message.body)
+      go _ is = inl as_before
 
   stored_by : (backup : ℕ) (store : Segments → Segments) (segments : Option Segments) → Stays (with_stored_by w backup store segments)
   stored_by backup store None = as_before
@@ -206,14 +200,13 @@ module _ (w : World) (row : Row) (source target : Member) (sound : IsSound w) (f
       inl
       (cond_both (is_added w.ledger client) w (with_ledger w (with_client w.ledger client)) Stays (λ e. as_before) (λ e. as_before))
   event_leaves (events.Deliver number) called none = deliver number called
-  event_leaves (events.Forget number) called none = inl as_before
   event_leaves (events.Turn node) called none = inl (turn node)
   event_leaves (events.Again client) called none = inl (again (get w.ledger.requests client))
   event_leaves (events.Migrate tablet to) called none = inl (migrated tablet to)
   event_leaves (events.Split tablet at new) called none = inl (split tablet at new none)
-  event_leaves (events.Crash master) called none = inl as_before
   event_leaves (events.Notice master) called none =
       inl (unowned_all_noticed row.tablet coordinator (notice_order coordinator.rows master _) as_before)
+  event_leaves _ called none = inl as_before
 
   pub only_joined : (event : Event) (called : Called) (stepped : Stepped) (now : Row) (owner from : ℕ) → step w event called ≡ Ok stepped
       → row_of stepped.world.coordinator.rows row.tablet ≡ Some now → now.phase ≡ Owned owner from → DeliversJoined w event row target.master

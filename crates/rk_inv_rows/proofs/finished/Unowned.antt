@@ -110,20 +110,14 @@ module _ (coordinator : Coordinator) (row : Row) (source target : Member) (apart
   ready_stays sender ready r (Opening source sfrom target None) =
       cond_both (sender == target) (unanswered (place_noted coordinator r source sfrom target ready.place)) (unanswered coordinator) Stays
       (λ e. at_phase r (Opening source sfrom target (Some ready.place)) refl) (λ e. unowned)
-  ready_stays sender ready r (Opening source sfrom target (Some place)) = unowned
-  ready_stays sender ready r (Owned owner from) = unowned
-  ready_stays sender ready r (Moving source sfrom target dfrom) = unowned
-  ready_stays sender ready r (Rebuilding lineage to) = unowned
+  ready_stays sender ready r _ = unowned
 
   transfer_stays : (sender : ℕ) (transfer : Transfer) (r : Row) (phase : Phase) → Stays (transfer_in coordinator sender transfer r phase)
   transfer_stays sender transfer r (Opening source sfrom target (Some dfrom)) =
       cond_both (sender == source)
       (unanswered (row_moved coordinator r source sfrom target dfrom (record { floor = transfer.floor; ends = transfer.ends }))) (unanswered coordinator) Stays
       (λ e. at_phase r (Moving source sfrom target dfrom) refl) (λ e. unowned)
-  transfer_stays sender transfer r (Opening source sfrom target None) = unowned
-  transfer_stays sender transfer r (Owned owner from) = unowned
-  transfer_stays sender transfer r (Moving source sfrom target dfrom) = unowned
-  transfer_stays sender transfer r (Rebuilding lineage to) = unowned
+  transfer_stays sender transfer r _ = unowned
 
   rebuilt_stays : (sender : ℕ) (rebuilt : Rebuilt) (r : Row) → Contains coordinator.rows r → (phase : Phase) → r.phase ≡ phase → Stays (rebuilt_in coordinator sender rebuilt r phase)
   rebuilt_stays sender rebuilt r at (Rebuilding lineage to) is =
@@ -137,8 +131,7 @@ module _ (coordinator : Coordinator) (row : Row) (source target : Member) (apart
       (λ e. unowned)
   rebuilt_stays sender rebuilt r at (Owned owner from) is =
       cond_both (sender == owner) (answered coordinator (own_to owner r ∷ [])) (unanswered coordinator) Stays (λ e. unowned) (λ e. unowned)
-  rebuilt_stays sender rebuilt r at (Opening source sfrom target place) is = unowned
-  rebuilt_stays sender rebuilt r at (Moving source sfrom target dfrom) is = unowned
+  rebuilt_stays sender rebuilt r at _ is = unowned
 
   -- what was told of a row at its term
   record IsAbout (sender : ℕ) (tenure : Tenure) (r : Row) : Type 0 where
@@ -164,9 +157,8 @@ module _ (coordinator : Coordinator) (row : Row) (source target : Member) (apart
 
       go : (noticed : Bool) (it : Option Row) → is_noticed coordinator sender ≡ noticed → row_of coordinator.rows tenure.tablet ≡ it
           → Stays (about coordinator taken (cond noticed None (at_term tenure it))) ⊎ Takes
-      go true it heard its = inl unowned
-      go false None heard its = inl unowned
       go false (Some r) heard its = by_term r its heard (r.term == tenure.term) refl
+      go _ _ heard its = inl unowned
 
   -- a Joined that makes a moving row owned is the one of the row, or the row is another
   joined_moving : (sender : ℕ) (tenure : Tenure) (r : Row) → IsAbout sender tenure r → (giver gfrom taker tfrom : ℕ) → r.phase ≡ Moving giver gfrom taker tfrom → sender ≡ taker
@@ -199,8 +191,7 @@ module _ (coordinator : Coordinator) (row : Row) (source target : Member) (apart
   joined_stays sender tenure r its (Owned owner from) is =
       cond_both (sender == owner) (answered coordinator (own_to owner r ∷ [])) (unanswered coordinator)
       (λ made. Stays made ⊎ IsJoined sender (bodies.Joined tenure)) (λ e. inl unowned) (λ e. inl unowned)
-  joined_stays sender tenure r its (Opening source sfrom target place) is = inl unowned
-  joined_stays sender tenure r its (Rebuilding lineage to) is = inl unowned
+  joined_stays sender tenure r its _ is = inl unowned
 
   -- what a master sent
   pub reported : (sender : ℕ) (body : Body) → Stays (report coordinator sender body) ⊎ IsJoined sender body

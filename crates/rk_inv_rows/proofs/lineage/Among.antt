@@ -51,22 +51,19 @@ longer_stands (suc n) (suc few) (suc many) (y ∷ list) x more stands = longer_s
 -- what stands at a place of a first part
 pub taken_at : {X : Type 0} (n : ℕ) (list : List X) (k : ℕ) (x : X) → k < n → slice_get list k ≡ Some x → slice_get (take n list) k ≡ Some x
 taken_at zero list k x within at = absurd (omega (arith, within))
-taken_at (suc n) [] k x within at = at
-taken_at (suc n) (y ∷ list) zero x within at = at
 taken_at (suc n) (y ∷ list) (suc k) x within at = taken_at n list k x (omega (arith, within)) at
+taken_at (suc n) _ _ x within at = at
 
 -- what stands at a place of a first part stands there
 pub taken_from : {X : Type 0} (n : ℕ) (xs : List X) (k : ℕ) (x : X) → slice_get (take n xs) k ≡ Some x → slice_get xs k ≡ Some x
 taken_from zero xs k x at = absurd (cc at)
-taken_from (suc n) [] k x at = at
-taken_from (suc n) (y ∷ xs) zero x at = at
 taken_from (suc n) (y ∷ xs) (suc k) x at = taken_from n xs k x at
+taken_from (suc n) _ _ x at = at
 
 pub taken_within : {X : Type 0} (n : ℕ) (xs : List X) (k : ℕ) (x : X) → slice_get (take n xs) k ≡ Some x → k < n
-taken_within zero xs k x at = absurd (cc at)
-taken_within (suc n) [] k x at = absurd (cc at)
 taken_within (suc n) (y ∷ xs) zero x at = omega arith
 taken_within (suc n) (y ∷ xs) (suc k) x at = let less = taken_within n xs k x at in omega (arith, less)
+taken_within _ _ k x at = absurd (cc at)
 
 -- what stands in a list stands at a place
 pub place_in : {X : Type 0} (xs : List X) (x : X) → Contains xs x → (k : ℕ) × (slice_get xs k ≡ Some x)

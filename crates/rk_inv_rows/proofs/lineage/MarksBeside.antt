@@ -71,18 +71,15 @@ module _ (v : View) (row : Row) (sound : SoundView v) (has_row : Contains v.rows
   }
 
   pub done_beside : (l : List Member) → FirstIsDone v.written other.range l → FirstIsDone now.written other.range l
-  done_beside [] done = tt
-  done_beside (only ∷ []) done = tt
   done_beside (first ∷ last ∷ more) done = done_as first done
+  done_beside _ done = tt
 
   pub named_beside : (l : List Member) → NamedFit v.written other.range l → NamedFit now.written other.range l
-  named_beside [] fit = tt
-  named_beside (only ∷ []) fit = tt
   named_beside (first ∷ last ∷ []) fit = λ item stands.
       subst (λ (l : List Entry). Contains (items_of l) item) (sym (truth_as first))
       (fit item
       (subst (λ (l : List Held). Contains l item) (named_kept v row sound has_row other has_other unlike some last.master last.from) stands))
-  named_beside (first ∷ last ∷ third ∷ more) fit = tt
+  named_beside _ fit = tt
 
   pub target_beside : (phase : Phase) → target_truth now.written v.handed other phase ≡ target_truth v.written v.handed other phase
   target_beside (Moving source sfrom target dfrom) =
@@ -117,13 +114,11 @@ module _ (v : View) (row : Row) (sound : SoundView v) (has_row : Contains v.rows
   Members written l = MembersFit other written v.handovers v.pullings v.records v.handed l
 
   pub members_beside : (l : List Member) → Members v.written l → Members now.written l
-  members_beside [] fit = tt
-  members_beside (only ∷ []) fit = tt
   members_beside (source ∷ target ∷ []) fit = λ granted.
       subst (λ (t : List Entry). TargetIn now.written source target t (member_material now.written other.range source)) (sym (truth_as source))
       (subst (TargetIn now.written source target (member_truth v.written other.range source)) (sym (material_as source))
       (target_as source target (member_truth v.written other.range source) (member_material v.written other.range source) (fit granted)))
-  members_beside (source ∷ target ∷ third ∷ more) fit = tt
+  members_beside _ fit = tt
 
   -- ---- what has to be read
 
@@ -178,8 +173,6 @@ module _ (v : View) (row : Row) (sound : SoundView v) (has_row : Contains v.rows
   }
 
   pub needed_beside : (l : List Member) (q : ℕ) (end : EntryEnd) → NeededOf other now.written l q end → NeededOf other v.written l q end
-  needed_beside [] q end none = none
-  needed_beside (only ∷ []) q end none = none
   needed_beside (first ∷ last ∷ []) q end is = (
     is.0,
     subst (λ (own : List Entry). NeedsEnd other.range (member_given_up v.written other first) own last.from (v.written last.master) end)
@@ -189,7 +182,7 @@ module _ (v : View) (row : Row) (sound : SoundView v) (has_row : Contains v.rows
         (given_up_as first)
         (needs_end (member_given_up now.written other first) (member_material now.written other.range first) last.master last.from end is.1)),
   )
-  needed_beside (first ∷ last ∷ third ∷ more) q end none = none
+  needed_beside _ q end none = none
 
   -- ---- what is rebuilt, and marked
 
@@ -300,10 +293,9 @@ module _ (v : View) (row : Row) (sound : SoundView v) (has_row : Contains v.rows
   of_misses (entries.Held held) of =
       key_outside other.range row.range held.table held.key
       (apart_either row.range other.range (apart v row sound has_row other has_other unlike some)) of
-  of_misses (entries.Refused refused) of = absurd of
   of_misses (entries.Carried carried) of =
       ap (λ (range : Range). meets range other.range) of ∙ apart v row sound has_row other has_other unlike some
-  of_misses (entries.Joined joined) of = absurd of
+  of_misses _ of = absurd of
 
   -- so a piece of the other still stands last
   last_as : (q : ℕ) (mark : Mark) → StandsLast other.range (v.written q) mark → StandsLast other.range (now.written q) mark
@@ -354,27 +346,23 @@ module _ (v : View) (row : Row) (sound : SoundView v) (has_row : Contains v.rows
   Pulls written l from q message = PulledAgrees other written v.handovers v.live l from q message
 
   pulled_as : (l : List Member) (from : Node) (q : ℕ) (message : Pulled) → Pulls v.written l from q message → Pulls now.written l from q message
-  pulled_as [] from q message agrees = tt
-  pulled_as (only ∷ []) from q message agrees = tt
   pulled_as (source ∷ target ∷ []) from q message agrees = λ here lives is.
       subst
       (λ (t : List Entry). IsFromSource source from (as_entries (batch_at message.token BATCH_BYTES (scan_items t))) message.entries
       × (message.next ≡ next_token message.token BATCH_BYTES (scan_items t)))
       (sym (truth_as source)) (agrees here lives is)
-  pulled_as (source ∷ target ∷ third ∷ more) from q message agrees = tt
+  pulled_as _ from q message agrees = tt
 
   abbrev Gets : (ℕ → Written) → List Member → Node → ℕ → Got → Type 0
   Gets written l from q message = GotAgrees other written v.handovers v.live l from q message
 
   got_as : (l : List Member) (from : Node) (q : ℕ) (message : Got) → Gets v.written l from q message → Gets now.written l from q message
-  got_as [] from q message agrees = tt
-  got_as (only ∷ []) from q message agrees = tt
   got_as (source ∷ target ∷ []) from q message agrees = λ here lives is.
       subst
       (λ (t : List Entry).
       IsFromSource source from (as_entries (flat_map (λ hash. at_hash hash (scan_items t)) message.hashes)) message.entries)
       (sym (truth_as source)) (agrees here lives is)
-  got_as (source ∷ target ∷ third ∷ more) from q message agrees = tt
+  got_as _ from q message agrees = tt
 
   copy_as : (phase : Phase) (copy : CopySegment) → CopyIn other phase v.logs v.written v.stored v.live copy → CopyIn other phase v.logs now.written v.stored v.live copy
   copy_as (Rebuilding l to) copy said = (

@@ -36,10 +36,9 @@ any_stands p (y ∷ xs) x stands passes =
 pub silent_apart : (a b : Range) → meets a b ≡ false → meets b a ≡ false → b.first ≤ b.last → (entry : Entry) → IsOfRange a entry → IsSilent b entry
 silent_apart a b apart back some (entries.Held held) of =
     record { uncounted = entry_apart a b apart back some (entries.Held held) of; unnamed = refl }
-silent_apart a b apart back some (entries.Refused refused) of = absurd of
 silent_apart a b apart back some (entries.Carried carried) of =
     record { uncounted = entry_apart a b apart back some (entries.Carried carried) of; unnamed = refl }
-silent_apart a b apart back some (entries.Joined joined) of = absurd of
+silent_apart a b apart back some _ of = absurd of
 
 module _ (v : View) (row : Row) (sound : SoundView v) (has_row : Contains v.rows row) where
   abbrev now : View

@@ -1,6 +1,6 @@
 -- What bears a mark in a log is of a row that is rebuilt: no Joined does, and it counts for no other row.
 use Rattle.std.proofs.Common.{◌≡◌, ℕ, zero, suc, ◌+◌, ◌-◌, ◌≤◌, ◌<◌, Bool, true, false, ◌&&◌, cond, List, [], ◌∷◌, Option, Some, None, refl}
-use Rattle.std.proofs.Common.{sym, ap, subst, ◌∙◌, ⊎_elim, arith, drop, is_some, nat_le, nat_lt, slice_get, take, All, Contains, leb-true}
+use Rattle.std.proofs.Common.{sym, ap, subst, ◌∙◌, ⊎_elim, arith, drop, is_some, nat_le, nat_lt, slice_get, take, Contains, leb-true}
 use Rattle.std.proofs.Common.{ltb-true}
 use Rattle.rk_inv_base.proofs.Words.{and_parts, false_from_ne_true, false≢true, All-contains, Any-from_list_any, Range, Entry, Joined}
 use Rattle.rk_inv_base.proofs.Words.{number_of, row_of, Row, behind_stands, first_stands, stands_cases, is_marked, unmarked, counting}
@@ -8,6 +8,7 @@ use Rattle.rk_inv_base.proofs.Words.{counts, Mark, HasOwnRange, IsOfRange, marke
 use Rattle.rk_entry.specs.declared.entry.Entry.TheVariants as entries
 use Rattle.rk_inv_base.proofs.logs.MarkedApart.{in_piece}
 use Rattle.rk_inv_base.proofs.rows.Serving.{found_stands}
+use Rattle.rk_inv_base.proofs.views.ByRows.{row_in}
 
 -- an entry is of the range of the row of a tablet
 pub record IsOfRow (rows : List Row) (tablet : ℕ) (entry : Entry) : Type 0 where
@@ -42,8 +43,7 @@ module _ (v : View) (sound : SoundView v) (q : ℕ) where
       let own : HasOwnRange other.range (v.written q).entries mark =
       All-contains (λ m. m.tablet ≡ other.tablet → HasOwnRange other.range (v.written q).entries m)
       (v.written q).marks mark
-      (All-contains (λ r. All (λ m. m.tablet ≡ r.tablet → HasOwnRange r.range (v.written q).entries m) (v.written q).marks)
-      v.rows other (sound.rebuilds.pieces q) stands) marked (sym (number_of v.rows mark.tablet other is)) in
+      ((row_in v sound other stands).pieces q) marked (sym (number_of v.rows mark.tablet other is)) in
       record {
         row = other;
         stands = stands;
@@ -91,11 +91,10 @@ first_taken range true entry many few later none =
 first_taken range false entry many few later none = later none
 
 none_taken : (range : Range) (marks : List Mark) (place n : ℕ) (list : List Entry) → NoneCounts range marks place list → NoneCounts range marks place (take n list)
-none_taken range marks place zero list none = refl
-none_taken range marks place (suc n) [] none = refl
 none_taken range marks place (suc n) (entry ∷ list) none =
     first_taken range (is_marked marks place) entry (marked_entries marks (suc place) list) (marked_entries marks (suc place) (take n list))
     (none_taken range marks (suc place) n list) none
+none_taken range marks place _ _ none = refl
 
 -- the same of two lists counts
 abbrev CountAs : Range → List Entry → List Entry → Type 0

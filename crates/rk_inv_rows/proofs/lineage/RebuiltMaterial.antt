@@ -147,15 +147,13 @@ module _ (v : View) (row : Row) (lineage : List Member) (to place : ℕ) (ends :
   -- so it counts, and names no side segment
   of_counts : (entry : Entry) → IsOfRange row.range entry → counts row.range entry ≡ true
   of_counts (entries.Held held) of = of
-  of_counts (entries.Refused refused) of = absurd of
   of_counts (entries.Carried carried) of = ap (λ (range : Range). has_all range row.range) of ∙ has_itself row.range
-  of_counts (entries.Joined joined) of = absurd of
+  of_counts _ of = absurd of
 
   of_names : (entry : Entry) → IsOfRange row.range entry → named_by row.range entry ≡ []
-  of_names (entries.Held held) of = refl
   of_names (entries.Refused refused) of = absurd of
-  of_names (entries.Carried carried) of = refl
   of_names (entries.Joined joined) of = absurd of
+  of_names _ of = refl
 
   -- ---- what bears no mark now: what bore none, and the piece
 
@@ -216,7 +214,6 @@ module _ (v : View) (row : Row) (lineage : List Member) (to place : ℕ) (ends :
   of_one_row : (other : Row) (entry : Entry) → Contains v.rows other → (other.tablet ≡ row.tablet → ⊥) → IsOfRange other.range entry → IsOfRange row.range entry → ⊥
   of_one_row other (entries.Held held) stands unlike its of =
       false≢true (sym (in_one_row v.rows row other held.table held.key sound.rows.apart may.has_row stands unlike of) ∙ its)
-  of_one_row other (entries.Refused refused) stands unlike its of = of
   of_one_row other (entries.Carried carried) stands unlike its of =
       let same : other.range ≡ row.range = sym its ∙ of in
       let met : meets row.range other.range ≡ true = ap (λ (r : Range). meets row.range r) same ∙ meets_itself row.range some in
@@ -225,7 +222,7 @@ module _ (v : View) (row : Row) (lineage : List Member) (to place : ℕ) (ends :
       (⊎_elim (λ (before : Precedes row other). false≢true (sym before.apart ∙ met))
       (λ (behind : Precedes other row). false≢true (sym behind.apart ∙ back)))
       (one_precedes v.rows row other sound.rows.apart may.has_row stands)
-  of_one_row other (entries.Joined joined) stands unlike its of = of
+  of_one_row other _ stands unlike its of = of
 
   -- a mark that is left is of another tablet
   left_apart : (m : Mark) → Contains new_marks m → m.tablet ≡ row.tablet → ⊥

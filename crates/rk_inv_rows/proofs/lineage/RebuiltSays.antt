@@ -1,18 +1,18 @@
 -- What messages say of a row, where the master that rebuilt it owns it; and what each master is to it then.
 use Rattle.std.proofs.Common.{◌≡◌, ℕ, ◌<◌, Bool, true, false, ◌||◌, cond, eqb, List, [], ◌∷◌, Option, Some, refl, sym, ap, subst, ◌∙◌}
 use Rattle.std.proofs.Common.{⊎_elim, arith, inl, eq-eqb, eqb-true}
-use Rattle.rk_inv_base.proofs.Words.{cond_both, false_from_ne_true, false≢true, All-contains, get, Ended, Member, Node, Role, lineage_of}
-use Rattle.rk_inv_base.proofs.Words.{Phase, Owned, Rebuilding, Row, Grant, Prepare, Tenure, Body, Rebuild, Rebuilt, Handed, is_member}
-use Rattle.rk_inv_base.proofs.Words.{is_wanting, SaysOf, IsOf, PrepareFits, CloseFits, OwnFits, ReleaseFits, RebuildFits, GrantAgrees}
-use Rattle.rk_inv_base.proofs.Words.{GrantIn, IsClosing, IsOnlyRebuilder, IsOwnedBy, IsOwnedByOther, IsOwner, IsRebuiltBy, AskAgrees}
-use Rattle.rk_inv_base.proofs.Words.{PulledAgrees, GotAgrees, ReadyIn, TransferIn, JoinedIn, RebuiltIn, HasRebuilt, MayTakeRebuilt, row_at}
-use Rattle.rk_inv_base.proofs.Words.{Bystander, FirstRebuilder, FormerMember, InvitedTarget, LastRebuilder, OnlyRebuilder, OutsideRebuilder}
-use Rattle.rk_inv_base.proofs.Words.{Owner, Post, Holds, StillCounts, bond_of, post_of, rebuilder_post, RoleFits, IsWithinTerm, SentFits}
-use Rattle.rk_inv_base.proofs.Words.{View, SoundView}
+use Rattle.rk_inv_base.proofs.Words.{cond_both, false_from_ne_true, false≢true, get, Ended, Member, Node, Role, lineage_of, Phase, Owned}
+use Rattle.rk_inv_base.proofs.Words.{Rebuilding, Row, Grant, Prepare, Tenure, Body, Rebuild, Rebuilt, Handed, is_member, is_wanting, SaysOf}
+use Rattle.rk_inv_base.proofs.Words.{IsOf, PrepareFits, CloseFits, OwnFits, ReleaseFits, RebuildFits, GrantAgrees, GrantIn, IsClosing}
+use Rattle.rk_inv_base.proofs.Words.{IsOnlyRebuilder, IsOwnedBy, IsOwnedByOther, IsOwner, IsRebuiltBy, AskAgrees, PulledAgrees, GotAgrees}
+use Rattle.rk_inv_base.proofs.Words.{ReadyIn, TransferIn, JoinedIn, RebuiltIn, HasRebuilt, MayTakeRebuilt, row_at, Bystander}
+use Rattle.rk_inv_base.proofs.Words.{FirstRebuilder, FormerMember, InvitedTarget, LastRebuilder, OnlyRebuilder, OutsideRebuilder, Owner}
+use Rattle.rk_inv_base.proofs.Words.{Post, Holds, StillCounts, bond_of, post_of, rebuilder_post, IsWithinTerm, SentFits, View, SoundView}
 use Rattle.rk_transfer.specs.declared.role.Role.TheVariants as roles
 use Rattle.rk_message.specs.declared.message.Body.TheVariants as bodies
 use Rattle.rk_inv_base.proofs.wire.Messages.{by_master, if_master}
 use Rattle.rk_inv_rows.proofs.lineage.LineageSays.{asked_within}
+use Rattle.rk_inv_base.proofs.views.ByRows.{row_in}
 
 -- ---- posts of a row that is rebuilt
 
@@ -70,9 +70,8 @@ granted_member (only ∷ []) handed q grant none = absurd none
 granted_member (source ∷ target ∷ []) handed q grant is = go (eqb source.master q) (eqb target.master q) (eq-eqb target.master q is.0)
   where
     go : (a b : Bool) → b ≡ true → (a || (b || false)) ≡ true
-    go true b is = refl
-    go false true is = refl
     go false false is = is
+    go _ _ is = refl
 granted_member (source ∷ target ∷ third ∷ more) handed q grant none = absurd none
 
 -- the place that a role told
@@ -114,9 +113,7 @@ module _ (v : View) (row : Row) (lineage : List Member) (to place : ℕ) (ends :
   fitted : (q : ℕ) → StillCounts (v.live q) (terms q) row.term → Holds (bond_of (post_of old q) (v.handovers q row.tablet).role) row.term (terms q) (v.written q).applied
   fitted q counting =
       in_phase (λ p. Holds (bond_of (post_of p q) (v.handovers q row.tablet).role) row.term (terms q) (v.written q).applied)
-      (All-contains
-      (λ r. StillCounts (v.live q) (v.handovers q r.tablet).term r.term → RoleFits r q (v.handovers q r.tablet) (v.written q).applied)
-      v.rows row (sound.roles.fitting q) may.has_row counting)
+      ((row_in v sound row may.has_row).fitting q counting)
 
   rebuilt_here : (q : ℕ) → to ≡ q → HasRebuilt (v.handovers q row.tablet).role (v.written q).applied place
   rebuilt_here q is = subst (λ (m : ℕ). HasRebuilt (v.handovers m row.tablet).role (v.written m).applied place) is may.rebuilt

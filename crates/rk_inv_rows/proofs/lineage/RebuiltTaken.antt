@@ -1,27 +1,21 @@
 -- A view stays sound when the master that rebuilt a row owns it, where the records that are made of what it told go on lawfully.
-use Rattle.std.proofs.Common.{◌≡◌, ℕ, ◌≤◌, ◌<◌, Bool, true, false, cond, ◌&&◌, ◌||◌, eqb, List, [], ◌∷◌, ◌++◌, Option, Some, None, refl}
-use Rattle.std.proofs.Common.{sym, ap, subst, ◌∙◌, ⊎_elim, arith, inl, inr, All, IfSome, drop, is_some, length, max, nat_le, nat_lt, not}
-use Rattle.std.proofs.Common.{◌⊎◌, Contains, flat_map, eq-eqb, eqb-true, le-leb}
-use Rattle.rk_inv_base.proofs.Words.{and_from, cases_Bool, cond-false, false_from_ne_true, false≢true, All-append, All-cons, All-contains}
-use Rattle.rk_inv_base.proofs.Words.{All-filter, All-nil, All-weaker, IfSome_then, list_any, hash_of, has, meets, Call, Ended, Held, Placed}
-use Rattle.rk_inv_base.proofs.Words.{Member, Node, Range, is_at_parts, Map, is_at, map_after, map_with, last_version, is_mutation, Entry}
-use Rattle.rk_inv_base.proofs.Words.{ends_of, Role, lawful_turned, lineage_of, changed_rows, is_covered, row_of, Phase, Owned, Rebuilding}
-use Rattle.rk_inv_base.proofs.Words.{Row, Body, base_map, Handed, items_of, told, is_member, last_of, is_mark_of, is_marked, touches}
-use Rattle.rk_inv_base.proofs.Words.{of_key, names, IsMaster, has_all, has_key, is_idle, Written, Mark, AreHandedOver, IsKnown, IsReached}
-use Rattle.rk_inv_base.proofs.Words.{IsStagedEnd, ReachAll, TellAll, is_record_in, AreAboveMap, IsNext, IsWithinRows, IsItemWithin}
-use Rattle.rk_inv_base.proofs.Words.{IsEntryWithin, IsOfWholeRows, HasWholeRows, handed_by, handed_for_grant, target_truth, SaysOf}
-use Rattle.rk_inv_base.proofs.Words.{HasRebuilt, IsRebuiltBy, HasSome, MayTakeRebuilt, row_at, AreAbove, Bystander, FormerMember, Owner}
-use Rattle.rk_inv_base.proofs.Words.{Post, Holds, StillCounts, bond_of, post_of, rebuilder_post, speaks, HasOwnRange, MarkFits}
-use Rattle.rk_inv_base.proofs.Words.{RowIsRebuilt, HandedFits, IsBare, MembersFit, NamedFit, wanted_place, EachHasCall, FirstIsDone, IsRest}
-use Rattle.rk_inv_base.proofs.Words.{OnlyIsUnnamed, Waits, RoleFits, KeepTerm, IsFormed, IsPlaced, HasItems, has_all_items, HandoverFits}
-use Rattle.rk_inv_base.proofs.Words.{SentFits, tenure_in, range_in, IsTruth, View, truths, rests, SoundView, NodesOf, RowsOf, TermsOf}
-use Rattle.rk_inv_base.proofs.Words.{CoverOf, RolesOf, LogsOf, TruthOf, OrderOf, CallsOf, CountersOf, RestOf, TablesOf, ReceivesOf}
-use Rattle.rk_inv_base.proofs.Words.{RebuildsOf, MessagesOf}
+use Rattle.std.proofs.Common.{◌≡◌, ℕ, ◌≤◌, ◌<◌, Bool, true, false, cond, ◌&&◌, ◌||◌, eqb, List, [], ◌∷◌, ◌++◌, Option, Some, refl, sym, ap}
+use Rattle.std.proofs.Common.{subst, ◌∙◌, ⊎_elim, arith, inl, inr, All, drop, is_some, length, max, nat_le, nat_lt, not, ◌⊎◌, Contains}
+use Rattle.std.proofs.Common.{eq-eqb, eqb-true, le-leb}
+use Rattle.rk_inv_base.proofs.Words.{and_from, cases_Bool, false_from_ne_true, false≢true, All-append, All-cons, All-contains, All-filter}
+use Rattle.rk_inv_base.proofs.Words.{All-nil, All-weaker, IfSome_then, list_any, hash_of, has, Call, Ended, Placed, Member, Node, Range}
+use Rattle.rk_inv_base.proofs.Words.{is_at_parts, Map, is_at, map_after, map_with, last_version, is_mutation, Entry, ends_of, Role}
+use Rattle.rk_inv_base.proofs.Words.{lawful_turned, lineage_of, changed_rows, is_covered, row_of, Phase, Owned, Rebuilding, Row, Body}
+use Rattle.rk_inv_base.proofs.Words.{base_map, told, is_member, last_of, is_mark_of, is_marked, touches, of_key, names, has_key, Mark}
+use Rattle.rk_inv_base.proofs.Words.{AreHandedOver, IsKnown, IsReached, IsStagedEnd, ReachAll, TellAll, is_record_in, AreAboveMap, IsNext}
+use Rattle.rk_inv_base.proofs.Words.{handed_by, handed_for_grant, target_truth, HasRebuilt, IsRebuiltBy, HasSome, MayTakeRebuilt, row_at}
+use Rattle.rk_inv_base.proofs.Words.{Bystander, FormerMember, Owner, Post, Holds, StillCounts, bond_of, post_of, rebuilder_post, speaks}
+use Rattle.rk_inv_base.proofs.Words.{HasOwnRange, MarkFits, RowIsRebuilt, IsBare, wanted_place, EachHasCall, OnlyIsUnnamed, Waits, IsPlaced}
+use Rattle.rk_inv_base.proofs.Words.{HasItems, has_all_items, HandoverFits, View, truths, rests, SoundView, CoverOf, LogsOf}
 use Rattle.rk_entry.specs.declared.entry.Entry.TheVariants as entries
 use Rattle.rk_transfer.specs.declared.role.Role.TheVariants as roles
 use Rattle.rk_tablet_map.specs.Phase.{member as member_at}
 use Rattle.rk_tablet_map.specs.Rows.{turned as changed}
-use Rattle.rk_message.specs.declared.message.Body.TheVariants as bodies
 use Rattle.rk_inv_base.proofs.rows.Apart.{in_one_row, same_number}
 use Rattle.rk_inv_base.proofs.views.Cover.{covered_by}
 use Rattle.rk_inv_base.proofs.pulls.Joining.{differ}
@@ -34,7 +28,7 @@ use Rattle.rk_inv_base.proofs.calls.Rebuilders.{last_member}
 use Rattle.rk_inv_base.proofs.calls.Records.{filter_from}
 use Rattle.rk_inv_base.proofs.calls.Rest.{own_touches}
 use Rattle.rk_inv_base.proofs.rows.Speakers.{quiet_says}
-use Rattle.rk_inv_base.proofs.rows.TurnedRows.{covered_turned, known_turned, none_known, stands_found, stands_still}
+use Rattle.rk_inv_base.proofs.rows.TurnedRows.{all_turned, stands_found, stands_still}
 use Rattle.rk_inv_rows.specs.lineage.Lineages.{TellHistory}
 use Rattle.rk_inv_rows.specs.lineage.Rebuilt.{MayOwnRebuilt, made_of}
 use Rattle.rk_inv_rows.specs.lineage.Small.{rebuilt_taken}
@@ -42,7 +36,9 @@ use Rattle.rk_inv_rows.proofs.lineage.Among.{kept_passes, later_all}
 use Rattle.rk_inv_rows.proofs.lineage.MadeRecords.{made_asked, made_rising, made_seen}
 use Rattle.rk_inv_rows.proofs.lineage.MarksBeside.{done_beside, items_beside, marks_beside, members_beside, named_beside, pieces_beside, rebuilt_beside, says_beside, target_beside}
 use Rattle.rk_inv_rows.proofs.lineage.MarksTaken.{rests_kept, taken_by, truths_kept}
-use Rattle.rk_inv_rows.proofs.lineage.OtherRows.{all_others, stood_apart}
+use Rattle.rk_inv_base.proofs.rows.OtherRows.{all_others}
+use Rattle.rk_inv_base.proofs.rows.RowReplaced.{cover_replaced, covered_replaced, known_replaced}
+use Rattle.rk_inv_base.proofs.views.ByRows.{none_for_owned, row_in, IsNextOf, SaysIn, SoundBeside, SoundRow, each_row, view_by_rows}
 use Rattle.rk_inv_rows.proofs.lineage.RebuiltCounter.{next_now}
 use Rattle.rk_inv_rows.proofs.lineage.RebuiltMaterial.{placed_within, settled, taken_applied}
 use Rattle.rk_inv_rows.proofs.lineage.RebuiltSays.{member_here, says_owned}
@@ -90,18 +86,8 @@ module _ (v : View) (row : Row) (lineage : List Member) (to place : ℕ) (ends :
   found : row_of v.rows row.tablet ≡ Some row
   found = stands_found v.rows row sound.rows.apart has_row
 
-  -- what holds of the new row and of each other one holds of each
-  each : (P : Row → Type 0) → P new → ((r : Row) → Contains v.rows r → (r.tablet ≡ row.tablet → ⊥) → P r) → All P now.rows
-  each P here others =
-      all_by P now.rows
-      (λ r stands.
-      ⊎_elim (λ (is : r ≡ new). subst P (sym is) here)
-      (λ (before : Contains v.rows r × (r.tablet ≡ row.tablet → ⊥)). others r before.0 before.1)
-      (stood_apart v.rows row new sound.rows.apart has_row refl refl r stands))
-
-  -- what held of each goes on to hold
-  kept : (P Q : Row → Type 0) → (P row → Q new) → ((r : Row) → Contains v.rows r → (r.tablet ≡ row.tablet → ⊥) → P r → Q r) → All P v.rows → All Q now.rows
-  kept = all_others v.rows row new sound.rows.apart has_row refl refl
+  was : SoundRow v row
+  was = row_in v sound row has_row
 
   truth_as : (r : Row) → Contains v.rows r → (r.tablet ≡ row.tablet → ⊥) → truths now r ≡ truths v r
   truth_as r has unlike = truths_kept v row sound has_row r has unlike (some_of r has)
@@ -118,10 +104,10 @@ module _ (v : View) (row : Row) (lineage : List Member) (to place : ℕ) (ends :
       (subst (Tells r (truths v r)) (sym (rest_as r has unlike)) (may.others r has unlike))
 
   covered : (table hash : ℕ) → is_covered now.rows table hash ≡ is_covered v.rows table hash
-  covered = covered_turned v.rows row.tablet row new found refl
+  covered = covered_replaced v row new sound has_row refl refl
 
   known : (number : ℕ) → is_some (row_of now.rows number) ≡ is_some (row_of v.rows number)
-  known = known_turned v.rows row.tablet row new found refl
+  known = known_replaced v row new sound has_row refl refl
 
   here_is : (q : ℕ) (P : Bool → Type 0) → (to ≡ q → P true) → P false → P (eqb to q)
   here_is q P here others = go (eqb to q) refl
@@ -187,98 +173,25 @@ module _ (v : View) (row : Row) (lineage : List Member) (to place : ℕ) (ends :
   named_before q is =
       ap (λ (p : Phase). names p q) taken.phase_is ∙ ap (λ (b : Bool). b || is_member lineage q) is
 
-  nodes : NodesOf now
-  nodes = record {
-    numbered = sound.nodes.numbered;
-    backed = sound.nodes.backed;
-    known = sound.nodes.known;
-    named = λ q.
-        kept (λ r. names r.phase q ≡ true → IsMaster v.masters q) (λ r. names r.phase q ≡ true → IsMaster v.masters q)
-        (λ there is. there (named_before q is)) (λ r has unlike there. there) (sound.nodes.named q);
-    crashed = sound.nodes.crashed;
-    left = sound.nodes.left;
-  }
-
-  rows : RowsOf now
-  rows = record {
-    apart = lawful_turned v.rows row.tablet row new found refl refl sound.rows.apart;
-    begun = kept (λ r. 1 ≤ r.term) (λ r. 1 ≤ r.term) (λ begun. begun) (λ r has unlike begun. begun) sound.rows.begun;
-    formed = kept (λ r. IsFormed r.phase) (λ r. IsFormed r.phase) (λ was. tt) (λ r has unlike formed. formed) sound.rows.formed;
-    placed =
-        kept (λ r. All (IsPlaced v.written) (lineage_of r.phase)) (λ r. All (IsPlaced now.written) (lineage_of r.phase))
-        (λ was.
-        All-cons (IsPlaced now.written) (member_at to place) []
-        (placed_within v row lineage to place ends sound (some_of row has_row) taken) (All-nil (IsPlaced now.written)))
-        (λ r has unlike placed. placed) sound.rows.placed;
-    covered =
-        All-weaker (λ entry. is_covered v.rows entry.call.table (hash_of entry.call.key) ≡ true)
-        (λ entry. is_covered now.rows entry.call.table (hash_of entry.call.key) ≡ true)
-        (λ entry lies. covered entry.call.table (hash_of entry.call.key) ∙ lies) journal
-        (All-append (λ entry. is_covered v.rows entry.call.table (hash_of entry.call.key) ≡ true) v.journal made sound.rows.covered
-        (All-weaker (λ placed. is_record_in row.range placed ≡ true)
-        (λ entry. is_covered v.rows entry.call.table (hash_of entry.call.key) ≡ true)
-        (λ placed inside. covered_by v.rows row placed.call.table (hash_of placed.call.key) has_row inside) made may.records.inside));
-  }
-
-  kept_fits : (q number : ℕ) → HandoverFits row number (v.handovers q number) → HandoverFits new number (v.handovers q number)
-  kept_fits q number fits = record { within = fits.within; below = fits.below; exact = fits.exact }
-
-  sent_fits : (body : Body) → SentFits row body → SentFits new body
-  sent_fits body fits = record { within = fits.within; below = fits.below }
-
-  terms : TermsOf now
-  terms = record {
-    kept = λ q n.
-        kept (λ other. HandoverFits other n (v.handovers q n)) (λ other. HandoverFits other n (v.handovers q n)) (kept_fits q n)
-        (λ r has unlike fits. fits) (sound.terms.kept q n);
-    begun = sound.terms.begun;
-    apart = sound.terms.apart;
-    sent = λ n m there.
-        kept (λ other. SentFits other m.body) (λ other. SentFits other m.body) (sent_fits m.body) (λ r has unlike fits. fits)
-        (sound.terms.sent n m there);
-  }
-
-  range_within : (range : Range) → IsWithinRows v.rows range → IsWithinRows now.rows range
-  range_within range lies hash inside = covered range.table hash ∙ lies hash inside
-
-  item_within : (item : Held) → IsItemWithin v.rows item → IsItemWithin now.rows item
-  item_within item lies = covered item.table (hash_of item.key) ∙ lies
-
-  entry_within : (entry : Entry) → IsEntryWithin v.rows entry → IsEntryWithin now.rows entry
-  entry_within (entries.Held held) lies = item_within held lies
-  entry_within (entries.Refused refused) lies = covered refused.table (hash_of refused.key) ∙ lies
-  entry_within (entries.Carried carried) lies = range_within carried.range lies
-  entry_within (entries.Joined joined) lies = range_within joined.range lies
-
-  of_whole : (range : Range) → HasWholeRows v.rows range → HasWholeRows now.rows range
-  of_whole range =
-      kept (λ r. meets r.range range ≡ true → has_all range r.range ≡ true) (λ r. meets r.range range ≡ true → has_all range r.range ≡ true)
-      (λ whole. whole) (λ r has unlike whole. whole)
-
-  entry_whole : (entry : Entry) → IsOfWholeRows v.rows entry → IsOfWholeRows now.rows entry
-  entry_whole (entries.Held held) whole = tt
-  entry_whole (entries.Refused refused) whole = tt
-  entry_whole (entries.Carried carried) whole = of_whole carried.range whole
-  entry_whole (entries.Joined joined) whole = of_whole joined.range whole
-
   abbrev stays : Mark → Bool
   stays mark = not (is_mark_of row.tablet row.term mark)
 
   cover : CoverOf now
-  cover = record {
-    unknown = λ q r none. sound.cover.unknown q r (none_known (row_of v.rows r) (row_of now.rows r) (known r) none);
-    marks = λ q.
-        All-filter (λ mark. not (is_mark_of row.tablet row.term mark)) (λ mark. is_some (row_of now.rows mark.tablet) ≡ true) (v.written q).marks
-        (All-weaker (λ mark. is_some (row_of v.rows mark.tablet) ≡ true) (λ mark. is_some (row_of now.rows mark.tablet) ≡ true)
-        (λ mark there. known mark.tablet ∙ there) (v.written q).marks (sound.cover.marks q));
-    sent = λ n m there. IfSome_then (tenure_in m.body) (sound.cover.sent n m there) (λ tenure knows. known tenure.tablet ∙ knows);
-    ranges = λ q r begun. range_within (v.handovers q r).range (sound.cover.ranges q r begun);
-    ordered = λ n m there. IfSome_then (range_in m.body) (sound.cover.ordered n m there) range_within;
-    entries = λ q. All-weaker _ _ entry_within (v.written q).entries (sound.cover.entries q);
-    sides = λ q. All-weaker _ _ item_within (flat_map (λ items. items) (v.written q).sides) (sound.cover.sides q);
-    items = λ q. All-weaker _ _ item_within (v.records q) (sound.cover.items q);
-    wholes = λ q. All-weaker _ _ entry_whole (v.written q).entries (sound.cover.wholes q);
-  }
+  cover =
+      let same = cover_replaced v row new sound has_row refl refl v.handed in
+      record {
+        unknown = same.unknown;
+        marks = λ q.
+            All-filter (λ mark. not (is_mark_of row.tablet row.term mark)) (λ mark. is_some (row_of now.rows mark.tablet) ≡ true)
+            (v.written q).marks (same.marks q);
+        sent = same.sent;
+        ranges = same.ranges;
+        ordered = same.ordered;
+        entries = same.entries;
+        sides = same.sides;
+        items = same.items;
+        wholes = same.wholes;
+      }
 
   -- ---- posts
 
@@ -292,47 +205,18 @@ module _ (v : View) (row : Row) (lineage : List Member) (to place : ℕ) (ends :
   FitsPost q post = Holds (bond_of post (v.handovers q row.tablet).role) row.term (v.handovers q row.tablet).term (v.written q).applied
 
   fits_by : (q : ℕ) (a b : Bool) → eqb to q ≡ a → FitsPost q (cond a (rebuilder_post lineage q) (cond b FormerMember Bystander)) → FitsPost q (cond a (Owner place) Bystander)
-  fits_by q true b is was =
+  fits_by q true b is held =
       rebuilt_owns (v.handovers q row.tablet).role place row.term (v.handovers q row.tablet).term (v.written q).applied
       (rebuilt_here q (eqb-true to q is)) (term_here q (eqb-true to q is))
-  fits_by q false true is was = absurd was
-  fits_by q false false is was = was
+  fits_by q false true is held = absurd held
+  fits_by q false false is held = held
 
   fitted : (q : ℕ) → StillCounts (v.live q) (v.handovers q row.tablet).term row.term → FitsPost q (post_of (Rebuilding lineage to) q)
   fitted q counting =
-      in_phase (λ p. FitsPost q (post_of p q))
-      (All-contains
-      (λ r. StillCounts (v.live q) (v.handovers q r.tablet).term r.term → RoleFits r q (v.handovers q r.tablet) (v.written q).applied)
-      v.rows row (sound.roles.fitting q) has_row counting)
+      in_phase (λ p. FitsPost q (post_of p q)) (was.fitting q counting)
 
   fits : (q : ℕ) → StillCounts (v.live q) (v.handovers q row.tablet).term row.term → FitsPost q (post_of owned q)
   fits q counting = fits_by q (eqb to q) (is_member lineage q) refl (fitted q counting)
-
-  roles_fit : RolesOf now
-  roles_fit = record {
-    fitting = λ q.
-        kept
-        (λ r. StillCounts (v.live q) (v.handovers q r.tablet).term r.term → RoleFits r q (v.handovers q r.tablet) (v.written q).applied)
-        (λ r. StillCounts (v.live q) (v.handovers q r.tablet).term r.term → RoleFits r q (v.handovers q r.tablet) (v.written q).applied)
-        (λ was. fits q) (λ r has unlike was. was) (sound.roles.fitting q);
-    ranged = λ q.
-        kept
-        (λ r. StillCounts (v.live q) (v.handovers q r.tablet).term r.term
-        → is_member (lineage_of r.phase) q ≡ true → (v.handovers q r.tablet).range ≡ r.range)
-        (λ r. StillCounts (v.live q) (v.handovers q r.tablet).term r.term
-        → is_member (lineage_of r.phase) q ≡ true → (v.handovers q r.tablet).range ≡ r.range)
-        (λ was counting.
-        here_is q (λ b. (b || false) ≡ true → (v.handovers q row.tablet).range ≡ row.range)
-        (λ here inside.
-        (All-contains (λ r. HandoverFits r row.tablet (v.handovers q row.tablet)) v.rows row (sound.terms.kept q row.tablet) has_row).exact
-        refl (term_here q here))
-        (λ none. absurd (false≢true none)))
-        (λ r has unlike was. was) (sound.roles.ranged q);
-    at_term =
-        kept (λ r. KeepTerm r.phase (λ q. (v.handovers q r.tablet).term) r.term) (λ r. KeepTerm r.phase (λ q. (v.handovers q r.tablet).term) r.term)
-        (λ was. tt) (λ r has unlike was. was) sound.roles.at_term;
-    known = λ q r lives there. known r ∙ sound.roles.known q r lives there;
-  }
 
   logs : LogsOf now
   logs = record {
@@ -351,22 +235,6 @@ module _ (v : View) (row : Row) (lineage : List Member) (to place : ℕ) (ends :
 
   -- ---- truth, order, calls
 
-  truth : TruthOf now (truths now)
-  truth = record {
-    legal = may.records.legal;
-    rising = made_rising v sound.asked ends sound.truth.rising;
-    seen = made_seen v sound.asked ends sound.truth.seen;
-    true =
-        each (λ r. IsTruth v.base r.range (truths now r) journal) may.history.leaves (λ r has unlike. (history r has unlike).leaves);
-  }
-
-  order : OrderOf now (truths now) (rests now)
-  order = record {
-    above =
-        each (λ r. AreAbove (items_of (truths now r)) (items_of (rests now r))) may.history.above
-        (λ r has unlike. (history r has unlike).above);
-  }
-
   -- only the owner speaks
   owner_says : (q : ℕ) → StillCounts (v.live q) (v.handovers q row.tablet).term row.term → (P : ℕ → Type 0) → P to → speaks (post_of owned q) (v.handovers q row.tablet) row.term ≡ true → P q
   owner_says q counting P here = go (eqb to q) refl (fits q counting)
@@ -375,18 +243,6 @@ module _ (v : View) (row : Row) (lineage : List Member) (to place : ℕ) (ends :
       go true is fit says = subst P (eqb-true to q is) here
       go false is fit says =
           absurd (quiet_says Bystander (v.handovers q row.tablet) row.term (v.written q).applied tt fit says)
-
-  -- nothing is handed over for the row
-  none_handed : (body : Body) → handed_by new v.handovers body ≡ None
-  none_handed (bodies.Transfer transfer) = refl
-  none_handed (bodies.Grant grant) =
-      cond-false ((eqb grant.tenure.tablet row.tablet) && false) (Some (record { floor = grant.floor; ends = grant.ends })) None
-      (and_none (eqb grant.tenure.tablet row.tablet))
-    where
-      and_none : (b : Bool) → (b && false) ≡ false
-      and_none true = refl
-      and_none false = refl
-  none_handed body = refl
 
   -- a staged end of the row is a record's now
   staged_end : (q n : ℕ) (end : Ended) → Contains (ends_of (v.completions q n)) end → IsStagedEnd v.rows (rests v) q n (v.handovers q n).term end → IsKnown v.base journal end ⊎ IsStagedEnd now.rows (rests now) q n (v.handovers q n).term end
@@ -416,98 +272,12 @@ module _ (v : View) (row : Row) (lineage : List Member) (to place : ℕ) (ends :
       }))
       (cases_Bool (eqb s.row.tablet row.tablet))
 
-  calls : CallsOf now (truths now) (rests now)
-  calls = record {
-    once = may.records.once;
-    reached = each (λ r. TellAll r.range journal (truths now r)) may.history.ends (λ r has unlike. (history r has unlike).ends);
-    recorded =
-        each (λ r. All (IsKnown v.base journal) (told (truths now r))) may.history.known (λ r has unlike. (history r has unlike).known);
-    moving =
-        kept (λ r. IfSome (target_truth v.written v.handed r r.phase) (TellAll r.range v.journal))
-        (λ r. IfSome (target_truth now.written v.handed r r.phase) (TellAll r.range journal)) (λ was. tt)
-        (λ r has unlike was.
-        subst (λ (o : Option (List Entry)). IfSome o (TellAll r.range journal))
-        (sym (target_beside v row sound has_row r has unlike (some_of r has) r.phase))
-        (IfSome_then (target_truth v.written v.handed r r.phase) was (tell_more r has unlike)))
-        sound.calls.moving;
-    answering = λ q.
-        kept
-        (λ r. StillCounts (v.live q) (v.handovers q r.tablet).term r.term
-        → speaks (post_of r.phase q) (v.handovers q r.tablet) r.term ≡ true
-        → ReachAll r.range v.journal (ends_of (v.completions q r.tablet)))
-        (λ r. StillCounts (v.live q) (v.handovers q r.tablet).term r.term
-        → speaks (post_of r.phase q) (v.handovers q r.tablet) r.term ≡ true
-        → ReachAll r.range journal (ends_of (v.completions q r.tablet)))
-        (λ was counting. owner_says q counting (λ m. ReachAll row.range journal (ends_of (v.completions m row.tablet))) may.reached)
-        (λ r has unlike was counting says. reach_more r has unlike (ends_of (v.completions q r.tablet)) (was counting says))
-        (sound.calls.answering q);
-    handed_on =
-        kept (λ r. IfSome (handed_for_grant r v.handovers v.handed) (λ h. AreHandedOver v.base r.range v.journal h.ends))
-        (λ r. IfSome (handed_for_grant r v.handovers v.handed) (λ h. AreHandedOver v.base r.range journal h.ends)) (λ was. tt)
-        (λ r has unlike was.
-        IfSome_then (handed_for_grant r v.handovers v.handed) was (λ h over. hand_more r has unlike h.ends over))
-        sound.calls.handed_on;
-    sent = λ n m there.
-        kept (λ r. IfSome (handed_by r v.handovers m.body) (λ h. AreHandedOver v.base r.range v.journal h.ends))
-        (λ r. IfSome (handed_by r v.handovers m.body) (λ h. AreHandedOver v.base r.range journal h.ends))
-        (λ was.
-        subst (λ (o : Option Handed). IfSome o (λ h. AreHandedOver v.base row.range journal h.ends)) (sym (none_handed m.body)) tt)
-        (λ r has unlike was. IfSome_then (handed_by r v.handovers m.body) was (λ h over. hand_more r has unlike h.ends over))
-        (sound.calls.sent n m there);
-    known = λ q n lives.
-        all_in
-        (λ end. IsKnown v.base v.journal end ⊎ IsStagedEnd v.rows (rests v) q n (v.handovers q n).term end)
-        (λ end. IsKnown v.base journal end ⊎ IsStagedEnd now.rows (rests now) q n (v.handovers q n).term end)
-        (ends_of (v.completions q n))
-        (λ end stands either.
-        ⊎_elim (λ (knows : IsKnown v.base v.journal end). inl (known_still v.journal made v.base end knows))
-        (λ (s : IsStagedEnd v.rows (rests v) q n (v.handovers q n).term end). staged_end q n end stands s) either)
-        (sound.calls.known q n lives);
-  }
-
   -- ---- counters
 
   next_as : (r : Row) → Contains v.rows r → (r.tablet ≡ row.tablet → ⊥) → (number : ℕ) → IsNext (truths v r ++ rests v r) number → IsNext (truths now r ++ rests now r) number
   next_as r has unlike number next =
       subst (λ (t : List Entry). IsNext (t ++ rests now r) number) (sym (truth_as r has unlike))
       (subst (λ (l : List Entry). IsNext (truths v r ++ l) number) (sym (rest_as r has unlike)) next)
-
-  counters : CountersOf now (truths now) (rests now)
-  counters = record {
-    low = each (λ r. AreAboveMap r.range (map_of journal) (truths now r)) may.history.low (λ r has unlike. (history r has unlike).low);
-    moving =
-        kept (λ r. IfSome (target_truth v.written v.handed r r.phase) (AreAboveMap r.range (map_of v.journal)))
-        (λ r. IfSome (target_truth now.written v.handed r r.phase) (AreAboveMap r.range (map_of journal))) (λ was. tt)
-        (λ r has unlike was.
-        subst (λ (o : Option (List Entry)). IfSome o (AreAboveMap r.range (map_of journal)))
-        (sym (target_beside v row sound has_row r has unlike (some_of r has) r.phase))
-        (IfSome_then (target_truth v.written v.handed r r.phase) was (above_more r has unlike)))
-        sound.counters.moving;
-    counted = λ q.
-        kept
-        (λ r. StillCounts (v.live q) (v.handovers q r.tablet).term r.term
-        → speaks (post_of r.phase q) (v.handovers q r.tablet) r.term ≡ true
-        → IsNext (truths v r ++ rests v r) (v.handovers q r.tablet).counter)
-        (λ r. StillCounts (v.live q) (v.handovers q r.tablet).term r.term
-        → speaks (post_of r.phase q) (v.handovers q r.tablet) r.term ≡ true
-        → IsNext (truths now r ++ rests now r) (v.handovers q r.tablet).counter)
-        (λ was counting. owner_says q counting (λ m. IsNext (truths now new ++ rests now new) (v.handovers m row.tablet).counter)
-        (next_now v row lineage to place ends sound (some_of row has_row) taken))
-        (λ r has unlike was counting says. next_as r has unlike (v.handovers q r.tablet).counter (was counting says))
-        (sound.counters.counted q);
-    handed_on =
-        kept (λ r. IfSome (handed_for_grant r v.handovers v.handed) (λ h. IsNext (truths v r ++ rests v r) h.floor))
-        (λ r. IfSome (handed_for_grant r v.handovers v.handed) (λ h. IsNext (truths now r ++ rests now r) h.floor)) (λ was. tt)
-        (λ r has unlike was. IfSome_then (handed_for_grant r v.handovers v.handed) was (λ h next. next_as r has unlike h.floor next))
-        sound.counters.handed_on;
-    sent = λ n m there.
-        kept (λ r. IfSome (handed_by r v.handovers m.body) (λ h. IsNext (truths v r ++ rests v r) h.floor))
-        (λ r. IfSome (handed_by r v.handovers m.body) (λ h. IsNext (truths now r ++ rests now r) h.floor))
-        (λ was.
-        subst (λ (o : Option Handed). IfSome o (λ h. IsNext (truths now new ++ rests now new) h.floor)) (sym (none_handed m.body)) tt)
-        (λ r has unlike was. IfSome_then (handed_by r v.handovers m.body) was (λ h next. next_as r has unlike h.floor next))
-        (sound.counters.sent n m there);
-  }
 
   -- ---- what waits
 
@@ -564,9 +334,7 @@ module _ (v : View) (row : Row) (lineage : List Member) (to place : ℕ) (ends :
   mark_of : (q : ℕ) (mark : Mark) → Contains (v.written q).marks mark → mark.tablet ≡ row.tablet → MarkFits row q (v.handovers q row.tablet) (v.live q) (v.written q) mark
   mark_of q mark stands its =
       All-contains (λ m. m.tablet ≡ row.tablet → MarkFits row q (v.handovers q row.tablet) (v.live q) (v.written q) m) (v.written q).marks mark
-      (All-contains
-      (λ r. All (λ m. m.tablet ≡ r.tablet → MarkFits r q (v.handovers q r.tablet) (v.live q) (v.written q) m) (v.written q).marks)
-      v.rows row (sound.rebuilds.marks q) has_row) stands its
+      (was.marks q) stands its
 
   -- what bore a mark of the tablet at a living master is applied
   applied_there : (q : ℕ) (mark : Mark) → v.live q ≡ true → Contains (v.written q).marks mark → mark.tablet ≡ row.tablet → mark.past ≤ (v.written q).applied
@@ -589,36 +357,9 @@ module _ (v : View) (row : Row) (lineage : List Member) (to place : ℕ) (ends :
       let low = applied_there q gone.covered.mark lives gone.covered.stands gone.tablet in
       omega (arith, past, low, behind)))
 
-  rest : RestOf now (truths now) (rests now)
-  rest = record {
-    goes_on =
-        each (λ r. IsRest v.base r.range (truths now r) (rests now r) journal v.asked) may.history.goes_on
-        (λ r has unlike. (history r has unlike).goes_on);
-    done =
-        kept (λ r. FirstIsDone v.written r.range (lineage_of r.phase)) (λ r. FirstIsDone now.written r.range (lineage_of r.phase)) (λ was. tt)
-        (λ r has unlike. done_beside v row sound has_row r has unlike (some_of r has) (lineage_of r.phase)) sound.rest.done;
-    unnamed =
-        kept (λ r. OnlyIsUnnamed v.written r.range (lineage_of r.phase)) (λ r. OnlyIsUnnamed now.written r.range (lineage_of r.phase))
-        (λ was.
-        joined_none row.range (drop (max place (v.written to).applied) (v.written to).entries)
-        (later_all (Misses row.range) (v.written to).applied (max place (v.written to).applied) (v.written to).entries (omega arith) missed))
-        (λ r has unlike. unnamed_as r (lineage_of r.phase)) sound.rest.unnamed;
-    idle = λ q.
-        kept
-        (λ r. StillCounts (v.live q) (v.handovers q r.tablet).term r.term → is_idle (v.handovers q r.tablet).role ≡ true
-        → list_any (touches r.range) (drop (v.written q).applied (v.written q).entries) ≡ false)
-        (λ r. StillCounts (v.live q) (v.handovers q r.tablet).term r.term → is_idle (v.handovers q r.tablet).role ≡ true
-        → list_any (touches r.range) (drop (v.written q).applied (v.written q).entries) ≡ false)
-        (λ idle. idle) (λ r has unlike idle. idle) (sound.rest.idle q);
-    waiting = λ q lives n call there. waits q n call lives (sound.rest.waiting q lives n call there);
-    are_last = sound.rest.are_last;
-    found = λ q lives. found_calls q lives (sound.rest.found q lives);
-  }
-    where
-      unnamed_as : (r : Row) (l : List Member) → OnlyIsUnnamed v.written r.range l → OnlyIsUnnamed now.written r.range l
-      unnamed_as r [] fit = tt
-      unnamed_as r (only ∷ []) fit = fit
-      unnamed_as r (first ∷ last ∷ more) fit = tt
+  unnamed_as : (r : Row) (l : List Member) → OnlyIsUnnamed v.written r.range l → OnlyIsUnnamed now.written r.range l
+  unnamed_as r (only ∷ []) fit = fit
+  unnamed_as r _ fit = tt
 
   -- ---- records, targets, rebuilds
 
@@ -628,37 +369,8 @@ module _ (v : View) (row : Row) (lineage : List Member) (to place : ℕ) (ends :
       (λ here is. subst (λ (m : ℕ). HasItems new now.written (v.records m)) here may.full)
       (λ none. absurd (false≢true none))
 
-  records : TablesOf now
-  records = record {
-    ordered = sound.records.ordered;
-    items = λ q lives.
-        kept
-        (λ r. has_all_items (post_of r.phase q) (v.handovers q r.tablet) r.term ≡ true → HasItems r v.written (v.records q))
-        (λ r. has_all_items (post_of r.phase q) (v.handovers q r.tablet) r.term ≡ true → HasItems r now.written (v.records q))
-        (λ was. full q)
-        (λ r has unlike was is. items_beside v row sound has_row r has unlike (some_of r has) (v.records q) (was is))
-        (sound.records.items q lives);
-  }
-
   bare_as : (q : ℕ) (range : Range) (from : ℕ) → IsBare range from (v.written q) (v.records q) → IsBare range from (now.written q) (v.records q)
   bare_as q range from bare = record { placed = bare.placed; nothing = bare.nothing; empty = bare.empty }
-
-  receives : ReceivesOf now
-  receives = record {
-    targets =
-        kept (λ r. MembersFit r v.written v.handovers v.pullings v.records v.handed (lineage_of r.phase))
-        (λ r. MembersFit r now.written v.handovers v.pullings v.records v.handed (lineage_of r.phase)) (λ was. tt)
-        (λ r has unlike. members_beside v row sound has_row r has unlike (some_of r has) (lineage_of r.phase)) sound.receives.targets;
-    handed_on =
-        kept (λ r. HandedFits r v.handovers v.completions v.handed (lineage_of r.phase))
-        (λ r. HandedFits r v.handovers v.completions v.handed (lineage_of r.phase)) (λ was. tt) (λ r has unlike was. was)
-        sound.receives.handed_on;
-    bare = λ q n.
-        IfSome_then (wanted_place (v.handovers q n).role) (sound.receives.bare q n) (bare_as q (v.handovers q n).range);
-    named =
-        kept (λ r. NamedFit v.written r.range (lineage_of r.phase)) (λ r. NamedFit now.written r.range (lineage_of r.phase)) (λ was. tt)
-        (λ r has unlike. named_beside v row sound has_row r has unlike (some_of r has) (lineage_of r.phase)) sound.receives.named;
-  }
 
   -- no mark of the tablet is left
   none_left : (q : ℕ) (mark : Mark) → Contains (now.written q).marks mark → mark.tablet ≡ row.tablet → ⊥
@@ -669,76 +381,169 @@ module _ (v : View) (row : Row) (lineage : List Member) (to place : ℕ) (ends :
       (le-leb mark.term row.term fit.within) in
       false≢true (ap not (sym both) ∙ kept_passes stays (v.written q).marks mark stands)
 
-  abbrev Rebuilds : Row → List Entry → (ℕ → Written) → Type 0
-  Rebuilds r truth written =
-      RowIsRebuilt r r.phase truth v.logs written v.stored v.handovers v.completions v.gathers v.merged v.records v.live
+  -- ---- the whole
 
-  rebuilds : RebuildsOf now (truths now)
-  rebuilds = record {
-    rebuilt =
-        kept (λ r. Rebuilds r (truths v r) v.written) (λ r. Rebuilds r (truths now r) now.written) (λ was. tt)
-        (λ r has unlike was.
-        subst (λ (t : List Entry). Rebuilds r t now.written) (sym (truth_as r has unlike))
-        (rebuilt_beside v row sound has_row r has unlike (some_of r has) (truths v r) r.phase was))
-        sound.rebuilds.rebuilt;
+  -- what holds of the row
+  holds : SoundRow now new
+  holds = record {
+    named = λ q is. was.named q (named_before q is);
+    begun = was.begun;
+    formed = tt;
+    placed =
+        All-cons (IsPlaced now.written) (member_at to place) []
+        (placed_within v row lineage to place ends sound (some_of row has_row) taken) (All-nil (IsPlaced now.written));
+    sent = λ n m there. let fits = was.sent n m there in record { within = fits.within; below = fits.below };
+    fitting = fits;
+    ranged = λ q counting.
+        here_is q (λ b. (b || false) ≡ true → (v.handovers q row.tablet).range ≡ row.range)
+        (λ here inside.
+        (All-contains (λ r. HandoverFits r row.tablet (v.handovers q row.tablet)) v.rows row (sound.terms.kept q row.tablet) has_row).exact
+        refl (term_here q here))
+        (λ none. absurd (false≢true none));
+    at_term = tt;
+    truth = may.history.leaves;
+    above = may.history.above;
+    reached = may.history.ends;
+    recorded = may.history.known;
+    moving = tt;
+    answering = λ q counting. owner_says q counting (λ m. ReachAll row.range journal (ends_of (v.completions m row.tablet))) may.reached;
+    ends_granted = tt;
+    ends_sent = λ n m there. rw (none_for_owned row.tablet row.term row.range to place v.handovers m.body) tt;
+    low = may.history.low;
+    low_moving = tt;
+    counted = λ q counting.
+        owner_says q counting (λ m. IsNextOf now new (v.handovers m row.tablet).counter)
+        (next_now v row lineage to place ends sound (some_of row has_row) taken);
+    floor_granted = tt;
+    floor_sent = λ n m there. rw (none_for_owned row.tablet row.term row.range to place v.handovers m.body) tt;
+    goes_on = may.history.goes_on;
+    done = tt;
+    unnamed =
+        joined_none row.range (drop (max place (v.written to).applied) (v.written to).entries)
+        (later_all (Misses row.range) (v.written to).applied (max place (v.written to).applied) (v.written to).entries (omega arith) missed);
+    idle = was.idle;
+    items = λ q lives. full q;
+    target = tt;
+    handed_on = tt;
+    named_items = tt;
+    rebuilt = tt;
     marks = λ q.
-        kept
-        (λ r. All (λ mark. mark.tablet ≡ r.tablet → MarkFits r q (v.handovers q r.tablet) (v.live q) (v.written q) mark) (v.written q).marks)
-        (λ r. All (λ mark. mark.tablet ≡ r.tablet → MarkFits r q (v.handovers q r.tablet) (v.live q) (now.written q) mark) (now.written q).marks)
-        (λ was.
         all_by (λ mark. mark.tablet ≡ row.tablet → MarkFits new q (v.handovers q row.tablet) (v.live q) (now.written q) mark)
-        (now.written q).marks (λ mark stands its. absurd (none_left q mark stands its)))
-        (λ r has unlike. marks_beside v row sound has_row r has unlike (some_of r has) q) (sound.rebuilds.marks q);
+        (now.written q).marks (λ mark stands its. absurd (none_left q mark stands its));
     pieces = λ q.
-        kept
-        (λ r. All (λ mark. mark.tablet ≡ r.tablet → HasOwnRange r.range (v.written q).entries mark) (v.written q).marks)
-        (λ r. All (λ mark. mark.tablet ≡ r.tablet → HasOwnRange r.range (v.written q).entries mark) (now.written q).marks)
-        (λ was.
         all_by (λ mark. mark.tablet ≡ row.tablet → HasOwnRange row.range (v.written q).entries mark) (now.written q).marks
-        (λ mark stands its. absurd (none_left q mark stands its)))
-        (λ r has unlike. pieces_beside v row sound has_row r has unlike (some_of r has) q) (sound.rebuilds.pieces q);
+        (λ mark stands its. absurd (none_left q mark stands its));
+    says = λ n m there.
+        says_as m.from m.to m.body (says_owned v row lineage to place ends sound taken m.from m.to m.body (was.sent n m there) (was.says n m there));
   }
+    where
+      -- what is said of a row that is owned reads no marks
+      says_as : (from node : Node) (body : Body) → SaysIn (record now { written = v.written }) new from node body → SaysIn now new from node body
+      says_as from node body said = said
 
-  -- ---- messages
+  -- of another row holds what did
+  module _ (r : Row) (has : Contains v.rows r) (unlike : r.tablet ≡ row.tablet → ⊥) where
+    some : r.range.first ≤ r.range.last
+    some = some_of r has
 
-  abbrev SaysIn : Row → (ℕ → Written) → Node → Node → Body → Type 0
-  SaysIn r written = SaysOf r v.logs written v.stored v.handovers v.completions v.merged v.live v.handed
+    target_as : target_truth now.written v.handed r r.phase ≡ target_truth v.written v.handed r r.phase
+    target_as = target_beside v row sound has_row r has unlike some r.phase
 
-  -- what is said of a row that is owned reads no marks
-  says_as : (from node : Node) (body : Body) → SaysIn new v.written from node body → SaysIn new now.written from node body
-  says_as from node body said = said
+    other_row : SoundRow v r → SoundRow now r
+    other_row old = record {
+      named = old.named;
+      begun = old.begun;
+      formed = old.formed;
+      placed = old.placed;
+      sent = old.sent;
+      fitting = old.fitting;
+      ranged = old.ranged;
+      at_term = old.at_term;
+      truth = (history r has unlike).leaves;
+      above = (history r has unlike).above;
+      reached = (history r has unlike).ends;
+      recorded = (history r has unlike).known;
+      moving = rw target_as (IfSome_then (target_truth v.written v.handed r r.phase) old.moving (tell_more r has unlike));
+      answering = λ q counting says. reach_more r has unlike (ends_of (v.completions q r.tablet)) (old.answering q counting says);
+      ends_granted =
+          IfSome_then (handed_for_grant r v.handovers v.handed) old.ends_granted (λ h over. hand_more r has unlike h.ends over);
+      ends_sent = λ n m there.
+          IfSome_then (handed_by r v.handovers m.body) (old.ends_sent n m there) (λ h over. hand_more r has unlike h.ends over);
+      low = (history r has unlike).low;
+      low_moving = rw target_as (IfSome_then (target_truth v.written v.handed r r.phase) old.low_moving (above_more r has unlike));
+      counted = λ q counting says. next_as r has unlike (v.handovers q r.tablet).counter (old.counted q counting says);
+      floor_granted =
+          IfSome_then (handed_for_grant r v.handovers v.handed) old.floor_granted (λ h next. next_as r has unlike h.floor next);
+      floor_sent = λ n m there.
+          IfSome_then (handed_by r v.handovers m.body) (old.floor_sent n m there) (λ h next. next_as r has unlike h.floor next);
+      goes_on = (history r has unlike).goes_on;
+      done = done_beside v row sound has_row r has unlike some (lineage_of r.phase) old.done;
+      unnamed = unnamed_as r (lineage_of r.phase) old.unnamed;
+      idle = old.idle;
+      items = λ q lives is. items_beside v row sound has_row r has unlike some (v.records q) (old.items q lives is);
+      target = members_beside v row sound has_row r has unlike some (lineage_of r.phase) old.target;
+      handed_on = old.handed_on;
+      named_items = named_beside v row sound has_row r has unlike some (lineage_of r.phase) old.named_items;
+      rebuilt =
+          subst
+          (λ (t : List Entry).
+          RowIsRebuilt r r.phase t v.logs now.written v.stored v.handovers v.completions v.gathers v.merged v.records v.live)
+          (sym (truth_as r has unlike)) (rebuilt_beside v row sound has_row r has unlike some (truths v r) r.phase old.rebuilt);
+      marks = λ q. marks_beside v row sound has_row r has unlike some q (old.marks q);
+      pieces = λ q. pieces_beside v row sound has_row r has unlike some q (old.pieces q);
+      says = λ n m there. says_beside v row sound has_row r has unlike some m.from m.to m.body (old.says n m there);
+    }
 
-  messages : MessagesOf now
-  messages = record {
-    of_rows = λ n m there.
-        kept (λ r. SaysIn r v.written m.from m.to m.body) (λ r. SaysIn r now.written m.from m.to m.body)
-        (λ was.
-        says_as m.from m.to m.body
-        (says_owned v row lineage to place ends sound taken m.from m.to m.body
-        (All-contains (λ r. SentFits r m.body) v.rows row (sound.terms.sent n m there) has_row) was))
-        (λ r has unlike. says_beside v row sound has_row r has unlike (some_of r has) m.from m.to m.body) (sound.messages.of_rows n m there);
+  beside : SoundBeside now
+  beside = record {
+    numbered = sound.nodes.numbered;
+    backed = sound.nodes.backed;
+    known_backups = sound.nodes.known;
+    crashed = sound.nodes.crashed;
+    left = sound.nodes.left;
+    rows_apart = lawful_turned v.rows row.tablet row new found refl refl sound.rows.apart;
+    covered =
+        All-weaker (λ entry. is_covered v.rows entry.call.table (hash_of entry.call.key) ≡ true)
+        (λ entry. is_covered now.rows entry.call.table (hash_of entry.call.key) ≡ true)
+        (λ entry lies. covered entry.call.table (hash_of entry.call.key) ∙ lies) journal
+        (All-append (λ entry. is_covered v.rows entry.call.table (hash_of entry.call.key) ≡ true) v.journal made sound.rows.covered
+        (All-weaker (λ placed. is_record_in row.range placed ≡ true)
+        (λ entry. is_covered v.rows entry.call.table (hash_of entry.call.key) ≡ true)
+        (λ placed inside. covered_by v.rows row placed.call.table (hash_of placed.call.key) has_row inside) made may.records.inside));
+    kept = λ q n.
+        all_turned (λ other. HandoverFits other n (v.handovers q n)) v.rows row new row.tablet has_row
+        (λ fits. record { within = fits.within; below = fits.below; exact = fits.exact }) (sound.terms.kept q n);
+    begun = sound.terms.begun;
+    apart = sound.terms.apart;
+    cover = cover;
+    has_row = λ q r lives there. known r ∙ sound.roles.known q r lives there;
+    logs = logs;
+    legal = may.records.legal;
+    rising = made_rising v sound.asked ends sound.truth.rising;
+    seen = made_seen v sound.asked ends sound.truth.seen;
+    once = may.records.once;
+    known = λ q n lives.
+        all_in
+        (λ end. IsKnown v.base v.journal end ⊎ IsStagedEnd v.rows (rests v) q n (v.handovers q n).term end)
+        (λ end. IsKnown v.base journal end ⊎ IsStagedEnd now.rows (rests now) q n (v.handovers q n).term end)
+        (ends_of (v.completions q n))
+        (λ end stands either.
+        ⊎_elim (λ (knows : IsKnown v.base v.journal end). inl (known_still v.journal made v.base end knows))
+        (λ (s : IsStagedEnd v.rows (rests v) q n (v.handovers q n).term end). staged_end q n end stands s) either)
+        (sound.calls.known q n lives);
+    waiting = λ q lives n call there. waits q n call lives (sound.rest.waiting q lives n call there);
+    are_last = sound.rest.are_last;
+    found = λ q lives. found_calls q lives (sound.rest.found q lives);
+    ordered = sound.records.ordered;
+    bare = λ q n. IfSome_then (wanted_place (v.handovers q n).role) (sound.receives.bare q n) (bare_as q (v.handovers q n).range);
     others = λ n m there. says_still v.journal made m.to m.body (sound.messages.others n m there);
+    asked = made_asked v sound.asked ends;
   }
 
   pub view_rebuilt_taken : SoundView now
-  view_rebuilt_taken = record {
-    nodes = nodes;
-    rows = rows;
-    terms = terms;
-    cover = cover;
-    roles = roles_fit;
-    logs = logs;
-    truth = truth;
-    order = order;
-    calls = calls;
-    counters = counters;
-    rest = rest;
-    records = records;
-    receives = receives;
-    rebuilds = rebuilds;
-    messages = messages;
-    asked = made_asked v sound.asked ends;
-  }
+  view_rebuilt_taken =
+      view_by_rows now beside
+      (all_others v.rows row new sound.rows.apart has_row refl refl (SoundRow v) (SoundRow now) (λ was. holds) other_row (each_row v sound))
 
   -- the rows of a lane after it
   pub rows_rebuilt : changed_rows v.rows row.tablet row.term owned ≡ now.rows

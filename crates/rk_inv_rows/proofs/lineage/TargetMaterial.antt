@@ -35,18 +35,14 @@ item_counts : (range : Range) (entry : Entry) (x : Held) → Contains (items_in 
 item_counts range (entries.Held held) x stands inside =
     ⊎_elim (λ (is : held ≡ x). ap (is_in range) is ∙ inside) (λ (none : Contains [] x). absurd (none_stands x none))
     (stands_cases held [] x stands)
-item_counts range (entries.Refused refused) x stands inside = absurd (none_stands x stands)
-item_counts range (entries.Carried carried) x stands inside = absurd (none_stands x stands)
-item_counts range (entries.Joined joined) x stands inside = absurd (none_stands x stands)
+item_counts range _ x stands inside = absurd (none_stands x stands)
 
 -- an entry that names a side segment for a range is a Joined of it
 names_joins : (range : Range) (entry : Entry) (n : ℕ) → Contains (named_by range entry) n → is_joined_in range entry ≡ true
-names_joins range (entries.Held held) n stands = absurd (none_stands n stands)
-names_joins range (entries.Refused refused) n stands = absurd (none_stands n stands)
-names_joins range (entries.Carried carried) n stands = absurd (none_stands n stands)
 names_joins range (entries.Joined joined) n stands =
     cond_both (meets joined.range range) joined.segments [] (λ l. Contains l n → meets joined.range range ≡ true) (λ e at. e)
     (λ e at. absurd (none_stands n at)) stands
+names_joins range _ n stands = absurd (none_stands n stands)
 
 -- one element is all that two lists have together, so where the first has one the second has none
 none_behind : {X : Type 0} (xs ys : List X) (one x : X) → xs ++ ys ≡ one ∷ [] → Contains xs x → ys ≡ []

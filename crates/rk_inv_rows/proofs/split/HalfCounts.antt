@@ -56,11 +56,9 @@ module _ (whole half : Range) (is : IsHalf whole half) where
   -- ---- side segments
 
   names_same : (entry : Entry) → IsOfWhole whole entry → named_by half entry ≡ named_by whole entry
-  names_same (entries.Held held) of = refl
-  names_same (entries.Refused refused) of = refl
-  names_same (entries.Carried carried) of = refl
   names_same (entries.Joined joined) of =
       ap (λ (b : Bool). cond b joined.segments []) (meets_same whole half is joined.range of)
+  names_same _ of = refl
 
   all_names_same : (list : List Entry) → All (IsOfWhole whole) list → flat_map (named_by half) list ≡ flat_map (named_by whole) list
   all_names_same [] all = refl

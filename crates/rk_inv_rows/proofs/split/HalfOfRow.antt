@@ -13,6 +13,7 @@ use Rattle.rk_inv_rows.specs.split.Halves.{IsHalf, IsOfWhole}
 use Rattle.rk_inv_rows.proofs.split.HalfCounts.{half_rest, half_truth}
 use Rattle.rk_inv_rows.proofs.split.HalfRests.{rest_half, tells_half, truth_half}
 use Rattle.rk_inv_rows.proofs.split.HalfTells.{above_half, above_kept, items_kept, next_kept, table_half}
+use Rattle.rk_inv_base.proofs.views.ByRows.{row_in}
 
 -- what all entries tell, those that count tell of it
 told_kept : (P : Ended → Type 0) (range : Range) (list : List Entry) → All P (told list) → All P (told (counting range list))
@@ -40,12 +41,11 @@ module _ (v : View) (sound : SoundView v) (row half : Row) (has : Contains v.row
 
   -- each Carried and each Joined that meets the row has all of it
   of_whole : (entry : Entry) → IsOfWholeRows v.rows entry → IsOfWhole row.range entry
-  of_whole (entries.Held held) wholes = tt
-  of_whole (entries.Refused refused) wholes = tt
   of_whole (entries.Carried carried) wholes =
       All-contains (λ (r : Row). meets r.range carried.range ≡ true → has_all carried.range r.range ≡ true) v.rows row wholes has
   of_whole (entries.Joined joined) wholes =
       All-contains (λ (r : Row). meets r.range joined.range ≡ true → has_all joined.range r.range ≡ true) v.rows row wholes has
+  of_whole _ wholes = tt
 
   pub wholes : (q : ℕ) → All (IsOfWhole row.range) (v.written q).entries
   wholes q = All-weaker (IsOfWholeRows v.rows) (IsOfWhole row.range) of_whole (v.written q).entries (sound.cover.wholes q)
@@ -77,7 +77,7 @@ module _ (v : View) (sound : SoundView v) (row half : Row) (has : Contains v.row
   truth_of_half =
       subst (λ (list : List Entry). IsTruth v.base half.range list v.journal) (sym truths_half)
       (truth_half row.range half.range is v.base (truths v row) v.journal
-      (All-contains (λ (r : Row). IsTruth v.base r.range (truths v r) v.journal) v.rows row sound.truth.true has))
+      (row_in v sound row has).truth)
 
   pub order_of_half : AreAbove (items_of (truths v half)) (items_of (rests v half))
   order_of_half =
@@ -85,25 +85,25 @@ module _ (v : View) (sound : SoundView v) (row half : Row) (has : Contains v.row
       (λ i.
       (sym (ap items_of truths_half ∙ items_kept half.range (truths v row)) i, sym (ap items_of rests_half ∙ items_kept half.range (rests v row)) i))
       (above_kept (is_in half.range) (items_of (truths v row)) (items_of (rests v row))
-      (All-contains (λ (r : Row). AreAbove (items_of (truths v r)) (items_of (rests v r))) v.rows row sound.order.above has))
+      (row_in v sound row has).above)
 
   pub reached_of_half : TellAll half.range v.journal (truths v half)
   reached_of_half =
       subst (TellAll half.range v.journal) (sym truths_half)
       (tells_half row.range half.range is v.journal (truths v row) counted
-      (All-contains (λ (r : Row). TellAll r.range v.journal (truths v r)) v.rows row sound.calls.reached has))
+      (row_in v sound row has).reached)
 
   pub recorded_of_half : All (IsKnown v.base v.journal) (told (truths v half))
   recorded_of_half =
       subst (λ (list : List Entry). All (IsKnown v.base v.journal) (told list)) (sym truths_half)
       (told_kept (IsKnown v.base v.journal) half.range (truths v row)
-      (All-contains (λ (r : Row). All (IsKnown v.base v.journal) (told (truths v r))) v.rows row sound.calls.recorded has))
+      (row_in v sound row has).recorded)
 
   pub low_of_half : AreAboveMap half.range (map_after (base_map v.base) v.journal) (truths v half)
   low_of_half =
       subst (AreAboveMap half.range (map_after (base_map v.base) v.journal)) (sym truths_half)
       (above_half row.range half.range is (map_after (base_map v.base) v.journal) (truths v row) counted
-      (All-contains (λ (r : Row). AreAboveMap r.range (map_after (base_map v.base) v.journal) (truths v r)) v.rows row sound.counters.low has))
+      (row_in v sound row has).low)
 
   -- a number that is next for the row is next for the half
   pub next_of_half : (number : ℕ) → IsNext (truths v row ++ rests v row) number → IsNext (truths v half ++ rests v half) number
@@ -116,7 +116,7 @@ module _ (v : View) (sound : SoundView v) (row half : Row) (has : Contains v.row
   rest_of_half =
       subst (λ (p : List Entry × List Entry). IsRest v.base half.range p.0 p.1 v.journal v.asked) (λ i. (sym truths_half i, sym rests_half i))
       (rest_half row.range half.range is v.base (truths v row) (rests v row) v.journal v.asked
-      (All-contains (λ (r : Row). IsRest v.base r.range (truths v r) (rests v r) v.journal v.asked) v.rows row sound.rest.goes_on has))
+      (row_in v sound row has).goes_on)
 
   -- records that have the newest items of the row have those of the half
   pub table_of_half : (records : List Held) → IsTableOf row.range (member_truth v.written row.range own) records → IsTableOf half.range (member_truth v.written half.range own) records

@@ -83,10 +83,9 @@ above_kept p before (item ∷ items) above =
 -- ---- floors
 
 floor_more : (a b : ℕ) (entry : Entry) → a ≤ b → floor_by a entry ≤ floor_by b entry
-floor_more a b (entries.Held held) less = omega (arith, less)
 floor_more a b (entries.Refused refused) less = less
-floor_more a b (entries.Carried carried) less = omega (arith, less)
 floor_more a b (entries.Joined joined) less = less
+floor_more a b _ less = omega (arith, less)
 
 floor_kept_from : (p : Entry → Bool) (a b : ℕ) (list : List Entry) → a ≤ b → fold floor_by a (filter p list) ≤ fold floor_by b list
 floor_kept_from p a b [] less = less

@@ -1,22 +1,14 @@
 -- The targets and rebuilds of a view whose row is split, and what its messages say.
-use Rattle.std.proofs.Common.{◌≡◌, ℕ, ◌+◌, ◌≤◌, ◌<◌, true, List, [], ◌∷◌, eqb, refl, sym, ap, subst, ◌∙◌, ⊎_elim, arith, inl, inr, IfSome}
-use Rattle.std.proofs.Common.{is_some, All, Contains, ne_eqb}
-use Rattle.rk_inv_base.proofs.Words.{cases_eq, cond_both, All-contains, IfSome_then, ⊤, get, has, meets, Ended, Member, Node, Range}
-use Rattle.rk_inv_base.proofs.Words.{Completions, Handover, lineage_of, row_of, Phase, Owned, Opening, Moving, Rebuilding, Row, Grant}
-use Rattle.rk_inv_base.proofs.Words.{Prepare, Tenure, Body, Got, Pulled, Rebuild, Gather, is_member, Pulling, Mark, is_wanting, AsksFor}
-use Rattle.rk_inv_base.proofs.Words.{IsOnlyRebuilder, IsOwner, SaysOf, PrepareFits, ReadyIn, CloseFits, TransferIn, GrantAgrees, AskAgrees}
-use Rattle.rk_inv_base.proofs.Words.{PulledAgrees, GotAgrees, ByMaster, IfMaster, IsOfTarget, JoinedIn, OwnFits, ReleaseFits, RebuildFits}
-use Rattle.rk_inv_base.proofs.Words.{RebuiltIn, IsOf, Bystander, Owner, HasOwnRange, MarkFits, RowIsRebuilt, HandedFits, IsHandedBy}
-use Rattle.rk_inv_base.proofs.Words.{MembersFit, NamedFit, is_granted, SentFits, tenure_in, View, truths}
-use Rattle.rk_sound.specs.Receives.{Receives}
-use Rattle.rk_sound.specs.Rebuilds.{Rebuilds}
-use Rattle.rk_sound.specs.Messages.{Messages}
+use Rattle.std.proofs.Common.{◌≡◌, ℕ, ◌+◌, ◌≤◌, ◌<◌, true, [], ◌∷◌, eqb, sym, ap, subst, ◌∙◌, ⊎_elim, arith, inl, inr, IfSome, is_some, All}
+use Rattle.std.proofs.Common.{ne_eqb}
+use Rattle.rk_inv_base.proofs.Words.{cases_eq, cond_both, All-contains, ⊤, get, meets, Node, Range, Handover, row_of, Owned, Rebuilding}
+use Rattle.rk_inv_base.proofs.Words.{Row, Grant, Prepare, Tenure, Body, Got, Pulled, Rebuild, is_member, Mark, is_wanting, AsksFor}
+use Rattle.rk_inv_base.proofs.Words.{IsOnlyRebuilder, IsOwner, SaysOf, PrepareFits, CloseFits, GrantAgrees, IfMaster, OwnFits, ReleaseFits}
+use Rattle.rk_inv_base.proofs.Words.{RebuildFits, IsOf, Bystander, Owner, MarkFits, tenure_in, View}
 use Rattle.rk_inv_base.proofs.views.Lists.{all_by}
 use Rattle.rk_inv_base.proofs.wire.Messages.{by_master, if_master}
-use Rattle.rk_inv_base.proofs.calls.Receives.{IsBareOf, IsTargetIn}
-use Rattle.rk_inv_base.proofs.calls.Rebuilds.{IsRebuilderIn}
 use Rattle.rk_inv_rows.specs.split.Halves.{IsHalf}
-use Rattle.rk_inv_rows.proofs.split.Splitting.{Splitting, Halved, row, low, high, rows', in_row, each, kept, unknown_new, low_half, high_half, at_most_row, low_half_of, high_half_of, Serves, IsOfHalves, post_now, half_met, no_owner, new_apart, apart_of, by, of_row, by_row}
+use Rattle.rk_inv_rows.proofs.split.Splitting.{split_row, Splitting, Halved, row, unknown_new, at_most_row, low_half_of, high_half_of, Serves, IsOfHalves, post_now, half_met, no_owner, new_apart, by}
 use Rattle.rk_types.specs.declared.node.Node.TheVariants as nodes
 use Rattle.rk_message.specs.declared.message.Body.TheVariants as bodies
 
@@ -24,73 +16,8 @@ module _ (v : View) (cut : Splitting v) (after : Halved v cut) where
   open cut use {tablet, range, term, owner, from, at, new, sound, has_row}
   open after use {handovers', completions', pullings', gathers', merged', completions_away, pullings_away, gathers_away, merged_away}
 
-  -- ---- targets
-
-  members : (x : Row) → Contains v.rows x → (x.tablet ≡ tablet → ⊥) → (l : List Member) → MembersFit x v.written v.handovers v.pullings v.records v.handed l → MembersFit x v.written handovers' pullings' v.records v.handed l
-  members x has unlike [] fit = tt
-  members x has unlike (only ∷ []) fit = tt
-  members x has unlike (source ∷ target ∷ []) fit =
-      let q : ℕ = target.master in
-      subst
-      (λ (p : Pulling). is_granted (handovers' q x.tablet).role ≡ true → IsTargetIn v.written x source target (handovers' q x.tablet) p (get v.handed x.tablet) (v.records q))
-      (sym (pullings_away q x.tablet (apart_of v cut x has unlike q)))
-      (by_row v cut after x has unlike q
-      (λ h. is_granted h.role ≡ true → IsTargetIn v.written x source target h (v.pullings q x.tablet) (get v.handed x.tablet) (v.records q)) fit)
-  members x has unlike (source ∷ target ∷ third ∷ more) fit = tt
-
-  as_kept : (x : Row) → Contains v.rows x → (x.tablet ≡ tablet → ⊥) → ◌≡◌ {A = ℕ → Handover × Completions} (λ q. (v.handovers q x.tablet, v.completions q x.tablet)) (λ q. (handovers' q x.tablet, completions' q x.tablet))
-  as_kept x has unlike i q = (of_row v cut after x has unlike q i, sym (completions_away q x.tablet (apart_of v cut x has unlike q)) i)
-
-  told_fit : (x : Row) → Contains v.rows x → (x.tablet ≡ tablet → ⊥) → (l : List Member) → HandedFits x v.handovers v.completions v.handed l → HandedFits x handovers' completions' v.handed l
-  told_fit x has unlike [] fit = tt
-  told_fit x has unlike (only ∷ []) fit = tt
-  told_fit x has unlike (source ∷ target ∷ []) fit =
-      subst
-      (λ (of : ℕ → Handover × Completions). (of target.master).0.term ≡ (of source.master).0.term → IsHandedBy (get v.handed x.tablet) (of source.master).0 (of source.master).1)
-      (as_kept x has unlike) fit
-  told_fit x has unlike (source ∷ target ∷ third ∷ more) fit = tt
-
-  pub receives : Receives (rows' v cut) v.written handovers' completions' pullings' v.records v.handed
-  receives = record {
-    targets =
-        each v cut (λ r. MembersFit r v.written handovers' pullings' v.records v.handed (lineage_of r.phase)) tt tt
-        (λ x has unlike.
-        members x has unlike (lineage_of x.phase) (All-contains (λ r. MembersFit r v.written v.handovers v.pullings v.records v.handed (lineage_of r.phase)) v.rows x sound.receives.targets has));
-    handed_on =
-        each v cut (λ r. HandedFits r handovers' completions' v.handed (lineage_of r.phase)) tt tt
-        (λ x has unlike.
-        told_fit x has unlike (lineage_of x.phase) (All-contains (λ r. HandedFits r v.handovers v.completions v.handed (lineage_of r.phase)) v.rows x sound.receives.handed_on has));
-    bare = λ q n. by v cut after (λ h. IsBareOf h (v.written q) (v.records q)) q n (λ _. sound.receives.bare q n) (λ _ _. tt) (λ _ _. tt);
-    named = kept v cut (λ r. NamedFit v.written r.range (lineage_of r.phase)) tt tt sound.receives.named;
-  }
-
-  -- ---- rebuilds
-
-  -- what is proved of a rebuild of a row, before and after
-  abbrev RebuiltBefore : Row → Phase → Type 0
-  RebuiltBefore x phase = RowIsRebuilt x phase (truths v x) v.logs v.written v.stored v.handovers v.completions v.gathers v.merged v.records v.live
-
-  abbrev RebuiltNow : Row → Phase → Type 0
-  RebuiltNow x phase = RowIsRebuilt x phase (truths v x) v.logs v.written v.stored handovers' completions' gathers' merged' v.records v.live
-
-  row_rebuilt : (x : Row) → Contains v.rows x → (x.tablet ≡ tablet → ⊥) → (phase : Phase) → RebuiltBefore x phase → RebuiltNow x phase
-  row_rebuilt x has unlike (Rebuilding lineage to) fit =
-      let away = apart_of v cut x has unlike to in (
-        subst
-            (λ (p : Completions × Gather × List Ended). (handovers' to x.tablet).term ≡ x.term
-            → IsRebuilderIn v.logs v.written v.stored x lineage to (truths v x) (handovers' to x.tablet) p.0 p.1 p.2 (v.records to))
-            (λ i. (sym (completions_away to x.tablet away) i, sym (gathers_away to x.tablet away) i, sym (merged_away to x.tablet away) i))
-            (by_row v cut after x has unlike to
-            (λ h. h.term ≡ x.term → IsRebuilderIn v.logs v.written v.stored x lineage to (truths v x) h (v.completions to x.tablet) (v.gathers to x.tablet) (v.merged to x.tablet) (v.records to))
-            fit.0),
-        fit.1,
-      )
-  row_rebuilt x has unlike (Owned owner from) fit = tt
-  row_rebuilt x has unlike (Opening source sfrom target dfrom) fit = tt
-  row_rebuilt x has unlike (Moving source sfrom target dfrom) fit = tt
-
   -- neither half has a mark
-  no_mark : (Q : Mark → Type 0) (q n : ℕ) → IsOfHalves v cut n → All (λ mark. mark.tablet ≡ n → Q mark) (v.written q).marks
+  pub no_mark : (Q : Mark → Type 0) (q n : ℕ) → IsOfHalves v cut n → All (λ mark. mark.tablet ≡ n → Q mark) (v.written q).marks
   no_mark Q q n its =
       all_by (λ mark. mark.tablet ≡ n → Q mark) (v.written q).marks
       (λ mark there is.
@@ -98,7 +25,7 @@ module _ (v : View) (cut : Splitting v) (after : Halved v cut) where
       (λ (e : n ≡ tablet).
       let fits : MarkFits (row v cut) q (v.handovers q tablet) (v.live q) (v.written q) mark =
       All-contains (λ (m : Mark). m.tablet ≡ tablet → MarkFits (row v cut) q (v.handovers q tablet) (v.live q) (v.written q) m) (v.written q).marks mark
-      (in_row v cut (λ r. All (λ m. m.tablet ≡ r.tablet → MarkFits r q (v.handovers q r.tablet) (v.live q) (v.written q) m) (v.written q).marks) (sound.rebuilds.marks q))
+      ((split_row v cut).marks q)
       there (is ∙ e) in
       let clash : Owned owner from ≡ Rebuilding fits.rebuilt.0 fits.rebuilt.1 = fits.rebuilt.2 in
       absurd (cc clash))
@@ -106,92 +33,13 @@ module _ (v : View) (cut : Splitting v) (after : Halved v cut) where
       absurd (unknown_new v cut mark.tablet (All-contains (λ (m : Mark). is_some (row_of v.rows m.tablet) ≡ true) (v.written q).marks mark (sound.cover.marks q) there) (is ∙ e)))
       its)
 
-  pub rebuilds : Rebuilds (rows' v cut) (truths v) v.logs v.written v.stored handovers' completions' gathers' merged' v.records v.live
-  rebuilds = record {
-    rebuilt =
-        each v cut (λ r. RebuiltNow r r.phase) tt tt
-        (λ x has unlike.
-        row_rebuilt x has unlike x.phase
-        (All-contains (λ r. RebuiltBefore r r.phase) v.rows x sound.rebuilds.rebuilt has));
-    marks = λ q.
-        each v cut (λ r. All (λ mark. mark.tablet ≡ r.tablet → MarkFits r q (handovers' q r.tablet) (v.live q) (v.written q) mark) (v.written q).marks)
-        (no_mark (MarkFits (low v cut) q (handovers' q tablet) (v.live q) (v.written q)) q tablet (inl refl))
-        (no_mark (MarkFits (high v cut) q (handovers' q new) (v.live q) (v.written q)) q new (inr refl))
-        (λ x has unlike.
-        by_row v cut after x has unlike q (λ h. All (λ mark. mark.tablet ≡ x.tablet → MarkFits x q h (v.live q) (v.written q) mark) (v.written q).marks)
-        (All-contains (λ r. All (λ mark. mark.tablet ≡ r.tablet → MarkFits r q (v.handovers q r.tablet) (v.live q) (v.written q) mark) (v.written q).marks) v.rows x (sound.rebuilds.marks q) has));
-    pieces = λ q.
-        kept v cut (λ r. All (λ mark. mark.tablet ≡ r.tablet → HasOwnRange r.range (v.written q).entries mark) (v.written q).marks)
-        (no_mark (HasOwnRange (low v cut).range (v.written q).entries) q tablet (inl refl)) (no_mark (HasOwnRange (high v cut).range (v.written q).entries) q new (inr refl)) (sound.rebuilds.pieces q);
-  }
-
   -- ---- messages
 
-  abbrev SaysNow : Row → Node → Node → Body → Type 0
+  abbrev pub SaysNow : Row → Node → Node → Body → Type 0
   SaysNow x = SaysOf x v.logs v.written v.stored handovers' completions' merged' v.live v.handed
 
-  abbrev SaysBefore : Row → Node → Node → Body → Type 0
+  abbrev pub SaysBefore : Row → Node → Node → Body → Type 0
   SaysBefore x = SaysOf x v.logs v.written v.stored v.handovers v.completions v.merged v.live v.handed
-
-  module _ (x : Row) (has : Contains v.rows x) (unlike : x.tablet ≡ tablet → ⊥) where
-    ask_on : (l : List Member) (q : ℕ) (to : Node) (tenure : Tenure) → AskAgrees x v.handovers l q to tenure → AskAgrees x handovers' l q to tenure
-    ask_on [] q to tenure agrees = tt
-    ask_on (only ∷ []) q to tenure agrees = tt
-    ask_on (source ∷ target ∷ []) q to tenure agrees =
-        by_row v cut after x has unlike q (λ h. target.master ≡ q → IsOfTarget x h tenure → to ≡ nodes.Master source.master) agrees
-    ask_on (source ∷ target ∷ third ∷ more) q to tenure agrees = tt
-
-    of_target : (q : ℕ) (tenure : Tenure) → IsOfTarget x (handovers' q x.tablet) tenure → IsOfTarget x (v.handovers q x.tablet) tenure
-    of_target q tenure = subst (λ (h : Handover). IsOfTarget x h tenure) (sym (of_row v cut after x has unlike q))
-
-    pulled_on : (l : List Member) (from : Node) (q : ℕ) (pulled : Pulled) → PulledAgrees x v.written v.handovers v.live l from q pulled → PulledAgrees x v.written handovers' v.live l from q pulled
-    pulled_on [] from q pulled agrees = tt
-    pulled_on (only ∷ []) from q pulled agrees = tt
-    pulled_on (source ∷ target ∷ []) from q pulled agrees = λ here lives is. agrees here lives (of_target q pulled.tenure is)
-    pulled_on (source ∷ target ∷ third ∷ more) from q pulled agrees = tt
-
-    got_on : (l : List Member) (from : Node) (q : ℕ) (got : Got) → GotAgrees x v.written v.handovers v.live l from q got → GotAgrees x v.written handovers' v.live l from q got
-    got_on [] from q got agrees = tt
-    got_on (only ∷ []) from q got agrees = tt
-    got_on (source ∷ target ∷ []) from q got agrees = λ here lives is. agrees here lives (of_target q got.tenure is)
-    got_on (source ∷ target ∷ third ∷ more) from q got agrees = tt
-
-    to_on : (to : Node) (P : ℕ → Handover → Type 0) → IfMaster to (λ q. P q (v.handovers q x.tablet)) → IfMaster to (λ q. P q (handovers' q x.tablet))
-    to_on to P = if_master to (λ q. P q (v.handovers q x.tablet)) (λ q. P q (handovers' q x.tablet)) (λ q. by_row v cut after x has unlike q (P q))
-
-    from_on : (to : Node) (P : ℕ → Handover → Type 0) → ByMaster to (λ q. P q (v.handovers q x.tablet)) → ByMaster to (λ q. P q (handovers' q x.tablet))
-    from_on to P = by_master to (λ q. P q (v.handovers q x.tablet)) (λ q. P q (handovers' q x.tablet)) (λ q. by_row v cut after x has unlike q (P q))
-
-    says_on : (from to : Node) (body : Body) → SaysBefore x from to body → SaysNow x from to body
-    says_on from to (bodies.Prepare prepare) says = to_on to (λ q h. PrepareFits x h (v.live q) q prepare) says
-    says_on from to (bodies.Ready ready) says = from_on from (λ q h. IsOf x ready.tenure → ReadyIn x.phase h x.term q ready.place) says
-    says_on from to (bodies.Close tenure) says = to_on to (λ q h. CloseFits x h (v.live q) q tenure) says
-    says_on from to (bodies.Transfer transfer) says =
-        by_master from (λ q. IsOf x transfer.tenure → TransferIn x.phase (v.handovers q x.tablet) (v.completions q x.tablet) x.term q transfer)
-        (λ q. IsOf x transfer.tenure → TransferIn x.phase (handovers' q x.tablet) (completions' q x.tablet) x.term q transfer)
-        (λ q said.
-        subst (λ (c : Completions). IsOf x transfer.tenure → TransferIn x.phase (handovers' q x.tablet) c x.term q transfer)
-        (sym (completions_away q x.tablet (apart_of v cut x has unlike q)))
-        (by_row v cut after x has unlike q (λ h. IsOf x transfer.tenure → TransferIn x.phase h (v.completions q x.tablet) x.term q transfer) said))
-        says
-    says_on from to (bodies.Grant grant) says = (says.0, to_on to (λ q h. GrantAgrees x h (v.live q) (get v.handed x.tablet) q grant) says.1)
-    says_on from to (bodies.Pull pull) says = (says.0, by_master from _ _ (λ q. ask_on (lineage_of x.phase) q to pull.tenure) says.1)
-    says_on from to (bodies.Pulled pulled) says = (says.0, if_master to _ _ (λ q. pulled_on (lineage_of x.phase) from q pulled) says.1)
-    says_on from to (bodies.Want want) says = (says.0, by_master from _ _ (λ q. ask_on (lineage_of x.phase) q to want.tenure) says.1)
-    says_on from to (bodies.Got got) says = (says.0, if_master to _ _ (λ q. got_on (lineage_of x.phase) from q got) says.1)
-    says_on from to (bodies.Joined tenure) says = from_on from (λ q h. IsOf x tenure → JoinedIn x.phase h (v.written q).applied x.term q) says
-    says_on from to (bodies.Own tenure) says = to_on to (λ q h. OwnFits x h (v.live q) q tenure) says
-    says_on from to (bodies.Release tenure) says = to_on to (λ q h. ReleaseFits x h (v.live q) q tenure) says
-    says_on from to (bodies.Rebuild rebuild) says = to_on to (λ q h. RebuildFits x h (v.live q) q rebuild) says
-    says_on from to (bodies.Rebuilt rebuilt) says =
-        by_master from (λ q. IsOf x rebuilt.tenure → RebuiltIn x.phase (v.handovers q x.tablet) (v.merged q x.tablet) (v.written q).applied x.term q rebuilt)
-        (λ q. IsOf x rebuilt.tenure → RebuiltIn x.phase (handovers' q x.tablet) (merged' q x.tablet) (v.written q).applied x.term q rebuilt)
-        (λ q said.
-        subst (λ (ends : List Ended). IsOf x rebuilt.tenure → RebuiltIn x.phase (handovers' q x.tablet) ends (v.written q).applied x.term q rebuilt)
-        (sym (merged_away q x.tablet (apart_of v cut x has unlike q)))
-        (by_row v cut after x has unlike q (λ h. IsOf x rebuilt.tenure → RebuiltIn x.phase h (v.merged q x.tablet) (v.written q).applied x.term q rebuilt) said))
-        says
-    says_on from to body says = says
 
   -- a half by its number and its range
   module _ (n : ℕ) (r : Range) (is_half : IsHalf range r) (which : IsOfHalves v cut n) where
@@ -199,7 +47,7 @@ module _ (v : View) (cut : Splitting v) (after : Halved v cut) where
     half = record { tablet = n; range = r; term = term + 1; phase = Owned owner from }
 
     -- what speaks of the half's number spoke of the row, at most at its term
-    abbrev SpokeOf : Tenure → Type 0
+    abbrev pub SpokeOf : Tenure → Type 0
     SpokeOf tenure = tenure.tablet ≡ n → (tenure.tablet ≡ tablet) × (n ≡ tablet) × (tenure.term ≤ term)
 
     gone : (tenure : Tenure) → SpokeOf tenure → IsOf half tenure → ⊥
@@ -306,7 +154,7 @@ module _ (v : View) (cut : Splitting v) (after : Halved v cut) where
           fits.told of.0 lives (is ∙ ap (λ (h : Handover). h.term) same) (sym (ap (λ (h : Handover). is_wanting h.role) same) ∙ wants);
     }
 
-    says_half : (src to : Node) (body : Body) → IfSome (tenure_in body) SpokeOf → SaysBefore (row v cut) src to body → SaysNow half src to body
+    pub says_half : (src to : Node) (body : Body) → IfSome (tenure_in body) SpokeOf → SaysBefore (row v cut) src to body → SaysNow half src to body
     says_half src to (bodies.Prepare prepare) spoke says =
         if_master to (λ q. PrepareFits (row v cut) (v.handovers q tablet) (v.live q) q prepare) (λ q. PrepareFits half (handovers' q n) (v.live q) q prepare)
         (λ q. prepare_half q prepare spoke) says
@@ -338,17 +186,3 @@ module _ (v : View) (cut : Splitting v) (after : Halved v cut) where
     says_half src to (bodies.Copy copy) spoke says = λ is. tt
     says_half src to (bodies.Rebuilt rebuilt) spoke says = by_master src _ _ (λ q said is. absurd (gone rebuilt.tenure spoke is)) says
     says_half src to _ spoke says = tt
-
-  pub messages : Messages (rows' v cut) v.logs v.written v.stored handovers' completions' merged' v.live v.handed v.journal v.wire
-  messages = record {
-    of_rows = λ i m there.
-        let was : (x : Row) → Contains v.rows x → SaysBefore x m.from m.to m.body = λ x has. All-contains (λ r. SaysBefore r m.from m.to m.body) v.rows x (sound.messages.of_rows i m there) has in
-        let fits : SentFits (row v cut) m.body = in_row v cut (λ r. SentFits r m.body) (sound.terms.sent i m there) in
-        each v cut (λ r. SaysNow r m.from m.to m.body)
-        (says_half tablet (low v cut).range (low_half v cut) (inl refl) m.from m.to m.body
-        (IfSome_then (tenure_in m.body) fits.within (λ tenure few its. (its, refl, few (sym its)))) (was (row v cut) has_row))
-        (says_half new (high v cut).range (high_half v cut) (inr refl) m.from m.to m.body
-        (IfSome_then (tenure_in m.body) (sound.cover.sent i m there) (λ tenure known its. absurd (unknown_new v cut tenure.tablet known its))) (was (row v cut) has_row))
-        (λ x has unlike. says_on x has unlike m.from m.to m.body (was x has));
-    others = sound.messages.others;
-  }

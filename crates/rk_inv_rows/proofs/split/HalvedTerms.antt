@@ -1,45 +1,30 @@
 -- The rows of a view whose row is split, with their terms, what covers entries and items, and the roles of masters.
-use Rattle.std.proofs.Common.{◌≡◌, ℕ, ◌+◌, ◌≤◌, true, false, Option, Some, None, refl, sym, ap, ◌∙◌, ⊎_elim, arith, inl, inr, IfSome}
-use Rattle.std.proofs.Common.{is_some, All, Contains, flat_map}
+use Rattle.std.proofs.Common.{◌≡◌, ℕ, ◌+◌, ◌≤◌, true, false, Option, Some, None, refl, sym, ap, ◌∙◌, ⊎_elim, arith, IfSome, is_some, All}
+use Rattle.std.proofs.Common.{Contains, flat_map}
 use Rattle.rk_inv_base.proofs.Words.{cases_Bool, cases_eq, false≢true, All-contains, All-weaker, IfSome_then, hash_of, has, meets, Held}
-use Rattle.rk_inv_base.proofs.Words.{Range, Entry, Handover, Role, lineage_of, is_covered, row_of, Phase, Owned, Opening, Moving}
-use Rattle.rk_inv_base.proofs.Words.{Rebuilding, Row, Tenure, Body, is_member, names, IsMaster, has_all, is_absent, HasWholeRows}
-use Rattle.rk_inv_base.proofs.Words.{IsEntryWithin, IsItemWithin, IsOfWholeRows, IsWithinRows, Bystander, Owner, Holds, StillCounts}
-use Rattle.rk_inv_base.proofs.Words.{bond_of, KeepTerm, RoleFits, IsFormed, IsPlaced, HandoverFits, SentFits, range_in, tenure_in, View}
-use Rattle.rk_sound.specs.Rows.{Rows}
-use Rattle.rk_sound.specs.Terms.{Terms}
+use Rattle.rk_inv_base.proofs.Words.{Range, Entry, Handover, Role, row_of, Row, Tenure, Body, has_all, is_absent, HasWholeRows}
+use Rattle.rk_inv_base.proofs.Words.{IsEntryWithin, IsItemWithin, IsOfWholeRows, IsWithinRows, Bystander, Owner, Holds, bond_of}
+use Rattle.rk_inv_base.proofs.Words.{HandoverFits, SentFits, range_in, tenure_in, View}
 use Rattle.rk_sound.specs.Cover.{Cover}
-use Rattle.rk_sound.specs.Roles.{Roles}
 use Rattle.rk_inv_base.proofs.views.Cover.{covered_by}
 use Rattle.rk_inv_base.proofs.rows.Serving.{meets_either}
 use Rattle.rk_inv_rows.specs.split.Halves.{IsHalf}
-use Rattle.rk_inv_rows.proofs.split.Splitting.{Splitting, Halved, row, low, high, rows', map, in_row, each, kept, none_new, unknown_new, low_half, high_half, covered_same, known_on, known_new, known_low, still_none, term_none, absent_before, Serves, half_met, half_apart, owner_fits, owner_range, bystands, no_owner, new_apart, low_apart, high_apart, by, by_row, by_post}
+use Rattle.rk_inv_rows.proofs.split.Splitting.{Splitting, Halved, row, low, high, rows', in_row, each, kept, none_new, unknown_new, low_half, high_half, covered_same, known_on, known_new, known_low, still_none, term_none, Serves, half_met, half_apart, owner_fits, owner_range, low_apart, high_apart, by}
 use Rattle.rk_inv_rows.proofs.split.Ranges.{all_of_half, in_whole}
-use Rattle.rk_inv_rows.proofs.split.SplitRows.{halved_apart}
 use Rattle.rk_entry.specs.declared.entry.Entry.TheVariants as entries
 use Rattle.rk_transfer.specs.declared.role.Role.TheVariants as roles
 
 -- a bystander at a term is one at the next
-bystander_rises : (role : Role) (term own applied : ℕ) → Holds (bond_of Bystander role) term own applied → Holds (bond_of Bystander role) (term + 1) own applied
+pub bystander_rises : (role : Role) (term own applied : ℕ) → Holds (bond_of Bystander role) term own applied → Holds (bond_of Bystander role) (term + 1) own applied
 bystander_rises roles.Absent term own applied holds = omega (arith, holds)
 bystander_rises roles.Frozen term own applied holds = omega (arith, holds)
 bystander_rises (roles.Wanting from) term own applied holds = omega (arith, holds)
-bystander_rises roles.Serving term own applied holds = absurd holds
-bystander_rises roles.Closing term own applied holds = absurd holds
-bystander_rises roles.Receiving term own applied holds = absurd holds
-bystander_rises (roles.Joining entry) term own applied holds = absurd holds
-bystander_rises (roles.Rebuilding from entry) term own applied holds = absurd holds
+bystander_rises _ term own applied holds = absurd holds
 
 -- what has not begun is a bystander's
-absent_fits : (role : Role) (term own applied : ℕ) → own ≡ 0 → is_absent role ≡ true → Holds (bond_of Bystander role) term own applied
+pub absent_fits : (role : Role) (term own applied : ℕ) → own ≡ 0 → is_absent role ≡ true → Holds (bond_of Bystander role) term own applied
 absent_fits roles.Absent term own applied none is = omega (arith, none)
-absent_fits roles.Serving term own applied none is = absurd (cc is)
-absent_fits roles.Closing term own applied none is = absurd (cc is)
-absent_fits roles.Frozen term own applied none is = absurd (cc is)
-absent_fits (roles.Wanting from) term own applied none is = absurd (cc is)
-absent_fits roles.Receiving term own applied none is = absurd (cc is)
-absent_fits (roles.Joining entry) term own applied none is = absurd (cc is)
-absent_fits (roles.Rebuilding from entry) term own applied none is = absurd (cc is)
+absent_fits _ term own applied none is = absurd (cc is)
 
 -- an owner has the tablet
 owner_present : (role : Role) (place term own applied : ℕ) → Holds (bond_of (Owner place) role) term own applied → is_absent role ≡ false
@@ -51,24 +36,6 @@ module _ (v : View) (cut : Splitting v) (after : Halved v cut) where
   open after use {handovers'}
 
   -- ---- rows
-
-  pub rows_split : Rows (rows' v cut) v.written v.journal
-  rows_split = record {
-    apart = halved_apart v.rows (row v cut) at new (map v cut) has_row free splits;
-    begun = kept v cut (λ r. 1 ≤ r.term) (omega arith) (omega arith) sound.rows.begun;
-    formed = kept v cut (λ r. IsFormed r.phase) tt tt sound.rows.formed;
-    placed =
-        let own = in_row v cut (λ r. All (IsPlaced v.written) (lineage_of r.phase)) sound.rows.placed in
-        kept v cut (λ r. All (IsPlaced v.written) (lineage_of r.phase)) own own sound.rows.placed;
-    covered =
-        All-weaker (λ p. is_covered v.rows p.call.table (hash_of p.call.key) ≡ true) (λ p. is_covered (rows' v cut) p.call.table (hash_of p.call.key) ≡ true)
-        (λ p covered. covered_same v cut p.call.table (hash_of p.call.key) ∙ covered) v.journal sound.rows.covered;
-  }
-
-  pub named_of : (q : ℕ) → All (λ r. names r.phase q ≡ true → IsMaster v.masters q) (rows' v cut)
-  named_of q =
-      let own = in_row v cut (λ r. names r.phase q ≡ true → IsMaster v.masters q) (sound.nodes.named q) in
-      kept v cut (λ r. names r.phase q ≡ true → IsMaster v.masters q) own own (sound.nodes.named q)
 
   -- ---- terms
 
@@ -146,7 +113,7 @@ module _ (v : View) (cut : Splitting v) (after : Halved v cut) where
   abbrev ApartFrom : ℕ → ℕ → ℕ → Handover → Type 0
   ApartFrom q a b h = is_absent h.role ≡ false → is_absent (handovers' q b).role ≡ false → meets h.range (handovers' q b).range ≡ false
 
-  ranges_apart : (q a b : ℕ) → (a ≡ b → ⊥) → ApartFrom q a b (handovers' q a)
+  pub ranges_apart : (q a b : ℕ) → (a ≡ b → ⊥) → ApartFrom q a b (handovers' q a)
   ranges_apart q a b unlike =
       by v cut after (ApartFrom q a b) q a
       (λ one first.
@@ -165,10 +132,7 @@ module _ (v : View) (cut : Splitting v) (after : Halved v cut) where
       (λ _ too second. high_apart v cut)
       (λ _ too second. absurd (unlike (its ∙ sym too))))
 
-  old_sent : (body : Body) → All (λ r. SentFits r body) v.rows → SentFits (row v cut) body
-  old_sent body all = in_row v cut (λ r. SentFits r body) all
-
-  sent_low : (body : Body) → SentFits (row v cut) body → SentFits (low v cut) body
+  pub sent_low : (body : Body) → SentFits (row v cut) body → SentFits (low v cut) body
   sent_low body was = record {
     within = IfSome_then (tenure_in body) was.within (λ tenure fits is. let low_enough = fits is in omega (arith, low_enough));
     below =
@@ -177,7 +141,7 @@ module _ (v : View) (cut : Splitting v) (after : Halved v cut) where
         IfSome_then (range_in body) fits (λ r its apart met. let less = its apart (half_met v cut (low v cut).range r (low_half v cut) met) in omega (arith, less)));
   }
 
-  sent_high : (body : Body) → IfSome (tenure_in body) (λ tenure. is_some (row_of v.rows tenure.tablet) ≡ true) → SentFits (row v cut) body → SentFits (high v cut) body
+  pub sent_high : (body : Body) → IfSome (tenure_in body) (λ tenure. is_some (row_of v.rows tenure.tablet) ≡ true) → SentFits (row v cut) body → SentFits (high v cut) body
   sent_high body knows was = record {
     within = IfSome_then (tenure_in body) knows (λ tenure known is. absurd (unknown_new v cut tenure.tablet known (sym is)));
     below =
@@ -194,15 +158,8 @@ module _ (v : View) (cut : Splitting v) (after : Halved v cut) where
       both_some P Q None p q = tt
       both_some P Q (Some t) p q = (p, q)
 
-  pub terms : Terms (rows' v cut) handovers' v.wire
-  terms = record {
-    kept = λ q n. each v cut (λ r. HandoverFits r n (handovers' q n)) (fits_low q n) (fits_high q n) (fits_other q n);
-    begun = λ q n. by v cut after (λ h. is_absent h.role ≡ false → 1 ≤ h.term) q n (λ _. sound.terms.begun q n) (λ _ _ _. omega arith) (λ _ _ _. omega arith);
-    apart = ranges_apart;
-    sent = λ n m there.
-        let was = old_sent m.body (sound.terms.sent n m there) in
-        kept v cut (λ r. SentFits r m.body) (sent_low m.body was) (sent_high m.body (sound.cover.sent n m there) was) (sound.terms.sent n m there);
-  }
+  pub kept_fits : (q n : ℕ) → All (λ r. HandoverFits r n (handovers' q n)) (rows' v cut)
+  kept_fits q n = each v cut (λ r. HandoverFits r n (handovers' q n)) (fits_low q n) (fits_high q n) (fits_other q n)
 
   -- ---- cover
 
@@ -231,10 +188,9 @@ module _ (v : View) (cut : Splitting v) (after : Halved v cut) where
   whole r wholes = kept v cut (λ x. meets x.range r ≡ true → has_all r x.range ≡ true) (half_whole (low v cut).range r (low_half v cut) wholes) (half_whole (high v cut).range r (high_half v cut) wholes) wholes
 
   entry_whole : (entry : Entry) → IsOfWholeRows v.rows entry → IsOfWholeRows (rows' v cut) entry
-  entry_whole (entries.Held held) wholes = tt
-  entry_whole (entries.Refused refused) wholes = tt
   entry_whole (entries.Carried carried) wholes = whole carried.range wholes
   entry_whole (entries.Joined joined) wholes = whole joined.range wholes
+  entry_whole _ wholes = tt
 
   pub cover : Cover (rows' v cut) v.written handovers' v.records v.wire
   cover = record {
@@ -259,39 +215,8 @@ module _ (v : View) (cut : Splitting v) (after : Halved v cut) where
 
   -- ---- roles
 
-  keep_term : (x : Row) → Contains v.rows x → (x.tablet ≡ tablet → ⊥) → (phase : Phase) → KeepTerm phase (λ q. (v.handovers q x.tablet).term) x.term → KeepTerm phase (λ q. (handovers' q x.tablet).term) x.term
-  keep_term x has unlike (Owned owner from) at = tt
-  keep_term x has unlike (Opening source sfrom target None) at = tt
-  keep_term x has unlike (Opening source sfrom target (Some dfrom)) at = by_row v cut after x has unlike target (λ h. h.term ≡ x.term) at
-  keep_term x has unlike (Moving source sfrom target dfrom) at =
-      (by_row v cut after x has unlike source (λ h. h.term ≡ x.term) at.0, by_row v cut after x has unlike target (λ h. h.term ≡ x.term) at.1)
-  keep_term x has unlike (Rebuilding lineage to) at = tt
-
-  pub roles_fit : Roles (rows' v cut) handovers' v.written v.live
-  roles_fit = record {
-    fitting = λ q.
-        each v cut (λ r. StillCounts (v.live q) (handovers' q r.tablet).term r.term → RoleFits r q (handovers' q r.tablet) (v.written q).applied)
-        (by_post v cut after (λ post h. Holds (bond_of post h.role) (term + 1) h.term (v.written q).applied) q tablet (inl refl) (λ _ _. refl) (λ _ its. absurd (new_apart v cut (sym its)))
-        (λ lives away. bystander_rises (v.handovers q tablet).role term (v.handovers q tablet).term (v.written q).applied (bystands v cut q lives away)))
-        (by_post v cut after (λ post h. Holds (bond_of post h.role) (term + 1) h.term (v.written q).applied) q new (inr refl) (λ _ its. absurd (new_apart v cut its)) (λ _ _. refl)
-        (λ lives away. absent_fits (v.handovers q new).role (term + 1) (v.handovers q new).term (v.written q).applied (term_none v cut q) (absent_before v cut q)))
-        (λ x has unlike.
-        by_row v cut after x has unlike q (λ h. StillCounts (v.live q) h.term x.term → RoleFits x q h (v.written q).applied)
-        (All-contains (λ r. StillCounts (v.live q) (v.handovers q r.tablet).term r.term → RoleFits r q (v.handovers q r.tablet) (v.written q).applied) v.rows x (sound.roles.fitting q) has));
-    ranged = λ q.
-        each v cut (λ r. StillCounts (v.live q) (handovers' q r.tablet).term r.term → is_member (lineage_of r.phase) q ≡ true → (handovers' q r.tablet).range ≡ r.range)
-        (λ counts inside.
-        by_post v cut after (λ post h. h.range ≡ (low v cut).range) q tablet (inl refl) (λ _ _. refl) (λ _ its. absurd (new_apart v cut (sym its))) (λ lives away. absurd (no_owner v cut q away inside)) counts)
-        (λ counts inside.
-        by_post v cut after (λ post h. h.range ≡ (high v cut).range) q new (inr refl) (λ _ its. absurd (new_apart v cut its)) (λ _ _. refl) (λ lives away. absurd (no_owner v cut q away inside)) counts)
-        (λ x has unlike.
-        by_row v cut after x has unlike q (λ h. StillCounts (v.live q) h.term x.term → is_member (lineage_of x.phase) q ≡ true → h.range ≡ x.range)
-        (All-contains (λ r. StillCounts (v.live q) (v.handovers q r.tablet).term r.term → is_member (lineage_of r.phase) q ≡ true → (v.handovers q r.tablet).range ≡ r.range) v.rows x (sound.roles.ranged q) has));
-    at_term =
-        each v cut (λ r. KeepTerm r.phase (λ q. (handovers' q r.tablet).term) r.term) tt tt
-        (λ x has unlike. keep_term x has unlike x.phase (All-contains (λ r. KeepTerm r.phase (λ q. (v.handovers q r.tablet).term) r.term) v.rows x sound.roles.at_term has));
-    known = λ q n lives.
-        by v cut after (λ h. is_absent h.role ≡ false → is_some (row_of (rows' v cut) n) ≡ true) q n (λ _ there. known_on v cut n (sound.roles.known q n lives there))
-        (λ _ its there. ap (λ (m : ℕ). is_some (row_of (rows' v cut) m)) its ∙ known_low v cut)
-        (λ _ its there. ap (λ (m : ℕ). is_some (row_of (rows' v cut) m)) its ∙ known_new v cut);
-  }
+  pub row_known : (q n : ℕ) → v.live q ≡ true → is_absent (handovers' q n).role ≡ false → is_some (row_of (rows' v cut) n) ≡ true
+  row_known q n lives =
+      by v cut after (λ h. is_absent h.role ≡ false → is_some (row_of (rows' v cut) n) ≡ true) q n (λ _ there. known_on v cut n (sound.roles.known q n lives there))
+      (λ _ its there. ap (λ (m : ℕ). is_some (row_of (rows' v cut) m)) its ∙ known_low v cut)
+      (λ _ its there. ap (λ (m : ℕ). is_some (row_of (rows' v cut) m)) its ∙ known_new v cut)

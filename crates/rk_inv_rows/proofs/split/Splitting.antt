@@ -2,9 +2,8 @@
 use Rattle.std.proofs.Common.{◌≡◌, ℕ, ◌+◌, ◌≤◌, Bool, true, false, cond, ◌||◌, List, [], ◌∷◌, Option, Some, None, eqb, refl, sym, ap, subst}
 use Rattle.std.proofs.Common.{◌∙◌, ⊎_elim, arith, ◌⊎◌, inl, is_some, All, Contains, eq-eqb, ne_eqb}
 use Rattle.rk_inv_base.proofs.Words.{cases_Bool, false≢true, or_left, or_right, All-contains, has, meets, Ended, Range, Completions}
-use Rattle.rk_inv_base.proofs.Words.{Handover, lineage_of, IsTabletMap, Precedes, is_covered, is_split, row_of, Owned, Row, Gather}
-use Rattle.rk_inv_base.proofs.Words.{is_member, is_absent, Pulling, Bystander, Owner, Post, Holds, StillCounts, bond_of, RoleFits, View}
-use Rattle.rk_inv_base.proofs.Words.{SoundView}
+use Rattle.rk_inv_base.proofs.Words.{Handover, IsTabletMap, Precedes, is_covered, is_split, row_of, Owned, Row, Gather, is_member}
+use Rattle.rk_inv_base.proofs.Words.{is_absent, Pulling, Bystander, Owner, Post, Holds, StillCounts, bond_of, View, SoundView}
 use Rattle.rk_inv_base.proofs.rows.Apart.{one_precedes}
 use Rattle.rk_inv_base.proofs.rows.Serving.{meets_either}
 use Rattle.rk_inv_base.proofs.rows.TurnedRows.{stands_found}
@@ -13,6 +12,7 @@ use Rattle.rk_inv_rows.specs.split.Halves.{IsHalf}
 use Rattle.rk_inv_rows.specs.split.Small.{as_half, lower_row, rows_halved, upper_row}
 use Rattle.rk_inv_rows.proofs.split.Ranges.{meets_whole}
 use Rattle.rk_inv_rows.proofs.split.SplitRows.{covered_halved, each_halved, halves_apart, halves_apart_turned, known_halved, lower_half, lower_stands, other, others_stand, unknown, upper_half, upper_stands}
+use Rattle.rk_inv_base.proofs.views.ByRows.{SoundRow, row_in}
 
 -- an owned row of a sound view that may be split at a hash, with the number of its upper half
 pub record Splitting (v : View) : Type 0 where
@@ -45,6 +45,9 @@ module _ (v : View) (cut : Splitting v) where
 
   pub map : IsTabletMap v.rows
   map = sound.rows.apart
+
+  pub split_row : SoundRow v row
+  split_row = row_in v sound row has_row
 
   pub in_row : (P : Row → Type 0) → All P v.rows → P row
   in_row P all = All-contains P v.rows row all has_row
@@ -199,11 +202,11 @@ module _ (v : View) (cut : Splitting v) where
   owner_fits q serves =
       subst (λ (b : Bool). Holds (bond_of (cond b (Owner from) Bystander) (v.handovers q tablet).role) term (v.handovers q tablet).term (v.written q).applied)
       (eq-eqb owner q (sym serves.1))
-      (in_row (λ r. StillCounts (v.live q) (v.handovers q r.tablet).term r.term → RoleFits r q (v.handovers q r.tablet) (v.written q).applied) (sound.roles.fitting q) (inl serves.0))
+      (split_row.fitting q (inl serves.0))
 
   pub owner_range : (q : ℕ) → Serves q → (v.handovers q tablet).range ≡ range
   owner_range q serves =
-      in_row (λ r. StillCounts (v.live q) (v.handovers q r.tablet).term r.term → is_member (lineage_of r.phase) q ≡ true → (v.handovers q r.tablet).range ≡ r.range) (sound.roles.ranged q)
+      split_row.ranged q
       (inl serves.0) (or_left (eqb owner q) false (eq-eqb owner q (sym serves.1)))
 
   abbrev pub Counts : ℕ → Handover → Type 0
@@ -223,7 +226,7 @@ module _ (v : View) (cut : Splitting v) where
   pub bystands : (q : ℕ) → v.live q ≡ true → eqb owner q ≡ false → Holds (bond_of Bystander (v.handovers q tablet).role) term (v.handovers q tablet).term (v.written q).applied
   bystands q lives away =
       subst (λ (b : Bool). Holds (bond_of (cond b (Owner from) Bystander) (v.handovers q tablet).role) term (v.handovers q tablet).term (v.written q).applied) away
-      (in_row (λ r. StillCounts (v.live q) (v.handovers q r.tablet).term r.term → RoleFits r q (v.handovers q r.tablet) (v.written q).applied) (sound.roles.fitting q) (inl lives))
+      (split_row.fitting q (inl lives))
 
   pub no_owner : (q : ℕ) → eqb owner q ≡ false → is_member (record { master = owner; from = from } ∷ []) q ≡ true → ⊥
   no_owner q away inside = false≢true (sym (ap (λ (b : Bool). b || false) away) ∙ inside)

@@ -1,9 +1,9 @@
 -- What stands in lists that are made of others: of each element's list, and of the numbers that entries name.
-use Rattle.std.proofs.Common.{◌≡◌, ℕ, zero, suc, ◌⊎◌, Bool, true, false, ◌||◌, eqb, List, [], ◌∷◌, ◌++◌, Some, refl, sym, ap, subst, ⊎_elim}
-use Rattle.std.proofs.Common.{inl, inr, arith, fold, slice_get, Contains, flat_map, eqb-true}
+use Rattle.std.proofs.Common.{◌≡◌, ℕ, zero, suc, ◌⊎◌, Bool, true, false, ◌||◌, eqb, List, [], ◌∷◌, ◌++◌, Some, refl, ap, ⊎_elim, inl, inr}
+use Rattle.std.proofs.Common.{arith, fold, slice_get, Contains, flat_map, eqb-true}
 use Rattle.rk_inv_base.proofs.Words.{cond_both, Contains-append_cases, Contains-append_left, Contains-append_right, Contains-push}
 use Rattle.rk_inv_base.proofs.Words.{Contains-push_cases, Range, is_among, Entry, named, named_by, with_number}
-use Rattle.rk_inv_base.proofs.rows.Apart.{contains_cases}
+use Rattle.rk_inv_tablets.proofs.Words.{contains_cases}
 
 -- ---- places
 
@@ -37,7 +37,7 @@ pub flat_of : {X Y : Type 0} (f : X → List Y) (xs : List X) (x : X) (y : Y) �
 flat_of f [] x y at its = absurd (omega (arith, at.1))
 flat_of f (z ∷ xs) x y at its =
     ⊎_elim
-    (λ (same : z ≡ x). Contains-append_left (f z) (flat_map f xs) y (subst (λ w. Contains (f w) y) (sym same) its))
+    (λ (same : z ≡ x). Contains-append_left (f z) (flat_map f xs) y (rw same its))
     (λ (later : Contains xs x). Contains-append_right (f z) (flat_map f xs) y (flat_of f xs x y later its))
     (contains_cases z xs x at)
 
@@ -56,9 +56,9 @@ among_there number (n ∷ numbers) is = go (eqb n number) refl is (among_there n
 with_has : (numbers : List ℕ) (number n : ℕ) → Contains numbers n ⊎ (number ≡ n) → Contains (with_number numbers number) n
 with_has numbers number n =
     cond_both (is_among number numbers) numbers (numbers ++ number ∷ []) (λ now. Contains numbers n ⊎ (number ≡ n) → Contains now n)
-    (λ e. ⊎_elim (λ (there : Contains numbers n). there) (λ (same : number ≡ n). subst (Contains numbers) same (among_there number numbers e)))
+    (λ e. ⊎_elim (λ (there : Contains numbers n). there) (λ (same : number ≡ n). rw (← same) (among_there number numbers e)))
     (λ e. ⊎_elim (λ (there : Contains numbers n). Contains-append_left numbers (number ∷ []) n there)
-    (λ (same : number ≡ n). subst (Contains (numbers ++ number ∷ [])) same (Contains-push numbers number)))
+    (λ (same : number ≡ n). rw (← same) (Contains-push numbers number)))
 
 -- and no others
 with_only : (numbers : List ℕ) (number n : ℕ) → Contains (with_number numbers number) n → Contains numbers n ⊎ (number ≡ n)
@@ -96,5 +96,4 @@ named_from range list n at =
 
 -- and the other way round
 pub named_of : (range : Range) (list : List Entry) (entry : Entry) (n : ℕ) → Contains list entry → Contains (named_by range entry) n → Contains (named range list) n
-named_of range list entry n at its =
-    all_has [] (flat_map (named_by range) list) n (inr (flat_of (named_by range) list entry n at its))
+named_of range list entry n at its = all_has [] (flat_map (named_by range) list) n (inr (flat_of (named_by range) list entry n at its))

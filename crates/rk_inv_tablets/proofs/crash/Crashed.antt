@@ -1,19 +1,16 @@
 -- A lane stays sound when a master crashes while another one lives: what is said of living masters is said of fewer, and what the dead
 -- one had merged of a rebuild that was not taken tells nothing new.
-use Rattle.std.proofs.Common.{◌≡◌, ◌≤◌, ◌||◌, ℕ, Bool, true, false, List, [], ◌∷◌, length, refl, sym, ap, subst, ◌∙◌, ⊎_elim, inl, inr, All}
+use Rattle.std.proofs.Common.{◌≡◌, ◌≤◌, ◌||◌, ℕ, Bool, true, false, List, [], ◌∷◌, length, refl, sym, ap, ◌∙◌, ⊎_elim, inl, inr, All}
 use Rattle.std.proofs.Common.{Contains, not, slice_index_or, ◌==◌, eq-eqb, ne_eqb}
 use Rattle.rk_inv_base.proofs.Words.{cases_Bool, cases_eq, false≢true, or_left, or_right, All-contains, All-weaker, Contains-get_or}
-use Rattle.rk_inv_base.proofs.Words.{list_any-append, get, Member, Node, lineage_of, Phase, Owned, Opening, Moving, Rebuilding, Row, Body}
-use Rattle.rk_inv_base.proofs.Words.{Got, Pulled, CopySegment, ReadSegment, LAST_MAIN_SEGMENT, is_member, World, has_crashed, lives, Mark}
-use Rattle.rk_inv_base.proofs.Words.{SaysOf, PrepareFits, CloseFits, RebuildFits, OwnFits, ReleaseFits, GrantAgrees, PulledAgrees}
+use Rattle.rk_inv_base.proofs.Words.{list_any-append, Member, Node, lineage_of, Phase, Rebuilding, Row, Body, Got, Pulled, CopySegment}
+use Rattle.rk_inv_base.proofs.Words.{ReadSegment, LAST_MAIN_SEGMENT, is_member, World, has_crashed, lives, Mark, SaysOf, PulledAgrees}
 use Rattle.rk_inv_base.proofs.Words.{GotAgrees, ReadIn, CopyIn, StillCounts, MarkFits, MarkedFit, RowIsRebuilt, AreApart, IsFormed, put}
 use Rattle.rk_inv_base.proofs.Words.{View, view, truths, rests, CallsOf, CountersOf, MessagesOf, IsSound, NodesOf, RebuildsOf, RestOf}
 use Rattle.rk_inv_base.proofs.Words.{RolesOf, SoundView, TablesOf}
+use Rattle.rk_inv_tablets.proofs.Words.{put_by, put_is, put_other, if_master, MayCrashFormed}
 use Rattle.rk_message.specs.declared.message.Body.TheVariants as bodies
 use Rattle.rk_world.specs.World.{with_crash}
-use Rattle.rk_inv_base.proofs.views.Put.{put_by, put_is, put_other}
-use Rattle.rk_inv_base.proofs.wire.Messages.{if_master}
-use Rattle.rk_inv_tablets.specs.crash.Moves.{MayCrashFormed}
 use Rattle.rk_inv_tablets.specs.crash.Small.{crashed}
 use Rattle.rk_inv_tablets.proofs.crash.MarksTold.{first_told, last_told, only_told, rebuilds_it}
 
@@ -23,8 +20,7 @@ module _ (v : View) (master : ℕ) (sound : SoundView v) (may : MayCrashFormed v
 
   -- who lives now lived before, who was dead is so still, and what counts now counted
   lived : (q : ℕ) → now.live q ≡ true → v.live q ≡ true
-  lived q =
-      put_by v.live master (λ _. false) (λ b. b ≡ true → v.live q ≡ true) q (λ is e. absurd (false≢true e)) (λ apart e. e)
+  lived q = put_by v.live master (λ _. false) (λ b. b ≡ true → v.live q ≡ true) q (λ is e. absurd (false≢true e)) (λ apart e. e)
 
   dead_still : (q : ℕ) → v.live q ≡ false → now.live q ≡ false
   dead_still q dead = put_by v.live master (λ _. false) (λ b. b ≡ false) q (λ is. refl) (λ apart. dead)
@@ -38,7 +34,7 @@ module _ (v : View) (master : ℕ) (sound : SoundView v) (may : MayCrashFormed v
     backed = sound.nodes.backed;
     known = sound.nodes.known;
     named = sound.nodes.named;
-    crashed = All-weaker (λ q. v.live q ≡ false) (λ q. now.live q ≡ false) dead_still v.noticed sound.nodes.crashed;
+    crashed = All-weaker _ _ dead_still v.noticed sound.nodes.crashed;
     left = λ q dead. record {
       master = may.may.other;
       there = may.may.there;
@@ -103,28 +99,20 @@ module _ (v : View) (master : ℕ) (sound : SoundView v) (may : MayCrashFormed v
   -- ---- messages
 
   pulled_on : (row : Row) (lineage : List Member) (from : Node) (q : ℕ) (pulled : Pulled) → PulledAgrees row v.written v.handovers v.live lineage from q pulled → PulledAgrees row v.written v.handovers now.live lineage from q pulled
-  pulled_on row [] from q pulled agrees = tt
-  pulled_on row (only ∷ []) from q pulled agrees = tt
   pulled_on row (source ∷ target ∷ []) from q pulled agrees = λ here lives is. agrees here (lived q lives) is
-  pulled_on row (source ∷ target ∷ third ∷ more) from q pulled agrees = tt
+  pulled_on row _ from q pulled agrees = tt
 
   got_on : (row : Row) (lineage : List Member) (from : Node) (q : ℕ) (got : Got) → GotAgrees row v.written v.handovers v.live lineage from q got → GotAgrees row v.written v.handovers now.live lineage from q got
-  got_on row [] from q got agrees = tt
-  got_on row (only ∷ []) from q got agrees = tt
   got_on row (source ∷ target ∷ []) from q got agrees = λ here lives is. agrees here (lived q lives) is
-  got_on row (source ∷ target ∷ third ∷ more) from q got agrees = tt
+  got_on row _ from q got agrees = tt
 
   read_on : (phase : Phase) (to : Node) (read : ReadSegment) → ReadIn phase v.live to read → ReadIn phase now.live to read
-  read_on (Owned owner from) to read says = tt
-  read_on (Opening source sfrom target dfrom) to read says = tt
-  read_on (Moving source sfrom target dfrom) to read says = tt
   read_on (Rebuilding lineage by) to read says = (says.0, dead_still read.master says.1)
+  read_on _ to read says = tt
 
   copy_on : (row : Row) (phase : Phase) (copy : CopySegment) → CopyIn row phase v.logs v.written v.stored v.live copy → CopyIn row phase v.logs v.written v.stored now.live copy
-  copy_on row (Owned owner from) copy says = tt
-  copy_on row (Opening source sfrom target dfrom) copy says = tt
-  copy_on row (Moving source sfrom target dfrom) copy says = tt
   copy_on row (Rebuilding lineage by) copy says = (dead_still copy.master says.0, says.1)
+  copy_on row _ copy says = tt
 
   abbrev SaysIn : View → Row → Node → Node → Body → Type 0
   SaysIn w x = SaysOf x w.logs w.written w.stored w.handovers w.completions w.merged w.live w.handed
@@ -132,67 +120,45 @@ module _ (v : View) (master : ℕ) (sound : SoundView v) (may : MayCrashFormed v
   -- what a message says of a row it says still
   says_on : (x : Row) (from to : Node) (body : Body) → SaysIn v x from to body → SaysIn now x from to body
   says_on x from to (bodies.Prepare prepare) says =
-      if_master to (λ q. PrepareFits x (v.handovers q x.tablet) (v.live q) q prepare)
-      (λ q. PrepareFits x (v.handovers q x.tablet) (now.live q) q prepare)
-      (λ q fits. record {
+      if_master to _ _ (λ q fits. record {
         range = fits.range;
         invited = λ is lives. fits.invited is (lived q lives);
         members = λ asks lives. fits.members asks (lived q lives);
       }) says
-  says_on x from to (bodies.Ready ready) says = says
   says_on x from to (bodies.Close tenure) says =
-      if_master to (λ q. CloseFits x (v.handovers q x.tablet) (v.live q) q tenure)
-      (λ q. CloseFits x (v.handovers q x.tablet) (now.live q) q tenure)
-      (λ q fits. record { source = fits.source; may_follow = λ its lives. fits.may_follow its (lived q lives) }) says
-  says_on x from to (bodies.Transfer transfer) says = says
+      if_master to _ _ (λ q fits. record { source = fits.source; may_follow = λ its lives. fits.may_follow its (lived q lives) }) says
   says_on x from to (bodies.Grant grant) says = (
     says.0,
-    if_master to (λ q. GrantAgrees x (v.handovers q x.tablet) (v.live q) (get v.handed x.tablet) q grant)
-        (λ q. GrantAgrees x (v.handovers q x.tablet) (now.live q) (get v.handed x.tablet) q grant)
-        (λ q fits. record {
-          reached = λ its lives. fits.reached its (lived q lives);
-          told = λ its lives. fits.told its (lived q lives);
-        }) says.1,
+    if_master to _ _ (λ q fits. record {
+      reached = λ its lives. fits.reached its (lived q lives);
+      told = λ its lives. fits.told its (lived q lives);
+    }) says.1,
   )
-  says_on x from to (bodies.Pull pull) says = says
   says_on x from to (bodies.Pulled pulled) says = (
     says.0,
-    if_master to (λ q. PulledAgrees x v.written v.handovers v.live (lineage_of x.phase) from q pulled)
-        (λ q. PulledAgrees x v.written v.handovers now.live (lineage_of x.phase) from q pulled)
-        (λ q. pulled_on x (lineage_of x.phase) from q pulled) says.1,
+    if_master to _ _ (λ q. pulled_on x (lineage_of x.phase) from q pulled) says.1,
   )
-  says_on x from to (bodies.Want want) says = says
   says_on x from to (bodies.Got got) says = (
     says.0,
-    if_master to (λ q. GotAgrees x v.written v.handovers v.live (lineage_of x.phase) from q got)
-        (λ q. GotAgrees x v.written v.handovers now.live (lineage_of x.phase) from q got)
-        (λ q. got_on x (lineage_of x.phase) from q got) says.1,
+    if_master to _ _ (λ q. got_on x (lineage_of x.phase) from q got) says.1,
   )
-  says_on x from to (bodies.Joined tenure) says = says
   says_on x from to (bodies.Own tenure) says =
-      if_master to (λ q. OwnFits x (v.handovers q x.tablet) (v.live q) q tenure)
-      (λ q. OwnFits x (v.handovers q x.tablet) (now.live q) q tenure)
-      (λ q fits. record {
+      if_master to _ _ (λ q fits. record {
         owned = fits.owned;
         reached = λ its lives. fits.reached its (lived q lives);
         owner = λ its lives. fits.owner its (lived q lives);
       }) says
   says_on x from to (bodies.Release tenure) says =
-      if_master to (λ q. ReleaseFits x (v.handovers q x.tablet) (v.live q) q tenure)
-      (λ q. ReleaseFits x (v.handovers q x.tablet) (now.live q) q tenure)
-      (λ q fits. record { owned = fits.owned; outside = λ its lives. fits.outside its (lived q lives) }) says
+      if_master to _ _ (λ q fits. record { owned = fits.owned; outside = λ its lives. fits.outside its (lived q lives) }) says
   says_on x from to (bodies.Rebuild rebuild) says =
-      if_master to (λ q. RebuildFits x (v.handovers q x.tablet) (v.live q) q rebuild)
-      (λ q. RebuildFits x (v.handovers q x.tablet) (now.live q) q rebuild)
-      (λ q fits. record {
+      if_master to _ _ (λ q fits. record {
         range = fits.range;
         lineage = fits.lineage;
         ordered = λ its lives. fits.ordered its (lived q lives);
       }) says
   says_on x from to (bodies.Read read) says = λ is. read_on x.phase to read (says is)
   says_on x from to (bodies.Copy copy) says = λ is. copy_on x x.phase copy (says is)
-  says_on x from to (bodies.Rebuilt rebuilt) says = says
-  says_on x from to body says = says
+  says_on x from to _ says = says
 
   messages : MessagesOf now
   messages = record {
@@ -228,7 +194,7 @@ module _ (v : View) (master : ℕ) (sound : SoundView v) (may : MayCrashFormed v
     some = All-contains (λ (r : Row). r.range.first ≤ r.range.last) v.rows row may.ranges has
 
     few : (q : ℕ) → q ≡ master → All (λ gathered. length gathered.main ≤ LAST_MAIN_SEGMENT) (v.gathers q row.tablet).members
-    few q at = subst (λ (n : ℕ). All (λ gathered. length gathered.main ≤ LAST_MAIN_SEGMENT) (v.gathers n row.tablet).members) (sym at) (may.gathered row.tablet)
+    few q at = rw at (may.gathered row.tablet)
 
     module _ (lineage : List Member) (to : ℕ) (is : row.phase ≡ Rebuilding lineage to) where
       -- a member that lived rebuilt the row
@@ -247,7 +213,6 @@ module _ (v : View) (master : ℕ) (sound : SoundView v) (may : MayCrashFormed v
           (cases_Bool (v.live b))
 
     marks_told : (lineage : List Member) (to : ℕ) → row.phase ≡ Rebuilding lineage to → AreApart lineage → MarkedFit v.logs v.written v.stored v.live row.range lineage → MarkedFit v.logs v.written v.stored now.live row.range lineage
-    marks_told [] to is formed fit = absurd formed
     marks_told (only ∷ []) to is formed fit = λ dead.
         dead_or only.master dead fit
         (λ lives at.
@@ -271,16 +236,14 @@ module _ (v : View) (master : ℕ) (sound : SoundView v) (may : MayCrashFormed v
               last_told v sound may.readable row has some first last formed (by_it both to is last.master is_last lives) lives
               (other_dead both to is last.master first.master (λ same. formed (sym same)) is_last is_first lives) (few last.master at)),
         )
-    marks_told (first ∷ second ∷ third ∷ more) to is formed fit = absurd formed
+    marks_told _ to is formed fit = absurd formed
 
   abbrev IsRebuiltIn : View → Row → Phase → Type 0
   IsRebuiltIn w x phase = RowIsRebuilt x phase (truths v x) w.logs w.written w.stored w.handovers w.completions w.gathers w.merged w.records w.live
 
   rebuilt_on : (x : Row) → Contains v.rows x → (phase : Phase) → x.phase ≡ phase → IsFormed phase → IsRebuiltIn v x phase → IsRebuiltIn now x phase
-  rebuilt_on x has (Owned owner from) is formed was = tt
-  rebuilt_on x has (Opening source sfrom target dfrom) is formed was = tt
-  rebuilt_on x has (Moving source sfrom target dfrom) is formed was = tt
   rebuilt_on x has (Rebuilding lineage to) is formed was = (was.0, marks_told x has lineage to is formed was.1)
+  rebuilt_on x has _ is formed was = tt
 
   rebuilds : RebuildsOf now (truths v)
   rebuilds = record {
@@ -333,4 +296,4 @@ crash_seen w master i = record (view w) { live = λ q. live_now w master q i }
 
 -- a sound lane stays sound when a master crashes
 pub sound_crashed : (w : World) (master : ℕ) → IsSound w → MayCrashFormed (view w) master → IsSound (with_crash w master)
-sound_crashed w master sound may = subst SoundView (sym (crash_seen w master)) (view_crashed (view w) master sound may)
+sound_crashed w master sound may = rw (crash_seen w master) (view_crashed (view w) master sound may)

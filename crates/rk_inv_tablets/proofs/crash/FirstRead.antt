@@ -6,12 +6,12 @@ use Rattle.std.proofs.Common.{le-leb, append-nil}
 use Rattle.std.proofs.lemmas.List.{get_or-append_right}
 use Rattle.rk_inv_base.proofs.Words.{cases_lt, cond-true, get_or_append_left, get_or_past, All-head, All-nil, All-tail, recursion_from_All}
 use Rattle.rk_inv_base.proofs.Words.{prefix_len, all_again, spelled_all, IsLawfulEntry, spelled, Entry, EntryEnd, IsFirstPart, is_main}
+use Rattle.rk_inv_tablets.proofs.Words.{IsBytes}
 use Rattle.rk_entry.specs.declared.error.DecodeError.{DecodeError}
 use Rattle.rk_entry.specs.Entries.{entries_of, entries_within}
 use Rattle.rk_entry.specs.Reading.{read_entry}
 use Rattle.rk_entry.proofs.EntryLaws.{entry_takes, one_spelled}
 use Rattle.rk_entry.proofs.StandLaws.{entries_of-cons, entries_of-none}
-use Rattle.rk_entry.proofs.Tools.{IsBytes}
 use Rattle.rk_inv_tablets.proofs.crash.Groups.{ends_in, group_ends, spelled_first, spelled_none}
 use Rattle.rk_inv_tablets.proofs.crash.Spelt.{entry_bytes}
 
@@ -22,9 +22,9 @@ both_bytes : (front back : List ℕ) → IsBytes front → IsBytes back → IsBy
 both_bytes front back some others place =
     ⊎_elim
     (λ (within : place < length front).
-    subst (λ (n : ℕ). n < 256) (sym (get_or_append_left front back 0 place within)) (some place))
+    rw (get_or_append_left front back 0 place within) (some place))
     (λ (past : length front ≤ place).
-    subst (λ (n : ℕ). n < 256) (sym (get_or-append_right front back (length front) place 0 refl past)) (others (place - length front)))
+    rw (get_or-append_right front back (length front) place 0 refl past) (others (place - length front)))
     (cases_lt place (length front))
 
 -- first ones of bytes are bytes
@@ -32,15 +32,15 @@ front_bytes_are : (front back : List ℕ) → IsBytes (front ++ back) → IsByte
 front_bytes_are front back all place =
     ⊎_elim
     (λ (within : place < length front).
-    subst (λ (n : ℕ). n < 256) (get_or_append_left front back 0 place within) (all place))
-    (λ (past : length front ≤ place). subst (λ (n : ℕ). n < 256) (sym (get_or_past front place 0 past)) (lit< tt))
+    rw (← get_or_append_left front back 0 place within) (all place))
+    (λ (past : length front ≤ place). rw (get_or_past front place 0 past) (lit< tt))
     (cases_lt place (length front))
 
 -- what is spelled of lawful entries are bytes
 all_bytes : (list : List Entry) → All IsLawfulEntry list → IsBytes (spelled_all list)
 all_bytes [] lawful = subst IsBytes (sym spelled_none) (λ place. lit< tt)
 all_bytes (first ∷ list) lawful =
-    subst IsBytes (sym (spelled_first first list))
+    rw (spelled_first first list)
     (both_bytes (spelled first) (spelled_all list) (entry_bytes first (All-head IsLawfulEntry first list lawful))
     (all_bytes list (All-tail IsLawfulEntry first list lawful)))
 
@@ -75,7 +75,7 @@ first_read (first ∷ list) bytes rest lawful is =
     (λ after same. first_read list after rest (All-tail IsLawfulEntry first list lawful) same)
   where
     some_bytes : IsBytes bytes
-    some_bytes = front_bytes_are bytes rest (subst IsBytes is (all_bytes (first ∷ list) lawful))
+    some_bytes = front_bytes_are bytes rest (rw (← is) (all_bytes (first ∷ list) lawful))
 
     go : (read : Result (Entry × List ℕ) DecodeError) → read_entry bytes ≡ read → ((after : List ℕ) → spelled_all list ≡ after ++ rest → AreFirst list after) → AreFirst (first ∷ list) bytes
     go (Err fault) read later = none_read (first ∷ list) bytes (entries_of-none bytes fault read)
@@ -183,7 +183,7 @@ module _ (known : ℕ → ℕ) (stored : ℕ → List ℕ) where
   some_stored segment group read part some none =
       some
       (part.read_is
-      ∙ ap entries_of (none_front part.bytes (subst (IsFirstPart part.bytes) none part.front))
+      ∙ ap entries_of (none_front part.bytes (rw (← none) part.front))
       ∙ read_none)
 
   module _ (first : ℕ) (group read : List Entry) (groups main : List (List Entry)) (lawful : All IsLawfulEntry group) (part : IsPartRead known stored first group read) where
@@ -249,8 +249,7 @@ module _ (known : ℕ → ℕ) (stored : ℕ → List ℕ) where
         let next : ℕ = suc first + some.0 in
         whole_read
         (part.in_order next (omega arith) (mains next (omega (arith, some.1)))
-        (some_stored next (get_or groups some.0 []) (get_or main some.0 []) (parts some.0 next refl some.1) some.2))
-        later)
+        (some_stored next (get_or groups some.0 []) (get_or main some.0 []) (parts some.0 next refl some.1) some.2)) later)
         (some_read main)
 
   -- what was read of segments are first entries, each of which is stored

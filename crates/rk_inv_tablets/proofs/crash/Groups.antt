@@ -4,8 +4,8 @@ use Rattle.std.proofs.Common.{length-append, flat_map, append-nil}
 use Rattle.std.proofs.Math.Seq.{set-append_seam}
 use Rattle.rk_inv_base.proofs.Words.{cond_both, get_or_push, length-map, map-append, flat_map-append, spelled, Entry, room_some, has_room}
 use Rattle.rk_inv_base.proofs.Words.{in_last, with_bytes, cut, end_of, ends_after, ends, EntryEnd}
+use Rattle.rk_inv_tablets.proofs.Words.{last_of, cut_after}
 use Rattle.rk_entry.specs.Entries.{spelled_all}
-use Rattle.rk_log.specs.Cut.{last_of, cut_after}
 
 -- ---- spellings
 
@@ -84,8 +84,7 @@ last_there {X} (x ∷ y ∷ xs) some =
 
 -- the last segment of some, and these with more bytes there
 last_is : (front : List (List ℕ)) (bytes : List ℕ) → last_of (front ++ bytes ∷ []) ≡ bytes
-last_is front bytes =
-    get_or_push front bytes [] (length (front ++ bytes ∷ []) - 1) (omega (arith, length-append front (bytes ∷ [])))
+last_is front bytes = get_or_push front bytes [] (length (front ++ bytes ∷ []) - 1) (omega (arith, length-append front (bytes ∷ [])))
 
 more_last : (front : List (List ℕ)) (bytes more : List ℕ) → in_last (front ++ bytes ∷ []) more ≡ front ++ (bytes ++ more) ∷ []
 more_last front bytes more =

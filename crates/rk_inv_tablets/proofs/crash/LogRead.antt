@@ -6,12 +6,11 @@ use Rattle.rk_inv_base.proofs.Words.{cases_lt, cond-false, false≢true, get_or_
 use Rattle.rk_inv_base.proofs.Words.{Contains-append_left, Contains-append_right, list_all, option_map_or, get, Held, NumberedBytes}
 use Rattle.rk_inv_base.proofs.Words.{entries_of, spelled_all, IsLawfulEntry, IsLawfulHeld, Entry, FIRST_SIDE_SEGMENT, cut, ends, Known}
 use Rattle.rk_inv_base.proofs.Words.{is_whole, known_length, IsBackup, Log, bytes_of, is_side_stored, known_of, EntryEnd, Gathered}
-use Rattle.rk_inv_base.proofs.Words.{LAST_MAIN_SEGMENT, side_read, as_entries, side_entries, Written, IsCopy, IsFirstPart, IsLog, AreRead}
-use Rattle.rk_inv_base.proofs.Words.{IsGathered, READ_BACKUP}
+use Rattle.rk_inv_base.proofs.Words.{LAST_MAIN_SEGMENT, side_read, as_entries, side_entries, Written, IsCopy, IsLog, AreRead, IsGathered}
+use Rattle.rk_inv_base.proofs.Words.{READ_BACKUP}
+use Rattle.rk_inv_tablets.proofs.Words.{all_by, first_part_more, bytes_in, bytes_main, bytes_side, numbered_at, numbered_before}
+use Rattle.rk_inv_tablets.proofs.Words.{numbered_past}
 use Rattle.rk_entry.specs.declared.entry.Entry.TheVariants as entries
-use Rattle.rk_inv_base.proofs.views.Lists.{all_by}
-use Rattle.rk_inv_base.proofs.logs.Logs.{first_part_more}
-use Rattle.rk_inv_base.proofs.logs.Segments.{bytes_in, bytes_main, bytes_side, numbered_at, numbered_before, numbered_past}
 use Rattle.rk_inv_tablets.proofs.crash.FirstRead.{AreFirstStored, IsPartRead, first_read, segments_read}
 use Rattle.rk_inv_tablets.proofs.crash.Groups.{cut_groups, spelled_none}
 
@@ -27,7 +26,7 @@ all_groups {X} P (group ∷ groups) all =
 pub all_at : {X : Type 0} (P : X → Type 0) (groups : List (List X)) (k : ℕ) → All (All P) groups → All P (get_or groups k [])
 all_at {X} P groups k all =
     ⊎_elim (λ (within : k < length groups). all k [] within)
-    (λ (past : length groups ≤ k). subst (All P) (sym (get_or_past groups k [] past)) (All-nil P))
+    (λ (past : length groups ≤ k). rw (get_or_past groups k [] past) (All-nil P))
     (cases_lt k (length groups))
 
 -- the bytes of a group
@@ -69,17 +68,16 @@ module _ (log : Log) (w : Written) (stored : ℕ → ℕ → List ℕ) (kept : I
         let at : k + 1 ≡ segment = omega (arith, is) in
         let main : segment < FIRST_SIDE_SEGMENT = omega (arith, is, within, fits) in
         let one : AreRead Needed known its segment (get_or gathered.main k []) =
-        subst (λ (n : ℕ). AreRead Needed known its n (get_or gathered.main k [])) at (read.main k within) in
+        rw (← at) (read.main k within) in
         let group = group_of k segment is main groups are in
         record {
           bytes = one.bytes;
           read_is = one.spelled;
           front = one.read.front;
-          copied = subst (IsFirstPart (its segment)) group (copy.front segment);
+          copied = rw (← group) (copy.front segment);
           enough = one.read.enough;
           in_order = λ later behind mains some.
-              subst (λ (bytes : List ℕ). length bytes ≤ known_length known segment) group
-              (copy.in_order later some segment behind (lt-ltb segment FIRST_SIDE_SEGMENT main ∙ sym mains));
+              rw (← group) (copy.in_order later some segment behind (lt-ltb segment FIRST_SIDE_SEGMENT main ∙ sym mains));
         }
 
     -- what was read of main segments are first entries of the log, each of which is stored
@@ -92,7 +90,7 @@ module _ (log : Log) (w : Written) (stored : ℕ → ℕ → List ℕ) (kept : I
         (λ (places : List EntryEnd). AreFirstStored its (flat_map (λ group. group) groups.groups) places (flat_map (λ list. list) gathered.main))
         groups.places_are
         (segments_read (known_length known) its 1 groups.groups gathered.main
-        (all_groups IsLawfulEntry groups.groups (subst (All IsLawfulEntry) (sym groups.list_is) lawful))
+        (all_groups IsLawfulEntry groups.groups (rw groups.list_is lawful))
         (part_read fits groups.groups groups.spelled_are)
         (λ n below. lt-ltb n FIRST_SIDE_SEGMENT (omega (arith, below, fits)))))
 
@@ -131,8 +129,7 @@ module _ (log : Log) (w : Written) (stored : ℕ → ℕ → List ℕ) (kept : I
         list = get_or w.sides (number - FIRST_SIDE_SEGMENT) []
 
         its_entries : side_entries w.sides number ≡ as_entries list
-        its_entries =
-            cond-false (nat_lt number FIRST_SIDE_SEGMENT) [] (as_entries list) (le-ltb number FIRST_SIDE_SEGMENT side)
+        its_entries = cond-false (nat_lt number FIRST_SIDE_SEGMENT) [] (as_entries list) (le-ltb number FIRST_SIDE_SEGMENT side)
 
         spelt : All IsLawfulEntry (as_entries list)
         spelt = All-map IsLawfulEntry entries.Held list (all_at IsLawfulHeld w.sides (number - FIRST_SIDE_SEGMENT) (all_groups IsLawfulHeld w.sides lawful))
@@ -143,5 +140,4 @@ module _ (log : Log) (w : Written) (stored : ℕ → ℕ → List ℕ) (kept : I
             let one = read.sides number of is in
             let part = first_part_more one.bytes (its number) (bytes_of log number) one.read.front (copy.front number) in
             let first = first_read (as_entries list) one.bytes part.more spelt (sym (side_bytes number side) ∙ part.parts) in
-            subst (λ (all : List Entry). Contains all entry) (sym (its_entries ∙ first.parts))
-            (Contains-append_left (entries_of one.bytes) first.more entry (subst (λ (all : List Entry). Contains all entry) one.spelled at))
+            rw (its_entries ∙ first.parts) (Contains-append_left (entries_of one.bytes) first.more entry (rw (← one.spelled) at))

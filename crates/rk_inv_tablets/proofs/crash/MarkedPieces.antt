@@ -1,11 +1,10 @@
 -- What counts of the marked entries of a living master that rebuilds a row stands in the piece that it merged.
 use Rattle.std.proofs.Common.{◌≡◌, ◌<◌, ◌≤◌, ◌+◌, ◌&&◌, ◌||◌, ℕ, zero, suc, Bool, true, false, List, [], ◌∷◌, Option, Some, None, refl, sym}
-use Rattle.std.proofs.Common.{ap, subst, ◌∙◌, ⊎_elim, ◌⊎◌, eqb, leb, arith, All, Contains, is_some, nat_le, nat_lt, slice_get, leb-true}
-use Rattle.std.proofs.Common.{ltb-true}
+use Rattle.std.proofs.Common.{ap, ◌∙◌, ⊎_elim, ◌⊎◌, eqb, leb, arith, All, Contains, is_some, nat_le, nat_lt, slice_get, leb-true, ltb-true}
 use Rattle.rk_inv_base.proofs.Words.{and_parts, cond_both, false≢true, nat_tests, All-cons, All-nil, Range, Entry, IsTabletMap, Precedes}
 use Rattle.rk_inv_base.proofs.Words.{row_of, Row, is_marked, counting, counts, has_all, Mark, IsOfRange, marked_entries}
+use Rattle.rk_inv_tablets.proofs.Words.{in_one_row, one_precedes}
 use Rattle.rk_entry.specs.declared.entry.Entry.TheVariants as entries
-use Rattle.rk_inv_base.proofs.rows.Apart.{in_one_row, one_precedes}
 
 -- what each marked entry has that counts, all of them have
 pub counted_each : (range : Range) (P : Entry → Type 0) (marks : List Mark) (place : ℕ) (list : List Entry) → ((k : ℕ) (entry : Entry) → slice_get list k ≡ Some entry → is_marked marks (place + k) ≡ true → counts range entry ≡ true → P entry) → All P (counting range (marked_entries marks place list))
@@ -84,7 +83,6 @@ row_there rows tablet some = go (row_of rows tablet) refl some
 pub counts_alone : (rows : List Row) (a b : Row) (entry : Entry) → IsTabletMap rows → Contains rows a → Contains rows b → (b.tablet ≡ a.tablet → ⊥) → b.range.first ≤ b.range.last → IsOfRange a.range entry → counts b.range entry ≡ true → ⊥
 counts_alone rows a b (entries.Held held) apart first second other some of its =
     false≢true (sym (in_one_row rows a b held.table held.key apart first second other of) ∙ its)
-counts_alone rows a b (entries.Refused refused) apart first second other some of its = of
 counts_alone rows a b (entries.Carried carried) apart first second other some of its =
-    rows_apart rows a b apart first second other some (subst (λ (r : Range). has_all r b.range ≡ true) of its)
-counts_alone rows a b (entries.Joined joined) apart first second other some of its = of
+    rows_apart rows a b apart first second other some (rw (← of) its)
+counts_alone rows a b _ apart first second other some of its = of

@@ -1,35 +1,32 @@
 -- What a master that crashes had merged of a rebuild tells nothing that is not told by its own unmarked entries, and by those of the other
 -- member that backup 1 stores.
-use Rattle.std.proofs.Common.{◌≡◌, ℕ, zero, ◌<◌, ◌≤◌, true, false, ◌&&◌, eqb, leb, List, [], ◌∷◌, ◌++◌, filter, length, Some, None, refl}
-use Rattle.std.proofs.Common.{sym, ap, subst, ◌∙◌, ⊎_elim, inl, arith, ◌-◌, cond, drop, nat_lt, not, slice_index_or, take, ◌==◌, All}
-use Rattle.std.proofs.Common.{Contains, flat_map, ne_eqb, eq-eqb}
+use Rattle.std.proofs.Common.{◌≡◌, ℕ, zero, ◌<◌, ◌≤◌, true, false, ◌&&◌, eqb, leb, List, [], ◌∷◌, ◌++◌, filter, length, Some, refl, sym, ap}
+use Rattle.std.proofs.Common.{subst, ◌∙◌, ⊎_elim, inl, arith, ◌-◌, cond, drop, nat_lt, not, slice_index_or, take, ◌==◌, All, Contains}
+use Rattle.std.proofs.Common.{flat_map, ne_eqb, eq-eqb}
 use Rattle.rk_inv_base.proofs.Words.{cases_eq, cases_lt, cond-true, cond-false, cond_both, false≢true, or_left, or_right, nat_tests}
 use Rattle.rk_inv_base.proofs.Words.{All-append, All-contains, All-contains_itself, Contains-append_left, Contains-append_right, Held}
 use Rattle.rk_inv_base.proofs.Words.{Member, Range, Entry, FIRST_SIDE_SEGMENT, is_in, Role, lineage_of, Phase, Rebuilding, Row, IsBackup}
 use Rattle.rk_inv_base.proofs.Words.{known_of, items_in, items_of, Gather, Gathered, LAST_MAIN_SEGMENT, counted_of, is_member, unmarked}
 use Rattle.rk_inv_base.proofs.Words.{unmarked_from, touches, as_entries, counting, counts, named, side_entries, names, IsMaster, own_place}
 use Rattle.rk_inv_base.proofs.Words.{Written, member_material, member_truth, Mark, stored_of, Post, OnlyRebuilder, FirstRebuilder}
-use Rattle.rk_inv_base.proofs.Words.{LastRebuilder, OutsideRebuilder, FormerMember, Bystander, StillCounts, Holds, bond_of, post_of}
-use Rattle.rk_inv_base.proofs.Words.{rebuilder_post, IsGathered, MarkedFit, NeededOf, READ_BACKUP, StandsLast, TellNoMore, has_merged}
-use Rattle.rk_inv_base.proofs.Words.{member_marked, member_stored, NamedFit, named_items, RoleFits, View, SoundView}
+use Rattle.rk_inv_base.proofs.Words.{LastRebuilder, OutsideRebuilder, FormerMember, Bystander, Holds, bond_of, post_of, rebuilder_post}
+use Rattle.rk_inv_base.proofs.Words.{IsGathered, MarkedFit, NeededOf, READ_BACKUP, StandsLast, TellNoMore, has_merged, member_marked}
+use Rattle.rk_inv_base.proofs.Words.{member_stored, NamedFit, named_items, View, SoundView}
+use Rattle.rk_inv_tablets.proofs.Words.{member as member_at, contains_cases, Extends, counting_extends, drop_extends, extends_behind}
+use Rattle.rk_inv_tablets.proofs.Words.{unmarked_extends, kept_stands, stands_kept, members_by, all_by, AreAmong, among_front, among_then}
+use Rattle.rk_inv_tablets.proofs.Words.{extended_among, sides_extend, AreReadable, row_in}
 use Rattle.rk_entry.specs.declared.entry.Entry.TheVariants as entries
 use Rattle.rk_transfer.specs.declared.role.Role.TheVariants as roles
-use Rattle.rk_tablet_map.specs.Phase.{member as member_at}
-use Rattle.rk_inv_base.proofs.rows.Apart.{contains_cases}
-use Rattle.rk_inv_base.proofs.logs.Grows.{Extends, counting_extends, drop_extends, extends_behind, unmarked_extends}
-use Rattle.rk_inv_base.proofs.pulls.Joining.{kept_stands, stands_kept}
-use Rattle.rk_inv_base.proofs.logs.LengthTold.{members_by}
-use Rattle.rk_inv_base.proofs.views.Lists.{all_by}
-use Rattle.rk_inv_base.proofs.views.Needed.{AreAmong, among_front, among_then, extended_among, sides_extend}
 use Rattle.rk_inv_base.proofs.views.Places.{behind_any}
-use Rattle.rk_inv_tablets.specs.crash.Moves.{AreReadable}
 use Rattle.rk_inv_tablets.proofs.crash.Among.{flat_from, flat_of, place_there}
 use Rattle.rk_inv_tablets.proofs.crash.MarkedPieces.{HasMark, mark_of}
-use Rattle.rk_inv_tablets.proofs.crash.MergeTells.{IsToldBy, all_stand_told, all_told, held_told, read_all, read_told, stands_told, told_through}
+use Rattle.rk_inv_tablets.proofs.crash.MergeTells.{IsToldBy, all_stand_told, all_told, held_told, read_all, read_told, stands_told}
+use Rattle.rk_inv_tablets.proofs.crash.MergeTells.{told_through}
 use Rattle.rk_inv_tablets.proofs.crash.OwnPiece.{own, own_marked_told, read, rebuilt}
 use Rattle.rk_inv_tablets.proofs.crash.PieceRows.{mark_says, marked_of_row}
 use Rattle.rk_inv_tablets.proofs.crash.ReadTold.{AreMarksTold, count_stored, counted_told, side_material}
-use Rattle.rk_inv_tablets.proofs.crash.Unmarked.{IsUnmarked, first_among, first_stands, free_place, free_stands, marked_stands, taken_extends}
+use Rattle.rk_inv_tablets.proofs.crash.Unmarked.{IsUnmarked, first_among, first_stands, free_place, free_stands, marked_stands}
+use Rattle.rk_inv_tablets.proofs.crash.Unmarked.{taken_extends}
 
 -- ---- places
 
@@ -38,34 +35,15 @@ place_of_only : (role : Role) (place term kept applied : ℕ) → Holds (bond_of
 place_of_only (roles.Rebuilding from (Some entry)) place term kept applied fits at merged =
     ⊎_elim (λ (early : (kept < term) × (entry < applied)). absurd (omega (arith, early.0, at)))
     (λ (now : (kept ≡ term) × (from ≡ place)). now.1) fits
-place_of_only (roles.Rebuilding from None) place term kept applied fits at merged = absurd (false≢true merged)
-place_of_only roles.Absent place term kept applied fits at merged = absurd (false≢true merged)
-place_of_only roles.Serving place term kept applied fits at merged = absurd (false≢true merged)
-place_of_only roles.Closing place term kept applied fits at merged = absurd (false≢true merged)
-place_of_only roles.Frozen place term kept applied fits at merged = absurd (false≢true merged)
-place_of_only (roles.Wanting from) place term kept applied fits at merged = absurd (false≢true merged)
-place_of_only roles.Receiving place term kept applied fits at merged = absurd (false≢true merged)
-place_of_only (roles.Joining entry) place term kept applied fits at merged = absurd (false≢true merged)
+place_of_only _ place term kept applied fits at merged = absurd (false≢true merged)
 
 place_of_first : (role : Role) (place term kept applied : ℕ) → Holds (bond_of (FirstRebuilder place) role) term kept applied → has_merged role ≡ true → own_place role ≡ place
 place_of_first (roles.Rebuilding from entry) place term kept applied fits merged = fits.1
-place_of_first roles.Absent place term kept applied fits merged = absurd (false≢true merged)
-place_of_first roles.Serving place term kept applied fits merged = absurd (false≢true merged)
-place_of_first roles.Closing place term kept applied fits merged = absurd (false≢true merged)
-place_of_first roles.Frozen place term kept applied fits merged = absurd (false≢true merged)
-place_of_first (roles.Wanting from) place term kept applied fits merged = absurd (false≢true merged)
-place_of_first roles.Receiving place term kept applied fits merged = absurd (false≢true merged)
-place_of_first (roles.Joining entry) place term kept applied fits merged = absurd (false≢true merged)
+place_of_first _ place term kept applied fits merged = absurd (false≢true merged)
 
 place_of_last : (role : Role) (place term kept applied : ℕ) → Holds (bond_of (LastRebuilder place) role) term kept applied → has_merged role ≡ true → own_place role ≡ place
 place_of_last (roles.Rebuilding from entry) place term kept applied fits merged = fits.1
-place_of_last roles.Absent place term kept applied fits merged = absurd (false≢true merged)
-place_of_last roles.Serving place term kept applied fits merged = absurd (false≢true merged)
-place_of_last roles.Closing place term kept applied fits merged = absurd (false≢true merged)
-place_of_last roles.Frozen place term kept applied fits merged = absurd (false≢true merged)
-place_of_last (roles.Wanting from) place term kept applied fits merged = absurd (false≢true merged)
-place_of_last roles.Receiving place term kept applied fits merged = absurd (false≢true merged)
-place_of_last (roles.Joining entry) place term kept applied fits merged = absurd (false≢true merged)
+place_of_last _ place term kept applied fits merged = absurd (false≢true merged)
 
 -- the post of a member that rebuilds
 same_test : (n : ℕ) → (n == n) ≡ true
@@ -148,8 +126,7 @@ unmarked_grow marks from old new grown =
     let rest = unmarked_extends marks from (drop from old) behind.more in
     record {
       more = rest.more;
-      parts =
-          ap (unmarked_from marks from) grown.parts ∙ ap (unmarked marks from) behind.parts ∙ rest.parts;
+      parts = ap (unmarked_from marks from) grown.parts ∙ ap (unmarked marks from) behind.parts ∙ rest.parts;
     }
 
 -- what is applied tells no more than all
@@ -173,11 +150,10 @@ all_meets : (s f l t g m : ℕ) → g ≤ m → (eqb s t && leb f g && leb m l) 
 all_meets s f l t g m some all = grind (arith, nat_tests)
 
 counts_touches : (range : Range) (entry : Entry) → range.first ≤ range.last → counts range entry ≡ true → touches range entry ≡ true
-counts_touches range (entries.Held held) some inside = inside
-counts_touches range (entries.Refused refused) some inside = inside
 counts_touches range (entries.Carried carried) some inside =
     all_meets carried.range.table carried.range.first carried.range.last range.table range.first range.last some inside
 counts_touches range (entries.Joined joined) some inside = absurd (false≢true inside)
+counts_touches range _ some inside = inside
 
 -- where a marked piece stands last, all that counts and bears no mark stands before it
 before_piece : (range : Range) (w : Written) (mark : Mark) (from : ℕ) (entry : Entry) → range.first ≤ range.last → StandsLast range w mark → (is : IsUnmarked w.marks from w.entries entry) → counts range entry ≡ true → is.place < mark.first
@@ -205,7 +181,7 @@ module _ (v : View) (sound : SoundView v) (readable : AreReadable v.logs v.writt
   backed : (lineage : List Member) (to : ℕ) → row.phase ≡ Rebuilding lineage to → (q : ℕ) → is_member lineage q ≡ true → IsBackup (v.logs q) READ_BACKUP
   backed lineage to is q member =
       let named_it : names row.phase q ≡ true → IsMaster v.masters q =
-      All-contains (λ (r : Row). names r.phase q ≡ true → IsMaster v.masters q) v.rows row (sound.nodes.named q) has in
+      (row_in v sound row has).named q in
       let there : IsMaster v.masters q =
       named_it (ap (λ (phase : Phase). names phase q) is ∙ or_right (to == q) (is_member lineage q) member) in
       record { first = omega arith; last = omega (arith, sound.nodes.known q there, sound.nodes.backed) }
@@ -213,10 +189,7 @@ module _ (v : View) (sound : SoundView v) (readable : AreReadable v.logs v.writt
   -- what its role is to its post
   role_fits : (lineage : List Member) (q : ℕ) → row.phase ≡ Rebuilding lineage q → v.live q ≡ true → Holds (bond_of (rebuilder_post lineage q) (v.handovers q row.tablet).role) row.term (v.handovers q row.tablet).term (v.written q).applied
   role_fits lineage q is lives =
-      subst (λ (post : Post). Holds (bond_of post (v.handovers q row.tablet).role) row.term (v.handovers q row.tablet).term (v.written q).applied)
-      (ap (λ (phase : Phase). post_of phase q) is ∙ post_here lineage q)
-      (All-contains
-      (λ (r : Row). StillCounts (v.live q) (v.handovers q r.tablet).term r.term → RoleFits r q (v.handovers q r.tablet) (v.written q).applied) v.rows row (sound.roles.fitting q) has
+      rw (← (ap (λ (phase : Phase). post_of phase q) is ∙ post_here lineage q)) ((row_in v sound row has).fitting q
       (inl lives))
 
   -- a living member is the one that rebuilds
@@ -229,8 +202,7 @@ module _ (v : View) (sound : SoundView v) (readable : AreReadable v.logs v.writt
       ∙ cond-false (to == q) (rebuilder_post lineage q) (cond (is_member lineage q) FormerMember Bystander) (ne_eqb to q other)
       ∙ cond-true (is_member lineage q) FormerMember Bystander member in
       absurd (subst (λ (post : Post). Holds (bond_of post (v.handovers q row.tablet).role) row.term (v.handovers q row.tablet).term (v.written q).applied) former
-      (All-contains
-      (λ (r : Row). StillCounts (v.live q) (v.handovers q r.tablet).term r.term → RoleFits r q (v.handovers q r.tablet) (v.written q).applied) v.rows row (sound.roles.fitting q) has
+      ((row_in v sound row has).fitting q
       (inl lives))))
       (cases_eq to q)
 
@@ -256,8 +228,7 @@ module _ (v : View) (sound : SoundView v) (readable : AreReadable v.logs v.writt
         (subst (All (Contains (read_by q lineage))) (sym rebuilder.gather.members_are) (All-contains_itself (read_by q lineage))) in
         all_told (read_all (read v row lineage q sound has some is lives)) others
         (read_told others (own v row lineage q sound has some is lives) gather of_own
-        (subst (λ (range : Range). All (λ gathered. Told (counted_of range gathered)) gather.members) (sym rebuilder.gather.range_is)
-        (all_by (λ (gathered : Gathered). Told (counted_of row.range gathered)) gather.members
+        (rw rebuilder.gather.range_is (all_by _ gather.members
         (λ gathered there.
         each gathered there
         (All-contains (λ (g : Gathered). Contains (read_by q lineage) g.member) gather.members gathered those there)
@@ -270,17 +241,13 @@ module _ (v : View) (sound : SoundView v) (readable : AreReadable v.logs v.writt
       own_marked_told v row (only ∷ []) only.master sound has some is lives (material only)
       (λ at merged.
       all_read_told (only ∷ []) only.master is lives (material only) at
-      (subst (λ (n : ℕ). All (IsToldBy (material only)) (material (member_at only.master n))) (sym (place at merged))
-      (all_stand_told (material only) (material only) (λ entry there. there)))
-      (λ gathered there other read. absurd (none_by_only only gathered.member other)))
-      only.from
+      (rw (place at merged) (all_stand_told (material only) (material only) (λ entry there. there)))
+      (λ gathered there other read. absurd (none_by_only only gathered.member other))) only.from
     where
       place : (v.handovers only.master row.tablet).term ≡ row.term → has_merged (v.handovers only.master row.tablet).role ≡ true → own_place (v.handovers only.master row.tablet).role ≡ only.from
       place at merged =
           place_of_only (v.handovers only.master row.tablet).role only.from row.term (v.handovers only.master row.tablet).term (v.written only.master).applied
-          (subst
-          (λ (post : Post). Holds (bond_of post (v.handovers only.master row.tablet).role) row.term (v.handovers only.master row.tablet).term (v.written only.master).applied)
-          (cond-true (only.master == only.master) (OnlyRebuilder only.from) OutsideRebuilder (same_test only.master))
+          (rw (← cond-true (only.master == only.master) (OnlyRebuilder only.from) OutsideRebuilder (same_test only.master))
           (role_fits (only ∷ []) only.master is lives))
           at merged
 
@@ -304,8 +271,7 @@ module _ (v : View) (sound : SoundView v) (readable : AreReadable v.logs v.writt
 
   -- where the post has this place, the own entries are those that count of the member
   own_stand : (m : Member) (others : List Entry) → own_place (v.handovers m.master row.tablet).role ≡ m.from → ((entry : Entry) → Contains (material m) entry → Contains others entry) → All (IsToldBy others) (material (member_at m.master (own_place (v.handovers m.master row.tablet).role)))
-  own_stand m others same among =
-      subst (λ (n : ℕ). All (IsToldBy others) (material (member_at m.master n))) (sym same) (all_stand_told (material m) others among)
+  own_stand m others same among = rw same (all_stand_told (material m) others among)
 
   module _ (first last : Member) (apart : first.master ≡ last.master → ⊥) where
     abbrev both : List Member
@@ -331,8 +297,7 @@ module _ (v : View) (sound : SoundView v) (readable : AreReadable v.logs v.writt
           (subst
           (λ (post : Post). Holds (bond_of post (v.handovers first.master row.tablet).role) row.term (v.handovers first.master row.tablet).term (v.written first.master).applied)
           (cond-true (first.master == first.master) (FirstRebuilder first.from) _ (same_test first.master))
-          (role_fits both first.master is lives))
-          merged
+          (role_fits both first.master is lives)) merged
 
       fit : MarkedFit v.logs v.written v.stored v.live row.range both
       fit = (rebuilt v row both first.master sound has some is lives).1
@@ -340,7 +305,7 @@ module _ (v : View) (sound : SoundView v) (readable : AreReadable v.logs v.writt
       named_first : NamedFit v.written row.range both
       named_first =
           subst (λ (phase : Phase). NamedFit v.written row.range (lineage_of phase)) is
-          (All-contains (λ (r : Row). NamedFit v.written r.range (lineage_of r.phase)) v.rows row sound.receives.named has)
+          (row_in v sound row has).named_items
 
       sides_of_last : All (IsToldBy others) (sides last)
       sides_of_last =
@@ -394,8 +359,7 @@ module _ (v : View) (sound : SoundView v) (readable : AreReadable v.logs v.writt
           (All-contains (λ (g : Gathered). length g.main ≤ LAST_MAIN_SEGMENT) (v.gathers first.master row.tablet).members gathered few there)
           (subst (IsGatheredOf both first.master is lives others gathered) same read) others
           (all_stand_told (stored last) others (λ entry its. Contains-append_right (material first) (stored last) entry its))
-          sides_of_last last_marks same))
-          first.from
+          sides_of_last last_marks same)) first.from
 
     -- ---- the last one rebuilds
 
@@ -406,12 +370,9 @@ module _ (v : View) (sound : SoundView v) (readable : AreReadable v.logs v.writt
       last_place : has_merged (v.handovers last.master row.tablet).role ≡ true → own_place (v.handovers last.master row.tablet).role ≡ last.from
       last_place merged =
           place_of_last (v.handovers last.master row.tablet).role last.from row.term (v.handovers last.master row.tablet).term (v.written last.master).applied
-          (subst
-          (λ (post : Post). Holds (bond_of post (v.handovers last.master row.tablet).role) row.term (v.handovers last.master row.tablet).term (v.written last.master).applied)
-          (cond-false (first.master == last.master) (FirstRebuilder first.from) _ (ne_eqb first.master last.master apart)
-          ∙ cond-true (last.master == last.master) (LastRebuilder last.from) OutsideRebuilder (same_test last.master))
-          (role_fits both last.master is lives))
-          merged
+          (rw (← (cond-false (first.master == last.master) (FirstRebuilder first.from) _ (ne_eqb first.master last.master apart)
+          ∙ cond-true (last.master == last.master) (LastRebuilder last.from) OutsideRebuilder (same_test last.master)))
+          (role_fits both last.master is lives)) merged
 
       fits : MarkedFit v.logs v.written v.stored v.live row.range both
       fits = (rebuilt v row both last.master sound has some is lives).1
@@ -445,5 +406,4 @@ module _ (v : View) (sound : SoundView v) (readable : AreReadable v.logs v.writt
           (subst (IsGatheredOf both last.master is lives all gathered) same read) all
           (all_stand_told (stored first) all (λ entry its. of_first entry (stored_among first entry its)))
           (all_stand_told (sides first) all (λ entry its. of_first entry (sides_among first entry its)))
-          first_marks same))
-          last.from
+          first_marks same)) last.from

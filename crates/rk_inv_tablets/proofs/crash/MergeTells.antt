@@ -8,11 +8,9 @@ use Rattle.rk_inv_base.proofs.Words.{ended_of, ends_of, is_later, noted, Complet
 use Rattle.rk_inv_base.proofs.Words.{item_end, items_in, items_of, told, told_by, Gather, Gathered, by_member, counted_of, is_of_lineage}
 use Rattle.rk_inv_base.proofs.Words.{material_by, as_entries, ends_by_place, first_told, floor_by, floor_of, has_version, is_placed, merge}
 use Rattle.rk_inv_base.proofs.Words.{merged_ends, placed_ends, TellNoMore, closing_carried}
+use Rattle.rk_inv_tablets.proofs.Words.{contains_cases, all_by, all_flat}
 use Rattle.rk_entry.specs.declared.entry.Entry.TheVariants as entries
-use Rattle.rk_inv_base.proofs.rows.Apart.{contains_cases}
 use Rattle.rk_inv_base.proofs.logs.Floors.{floor_above, floor_append, floor_rises, floor_step}
-use Rattle.rk_inv_base.proofs.views.Lists.{all_by}
-use Rattle.rk_inv_wellformed.proofs.maps.Lists.{all_flat}
 use Rattle.rk_inv_tablets.proofs.crash.Among.{flat_of}
 
 -- an entry tells nothing that these do not
@@ -23,10 +21,9 @@ pub record IsToldBy (others : List Entry) (entry : Entry) : Type 0 where
 
 -- a floor that is low stays so by an entry whose own floor is low
 floor_under : (floor bound : ℕ) (entry : Entry) → floor ≤ bound → floor_by 1 entry ≤ bound → floor_by floor entry ≤ bound
-floor_under floor bound (entries.Held held) low its = omega (arith, low, its)
 floor_under floor bound (entries.Refused refused) low its = low
-floor_under floor bound (entries.Carried carried) low its = omega (arith, low, its)
 floor_under floor bound (entries.Joined joined) low its = low
+floor_under floor bound _ low its = omega (arith, low, its)
 
 floors_under : (floor bound : ℕ) (list : List Entry) → floor ≤ bound → All (λ entry. floor_by 1 entry ≤ bound) list → fold floor_by floor list ≤ bound
 floors_under floor bound [] low each = low
@@ -65,8 +62,7 @@ item_told (entries.Held held ∷ list) item at =
     (contains_cases held (items_of list) item at)
 item_told (entries.Refused refused ∷ list) item at =
     Contains-append_right (told_by (entries.Refused refused)) (told list) (item_end item) (item_told list item at)
-item_told (entries.Carried carried ∷ list) item at =
-    Contains-append_right carried.ends (told list) (item_end item) (item_told list item at)
+item_told (entries.Carried carried ∷ list) item at = Contains-append_right carried.ends (told list) (item_end item) (item_told list item at)
 item_told (entries.Joined joined ∷ list) item at = item_told list item at
 
 -- an item that others have is told by them
@@ -82,7 +78,7 @@ held_told others item at = record {
 -- the newest items are items
 newest_stand : (items : List Held) → All (Contains items) (newest_items items)
 newest_stand items =
-    all_by (Contains items) (newest_items items)
+    all_by _ (newest_items items)
     (λ item at. (newest_is items item.table item.key item (((newest_items_are items).newest item).0 at)).stands)
 
 -- ---- ends
@@ -119,7 +115,7 @@ module _ (P : Ended → Type 0) where
         | Less ↦ λ is. All-cons OfPair (number, thing) (here ∷ things) new each
         | Equal ↦ λ is.
             let same : number ≡ here.0 = ranked number here.0 Equal (sym is) in
-            All-cons OfPair (here.0, thing) things (subst (λ (n : ℕ). OfPair (n, thing)) same new) (All-tail OfPair here things each)
+            All-cons OfPair (here.0, thing) things (rw (← same) new) (All-tail OfPair here things each)
         | Greater ↦ λ is.
             All-cons OfPair here (insert things number thing) (All-head OfPair here things each)
             (insert_each things number thing (All-tail OfPair here things each) new)
@@ -142,8 +138,7 @@ module _ (P : Ended → Type 0) where
       elim (eq_by_cmp nat_cmp q here.0) as (λ b. eq_by_cmp nat_cmp q here.0 ≡ b → cond b (Some here.1) (get things q) ≡ Some thing → OfPair (q, thing)) [
         | true ↦ λ is e.
             let same : here.1 ≡ thing = cc e in
-            subst (λ (x : Completion). OfPair (q, x)) same
-            (subst (λ (n : ℕ). OfPair (n, here.1)) (sym (same_number q here.0 is)) (All-head OfPair here things each))
+            rw (← same, same_number q here.0 is) (All-head OfPair here things each)
         | false ↦ λ is e. got_each things q thing (All-tail OfPair here things each) e
       ] refl found
 
@@ -152,15 +147,13 @@ module _ (P : Ended → Type 0) where
     where
       go : (last : Option Completion) → get (completions_from [] all) end.client ≡ last → P (first_told end last)
       go None is = it
-      go (Some last) is =
-          got_each (completions_from [] all) end.client last (completions_each [] all (All-nil OfPair) each) is
+      go (Some last) is = got_each (completions_from [] all) end.client last (completions_each [] all (All-nil OfPair) each) is
 
   -- so are the ends of a merge
   merged_each : (members : List (List Entry)) → All P (flat_map told members) → All P (merged_ends members)
   merged_each members each =
       All-map P (λ end. first_told end (get (completions_from [] (flat_map told members)) end.client)) _
-      (All-weaker P (λ end. P (first_told end (get (completions_from [] (flat_map told members)) end.client)))
-      (λ end it. first_each (flat_map told members) end each it) _
+      (All-weaker _ _ (λ end it. first_each (flat_map told members) end each it) _
       (by_place_each (flat_map told members) members each))
 
   -- and the last of them, client by client
@@ -187,8 +180,7 @@ pub piece_told : (own : List Entry) (members : List (List Entry)) (handover : Ha
 piece_told own members handover others tells =
     All-append (IsToldBy others) (as_entries (merge own members).copies) (closing_carried handover (merge own members) ∷ [])
     (All-map (IsToldBy others) entries.Held (merge own members).copies
-    (All-weaker (Contains (items_of (read_all members))) (λ item. IsToldBy others (entries.Held item))
-    (λ item at. held_told others item (tells.items item at)) (merge own members).copies
+    (All-weaker _ _ (λ item at. held_told others item (tells.items item at)) (merge own members).copies
     (All-filter (λ item. not (has_version (items_of own) item)) (Contains (items_of (read_all members)))
     (newest_items (items_of (read_all members))) (newest_stand (items_of (read_all members))))))
     (All-cons (IsToldBy others) (closing_carried handover (merge own members)) [] closing (All-nil _))
@@ -198,7 +190,7 @@ piece_told own members handover others tells =
       items = All-nil _;
       ends =
           closing_each (Contains (told others)) members
-          (subst (All (Contains (told others))) (sym (told_flat members)) tells.ends);
+          (rw (told_flat members) tells.ends);
       floor = let low = tells.floor in let some = floor_some others in omega (arith, low, some);
     }
 
@@ -206,10 +198,9 @@ piece_told own members handover others tells =
 
 -- a floor is as great from a greater one on
 floor_more : (a b : ℕ) (entry : Entry) → a ≤ b → floor_by a entry ≤ floor_by b entry
-floor_more a b (entries.Held held) less = omega (arith, less)
 floor_more a b (entries.Refused refused) less = less
-floor_more a b (entries.Carried carried) less = omega (arith, less)
 floor_more a b (entries.Joined joined) less = less
+floor_more a b _ less = omega (arith, less)
 
 -- an entry's floor is not above that of all
 floor_stands : (floor : ℕ) (list : List Entry) (entry : Entry) → 1 ≤ floor → Contains list entry → floor_by 1 entry ≤ fold floor_by floor list
@@ -220,15 +211,15 @@ floor_stands floor (first ∷ list) entry some at =
     (λ (same : first ≡ entry).
     let one = floor_more 1 floor first some in
     let rest = floor_rises (floor_by floor first) list in
-    subst (λ (e : Entry). floor_by 1 e ≤ fold floor_by (floor_by floor first) list) same (omega (arith, one, rest)))
+    rw (← same) (omega (arith, one, rest)))
     (λ (later : Contains list entry). floor_stands (floor_by floor first) list entry (omega (arith, some, step)) later)
     (contains_cases first list entry at)
 
 -- an entry that stands among others is told by them
 pub stands_told : (others : List Entry) (entry : Entry) → Contains others entry → IsToldBy others entry
 stands_told others entry at = record {
-  items = all_by (Contains (items_of others)) (items_in entry) (λ item its. flat_of items_in others entry item at its);
-  ends = all_by (Contains (told others)) (told_by entry) (λ end its. flat_of told_by others entry end at its);
+  items = all_by _ (items_in entry) (λ item its. flat_of items_in others entry item at its);
+  ends = all_by _ (told_by entry) (λ end its. flat_of told_by others entry end at its);
   floor = floor_stands 1 others entry (omega arith) at;
 }
 
@@ -254,7 +245,7 @@ read_told others own gather of_own each =
     all_flat (IsToldBy others) (λ (list : List Entry). list) (by_member gather own)
     (All-append (All (IsToldBy others)) _ _
     (All-map (All (IsToldBy others)) (λ (member : Member). material_by gather own member.master) gather.lineage
-    (all_by (λ (member : Member). All (IsToldBy others) (material_by gather own member.master)) gather.lineage (λ member at. of_master member.master)))
+    (all_by _ gather.lineage (λ member at. of_master member.master)))
     (cond_both (is_of_lineage gather) [] (own ∷ []) (All (All (IsToldBy others))) (λ e. All-nil _) (λ e. All-cons (All (IsToldBy others)) own [] of_own (All-nil _))))
   where
     of_master : (master : ℕ) → All (IsToldBy others) (material_by gather own master)

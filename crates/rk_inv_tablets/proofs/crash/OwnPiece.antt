@@ -1,12 +1,10 @@
 -- What a living master has in marked pieces of a row that it rebuilds tells nothing that is not told by others, where what it read does not.
-use Rattle.std.proofs.Common.{◌≡◌, ◌<◌, ◌≤◌, ◌+◌, ℕ, suc, true, List, [], ◌∷◌, ◌++◌, drop, Some, None, refl, subst, Contains, IfSome}
-use Rattle.std.proofs.Common.{slice_get}
+use Rattle.std.proofs.Common.{◌≡◌, ◌<◌, ◌≤◌, ◌+◌, ℕ, suc, true, List, [], ◌∷◌, ◌++◌, drop, Some, refl, subst, Contains, IfSome, slice_get}
 use Rattle.rk_inv_base.proofs.Words.{false≢true, All-contains, Member, Entry, Handover, Role, Phase, Rebuilding, Row, by_member, as_entries}
 use Rattle.rk_inv_base.proofs.Words.{merge, own_place, member_material, Mark, Merged, IsMergedOf, RowIsRebuilt, TellNoMore, closing_carried}
 use Rattle.rk_inv_base.proofs.Words.{has_merged, member_marked, merged_place, View, truths, SoundView}
+use Rattle.rk_inv_tablets.proofs.Words.{member as member_at, in_piece, place_of, row_in}
 use Rattle.rk_transfer.specs.declared.role.Role.TheVariants as roles
-use Rattle.rk_tablet_map.specs.Phase.{member as member_at}
-use Rattle.rk_inv_base.proofs.logs.MarkedApart.{in_piece, place_of}
 use Rattle.rk_inv_tablets.proofs.crash.MarkedPieces.{HasMark, counted_each, mark_of}
 use Rattle.rk_inv_tablets.proofs.crash.PieceRows.{mark_says, marked_of_row}
 use Rattle.rk_inv_tablets.proofs.crash.MergeTells.{IsToldBy, all_told, piece_told, read_all}
@@ -14,14 +12,7 @@ use Rattle.rk_inv_tablets.proofs.crash.MergeTells.{IsToldBy, all_told, piece_tol
 -- a role that has merged has the place of the entry that closes it
 merged_of : (role : Role) (P : ℕ → Type 0) → has_merged role ≡ true → IfSome (merged_place role) P → (entry : ℕ) × P entry
 merged_of (roles.Rebuilding from (Some entry)) P is merged = (entry, merged)
-merged_of (roles.Rebuilding from None) P is merged = absurd (false≢true is)
-merged_of roles.Absent P is merged = absurd (false≢true is)
-merged_of roles.Serving P is merged = absurd (false≢true is)
-merged_of roles.Closing P is merged = absurd (false≢true is)
-merged_of roles.Frozen P is merged = absurd (false≢true is)
-merged_of (roles.Wanting from) P is merged = absurd (false≢true is)
-merged_of roles.Receiving P is merged = absurd (false≢true is)
-merged_of (roles.Joining entry) P is merged = absurd (false≢true is)
+merged_of _ P is merged = absurd (false≢true is)
 
 module _ (v : View) (row : Row) (lineage : List Member) (q : ℕ) (sound : SoundView v) (has : Contains v.rows row) (some : row.range.first ≤ row.range.last) (is : row.phase ≡ Rebuilding lineage q) (lives : v.live q ≡ true) where
   -- what it has of the tablet
@@ -45,7 +36,7 @@ module _ (v : View) (row : Row) (lineage : List Member) (q : ℕ) (sound : Sound
   pub rebuilt : RowIsRebuilt row (Rebuilding lineage q) (truths v row) v.logs v.written v.stored v.handovers v.completions v.gathers v.merged v.records v.live
   rebuilt =
       subst (λ (p : Phase). RowIsRebuilt row p (truths v row) v.logs v.written v.stored v.handovers v.completions v.gathers v.merged v.records v.live) is
-      (All-contains (λ (r : Row). RowIsRebuilt r r.phase (truths v r) v.logs v.written v.stored v.handovers v.completions v.gathers v.merged v.records v.live) v.rows row sound.rebuilds.rebuilt has)
+      (row_in v sound row has).rebuilt
 
   module _ (others : List Entry) (tells : (v.handovers q row.tablet).term ≡ row.term → has_merged (v.handovers q row.tablet).role ≡ true → TellNoMore (read_all read) others) where
     -- an entry that bears a mark of the row's is of the piece
@@ -62,13 +53,13 @@ module _ (v : View) (row : Row) (lineage : List Member) (q : ℕ) (sound : Sound
         let one : found.mark ≡ piece.mark =
         All-contains (λ (mark : Mark). mark.tablet ≡ row.tablet → mark ≡ piece.mark) marks found.mark piece.alone found.here same in
         let from : piece.mark.first ≤ place = subst (λ (m : Mark). m.first ≤ place) one found.from in
-        let before : place < suc closed.0 = subst (λ (n : ℕ). place < n) piece.past_is (subst (λ (m : Mark). place < m.past) one found.before) in
+        let before : place < suc closed.0 = rw (← piece.past_is, ← one) found.before in
         let stands = in_piece list piece.mark.first (suc closed.0) place entry from before at in
         All-contains (IsToldBy others)
         (as_entries (merge own read).copies ++ closing_carried its (merge own read) ∷ []) entry
         (piece_told own read its others (tells by.1 by.2))
         (subst (λ (m : Merged). Contains (as_entries m.copies ++ closing_carried its m ∷ []) entry) merged.merged_is
-        (subst (λ (l : List Entry). Contains l entry) piece.stands stands))
+        (rw (← piece.stands) stands))
 
     -- so no marked entry tells anything new
     pub own_marked_told : (from : ℕ) → TellNoMore (member_marked v.written row.range (member_at q from)) others

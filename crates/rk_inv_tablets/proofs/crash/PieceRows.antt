@@ -1,18 +1,16 @@
 -- An entry that bears a mark is of the range of the row whose rebuild the mark is of.
-use Rattle.std.proofs.Common.{◌≡◌, ℕ, true, List, [], Some, refl, sym, ◌∙◌, ⊎_elim, ◌-◌, ◌≤◌, All, Contains, drop, is_some, slice_get, take}
+use Rattle.std.proofs.Common.{◌≡◌, ℕ, true, List, [], Some, refl, sym, ◌∙◌, ⊎_elim, ◌-◌, ◌≤◌, Contains, drop, is_some, slice_get, take}
 use Rattle.rk_inv_base.proofs.Words.{cases_eq, All-contains, Range, Entry, number_of, row_of, Row, counts, named_by, Mark, HasOwnRange}
 use Rattle.rk_inv_base.proofs.Words.{IsOfRange, MarkFits, View, SoundView}
+use Rattle.rk_inv_tablets.proofs.Words.{in_piece, found_stands, row_in}
 use Rattle.rk_entry.specs.declared.entry.Entry.TheVariants as entries
-use Rattle.rk_inv_base.proofs.logs.MarkedApart.{in_piece}
-use Rattle.rk_inv_base.proofs.rows.Serving.{found_stands}
 use Rattle.rk_inv_tablets.proofs.crash.MarkedPieces.{HasMark, counts_alone, row_there}
 
 -- such an entry names no side segment
 pub names_none : (range its : Range) (entry : Entry) → IsOfRange its entry → named_by range entry ≡ []
-names_none range its (entries.Held held) of = refl
 names_none range its (entries.Refused refused) of = absurd of
-names_none range its (entries.Carried carried) of = refl
 names_none range its (entries.Joined joined) of = absurd of
+names_none range its _ of = refl
 
 module _ (v : View) (sound : SoundView v) (q : ℕ) (place : ℕ) (entry : Entry) (at : slice_get (v.written q).entries place ≡ Some entry) (found : HasMark (v.written q).marks place) where
   -- the row of the mark
@@ -32,7 +30,7 @@ module _ (v : View) (sound : SoundView v) (q : ℕ) (place : ℕ) (entry : Entry
       let number : of.tablet ≡ found.mark.tablet = number_of v.rows found.mark.tablet of there.1 in
       let each : HasOwnRange of.range list found.mark =
       All-contains (λ (mark : Mark). mark.tablet ≡ of.tablet → HasOwnRange of.range list mark) marks found.mark
-      (All-contains (λ (r : Row). All (λ mark. mark.tablet ≡ r.tablet → HasOwnRange r.range list mark) marks) v.rows of (sound.rebuilds.pieces q) stands)
+      ((row_in v sound of stands).pieces q)
       found.here (sym number) in
       record {
         row = of;
@@ -60,5 +58,5 @@ module _ (v : View) (sound : SoundView v) (q : ℕ) (place : ℕ) (entry : Entry
   pub mark_says : (row : Row) → Contains v.rows row → found.mark.tablet ≡ row.tablet → MarkFits row q (v.handovers q row.tablet) (v.live q) (v.written q) found.mark
   mark_says row has its =
       All-contains (λ (mark : Mark). mark.tablet ≡ row.tablet → MarkFits row q (v.handovers q row.tablet) (v.live q) (v.written q) mark) (v.written q).marks found.mark
-      (All-contains (λ (r : Row). All (λ mark. mark.tablet ≡ r.tablet → MarkFits r q (v.handovers q r.tablet) (v.live q) (v.written q) mark) (v.written q).marks) v.rows row (sound.rebuilds.marks q) has)
+      ((row_in v sound row has).marks q)
       found.here its

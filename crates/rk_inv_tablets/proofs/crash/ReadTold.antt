@@ -2,16 +2,12 @@
 -- segments have, and what is marked there.
 use Rattle.std.proofs.Common.{◌≡◌, ℕ, zero, suc, ◌+◌, ◌<◌, ◌≤◌, true, false, List, [], ◌∷◌, ◌++◌, length, Some, refl, sym, subst, ◌∙◌}
 use Rattle.std.proofs.Common.{⊎_elim, arith, drop, slice_get, All, Contains, flat_map}
-use Rattle.rk_inv_base.proofs.Words.{cases_Bool, cond_both, All-append, All-contains, slice_get_within, Member, Range, IsLawfulEntry, Entry}
-use Rattle.rk_inv_base.proofs.Words.{Row, ends, IsBackup, Log, is_side_stored, known_of, EntryEnd, Gathered, LAST_MAIN_SEGMENT, counted_of}
-use Rattle.rk_inv_base.proofs.Words.{side_read, is_marked, unmarked_from, counting, counts, material_of, named, named_by, side_entries}
-use Rattle.rk_inv_base.proofs.Words.{Written, IsLog, segments_in, stored_of, IsGathered, READ_BACKUP, member_stored, stored_count, View}
-use Rattle.rk_inv_base.proofs.Words.{SoundView}
+use Rattle.rk_inv_base.proofs.Words.{cases_Bool, cond_both, All-append, All-contains, slice_get_within, Member, Range, Entry, Row, ends}
+use Rattle.rk_inv_base.proofs.Words.{IsBackup, Log, is_side_stored, known_of, EntryEnd, Gathered, LAST_MAIN_SEGMENT, counted_of, side_read}
+use Rattle.rk_inv_base.proofs.Words.{is_marked, unmarked_from, counting, counts, material_of, named, named_by, side_entries, Written, IsLog}
+use Rattle.rk_inv_base.proofs.Words.{segments_in, stored_of, IsGathered, READ_BACKUP, member_stored, stored_count, View, SoundView}
+use Rattle.rk_inv_tablets.proofs.Words.{all_by, kept_stands, stands_kept, place_of, AreReadable}
 use Rattle.rk_entry.specs.declared.entry.Entry.TheVariants as entries
-use Rattle.rk_inv_base.proofs.views.Lists.{all_by}
-use Rattle.rk_inv_base.proofs.pulls.Joining.{kept_stands, stands_kept}
-use Rattle.rk_inv_base.proofs.logs.MarkedApart.{place_of}
-use Rattle.rk_inv_tablets.specs.crash.Moves.{AreReadable}
 use Rattle.rk_inv_tablets.proofs.crash.Among.{flat_from, flat_of, named_from, named_of, place_there, stands_front}
 use Rattle.rk_inv_tablets.proofs.crash.FirstRead.{AreFirstStored}
 use Rattle.rk_inv_tablets.proofs.crash.LogRead.{main_read, side_number, side_stands}
@@ -22,16 +18,13 @@ use Rattle.rk_inv_tablets.proofs.crash.Unmarked.{first_stands, free_stands}
 
 -- what counts of the side segments that a member's unmarked entries name
 abbrev pub side_material : Range → Member → Written → List Entry
-side_material range member w =
-    counting range (flat_map (side_entries w.sides) (named range (unmarked_from w.marks member.from w.entries)))
+side_material range member w = counting range (flat_map (side_entries w.sides) (named range (unmarked_from w.marks member.from w.entries)))
 
 -- the segments that an entry names for a range are among those that it names
 named_in : (range : Range) (entry : Entry) (n : ℕ) → Contains (named_by range entry) n → Contains (segments_in entry) n
 named_in range (entries.Joined joined) n =
     cond_both _ joined.segments [] (λ numbers. Contains numbers n → Contains joined.segments n) (λ e at. at) (λ e at. absurd (omega (arith, at.1)))
-named_in range (entries.Held held) n = λ at. at
-named_in range (entries.Refused refused) n = λ at. at
-named_in range (entries.Carried carried) n = λ at. at
+named_in range _ n = λ at. at
 
 -- what stands at a place stands in the list
 pub stands_there : {X : Type 0} (xs : List X) (k : ℕ) (x : X) → slice_get xs k ≡ Some x → Contains xs x
@@ -74,7 +67,7 @@ module _ (v : View) (sound : SoundView v) (readable : AreReadable v.logs v.writt
     firsts =
         let room = readable.room m.master in
         main_read log w (stored_of v.stored m.master) kept backed (omega (arith, room)) Needed gathered read fits
-        (subst (All IsLawfulEntry) (sym kept.entries_are) (readable.entries m.master))
+        (rw kept.entries_are (readable.entries m.master))
 
     -- an entry that was read, at its place in the log
     record IsPlacedRead (entry : Entry) : Type 0 where
@@ -111,7 +104,7 @@ module _ (v : View) (sound : SoundView v) (readable : AreReadable v.logs v.writt
 
         main_told : All (IsToldBy others) (counting range (drop m.from main))
         main_told =
-            all_by (IsToldBy others) (counting range (drop m.from main))
+            all_by _ (counting range (drop m.from main))
             (λ entry at.
             let kept_one = kept_stands (counts range) (drop m.from main) entry at in
             let there = place_there (drop m.from main) entry kept_one.0 in
@@ -159,7 +152,7 @@ module _ (v : View) (sound : SoundView v) (readable : AreReadable v.logs v.writt
         all_told =
             let numbers : List ℕ = named range (drop m.from main) in
             All-append (IsToldBy others) (counting range (drop m.from main)) (counting range (flat_map (side_read gathered) numbers)) main_told
-            (all_by (IsToldBy others) (counting range (flat_map (side_read gathered) numbers))
+            (all_by _ (counting range (flat_map (side_read gathered) numbers))
             (λ entry at.
             let kept_one = kept_stands (counts range) (flat_map (side_read gathered) numbers) entry at in
             let of = flat_from (side_read gathered) numbers entry kept_one.0 in
@@ -167,5 +160,4 @@ module _ (v : View) (sound : SoundView v) (readable : AreReadable v.logs v.writt
 
         -- so what counts of what was read is told
         pub counted_told : gathered.member ≡ m → All (IsToldBy others) (counted_of row.range gathered)
-        counted_told is =
-            subst (λ (member : Member). All (IsToldBy others) (material_of row.range (side_read gathered) (drop member.from main))) (sym is) all_told
+        counted_told is = rw is all_told

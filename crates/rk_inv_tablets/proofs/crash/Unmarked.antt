@@ -3,11 +3,7 @@ use Rattle.std.proofs.Common.{◌≡◌, ℕ, zero, suc, ◌+◌, ◌<◌, ◌�
 use Rattle.std.proofs.Common.{slice_get, take, Contains, take-append-drop}
 use Rattle.rk_inv_base.proofs.Words.{cond_both, false≢true, Contains-append_right, Range, Entry, is_marked, unmarked, unmarked_from}
 use Rattle.rk_inv_base.proofs.Words.{counting, counts, Mark, marked_entries}
-use Rattle.rk_inv_base.proofs.rows.Apart.{contains_cases}
-use Rattle.rk_inv_base.proofs.logs.Grows.{Extends, counting_extends, still_contains}
-use Rattle.rk_inv_base.proofs.logs.InRest.{behind_at}
-use Rattle.rk_inv_base.proofs.pulls.Joining.{stands_kept}
-use Rattle.rk_inv_base.proofs.logs.MarkedApart.{place_of}
+use Rattle.rk_inv_tablets.proofs.Words.{contains_cases, Extends, counting_extends, still_contains, behind_at, stands_kept, place_of}
 
 -- an entry that bears no mark, at its place from some place on
 pub record IsUnmarked (marks : List Mark) (from : ℕ) (list : List Entry) (entry : Entry) : Type 0 where

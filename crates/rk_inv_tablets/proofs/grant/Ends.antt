@@ -1,11 +1,13 @@
 -- What is told and what is noted of the ends of a grant.
 use Rattle.std.proofs.Common.{◌≡◌, ℕ, ◌<◌, ◌≤◌, max, All, List, [], ◌∷◌, ◌++◌, None, refl, sym, ap, ◌∙◌, arith, append_assoc, append-nil}
-use Rattle.std.proofs.Common.{nat_cmp}
+use Rattle.std.proofs.Common.{nat_cmp, Option, subst}
 use Rattle.std.specs.Cmp.{nat_cmp_is}
 use Rattle.rk_inv_base.proofs.Words.{All-head, All-tail, All-weaker, All-push, All-nil, fold-append, Greater, get, insert, Ended, Carried}
 use Rattle.rk_inv_base.proofs.Words.{Entry, Completions, completions_from, ended_of, ends_of, noted, Completion, floor_by, floor_of, IsNext}
-use Rattle.rk_entry.specs.Ends.{RiseAbove}
+use Rattle.rk_inv_base.proofs.Words.{Base, Range, Placed, LastCall, IsKnown, IsRest, call_ends, flat_map-append, call_end, items_of}
+use Rattle.rk_inv_base.proofs.Words.{items_in, IsLegal, base_map, records_of, IsStaged}
 use Rattle.rk_entry.specs.declared.entry.Entry.TheVariants as entries
+use Rattle.rk_entry.specs.Ends.{RiseAbove}
 
 -- ---- ends noted in order
 
@@ -23,16 +25,14 @@ get_behind bound client [] within more = refl
 get_behind bound client (entry ∷ completions) within more =
     let here : entry.0 ≤ bound = All-head (λ e. e.0 ≤ bound) entry completions within in
     let less : entry.0 < client = omega (arith, here, more) in
-    rw (above client entry.0 less)
-    (get_behind bound client completions (All-tail (λ e. e.0 ≤ bound) entry completions within) more)
+    rw (above client entry.0 less) (get_behind bound client completions (All-tail (λ e. e.0 ≤ bound) entry completions within) more)
 
 put_behind : (bound client : ℕ) (new : Completion) (completions : Completions) → AreUpTo bound completions → bound < client → insert completions client new ≡ completions ++ (client, new) ∷ []
 put_behind bound client new [] within more = refl
 put_behind bound client new (entry ∷ completions) within more =
     let here : entry.0 ≤ bound = All-head (λ e. e.0 ≤ bound) entry completions within in
     let less : entry.0 < client = omega (arith, here, more) in
-    rw (above client entry.0 less)
-    (ap (λ (rest : Completions). entry ∷ rest)
+    rw (above client entry.0 less) (ap (λ (rest : Completions). entry ∷ rest)
     (put_behind bound client new completions (All-tail (λ e. e.0 ≤ bound) entry completions within) more))
 
 -- so an end of such a client stands last once it is noted
@@ -61,7 +61,7 @@ noted_all bound completions (ended ∷ later) within rising =
 
 -- ends that rise by client stay as they are where they are noted one after the other
 pub rising_noted : (ends : List Ended) → RiseAbove 0 ends → ends_of (completions_from [] ends) ≡ ends
-rising_noted ends rising = noted_all 0 [] ends (All-nil (λ e. e.0 ≤ 0)) rising
+rising_noted ends rising = noted_all 0 [] ends (All-nil _) rising
 
 -- ---- the floor
 
@@ -72,3 +72,21 @@ carried_next truth rest carried number low next =
     ap floor_of (sym (append_assoc truth rest (entries.Carried carried ∷ [])))
     ∙ fold-append floor_by 1 (truth ++ rest) (entries.Carried carried ∷ []) in
     omega (arith, same, low, next)
+
+-- ---- the rest
+
+-- a Carried whose ends are known goes on behind what is staged
+pub carried_rest : (base : Base) (range : Range) (truth rest : List Entry) (journal : List Placed) (asked : ℕ → Option LastCall) (carried : Carried) → All (IsKnown base journal) carried.ends → IsRest base range truth rest journal asked → IsRest base range truth (rest ++ entries.Carried carried ∷ []) journal asked
+carried_rest base range truth rest journal asked carried known was =
+    let new : Entry = entries.Carried carried in
+    let ends : call_ends (rest ++ new ∷ []) ≡ call_ends rest =
+    flat_map-append call_end rest (new ∷ []) ∙ append-nil (call_ends rest) in
+    let items : items_of (truth ++ (rest ++ new ∷ [])) ≡ items_of (truth ++ rest) =
+    ap items_of (sym (append_assoc truth rest (new ∷ [])))
+    ∙ flat_map-append items_in (truth ++ rest) (new ∷ []) ∙ append-nil (items_of (truth ++ rest)) in
+    record {
+      legal = subst (λ (list : List Ended). IsLegal (base_map base) (journal ++ records_of asked list)) (sym ends) was.legal;
+      live = rw (ends, items) was.live;
+      staged = All-push (IsStaged base asked journal) rest new was.staged known;
+      one = rw ends was.one;
+    }

@@ -1,52 +1,25 @@
 -- A lane stays sound when a target that waits for a row's tablet is granted it.
-use Rattle.std.proofs.Common.{◌≡◌, ℕ, ◌≤◌, true, List, [], ◌∷◌, length, refl, sym, ap, ◌∙◌, subst, ⊎_elim, arith, slice_index_or, All}
-use Rattle.std.proofs.Common.{Contains, length-append}
-use Rattle.rk_inv_base.proofs.Words.{both_ways, All-push, Contains-get_or, IfSome_then, meets, Member, Range, Entry, completions_from}
-use Rattle.rk_inv_base.proofs.Words.{Handover, lineage_of, Row, Known, Log, Grant, carried_entry, first_of, is_member, Master}
-use Rattle.rk_inv_base.proofs.Words.{with_appended, has_all, is_absent, Tablet, pulling_from, without_merged, World, master_at, tablet_in}
-use Rattle.rk_inv_base.proofs.Words.{Written, IsEntryWithin, IsOfWholeRows, IsWithinRows, StillCounts, post_of, RoleFits, IsTableOf}
-use Rattle.rk_inv_base.proofs.Words.{HandoverFits, View, view, truths, rests, CoverOf, IsSound, LogsOf, NodesOf, RolesOf, RowsOf}
-use Rattle.rk_inv_base.proofs.Words.{SoundParts, SoundView, TablesOf, TermsOf}
+use Rattle.std.proofs.Common.{◌≡◌, ℕ, true, List, [], ◌∷◌, length, refl, sym, ap, ◌∙◌, subst, All, append-nil}
+use Rattle.rk_inv_base.proofs.Words.{All-weaker, IfSome_then, meets, Member, completions_from, Handover, lineage_of, Row, Known, Grant}
+use Rattle.rk_inv_base.proofs.Words.{carried_entry, first_of, is_member, Master, with_appended, is_absent, Tablet, pulling_from}
+use Rattle.rk_inv_base.proofs.Words.{without_merged, World, master_at, tablet_in, Written, StillCounts, post_of, RoleFits, HandoverFits}
+use Rattle.rk_inv_base.proofs.Words.{View, view, truths, rests, CoverOf, IsSound, SoundView, target_truth, flat_map-append, items_in}
+use Rattle.rk_inv_base.proofs.Words.{items_of, is_idle, false≢true, may_have_staged}
+use Rattle.rk_inv_tablets.proofs.Words.{view_by_rows, SoundRow, SoundBeside, put_same, view_master, tablet_apart, tablet_here, terms_look}
+use Rattle.rk_inv_tablets.proofs.Words.{all_items_same, MayGrantFormed, as_granted, granted, tablet_granted_in, IsSettledIn, IsBareOf}
 use Rattle.rk_world.specs.Handovers.{tablet_granted}
-use Rattle.rk_inv_base.proofs.views.Put.{put_same}
-use Rattle.rk_inv_base.proofs.views.Views.{view_master}
-use Rattle.rk_inv_base.proofs.views.Masters.{tablet_apart, tablet_here}
-use Rattle.rk_inv_base.proofs.views.Cover.{cover_written}
-use Rattle.rk_inv_base.proofs.logs.Logs.{logs_grown, none_stored}
-use Rattle.rk_inv_base.proofs.roles.Roles.{terms_look}
-use Rattle.rk_inv_base.proofs.rows.Rows.{rows_grown}
-use Rattle.rk_inv_base.proofs.rows.Serving.{meets_either}
-use Rattle.rk_inv_base.proofs.views.Tables.{all_items_same}
-use Rattle.rk_inv_tablets.specs.grant.Moves.{MayGrantFormed}
-use Rattle.rk_inv_tablets.specs.grant.Small.{as_granted, granted, tablet_granted_in}
-use Rattle.rk_inv_tablets.proofs.grant.Granting.{Granting, applied_same, by_role, by_row, entry, has_itself, master, now, of_handover, of_log, of_written, old, outside, ranged, row_cases, same_term, seen_same, tablet, taker, truth_same, truths_same}
-use Rattle.rk_inv_tablets.proofs.grant.GrantedCalls.{calls_granted, counters_granted}
-use Rattle.rk_inv_tablets.proofs.grant.GrantedRest.{order_granted, rest_granted}
-use Rattle.rk_inv_tablets.proofs.grant.GrantedReceives.{receives_granted}
-use Rattle.rk_inv_tablets.proofs.grant.GrantedRebuilds.{rebuilds_granted}
-use Rattle.rk_inv_tablets.proofs.grant.GrantedMessages.{messages_granted}
+use Rattle.rk_inv_tablets.proofs.grant.Granting.{Granting, applied_same, by_role, entry, master, now, of_handover, ranged, same_term}
+use Rattle.rk_inv_tablets.proofs.grant.Granting.{seen_same, tablet, taker, grow, row_was, turned, rest_here}
+use Rattle.rk_inv_tablets.proofs.grow.Grown.{target_same, placed_more, done_more, says_more, cover_more, waits_more, found_more, bare_more}
+use Rattle.rk_inv_tablets.proofs.grow.Grown.{rows_more, truth_same, truths_same}
+use Rattle.rk_inv_tablets.proofs.grant.GrantedCalls.{answers, none_kept, none_sent, counts_on, given, known_on}
+use Rattle.rk_inv_tablets.proofs.grant.GrantedReceives.{members_here, handed_here, names_here}
+use Rattle.rk_inv_tablets.proofs.grant.Ends.{carried_rest}
+use Rattle.rk_inv_tablets.proofs.grant.GrantedRebuilds.{first_same, rebuilt_here, marks_here, pieces_here}
+use Rattle.rk_inv_tablets.proofs.grant.GrantedMessages.{says_here}
+use Rattle.rk_inv_tablets.proofs.grow.Turned.{seen_apart, of_tablet}
 
 module _ (v : View) (a : Granting v) where
-  known_same : (q : ℕ) → ((now v a).logs q).known ≡ (v.logs q).known
-  known_same q = of_log v a (λ (log : Log). log.known ≡ (v.logs q).known) q (λ at. refl) (λ apart. refl)
-
-  nodes : NodesOf (now v a)
-  nodes = record {
-    numbered = a.sound.nodes.numbered;
-    backed = a.sound.nodes.backed;
-    known = λ q there. ap (λ (known : List Known). length known) (known_same q) ∙ a.sound.nodes.known q there;
-    named = a.sound.nodes.named;
-    crashed = a.sound.nodes.crashed;
-    left = a.sound.nodes.left;
-  }
-
-  rows : RowsOf (now v a)
-  rows =
-      rows_grown v.rows v.written (now v a).written v.journal a.sound.rows
-      (λ q.
-      of_written v a (λ (w : Written). length (v.written q).entries ≤ length w.entries) q
-      (λ at. omega (arith, length-append (v.written q).entries (entry v a ∷ []))) (λ apart. omega arith))
-
   -- a tablet is absent, and has its range, as before
   absent_same : (q r : ℕ) → is_absent ((now v a).handovers q r).role ≡ is_absent (v.handovers q r).role
   absent_same = by_role v a is_absent refl
@@ -54,123 +27,147 @@ module _ (v : View) (a : Granting v) where
   range_same : (q r : ℕ) → ((now v a).handovers q r).range ≡ (v.handovers q r).range
   range_same = seen_same v a (λ h. h.range) (λ h is. refl)
 
-  terms : TermsOf (now v a)
-  terms = record {
-    kept = λ q r k d inside.
-        let x : Row = slice_index_or v.rows k d in
-        let was = a.sound.terms.kept q r k d inside in
-        of_handover v a (HandoverFits x r) q r (λ at its. record { within = was.within; below = was.below; exact = was.exact }) (λ apart. was);
-    begun = λ q r there.
-        subst (λ (term : ℕ). 1 ≤ term) (sym (same_term v a q r)) (a.sound.terms.begun q r (sym (absent_same q r) ∙ there));
-    apart = λ q i j other i_there j_there.
-        (λ k. meets (range_same q i k) (range_same q j k))
-        ∙ a.sound.terms.apart q i j other (sym (absent_same q i) ∙ i_there) (sym (absent_same q j) ∙ j_there);
-    sent = a.sound.terms.sent;
-  }
+  abbrev written : ℕ → Written
+  written = (now v a).written
 
-  whole : (x : Row) → Contains v.rows x → meets x.range (old v a).range ≡ true → has_all (old v a).range x.range ≡ true
-  whole x has met =
-      ⊎_elim
-      (λ (same : x ≡ a.row).
-      ap (λ (range : Range). has_all range x.range) (ranged v a ∙ ap (λ (r : Row). r.range) (sym same)) ∙ has_itself x.range)
-      (λ (apart : x.tablet ≡ a.row.tablet → ⊥).
-      absurd (both_ways (meets (old v a).range x.range) (outside v a x has apart) (meets_either x.range (old v a).range met)))
-      (row_cases v a x has)
+  truths_now : truths (now v a) a.row ≡ truths v a.row
+  truths_now = truths_same v (grow v a) a.row
 
-  -- the range of the tablet lies in rows
-  covered : IsWithinRows v.rows (old v a).range
-  covered =
-      a.sound.cover.ranges (master v a) a.row.tablet (a.sound.terms.begun (master v a) a.row.tablet (ap is_absent a.may.may.waiting))
+  target_now : target_truth written v.handed a.row a.row.phase ≡ target_truth v.written v.handed a.row a.row.phase
+  target_now = target_same v (grow v a) a.row
+
+  -- ---- the row
+
+  here : SoundRow (now v a) a.row
+  here =
+      let was = row_was v a in
+      record {
+        named = was.named;
+        begun = was.begun;
+        formed = was.formed;
+        placed = placed_more v (grow v a) (lineage_of a.row.phase) was.placed;
+        sent = was.sent;
+        fitting = λ q.
+            of_tablet v (now v a) (master v a) a.row.tablet (tablet v a) (turned v a)
+            (λ q r t. StillCounts (v.live q) t.handover.term a.row.term → RoleFits a.row q t.handover (written q).applied) q a.row.tablet
+            (λ counts. rw (applied_same v a (master v a)) (taker v a).fits) (λ apart counts. rw (applied_same v a q) (was.fitting q counts));
+        ranged = λ q.
+            of_handover v a
+            (λ h. StillCounts (v.live q) h.term a.row.term → is_member (lineage_of a.row.phase) q ≡ true → h.range ≡ a.row.range) q a.row.tablet
+            (λ at its. was.ranged q) (λ apart. was.ranged q);
+        at_term =
+            terms_look a.row.phase (λ q. (v.handovers q a.row.tablet).term) (λ q. ((now v a).handovers q a.row.tablet).term) a.row.term
+            (λ q. same_term v a q a.row.tablet) was.at_term;
+        truth = rw truths_now was.truth;
+        above =
+            rw (truths_now, rest_here v a, flat_map-append items_in (rests v a.row) (entry v a ∷ []) ∙ append-nil (items_of (rests v a.row)))
+            was.above;
+        reached = rw truths_now was.reached;
+        recorded = rw truths_now was.recorded;
+        moving = rw target_now was.moving;
+        answering = answers v a;
+        ends_granted = rw (none_kept v a) tt;
+        ends_sent = λ n m there. rw (none_sent v a m.body) tt;
+        low = rw truths_now was.low;
+        low_moving = rw target_now was.low_moving;
+        counted = λ q counts says. rw truths_now (counts_on v a q counts says);
+        floor_granted = rw (none_kept v a) tt;
+        floor_sent = λ n m there. rw (none_sent v a m.body) tt;
+        goes_on =
+            rw (truths_now, rest_here v a)
+            (carried_rest v.base a.row.range (truths v a.row) (rests v a.row) v.journal v.asked _ (given v a).known was.goes_on);
+        done = done_more v (grow v a) a.row.range (lineage_of a.row.phase) (first_same v a) was.done;
+        unnamed = rw a.may.may.lineage_is tt;
+        idle = λ q.
+            of_handover v a
+            (λ h. StillCounts (v.live q) h.term a.row.term → is_idle h.role ≡ true → IsSettledIn a.row.range (written q)) q a.row.tablet
+            (λ at its counts idles. absurd (false≢true idles))
+            (λ apart counts idles.
+            rw ((grow v a).others q (λ at. apart at refl)) (was.idle q counts idles));
+        items = λ q lives has.
+            IfSome_then (first_of (lineage_of a.row.phase))
+            (was.items q lives
+            (sym
+            (all_items_same (post_of a.row.phase q) ((now v a).handovers q a.row.tablet) (v.handovers q a.row.tablet) a.row.term
+            (same_term v a q a.row.tablet))
+            ∙ has))
+            (λ member table. rw (truth_same v (grow v a) a.row.range member) table);
+        target = members_here v a;
+        handed_on = handed_here v a;
+        named_items = names_here v a;
+        rebuilt = rw truths_now (rebuilt_here v a a.row.phase refl was.rebuilt);
+        marks = marks_here v a;
+        pieces = pieces_here v a;
+        says = λ n m there.
+            says_here v a m.from m.to m.body
+            (says_more v (grow v a) a.row a.may.may.has_row m.from m.to m.body (was.says n m there));
+      }
+
+  -- ---- beside rows
 
   cover : CoverOf (now v a)
   cover =
-      cover_written v.rows v.written (now v a).written (now v a).handovers v.records v.wire
-      (record {
-        unknown = λ q r none. same_term v a q r ∙ a.sound.cover.unknown q r none;
-        marks = a.sound.cover.marks;
-        sent = a.sound.cover.sent;
+      let more = cover_more v (grow v a) in
+      record {
+        unknown = λ q r none. same_term v a q r ∙ more.unknown q r none;
+        marks = more.marks;
+        sent = more.sent;
         ranges = λ q r begun.
-            subst (IsWithinRows v.rows) (sym (range_same q r))
-            (a.sound.cover.ranges q r (subst (λ (term : ℕ). 1 ≤ term) (same_term v a q r) begun));
-        ordered = a.sound.cover.ordered;
-        entries = a.sound.cover.entries;
-        sides = a.sound.cover.sides;
-        items = a.sound.cover.items;
-        wholes = a.sound.cover.wholes;
-      })
-      (λ q. of_written v a (λ (w : Written). w.marks ≡ (v.written q).marks) q (λ at. refl) (λ apart. refl))
-      (λ q. of_written v a (λ (w : Written). w.sides ≡ (v.written q).sides) q (λ at. refl) (λ apart. refl))
-      (λ q.
-      of_written v a (λ (w : Written). All (IsEntryWithin v.rows) w.entries) q
-      (λ at. All-push (IsEntryWithin v.rows) (v.written q).entries (entry v a) (a.sound.cover.entries q) covered)
-      (λ apart. a.sound.cover.entries q))
-      (λ q.
-      of_written v a (λ (w : Written). All (IsOfWholeRows v.rows) w.entries) q
-      (λ at.
-      All-push (IsOfWholeRows v.rows) (v.written q).entries (entry v a) (a.sound.cover.wholes q)
-      (λ k d inside. whole (slice_index_or v.rows k d) (Contains-get_or v.rows k d inside)))
-      (λ apart. a.sound.cover.wholes q))
+            rw (range_same q r) (more.ranges q r (rw (← same_term v a q r) begun));
+        ordered = more.ordered;
+        entries = more.entries;
+        sides = more.sides;
+        items = more.items;
+        wholes = more.wholes;
+      }
 
-  roles : RolesOf (now v a)
-  roles = record {
-    fitting = λ q k d inside.
-        by_row v a (λ x q t. StillCounts (v.live q) t.handover.term x.term → RoleFits x q t.handover ((now v a).written q).applied)
-        (slice_index_or v.rows k d) (Contains-get_or v.rows k d inside) q
-        (λ counts. subst (RoleFits a.row (master v a) (tablet v a).handover) (sym (applied_same v a (master v a))) (taker v a).fits)
-        (λ apart counts.
-        let x : Row = slice_index_or v.rows k d in
-        subst (RoleFits x q (v.handovers q x.tablet)) (sym (applied_same v a q)) (a.sound.roles.fitting q k d inside counts));
-    ranged = λ q k d inside.
-        let x : Row = slice_index_or v.rows k d in
-        of_handover v a
-        (λ h. StillCounts (v.live q) h.term x.term → is_member (lineage_of x.phase) q ≡ true → h.range ≡ x.range) q x.tablet
-        (λ at its. a.sound.roles.ranged q k d inside) (λ apart. a.sound.roles.ranged q k d inside);
-    at_term = λ k d inside.
-        let x : Row = slice_index_or v.rows k d in
-        terms_look x.phase (λ q. (v.handovers q x.tablet).term) (λ q. ((now v a).handovers q x.tablet).term) x.term
-        (λ q. same_term v a q x.tablet) (a.sound.roles.at_term k d inside);
-    known = λ q r lives there. a.sound.roles.known q r lives (sym (absent_same q r) ∙ there);
-  }
-
-  logs : LogsOf (now v a)
-  logs = logs_grown v (master v a) (entry v a) a.may.may.room a.sound.logs (none_stored (v.logs (master v a)) (entry v a) refl)
-
-  records : TablesOf (now v a)
-  records = record {
-    ordered = a.sound.records.ordered;
-    items = λ q lives k d inside has.
-        let x : Row = slice_index_or v.rows k d in
-        IfSome_then (first_of (lineage_of x.phase))
-        (a.sound.records.items q lives k d inside
-        (sym (all_items_same (post_of x.phase q) ((now v a).handovers q x.tablet) (v.handovers q x.tablet) x.term (same_term v a q x.tablet))
-        ∙ has))
-        (λ member table.
-        subst (λ (list : List Entry). IsTableOf x.range list (v.records q)) (sym (truth_same v a x.range member)) table);
-  }
-
-  -- with the truths as they were
-  parts : SoundParts (now v a) (truths v) (rests (now v a))
-  parts = record {
-    nodes = nodes;
-    rows = rows;
-    terms = terms;
+  beside : SoundBeside (now v a)
+  beside = record {
+    numbered = a.sound.nodes.numbered;
+    backed = a.sound.nodes.backed;
+    known_backups = λ q there. ap (λ (known : List Known). length known) ((grow v a).known q) ∙ a.sound.nodes.known q there;
+    crashed = a.sound.nodes.crashed;
+    left = a.sound.nodes.left;
+    rows_apart = a.sound.rows.apart;
+    covered = a.sound.rows.covered;
+    kept = λ q r.
+        of_handover v a (λ h. All (λ x. HandoverFits x r h) v.rows) q r
+        (λ at its.
+        All-weaker (λ x. HandoverFits x r (v.handovers q r)) (λ x. HandoverFits x r (as_granted a.grant.floor (v.handovers q r)))
+        (λ x fits. record { within = fits.within; below = fits.below; exact = fits.exact }) v.rows (a.sound.terms.kept q r))
+        (λ apart. a.sound.terms.kept q r);
+    begun = λ q r there.
+        rw (same_term v a q r) (a.sound.terms.begun q r (sym (absent_same q r) ∙ there));
+    apart = λ q i j other i_there j_there.
+        (λ k. meets (range_same q i k) (range_same q j k))
+        ∙ a.sound.terms.apart q i j other (sym (absent_same q i) ∙ i_there) (sym (absent_same q j) ∙ j_there);
     cover = cover;
-    roles = roles;
-    logs = logs;
-    truth = a.sound.truth;
-    order = order_granted v a;
-    calls = calls_granted v a;
-    counters = counters_granted v a;
-    rest = rest_granted v a;
-    records = records;
-    receives = receives_granted v a;
-    rebuilds = rebuilds_granted v a;
-    messages = messages_granted v a;
+    has_row = λ q r lives there. a.sound.roles.known q r lives (sym (absent_same q r) ∙ there);
+    logs = (grow v a).logs_are;
+    legal = a.sound.truth.legal;
+    rising = a.sound.truth.rising;
+    seen = a.sound.truth.seen;
+    once = a.sound.calls.once;
+    known = known_on v a;
+    waiting = λ q lives k c there.
+        waits_more v (grow v a) (now v a).handovers
+        (λ q r staged. of_handover v a (λ h. may_have_staged h.role ≡ true) q r (λ at its. refl) (λ apart. staged)) q k c
+        (a.sound.rest.waiting q lives k c there);
+    are_last = a.sound.rest.are_last;
+    found = λ q lives. found_more v (grow v a) q (a.sound.rest.found q lives);
+    ordered = a.sound.records.ordered;
+    bare = λ q r.
+        of_handover v a (λ h. IsBareOf h (written q) (v.records q)) q r (λ at its. tt)
+        (λ apart. bare_more v (grow v a) q r apart (a.sound.receives.bare q r));
+    others = a.sound.messages.others;
     asked = a.sound.asked;
   }
 
   pub view_granted : SoundView (now v a)
-  view_granted = subst (λ (truths : Row → List Entry). SoundParts (now v a) truths (rests (now v a))) (sym (truths_same v a)) parts
+  view_granted =
+      view_by_rows (now v a) beside
+      (rows_more v (grow v a) (now v a) (λ seen. refl)
+      (seen_apart v (now v a) (master v a) a.row.tablet (tablet v a) (turned v a)) here)
 
 -- what the change makes of a view
 pub granted_is : (w : World) (master : ℕ) (grant : Grant) → view (tablet_granted_in w master grant) ≡ granted (view w) master grant.tenure.tablet grant

@@ -1,12 +1,11 @@
 -- What a target that waits for its grant is to its row, and what its post says of it once it was granted.
 use Rattle.std.proofs.Common.{◌≡◌, ℕ, ◌<◌, true, false, cond, List, [], ◌∷◌, refl, sym, ap, ◌∙◌, subst, ⊎_elim, ◌==◌, eq-eqb, eqb-true}
 use Rattle.std.proofs.Common.{ne_eqb}
-use Rattle.rk_inv_base.proofs.Words.{cases_Bool, cond-true, cond-false, or_left, or_right, Member, lineage_of, Phase, Owned, Opening}
-use Rattle.rk_inv_base.proofs.Words.{Moving, Rebuilding, is_member, is_opening, Post, FirstRebuilder, FormerMember, LastRebuilder}
-use Rattle.rk_inv_base.proofs.Words.{MovingSource, MovingTarget, OutsideRebuilder, Bystander, bond_of, post_of, rebuilder_post, Holds}
-use Rattle.rk_inv_base.proofs.Words.{IsFormed}
+use Rattle.rk_inv_base.proofs.Words.{cases_Bool, cond-true, cond-false, or_left, or_right, Member, lineage_of, Phase, Moving, Rebuilding}
+use Rattle.rk_inv_base.proofs.Words.{is_member, is_opening, Post, FirstRebuilder, FormerMember, LastRebuilder, MovingSource, MovingTarget}
+use Rattle.rk_inv_base.proofs.Words.{OutsideRebuilder, Bystander, bond_of, post_of, rebuilder_post, Holds, IsFormed}
+use Rattle.rk_inv_tablets.proofs.Words.{speaker_of}
 use Rattle.rk_transfer.specs.declared.role.Role.TheVariants as roles
-use Rattle.rk_inv_base.proofs.rows.Speakers.{speaker_of}
 
 -- a master is the second of two members of a lineage, and may take a grant: it is another one than the first, its post takes a target
 -- that pulls, and it alone may speak for the row, which does not open; where it is to rebuild the row, it keeps a smaller term
@@ -42,7 +41,7 @@ module _ (term own applied from : ℕ) where
       let holds : Waits (MovingTarget dfrom) = subst Waits post waits in
       record {
         apart = λ same. apart (first ∙ same);
-        fits = subst Takes (sym post) holds.0;
+        fits = rw post holds.0;
         speaks = sym last;
         moved = refl;
         behind = λ lineage to other. absurd (cc other);
@@ -72,7 +71,7 @@ module _ (term own applied from : ℕ) where
       let holds : Waits (LastRebuilder target.from) = subst Waits post waits in
       let taker : IsTaker (Rebuilding lineage to) source.master q term own applied = record {
         apart = formed;
-        fits = subst Takes (sym post) holds.0;
+        fits = rw post holds.0;
         speaks = sym (eqb-true to q e);
         moved = refl;
         behind = λ _ _ _. holds.0;
@@ -88,11 +87,9 @@ module _ (term own applied from : ℕ) where
 
   -- a target that waits as the second of two members may take its grant
   pub waiting_takes : (phase : Phase) (source target : Member) → IsFormed phase → lineage_of phase ≡ source ∷ target ∷ [] → Waits (post_of phase target.master) → IsTaker phase source.master target.master term own applied
-  waiting_takes (Owned owner place) source target formed is waits = absurd (cc is)
-  waiting_takes (Opening s sfrom t dfrom) source target formed is waits = absurd (cc is)
   waiting_takes (Moving s sfrom t dfrom) source target formed is waits = of_moving s sfrom t dfrom source target formed is waits
   waiting_takes (Rebuilding lineage to) source target formed is waits =
-      subst (λ (members : List Member). IsTaker (Rebuilding members to) source.master target.master term own applied) (sym is)
-      (of_rebuilding source target to
+      rw is (of_rebuilding source target to
       (subst (λ (members : List Member). IsFormed (Rebuilding members to)) is formed)
       (subst (λ (members : List Member). Waits (post_of (Rebuilding members to) target.master)) is waits))
+  waiting_takes _ source target formed is waits = absurd (cc is)

@@ -3,27 +3,21 @@ use Rattle.std.proofs.Common.{◌≡◌, ℕ, zero, suc, ◌≤◌, ◌⊎◌, B
 use Rattle.std.proofs.Common.{ap, ◌∙◌, subst, ⊎_elim, inl, inr, arith, ◌==◌, All, not, Contains, eq-eqb, eqb-true}
 use Rattle.rk_inv_base.proofs.Words.{cases_Bool, cond_both, cond-true, false≢true, or_from, or_right, All-append, All-contains}
 use Rattle.rk_inv_base.proofs.Words.{All-contains_itself, All-nil, All-weaker, Contains-append_left, Contains-append_right, Ended, Member}
-use Rattle.rk_inv_base.proofs.Words.{Range, Entry, completions_from, ends_of, lineage_of, Phase, Rebuilding, Row, IsBackup, known_of, told}
+use Rattle.rk_inv_base.proofs.Words.{Range, Entry, completions_from, ends_of, lineage_of, Phase, Rebuilding, IsBackup, known_of, told}
 use Rattle.rk_inv_base.proofs.Words.{Gather, Gathered, LAST_MAIN_SEGMENT, by_member, counted_of, is_member, unmarked_from, as_entries}
-use Rattle.rk_inv_base.proofs.Words.{counting, names, IsMaster, own_place, Written, member_material, stored_of, Post, OnlyRebuilder}
+use Rattle.rk_inv_base.proofs.Words.{counting, names, IsMaster, own_place, Written, member_material, stored_of, OnlyRebuilder}
 use Rattle.rk_inv_base.proofs.Words.{FirstRebuilder, LastRebuilder, OutsideRebuilder, FormerMember, Bystander, Holds, bond_of, post_of}
 use Rattle.rk_inv_base.proofs.Words.{rebuilder_post, IsGathered, MarkedFit, NeededOf, READ_BACKUP, RowIsRebuilt, TellNoMore}
-use Rattle.rk_inv_base.proofs.Words.{closing_carried, member_marked, member_stored, NamedFit, FirstIsDone, OnlyIsUnnamed, AreApart}
-use Rattle.rk_inv_base.proofs.Words.{IsFormed, View, truths}
+use Rattle.rk_inv_base.proofs.Words.{closing_carried, member_marked, member_stored, AreApart, IsFormed, View, truths}
+use Rattle.rk_inv_tablets.proofs.Words.{member as member_at, contains_cases, kept_stands, each_member, members_by, all_by, former_gone}
+use Rattle.rk_inv_tablets.proofs.Words.{IsToldIn, own_entries, row_in}
 use Rattle.rk_transfer.specs.declared.role.Role.TheVariants as roles
-use Rattle.rk_tablet_map.specs.Phase.{member as member_at}
-use Rattle.rk_inv_base.proofs.rows.Apart.{contains_cases}
-use Rattle.rk_inv_base.proofs.pulls.Joining.{kept_stands}
-use Rattle.rk_inv_base.proofs.logs.LengthTold.{each_member, members_by}
-use Rattle.rk_inv_base.proofs.views.Lists.{all_by}
-use Rattle.rk_inv_base.proofs.calls.Rebuilds.{former_gone}
 use Rattle.rk_inv_tablets.proofs.crash.Among.{flat_of}
-use Rattle.rk_inv_tablets.proofs.crash.MergeTells.{IsToldBy, all_stand_told, all_told, piece_told, read_all, read_told, stands_told, told_through}
+use Rattle.rk_inv_tablets.proofs.crash.MergeTells.{IsToldBy, all_stand_told, all_told, piece_told, read_all, read_told, stands_told}
+use Rattle.rk_inv_tablets.proofs.crash.MergeTells.{told_through}
 use Rattle.rk_inv_tablets.proofs.crash.ReadTold.{AreMarksTold, counted_told, side_material}
 use Rattle.rk_inv_tablets.proofs.crash.Unmarked.{first_among, marked_stands}
-use Rattle.rk_inv_tablets.specs.merge.Moves.{IsToldIn}
-use Rattle.rk_inv_tablets.specs.merge.Small.{own_entries}
-use Rattle.rk_inv_tablets.proofs.merge.MaterialTold.{IsToldOf, all_material, material_told}
+use Rattle.rk_inv_tablets.proofs.merge.MaterialTold.{all_material, material_told}
 use Rattle.rk_inv_tablets.proofs.merge.Merging.{Merging, fit, gathers, merged, old, own_is, piece, rebuilder, rebuilt, some}
 
 -- ---- who rebuilds
@@ -122,8 +116,7 @@ marks_told v range (first ∷ last ∷ []) apart fits m has dead =
     (λ (same : first ≡ m).
     let stored : List Entry = member_stored v.logs v.written v.stored range last in
     let fit : TellNoMore (member_marked v.written range m) (own ++ stored) =
-    subst (λ (x : Member). TellNoMore (member_marked v.written range x) (own ++ stored)) same
-    (fits.0 (ap (λ (x : Member). v.live x.master) same ∙ dead)) in
+    rw (← same) (fits.0 (ap (λ (x : Member). v.live x.master) same ∙ dead)) in
     no_more (member_marked v.written range m) (own ++ stored) (materials v range lineage) fit
     (All-append (IsToldBy (materials v range lineage)) own stored (member_told v range lineage first is_first) (stored_told v range lineage last is_last)))
     (λ (later : Contains (last ∷ []) m).
@@ -131,8 +124,7 @@ marks_told v range (first ∷ last ∷ []) apart fits m has dead =
     (λ (same : last ≡ m).
     let other : List Entry = member_material v.written range last in
     let fit : TellNoMore (member_marked v.written range m) (own ++ other) =
-    subst (λ (x : Member). TellNoMore (member_marked v.written range x) (own ++ other)) same
-    (fits.1 (ap (λ (x : Member). v.live x.master) same ∙ dead)) in
+    rw (← same) (fits.1 (ap (λ (x : Member). v.live x.master) same ∙ dead)) in
     no_more (member_marked v.written range m) (own ++ other) (materials v range lineage) fit
     (All-append (IsToldBy (materials v range lineage)) own other (member_told v range lineage first is_first) (member_told v range lineage last is_last)))
     (λ (none : Contains [] m). absurd (omega (arith, none.1)))
@@ -151,8 +143,7 @@ module _ (v : View) (a : Merging v) where
   gather = v.gathers a.master a.row.tablet
 
   formed : AreApart lineage
-  formed =
-      subst IsFormed (rebuilt v a).1 (All-contains (λ (r : Row). IsFormed r.phase) v.rows a.row a.sound.rows.formed a.has_row)
+  formed = subst IsFormed (rebuilt v a).1 (row_in v a.sound a.row a.has_row).formed
 
   same_lineage : lineage_of a.row.phase ≡ lineage
   same_lineage = ap lineage_of (rebuilt v a).1
@@ -165,18 +156,15 @@ module _ (v : View) (a : Merging v) where
       cond-true (a.master == a.master) (rebuilder_post lineage a.master) (cond (is_member lineage a.master) FormerMember Bystander)
       (eq-eqb a.master a.master refl) in
       let holds : Holds (bond_of (rebuilder_post lineage a.master) (roles.Rebuilding (gathers v a).0 None)) a.row.term (old v a).term (v.written a.master).applied =
-      subst (λ (post : Post). Holds (bond_of post (roles.Rebuilding (gathers v a).0 None)) a.row.term (old v a).term (v.written a.master).applied) lineage_post
-      (subst
+      rw (← lineage_post) (subst
       (λ (phase : Phase). Holds (bond_of (post_of phase a.master) (roles.Rebuilding (gathers v a).0 None)) a.row.term (old v a).term
       (v.written a.master).applied) (rebuilt v a).1 (fit v a)) in
-      subst (λ (list : List Entry). All (IsToldBy all) list) (sym (own_is v a))
-      (⊎_elim
+      rw (own_is v a) (⊎_elim
       (λ (outside : is_member lineage a.master ≡ false).
-      subst (λ (list : List Entry). All (IsToldBy all) list) (sym ((rebuilder v a).outside outside)) (All-nil (IsToldBy all)))
+      rw ((rebuilder v a).outside outside) (All-nil _))
       (λ (stands : Contains lineage (member_at a.master (gathers v a).0)).
       let place : own_place (old v a).role ≡ (gathers v a).0 = ap own_place (gathers v a).1 in
-      subst (λ (n : ℕ). All (IsToldBy all) (member_material v.written a.row.range (member_at a.master n))) (sym place)
-      (member_told v a.row.range lineage (member_at a.master (gathers v a).0) stands))
+      rw place (member_told v a.row.range lineage (member_at a.master (gathers v a).0) stands))
       (heir_place lineage a.master a.row.term (old v a).term (v.written a.master).applied (gathers v a).0 formed holds))
 
   -- ---- what is read of others
@@ -205,7 +193,7 @@ module _ (v : View) (a : Merging v) where
   backed : (m : Member) → Contains lineage m → IsBackup (v.logs m.master) READ_BACKUP
   backed m has =
       let named_it : names a.row.phase m.master ≡ true → IsMaster v.masters m.master =
-      All-contains (λ (r : Row). names r.phase m.master ≡ true → IsMaster v.masters m.master) v.rows a.row (a.sound.nodes.named m.master) a.has_row in
+      (row_in v a.sound a.row a.has_row).named m.master in
       let there : IsMaster v.masters m.master =
       named_it (ap (λ (phase : Phase). names phase m.master) (rebuilt v a).1 ∙ or_right (a.master == m.master) (is_member lineage m.master) (is_one m has)) in
       record { first = omega arith; last = omega (arith, a.sound.nodes.known m.master there, a.sound.nodes.backed) }
@@ -215,9 +203,7 @@ module _ (v : View) (a : Merging v) where
       let rebuilt_row =
       subst (λ (phase : Phase). RowIsRebuilt a.row phase (truths v a.row) v.logs v.written v.stored v.handovers v.completions v.gathers v.merged v.records v.live)
       (rebuilt v a).1
-      (All-contains
-      (λ (r : Row). RowIsRebuilt r r.phase (truths v r) v.logs v.written v.stored v.handovers v.completions v.gathers v.merged v.records v.live)
-      v.rows a.row a.sound.rebuilds.rebuilt a.has_row) in
+      (row_in v a.sound a.row a.has_row).rebuilt in
       rebuilt_row.1
 
   each_told : (gathered : Gathered) → Contains gather.members gathered → All (IsToldBy all) (counted_of a.row.range gathered)
@@ -245,7 +231,7 @@ module _ (v : View) (a : Merging v) where
   read =
       all_told (read_all (by_member gather (own_entries v a.master a.row.tablet))) all
       (read_told all (own_entries v a.master a.row.tablet) gather own_told
-      (subst (λ (range : Range). All (λ gathered. All (IsToldBy all) (counted_of range gathered)) gather.members) (sym (rebuilder v a).gather.range_is)
+      (rw (rebuilder v a).gather.range_is
       (all_by (λ (gathered : Gathered). All (IsToldBy all) (counted_of a.row.range gathered)) gather.members each_told)))
 
   closing : IsToldBy all (closing_carried (old v a) (merged v a))
@@ -257,16 +243,11 @@ module _ (v : View) (a : Merging v) where
 
   row_told : (end : Ended) → Contains (told all) end → IsToldIn v a.row end
   row_told end at =
-      subst (λ (members : List Member). IsToldOf v.base v.written a.row.range members end) (sym same_lineage)
-      (material_told v.base v.written a.row.range lineage formed
-      (subst (FirstIsDone v.written a.row.range) same_lineage
-      (All-contains (λ (r : Row). FirstIsDone v.written r.range (lineage_of r.phase)) v.rows a.row a.sound.rest.done a.has_row))
-      (subst (OnlyIsUnnamed v.written a.row.range) same_lineage
-      (All-contains (λ (r : Row). OnlyIsUnnamed v.written r.range (lineage_of r.phase)) v.rows a.row a.sound.rest.unnamed a.has_row))
-      (subst (NamedFit v.written a.row.range) same_lineage
-      (All-contains (λ (r : Row). NamedFit v.written r.range (lineage_of r.phase)) v.rows a.row a.sound.receives.named a.has_row)) end at)
+      rw same_lineage (material_told v.base v.written a.row.range lineage formed
+      (rw (← same_lineage) (row_in v a.sound a.row a.has_row).done)
+      (rw (← same_lineage) (row_in v a.sound a.row a.has_row).unnamed)
+      (rw (← same_lineage) (row_in v a.sound a.row a.has_row).named_items) end at)
 
   -- so each end that the rebuild merges is told by the row's truth or its rest
   pub collected : All (IsToldIn v a.row) (ends_of (completions_from [] (merged v a).ends))
-  collected =
-      All-weaker (Contains (told all)) (IsToldIn v a.row) row_told (ends_of (completions_from [] (merged v a).ends)) closing.ends
+  collected = All-weaker _ _ row_told (ends_of (completions_from [] (merged v a).ends)) closing.ends

@@ -2,24 +2,16 @@
 use Rattle.std.proofs.Common.{◌≡◌, ℕ, ◌<◌, true, cond, List, Option, Some, None, refl, sym, ap, ◌∙◌, inr, arith, ◌==◌, ◌||◌, ◌&&◌, nat_lt}
 use Rattle.std.proofs.Common.{eqb-true, ltb-true}
 use Rattle.rk_inv_base.proofs.Words.{cond_both, false≢true, Member, is_serving, Handover, Role, Phase, Owned, Opening, Moving, Rebuilding}
-use Rattle.rk_inv_base.proofs.Words.{is_member, is_gathering, is_rebuilding, Post, Owner, OpeningSource, InvitedTarget, ReadyTarget}
-use Rattle.rk_inv_base.proofs.Words.{MovingSource, MovingTarget, OnlyRebuilder, FirstRebuilder, LastRebuilder, OutsideRebuilder}
-use Rattle.rk_inv_base.proofs.Words.{FormerMember, Bystander, bond_of, post_of, rebuilder_post, target_post, speaks, Holds}
+use Rattle.rk_inv_base.proofs.Words.{is_member, is_gathering, is_rebuilding, Post, Owner, OpeningSource, MovingSource, MovingTarget}
+use Rattle.rk_inv_base.proofs.Words.{OnlyRebuilder, FirstRebuilder, LastRebuilder, OutsideRebuilder, FormerMember, Bystander, bond_of}
+use Rattle.rk_inv_base.proofs.Words.{post_of, rebuilder_post, target_post, speaks, Holds}
+use Rattle.rk_inv_tablets.proofs.Words.{GoesOn, IsHeir}
 use Rattle.rk_transfer.specs.declared.role.Role.TheVariants as roles
-use Rattle.rk_inv_base.proofs.views.Seen.{GoesOn}
-use Rattle.rk_inv_base.proofs.roles.Steady.{IsHeir}
 
 -- a role that gathers knows its place, and has no closing entry
 pub gathers_from : (role : Role) → is_gathering role ≡ true → (from : ℕ) × (role ≡ roles.Rebuilding from None)
 gathers_from (roles.Rebuilding from None) gathers = (from, refl)
-gathers_from (roles.Rebuilding from (Some entry)) gathers = absurd (false≢true gathers)
-gathers_from roles.Absent gathers = absurd (false≢true gathers)
-gathers_from roles.Serving gathers = absurd (false≢true gathers)
-gathers_from roles.Closing gathers = absurd (false≢true gathers)
-gathers_from roles.Frozen gathers = absurd (false≢true gathers)
-gathers_from (roles.Wanting from) gathers = absurd (false≢true gathers)
-gathers_from roles.Receiving gathers = absurd (false≢true gathers)
-gathers_from (roles.Joining entry) gathers = absurd (false≢true gathers)
+gathers_from _ gathers = absurd (false≢true gathers)
 
 -- ---- posts
 
@@ -30,33 +22,19 @@ module _ (term own applied from : ℕ) where
 
   -- a post that takes such a role takes it with its closing entry too
   pub fits_merged : (entry : ℕ) (post : Post) → Gathers post → Holds (bond_of post (roles.Rebuilding from (Some entry))) term own applied
-  fits_merged entry (Owner place) holds = absurd holds
-  fits_merged entry OpeningSource holds = absurd holds
-  fits_merged entry InvitedTarget holds = absurd holds
-  fits_merged entry (ReadyTarget place) holds = absurd holds
-  fits_merged entry MovingSource holds = absurd holds
-  fits_merged entry (MovingTarget place) holds = absurd holds
   fits_merged entry (OnlyRebuilder place) holds = inr holds
   fits_merged entry (FirstRebuilder place) holds = holds
   fits_merged entry (LastRebuilder place) holds = holds
   fits_merged entry OutsideRebuilder holds = holds
-  fits_merged entry FormerMember holds = absurd holds
-  fits_merged entry Bystander holds = absurd holds
+  fits_merged entry _ holds = absurd holds
 
   -- and is at the row's term
   pub at_term : (post : Post) → Gathers post → own ≡ term
-  at_term (Owner place) holds = absurd holds
-  at_term OpeningSource holds = absurd holds
-  at_term InvitedTarget holds = absurd holds
-  at_term (ReadyTarget place) holds = absurd holds
-  at_term MovingSource holds = absurd holds
-  at_term (MovingTarget place) holds = absurd holds
   at_term (OnlyRebuilder place) holds = holds.0
   at_term (FirstRebuilder place) holds = holds.0
   at_term (LastRebuilder place) holds = holds.0
   at_term OutsideRebuilder holds = holds
-  at_term FormerMember holds = absurd holds
-  at_term Bystander holds = absurd holds
+  at_term _ holds = absurd holds
 
   of_target : (dfrom : Option ℕ) → Gathers (target_post dfrom) → ⊥
   of_target None holds = holds

@@ -5,14 +5,12 @@ use Rattle.rk_inv_base.proofs.Words.{cases_eq, cases_lt, cond_both, get_or_past,
 use Rattle.rk_inv_base.proofs.Words.{FIRST_SIDE_SEGMENT, cut_push, cut, has_room, in_last, with_bytes, Log, bytes_of, committed}
 use Rattle.rk_inv_base.proofs.Words.{is_side_stored, known_of, with_entry, Body, Written, Mark, IsFirstPart, IsFromLog, IsLog, LogSays}
 use Rattle.rk_inv_base.proofs.Words.{Logs, is_main, segments_in, stored_of, put, View, LogsOf}
+use Rattle.rk_inv_tablets.proofs.Words.{last_of, put_by, put_here, put_other, copy_grown, first_part_more, piece_grown, Grows, bytes_main}
+use Rattle.rk_inv_tablets.proofs.Words.{bytes_side, bytes_zero, first_part_same, with_bytes_front, with_bytes_full, with_entries}
+use Rattle.rk_inv_tablets.proofs.Words.{with_piece}
 use Rattle.rk_types.specs.declared.node.Node.TheVariants as nodes
-use Rattle.rk_log.proofs.LogLaws.{committed_entry}
-use Rattle.rk_log.specs.Cut.{last_of}
 use Rattle.rk_message.specs.declared.message.Body.TheVariants as bodies
-use Rattle.rk_inv_base.proofs.views.Put.{put_by, put_here, put_other}
-use Rattle.rk_inv_base.proofs.logs.Logs.{copy_grown, first_part_more, piece_grown}
-use Rattle.rk_inv_base.proofs.logs.Segments.{Grows, bytes_main, bytes_side, bytes_zero, first_part_same, with_bytes_front, with_bytes_full}
-use Rattle.rk_inv_tablets.specs.merge.Small.{with_entries, with_piece}
+use Rattle.rk_log.proofs.LogLaws.{committed_entry}
 
 -- ---- one more entry, where the main segments then are few
 
@@ -48,9 +46,7 @@ module _ (log : Log) (entry : Entry) (few : length (cut (log.entries ++ entry �
       ⊎_elim
       (λ (none : number < 1). first_part_same (bytes_of log number) (bytes_of more number) (grown_zero number none))
       (λ (some : 1 ≤ number).
-      subst (λ (b : List ℕ). IsFirstPart b (bytes_of more number)) (sym (bytes_main log number some less))
-      (subst (IsFirstPart (get_or (cut log.entries) (number - 1) [])) (sym (grown_main number some less))
-      (with_bytes_front (cut log.entries) (spelled entry) (number - 1))))
+      rw (bytes_main log number some less, grown_main number some less) (with_bytes_front (cut log.entries) (spelled entry) (number - 1)))
       (cases_lt number 1))
       (λ (side : FIRST_SIDE_SEGMENT ≤ number). first_part_same (bytes_of log number) (bytes_of more number) (grown_side number side))
       (cases_lt number FIRST_SIDE_SEGMENT)
@@ -119,7 +115,7 @@ grows_more log [] few =
 grows_more log (entry ∷ list) few =
     let same : (log.entries ++ entry ∷ []) ++ list ≡ log.entries ++ (entry ∷ list) = append_assoc log.entries (entry ∷ []) list in
     let left : length (cut ((log.entries ++ entry ∷ []) ++ list)) < FIRST_SIDE_SEGMENT =
-    subst (λ (all : List Entry). length (cut all) < FIRST_SIDE_SEGMENT) (sym same) few in
+    rw same few in
     let first : Grows log (with_entry log entry) =
     grows_one log entry (omega (arith, left, cut_less (log.entries ++ entry ∷ []) list)) in
     subst (Grows log) (λ i. record log { entries = same i })
@@ -170,10 +166,9 @@ module _ (v : View) (master : ℕ) (list : List Entry) (mark : Mark) (may : MayS
   says_more (nodes.Master q) (nodes.Backup backup) (bodies.Append append) piece =
       put_by v.logs master (λ log. with_entries log list) (λ log. IsFromLog log (known_of log backup) append) q
       (λ here.
-      subst (λ (m : ℕ). IsFromLog (with_entries (v.logs m) list) (known_of (v.logs m) backup) append) (sym here)
-      (piece_grown (v.logs master) (with_entries (v.logs master) list) (known_of (v.logs master) backup) append
+      rw here (piece_grown (v.logs master) (with_entries (v.logs master) list) (known_of (v.logs master) backup) append
       (grows_more (v.logs master) list may.few)
-      (subst (λ (m : ℕ). IsFromLog (v.logs m) (known_of (v.logs m) backup) append) here piece)))
+      (rw (← here) piece)))
       (λ apart. piece)
   says_more _ _ _ says = says
 
@@ -182,17 +177,17 @@ module _ (v : View) (master : ℕ) (list : List Entry) (mark : Mark) (may : MayS
     each = λ q.
         ⊎_elim
         (λ (here : q ≡ master).
-        subst (λ (m : ℕ). IsLog (logs m) (put v.written master (with_piece (v.written master) list mark) m) (stored_of v.stored m)) (sym here)
-        (subst (λ (l : Log). IsLog l (put v.written master (with_piece (v.written master) list mark) master) (stored_of v.stored master))
-        (sym (put_here v.logs master (with_entries (v.logs master) list) master refl))
-        (subst (λ (w : Written). IsLog (with_entries (v.logs master) list) w (stored_of v.stored master))
-        (sym (put_here v.written master (with_piece (v.written master) list mark) master refl))
-        (log_piece (v.logs master) (v.written master) (stored_of v.stored master) list mark may (old.each master)))))
+        rw (
+          here,
+          put_here v.logs master (with_entries (v.logs master) list) master refl,
+          put_here v.written master (with_piece (v.written master) list mark) master refl,
+        )
+        (log_piece (v.logs master) (v.written master) (stored_of v.stored master) list mark may (old.each master)))
         (λ (apart : q ≡ master → ⊥).
-        subst (λ (l : Log). IsLog l (put v.written master (with_piece (v.written master) list mark) q) (stored_of v.stored q))
-        (sym (put_other v.logs master (with_entries (v.logs master) list) q apart))
-        (subst (λ (w : Written). IsLog (v.logs q) w (stored_of v.stored q))
-        (sym (put_other v.written master (with_piece (v.written master) list mark) q apart)) (old.each q)))
+        rw (
+          put_other v.logs master (with_entries (v.logs master) list) q apart,
+          put_other v.written master (with_piece (v.written master) list mark) q apart,
+        ) (old.each q))
         (cases_eq q master);
     sent = λ n m found. says_more m.from m.to m.body (old.sent n m found);
   }

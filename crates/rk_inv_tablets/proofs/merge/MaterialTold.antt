@@ -5,10 +5,8 @@ use Rattle.rk_inv_base.proofs.Words.{cases_lt, cond_both, Contains-append_cases,
 use Rattle.rk_inv_base.proofs.Words.{Member, Range, Entry, Base, item_end, items_of, told, told_by, unmarked_from, counting, counts}
 use Rattle.rk_inv_base.proofs.Words.{is_joined_in, joined_from, named, named_by, side_entries, Written, lineage_rest, lineage_truth}
 use Rattle.rk_inv_base.proofs.Words.{member_material, member_rest, member_truth, NamedFit, FirstIsDone, OnlyIsUnnamed, AreApart}
+use Rattle.rk_inv_tablets.proofs.Words.{contains_cases, behind_at, kept_stands, stands_kept}
 use Rattle.rk_entry.specs.declared.entry.Entry.TheVariants as entries
-use Rattle.rk_inv_base.proofs.rows.Apart.{contains_cases}
-use Rattle.rk_inv_base.proofs.logs.InRest.{behind_at}
-use Rattle.rk_inv_base.proofs.pulls.Joining.{kept_stands, stands_kept}
 use Rattle.rk_inv_tablets.proofs.crash.Among.{flat_from, flat_of, named_from, named_of}
 use Rattle.rk_inv_tablets.proofs.crash.MarksTold.{sides_named}
 use Rattle.rk_inv_tablets.proofs.crash.MergeTells.{item_told}
@@ -28,9 +26,7 @@ names_joined : (range : Range) (e : Entry) (n : ℕ) → Contains (named_by rang
 names_joined range (entries.Joined joined) n =
     cond_both (meets joined.range range) joined.segments [] (λ numbers. Contains numbers n → meets joined.range range ≡ true) (λ met at. met)
     (λ apart at. absurd (none_stands [] n refl at))
-names_joined range (entries.Held held) n = λ at. absurd (none_stands [] n refl at)
-names_joined range (entries.Refused refused) n = λ at. absurd (none_stands [] n refl at)
-names_joined range (entries.Carried carried) n = λ at. absurd (none_stands [] n refl at)
+names_joined range _ n = λ at. absurd (none_stands [] n refl at)
 
 -- ---- the last member
 
@@ -135,7 +131,7 @@ module _ (base : Base) (written : ℕ → Written) (range : Range) where
       let there : Contains (member_material written range first) found.0 =
       subst (λ (m : Member). Contains (member_material written range m) found.0) (sym same) of.2 in
       inl (of_truth both first (last ∷ []) refl first is_first found.0
-      (subst (λ (list : List Entry). Contains list found.0) done.all there) end found.2))
+      (rw (← done.all) there) end found.2))
       (λ (later : Contains (last ∷ []) of.0).
       let same : last ≡ of.0 =
       ⊎_elim (λ (same : last ≡ of.0). same) (λ (none : Contains [] of.0). absurd (none_stands [] of.0 refl none))

@@ -1,30 +1,22 @@
 -- A rebuild merges what it gathered: what is known of its row and its own entries, what changes at its master, and what stays as it was.
 use Rattle.std.proofs.Common.{◌≡◌, ℕ, suc, ◌+◌, ◌≤◌, ◌⊎◌, max, true, false, List, [], ◌∷◌, ◌++◌, length, Some, None, refl, sym, ap, ◌∙◌}
-use Rattle.std.proofs.Common.{subst, ⊎_elim, inl, inr, arith, fold, length-append, length-take, All, drop, slice_get, Contains, flat_map}
-use Rattle.rk_inv_base.proofs.Words.{cases_Bool, cases_eq, false≢true, length-map, take-append-le, All-contains, All-weaker, meets, Member}
-use Rattle.rk_inv_base.proofs.Words.{Range, Entry, Handover, Role, lineage_of, Phase, Rebuilding, Row, Log, is_marked, unmarked_from}
-use Rattle.rk_inv_base.proofs.Words.{touches, as_entries, counting, counts, log_material, material_of, named_by, side_entries, with_number}
-use Rattle.rk_inv_base.proofs.Words.{own_place, Written, applied_entries, lineage_rest, member_material, member_rest, member_truth, Mark}
-use Rattle.rk_inv_base.proofs.Words.{Merged, StillCounts, Holds, bond_of, post_of, IsOfRange, MarkFits, RowIsRebuilt, closing_carried}
-use Rattle.rk_inv_base.proofs.Words.{has_merged, RoleFits, View, truths, rests, SoundView}
+use Rattle.std.proofs.Common.{subst, ⊎_elim, inl, arith, fold, length-append, All, drop, slice_get, Contains, flat_map}
+use Rattle.rk_inv_base.proofs.Words.{cases_Bool, false≢true, length-map, All-contains, Member, Range, Entry, Handover, Role, lineage_of}
+use Rattle.rk_inv_base.proofs.Words.{Phase, Rebuilding, Row, is_marked, unmarked_from, as_entries, counting, counts, material_of, named_by}
+use Rattle.rk_inv_base.proofs.Words.{side_entries, with_number, own_place, Written, lineage_rest, member_material, member_rest, Mark}
+use Rattle.rk_inv_base.proofs.Words.{Merged, Holds, bond_of, post_of, IsOfRange, MarkFits, RowIsRebuilt, closing_carried, has_merged, View}
+use Rattle.rk_inv_base.proofs.Words.{truths, rests, SoundView, Tablet, completions_from}
+use Rattle.rk_inv_tablets.proofs.Words.{member as member_at, put_by, put2_by, put2_here, put2_other, applied_within, place_of}
+use Rattle.rk_inv_tablets.proofs.Words.{IsRebuilderIn, LooksAs, looks_same, MayMergeFormed, as_merged, merge_in, merged_view, own_entries}
+use Rattle.rk_inv_tablets.proofs.Words.{piece_entries, piece_mark, with_piece, row_in, SoundRow}
 use Rattle.rk_entry.specs.declared.entry.Entry.TheVariants as entries
 use Rattle.rk_transfer.specs.declared.role.Role.TheVariants as roles
-use Rattle.rk_tablet_map.specs.Phase.{member as member_at}
-use Rattle.rk_inv_base.proofs.views.Put.{put_by, put2_by}
-use Rattle.rk_inv_base.proofs.rows.Apart.{same_number}
-use Rattle.rk_inv_base.proofs.logs.Applied.{applied_within}
-use Rattle.rk_inv_base.proofs.calls.Appending.{truth_by, truth_is}
-use Rattle.rk_inv_base.proofs.logs.MarkedApart.{apart_either, place_of}
-use Rattle.rk_inv_base.proofs.calls.Rebuilds.{IsRebuilderIn}
-use Rattle.rk_inv_base.proofs.roles.RoleTaken.{rows_apart}
-use Rattle.rk_inv_base.proofs.views.Seen.{AllLook, GoesOn, LooksAs, looks_same}
 use Rattle.rk_inv_tablets.proofs.crash.MarkedPieces.{HasMark, mark_of}
 use Rattle.rk_inv_tablets.proofs.crash.PieceRows.{marked_names_none, marked_of_row}
-use Rattle.rk_inv_tablets.specs.merge.Moves.{MayMergeFormed}
-use Rattle.rk_inv_tablets.specs.merge.Small.{as_merged, merge_in, merged_view, own_entries, piece_entries, piece_mark, with_entries, with_piece}
 use Rattle.rk_inv_tablets.proofs.merge.Heirs.{at_term, gathering_rebuilds, gathers_from, merged_goes_on}
-use Rattle.rk_inv_tablets.proofs.merge.OfRange.{Counts, material_counts, piece_inside, touches_none}
-use Rattle.rk_inv_tablets.proofs.merge.Pieces.{free_counting, free_names, from_front, from_piece}
+use Rattle.rk_inv_tablets.proofs.merge.OfRange.{Counts, material_counts, piece_inside}
+use Rattle.rk_inv_tablets.proofs.merge.Pieces.{free_counting, free_names, from_piece}
+use Rattle.rk_inv_tablets.proofs.grow.Turned.{IsTurned}
 
 -- a merge that a master may make for a row, in a sound view
 pub record Merging (v : View) : Type 0 where
@@ -73,38 +65,55 @@ module _ (v : View) (a : Merging v) where
 
   -- ---- what is kept
 
-  -- what holds of a log with the piece, and of the log as it was, holds of each; so it is of what is written, and of handovers
-  pub of_log : (P : Log → Type 0) (q : ℕ) → (q ≡ a.master → P (with_entries (v.logs q) piece)) → ((q ≡ a.master → ⊥) → P (v.logs q)) → P (now.logs q)
-  of_log P q here was = put_by v.logs a.master (λ log. with_entries log piece) P q here was
-
+  -- what holds of what is written with the piece, and of that as it was, holds of each; so it is of handovers
   pub of_written : (P : Written → Type 0) (q : ℕ) → (q ≡ a.master → P (with_piece (v.written q) piece mark)) → ((q ≡ a.master → ⊥) → P (v.written q)) → P (now.written q)
   of_written P q here was = put_by v.written a.master (λ w. with_piece w piece mark) P q here was
 
   pub of_handover : (P : Handover → Type 0) (q r : ℕ) → (q ≡ a.master → r ≡ a.row.tablet → P (as_merged closing merged.floor (v.handovers q r))) → ((q ≡ a.master → r ≡ a.row.tablet → ⊥) → P (v.handovers q r)) → P (now.handovers q r)
   of_handover P q r here was = put2_by v.handovers a.master a.row.tablet (as_merged closing merged.floor) P q r here was
 
-  -- a tablet is the one that is rebuilt, or another
-  pub here_or_apart : (q r : ℕ) → ((q ≡ a.master) × (r ≡ a.row.tablet)) ⊎ (q ≡ a.master → r ≡ a.row.tablet → ⊥)
-  here_or_apart q r =
-      ⊎_elim
-      (λ (at : q ≡ a.master).
-      ⊎_elim (λ (its : r ≡ a.row.tablet). inl (at, its)) (λ (other : r ≡ a.row.tablet → ⊥). inr (λ _ its. other its))
-      (cases_eq r a.row.tablet))
-      (λ (other : q ≡ a.master → ⊥). inr (λ at _. other at))
-      (cases_eq q a.master)
+  -- what it has of the tablet
+  abbrev pub tablet : Tablet
+  tablet = record {
+    handover = new;
+    completions = completions_from [] merged.ends;
+    pulling = v.pullings a.master a.row.tablet;
+    gather = v.gathers a.master a.row.tablet;
+    merged_ends = merged.ends;
+  }
 
-  -- what is applied stands in the log, and so do the marked pieces
+  -- that it has, and all others have what they had
+  pub turned : IsTurned v now a.master a.row.tablet tablet
+  turned = record {
+    here = λ q r at its i. record {
+      handover = put2_here v.handovers a.master a.row.tablet new q r at its i;
+      completions = put2_here v.completions a.master a.row.tablet (completions_from [] merged.ends) q r at its i;
+      pulling = v.pullings (at i) (its i);
+      gather = v.gathers (at i) (its i);
+      merged_ends = put2_here v.merged a.master a.row.tablet merged.ends q r at its i;
+    };
+    apart = λ q r apart i. record {
+      handover = put2_other v.handovers a.master a.row.tablet new q r apart i;
+      completions = put2_other v.completions a.master a.row.tablet (completions_from [] merged.ends) q r apart i;
+      pulling = v.pullings q r;
+      gather = v.gathers q r;
+      merged_ends = put2_other v.merged a.master a.row.tablet merged.ends q r apart i;
+    };
+  }
+
+  -- what is applied stands in the log
   pub within : (q : ℕ) → (v.written q).applied ≤ length (v.written q).entries
   within q = applied_within (v.logs q) (v.written q) _ (a.sound.logs.each q)
 
+  -- and so do the marked pieces
   pub marked : (q : ℕ) → All (λ mark. mark.past ≤ length (v.written q).entries) (v.written q).marks
   marked q = (a.sound.logs.each q).marked
 
-  -- a dead master is not the one that merges
-  pub dead_apart : (q : ℕ) → v.live q ≡ false → q ≡ a.master → ⊥
-  dead_apart q dead at = false≢true (sym dead ∙ ap v.live at ∙ a.may.may.lives)
-
   -- ---- the row
+
+  -- what is known of it
+  pub row_was : SoundRow v a.row
+  row_was = row_in v a.sound a.row a.has_row
 
   -- the role knows its place, and has no closing entry
   pub gathers : (from : ℕ) × (old.role ≡ roles.Rebuilding from None)
@@ -113,10 +122,7 @@ module _ (v : View) (a : Merging v) where
   -- it fits the master's post
   pub fit : Holds (bond_of (post_of a.row.phase a.master) (roles.Rebuilding gathers.0 None)) a.row.term old.term (v.written a.master).applied
   fit =
-      subst (λ (role : Role). Holds (bond_of (post_of a.row.phase a.master) role) a.row.term old.term (v.written a.master).applied) gathers.1
-      (All-contains
-      (λ (r : Row). StillCounts (v.live a.master) (v.handovers a.master r.tablet).term r.term
-      → RoleFits r a.master (v.handovers a.master r.tablet) (v.written a.master).applied) v.rows a.row (a.sound.roles.fitting a.master) a.has_row
+      rw (← gathers.1) (row_was.fitting a.master
       (inl a.may.may.lives))
 
   -- the row is rebuilt by the master, at its own term
@@ -132,28 +138,12 @@ module _ (v : View) (a : Merging v) where
       let fits =
       subst (λ (phase : Phase). RowIsRebuilt a.row phase (truths v a.row) v.logs v.written v.stored v.handovers v.completions v.gathers v.merged v.records v.live)
       rebuilt.1
-      (All-contains
-      (λ (r : Row). RowIsRebuilt r r.phase (truths v r) v.logs v.written v.stored v.handovers v.completions v.gathers v.merged v.records v.live)
-      v.rows a.row a.sound.rebuilds.rebuilt a.has_row) in
+      row_was.rebuilt in
       fits.0 term_is
 
-  -- no range of a row is empty
-  pub some : (x : Row) → Contains v.rows x → x.range.first ≤ x.range.last
-  some x has = All-contains (λ (r : Row). r.range.first ≤ r.range.last) v.rows x a.may.ranges has
-
-  -- a row is this one, or it has another number
-  pub row_cases : (x : Row) → Contains v.rows x → (x ≡ a.row) ⊎ (x.tablet ≡ a.row.tablet → ⊥)
-  row_cases x has =
-      ⊎_elim (λ (same : x.tablet ≡ a.row.tablet). inl (same_number v.rows x a.row a.sound.rows.apart has a.has_row same))
-      (λ (apart : x.tablet ≡ a.row.tablet → ⊥). inr apart) (cases_eq x.tablet a.row.tablet)
-
-  -- rows of other tablets do not meet it
-  pub beside : (x : Row) → Contains v.rows x → (x.tablet ≡ a.row.tablet → ⊥) → meets a.row.range x.range ≡ false
-  beside x has apart =
-      ⊎_elim
-      (λ (met : meets a.row.range x.range ≡ true). absurd (rows_apart v a.row x a.sound a.has_row has (λ same. apart (sym same)) met))
-      (λ (e : meets a.row.range x.range ≡ false). e)
-      (cases_Bool (meets a.row.range x.range))
+  -- its range is not empty
+  pub some : a.row.range.first ≤ a.row.range.last
+  some = All-contains (λ (r : Row). r.range.first ≤ r.range.last) v.rows a.row a.may.ranges a.has_row
 
   -- ---- marks that were there
 
@@ -163,10 +153,7 @@ module _ (v : View) (a : Merging v) where
       let fits : MarkFits a.row a.master old (v.live a.master) (v.written a.master) m =
       All-contains (λ m. m.tablet ≡ a.row.tablet → MarkFits a.row a.master old (v.live a.master) (v.written a.master) m)
       (v.written a.master).marks m
-      (All-contains
-      (λ r. All (λ m. m.tablet ≡ r.tablet → MarkFits r a.master (v.handovers a.master r.tablet) (v.live a.master) (v.written a.master) m)
-      (v.written a.master).marks)
-      v.rows a.row (a.sound.rebuilds.marks a.master) a.has_row) stands its in
+      (row_was.marks a.master) stands its in
       let by = fits.by_rebuilder (fits.present a.may.may.lives) in
       false≢true (sym (ap has_merged gathers.1) ∙ by.2)
 
@@ -176,7 +163,7 @@ module _ (v : View) (a : Merging v) where
       let found : HasMark (v.written a.master).marks place = mark_of (v.written a.master).marks place is in
       ⊎_elim
       (λ (its : counts a.row.range e ≡ true).
-      absurd (unmarked found.mark found.here (marked_of_row v a.sound a.master place e at found a.row a.has_row (some a.row a.has_row) its)))
+      absurd (unmarked found.mark found.here (marked_of_row v a.sound a.master place e at found a.row a.has_row some its)))
       (λ (none : counts a.row.range e ≡ false). none)
       (cases_Bool (counts a.row.range e))
 
@@ -209,37 +196,15 @@ module _ (v : View) (a : Merging v) where
       let gather = v.gathers a.master a.row.tablet in
       let range : gather.range ≡ a.row.range = rebuilder.gather.range_is in
       let mine_counts : All (Counts gather.range) (own_entries v a.master a.row.tablet) =
-      subst (λ (r : Range). All (Counts r) (own_entries v a.master a.row.tablet)) (rebuilder.range_is ∙ sym range)
+      rw (← (rebuilder.range_is ∙ sym range))
       (material_counts old.range (side_entries (v.written a.master).sides) (drop (own_place old.role) (v.written a.master).entries)) in
-      subst (λ (r : Range). All (IsOfRange r) piece) range
-      (piece_inside gather (own_entries v a.master a.row.tablet) old (rebuilder.range_is ∙ sym range) mine_counts)
-
-  -- and touches no other row, nor any range that does not meet it
-  pub untouched : (range : Range) → meets a.row.range range ≡ false → All (λ e. touches range e ≡ false) piece
-  untouched range apart =
-      All-weaker (IsOfRange a.row.range) (λ e. touches range e ≡ false) (touches_none a.row.range range apart (apart_either a.row.range range apart))
-      piece inside
+      rw (← range) (piece_inside gather (own_entries v a.master a.row.tablet) old (rebuilder.range_is ∙ sym range) mine_counts)
 
   -- the mark is that of the piece
   pub past_is : mark.first + length piece ≡ mark.past
   past_is = omega (arith, piece_length old merged)
 
   -- ---- what counts: nothing of the piece is seen
-
-  -- what is applied counts as before
-  pub truth_same : (range : Range) (member : Member) → member_truth now.written range member ≡ member_truth v.written range member
-  truth_same range member =
-      of_written
-      (λ (w : Written). log_material range w.marks w.sides member.from (applied_entries w) ≡ member_truth v.written range member) member.master
-      (λ at.
-      let w : Written = v.written member.master in
-      let few = length-take w.applied w.entries in
-      ap (λ (list : List Entry). log_material range (w.marks ++ mark ∷ []) w.sides member.from list)
-      (take-append-le w.applied w.entries piece (within member.master))
-      ∙ ap (material_of range (side_entries w.sides))
-      (from_front w.marks mark member.from (applied_entries w)
-      (omega (arith, few, within member.master, ap (λ (n : ℕ). length (v.written n).entries) at))))
-      (λ apart. refl)
 
   -- the entries without a mark are those that there were
   pub free_same : (q from : ℕ) → unmarked_from (now.written q).marks from (now.written q).entries ≡ unmarked_from (v.written q).marks from (v.written q).entries
@@ -257,8 +222,7 @@ module _ (v : View) (a : Merging v) where
 
   -- so what a member has written counts as before, and what is not applied
   pub material_same : (range : Range) (member : Member) → member_material now.written range member ≡ member_material v.written range member
-  material_same range member =
-      (λ i. material_of range (side_entries (sides_same member.master i)) (free_same member.master member.from i))
+  material_same range member = (λ i. material_of range (side_entries (sides_same member.master i)) (free_same member.master member.from i))
 
   pub rest_same : (range : Range) (member : Member) → member_rest now.written range member ≡ member_rest v.written range member
   rest_same range member =
@@ -266,13 +230,7 @@ module _ (v : View) (a : Merging v) where
       (applied_same member.master)
       ∙ ap (counting range) (free_same member.master (max member.from (v.written member.master).applied))
 
-  -- truths and rests of all rows are as before
-  pub truths_same : ◌≡◌ {A = Row → List Entry} (truths now) (truths v)
-  truths_same i x =
-      (truth_is v.base now.written x.range (lineage_of x.phase)
-      ∙ ap (λ (sure : Range → Member → List Entry). truth_by v.base sure x.range (lineage_of x.phase)) (λ j range member. truth_same range member j)
-      ∙ sym (truth_is v.base v.written x.range (lineage_of x.phase))) i
-
+  -- rests of all rows are as before
   lineage_same : (range : Range) (members : List Member) → lineage_rest now.written range members ≡ lineage_rest v.written range members
   lineage_same range [] = refl
   lineage_same range (member ∷ []) = rest_same range member
@@ -285,31 +243,23 @@ module _ (v : View) (a : Merging v) where
 
   -- the old role
   pub role_is : (q r : ℕ) → q ≡ a.master → r ≡ a.row.tablet → (v.handovers q r).role ≡ roles.Rebuilding gathers.0 None
-  role_is q r at its =
-      ap (λ (n : ℕ). (v.handovers n r).role) at ∙ ap (λ (n : ℕ). (v.handovers a.master n).role) its ∙ gathers.1
+  role_is q r at its = ap (λ (n : ℕ). (v.handovers n r).role) at ∙ ap (λ (n : ℕ). (v.handovers a.master n).role) its ∙ gathers.1
 
   -- the role with its closing entry
   pub new_role : (h : Handover) → h.role ≡ roles.Rebuilding gathers.0 None → (as_merged closing merged.floor h).role ≡ roles.Rebuilding gathers.0 (Some closing)
   new_role h is = ap (λ (role : Role). roles.Rebuilding (own_place role) (Some closing)) is
 
   -- for rows and messages each tablet looks as it did
-  pub looks : AllLook v.written now.written v.handovers now.handovers
-  looks = record {
-    each = λ q r.
-        of_handover (LooksAs (v.handovers q r)) q r
-        (λ at its. record {
-          term = refl;
-          range = refl;
-          role =
-              subst (GoesOn (v.handovers q r).role) (sym (new_role (v.handovers q r) (role_is q r at its)))
-              (subst (λ (role : Role). GoesOn role (roles.Rebuilding gathers.0 (Some closing))) (sym (role_is q r at its))
-              (merged_goes_on gathers.0 closing));
-          counter = λ frozen. let never = sym (role_is q r at its) ∙ frozen in absurd (cc never);
-        })
-        (λ apart. looks_same (v.handovers q r));
-    applied = applied_same;
-    truths = truth_same;
-  }
+  pub looks : (q r : ℕ) → LooksAs (v.handovers q r) (now.handovers q r)
+  looks q r =
+      of_handover (LooksAs (v.handovers q r)) q r
+      (λ at its. record {
+        term = refl;
+        range = refl;
+        role = rw (new_role (v.handovers q r) (role_is q r at its), role_is q r at its) (merged_goes_on gathers.0 closing);
+        counter = λ frozen. let never = sym (role_is q r at its) ∙ frozen in absurd (cc never);
+      })
+      (λ apart. looks_same (v.handovers q r))
 
   -- what does not tell the two roles apart is the same of each tablet
   pub by_role : {X : Type 0} (f : Role → X) → f (roles.Rebuilding gathers.0 (Some closing)) ≡ f (roles.Rebuilding gathers.0 None) → (q r : ℕ) → f (now.handovers q r).role ≡ f (v.handovers q r).role

@@ -6,36 +6,26 @@ use Rattle.rk_inv_base.proofs.Words.{All-tail, All-weaker, list_any, meets, Held
 use Rattle.rk_inv_base.proofs.Words.{newest_items_are, newest_items, items_in, items_of, Gather, Gathered, by_member, counted_of}
 use Rattle.rk_inv_base.proofs.Words.{is_of_lineage, material_by, side_read, touches, as_entries, counting, counts, is_joined_in}
 use Rattle.rk_inv_base.proofs.Words.{material_of, named, has_version, merge, segments_in, IsOfRange}
+use Rattle.rk_inv_tablets.proofs.Words.{main_entries, piece_entries, key_outside, kept_stands, all_by, all_flat}
 use Rattle.rk_entry.specs.declared.entry.Entry.TheVariants as entries
-use Rattle.rk_world.specs.Gather.{main_entries}
-use Rattle.rk_inv_tablets.specs.merge.Small.{piece_entries}
-use Rattle.rk_inv_base.proofs.rows.Apart.{key_outside}
-use Rattle.rk_inv_base.proofs.pulls.Joining.{kept_stands}
-use Rattle.rk_inv_base.proofs.views.Lists.{all_by}
-use Rattle.rk_inv_wellformed.proofs.maps.Lists.{all_flat}
 
 -- ---- an entry of a rebuild of a range
 
 -- names no side segment
 pub segments_none : (a : Range) (e : Entry) → IsOfRange a e → segments_in e ≡ []
-segments_none a (entries.Held held) of = refl
-segments_none a (entries.Refused refused) of = refl
-segments_none a (entries.Carried carried) of = refl
 segments_none a (entries.Joined joined) of = absurd of
+segments_none a _ of = refl
 
 -- and is no Joined
 pub joins_none : (a b : Range) (e : Entry) → IsOfRange a e → is_joined_in b e ≡ false
-joins_none a b (entries.Held held) of = refl
-joins_none a b (entries.Refused refused) of = refl
-joins_none a b (entries.Carried carried) of = refl
 joins_none a b (entries.Joined joined) of = absurd of
+joins_none a b _ of = refl
 
 -- it touches no range that does not meet its own
 pub touches_none : (a b : Range) → meets a b ≡ false → meets b a ≡ false → (e : Entry) → IsOfRange a e → touches b e ≡ false
 touches_none a b apart back (entries.Held held) of = key_outside b a held.table held.key back of
-touches_none a b apart back (entries.Refused refused) of = absurd of
 touches_none a b apart back (entries.Carried carried) of = subst (λ (range : Range). meets range b ≡ false) (sym of) apart
-touches_none a b apart back (entries.Joined joined) of = absurd of
+touches_none a b apart back _ of = absurd of
 
 -- nothing passes of a list where each element fails
 pub none_passes : {X : Type 0} (p : X → Bool) (xs : List X) → All (λ x. p x ≡ false) xs → list_any p xs ≡ false
@@ -66,10 +56,8 @@ items_inside range (entry ∷ list) each =
     (items_inside range list (All-tail (Counts range) entry list each))
   where
     one : (e : Entry) → Counts range e → All (λ item. is_in range item ≡ true) (items_in e)
-    one (entries.Held held) inside = All-cons (λ item. is_in range item ≡ true) held [] inside (All-nil (λ item. is_in range item ≡ true))
-    one (entries.Refused refused) inside = All-nil (λ item. is_in range item ≡ true)
-    one (entries.Carried carried) inside = All-nil (λ item. is_in range item ≡ true)
-    one (entries.Joined joined) inside = All-nil (λ item. is_in range item ≡ true)
+    one (entries.Held held) inside = All-cons (λ item. is_in range item ≡ true) held [] inside (All-nil _)
+    one _ inside = All-nil _
 
 -- ---- what is merged
 
@@ -81,7 +69,7 @@ read_counts gather own mine =
     all_flat (Counts gather.range) (λ list. list) (by_member gather own)
     (All-append Each groups (cond (is_of_lineage gather) [] (own ∷ []))
     (All-map Each (λ member. material_by gather own member.master) gather.lineage
-    (all_by (λ member. Each (material_by gather own member.master)) gather.lineage (λ member at. by member.master)))
+    (all_by _ gather.lineage (λ member at. by member.master)))
     (cond_both (is_of_lineage gather) [] (own ∷ []) (All Each) (λ e. All-nil Each) (λ e. All-cons Each own [] mine (All-nil Each))))
   where
     by : (master : ℕ) → All (Counts gather.range) (material_by gather own master)
@@ -90,7 +78,7 @@ read_counts gather own mine =
         cond_both (master == gather.own) own (flat_map (counted_of gather.range) read) (All (Counts gather.range)) (λ e. mine)
         (λ e.
         all_flat (Counts gather.range) (counted_of gather.range) read
-        (all_by (λ gathered. All (Counts gather.range) (counted_of gather.range gathered)) read (λ gathered at. material_counts gather.range (side_read gathered) (main_entries gathered))))
+        (all_by _ read (λ gathered at. material_counts gather.range (side_read gathered) (main_entries gathered))))
 
 -- the newest items are items
 newest_stand : (items : List Held) → All (Contains items) (newest_items items)
@@ -109,4 +97,4 @@ piece_inside gather own handover range mine =
     (All-filter (λ item. not (has_version (items_of own) item)) (λ item. is_in gather.range item ≡ true) (newest_items all)
     (All-weaker (Contains all) (λ item. is_in gather.range item ≡ true) (λ item at. All-contains (λ item. is_in gather.range item ≡ true) all item inside at)
     (newest_items all) (newest_stand all))))
-    (All-cons (IsOfRange gather.range) _ [] range (All-nil (IsOfRange gather.range)))
+    (All-cons (IsOfRange gather.range) _ [] range (All-nil _))

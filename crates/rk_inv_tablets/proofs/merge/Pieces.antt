@@ -5,7 +5,7 @@ use Rattle.std.proofs.Common.{flat_map, le-leb, le-ltb, lt-ltb}
 use Rattle.rk_inv_base.proofs.Words.{cases_lt, cond-false, cond-true, cond_both, and_left, and_right, or_from, or_left, or_parts, or_right}
 use Rattle.rk_inv_base.proofs.Words.{drop-append-le, take-append-le, All-head, All-tail, list_any, Range, Entry, is_marked, unmarked}
 use Rattle.rk_inv_base.proofs.Words.{unmarked_from, counting, counts, named_by, Mark, marked_entries}
-use Rattle.rk_inv_base.proofs.logs.Shares.{drop_all}
+use Rattle.rk_inv_tablets.proofs.Words.{drop_all}
 
 -- ---- one more mark
 
@@ -45,8 +45,7 @@ unmarked_in marks mark place (entry ∷ list) from within =
 
 -- so of entries with the piece behind them those without a mark are those that there were
 pub unmarked_piece : (marks : List Mark) (mark : Mark) (place : ℕ) (list piece : List Entry) → place + length list ≡ mark.first → mark.first + length piece ≤ mark.past → unmarked (marks ++ mark ∷ []) place (list ++ piece) ≡ unmarked marks place list
-unmarked_piece marks mark place [] piece first past =
-    unmarked_in marks mark place piece (omega (arith, first)) (omega (arith, first, past))
+unmarked_piece marks mark place [] piece first past = unmarked_in marks mark place piece (omega (arith, first)) (omega (arith, first, past))
 unmarked_piece marks mark place (entry ∷ list) piece first past =
     let at : suc place + length list ≡ mark.first = omega (arith, first) in
     (λ i.

@@ -5,13 +5,10 @@ use Rattle.rk_inv_base.proofs.Words.{cond-false, cond-true, length-map, filter-a
 use Rattle.rk_inv_base.proofs.Words.{with_marks, Master, with_all, with_appended, with_tablet, as_entries, with_merged, is_absent, Tablet}
 use Rattle.rk_inv_base.proofs.Words.{World, master_at, tablet_in, with_ledger, with_master, written_by, Mark, Merged, closing_carried, put}
 use Rattle.rk_inv_base.proofs.Words.{put2, view, IsSound, SoundView}
+use Rattle.rk_inv_tablets.proofs.Words.{put_is, put_same, put2_same, master_other, master_same, tablet_apart, tablet_here, found_stands}
+use Rattle.rk_inv_tablets.proofs.Words.{view_master, MayMergeFormed, as_merged, merge_in, merged_view, piece_entries, piece_mark}
+use Rattle.rk_inv_tablets.proofs.Words.{rebuild_merged_in, with_entries, with_piece}
 use Rattle.rk_entry.specs.declared.entry.Entry.TheVariants as entries
-use Rattle.rk_inv_base.proofs.views.Put.{put_is, put_same, put2_same}
-use Rattle.rk_inv_base.proofs.views.Masters.{master_other, master_same, tablet_apart, tablet_here}
-use Rattle.rk_inv_base.proofs.rows.Serving.{found_stands}
-use Rattle.rk_inv_base.proofs.views.Views.{view_master}
-use Rattle.rk_inv_tablets.specs.merge.Moves.{MayMergeFormed}
-use Rattle.rk_inv_tablets.specs.merge.Small.{as_merged, merge_in, merged_view, piece_entries, piece_mark, rebuild_merged_in, with_entries, with_piece}
 use Rattle.rk_inv_tablets.proofs.merge.Heirs.{gathers_from}
 use Rattle.rk_inv_tablets.proofs.merge.Merged.{view_merged}
 
@@ -145,12 +142,11 @@ sound_merged w master tablet sound may =
     at None found some = absurd (cc)
     at (Some row) found some =
         let number_is : row.tablet ≡ tablet = number_of (view w).rows tablet row found in
-        subst (λ (n : ℕ). IsSound (rebuild_merged_in w master n)) number_is
-        (subst SoundView (sym (merged_is w master row.tablet (sound.nodes.numbered master)))
+        rw (← number_is) (subst SoundView (sym (merged_is w master row.tablet (sound.nodes.numbered master)))
         (view_merged (view w) (record {
           row = row;
           master = master;
           sound = sound;
           has_row = found_stands (view w).rows tablet row found;
-          may = subst (λ (n : ℕ). MayMergeFormed (view w) master n) (sym number_is) may;
+          may = rw number_is may;
         })))

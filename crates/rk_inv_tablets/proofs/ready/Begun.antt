@@ -1,31 +1,22 @@
 -- A lane stays sound when a master begins to rebuild a tablet: it gives up each other tablet there, and outside the lineage it drops its
 -- items of the range; nothing is gathered so far.
-use Rattle.std.proofs.Common.{◌≡◌, ℕ, ◌<◌, ◌≤◌, Bool, true, false, List, [], ◌∷◌, Option, Some, None, cond, length, map, refl, sym, ap, ◌∙◌}
+use Rattle.std.proofs.Common.{◌≡◌, ℕ, ◌<◌, Bool, true, false, List, [], ◌∷◌, Option, Some, None, cond, length, map, refl, sym, ap, ◌∙◌}
 use Rattle.std.proofs.Common.{subst, ⊎_elim, ◌⊎◌, inr, arith, ◌==◌, ◌||◌, filter, is_some, nat_lt, not, slice_index_or, Contains, lt-ltb}
-use Rattle.rk_inv_base.proofs.Words.{cases_eq, cond-true, false≢true, drop_all, All-cons, All-contains, All-nil, Contains-get_or, meets}
-use Rattle.rk_inv_base.proofs.Words.{Held, Member, Range, Entry, order_without, Handover, lineage_of, row_of, Phase, Rebuilding, Row, Known}
-use Rattle.rk_inv_base.proofs.Words.{known_of, EntryEnd, Rebuild, with_others_given_up, is_member, own_member, unmarked, Master, tablet_at}
+use Rattle.rk_inv_base.proofs.Words.{cases_eq, cond-true, false≢true, drop_all, All-cons, All-nil, Contains-get_or, meets, Held, Member}
+use Rattle.rk_inv_base.proofs.Words.{Range, Entry, order_without, Handover, lineage_of, row_of, Phase, Rebuilding, Row, Known, known_of}
+use Rattle.rk_inv_base.proofs.Words.{EntryEnd, Rebuild, with_others_given_up, is_member, own_member, unmarked, Master, tablet_at}
 use Rattle.rk_inv_base.proofs.Words.{with_tablet, material_of, side_entries, begun_from, rebuild_begun, with_begun, without_foreign, Tablet}
-use Rattle.rk_inv_base.proofs.Words.{World, master_at, tablet_in, with_master, member_material, IsWithinRows, stored_of, Holds, Post}
-use Rattle.rk_inv_base.proofs.Words.{bond_of, IsGathered, NeededOf, READ_BACKUP, AreApart, IsFormed, HandoverFits, View, truths, view}
-use Rattle.rk_inv_base.proofs.Words.{IsSound, SoundView}
-use Rattle.rk_transfer.specs.Handover.{rebuilt as handover_rebuilt}
-use Rattle.rk_tablet_map.specs.Phase.{member as member_at}
-use Rattle.rk_world.specs.Gather.{unread}
-use Rattle.rk_sound.specs.Moves.{MayBegin}
+use Rattle.rk_inv_base.proofs.Words.{World, master_at, tablet_in, with_master, member_material, IsWithinRows, stored_of, IsGathered}
+use Rattle.rk_inv_base.proofs.Words.{NeededOf, READ_BACKUP, AreApart, IsFormed, HandoverFits, View, truths, view, IsSound, SoundView}
+use Rattle.rk_inv_tablets.proofs.Words.{rebuilt as handover_rebuilt, member as member_at, unread, MayBegin, same_number, covered_by, stays}
+use Rattle.rk_inv_tablets.proofs.Words.{stood, IsRebuilderIn, rows_apart, stands_found, as_begun, as_rebuilding, begins_from, begun}
+use Rattle.rk_inv_tablets.proofs.Words.{begun_tablets, items_left, rebuild_begun_in, tablet_seen, row_in}
 use Rattle.rk_sound.specs.Rebuilds.{AreGathered}
-use Rattle.rk_inv_base.proofs.rows.Apart.{same_number}
-use Rattle.rk_inv_base.proofs.views.Cover.{covered_by}
-use Rattle.rk_inv_base.proofs.logs.InRange.{stays, stood}
-use Rattle.rk_inv_base.proofs.calls.Rebuilds.{IsRebuilderIn}
-use Rattle.rk_inv_base.proofs.roles.RoleTaken.{rows_apart}
-use Rattle.rk_inv_base.proofs.rows.TurnedRows.{stands_found}
 use Rattle.rk_inv_tablets.proofs.ready.Heirs.{MayBeginBy, begins_by, post_is}
 use Rattle.rk_inv_tablets.proofs.ready.OthersGivenUp.{MayTakeOrder, apart, beside_order, step}
 use Rattle.rk_inv_tablets.proofs.ready.TakenTablets.{own_at, view_taken}
 use Rattle.rk_inv_tablets.proofs.ready.Yielded.{view_yielded}
 use Rattle.rk_inv_tablets.proofs.ready.Yielding.{AreLeft, Yields, YieldsBeside}
-use Rattle.rk_inv_tablets.specs.ready.Small.{as_begun, as_rebuilding, begins_from, begun, begun_tablets, items_left, rebuild_begun_in, tablet_seen}
 
 -- ---- what is gathered at first
 
@@ -63,8 +54,7 @@ own_none (member ∷ more) master outside = go (member.master == master) (own_no
 
 -- the order of a row that a master rebuilds
 abbrev pub order_of : Row → List Member → Rebuild
-order_of row lineage =
-    record { tenure = record { tablet = row.tablet; term = row.term }; range = row.range; lineage = lineage }
+order_of row lineage = record { tenure = record { tablet = row.tablet; term = row.term }; range = row.range; lineage = lineage }
 
 module _ (v : View) (row : Row) (master : ℕ) (lineage : List Member) (sound : SoundView v) (may : MayBegin v row master (order_of row lineage)) where
   -- what the condition says, by short names
@@ -93,7 +83,7 @@ module _ (v : View) (row : Row) (master : ℕ) (lineage : List Member) (sound : 
   own = as_begun master (order_of row lineage) place (tablet_seen v master row.tablet)
 
   lineage_apart : AreApart lineage
-  lineage_apart = subst IsFormed is (All-contains (λ (r : Row). IsFormed r.phase) v.rows row sound.rows.formed has)
+  lineage_apart = subst IsFormed is (row_in v sound row has).formed
 
   begins : MayBeginBy v row master sound has lives below lineage is (own_member lineage master)
   begins = begins_by v row master sound has lives below lineage is lineage_apart
@@ -118,16 +108,13 @@ module _ (v : View) (row : Row) (master : ℕ) (lineage : List Member) (sound : 
     grows = omega (arith, below);
     within = omega arith;
     greater = λ waits. absurd (cc waits);
-    fits =
-        subst (λ (post : Post). Holds (bond_of post own.handover.role) row.term row.term (v.written master).applied)
-        (sym (post_is v row master sound has lives below lineage is)) begins.fits;
-    kind =
-        inr (record { lineage = lineage; phase_is = is; term_is = refl; range_is = refl; from = place; role_is = refl });
+    fits = rw (post_is v row master sound has lives below lineage is) begins.fits;
+    kind = inr (record { lineage = lineage; phase_is = is; term_is = refl; range_is = refl; from = place; role_is = refl });
   }
 
   formed : (x : Row) → Contains v.rows x → HandoverFits x row.tablet own.handover
   formed x there = record {
-    within = λ its. subst (λ (r : Row). row.term ≤ r.term) (sym (same_row x there its)) (omega arith);
+    within = λ its. rw (same_row x there its) (omega arith);
     below = λ other met. absurd (rows_apart v x row sound there has other met);
     exact = λ its at. ap (λ (r : Row). r.range) (sym (same_row x there its));
   }
@@ -178,12 +165,12 @@ module _ (v : View) (row : Row) (master : ℕ) (lineage : List Member) (sound : 
       let same : x ≡ row = same_row x there its in
       let those : members ≡ lineage =
       ap lineage_of (sym phase) ∙ ap (λ (r : Row). lineage_of r.phase) same ∙ ap lineage_of is in
-      subst (λ (r : Row). IsBegun r members) (sym same) (subst (IsBegun row) (sym those) rebuilder)
+      rw (same, those) rebuilder
 
   own_yields : Yields v master left row.tablet own
   own_yields = record {
     beside = λ x there its.
-        subst (λ (r : Row). YieldsBeside r master (v.written master).applied old own.handover) (sym (same_row x there its)) beside_row;
+        rw (same_row x there its) beside_row;
     formed = formed;
     begun = λ present. omega (arith, below);
     known = λ present. ap is_some found;
@@ -207,9 +194,8 @@ module _ (v : View) (row : Row) (master : ℕ) (lineage : List Member) (sound : 
       (sym outside ∙ ap (λ (phase : Phase). is_member (lineage_of phase) master) (sym is)
       ∙ ap (λ (r : Row). is_member (lineage_of r.phase) master) (sym same) ∙ member))
       (λ (at : (v.handovers master x.tablet).term ≡ x.term).
-      let here : old.term ≡ row.term = subst (λ (r : Row). (v.handovers master r.tablet).term ≡ r.term) same at in
-      omega (arith, below, here))
-      counts))
+      let here : old.term ≡ row.term = rw (← same) at in
+      omega (arith, below, here)) counts))
       (λ (other : x.tablet ≡ row.tablet → ⊥). beside_order v master row.tablet row.term row.range sound order x there other counts)
       (cases_eq x.tablet row.tablet)
 
@@ -249,8 +235,7 @@ view_begun v row master rebuild sound may =
       range = sym may.range_is i;
       lineage = rebuild.lineage;
     }) in
-    subst (λ (r : Rebuild). SoundView (begun v master r)) same
-    (view_begins v row master rebuild.lineage sound (subst (MayBegin v row master) (sym same) may))
+    rw (← same) (view_begins v row master rebuild.lineage sound (rw same may))
 
 -- ---- a world where a master begins to rebuild a tablet
 
@@ -324,7 +309,7 @@ pub sound_begun : (w : World) (row : Row) (master : ℕ) (rebuild : Rebuild) →
 sound_begun w row master rebuild sound may =
     let greater : (tablet_in w master rebuild.tenure.tablet).handover.term < rebuild.tenure.term =
     let here : ((view w).handovers master rebuild.tenure.tablet).term < row.term =
-    subst (λ (n : ℕ). ((view w).handovers master n).term < row.term) (sym may.tablet_is) may.greater in
+    rw may.tablet_is may.greater in
     omega (arith, here, may.term_is) in
     subst SoundView (sym (view_begun_in w master rebuild (sound.nodes.numbered master) greater))
     (view_begun (view w) row master rebuild sound may)

@@ -8,23 +8,18 @@ use Rattle.rk_inv_base.proofs.Words.{lineage_of, Phase, Rebuilding, Row, items_i
 use Rattle.rk_inv_base.proofs.Words.{touches, counting, counts, is_joined_in, joined_from, log_material, material_of, named, named_by}
 use Rattle.rk_inv_base.proofs.Words.{side_entries, is_receiving, Pulling, Written, applied_entries, lineage_truth, member_truth, Bystander}
 use Rattle.rk_inv_base.proofs.Words.{FirstRebuilder, Holds, InvitedTarget, LastRebuilder, OnlyRebuilder, OutsideRebuilder, Post}
-use Rattle.rk_inv_base.proofs.Words.{ReadyTarget, StillCounts, bond_of, post_of, rebuilder_post, applied_from, HasClosing, IsBare, IsFound}
-use Rattle.rk_inv_base.proofs.Words.{MembersFit, NamedFit, closing_joined, copied_items, entries_from, is_granted, joined_place}
-use Rattle.rk_inv_base.proofs.Words.{named_items, wanted_place, FirstIsDone, IsDone, OnlyIsUnnamed, RoleFits, AreApart, IsPlaced, HasItems}
-use Rattle.rk_inv_base.proofs.Words.{IsTableOf, has_all_items, View, truths, SoundView}
+use Rattle.rk_inv_base.proofs.Words.{ReadyTarget, bond_of, post_of, rebuilder_post, applied_from, HasClosing, IsBare, IsFound, MembersFit}
+use Rattle.rk_inv_base.proofs.Words.{NamedFit, closing_joined, copied_items, entries_from, is_granted, joined_place, named_items}
+use Rattle.rk_inv_base.proofs.Words.{wanted_place, FirstIsDone, IsDone, OnlyIsUnnamed, AreApart, IsPlaced, HasItems, IsTableOf}
+use Rattle.rk_inv_base.proofs.Words.{has_all_items, View, truths, SoundView}
+use Rattle.rk_inv_tablets.proofs.Words.{contains_cases, truth_in, kept_stands, scanned, stands_kept, IsTargetIn, IsOutside, heir_outside}
+use Rattle.rk_inv_tablets.proofs.Words.{IsHeir, heir_post, behind_first, begins_from, items_left, row_in}
 use Rattle.rk_transfer.specs.declared.role.Role.TheVariants as roles
-use Rattle.rk_inv_base.proofs.rows.Apart.{contains_cases}
-use Rattle.rk_inv_base.proofs.logs.InRange.{truth_in}
-use Rattle.rk_inv_base.proofs.pulls.Joining.{kept_stands, scanned, stands_kept}
-use Rattle.rk_inv_base.proofs.calls.Receives.{IsTargetIn}
-use Rattle.rk_inv_base.proofs.roles.Released.{IsOutside, heir_outside}
-use Rattle.rk_inv_base.proofs.roles.Steady.{IsHeir, heir_post}
-use Rattle.rk_inv_base.proofs.rows.TurnedRows.{behind_first}
 use Rattle.rk_inv_tablets.proofs.ready.Left.{none_left}
 use Rattle.rk_inv_tablets.proofs.ready.Outside.{rebuilder_is, second_member}
 use Rattle.rk_inv_tablets.proofs.ready.OwnItems.{flat_from, flat_stands, named_counts, named_from}
-use Rattle.rk_inv_tablets.specs.ready.Small.{begins_from, items_left}
-use Rattle.rk_inv_tablets.proofs.ready.TakenUp.{IsTakenUp, applied_behind, applied_counts, bare_takes, named_applied, named_of, table_comes, table_finds, unmarked_behind}
+use Rattle.rk_inv_tablets.proofs.ready.TakenUp.{IsTakenUp, applied_behind, applied_counts, bare_takes, named_applied, named_of, table_comes}
+use Rattle.rk_inv_tablets.proofs.ready.TakenUp.{table_finds, unmarked_behind}
 
 -- a master outside the lineage may begin at any place
 foreign_fits : (post : Post) (from term applied : ℕ) → IsOutside post → IsHeir post → Holds (bond_of post (roles.Rebuilding from None)) term term applied
@@ -56,19 +51,13 @@ module _ (v : View) (row : Row) (master : ℕ) (sound : SoundView v) (has : Cont
   truths_are = ap (lineage_truth v.base v.written range) lineage_is
 
   pub old_fits : Holds (bond_of (rebuilder_post lineage master) old.role) row.term old.term w.applied
-  old_fits =
-      subst (λ (post : Post). Holds (bond_of post old.role) row.term old.term w.applied) post_is
-      (All-contains
-      (λ (r : Row). StillCounts (v.live master) (v.handovers master r.tablet).term r.term
-      → RoleFits r master (v.handovers master r.tablet) w.applied)
-      v.rows row (sound.roles.fitting master) has (inl lives))
+  old_fits = rw (← post_is) ((row_in v sound row has).fitting master (inl lives))
 
   -- an item of a member's truth is of the row's
   member_in : (first : Member) (more : List Member) (m : Member) → lineage ≡ first ∷ more → Contains (first ∷ more) m → (item : Held) → Contains (items_of (member_truth v.written range m)) item → Contains (items_of (truths v row)) item
   member_in first more m shape member item at =
       let found = flat_from items_in (member_truth v.written range m) item at in
-      subst (λ (list : List Entry). Contains (items_of list) item)
-      (sym (truths_are ∙ ap (lineage_truth v.base v.written range) shape))
+      rw (truths_are ∙ ap (lineage_truth v.base v.written range) shape)
       (flat_stands items_in (flat_map (member_truth v.written range) (first ∷ more)) found.0 item
       (flat_stands (member_truth v.written range) (first ∷ more) m found.0 member found.1) found.2)
 
@@ -85,9 +74,7 @@ module _ (v : View) (row : Row) (master : ℕ) (sound : SoundView v) (has : Cont
   table_is : (first : Member) (more : List Member) → lineage ≡ first ∷ more → has_all_items (rebuilder_post lineage master) old row.term ≡ true → IsTableOf range (member_truth v.written range first) (v.records master)
   table_is first more shape all =
       let items : HasItems row v.written (v.records master) =
-      All-contains
-      (λ (r : Row). has_all_items (post_of r.phase master) (v.handovers master r.tablet) r.term ≡ true → HasItems r v.written (v.records master))
-      v.rows row (sound.records.items master lives) has
+      (row_in v sound row has).items master lives
       (ap (λ (post : Post). has_all_items post old row.term) post_is ∙ all) in
       subst (λ (members : List Member). IfSome (first_of members) (λ member. IsTableOf range (member_truth v.written range member) (v.records master)))
       (lineage_is ∙ shape) items
@@ -119,9 +106,9 @@ module _ (v : View) (row : Row) (master : ℕ) (sound : SoundView v) (has : Cont
       ∙ cond-true (only.master == master) (OnlyRebuilder only.from) OutsideRebuilder (eq-eqb only.master master here) in
       let unnamed : OnlyIsUnnamed v.written range (only ∷ []) =
       subst (OnlyIsUnnamed v.written range) (lineage_is ∙ shape)
-      (All-contains (λ (r : Row). OnlyIsUnnamed v.written r.range (lineage_of r.phase)) v.rows row sound.rest.unnamed has) in
+      (row_in v sound row has).unnamed in
       let none : joined_from range (max only.from w.applied) w.entries ≡ [] =
-      subst (λ (n : ℕ). joined_from range (max only.from (v.written n).applied) (v.written n).entries ≡ []) here unnamed in
+      rw (← here) unnamed in
       table_takes only [] shape here
       (ap (λ (post : Post). has_all_items post old row.term) post ∙ lt-ltb old.term row.term below)
       (λ item at. own_truth only here item (named_applied v row master sound has lives below only.from none item at))
@@ -134,26 +121,19 @@ module _ (v : View) (row : Row) (master : ℕ) (sound : SoundView v) (has : Cont
       (cond (last.master == master) (LastRebuilder last.from) OutsideRebuilder) (eq-eqb first.master master here) in
       let done : IsDone v.written range first =
       subst (FirstIsDone v.written range) (lineage_is ∙ shape)
-      (All-contains (λ (r : Row). FirstIsDone v.written r.range (lineage_of r.phase)) v.rows row sound.rest.done has) in
+      (row_in v sound row has).done in
       table_takes first (last ∷ []) shape here
       (ap (λ (post : Post). has_all_items post old row.term) post ∙ lt-ltb old.term row.term below)
       (λ item at.
       let mine = named_of v row master sound has lives below first.from item at in
-      subst (λ (list : List Entry). Contains (items_of list) item) done.all
-      (subst
-      (λ (n : ℕ). Contains (items_of (log_material range (v.written n).marks (v.written n).sides first.from (v.written n).entries)) item)
-      (sym here)
-      (named_counts range (side_entries w.sides) (unmarked_from w.marks first.from w.entries) item mine.0 mine.1)))
+      rw (← done.all, here) (named_counts range (side_entries w.sides) (unmarked_from w.marks first.from w.entries) item mine.0 mine.1))
 
   -- ---- the last of two members, which had the tablet granted or waits for its grant
 
   -- what it keeps is of the row's range
   own_range : is_member lineage master ≡ true → old.range ≡ range
   own_range member =
-      All-contains
-      (λ (r : Row). StillCounts (v.live master) (v.handovers master r.tablet).term r.term
-      → is_member (lineage_of r.phase) master ≡ true → (v.handovers master r.tablet).range ≡ r.range)
-      v.rows row (sound.roles.ranged master) has (inl lives) (ap (λ (members : List Member). is_member members master) lineage_is ∙ member)
+      (row_in v sound row has).ranged master (inl lives) (ap (λ (members : List Member). is_member members master) lineage_is ∙ member)
 
   -- one that waits has nothing
   waits_takes : (from place : ℕ) → is_member lineage master ≡ true → old.role ≡ roles.Wanting from → from ≡ place → IsTakenUp v row master place (v.records master)
@@ -162,8 +142,7 @@ module _ (v : View) (row : Row) (master : ℕ) (sound : SoundView v) (has : Cont
       subst (λ (role : Role). IfSome (wanted_place role) (λ from. IsBare old.range from w (v.records master))) role
       (sound.receives.bare master row.tablet) in
       bare_takes v row master sound has lives below place (v.records master)
-      (subst (λ (r : Range). IsBare r place w (v.records master)) (own_range member)
-      (subst (λ (n : ℕ). IsBare old.range n w (v.records master)) same bare))
+      (rw (← own_range member, ← same) bare)
 
   module _ (first last : Member) (shape : lineage ≡ first ∷ last ∷ []) (here : last.master ≡ master) (granted : is_granted old.role ≡ true) where
     abbrev pulling : Pulling
@@ -176,10 +155,9 @@ module _ (v : View) (row : Row) (master : ℕ) (sound : SoundView v) (has : Cont
 
     target : Target master
     target =
-        subst Target here
+        rw (← here)
         (subst (λ (members : List Member). MembersFit row v.written v.handovers v.pullings v.records v.handed members) (lineage_is ∙ shape)
-        (All-contains (λ (r : Row). MembersFit r v.written v.handovers v.pullings v.records v.handed (lineage_of r.phase)) v.rows row
-        sound.receives.targets has)
+        (row_in v sound row has).target
         (ap (λ (n : ℕ). is_granted (v.handovers n row.tablet).role) here ∙ granted))
 
     abbrev truth : List Entry
@@ -191,8 +169,7 @@ module _ (v : View) (row : Row) (master : ℕ) (sound : SoundView v) (has : Cont
 
     -- a Joined of the range stands among those from its place on
     among_joined : (j : Entry) → Contains (drop last.from w.entries) j → is_joined_in range j ≡ true → (others : List Entry) → joined_from range last.from w.entries ≡ others → Contains others j
-    among_joined j stands joins others are =
-        subst (λ (list : List Entry). Contains list j) are (stands_kept (is_joined_in range) (drop last.from w.entries) j stands joins)
+    among_joined j stands joins others are = rw (← are) (stands_kept (is_joined_in range) (drop last.from w.entries) j stands joins)
 
     -- a segment that a Joined of the range names
     record IsNamed (n : ℕ) : Type 0 where
@@ -238,8 +215,7 @@ module _ (v : View) (row : Row) (master : ℕ) (sound : SoundView v) (has : Cont
         sealed_is old.role granted target.closing segment.0
         (record { joined = joined.0; stands = behind joined.0 joined.1; joins = joined.3; names = joined.2 }) in
         let copy : Contains copied item =
-        subst (λ (items : List Held). Contains items item) (sym (copies_are sealed.1))
-        (flat_stands items_in (flat_map (side_entries w.sides) pulling.sealed) e item
+        rw (copies_are sealed.1) (flat_stands items_in (flat_map (side_entries w.sides) pulling.sealed) e item
         (flat_stands (side_entries w.sides) pulling.sealed segment.0 e sealed.0 segment.2) inside) in
         target.received.found item
         (inr (target.received.within item copy, λ receives. absurd (both_ways (is_receiving old.role) sealed.1 receives)))
@@ -284,11 +260,11 @@ module _ (v : View) (row : Row) (master : ℕ) (sound : SoundView v) (has : Cont
         of_first : (item : Held) → Contains (named_items range last.from w) item → Contains (items_of (member_truth v.written range first)) item
         of_first item at =
             subst (NamedFit v.written range) (lineage_is ∙ shape)
-            (All-contains (λ (r : Row). NamedFit v.written r.range (lineage_of r.phase)) v.rows row sound.receives.named has) item
-            (subst (λ (n : ℕ). Contains (named_items range last.from (v.written n)) item) (sym here) at)
+            (row_in v sound row has).named_items item
+            (rw here at)
 
   last_takes : (first last : Member) → lineage ≡ first ∷ last ∷ [] → (first.master ≡ master → ⊥) → last.master ≡ master → IsTakenUp v row master last.from (v.records master)
-  last_takes first last shape apart here = go old.role refl (subst (λ (post : Post). Holds (bond_of post old.role) row.term old.term w.applied) post old_fits)
+  last_takes first last shape apart here = go old.role refl (rw (← post) old_fits)
     where
       post : rebuilder_post lineage master ≡ LastRebuilder last.from
       post =
@@ -298,19 +274,14 @@ module _ (v : View) (row : Row) (master : ℕ) (sound : SoundView v) (has : Cont
           ∙ cond-true (last.master == master) (LastRebuilder last.from) OutsideRebuilder (eq-eqb last.master master here)
 
       member : is_member lineage master ≡ true
-      member =
-          subst (λ (n : ℕ). is_member lineage n ≡ true) here
-          (ap (λ (members : List Member). is_member members last.master) shape ∙ second_member first last [])
+      member = rw (← here) (ap (λ (members : List Member). is_member members last.master) shape ∙ second_member first last [])
 
       go : (role : Role) → old.role ≡ role → Holds (bond_of (LastRebuilder last.from) role) row.term old.term w.applied → IsTakenUp v row master last.from (v.records master)
       go (roles.Wanting from) role holds = waits_takes from last.from member role holds.1
       go roles.Receiving role holds = granted_takes first last shape here (ap is_granted role)
       go (roles.Joining entry) role holds = granted_takes first last shape here (ap is_granted role)
       go (roles.Rebuilding from entry) role holds = let at = holds.0 in absurd (omega (arith, below, at))
-      go roles.Absent role holds = absurd holds
-      go roles.Serving role holds = absurd holds
-      go roles.Closing role holds = absurd holds
-      go roles.Frozen role holds = absurd holds
+      go _ role holds = absurd holds
 
   -- ---- a master outside the lineage, once its items of the range are dropped
 
@@ -322,8 +293,7 @@ module _ (v : View) (row : Row) (master : ℕ) (sound : SoundView v) (has : Cont
       bare_takes v row master sound has lives below (length (v.logs master).entries) (without range (v.records master))
       (record {
         placed = omega (arith, entries_are);
-        nothing =
-            ap (list_any (touches range)) (drop_all (length (v.logs master).entries) w.entries (omega (arith, entries_are)));
+        nothing = ap (list_any (touches range)) (drop_all (length (v.logs master).entries) w.entries (omega (arith, entries_are)));
         empty = none_left range (v.records master);
       })
 
@@ -340,8 +310,8 @@ module _ (v : View) (row : Row) (master : ℕ) (sound : SoundView v) (has : Cont
   member_placed m here member =
       let all : All (IsPlaced v.written) lineage =
       subst (All (IsPlaced v.written)) lineage_is
-      (All-contains (λ (r : Row). All (IsPlaced v.written) (lineage_of r.phase)) v.rows row sound.rows.placed has) in
-      subst (λ (n : ℕ). m.from ≤ length (v.written n).entries) here (All-contains (IsPlaced v.written) lineage m all member)
+      (row_in v sound row has).placed in
+      rw (← here) (All-contains (IsPlaced v.written) lineage m all member)
 
   pub begins_by : AreApart lineage → MayBeginBy (own_member lineage master)
   begins_by apart = go lineage refl apart
@@ -353,11 +323,8 @@ module _ (v : View) (row : Row) (master : ℕ) (sound : SoundView v) (has : Cont
           ∙ cond-true (only.master == master) (OnlyRebuilder only.from) OutsideRebuilder (eq-eqb only.master master here) in
           record {
             takes = only_takes only shape here;
-            placed =
-                member_placed only here (subst (λ (members : List Member). Contains members only) (sym shape) (0, omega arith, refl));
-            fits =
-                subst (λ (post : Post). Holds (bond_of post (roles.Rebuilding only.from None)) row.term row.term w.applied) (sym post)
-                (refl, refl);
+            placed = member_placed only here (rw shape (0, omega arith, refl));
+            fits = rw post (refl, refl);
             foreign = λ none. absurd (cc none);
           }
 
@@ -369,11 +336,8 @@ module _ (v : View) (row : Row) (master : ℕ) (sound : SoundView v) (has : Cont
           (cond (last.master == master) (LastRebuilder last.from) OutsideRebuilder) (eq-eqb first.master master here) in
           record {
             takes = first_takes first last shape here;
-            placed =
-                member_placed first here (subst (λ (members : List Member). Contains members first) (sym shape) (0, omega arith, refl));
-            fits =
-                subst (λ (post : Post). Holds (bond_of post (roles.Rebuilding first.from None)) row.term row.term w.applied) (sym post)
-                (refl, refl);
+            placed = member_placed first here (rw shape (0, omega arith, refl));
+            fits = rw post (refl, refl);
             foreign = λ none. absurd (cc none);
           }
 
@@ -388,11 +352,8 @@ module _ (v : View) (row : Row) (master : ℕ) (sound : SoundView v) (has : Cont
             takes = last_takes first last shape away here;
             placed =
                 member_placed last here
-                (subst (λ (members : List Member). Contains members last) (sym shape)
-                (behind_first first (last ∷ []) last (0, omega arith, refl)));
-            fits =
-                subst (λ (post : Post). Holds (bond_of post (roles.Rebuilding last.from None)) row.term row.term w.applied) (sym post)
-                (refl, refl);
+                (rw shape (behind_first first (last ∷ []) last (0, omega arith, refl)));
+            fits = rw post (refl, refl);
             foreign = λ none. absurd (cc none);
           }
 
@@ -407,7 +368,6 @@ module _ (v : View) (row : Row) (master : ℕ) (sound : SoundView v) (has : Cont
       }
 
       go : (members : List Member) → lineage ≡ members → AreApart members → MayBeginBy (own_member members master)
-      go [] shape apart = absurd apart
       go (only ∷ []) shape apart =
           cond_both (only.master == master) (Some only) None MayBeginBy (λ e. only_begins only shape (eqb-true only.master master e))
           (λ e.
@@ -425,4 +385,4 @@ module _ (v : View) (row : Row) (master : ℕ) (sound : SoundView v) (has : Cont
           foreign_begins
           (ap (λ (members : List Member). is_member members master) shape
           ∙ ap (λ (b : Bool). b || ((last.master == master) || false)) away ∙ ap (λ (b : Bool). b || false) e)))
-      go (first ∷ last ∷ third ∷ more) shape apart = absurd apart
+      go _ shape apart = absurd apart

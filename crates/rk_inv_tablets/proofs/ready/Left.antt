@@ -3,8 +3,7 @@ use Rattle.std.proofs.Common.{◌≡◌, Bool, true, false, List, [], ◌∷◌,
 use Rattle.std.proofs.Common.{Contains}
 use Rattle.rk_inv_base.proofs.Words.{All-contains, All-contains_itself, All-weaker, list_any_none, list_any, Held, Range, Entry, is_in}
 use Rattle.rk_inv_base.proofs.Words.{without, items_of, IsRebuildTable, IsFound, IsReceived, IsTableOf}
-use Rattle.rk_inv_base.proofs.rows.Apart.{contains_cases}
-use Rattle.rk_inv_base.proofs.logs.InRange.{AreIn, IsIn, in_by_key, neither}
+use Rattle.rk_inv_tablets.proofs.Words.{contains_cases, AreIn, IsIn, in_by_key, neither}
 
 -- ---- tests that none passes
 
@@ -24,13 +23,13 @@ fails_at {X} test (y ∷ ys) x none stands =
 pub none_remains : (test : Held → Bool) (old new : List Held) → ((item : Held) → Contains new item → Contains old item) → list_any test old ≡ false → list_any test new ≡ false
 none_remains test old new stood none =
     list_any_none test new
-    (All-weaker (Contains new) (λ (item : Held). test item ≡ false) (λ item stands. fails_at test old item none (stood item stands)) new
+    (All-weaker _ _ (λ item stands. fails_at test old item none (stood item stands)) new
     (All-contains_itself new))
 
 -- what all had, all that are left have
 pub all_remain : (P : Held → Type 0) (old new : List Held) → ((item : Held) → Contains new item → Contains old item) → All P old → All P new
 all_remain P old new stood all =
-    All-weaker (Contains new) P (λ item stands. All-contains P old item all (stood item stands)) new (All-contains_itself new)
+    All-weaker _ _ (λ item stands. All-contains P old item all (stood item stands)) new (All-contains_itself new)
 
 -- ---- what is dropped
 

@@ -2,15 +2,11 @@
 use Rattle.std.proofs.Common.{◌≡◌, ℕ, ◌<◌, ◌≤◌, Bool, true, false, List, refl, sym, ap, ◌∙◌, subst, ⊎_elim, ◌⊎◌, inl, inr, arith, ◌≢◌, ◌==◌}
 use Rattle.std.proofs.Common.{◌&&◌, not, All, Contains, ne_eqb}
 use Rattle.rk_inv_base.proofs.Words.{and_parts, cases_Bool, cases_eq, cond_both, All-contains, meets, Held, Range, Handover, lineage_of}
-use Rattle.rk_inv_base.proofs.Words.{Row, given_up, is_member, is_absent, Tablet, IsAboveKept, StillCounts, post_of, RoleFits, put}
-use Rattle.rk_inv_base.proofs.Words.{HandoverFits, IsBelowOthers, View, SoundView}
-use Rattle.rk_inv_base.proofs.logs.MarkedApart.{apart_either}
-use Rattle.rk_inv_base.proofs.views.Put.{put_here, put_other}
-use Rattle.rk_inv_base.proofs.roles.Released.{outside_post}
-use Rattle.rk_inv_base.proofs.rows.Serving.{meets_either}
+use Rattle.rk_inv_base.proofs.Words.{Row, given_up, is_member, is_absent, Tablet, IsAboveKept, post_of, RoleFits, put, HandoverFits}
+use Rattle.rk_inv_base.proofs.Words.{IsBelowOthers, View, SoundView}
+use Rattle.rk_inv_tablets.proofs.Words.{apart_either, put_here, put_other, outside_post, meets_either, others_given_up, tablet_seen, row_in}
 use Rattle.rk_inv_tablets.proofs.ready.Outside.{outside_absent}
 use Rattle.rk_inv_tablets.proofs.ready.Yielding.{StaysSo, Yields, YieldsBeside}
-use Rattle.rk_inv_tablets.specs.ready.Small.{others_given_up, tablet_seen}
 
 -- a living master may take an order for a tablet, with this term and range: its term is above that of each tablet there, and below
 -- that of each other row there; the master is a member of none of these
@@ -30,22 +26,14 @@ second_fails false b first both = absurd (cc)
 module _ (v : View) (master number term : ℕ) (range : Range) (sound : SoundView v) (may : MayTakeOrder v master number term range) where
   -- what the master has fits each row
   pub fits : (x : Row) → Contains v.rows x → RoleFits x master (v.handovers master x.tablet) (v.written master).applied
-  fits x has =
-      All-contains
-      (λ (r : Row). StillCounts (v.live master) (v.handovers master r.tablet).term r.term
-      → RoleFits r master (v.handovers master r.tablet) (v.written master).applied)
-      v.rows x (sound.roles.fitting master) has (inl may.lives)
+  fits x has = (row_in v sound x has).fitting master (inl may.lives)
 
   pub kept : (x : Row) → Contains v.rows x → HandoverFits x x.tablet (v.handovers master x.tablet)
   kept x has = All-contains (λ (r : Row). HandoverFits r x.tablet (v.handovers master x.tablet)) v.rows x (sound.terms.kept master x.tablet) has
 
   -- a member of a row has its range
   pub member_range : (x : Row) → Contains v.rows x → is_member (lineage_of x.phase) master ≡ true → (v.handovers master x.tablet).range ≡ x.range
-  member_range x has member =
-      All-contains
-      (λ (r : Row). StillCounts (v.live master) (v.handovers master r.tablet).term r.term
-      → is_member (lineage_of r.phase) master ≡ true → (v.handovers master r.tablet).range ≡ r.range)
-      v.rows x (sound.roles.ranged master) has (inl may.lives) member
+  member_range x has member = (row_in v sound x has).ranged master (inl may.lives) member
 
   -- ---- another row whose range meets the order's
 
@@ -87,8 +75,7 @@ module _ (v : View) (master number term : ℕ) (range : Range) (sound : SoundVie
         (λ (at : h.term ≡ x.term).
         let same : h.range ≡ x.range = (kept x has).exact refl at in
         let above = row_above (ap (λ (r : Range). meets r range) same ∙ back) in
-        omega (arith, above, at))
-        counts))
+        omega (arith, above, at)) counts))
         (λ (apart : meets range x.range ≡ false). apart)
         (cases_Bool (meets range x.range))
 
@@ -108,7 +95,7 @@ module _ (v : View) (master number term : ℕ) (range : Range) (sound : SoundVie
         ap (λ (n : ℕ). meets (v.handovers master n).range range) its ∙ met in
         let outside : is_member (lineage_of x.phase) master ≡ false = no_member x has away meets_here in
         let below : old.term < x.term =
-        subst (λ (n : ℕ). (v.handovers master n).term < x.term) its (row_above x has away meets_here) in
+        rw (← its) (row_above x has away meets_here) in
         record {
           below = below;
           grows = omega arith;
@@ -192,9 +179,8 @@ module _ (v : View) (master number term : ℕ) (range : Range) (sound : SoundVie
         let Becomes : Tablet → Type 0 = λ t. StaysSo v master r t ⊎ Yields v master records r t in
         ⊎_elim
         (λ (is : r ≡ number).
-        subst Becomes (sym (put_here others number own r is))
-        (inr (subst (λ (n : ℕ). Yields v master records n own) (sym is) yields)))
-        (λ (other : r ≡ number → ⊥). subst Becomes (sym (put_other others number own r other)) (other_step records r other))
+        rw (put_here others number own r is) (inr (rw is yields)))
+        (λ (other : r ≡ number → ⊥). rw (put_other others number own r other) (other_step records r other))
         (cases_eq r number)
 
     -- the order's own tablet meets no other one
@@ -208,16 +194,13 @@ module _ (v : View) (master number term : ℕ) (range : Range) (sound : SoundVie
         ⊎_elim
         (λ (ia : a ≡ number).
         let ob : b ≡ number → ⊥ = λ ib. differ (ia ∙ sym ib) in
-        subst (λ (t : Tablet). AreApart t (tablets b)) (sym (put_here others number own a ia))
-        (subst (λ (t : Tablet). AreApart own t) (sym (put_other others number own b ob)) (own_apart b ob)))
+        rw (put_here others number own a ia, put_other others number own b ob) (own_apart b ob))
         (λ (oa : a ≡ number → ⊥).
-        subst (λ (t : Tablet). AreApart t (tablets b)) (sym (put_other others number own a oa))
-        (⊎_elim
+        rw (put_other others number own a oa) (⊎_elim
         (λ (ib : b ≡ number).
-        subst (λ (t : Tablet). AreApart (others a) t) (sym (put_here others number own b ib))
-        (λ there own_there.
+        rw (put_here others number own b ib) (λ there own_there.
         apart_either own.handover.range (others a).handover.range (own_apart a oa own_there there)))
         (λ (ob : b ≡ number → ⊥).
-        subst (λ (t : Tablet). AreApart (others a) t) (sym (put_other others number own b ob)) (others_apart a b differ oa ob))
+        rw (put_other others number own b ob) (others_apart a b differ oa ob))
         (cases_eq b number)))
         (cases_eq a number)

@@ -1,13 +1,11 @@
 -- Masters that are not of a row's lineage: what they may have of the tablet below the row's term, and what it may become.
-use Rattle.std.proofs.Common.{◌≡◌, ℕ, ◌<◌, ◌≤◌, Bool, true, false, List, ◌∷◌, cond, eqb, refl, subst, ⊎_elim, arith, ◌&&◌, ◌||◌, nat_lt}
-use Rattle.std.proofs.Common.{eq-eqb}
+use Rattle.std.proofs.Common.{◌≡◌, ℕ, ◌<◌, ◌≤◌, Bool, true, false, List, ◌∷◌, cond, eqb, refl, ⊎_elim, arith, ◌&&◌, ◌||◌, nat_lt, eq-eqb}
 use Rattle.rk_inv_base.proofs.Words.{both_ways, cases_eq, cond-true, false≢true, or_left, or_right, nat_tests, Member, is_serving, Handover}
 use Rattle.rk_inv_base.proofs.Words.{Role, Rebuilding, is_member, is_idle, is_rebuilding, Post, InvitedTarget, ReadyTarget, OnlyRebuilder}
 use Rattle.rk_inv_base.proofs.Words.{FirstRebuilder, LastRebuilder, OutsideRebuilder, FormerMember, Bystander, rebuilder_post, post_of}
 use Rattle.rk_inv_base.proofs.Words.{bond_of, Holds, speaks, has_all_items}
+use Rattle.rk_inv_tablets.proofs.Words.{IsOutside, heir_outside, IsHeir, heir_post}
 use Rattle.rk_transfer.specs.declared.role.Role.TheVariants as roles
-use Rattle.rk_inv_base.proofs.roles.Released.{IsOutside, heir_outside}
-use Rattle.rk_inv_base.proofs.roles.Steady.{IsHeir, heir_post}
 
 -- ---- members of a lineage
 
@@ -58,7 +56,7 @@ rebuilder_is lineage master =
 pub quiet_behind : (lineage : List Member) (master : ℕ) (role : Role) (term own applied : ℕ) → is_member lineage master ≡ false → is_quiet role ≡ true → Holds (bond_of (post_of (Rebuilding lineage master) master) role) term own applied → own < term
 quiet_behind lineage master role term own applied outside quiet holds =
     heir_waits (rebuilder_post lineage master) role term own applied (heir_outside lineage master outside) (heir_post lineage master) quiet
-    (subst (λ (post : Post). Holds (bond_of post role) term own applied) (rebuilder_is lineage master) holds)
+    (rw (← rebuilder_is lineage master) holds)
 
 -- such a master has not all items of a tablet
 pub outside_lacks : (post : Post) (handover : Handover) (term : ℕ) → IsOutside post → has_all_items post handover term ≡ true → ⊥
@@ -73,13 +71,7 @@ outside_lacks _ handover term outside has = absurd outside
 -- a target that told its place keeps the row's term
 ready_never : (place : ℕ) (role : Role) (term own applied : ℕ) → own < term → Holds (bond_of (ReadyTarget place) role) term own applied → ⊥
 ready_never place (roles.Wanting from) term own applied below holds = let e : own ≡ term = holds.0 in omega (arith, below, e)
-ready_never place roles.Absent term own applied below holds = holds
-ready_never place roles.Serving term own applied below holds = holds
-ready_never place roles.Receiving term own applied below holds = holds
-ready_never place (roles.Joining entry) term own applied below holds = holds
-ready_never place roles.Closing term own applied below holds = holds
-ready_never place roles.Frozen term own applied below holds = holds
-ready_never place (roles.Rebuilding from entry) term own applied below holds = holds
+ready_never place _ term own applied below holds = holds
 
 -- such a master, at a smaller term than the row's, has nothing staged
 pub outside_idle : (post : Post) (role : Role) (term own applied : ℕ) → IsOutside post → own < term → Holds (bond_of post role) term own applied → is_idle role ≡ true

@@ -1,14 +1,12 @@
 -- Items of what counts for a range: each is of an entry that bears it, an item of the range or a Joined that names its segment.
 use Rattle.std.proofs.Common.{◌≡◌, ℕ, suc, zero, ◌<◌, ◌+◌, Bool, true, false, ◌||◌, List, [], ◌∷◌, ◌++◌, fold, Some, cond, refl, sym, ap}
-use Rattle.std.proofs.Common.{◌∙◌, subst, ⊎_elim, ◌⊎◌, inl, inr, arith, ◌==◌, slice_get, take, Contains, flat_map, eqb-true}
+use Rattle.std.proofs.Common.{◌∙◌, ⊎_elim, ◌⊎◌, inl, inr, arith, ◌==◌, slice_get, take, Contains, flat_map, eqb-true}
 use Rattle.rk_inv_base.proofs.Words.{cond_both, false≢true, or_left, or_right, Contains-append_cases, Contains-append_left}
 use Rattle.rk_inv_base.proofs.Words.{Contains-append_right, Any-from_list_any, meets, Held, Range, is_among, Entry, is_in, items_in}
 use Rattle.rk_inv_base.proofs.Words.{items_of, is_marked, unmarked, counting, counts, is_joined_in, material_of, named, named_by}
 use Rattle.rk_inv_base.proofs.Words.{with_number, Mark}
+use Rattle.rk_inv_tablets.proofs.Words.{contains_cases, kept_stands, stands_kept, behind_first}
 use Rattle.rk_entry.specs.declared.entry.Entry.TheVariants as entries
-use Rattle.rk_inv_base.proofs.rows.Apart.{contains_cases}
-use Rattle.rk_inv_base.proofs.pulls.Joining.{kept_stands, stands_kept}
-use Rattle.rk_inv_base.proofs.rows.TurnedRows.{behind_first}
 
 -- ---- lists of each of some
 
@@ -17,7 +15,7 @@ flat_stands f [] x y at inside = absurd (omega (arith, at.1))
 flat_stands {X} {Y} f (z ∷ xs) x y at inside =
     ⊎_elim
     (λ (same : z ≡ x).
-    Contains-append_left (f z) (flat_map f xs) y (subst (λ (w : X). Contains (f w) y) (sym same) inside))
+    Contains-append_left (f z) (flat_map f xs) y (rw same inside))
     (λ (later : Contains xs x). Contains-append_right (f z) (flat_map f xs) y (flat_stands f xs x y later inside))
     (contains_cases z xs x at)
 
@@ -34,7 +32,7 @@ flat_from {X} {Y} f (z ∷ xs) y at =
 among_stands : (numbers : List ℕ) (number : ℕ) → is_among number numbers ≡ true → Contains numbers number
 among_stands numbers number among =
     let found = Any-from_list_any (λ (n : ℕ). n == number) numbers among in
-    subst (λ (n : ℕ). Contains numbers n) (eqb-true found.1 number found.4) (found.0, found.2, found.3)
+    rw (← eqb-true found.1 number found.4) (found.0, found.2, found.3)
 
 number_kept : (some others : List ℕ) (n : ℕ) → Contains some n → Contains (fold with_number some others) n
 number_kept some [] n at = at
@@ -49,7 +47,7 @@ number_stands some (number ∷ others) n at =
     ⊎_elim
     (λ (same : number ≡ n).
     number_kept (with_number some number) others n
-    (subst (Contains (with_number some number)) same
+    (rw (← same)
     (cond_both (is_among number some) some (some ++ number ∷ []) (λ next. Contains next number) (λ e. among_stands some number e)
     (λ e. Contains-append_right some (number ∷ []) number (0, omega arith, refl)))))
     (λ (later : Contains others n). number_stands (with_number some number) others n later)
@@ -65,8 +63,7 @@ number_from some (number ∷ others) n at =
     (λ e there.
     ⊎_elim (λ (before : Contains some n). inl before)
     (λ (new : Contains (number ∷ []) n). inr (Contains-append_left (number ∷ []) others n new))
-    (Contains-append_cases some (number ∷ []) n there))
-    one)
+    (Contains-append_cases some (number ∷ []) n there)) one)
     (λ (later : Contains others n). inr (behind_first number others n later))
     (number_from (with_number some number) others n at)
 
@@ -83,18 +80,14 @@ bears range entry = is_held_in range entry || is_joined_in range entry
 -- an entry with an item that counts is one
 counted_bears : (range : Range) (entry : Entry) (item : Held) → counts range entry ≡ true → Contains (items_in entry) item → is_held_in range entry ≡ true
 counted_bears range (entries.Held held) item counted at = counted
-counted_bears range (entries.Refused refused) item counted at = absurd (omega (arith, at.1))
-counted_bears range (entries.Carried carried) item counted at = absurd (omega (arith, at.1))
-counted_bears range (entries.Joined joined) item counted at = absurd (omega (arith, at.1))
+counted_bears range _ item counted at = absurd (omega (arith, at.1))
 
 -- with an item of the range it counts
 held_counts : (range : Range) (entry : Entry) (item : Held) → is_in range item ≡ true → Contains (items_in entry) item → counts range entry ≡ true
 held_counts range (entries.Held held) item inside at =
     ⊎_elim (λ (same : held ≡ item). ap (is_in range) same ∙ inside) (λ (none : Contains [] item). absurd (omega (arith, none.1)))
     (contains_cases held [] item at)
-held_counts range (entries.Refused refused) item inside at = absurd (omega (arith, at.1))
-held_counts range (entries.Carried carried) item inside at = absurd (omega (arith, at.1))
-held_counts range (entries.Joined joined) item inside at = absurd (omega (arith, at.1))
+held_counts range _ item inside at = absurd (omega (arith, at.1))
 
 -- one that names a segment is a Joined of the range
 names_joined : (range : Range) (entry : Entry) (n : ℕ) → Contains (named_by range entry) n → is_joined_in range entry ≡ true
@@ -149,8 +142,7 @@ module _ (range : Range) (side : ℕ → List Entry) (more less : List Entry) wh
       let kept = kept_stands (counts range) (flat_map side (named range more)) entry second in
       Contains-append_right (counting range less) (counting range (flat_map side (named range less))) entry
       (stands_kept (counts range) (flat_map side (named range less)) entry (sides_into joined entry kept.0) kept.1))
-      (Contains-append_cases (counting range more) (counting range (flat_map side (named range more))) entry found.1))
-      found.2
+      (Contains-append_cases (counting range more) (counting range (flat_map side (named range more))) entry found.1)) found.2
 
 -- an item of the range that is named counts
 pub named_counts : (range : Range) (side : ℕ → List Entry) (list : List Entry) (item : Held) → is_in range item ≡ true → Contains (items_of (flat_map side (named range list))) item → Contains (items_of (material_of range side list)) item
@@ -158,8 +150,7 @@ named_counts range side list item inside at =
     let found = flat_from items_in (flat_map side (named range list)) item at in
     flat_stands items_in (material_of range side list) found.0 item
     (Contains-append_right (counting range list) (counting range (flat_map side (named range list))) found.0
-    (stands_kept (counts range) (flat_map side (named range list)) found.0 found.1 (held_counts range found.0 item inside found.2)))
-    found.2
+    (stands_kept (counts range) (flat_map side (named range list)) found.0 found.1 (held_counts range found.0 item inside found.2))) found.2
 
 -- ---- places
 
@@ -221,5 +212,4 @@ unmarked_at marks place (first ∷ list) e stands =
     (λ (is : first ≡ e).
     let same : place + 0 ≡ place = omega arith in
     (0, ap (λ (x : Entry). Some x) is, ap (is_marked marks) same ∙ free))
-    later (contains_cases first more e at))
-    stands
+    later (contains_cases first more e at)) stands

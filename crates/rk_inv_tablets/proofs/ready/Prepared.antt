@@ -1,24 +1,20 @@
 -- A lane stays sound when a master makes ready for a tablet: it drops its items of the range, gives up each other tablet there, and waits.
-use Rattle.std.proofs.Common.{◌≡◌, ℕ, ◌<◌, ◌≤◌, true, false, List, Option, Some, None, refl, sym, ap, ◌∙◌, subst, ⊎_elim, ◌⊎◌, inl, inr}
-use Rattle.std.proofs.Common.{length, arith, drop, is_some, nat_lt, All, Contains, lt-ltb}
+use Rattle.std.proofs.Common.{◌≡◌, ℕ, ◌<◌, true, false, List, Option, Some, None, refl, sym, ap, ◌∙◌, subst, ⊎_elim, ◌⊎◌, inl, inr, length}
+use Rattle.std.proofs.Common.{arith, drop, is_some, nat_lt, Contains, lt-ltb}
 use Rattle.rk_inv_base.proofs.Words.{cases_Bool, cases_eq, cond-true, drop_all, All-contains, list_any, meets, Held, Range, Entry}
 use Rattle.rk_inv_base.proofs.Words.{order_without, without, Handover, lineage_of, row_of, Phase, Row, Prepare, tablet_prepared, with_move}
 use Rattle.rk_inv_base.proofs.Words.{with_others_given_up, is_member, Master, tablet_at, touches, with_tablet, without_items, Tablet}
 use Rattle.rk_inv_base.proofs.Words.{with_handover, without_merged, World, log_in, master_at, tablet_in, with_master, AsksFor, Holds}
 use Rattle.rk_inv_base.proofs.Words.{bond_of, post_of, IsBare, RoleFits, HandoverFits, IsBelowOthers, View, view, IsSound, SoundView}
+use Rattle.rk_inv_tablets.proofs.Words.{MayPrepare, same_number, stays, stood, outside_post, stands_found, as_wanting, prepared}
+use Rattle.rk_inv_tablets.proofs.Words.{prepared_tablets, tablet_prepared_in, tablet_seen}
 use Rattle.rk_transfer.specs.Handover.{prepared as handover_prepared}
-use Rattle.rk_sound.specs.Moves.{MayPrepare}
-use Rattle.rk_inv_base.proofs.rows.Apart.{same_number}
-use Rattle.rk_inv_base.proofs.logs.InRange.{stays, stood}
-use Rattle.rk_inv_base.proofs.roles.Released.{outside_post}
-use Rattle.rk_inv_base.proofs.rows.TurnedRows.{stands_found}
 use Rattle.rk_inv_tablets.proofs.ready.Left.{none_left}
 use Rattle.rk_inv_tablets.proofs.ready.OthersGivenUp.{MayTakeOrder, apart, beside_order, fits, step}
 use Rattle.rk_inv_tablets.proofs.ready.Outside.{outside_wants, quiet_behind}
 use Rattle.rk_inv_tablets.proofs.ready.TakenTablets.{own_at, view_taken}
 use Rattle.rk_inv_tablets.proofs.ready.Yielded.{view_yielded}
 use Rattle.rk_inv_tablets.proofs.ready.Yielding.{AreLeft, Yields, YieldsBeside}
-use Rattle.rk_inv_tablets.specs.ready.Small.{as_wanting, prepared, prepared_tablets, tablet_prepared_in, tablet_seen}
 
 module _ (v : View) (row : Row) (master : ℕ) (prepare : Prepare) (sound : SoundView v) (may : MayPrepare v row master prepare) where
   abbrev number : ℕ
@@ -55,15 +51,13 @@ module _ (v : View) (row : Row) (master : ℕ) (prepare : Prepare) (sound : Soun
       All-contains (λ (r : Row). AsksFor prepare r → is_member (lineage_of r.phase) master ≡ true → ⊥) v.rows x may.outside has
 
   below_others : (x : Row) → Contains v.rows x → IsBelowOthers x number term range
-  below_others x has =
-      subst (λ (n : ℕ). IsBelowOthers x n term range) (sym may.tablet_is)
-      (All-contains (λ (r : Row). IsBelowOthers r row.tablet term range) v.rows x may.below has)
+  below_others x has = rw may.tablet_is (All-contains (λ (r : Row). IsBelowOthers r row.tablet term range) v.rows x may.below has)
 
   order : MayTakeOrder v master number term range
   order = record {
     lives = may.lives;
     above = may.above;
-    below = subst (λ (n : ℕ). All (λ other. IsBelowOthers other n term range) v.rows) (sym may.tablet_is) may.below;
+    below = rw may.tablet_is may.below;
     outside = λ x has other met. not_asked x has (inr met);
   }
 
@@ -77,9 +71,7 @@ module _ (v : View) (row : Row) (master : ℕ) (prepare : Prepare) (sound : Soun
       (cases_Bool (is_member (lineage_of row.phase) master))
 
   old_fits : RoleFits row master old (v.written master).applied
-  old_fits =
-      subst (λ (n : ℕ). RoleFits row master (v.handovers master n) (v.written master).applied) (sym may.tablet_is)
-      (fits v master number term range sound order row may.has_row)
+  old_fits = rw may.tablet_is (fits v master number term range sound order row may.has_row)
 
   beside_row : YieldsBeside row master (v.written master).applied old own.handover
   beside_row =
@@ -96,12 +88,11 @@ module _ (v : View) (row : Row) (master : ℕ) (prepare : Prepare) (sound : Soun
       }
 
   beside : (x : Row) → Contains v.rows x → x.tablet ≡ number → YieldsBeside x master (v.written master).applied old own.handover
-  beside x has its =
-      subst (λ (r : Row). YieldsBeside r master (v.written master).applied old own.handover) (sym (same_row x has its)) beside_row
+  beside x has its = rw (same_row x has its) beside_row
 
   formed : (x : Row) → Contains v.rows x → HandoverFits x number own.handover
   formed x has = record {
-    within = λ its. subst (λ (r : Row). term ≤ r.term) (sym (same_row x has its)) may.within;
+    within = λ its. rw (same_row x has its) may.within;
     below = below_others x has;
     exact = λ its at.
         let same : x ≡ row = same_row x has its in
@@ -115,7 +106,7 @@ module _ (v : View) (row : Row) (master : ℕ) (prepare : Prepare) (sound : Soun
   bare =
       let same : (v.logs master).entries ≡ (v.written master).entries = (sound.logs.each master).entries_are in
       record {
-        placed = subst (λ (list : List Entry). place ≤ length list) same (omega arith);
+        placed = rw (← same) (omega arith);
         nothing =
             ap (λ (list : List Entry). list_any (touches range) (drop place list)) (sym same)
             ∙ ap (list_any (touches range)) (drop_all place (v.logs master).entries (omega arith));
@@ -152,9 +143,8 @@ module _ (v : View) (row : Row) (master : ℕ) (prepare : Prepare) (sound : Soun
       absurd (⊎_elim
       (λ (member : is_member (lineage_of x.phase) master ≡ true). not_asked x has (inl (sym its)) member)
       (λ (at : (v.handovers master x.tablet).term ≡ x.term).
-      let here : old.term ≡ x.term = subst (λ (n : ℕ). (v.handovers master n).term ≡ x.term) its at in
-      omega (arith, yields.below, here))
-      counts))
+      let here : old.term ≡ x.term = rw (← its) at in
+      omega (arith, yields.below, here)) counts))
       (λ (other : x.tablet ≡ number → ⊥). beside_order v master number term range sound order x has other counts)
       (cases_eq x.tablet number)
 

@@ -4,10 +4,9 @@ use Rattle.std.proofs.Common.{unwrap_or, option_map, nat_cmp, eq-eqb}
 use Rattle.rk_inv_base.proofs.Words.{and_left, cases_eq, cond_both, cond-false, eq_by_cmp, same_number, NumberMap, get, meets, Held, Range}
 use Rattle.rk_inv_base.proofs.Words.{given_up, with_others_given_up, marks_of, Master, tablet_at, with_tablet, Tablet, no_tablet, World}
 use Rattle.rk_inv_base.proofs.Words.{master_at, tablet_in, with_master, written_by, put, view}
+use Rattle.rk_inv_tablets.proofs.Words.{master_other, master_same, same_of_all, same_of_each, tablet_apart, tablet_here, put_here, put_is}
+use Rattle.rk_inv_tablets.proofs.Words.{put_other, others_given_up, tablets_taken}
 use Rattle.rk_types.specs.NumberMap.{changed_each}
-use Rattle.rk_inv_base.proofs.views.Masters.{master_other, master_same, same_of_all, same_of_each, tablet_apart, tablet_here}
-use Rattle.rk_inv_base.proofs.views.Put.{put_here, put_is, put_other}
-use Rattle.rk_inv_tablets.specs.ready.Small.{others_given_up, tablets_taken}
 
 -- ---- other tablets are given up
 

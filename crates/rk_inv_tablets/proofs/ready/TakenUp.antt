@@ -1,22 +1,19 @@
 -- A living master that is to rebuild a row, and has not begun to: the records that it has are those with which it may begin.
 use Rattle.std.proofs.Common.{◌≡◌, ℕ, ◌<◌, ◌≤◌, ◌+◌, Bool, true, false, List, [], ◌&&◌, ◌||◌, ◌-◌, Option, Some, None, refl, sym, ap, ◌∙◌}
-use Rattle.std.proofs.Common.{subst, ⊎_elim, ◌⊎◌, arith, drop, is_some, max, nat_le, nat_lt, slice_get, take, All, Contains, flat_map}
-use Rattle.std.proofs.Common.{leb-true, ltb-true}
+use Rattle.std.proofs.Common.{subst, ⊎_elim, ◌⊎◌, arith, drop, is_some, max, nat_le, nat_lt, slice_get, take, Contains, flat_map, leb-true}
+use Rattle.std.proofs.Common.{ltb-true}
 use Rattle.rk_inv_base.proofs.Words.{and_parts, cases_Bool, cases_lt, false≢true, or_right, All-contains, Any-from_list_any, Held, Range}
 use Rattle.rk_inv_base.proofs.Words.{Entry, is_in, number_of, row_of, Row, newest_is, newest_none, is_of_from, newest_own, is_of, newest}
 use Rattle.rk_inv_base.proofs.Words.{items_in, items_of, is_marked, unmarked_from, touches, is_joined_in, joined_from, log_material}
 use Rattle.rk_inv_base.proofs.Words.{material_of, named, side_entries, Written, applied_entries, Mark, HasOwnRange, IsOfRange, MarkFits}
 use Rattle.rk_inv_base.proofs.Words.{applied_from, IsBare, IsFound, named_items, IsTableOf, View, truths, SoundView}
+use Rattle.rk_inv_tablets.proofs.Words.{in_one_row, AreIn, IsIn, behind_at, kept_stands, stands_kept, in_piece, place_of, found_stands}
+use Rattle.rk_inv_tablets.proofs.Words.{row_in}
 use Rattle.rk_entry.specs.declared.entry.Entry.TheVariants as entries
 use Rattle.rk_overlay.specs.Newest.{IsNewest}
-use Rattle.rk_inv_base.proofs.rows.Apart.{in_one_row}
-use Rattle.rk_inv_base.proofs.logs.InRange.{AreIn, IsIn}
-use Rattle.rk_inv_base.proofs.logs.InRest.{behind_at}
-use Rattle.rk_inv_base.proofs.pulls.Joining.{kept_stands, stands_kept}
-use Rattle.rk_inv_base.proofs.logs.MarkedApart.{in_piece, place_of}
-use Rattle.rk_inv_base.proofs.rows.Serving.{found_stands}
 use Rattle.rk_inv_tablets.proofs.ready.Left.{fails_at}
-use Rattle.rk_inv_tablets.proofs.ready.OwnItems.{at_front, at_place, bears, flat_from, flat_stands, front_at, is_held_in, material_into, named_counts, sides_into, stands_at, unmarked_at, unmarked_stands}
+use Rattle.rk_inv_tablets.proofs.ready.OwnItems.{at_front, at_place, bears, flat_from, flat_stands, front_at, is_held_in, material_into}
+use Rattle.rk_inv_tablets.proofs.ready.OwnItems.{named_counts, sides_into, stands_at, unmarked_at, unmarked_stands}
 
 -- records of a master are those with which it may begin to rebuild a row, where its own entries count from this place
 pub record IsTakenUp (v : View) (row : Row) (master from : ℕ) (records : List Held) : Type 0 where
@@ -60,9 +57,8 @@ first_of_or false either = either
 -- an entry that bears an item of a range touches it
 bears_touches : (range : Range) (e : Entry) → bears range e ≡ true → touches range e ≡ true
 bears_touches range (entries.Held held) is = first_of_or (is_in range held) is
-bears_touches range (entries.Refused refused) is = absurd (cc)
-bears_touches range (entries.Carried carried) is = absurd (cc)
 bears_touches range (entries.Joined joined) is = is
+bears_touches range _ is = absurd (cc)
 
 module _ (v : View) (row : Row) (master : ℕ) (sound : SoundView v) (has : Contains v.rows row) (lives : v.live master ≡ true) (below : (v.handovers master row.tablet).term < row.term) where
   abbrev w : Written
@@ -75,9 +71,7 @@ module _ (v : View) (row : Row) (master : ℕ) (sound : SoundView v) (has : Cont
   unmarked_here mark stands its =
       let fits : MarkFits row master (v.handovers master row.tablet) (v.live master) w mark =
       All-contains (λ m. m.tablet ≡ row.tablet → MarkFits row master (v.handovers master row.tablet) (v.live master) w m) w.marks mark
-      (All-contains
-      (λ r. All (λ m. m.tablet ≡ r.tablet → MarkFits r master (v.handovers master r.tablet) (v.live master) w m) w.marks)
-      v.rows row (sound.rebuilds.marks master) has) stands its in
+      ((row_in v sound row has).marks master) stands its in
       let told = (fits.by_rebuilder (fits.present lives)).1 in
       omega (arith, below, told)
 
@@ -86,9 +80,8 @@ module _ (v : View) (row : Row) (master : ℕ) (sound : SoundView v) (has : Cont
   of_other other (entries.Held held) stands apart of is =
       let both : is_in row.range held ≡ true = first_of_or (is_in row.range held) is in
       false≢true (sym (in_one_row v.rows other row held.table held.key sound.rows.apart stands has apart of) ∙ both)
-  of_other other (entries.Refused refused) stands apart of is = of
   of_other other (entries.Carried carried) stands apart of is = absurd (cc)
-  of_other other (entries.Joined joined) stands apart of is = of
+  of_other other _ stands apart of is = of
 
   of_piece : (mark : Mark) (e : Entry) → Contains w.marks mark → Contains (take (mark.past - mark.first) (drop mark.first w.entries)) e → (found : Option Row) → row_of v.rows mark.tablet ≡ found → is_some found ≡ true → bears row.range e ≡ true → ⊥
   of_piece mark e marked inside None is known bearing = false≢true known
@@ -97,8 +90,7 @@ module _ (v : View) (row : Row) (master : ℕ) (sound : SoundView v) (has : Cont
       let number : other.tablet ≡ mark.tablet = number_of v.rows mark.tablet other is in
       let own : HasOwnRange other.range w.entries mark =
       All-contains (λ m. m.tablet ≡ other.tablet → HasOwnRange other.range w.entries m) w.marks mark
-      (All-contains (λ r. All (λ m. m.tablet ≡ r.tablet → HasOwnRange r.range w.entries m) w.marks) v.rows other
-      (sound.rebuilds.pieces master) stands) marked (sym number) in
+      ((row_in v sound other stands).pieces master) marked (sym number) in
       of_other other e stands (λ same. unmarked_here mark marked (sym (same ∙ number)))
       (All-contains (IsOfRange other.range) (take (mark.past - mark.first) (drop mark.first w.entries)) e own inside) bearing
 

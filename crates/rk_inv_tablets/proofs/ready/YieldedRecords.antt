@@ -1,22 +1,16 @@
 -- The parts Tables, Receives and Rebuilds where a master yields: of a row that it is a member of, or whose term it keeps, it has all
 -- its records still.
-use Rattle.std.proofs.Common.{◌≡◌, ℕ, true, List, [], ◌∷◌, cond, refl, sym, ap, ◌∙◌, subst, ⊎_elim, inl, inr, arith, ◌==◌, slice_index_or}
-use Rattle.std.proofs.Common.{Contains, ne_eqb}
-use Rattle.rk_inv_base.proofs.Words.{both_ways, cond-false, cond-true, false≢true, All-contains, Contains-get_or, filter_passes}
-use Rattle.rk_inv_base.proofs.Words.{IfSome_then, get, Ended, Held, Member, Entry, is_in, IsInScanOrder, Handover, lineage_of, Phase}
-use Rattle.rk_inv_base.proofs.Words.{Moving, Opening, Owned, Rebuilding, Row, Gather, first_of, is_member, own_place, Pulling}
-use Rattle.rk_inv_base.proofs.Words.{applied_entries, member_truth, IsRebuiltBy, Bystander, FormerMember, Holds, Post, StillCounts, bond_of}
-use Rattle.rk_inv_base.proofs.Words.{post_of, rebuilder_post, MarkFits, RowIsRebuilt, HandedFits, IsHandedBy, MembersFit, is_granted}
-use Rattle.rk_inv_base.proofs.Words.{named_items, scan_items, wanted_place, RoleFits, AreApart, HasItems, has_all_items, View, truths}
-use Rattle.rk_inv_base.proofs.Words.{RebuildsOf, ReceivesOf, TablesOf}
-use Rattle.rk_inv_base.proofs.calls.Appending.{formed_apart}
-use Rattle.rk_inv_base.proofs.logs.InRange.{IsIn, applied_in, scan_in, target_in, truth_in}
+use Rattle.std.proofs.Common.{◌≡◌, ℕ, true, List, [], ◌∷◌, cond, refl, sym, ap, ◌∙◌, subst, ⊎_elim, inl, inr, arith, ◌==◌, Contains, ne_eqb}
+use Rattle.std.proofs.Common.{All}
+use Rattle.rk_inv_base.proofs.Words.{All-weaker, both_ways, cond-false, cond-true, false≢true, All-contains, filter_passes, IfSome_then}
+use Rattle.rk_inv_base.proofs.Words.{get, Ended, Held, Member, Entry, is_in, Handover, lineage_of, Phase, Rebuilding, Row, Gather, first_of}
+use Rattle.rk_inv_base.proofs.Words.{is_member, own_place, Pulling, applied_entries, member_truth, IsRebuiltBy, Bystander, FormerMember}
+use Rattle.rk_inv_base.proofs.Words.{Holds, Post, bond_of, post_of, rebuilder_post, MarkFits, RowIsRebuilt, HandedFits, MembersFit}
+use Rattle.rk_inv_base.proofs.Words.{is_granted, named_items, scan_items, wanted_place, RoleFits, AreApart, HasItems, has_all_items, View}
+use Rattle.rk_inv_base.proofs.Words.{truths}
+use Rattle.rk_inv_tablets.proofs.Words.{IsIn, applied_in, scan_in, target_in, truth_in, put_here, IsRebuilderIn, former_never, IsBareOf}
+use Rattle.rk_inv_tablets.proofs.Words.{IsTargetIn, outside_post, heir_post, row_in}
 use Rattle.rk_inv_base.proofs.roles.ItemsDropped.{has_all_member}
-use Rattle.rk_inv_base.proofs.views.Put.{put_here}
-use Rattle.rk_inv_base.proofs.calls.Rebuilds.{IsRebuilderIn, former_never}
-use Rattle.rk_inv_base.proofs.calls.Receives.{IsBareOf, IsTargetIn}
-use Rattle.rk_inv_base.proofs.roles.Released.{outside_post}
-use Rattle.rk_inv_base.proofs.roles.Steady.{heir_post}
 use Rattle.rk_inv_tablets.proofs.ready.Left.{found_kept, none_remains, rebuild_kept, received_kept, table_kept}
 use Rattle.rk_inv_tablets.proofs.ready.Outside.{begun_lacks, first_member, outside_lacks, rebuilder_is, second_member}
 use Rattle.rk_inv_tablets.proofs.ready.YieldedCalls.{member_keeps, of_lineage}
@@ -30,7 +24,7 @@ module _ (v : View) (a : Yielding v) where
   abbrev new : Row → Handover
   new x = (a.tablets x.tablet).handover
 
-  -- ---- Tables
+  -- ---- records
 
   -- the master is not said to have all items of what it yielded
   lacks : (x : Row) → IsBeside v a x → has_all_items (post_of x.phase a.master) (new x) x.term ≡ true → ⊥
@@ -40,9 +34,7 @@ module _ (v : View) (a : Yielding v) where
       outside_lacks (post_of x.phase a.master) (new x) x.term (outside_post x.phase a.master stands.outside) all)
       (λ (begins : Begins x a.master (new x)).
       begun_lacks (rebuilder_post begins.lineage a.master) (new x) x.term (heir_post begins.lineage a.master) begins.term_is
-      (subst (λ (post : Post). has_all_items post (new x) x.term ≡ true)
-      (ap (λ (phase : Phase). post_of phase a.master) begins.phase_is ∙ rebuilder_is begins.lineage a.master) all))
-      beside.kind
+      (rw (← (ap (λ (phase : Phase). post_of phase a.master) begins.phase_is ∙ rebuilder_is begins.lineage a.master)) all)) beside.kind
 
   -- a master has all items of a row, in these records, if it is said to
   abbrev HasAll : Row → ℕ → Handover → List Held → Type 0
@@ -57,18 +49,12 @@ module _ (v : View) (a : Yielding v) where
       table_kept x.range (v.records a.master) a.records a.left.stood (a.left.stays x has (inl member))
       (member_truth v.written x.range found))
 
-  pub tables : TablesOf now
-  tables = record {
-    ordered = λ q. of_records v a (λ q items. IsInScanOrder items) q (λ was. a.left.ordered) (a.sound.records.ordered q);
-    items = λ q lives k d within.
-        let x : Row = slice_index_or v.rows k d in
-        let has : Contains v.rows x = Contains-get_or v.rows k d within in
-        by_row v a (λ x q h. HasAll x q h (now.records q)) x has q (λ beside was all. absurd (lacks x beside all))
-        (of_records v a (λ q items. HasAll x q (v.handovers q x.tablet) items) q (items_left x has)
-        (a.sound.records.items q lives k d within));
-  }
+  pub items_on : (x : Row) → Contains v.rows x → (q : ℕ) → HasAll x q (v.handovers q x.tablet) (v.records q) → HasAll x q (now.handovers q x.tablet) (now.records q)
+  items_on x has q was =
+      by_row v a (λ x q h. HasAll x q h (now.records q)) x has q (λ beside was all. absurd (lacks x beside all))
+      (of_records v a (λ q items. HasAll x q (v.handovers q x.tablet) items) q (items_left x has) was)
 
-  -- ---- Receives
+  -- ---- targets
 
   -- a target of a row that was granted the tablet, with these records
   abbrev IsGranted : Row → Member → Member → ℕ → Handover → Pulling → List Held → Type 0
@@ -104,26 +90,22 @@ module _ (v : View) (a : Yielding v) where
   ungranted x beside member granted =
       ⊎_elim
       (λ (stands : StandsBy x a.master (new x)). false≢true (sym stands.outside ∙ member))
-      (λ (begins : Begins x a.master (new x)). both_ways (is_granted (new x).role) (ap is_granted begins.role_is) granted)
-      beside.kind
+      (λ (begins : Begins x a.master (new x)). both_ways (is_granted (new x).role) (ap is_granted begins.role_is) granted) beside.kind
 
   targets_on : (x : Row) → Contains v.rows x → (source target : Member) → lineage_of x.phase ≡ source ∷ target ∷ [] → IsGrantedIn v x source target → IsGrantedIn now x source target
   targets_on x has source target two was =
       let member : (q : ℕ) → q ≡ target.master → is_member (lineage_of x.phase) q ≡ true = λ q at.
       of_lineage v a x (source ∷ target ∷ []) two q
-      (subst (λ (n : ℕ). is_member (source ∷ target ∷ []) n ≡ true) (sym at) (second_member source target [])) in
+      (rw at (second_member source target [])) in
       of_tablet v a (λ q h p g e. IsGranted x source target q h p (now.records q)) target.master x.tablet
       (λ yields was at granted. absurd (ungranted x (yields.beside x has refl) (member a.master at) granted))
       (of_records v a (λ q items. IsGranted x source target q (v.handovers q x.tablet) (v.pullings q x.tablet) items) target.master
       (λ was at.
-      target_left x source target (v.handovers a.master x.tablet) (v.pullings a.master x.tablet) has (member a.master at) was at)
-      was)
+      target_left x source target (v.handovers a.master x.tablet) (v.pullings a.master x.tablet) has (member a.master at) was at) was)
 
-  members : (x : Row) → Contains v.rows x → (lineage : List Member) → lineage_of x.phase ≡ lineage → MembersFit x v.written v.handovers v.pullings v.records v.handed lineage → MembersFit x v.written now.handovers now.pullings now.records v.handed lineage
-  members x has [] is fit = tt
-  members x has (only ∷ []) is fit = tt
+  pub members : (x : Row) → Contains v.rows x → (lineage : List Member) → lineage_of x.phase ≡ lineage → MembersFit x v.written v.handovers v.pullings v.records v.handed lineage → MembersFit x v.written now.handovers now.pullings now.records v.handed lineage
   members x has (source ∷ target ∷ []) is fit = targets_on x has source target is (λ at. fit) refl
-  members x has (source ∷ target ∷ third ∷ more) is fit = tt
+  members x has _ is fit = tt
 
   -- a member that another one rebuilds beside keeps no term of the row
   former_behind : (x : Row) → Contains v.rows x → (lineage : List Member) (to q : ℕ) → x.phase ≡ Rebuilding lineage to → is_member (lineage_of x.phase) q ≡ true → (q ≡ to → ⊥) → (v.handovers q x.tablet).term ≡ x.term → ⊥
@@ -135,9 +117,7 @@ module _ (v : View) (a : Yielding v) where
       cond-false (to == q) (rebuilder_post lineage q) (cond (is_member lineage q) FormerMember Bystander) (ne_eqb to q (λ same. away (sym same)))
       ∙ cond-true (is_member lineage q) FormerMember Bystander inside in
       let fits : RoleFits x q h (v.written q).applied =
-      All-contains
-      (λ (r : Row). StillCounts (v.live q) (v.handovers q r.tablet).term r.term → RoleFits r q (v.handovers q r.tablet) (v.written q).applied)
-      v.rows x (a.sound.roles.fitting q) has (inr term) in
+      (row_in v a.sound x has).fitting q (inr term) in
       former_never h.role x.term h.term (v.written q).applied
       (subst (λ (post : Post). Holds (bond_of post h.role) x.term h.term (v.written q).applied) post
       (subst (λ (phase : Phase). Holds (bond_of (post_of phase q) h.role) x.term h.term (v.written q).applied) is fits))
@@ -150,13 +130,11 @@ module _ (v : View) (a : Yielding v) where
       former_behind x has begins.lineage q r begins.phase_is member away (ap (λ (h : Handover). h.term) (sym same) ∙ term))
       (λ (also : Begins x r (now.handovers r x.tablet)).
       away (subst (λ (phase : Phase). IsRebuiltBy phase q) also.phase_is
-      (subst (λ (phase : Phase). IsRebuiltBy phase q) (sym begins.phase_is) refl)))
+      (rw begins.phase_is refl)))
       (member_keeps v a x has r member)
 
   -- what a source told is what it keeps, while source and target have one term
-  told : (x : Row) → Contains v.rows x → (lineage : List Member) → lineage_of x.phase ≡ lineage → AreApart lineage → HandedFits x v.handovers v.completions v.handed lineage → HandedFits x now.handovers v.completions v.handed lineage
-  told x has [] is apart fit = tt
-  told x has (only ∷ []) is apart fit = tt
+  pub told : (x : Row) → Contains v.rows x → (lineage : List Member) → lineage_of x.phase ≡ lineage → AreApart lineage → HandedFits x v.handovers v.completions v.handed lineage → HandedFits x now.handovers v.completions v.handed lineage
   told x has (source ∷ target ∷ []) is apart fit = λ term.
       let s : Handover = now.handovers source.master x.tablet in
       let t : Handover = now.handovers target.master x.tablet in
@@ -168,8 +146,7 @@ module _ (v : View) (a : Yielding v) where
       (λ (still : t ≡ v.handovers target.master x.tablet).
       ⊎_elim
       (λ (same : s ≡ v.handovers source.master x.tablet).
-      subst (λ (h : Handover). IsHandedBy (get v.handed x.tablet) h (v.completions source.master x.tablet)) (sym same)
-      (fit (ap (λ (h : Handover). h.term) (sym still) ∙ term ∙ ap (λ (h : Handover). h.term) same)))
+      rw same (fit (ap (λ (h : Handover). h.term) (sym still) ∙ term ∙ ap (λ (h : Handover). h.term) same)))
       (λ (begins : Begins x source.master s).
       absurd (begins_alone x has source.master target.master (λ at. apart (sym at)) second begins (term ∙ begins.term_is)))
       (member_keeps v a x has source.master first))
@@ -177,37 +154,27 @@ module _ (v : View) (a : Yielding v) where
       absurd (begins_alone x has target.master source.master apart first begins (sym term ∙ begins.term_is)))
       (member_keeps v a x has target.master second)
   told x has (source ∷ target ∷ third ∷ more) is apart fit = absurd apart
+  told x has _ is apart fit = tt
 
   -- the records that the master has
   records_are : now.records a.master ≡ a.records
   records_are = put_here v.records a.master a.records a.master refl
 
-  pub receives : ReceivesOf now
-  receives = record {
-    targets = λ k d within.
-        let x : Row = slice_index_or v.rows k d in
-        members x (Contains-get_or v.rows k d within) (lineage_of x.phase) refl (a.sound.receives.targets k d within);
-    handed_on = λ k d within.
-        let x : Row = slice_index_or v.rows k d in
-        told x (Contains-get_or v.rows k d within) (lineage_of x.phase) refl (formed_apart x.phase (a.sound.rows.formed k d within))
-        (a.sound.receives.handed_on k d within);
-    bare = λ q r.
-        by v a (λ q h. IsBareOf h (v.written q) (now.records q)) q r
-        (λ yields was. subst (IsBareOf (a.tablets r).handover (v.written a.master)) (sym records_are) yields.bare)
-        (of_records v a (λ q items. IsBareOf (v.handovers q r) (v.written q) items) q
-        (λ was.
-        IfSome_then (wanted_place (v.handovers a.master r).role) was
-        (λ from bare. record {
-          placed = bare.placed;
-          nothing = bare.nothing;
-          empty =
-              none_remains (is_in (v.handovers a.master r).range) (v.records a.master) a.records a.left.stood bare.empty;
-        }))
-        (a.sound.receives.bare q r));
-    named = a.sound.receives.named;
-  }
+  -- a master that made ready for a tablet has as little of it as before
+  pub bare_on : (q r : ℕ) → IsBareOf (v.handovers q r) (v.written q) (v.records q) → IsBareOf (now.handovers q r) (v.written q) (now.records q)
+  bare_on q r was =
+      by v a (λ q h. IsBareOf h (v.written q) (now.records q)) q r
+      (λ yields was. rw records_are yields.bare)
+      (of_records v a (λ q items. IsBareOf (v.handovers q r) (v.written q) items) q
+      (λ was.
+      IfSome_then (wanted_place (v.handovers a.master r).role) was
+      (λ from bare. record {
+        placed = bare.placed;
+        nothing = bare.nothing;
+        empty = none_remains (is_in (v.handovers a.master r).range) (v.records a.master) a.records a.left.stood bare.empty;
+      })) was)
 
-  -- ---- Rebuilds
+  -- ---- rebuilds
 
   -- a master rebuilds a row, with these records, if it keeps the row's term
   abbrev IsRebuilder : Row → List Member → ℕ → Handover → Gather → List Ended → List Held → Type 0
@@ -247,43 +214,32 @@ module _ (v : View) (a : Yielding v) where
   rebuilder_on x lineage to has was =
       of_tablet v a (λ q h p g e. IsRebuilder x lineage q h g e (now.records q)) to x.tablet
       (λ yields was is term.
-      subst
-      (λ (items : List Held).
-      IsRebuilderIn v.logs v.written v.stored x lineage a.master (truths v x) (new x) (v.completions a.master x.tablet)
-      (a.tablets x.tablet).gather (a.tablets x.tablet).merged_ends items)
-      (sym records_are) (yields.rebuilds x lineage has refl is term))
+      rw records_are (yields.rebuilds x lineage has refl is term))
       (of_records v a (λ q items. WasRebuilder x lineage q items) to (rebuilder_left x lineage has) was)
 
   abbrev IsRebuiltIn : View → Row → Phase → Type 0
   IsRebuiltIn w x phase =
       RowIsRebuilt x phase (truths v x) w.logs w.written w.stored w.handovers w.completions w.gathers w.merged w.records w.live
 
-  row_rebuilt : (x : Row) → Contains v.rows x → (phase : Phase) → x.phase ≡ phase → IsRebuiltIn v x phase → IsRebuiltIn now x phase
-  row_rebuilt x has (Owned owner from) is fit = tt
-  row_rebuilt x has (Opening source sfrom target dfrom) is fit = tt
-  row_rebuilt x has (Moving source sfrom target dfrom) is fit = tt
+  pub row_rebuilt : (x : Row) → Contains v.rows x → (phase : Phase) → x.phase ≡ phase → IsRebuiltIn v x phase → IsRebuiltIn now x phase
   row_rebuilt x has (Rebuilding lineage to) is fit = (rebuilder_on x lineage to has (λ _. fit.0) is, fit.1)
+  row_rebuilt x has _ is fit = tt
 
-  pub rebuilds : RebuildsOf now (truths v)
-  rebuilds = record {
-    rebuilt = λ k d within.
-        let x : Row = slice_index_or v.rows k d in
-        row_rebuilt x (Contains-get_or v.rows k d within) x.phase refl (a.sound.rebuilds.rebuilt k d within);
-    marks = λ q k d within m e inside.
-        by_row v a
-        (λ x q h. (slice_index_or (v.written q).marks m e).tablet ≡ x.tablet
-        → MarkFits x q h (v.live q) (v.written q) (slice_index_or (v.written q).marks m e))
-        (slice_index_or v.rows k d) (Contains-get_or v.rows k d within) q
-        (λ beside was its.
-        let fit = was its in record {
-          rebuilt = fit.rebuilt;
-          within = fit.within;
-          present = fit.present;
-          by_rebuilder = λ of_term.
-              let told = fit.by_rebuilder of_term in
-              let term = told.1 in absurd (omega (arith, beside.below, term));
-          behind = fit.behind;
-        })
-        (a.sound.rebuilds.marks q k d within m e inside);
-    pieces = a.sound.rebuilds.pieces;
-  }
+  -- and each mark fits its row still
+  pub marks_on : (x : Row) → Contains v.rows x → (q : ℕ) → All (λ mark. mark.tablet ≡ x.tablet → MarkFits x q (v.handovers q x.tablet) (v.live q) (v.written q) mark) (v.written q).marks → All (λ mark. mark.tablet ≡ x.tablet → MarkFits x q (now.handovers q x.tablet) (v.live q) (v.written q) mark) (v.written q).marks
+  marks_on x has q =
+      by_row v a (λ x q h. All (λ mark. mark.tablet ≡ x.tablet → MarkFits x q h (v.live q) (v.written q) mark) (v.written q).marks) x has q
+      (λ beside.
+      All-weaker (λ mark. mark.tablet ≡ x.tablet → MarkFits x a.master (v.handovers a.master x.tablet) (v.live a.master) (v.written a.master) mark)
+      (λ mark. mark.tablet ≡ x.tablet → MarkFits x a.master (new x) (v.live a.master) (v.written a.master) mark)
+      (λ mark was its.
+      let fit = was its in record {
+        rebuilt = fit.rebuilt;
+        within = fit.within;
+        present = fit.present;
+        by_rebuilder = λ of_term.
+            let told = fit.by_rebuilder of_term in
+            let term = told.1 in absurd (omega (arith, beside.below, term));
+        behind = fit.behind;
+      })
+      (v.written a.master).marks)

@@ -1,18 +1,13 @@
 -- Yielding: a living master yields what it has of tablets to an order of a greater term. Of one tablet it takes a new role, in which it
--- waits for the tablet or begins to rebuild it; it gives up others, and may drop items. Here: Roles, Terms and Cover.
-use Rattle.std.proofs.Common.{◌≡◌, ℕ, ◌<◌, ◌≤◌, true, false, List, Some, None, refl, sym, ◌∙◌, subst, ⊎_elim, ◌⊎◌, arith, is_some}
-use Rattle.std.proofs.Common.{slice_index_or, All, Contains}
-use Rattle.rk_inv_base.proofs.Words.{cases_eq, false≢true, Contains-get_or, meets, Ended, Held, Member, is_in, IsInScanOrder, Handover}
-use Rattle.rk_inv_base.proofs.Words.{lineage_of, row_of, Phase, Moving, Opening, Owned, Rebuilding, Row, Gather, is_member, is_absent}
-use Rattle.rk_inv_base.proofs.Words.{Pulling, Tablet, IsItemWithin, IsWithinRows, is_wanting, StillCounts, KeepTerm, RoleFits, HandoverFits}
-use Rattle.rk_inv_base.proofs.Words.{View, truths, CoverOf, RolesOf, SoundView, TermsOf}
+-- waits for the tablet or begins to rebuild it; it gives up others, and may drop items.
+use Rattle.std.proofs.Common.{◌≡◌, ℕ, ◌<◌, ◌≤◌, true, false, List, Some, None, refl, sym, ◌∙◌, ⊎_elim, ◌⊎◌, arith, is_some, All, Contains}
+use Rattle.rk_inv_base.proofs.Words.{cases_eq, false≢true, meets, Ended, Held, Member, is_in, IsInScanOrder, Handover, lineage_of, row_of}
+use Rattle.rk_inv_base.proofs.Words.{Phase, Moving, Opening, Rebuilding, Row, Gather, is_member, is_absent, Pulling, Tablet, IsItemWithin}
+use Rattle.rk_inv_base.proofs.Words.{IsWithinRows, is_wanting, KeepTerm, RoleFits, HandoverFits, View, truths, CoverOf, SoundView}
+use Rattle.rk_inv_tablets.proofs.Words.{put_by, put_here, put_other, IsRebuilderIn, IsBareOf, tablets_taken}
 use Rattle.rk_transfer.specs.declared.role.Role.TheVariants as roles
-use Rattle.rk_inv_base.proofs.views.Put.{put_by, put_here, put_other}
-use Rattle.rk_inv_base.proofs.calls.Rebuilds.{IsRebuilderIn}
-use Rattle.rk_inv_base.proofs.calls.Receives.{IsBareOf}
 use Rattle.rk_inv_tablets.proofs.ready.Left.{all_remain}
 use Rattle.rk_inv_tablets.proofs.ready.Outside.{is_quiet}
-use Rattle.rk_inv_tablets.specs.ready.Small.{tablets_taken}
 
 -- ---- what it is
 
@@ -116,27 +111,25 @@ module _ (v : View) (a : Yielding v) where
       let merged : ℕ → List Ended = λ number. (a.tablets number).merged_ends in
       ⊎_elim
       (λ (at : q ≡ a.master).
-      let here : SaidIn P v a.master r = subst (λ (n : ℕ). SaidIn P v n r) at was in
-      subst (λ (h : ℕ → Handover). P q (h r) (yielded.pullings q r) (yielded.gathers q r) (yielded.merged q r)) (sym (put_here v.handovers a.master handovers q at))
-      (subst (λ (p : ℕ → Pulling). P q t.handover (p r) (yielded.gathers q r) (yielded.merged q r)) (sym (put_here v.pullings a.master pullings q at))
-      (subst (λ (g : ℕ → Gather). P q t.handover t.pulling (g r) (yielded.merged q r)) (sym (put_here v.gathers a.master gathers q at))
-      (subst (λ (e : ℕ → List Ended). P q t.handover t.pulling t.gather (e r)) (sym (put_here v.merged a.master merged q at))
-      (subst (λ (n : ℕ). P n t.handover t.pulling t.gather t.merged_ends) (sym at)
-      (⊎_elim
+      let here : SaidIn P v a.master r = rw (← at) was in
+      rw (
+        put_here v.handovers a.master handovers q at,
+        put_here v.pullings a.master pullings q at,
+        put_here v.gathers a.master gathers q at,
+        put_here v.merged a.master merged q at,
+      )
+      (rw at (⊎_elim
       (λ (same : StaysSo v a.master r t).
-      subst (λ (h : Handover). P a.master h t.pulling t.gather t.merged_ends) (sym same.handover_is)
-      (subst (λ (p : Pulling). P a.master (v.handovers a.master r) p t.gather t.merged_ends) (sym same.pulling_is)
-      (subst (λ (g : Gather). P a.master (v.handovers a.master r) (v.pullings a.master r) g t.merged_ends) (sym same.gather_is)
-      (subst (λ (e : List Ended). P a.master (v.handovers a.master r) (v.pullings a.master r) (v.gathers a.master r) e) (sym same.merged_is)
-      here))))
+      rw (same.handover_is, same.pulling_is, same.gather_is, same.merged_is) here)
       (λ (yields : IsYielded r). gives yields here)
-      (a.step r)))))))
+      (a.step r))))
       (λ (other : q ≡ a.master → ⊥).
-      subst (λ (h : ℕ → Handover). P q (h r) (yielded.pullings q r) (yielded.gathers q r) (yielded.merged q r)) (sym (put_other v.handovers a.master handovers q other))
-      (subst (λ (p : ℕ → Pulling). P q (v.handovers q r) (p r) (yielded.gathers q r) (yielded.merged q r)) (sym (put_other v.pullings a.master pullings q other))
-      (subst (λ (g : ℕ → Gather). P q (v.handovers q r) (v.pullings q r) (g r) (yielded.merged q r)) (sym (put_other v.gathers a.master gathers q other))
-      (subst (λ (e : ℕ → List Ended). P q (v.handovers q r) (v.pullings q r) (v.gathers q r) (e r)) (sym (put_other v.merged a.master merged q other))
-      was))))
+      rw (
+        put_other v.handovers a.master handovers q other,
+        put_other v.pullings a.master pullings q other,
+        put_other v.gathers a.master gathers q other,
+      )
+      (rw (put_other v.merged a.master merged q other) was))
       (cases_eq q a.master)
 
   -- so it is of handovers alone
@@ -145,8 +138,7 @@ module _ (v : View) (a : Yielding v) where
 
   -- a row's tablet is yielded by the master
   abbrev pub IsBeside : Row → Type 0
-  IsBeside x =
-      YieldsBeside x a.master (v.written a.master).applied (v.handovers a.master x.tablet) (a.tablets x.tablet).handover
+  IsBeside x = YieldsBeside x a.master (v.written a.master).applied (v.handovers a.master x.tablet) (a.tablets x.tablet).handover
 
   -- and beside a row
   pub by_row : (P : Row → ℕ → Handover → Type 0) (x : Row) → Contains v.rows x → (q : ℕ) → (IsBeside x → P x a.master (v.handovers a.master x.tablet) → P x a.master (a.tablets x.tablet).handover) → P x q (v.handovers q x.tablet) → P x q (yielded.handovers q x.tablet)
@@ -156,67 +148,40 @@ module _ (v : View) (a : Yielding v) where
   pub of_records : (P : ℕ → List Held → Type 0) (q : ℕ) → (P a.master (v.records a.master) → P a.master a.records) → P q (v.records q) → P q (yielded.records q)
   of_records P q gives was =
       put_by v.records a.master (λ items. a.records) (P q) q
-      (λ at. subst (λ (n : ℕ). P n a.records) (sym at) (gives (subst (λ (n : ℕ). P n (v.records n)) at was)))
+      (λ at. rw at (gives (rw (← at) was)))
       (λ other. was)
 
   -- ---- Roles
 
   -- those who have to keep the row's term do
   keep_term : (phase : Phase) (before after : ℕ → ℕ) (term : ℕ) → ((q : ℕ) → before q ≡ term → after q ≡ term) → KeepTerm phase before term → KeepTerm phase after term
-  keep_term (Owned owner from) before after term same at = tt
-  keep_term (Opening source sfrom target None) before after term same at = tt
   keep_term (Opening source sfrom target (Some dfrom)) before after term same at = same target at
   keep_term (Moving source sfrom target dfrom) before after term same at = (same source at.0, same target at.1)
-  keep_term (Rebuilding lineage to) before after term same at = tt
+  keep_term _ before after term same at = tt
 
   -- a member of the lineage has the row's range
-  member_range : (x : Row) → IsBeside x → is_member (lineage_of x.phase) a.master ≡ true → (a.tablets x.tablet).handover.range ≡ x.range
+  pub member_range : (x : Row) → IsBeside x → is_member (lineage_of x.phase) a.master ≡ true → (a.tablets x.tablet).handover.range ≡ x.range
   member_range x beside member =
       ⊎_elim
       (λ (stands : StandsBy x a.master (a.tablets x.tablet).handover). absurd (false≢true (sym stands.outside ∙ member)))
-      (λ (begins : Begins x a.master (a.tablets x.tablet).handover). begins.range_is)
-      beside.kind
+      (λ (begins : Begins x a.master (a.tablets x.tablet).handover). begins.range_is) beside.kind
 
-  pub roles_fit : RolesOf yielded
-  roles_fit = record {
-    fitting = λ q k d within.
-        by_row (λ x q h. StillCounts (v.live q) h.term x.term → RoleFits x q h (v.written q).applied) (slice_index_or v.rows k d)
-        (Contains-get_or v.rows k d within) q (λ beside was counts. beside.fits) (a.sound.roles.fitting q k d within);
-    ranged = λ q k d within.
-        let x : Row = slice_index_or v.rows k d in
-        by_row (λ x q h. StillCounts (v.live q) h.term x.term → is_member (lineage_of x.phase) q ≡ true → h.range ≡ x.range) x
-        (Contains-get_or v.rows k d within) q (λ beside was counts. member_range x beside) (a.sound.roles.ranged q k d within);
-    at_term = λ k d within.
-        let x : Row = slice_index_or v.rows k d in
-        keep_term x.phase (λ q. (v.handovers q x.tablet).term) (λ q. (yielded.handovers q x.tablet).term) x.term
-        (λ q. by_row (λ x q h. h.term ≡ x.term) x (Contains-get_or v.rows k d within) q
-        (λ beside was. absurd (omega (arith, beside.below, was)))) (a.sound.roles.at_term k d within);
-    known = λ q r alive there.
-        by (λ q h. is_absent h.role ≡ false → is_some (row_of v.rows r) ≡ true) q r (λ yields was. yields.known)
-        (a.sound.roles.known q r alive) there;
-  }
+  pub term_kept : (x : Row) → Contains v.rows x → KeepTerm x.phase (λ q. (v.handovers q x.tablet).term) x.term → KeepTerm x.phase (λ q. (yielded.handovers q x.tablet).term) x.term
+  term_kept x has =
+      keep_term x.phase (λ q. (v.handovers q x.tablet).term) (λ q. (yielded.handovers q x.tablet).term) x.term
+      (λ q. by_row (λ x q h. h.term ≡ x.term) x has q (λ beside was. absurd (omega (arith, beside.below, was))))
 
-  -- ---- Terms
-
-  pub terms : TermsOf yielded
-  terms = record {
-    kept = λ q r k d within.
-        let x : Row = slice_index_or v.rows k d in
-        by (λ q h. HandoverFits x r h) q r (λ yields was. yields.formed x (Contains-get_or v.rows k d within))
-        (a.sound.terms.kept q r k d within);
-    begun = λ q r.
-        by (λ q h. is_absent h.role ≡ false → 1 ≤ h.term) q r (λ yields was. yields.begun) (a.sound.terms.begun q r);
-    apart = λ q one other differ.
-        let Apart : (ℕ → Handover) → Type 0 = λ kept.
-        is_absent (kept one).role ≡ false → is_absent (kept other).role ≡ false → meets (kept one).range (kept other).range ≡ false in
-        let new : ℕ → Handover = λ number. (a.tablets number).handover in
-        ⊎_elim
-        (λ (at : q ≡ a.master). subst Apart (sym (put_here v.handovers a.master new q at)) (a.apart one other differ))
-        (λ (away : q ≡ a.master → ⊥).
-        subst Apart (sym (put_other v.handovers a.master new q away)) (a.sound.terms.apart q one other differ))
-        (cases_eq q a.master);
-    sent = a.sound.terms.sent;
-  }
+  -- tablets of one master that are not absent do not meet
+  pub apart_still : (q one other : ℕ) → (one ≡ other → ⊥) → is_absent (yielded.handovers q one).role ≡ false → is_absent (yielded.handovers q other).role ≡ false → meets (yielded.handovers q one).range (yielded.handovers q other).range ≡ false
+  apart_still q one other differ =
+      let Apart : (ℕ → Handover) → Type 0 = λ kept.
+      is_absent (kept one).role ≡ false → is_absent (kept other).role ≡ false → meets (kept one).range (kept other).range ≡ false in
+      let new : ℕ → Handover = λ number. (a.tablets number).handover in
+      ⊎_elim
+      (λ (at : q ≡ a.master). rw (put_here v.handovers a.master new q at) (a.apart one other differ))
+      (λ (away : q ≡ a.master → ⊥).
+      rw (put_other v.handovers a.master new q away) (a.sound.terms.apart q one other differ))
+      (cases_eq q a.master)
 
   -- ---- Cover
 

@@ -5,24 +5,16 @@ use Rattle.std.proofs.Common.{ap, ◌∙◌, subst, inl, arith, append_assoc, le
 use Rattle.std.proofs.Common.{flat_map, le-ltb, append-nil}
 use Rattle.rk_inv_base.proofs.Words.{cond-false, cond_both, get_or_append_left, get_or_push, length-map, flat_map-append, All-contains}
 use Rattle.rk_inv_base.proofs.Words.{range_with_len, hash_of, spelled_of, Held, Member, spelled_all, Entry, FIRST_SIDE_SEGMENT, is_in, Role}
-use Rattle.rk_inv_base.proofs.Words.{number_of, lineage_of, row_of, Row, items_in, items_of, Master, tablet_at, with_side_segment}
-use Rattle.rk_inv_base.proofs.Words.{with_tablet, as_entries, side_entries, next_sides, with_pulling, is_absent, sealed_sides, Pulling}
-use Rattle.rk_inv_base.proofs.Words.{Tablet, with_handover, World, master_at, tablet_in, with_master, Written, member_truth, IsItemWithin}
-use Rattle.rk_inv_base.proofs.Words.{Holds, StillCounts, bond_of, post_of, MembersFit, copied_items, is_granted, RoleFits, IsFormed, View}
-use Rattle.rk_inv_base.proofs.Words.{view, IsSound, SoundView}
-use Rattle.rk_types.specs.declared.held.TheConstants.{SEGMENT_BYTES}
+use Rattle.rk_inv_base.proofs.Words.{number_of, row_of, Row, items_in, items_of, Master, tablet_at, with_side_segment, with_tablet}
+use Rattle.rk_inv_base.proofs.Words.{as_entries, side_entries, next_sides, with_pulling, is_absent, sealed_sides, Pulling, Tablet}
+use Rattle.rk_inv_base.proofs.Words.{with_handover, World, master_at, tablet_in, with_master, Written, member_truth, IsItemWithin, Holds}
+use Rattle.rk_inv_base.proofs.Words.{bond_of, post_of, MembersFit, is_granted, View, view, IsSound, SoundView}
+use Rattle.rk_inv_tablets.proofs.Words.{covered_by, IsIn, truth_in, IsSecond, joining_second, scanned, all_by, tablet_apart, tablet_here}
+use Rattle.rk_inv_tablets.proofs.Words.{put_here, put_same, put2_same, found_stands, view_master, MaySealThere, as_joining, as_sealed}
+use Rattle.rk_inv_tablets.proofs.Words.{sealed, side_lists_sealed_in, sides_cut, with_side_items, with_sides, row_in}
 use Rattle.rk_transfer.specs.declared.role.Role.TheVariants as roles
+use Rattle.rk_types.specs.declared.held.TheConstants.{SEGMENT_BYTES}
 use Rattle.rk_world.specs.SideLogs.{cut_items, with_side_item}
-use Rattle.rk_inv_base.proofs.views.Cover.{covered_by}
-use Rattle.rk_inv_base.proofs.logs.InRange.{IsIn, truth_in}
-use Rattle.rk_inv_base.proofs.pulls.Joining.{IsSecond, joining_second, scanned}
-use Rattle.rk_inv_base.proofs.views.Lists.{all_by}
-use Rattle.rk_inv_base.proofs.views.Masters.{tablet_apart, tablet_here}
-use Rattle.rk_inv_base.proofs.views.Put.{put_here, put_same, put2_same}
-use Rattle.rk_inv_base.proofs.rows.Serving.{found_stands}
-use Rattle.rk_inv_base.proofs.views.Views.{view_master}
-use Rattle.rk_inv_tablets.specs.seal.Moves.{MaySealThere}
-use Rattle.rk_inv_tablets.specs.seal.Small.{as_joining, as_sealed, sealed, side_lists_sealed_in, sides_cut, with_side_items, with_sides}
 use Rattle.rk_inv_tablets.proofs.seal.SidesCut.{view_sides_cut}
 use Rattle.rk_inv_tablets.proofs.seal.SidesJoined.{HaveCopies, fits_joining, view_sides_joined}
 
@@ -108,12 +100,10 @@ module _ (v : View) (row : Row) (master : ℕ) (sound : SoundView v) (has_row : 
   second : IsSecond row.phase master row.term (v.handovers master row.tablet).term
   second =
       joining_second master row.term (v.handovers master row.tablet).term (v.written master).applied row.phase
-      (All-contains (λ (r : Row). IsFormed r.phase) v.rows row sound.rows.formed has_row)
+      (row_in v sound row has_row).formed
       (fits_joining (post_of row.phase master) row.term (v.handovers master row.tablet).term (v.written master).applied
       (subst (λ (role : Role). Holds (bond_of (post_of row.phase master) role) row.term (v.handovers master row.tablet).term (v.written master).applied) may.may.receiving
-      (All-contains
-      (λ (r : Row). StillCounts (v.live master) (v.handovers master r.tablet).term r.term
-      → RoleFits r master (v.handovers master r.tablet) (v.written master).applied) v.rows row (sound.roles.fitting master) has_row (inl may.may.lives))))
+      ((row_in v sound row has_row).fitting master (inl may.may.lives))))
 
   -- what it copied is the source's
   copied_in : (item : Held) → Contains (all_of pulling.sides) item → is_in row.range item ≡ true
@@ -122,7 +112,7 @@ module _ (v : View) (row : Row) (master : ℕ) (sound : SoundView v) (has_row : 
       let target : Member = second.target in
       let fit : MembersFit row v.written v.handovers v.pullings v.records v.handed (source ∷ target ∷ []) =
       subst (MembersFit row v.written v.handovers v.pullings v.records v.handed) second.lineage_is
-      (All-contains (λ (r : Row). MembersFit r v.written v.handovers v.pullings v.records v.handed (lineage_of r.phase)) v.rows row sound.receives.targets has_row) in
+      (row_in v sound row has_row).target in
       let receiving : (v.handovers target.master row.tablet).role ≡ roles.Receiving =
       ap (λ (n : ℕ). (v.handovers n row.tablet).role) second.here ∙ may.may.receiving in
       let its = fit (ap is_granted receiving) in
@@ -132,14 +122,12 @@ module _ (v : View) (row : Row) (master : ℕ) (sound : SoundView v) (has_row : 
       All-contains (IsIn row.range) (items_of truth) item (truth_in v.written row.range source)
       (scanned truth item
       (its.received.within item
-      (subst (λ (role : Role). Contains (copied_items role (v.pullings target.master row.tablet) (v.written target.master).sides) item) (sym receiving)
-      (subst (λ (list : List Held). Contains list item) (sym same) at))))
+      (rw (receiving, same) at)))
 
   -- so it lies in rows
   within : All (IsItemWithin v.rows) (all_of lists)
   within =
-      subst (All (IsItemWithin v.rows)) (sym (sealed_all pulling.sides))
-      (all_by (IsItemWithin v.rows) (all_of pulling.sides)
+      rw (sealed_all pulling.sides) (all_by _ (all_of pulling.sides)
       (λ item at. by_table item (copied_in item at)))
     where
       by_table : (item : Held) → is_in row.range item ≡ true → IsItemWithin v.rows item
@@ -152,8 +140,7 @@ module _ (v : View) (row : Row) (master : ℕ) (sound : SoundView v) (has_row : 
       let kept = sound.logs.each master in
       let count : next ≡ FIRST_SIDE_SEGMENT + length w.sides =
       ap (λ (n : ℕ). FIRST_SIDE_SEGMENT + n) (ap length kept.spelled ∙ length-map w.sides (λ (items : List Held). spelled_all (as_entries items))) in
-      subst (λ (x : Written). HaveCopies x pulling (range_with_len next (length lists)))
-      (sym (put_here v.written master (with_side_items w lists) master refl))
+      rw (put_here v.written master (with_side_items w lists) master refl)
       (ap items_of (next_have w.sides lists next count) ∙ items_all lists ∙ sealed_all pulling.sides)
 
   pub view_sealed : SoundView (sealed v master row.tablet)
@@ -213,7 +200,6 @@ sound_sealed w master number sound may =
     at None found some = absurd (cc)
     at (Some row) found some =
         let number_is : row.tablet ≡ number = number_of (view w).rows number row found in
-        subst (λ (n : ℕ). IsSound (side_lists_sealed_in w master n)) number_is
-        (subst SoundView (sym (sealed_is w master row.tablet))
+        rw (← number_is) (subst SoundView (sym (sealed_is w master row.tablet))
         (view_sealed (view w) row master sound (found_stands (view w).rows number row found)
-        (subst (λ (n : ℕ). MaySealThere (view w) master n) (sym number_is) may)))
+        (rw number_is may)))

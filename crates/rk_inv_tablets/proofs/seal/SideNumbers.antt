@@ -7,9 +7,8 @@ use Rattle.rk_inv_base.proofs.Words.{Range, NumberedBytes, spelled_all, is_among
 use Rattle.rk_inv_base.proofs.Words.{is_side_stored, items_of, is_marked, unmarked, unmarked_from, as_entries, counting, log_material}
 use Rattle.rk_inv_base.proofs.Words.{named, named_by, side_entries, with_number, Written, applied_entries, Mark, IsLog, segments_in}
 use Rattle.rk_inv_base.proofs.Words.{applied_from, named_items}
+use Rattle.rk_inv_tablets.proofs.Words.{numbered_past, with_side_items}
 use Rattle.rk_entry.specs.declared.entry.Entry.TheVariants as entries
-use Rattle.rk_inv_base.proofs.logs.Segments.{numbered_past}
-use Rattle.rk_inv_tablets.specs.seal.Small.{with_side_items}
 
 -- these numbers are below that of the next side segment, where there are so many
 abbrev pub AreBelow : ℕ → List ℕ → Type 0
@@ -40,10 +39,8 @@ all_numbers P some (number ∷ others) these those =
 
 -- what holds of all that an entry names holds of what it names for a range
 named_fit : (P : ℕ → Type 0) (range : Range) (entry : Entry) → All P (segments_in entry) → All P (named_by range entry)
-named_fit P range (entries.Held held) all = all
-named_fit P range (entries.Refused refused) all = all
-named_fit P range (entries.Carried carried) all = all
 named_fit P range (entries.Joined joined) all = cond_both _ joined.segments [] (All P) (λ e. all) (λ e. All-nil P)
+named_fit P range _ all = all
 
 all_named : (P : ℕ → Type 0) (range : Range) (list : List Entry) → All (λ entry. All P (segments_in entry)) list → All P (named range list)
 all_named P range list all = all_numbers P [] (flat_map (named_by range) list) (All-nil P) (each list all)

@@ -1,35 +1,22 @@
 -- A view stays sound when a master cuts more side segments, whose items lie in rows: nothing names them, and no target has sealed them.
-use Rattle.std.proofs.Common.{◌≡◌, ℕ, ◌≤◌, max, true, cond, List, [], ◌∷◌, ◌++◌, length, Option, refl, sym, ap, ◌∙◌, subst, arith, IfSome}
-use Rattle.std.proofs.Common.{drop, is_some, slice_get, slice_index_or, All, Contains, flat_map}
+use Rattle.std.proofs.Common.{◌≡◌, ℕ, max, true, cond, List, [], ◌∷◌, ◌++◌, length, refl, sym, ap, ◌∙◌, subst, arith, drop, is_some}
+use Rattle.std.proofs.Common.{slice_get, slice_index_or, All, Contains, flat_map}
 use Rattle.rk_inv_base.proofs.Words.{length-map, flat_map-append, All-append, All-weaker, IfSome_then, list_any, each_weaker, get, Call}
-use Rattle.rk_inv_base.proofs.Words.{Held, Member, Node, Range, map_after, spelled_all, Entry, Handover, Role, lineage_of, row_of, Phase}
-use Rattle.rk_inv_base.proofs.Words.{Owned, Opening, Moving, Rebuilding, Row, Known, Log, known_of, EntryEnd, Body, base_map, items_of}
-use Rattle.rk_inv_base.proofs.Words.{first_of, is_marked, unmarked_from, touches, as_entries, counting, joined_from, log_material}
-use Rattle.rk_inv_base.proofs.Words.{own_place, is_receiving, Written, applied_entries, lineage_rest, member_material, member_rest}
-use Rattle.rk_inv_base.proofs.Words.{member_truth, Mark, AreAboveMap, IsEntryWithin, IsItemWithin, IsOfWholeRows, IsFromLog, IsLog, LogSays}
-use Rattle.rk_inv_base.proofs.Words.{stored_of, HasOwnRange, IsRebuilder, MarkFits, MarkedFit, NeededOf, NeedsEnd, READ_BACKUP}
-use Rattle.rk_inv_base.proofs.Words.{RowIsRebuilt, StandsLast, TellNoMore, member_given_up, member_marked, member_stored, IsReceived}
-use Rattle.rk_inv_base.proofs.Words.{IsTarget, HasArrived, MembersFit, NamedFit, copied_items, entries_from, named_items, scan_items}
-use Rattle.rk_inv_base.proofs.Words.{wanted_place, EachHasCall, FirstIsDone, OnlyIsUnnamed, Waits, IsTableOf, View, truths, rests, CallsOf}
-use Rattle.rk_inv_base.proofs.Words.{CountersOf, CoverOf, LogsOf, MessagesOf, NodesOf, ReceivesOf, RebuildsOf, RestOf, RolesOf, RowsOf}
-use Rattle.rk_inv_base.proofs.Words.{SoundParts, SoundView, TablesOf}
+use Rattle.rk_inv_base.proofs.Words.{Held, Member, Node, Range, spelled_all, Entry, Handover, Role, lineage_of, row_of, Phase, Rebuilding}
+use Rattle.rk_inv_base.proofs.Words.{Row, Known, Log, known_of, EntryEnd, Body, items_of, first_of, is_marked, unmarked_from, touches}
+use Rattle.rk_inv_base.proofs.Words.{as_entries, counting, joined_from, log_material, own_place, is_receiving, Written, applied_entries}
+use Rattle.rk_inv_base.proofs.Words.{lineage_rest, member_material, member_rest, member_truth, Mark, IsEntryWithin, IsItemWithin}
+use Rattle.rk_inv_base.proofs.Words.{IsOfWholeRows, IsFromLog, IsLog, LogSays, stored_of, HasOwnRange, IsRebuilder, MarkFits, MarkedFit}
+use Rattle.rk_inv_base.proofs.Words.{NeededOf, NeedsEnd, READ_BACKUP, RowIsRebuilt, StandsLast, TellNoMore, member_given_up, member_marked}
+use Rattle.rk_inv_base.proofs.Words.{member_stored, IsTarget, MembersFit, NamedFit, copied_items, named_items, wanted_place, EachHasCall}
+use Rattle.rk_inv_base.proofs.Words.{FirstIsDone, OnlyIsUnnamed, Waits, View, truths, rests, CallsOf, CountersOf, CoverOf, LogsOf}
+use Rattle.rk_inv_base.proofs.Words.{MessagesOf, NodesOf, ReceivesOf, RebuildsOf, RestOf, RolesOf, RowsOf, SoundParts, SoundView, TablesOf}
+use Rattle.rk_inv_tablets.proofs.Words.{member as member_at, target_truth_same, truth_by, truth_is, calls_more, piece_grown, NeedNoMore}
+use Rattle.rk_inv_tablets.proofs.Words.{messages_looks, rebuilder_weaker, put_by, IsRebuilderIn, mark_same, IsBareOf, roles_looks, AllLook}
+use Rattle.rk_inv_tablets.proofs.Words.{looks_same, AreSealedThere, sides_cut, with_side_items, with_sides}
 use Rattle.rk_types.specs.declared.node.Node.TheVariants as nodes
 use Rattle.rk_message.specs.declared.message.Body.TheVariants as bodies
-use Rattle.rk_tablet_map.specs.Phase.{member as member_at}
-use Rattle.rk_inv_base.proofs.views.Alike.{target_truth_same}
-use Rattle.rk_inv_base.proofs.calls.Appending.{truth_by, truth_is}
-use Rattle.rk_inv_base.proofs.calls.Calls.{calls_more}
-use Rattle.rk_inv_base.proofs.logs.Logs.{piece_grown}
-use Rattle.rk_inv_base.proofs.wire.Messages.{NeedNoMore, messages_looks}
-use Rattle.rk_inv_base.proofs.views.Needed.{rebuilder_weaker}
-use Rattle.rk_inv_base.proofs.views.Put.{put_by}
-use Rattle.rk_inv_base.proofs.calls.Rebuilds.{IsRebuilderIn, mark_same}
-use Rattle.rk_inv_base.proofs.calls.Receives.{IsBareOf}
-use Rattle.rk_inv_base.proofs.roles.Roles.{roles_looks}
 use Rattle.rk_inv_base.proofs.rows.Rows.{rows_grown}
-use Rattle.rk_inv_base.proofs.views.Seen.{AllLook, looks_same}
-use Rattle.rk_inv_tablets.specs.seal.Moves.{AreSealedThere}
-use Rattle.rk_inv_tablets.specs.seal.Small.{sides_cut, with_side_items, with_sides}
 use Rattle.rk_inv_tablets.proofs.seal.SideNumbers.{AreBelow, items_kept, material_kept, sides_kept, truth_kept}
 use Rattle.rk_inv_tablets.proofs.seal.SidesGrow.{grows_sides, log_sides, needs_sides, rebuilder_sides}
 
@@ -126,7 +113,7 @@ module _ (v : View) (master : ℕ) (lists : List (List Held)) (sound : SoundView
     sides = λ q.
         of_written (λ (w : Written). All (IsItemWithin v.rows) (flat_map (λ items. items) w.sides)) q
         (λ at.
-        subst (All (IsItemWithin v.rows)) (sym (flat_map-append (λ (items : List Held). items) (v.written q).sides lists))
+        rw (flat_map-append (λ (items : List Held). items) (v.written q).sides lists)
         (All-append (IsItemWithin v.rows) (flat_map (λ items. items) (v.written q).sides) (flat_map (λ items. items) lists) (sound.cover.sides q) within))
         (λ apart. sound.cover.sides q);
     items = sound.cover.items;
@@ -166,8 +153,7 @@ module _ (v : View) (master : ℕ) (lists : List (List Held)) (sound : SoundView
     low = sound.counters.low;
     moving = λ k d inside.
         let x : Row = slice_index_or v.rows k d in
-        subst (λ (o : Option (List Entry)). IfSome o (AreAboveMap x.range (map_after (base_map v.base) v.journal)))
-        (sym (target_truth_same v.written now.written v.handed x x.phase truth_same)) (sound.counters.moving k d inside);
+        rw (target_truth_same v.written now.written v.handed x x.phase truth_same) (sound.counters.moving k d inside);
     counted = sound.counters.counted;
     handed_on = sound.counters.handed_on;
     sent = sound.counters.sent;
@@ -179,28 +165,25 @@ module _ (v : View) (master : ℕ) (lists : List (List Held)) (sound : SoundView
     items = λ q lives k d inside has.
         let x : Row = slice_index_or v.rows k d in
         IfSome_then (first_of (lineage_of x.phase)) (sound.records.items q lives k d inside has)
-        (λ member table. subst (λ (list : List Entry). IsTableOf x.range list (v.records q)) (sym (truth_same x.range member)) table);
+        (λ member table. rw (truth_same x.range member) table);
   }
 
   -- ---- what is staged
 
   done_on : (range : Range) (lineage : List Member) → FirstIsDone v.written range lineage → FirstIsDone now.written range lineage
-  done_on range [] done = tt
-  done_on range (only ∷ []) done = tt
   done_on range (first ∷ last ∷ more) done = record {
     rest = rest_same range first ∙ done.rest;
     all = material_same range first ∙ done.all ∙ sym (truth_same range first);
   }
+  done_on range _ done = tt
 
   unnamed_on : (range : Range) (lineage : List Member) → OnlyIsUnnamed v.written range lineage → OnlyIsUnnamed now.written range lineage
-  unnamed_on range [] none = tt
-  unnamed_on range (only ∷ []) none =
-      seen_same (λ w. joined_from range (max only.from w.applied) w.entries) (λ w. refl) only.master ∙ none
-  unnamed_on range (first ∷ last ∷ more) none = tt
+  unnamed_on range (only ∷ []) none = seen_same (λ w. joined_from range (max only.from w.applied) w.entries) (λ w. refl) only.master ∙ none
+  unnamed_on range _ none = tt
 
   waits_on : (q k : ℕ) (c : Call) → Waits v.rows (v.handovers q) (v.written q) q k c → Waits v.rows (v.handovers q) (now.written q) q k c
   waits_on q k c was = record {
-    behind = subst (λ (n : ℕ). n ≤ k) (sym (applied_same q)) was.behind;
+    behind = rw (applied_same q) was.behind;
     entry = was.entry;
     stands = seen_same (λ w. slice_get w.entries k) (λ w. refl) q ∙ was.stands;
     own = was.own;
@@ -234,24 +217,20 @@ module _ (v : View) (master : ℕ) (lists : List (List Held)) (sound : SoundView
   -- ---- rebuilds
 
   no_more : (row : Row) (lineage : List Member) (q : ℕ) (end : EntryEnd) → NeededOf row now.written lineage q end → NeededOf row v.written lineage q end
-  no_more row [] q end needed = needed
-  no_more row (only ∷ []) q end needed = needed
   no_more row (first ∷ last ∷ []) q end needed =
       let Needs : List Entry → List Entry → Written → Type 0 = λ given_up own w. NeedsEnd row.range given_up own last.from w end in
       let given_up : member_given_up now.written row first ≡ member_given_up v.written row first =
       of_written (λ (w : Written). member_given_up (λ _. w) row first ≡ member_given_up v.written row first) first.master (λ at. refl) (λ apart. refl) in
       let needs : Needs (member_given_up v.written row first) (member_material v.written row.range first) (now.written last.master) =
-      subst (λ (list : List Entry). Needs list (member_material v.written row.range first) (now.written last.master)) given_up
-      (subst (λ (list : List Entry). Needs (member_given_up now.written row first) list (now.written last.master)) (material_same row.range first) needed.1) in (
+      rw (← given_up, ← material_same row.range first) needed.1 in (
         needed.0,
         of_written
             (λ (w : Written). Needs (member_given_up v.written row first) (member_material v.written row.range first) w
-            → Needs (member_given_up v.written row first) (member_material v.written row.range first) (v.written last.master))
-            last.master
+            → Needs (member_given_up v.written row first) (member_material v.written row.range first) (v.written last.master)) last.master
             (λ at its. needs_sides row.range (member_given_up v.written row first) (member_material v.written row.range first) last.from (v.written last.master) lists end its)
             (λ apart its. its) needs,
       )
-  no_more row (first ∷ second ∷ third ∷ more) q end needed = needed
+  no_more row _ q end needed = needed
 
   abbrev IsBy : View → Row → List Member → ℕ → Type 0
   IsBy w x lineage to =
@@ -276,9 +255,7 @@ module _ (v : View) (master : ℕ) (lists : List (List Held)) (sound : SoundView
       rebuilder_weaker x lineage to (truths v x) new (NeededOf x v.written lineage) (NeededOf x now.written lineage) (λ q. known_of (now.logs q) READ_BACKUP)
       (λ q. stored_of v.stored q READ_BACKUP) (now.written to) h (v.completions to x.tablet) (v.gathers to x.tablet) (v.merged to x.tablet) (v.records to)
       (λ q away end needed. no_more x lineage q end needed)
-      (subst (λ (k : ℕ → Known). Is new k (now.written to)) (sym known)
-      (subst (λ (list : List Entry). Is list (λ q. known_of (v.logs q) READ_BACKUP) (now.written to))
-      (sym (material_same x.range (member_at to (own_place h.role)))) goes_on))
+      (rw (known, material_same x.range (member_at to (own_place h.role))) goes_on)
 
   marked_same : (range : Range) (member : Member) → member_marked now.written range member ≡ member_marked v.written range member
   marked_same range member =
@@ -316,10 +293,8 @@ module _ (v : View) (master : ℕ) (lists : List (List Held)) (sound : SoundView
       RowIsRebuilt x phase (truths v x) w.logs w.written v.stored v.handovers v.completions v.gathers v.merged v.records v.live
 
   rebuilt_on : (x : Row) (phase : Phase) → IsRebuiltIn v x phase → IsRebuiltIn now x phase
-  rebuilt_on x (Owned owner from) fit = tt
-  rebuilt_on x (Opening source sfrom target dfrom) fit = tt
-  rebuilt_on x (Moving source sfrom target dfrom) fit = tt
   rebuilt_on x (Rebuilding lineage to) fit = (λ term. rebuilder_on x lineage to (fit.0 term), marked_on x.range lineage fit.1)
+  rebuilt_on x _ fit = tt
 
   mark_on : (x : Row) (q : ℕ) (mark : Mark) → MarkFits x q (v.handovers q x.tablet) (v.live q) (v.written q) mark → MarkFits x q (v.handovers q x.tablet) (v.live q) (now.written q) mark
   mark_on x q mark fit =
@@ -352,9 +327,9 @@ module _ (v : View) (master : ℕ) (lists : List (List Held)) (sound : SoundView
       let count : length (v.logs q).sides ≡ length (v.written q).sides =
       ap length (kept q).spelled ∙ length-map (v.written q).sides (λ (items : List Held). spelled_all (as_entries items)) in
       let below : AreBelow (length (v.logs q).sides) sealed =
-      subst (λ (n : ℕ). AreBelow (length (v.logs n).sides) (v.pullings n tablet).sealed) (sym at) (there tablet) in
+      rw at (there tablet) in
       ap (λ (list : List Entry). cond (is_receiving role) (flat_map (λ items. items) (v.pullings q tablet).sides) (items_of list))
-      (sides_kept (v.written q).sides lists sealed (subst (λ (n : ℕ). AreBelow n sealed) count below))
+      (sides_kept (v.written q).sides lists sealed (rw (← count) below))
 
   -- a target by what it has written, what counts of its source, and what is applied there
   abbrev IsTargetBy : Row → Member → Member → Written → List Entry × List Entry → Type 0
@@ -370,11 +345,7 @@ module _ (v : View) (master : ℕ) (lists : List (List Held)) (sound : SoundView
         from_source = was.from_source;
         workers = was.workers;
         pulled = was.pulled;
-        received =
-            subst
-            (λ (copied : List Held). IsReceived (HasArrived role (v.pullings q x.tablet) (scan_items counted.0)) x.range (scan_items counted.0)
-            (items_of (entries_from x.range target.from (applied_entries (v.written q)))) copied (v.records q))
-            (sym (copied_same q x.tablet role at)) was.received;
+        received = rw (copied_same q x.tablet role at) was.received;
         above = was.above;
         told = was.told;
         early = was.early;
@@ -382,28 +353,23 @@ module _ (v : View) (master : ℕ) (lists : List (List Held)) (sound : SoundView
       }
 
   members_on : (x : Row) (lineage : List Member) → MembersFit x v.written v.handovers v.pullings v.records v.handed lineage → MembersFit x now.written v.handovers v.pullings v.records v.handed lineage
-  members_on x [] fit = tt
-  members_on x (only ∷ []) fit = tt
   members_on x (source ∷ target ∷ []) fit = λ granted.
       let counted : List Entry × List Entry = (member_truth v.written x.range source, member_material v.written x.range source) in
       subst (IsTargetBy x source target (now.written target.master))
       (λ i. (sym (truth_same x.range source) i, sym (material_same x.range source) i))
       (of_written (λ (w : Written). IsTargetBy x source target w counted) target.master
       (λ at. target_on x source target counted at (fit granted)) (λ apart. fit granted))
-  members_on x (source ∷ target ∷ third ∷ more) fit = tt
+  members_on x _ fit = tt
 
   named_on : (range : Range) (lineage : List Member) → NamedFit v.written range lineage → NamedFit now.written range lineage
-  named_on range [] fit = tt
-  named_on range (only ∷ []) fit = tt
   named_on range (first ∷ last ∷ []) fit = λ item its.
-      subst (λ (truth : List Entry). Contains (items_of truth) item) (sym (truth_same range first))
+      rw (truth_same range first)
       (of_written (λ (w : Written). Contains (named_items range last.from w) item → Contains (items_of (member_truth v.written range first)) item) last.master
       (λ at its.
       fit item
-      (subst (λ (items : List Held). Contains items item)
-      (items_kept (v.logs last.master) (v.written last.master) (stored_of v.stored last.master) (kept last.master) lists range last.from) its))
+      (rw (← items_kept (v.logs last.master) (v.written last.master) (stored_of v.stored last.master) (kept last.master) lists range last.from) its))
       (λ apart its. fit item its) its)
-  named_on range (first ∷ last ∷ third ∷ more) fit = tt
+  named_on range _ fit = tt
 
   bare_on : (q r : ℕ) → IsBareOf (v.handovers q r) (v.written q) (v.records q) → IsBareOf (v.handovers q r) (now.written q) (v.records q)
   bare_on q r bare =
@@ -450,6 +416,4 @@ module _ (v : View) (master : ℕ) (lists : List (List Held)) (sound : SoundView
   }
 
   pub view_sides_cut : SoundView now
-  view_sides_cut =
-      subst (λ (truths : Row → List Entry). SoundParts now truths (rests now)) (sym truths_same)
-      (subst (λ (rests : Row → List Entry). SoundParts now (truths v) rests) (sym rests_same) parts)
+  view_sides_cut = rw (truths_same, rests_same) parts

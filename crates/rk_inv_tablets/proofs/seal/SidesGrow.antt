@@ -1,14 +1,13 @@
 -- What a log with more side segments keeps: what backups store of it are first parts still, and what it has written is read as before.
 use Rattle.std.proofs.Common.{◌≡◌, ℕ, suc, ◌+◌, ◌-◌, ◌<◌, ◌≤◌, true, false, List, [], ◌∷◌, ◌++◌, length, map, Option, Some, None, refl, sym}
-use Rattle.std.proofs.Common.{ap, subst, ◌∙◌, ⊎_elim, arith, ◌≢◌, ◌==◌, All, Contains}
+use Rattle.std.proofs.Common.{ap, ◌∙◌, ⊎_elim, arith, ◌≢◌, ◌==◌}
 use Rattle.rk_inv_base.proofs.Words.{cases_lt, false≢true, map-append, All-weaker, find-append, IfSome_then, list_all, option_map_or}
 use Rattle.rk_inv_base.proofs.Words.{option_or, Ended, Held, Member, Range, NumberedBytes, spelled_all, Entry, FIRST_SIDE_SEGMENT}
 use Rattle.rk_inv_base.proofs.Words.{Completions, Handover, Row, cut, Known, is_whole, Log, bytes_of, is_side_stored, known_of, numbered}
 use Rattle.rk_inv_base.proofs.Words.{segment_of, side_segments, EntryEnd, Gather, as_entries, own_place, Written, Merged, IsFirstPart}
-use Rattle.rk_inv_base.proofs.Words.{IsLog, segments_in, IsMergedOf, IsPieceOf, IsRebuildTable, IsRebuilder, NeedsEnd, merged_place}
-use Rattle.rk_inv_base.proofs.logs.Logs.{copy_grown}
-use Rattle.rk_inv_base.proofs.logs.Segments.{Grows, bytes_in, first_part_same, found_in, numbered_at, numbered_before, numbered_past}
-use Rattle.rk_inv_tablets.specs.seal.Small.{with_side_items, with_sides}
+use Rattle.rk_inv_base.proofs.Words.{IsLog, segments_in, IsMergedOf, IsPieceOf, IsRebuilder, NeedsEnd, merged_place}
+use Rattle.rk_inv_tablets.proofs.Words.{copy_grown, Grows, bytes_in, first_part_same, found_in, numbered_at, numbered_before, numbered_past}
+use Rattle.rk_inv_tablets.proofs.Words.{with_side_items, with_sides}
 use Rattle.rk_inv_tablets.proofs.seal.SideNumbers.{applied_kept, items_kept}
 
 -- ---- segments by their numbers
@@ -60,9 +59,8 @@ module _ (log : Log) (lists : List (List Held)) where
 
   -- where one was found before it has its bytes
   same_of : (one other another : Option NumberedBytes) → (one ≡ None → other ≡ None → another ≡ None) → bytes_in (option_or one (option_or other another)) ≡ bytes_in (option_or one other)
-  same_of (Some segment) other another none = refl
-  same_of None (Some segment) another none = refl
   same_of None None another none = ap bytes_in (none refl refl)
+  same_of _ _ another none = refl
 
   -- a number that is not that of a main segment is not below one that is
   none_main : (earlier later : ℕ) → 1 ≤ earlier → earlier < later → main earlier ≡ None → main later ≡ None
@@ -95,9 +93,7 @@ module _ (log : Log) (lists : List (List Held)) where
   pub grows_sides : Grows log (with_sides log lists)
   grows_sides = record {
     front = λ number.
-        subst (λ (bytes : List ℕ). IsFirstPart bytes (bytes_of grown number)) (sym (found_in log number))
-        (subst (IsFirstPart (bytes_in (option_or (main number) (side number)))) (sym (bytes_now number))
-        (front_of (main number) (side number) (new number)));
+        rw (found_in log number, bytes_now number) (front_of (main number) (side number) (new number));
     full = λ earlier later before sort filled. full_at earlier later before filled;
   }
 
@@ -122,9 +118,7 @@ module _ (log : Log) (lists : List (List Held)) where
         ap (λ (sides : List (List ℕ)). sides ++ more) old.spelled
         ∙ sym (map-append (λ (items : List Held). spelled_all (as_entries items)) w.sides lists);
     named =
-        All-weaker (λ (entry : Entry). All (λ number. is_side_stored log number ≡ true) (segments_in entry))
-        (λ (entry : Entry). All (λ number. is_side_stored grown number ≡ true) (segments_in entry))
-        (λ entry. All-weaker (λ number. is_side_stored log number ≡ true) (λ number. is_side_stored grown number ≡ true) side_stored (segments_in entry))
+        All-weaker _ _ (λ entry. All-weaker _ _ side_stored (segments_in entry))
         w.entries old.named;
     marked = old.marked;
   }
@@ -187,11 +181,9 @@ module _ (row : Row) (lineage : List Member) (master : ℕ) (truth own : List En
     merged =
         IfSome_then (merged_place handover.role) was.merged
         (λ entry. merged_sides row.tablet (own_place handover.role) own handover completions gather ends w lists entry);
-    items =
-        subst (λ (list : List Entry). IsRebuildTable row.range truth list records)
-        (sym (applied_kept log w copies kept lists row.range (own_place handover.role))) was.items;
+    items = rw (applied_kept log w copies kept lists row.range (own_place handover.role)) was.items;
     sides = λ item at.
         was.sides item
-        (subst (λ (items : List Held). Contains items item) (items_kept log w copies kept lists row.range (own_place handover.role)) at);
+        (rw (← items_kept log w copies kept lists row.range (own_place handover.role)) at);
     outside = was.outside;
   }

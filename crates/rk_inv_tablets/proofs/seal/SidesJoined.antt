@@ -1,53 +1,32 @@
 -- A view stays sound when a target that has pulled all takes what it copied from side segments, and joins.
 use Rattle.std.proofs.Common.{◌≡◌, ℕ, ◌<◌, ◌⊎◌, true, List, [], ◌∷◌, ◌++◌, Option, None, refl, sym, ap, ◌∙◌, subst, ⊎_elim, inl, inr, arith}
 use Rattle.std.proofs.Common.{IfSome, drop, nat_lt, slice_index_or, take, Contains, flat_map, lt-ltb}
-use Rattle.rk_inv_base.proofs.Words.{All-contains, All-weaker, Contains-append_left, Contains-get_or, IfSome_then, get, Call, Held, Token}
-use Rattle.rk_inv_base.proofs.Words.{Member, Range, Entry, end, passed, is_serving, Handover, Role, lineage_of, Phase, Owned, Opening}
-use Rattle.rk_inv_base.proofs.Words.{Moving, Rebuilding, Row, Handed, items_of, side_entries, is_idle, is_rebuilding, may_have_staged}
-use Rattle.rk_inv_base.proofs.Words.{Pulling, Written, applied_entries, member_material, member_truth, IsNext, is_wanting, Post, Owner}
-use Rattle.rk_inv_base.proofs.Words.{OpeningSource, InvitedTarget, ReadyTarget, MovingSource, MovingTarget, OnlyRebuilder, FirstRebuilder}
-use Rattle.rk_inv_base.proofs.Words.{LastRebuilder, OutsideRebuilder, FormerMember, Bystander, Holds, StillCounts, bond_of, post_of}
-use Rattle.rk_inv_base.proofs.Words.{MarkFits, RowIsRebuilt, has_merged, HandedFits, HasArrived, HasClosing, IsHandedBy, IsOutdone}
-use Rattle.rk_inv_base.proofs.Words.{IsTarget, MembersFit, before_closing, beginning_of, closing_joined, copied_items, entries_from}
-use Rattle.rk_inv_base.proofs.Words.{is_granted, joined_place, scan_items, Waits, RoleFits, View, truths, rests, CallsOf, CountersOf}
-use Rattle.rk_inv_base.proofs.Words.{MessagesOf, ReceivesOf, RebuildsOf, RestOf, SoundView, TablesOf}
+use Rattle.rk_inv_base.proofs.Words.{All-weaker, Contains-append_left, Contains-get_or, IfSome_then, get, Call, Held, Member, Range, Entry}
+use Rattle.rk_inv_base.proofs.Words.{end, passed, is_serving, Handover, Role, lineage_of, Phase, Rebuilding, Row, Handed, items_of}
+use Rattle.rk_inv_base.proofs.Words.{side_entries, is_idle, is_rebuilding, may_have_staged, Pulling, Written, applied_entries}
+use Rattle.rk_inv_base.proofs.Words.{member_material, member_truth, IsNext, is_wanting, Post, MovingTarget, LastRebuilder, Holds, bond_of}
+use Rattle.rk_inv_base.proofs.Words.{post_of, MarkFits, RowIsRebuilt, has_merged, HandedFits, HasArrived, HasClosing, IsHandedBy, IsTarget}
+use Rattle.rk_inv_base.proofs.Words.{MembersFit, before_closing, beginning_of, closing_joined, copied_items, entries_from, is_granted}
+use Rattle.rk_inv_base.proofs.Words.{joined_place, scan_items, Waits, View, truths, rests, CallsOf, CountersOf, MessagesOf, ReceivesOf}
+use Rattle.rk_inv_base.proofs.Words.{RebuildsOf, RestOf, SoundView, TablesOf}
+use Rattle.rk_inv_tablets.proofs.Words.{AreAlike, handed_by_alike, handed_for_grant_alike, speaks_alike, still_counts, same_number}
+use Rattle.rk_inv_tablets.proofs.Words.{calls_alike, cover_looks, stands_kept, messages_looks, put2_by, IsRebuilderIn, mark_same, IsBareOf}
+use Rattle.rk_inv_tablets.proofs.Words.{roles_looks, AllLook, GoesOn, LooksAs, looks_same, all_items_same, terms_looks, as_joining}
+use Rattle.rk_inv_tablets.proofs.Words.{as_sealed, sides_joined, row_in}
+use Rattle.rk_transfer.specs.declared.role.Role.TheVariants as roles
 use Rattle.rk_types.specs.declared.hashing.TheConstants.{BUCKETS}
 use Rattle.rk_table.proofs.InOrder.{bucket_below_end}
 use Rattle.rk_table.specs.Order.{item_bucket}
 use Rattle.rk_table.specs.Scans.{before_bucket, of_bucket}
-use Rattle.rk_transfer.specs.declared.role.Role.TheVariants as roles
-use Rattle.rk_inv_base.proofs.views.Alike.{AreAlike, handed_by_alike, handed_for_grant_alike, speaks_alike, still_counts}
-use Rattle.rk_inv_base.proofs.rows.Apart.{same_number}
-use Rattle.rk_inv_base.proofs.calls.Calls.{calls_alike}
-use Rattle.rk_inv_base.proofs.views.Cover.{cover_looks}
-use Rattle.rk_inv_base.proofs.pulls.Joining.{stands_kept}
-use Rattle.rk_inv_base.proofs.wire.Messages.{messages_looks}
-use Rattle.rk_inv_base.proofs.views.Put.{put2_by}
-use Rattle.rk_inv_base.proofs.calls.Rebuilds.{IsRebuilderIn, mark_same}
-use Rattle.rk_inv_base.proofs.calls.Receives.{IsBareOf}
 use Rattle.rk_inv_base.proofs.pulls.Replayed.{receiving_behind}
-use Rattle.rk_inv_base.proofs.roles.Roles.{roles_looks}
-use Rattle.rk_inv_base.proofs.views.Seen.{AllLook, GoesOn, LooksAs, looks_same}
-use Rattle.rk_inv_base.proofs.views.Tables.{all_items_same}
-use Rattle.rk_inv_base.proofs.views.Terms.{terms_looks}
-use Rattle.rk_inv_tablets.specs.seal.Small.{as_joining, as_sealed, sides_joined}
 
 -- ---- roles
 
 -- a post that takes a target that pulls takes one that joins
 pub fits_joining : (post : Post) (term own applied : ℕ) → Holds (bond_of post roles.Receiving) term own applied → Holds (bond_of post (roles.Joining None)) term own applied
-fits_joining (Owner from) term own applied holds = absurd holds
-fits_joining OpeningSource term own applied holds = absurd holds
-fits_joining InvitedTarget term own applied holds = absurd holds
-fits_joining (ReadyTarget from) term own applied holds = absurd holds
-fits_joining MovingSource term own applied holds = absurd holds
 fits_joining (MovingTarget from) term own applied holds = holds
-fits_joining (OnlyRebuilder from) term own applied holds = absurd holds
-fits_joining (FirstRebuilder from) term own applied holds = absurd holds
 fits_joining (LastRebuilder from) term own applied holds = holds
-fits_joining OutsideRebuilder term own applied holds = absurd holds
-fits_joining FormerMember term own applied holds = absurd holds
-fits_joining Bystander term own applied holds = absurd holds
+fits_joining _ term own applied holds = absurd holds
 
 -- so it goes on as it was
 joins_goes_on : GoesOn roles.Receiving (roles.Joining None)
@@ -89,7 +68,7 @@ module _ (range : Range) (source : ℕ) (truth material : List Entry) (from : �
 
   -- all has arrived
   arrived : (item : Held) → Contains items item → Arrived item
-  arrived item at = λ _. inl (subst (λ (token : Token). Contains (passed token items) item) (sym at_end) (passed_all items item at))
+  arrived item at = λ _. inl (rw at_end (passed_all items item at))
 
   pub target_joins : IsTarget range source truth material from w h pulling handed table → IsTarget range source truth material from w (as_joining h) (as_sealed numbers pulling) handed table
   target_joins was = record {
@@ -97,11 +76,11 @@ module _ (range : Range) (source : ℕ) (truth material : List Entry) (from : �
     workers = refl;
     pulled = λ joins. record { at_end = at_end; sealed = refl };
     received = record {
-      within = λ item at. was.received.within item (subst (λ (list : List Held). Contains list item) same_copies at);
+      within = λ item at. was.received.within item (rw (← same_copies) at);
       copied = λ item at its.
-          subst (λ (list : List Held). Contains list item ⊎ IsOutdone own item) (sym same_copies) (was.received.copied item at (arrived item at));
+          rw same_copies (was.received.copied item at (arrived item at));
       come = λ item at inside.
-          subst (λ (list : List Held). Contains own item ⊎ Contains list item) (sym same_copies) (was.received.come item at inside);
+          rw same_copies (was.received.come item at inside);
       found = λ item come.
           was.received.found item
           (⊎_elim (λ (mine : Contains own item). inl mine)
@@ -158,7 +137,7 @@ module _ (v : View) (row : Row) (master : ℕ) (numbers : List ℕ) (sound : Sou
         (λ at its. record {
           term = refl;
           range = refl;
-          role = subst (λ (role : Role). GoesOn role (roles.Joining None)) (sym (receives_it q r at its)) joins_goes_on;
+          role = rw (receives_it q r at its) joins_goes_on;
           counter = λ frozen. refl;
         })
         (λ apart. looks_same (v.handovers q r));
@@ -180,16 +159,15 @@ module _ (v : View) (row : Row) (master : ℕ) (numbers : List ℕ) (sound : Sou
     moving = sound.counters.moving;
     counted = λ q k d inside counts says.
         let x : Row = slice_index_or v.rows k d in
-        subst (IsNext (truths v x ++ rests v x)) (sym (seen_same (λ h. h.counter) (λ h is. refl) q x.tablet))
-        (sound.counters.counted q k d inside
+        rw (seen_same (λ h. h.counter) (λ h is. refl) q x.tablet) (sound.counters.counted q k d inside
         (still_counts (v.live q) (v.handovers q x.tablet).term (now.handovers q x.tablet).term x.term (alike q x.tablet).same_term counts)
         (sym (speaks_alike (post_of x.phase q) x.term (v.handovers q x.tablet) (now.handovers q x.tablet) (alike q x.tablet)) ∙ says));
     handed_on = λ k d inside.
         let x : Row = slice_index_or v.rows k d in
-        subst (Floors x) (sym (handed_for_grant_alike x v.handovers now.handovers v.handed alike)) (sound.counters.handed_on k d inside);
+        rw (handed_for_grant_alike x v.handovers now.handovers v.handed alike) (sound.counters.handed_on k d inside);
     sent = λ n m found k d inside.
         let x : Row = slice_index_or v.rows k d in
-        subst (Floors x) (sym (handed_by_alike x v.handovers now.handovers m.body alike)) (sound.counters.sent n m found k d inside);
+        rw (handed_by_alike x v.handovers now.handovers m.body alike) (sound.counters.sent n m found k d inside);
   }
 
   records : TablesOf now
@@ -241,11 +219,9 @@ module _ (v : View) (row : Row) (master : ℕ) (numbers : List ℕ) (sound : Sou
   behind : (lineage : List Member) → row.phase ≡ Rebuilding lineage master → old.term < row.term
   behind lineage is =
       receiving_behind lineage master row.term old.term (v.written master).applied
-      (subst (λ (role : Role). Holds (bond_of (post_of (Rebuilding lineage master) master) role) row.term old.term (v.written master).applied) receiving
+      (rw (← receiving)
       (subst (λ (phase : Phase). Holds (bond_of (post_of phase master) old.role) row.term old.term (v.written master).applied) is
-      (All-contains
-      (λ (r : Row). StillCounts (v.live master) (v.handovers master r.tablet).term r.term
-      → RoleFits r master (v.handovers master r.tablet) (v.written master).applied) v.rows row (sound.roles.fitting master) has_row (inl lives))))
+      ((row_in v sound row has_row).fitting master (inl lives))))
 
   abbrev IsBy : Row → List Member → ℕ → Handover → Type 0
   IsBy x lineage to h =
@@ -268,15 +244,13 @@ module _ (v : View) (row : Row) (master : ℕ) (numbers : List ℕ) (sound : Sou
       RowIsRebuilt x phase (truths v x) v.logs v.written v.stored w.handovers v.completions v.gathers v.merged v.records v.live
 
   rebuilt_on : (x : Row) → Contains v.rows x → (phase : Phase) → x.phase ≡ phase → IsRebuiltIn v x phase → IsRebuiltIn now x phase
-  rebuilt_on x has (Owned owner from) is fit = tt
-  rebuilt_on x has (Opening source sfrom target dfrom) is fit = tt
-  rebuilt_on x has (Moving source sfrom target dfrom) is fit = tt
   rebuilt_on x has (Rebuilding lineage to) is fit = (
     λ term.
         let at : (v.handovers to x.tablet).term ≡ x.term = sym (alike to x.tablet).same_term ∙ term in
         rebuilder_on x has lineage to is at (fit.0 at),
     fit.1,
   )
+  rebuilt_on x has _ is fit = tt
 
   rebuilds : RebuildsOf now (truths v)
   rebuilds = record {
@@ -303,16 +277,12 @@ module _ (v : View) (row : Row) (master : ℕ) (numbers : List ℕ) (sound : Sou
       pulling (get v.handed x.tablet) (v.records target.master)
 
   copies_of : (q r : ℕ) → q ≡ master → r ≡ row.tablet → HaveCopies (v.written q) (v.pullings q r) numbers
-  copies_of q r at its =
-      subst (λ (n : ℕ). HaveCopies (v.written n) (v.pullings n r) numbers) (sym at)
-      (subst (λ (n : ℕ). HaveCopies (v.written master) (v.pullings master n) numbers) (sym its) copies)
+  copies_of q r at its = rw (at, its) copies
 
   ends_of : (q r : ℕ) → q ≡ master → r ≡ row.tablet → (v.pullings q r).token ≡ end
   ends_of q r at its = ap (λ (n : ℕ). (v.pullings n r).token) at ∙ ap (λ (n : ℕ). (v.pullings master n).token) its ∙ at_end
 
   members_on : (x : Row) (lineage : List Member) → MembersFit x v.written v.handovers v.pullings v.records v.handed lineage → MembersFit x v.written now.handovers now.pullings v.records v.handed lineage
-  members_on x [] fit = tt
-  members_on x (only ∷ []) fit = tt
   members_on x (source ∷ target ∷ []) fit = λ granted.
       let q : ℕ = target.master in
       let was : IsTargetBy x source target (v.handovers q x.tablet) (v.pullings q x.tablet) = fit (sym (by_role is_granted refl q x.tablet) ∙ granted) in
@@ -326,16 +296,14 @@ module _ (v : View) (row : Row) (master : ℕ) (numbers : List ℕ) (sound : Sou
       (λ apart. absurd (apart at its)))
       (λ apart.
       of_pulling (IsTargetBy x source target (v.handovers q x.tablet)) q x.tablet (λ at its. absurd (apart at its)) (λ _. was))
-  members_on x (source ∷ target ∷ third ∷ more) fit = tt
+  members_on x _ fit = tt
 
   told_on : (x : Row) (lineage : List Member) → HandedFits x v.handovers v.completions v.handed lineage → HandedFits x now.handovers v.completions v.handed lineage
-  told_on x [] fit = tt
-  told_on x (only ∷ []) fit = tt
   told_on x (source ∷ target ∷ []) fit = λ term.
       let was = fit (sym (alike target.master x.tablet).same_term ∙ term ∙ (alike source.master x.tablet).same_term) in
       of_handover (λ (h : Handover). IsHandedBy (get v.handed x.tablet) h (v.completions source.master x.tablet)) source.master x.tablet
       (λ at its. was) (λ apart. was)
-  told_on x (source ∷ target ∷ third ∷ more) fit = tt
+  told_on x _ fit = tt
 
   receives : ReceivesOf now
   receives = record {

@@ -4,9 +4,9 @@ use Rattle.rk_inv_base.proofs.Words.{get, Call, Ended, Entry, noted, frozen, joi
 use Rattle.rk_inv_base.proofs.Words.{apply_entry, newly_held, noting, stored_taken, told_length, with_applied, with_ended, with_entry_item}
 use Rattle.rk_inv_base.proofs.Words.{told_by, Master, is_settled, with_known, has_key, is_absent, Tablet, with_handover, all_going_on}
 use Rattle.rk_inv_base.proofs.Words.{closing_entry, freezing, going_on_in, is_sealed_stored, tablet_frozen}
+use Rattle.rk_inv_tablets.proofs.Words.{fold_keeps_all}
 use Rattle.rk_entry.specs.declared.entry.Entry.TheVariants as entries
 use Rattle.rk_transfer.specs.declared.role.Role.TheVariants as roles
-use Rattle.rk_inv_wellformed.proofs.maps.Lists.{fold_keeps_all}
 use Rattle.rk_inv_tablets.proofs.steady.Sealed.{IsSealedUnder, Seals, each_under, either_seals, seals_with_tablet}
 
 module _ (count : ℕ) where
@@ -28,8 +28,7 @@ module _ (count : ℕ) where
   ended_seals : (master : Master) (place : ℕ) (call : Option Call) (ends : List Ended) → Seals count master → Seals count (with_ended master place call ends).master
   ended_seals master place (Some call) (end ∷ ends) seals =
       (seals.0, each_under count (λ entry. noting call end entry.1) master.tablets (λ entry sealed. noting_sealed call end entry.1 sealed) seals.1)
-  ended_seals master place (Some call) [] seals = seals
-  ended_seals master place None ends seals = seals
+  ended_seals master place _ _ seals = seals
 
   entry_seals : (master : Master) (entry : Entry) → Seals count master → Seals count (apply_entry master entry).master
   entry_seals master entry seals =
@@ -59,13 +58,7 @@ module _ (count : ℕ) where
         let handover = joined tablet.handover tablet.handover.term (Some (length master.log.entries)) in
         either_seals count (is_sealed_stored master tablet) (closing_entry master number tablet handover) master
         (closing_entry_seals handover) seals
-    going_on_seals (roles.Joining (Some entry)) = seals
-    going_on_seals roles.Absent = seals
-    going_on_seals roles.Serving = seals
-    going_on_seals roles.Frozen = seals
-    going_on_seals (roles.Wanting from) = seals
-    going_on_seals roles.Receiving = seals
-    going_on_seals (roles.Rebuilding from entry) = seals
+    going_on_seals _ = seals
 
   all_going_on_seals : (master : Master) → Seals count master → Seals count (all_going_on master master.tablets)
   all_going_on_seals master seals =

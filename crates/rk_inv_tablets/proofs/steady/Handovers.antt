@@ -48,13 +48,7 @@ module _ (count : ℕ) where
     again_seals : (tenure : Tenure) (role : Role) (term : ℕ) → Seals count (ready_again master tenure role term).master
     again_seals tenure (roles.Wanting from) term =
         either_works count (term == tenure.term) (sending master (ready master tenure from)) (changed master) seals seals
-    again_seals tenure roles.Absent term = seals
-    again_seals tenure roles.Serving term = seals
-    again_seals tenure roles.Closing term = seals
-    again_seals tenure roles.Frozen term = seals
-    again_seals tenure roles.Receiving term = seals
-    again_seals tenure (roles.Joining entry) term = seals
-    again_seals tenure (roles.Rebuilding from entry) term = seals
+    again_seals tenure _ term = seals
 
     pub prepare_seals : (prepare : Prepare) → Seals count (prepare_taken master prepare).master
     prepare_seals prepare =
@@ -98,8 +92,7 @@ module _ (count : ℕ) where
         seals (All-nil _)
 
     pub grant_seals : (grant : Grant) → Seals count (grant_taken master grant).master
-    grant_seals grant =
-        granting_seals grant (granted (tablet_at master grant.tenure.tablet).handover grant.tenure.term grant.floor)
+    grant_seals grant = granting_seals grant (granted (tablet_at master grant.tenure.tablet).handover grant.tenure.term grant.floor)
 
     -- ---- owned
 

@@ -1,16 +1,17 @@
 -- Each backup of a lane tells what it stores, and what targets have sealed is there: in a new lane, after each event, and after a
 -- client's turn or answer.
-use Rattle.std.proofs.Common.{◌≡◌, ◌≤◌, ◌&&◌, ℕ, true, [], length, Option, None, Some, refl, sym, ap, subst, ◌∙◌, ⊎_elim, arith, is_some}
-use Rattle.std.proofs.Common.{nat_le, unwrap_or}
+use Rattle.std.proofs.Common.{◌≡◌, ◌≤◌, ◌&&◌, ℕ, true, [], length, Option, None, Some, refl, ap, ◌∙◌, ⊎_elim, arith, is_some, nat_le}
+use Rattle.std.proofs.Common.{unwrap_or}
 use Rattle.rk_inv_base.proofs.Words.{cases_eq, nat_tests, All-nil, get_other, get_same, IsInOrder, NumberMap, get, get_or, insert, Range}
 use Rattle.rk_inv_base.proofs.Words.{Segments, Called, no_segments, accept, ask, Session, IsWellFormed, Master, new_master, tablet_at}
 use Rattle.rk_inv_base.proofs.Words.{with_tablet, master_step, master_turn, range_below, range_from, AllTell, world_visited, has_parts}
 use Rattle.rk_inv_base.proofs.Words.{with_half, with_halves, with_split, happened, with_added, World, master_at, new_world, with_master}
 use Rattle.rk_inv_base.proofs.Words.{Event}
+use Rattle.rk_inv_tablets.proofs.Words.{master_other, master_same}
 use Rattle.rk_transfer.specs.declared.role.Role.TheVariants as roles
 use Rattle.rk_inv_base.proofs.views.Fresh.{each_fresh, found_within}
-use Rattle.rk_inv_base.proofs.views.Masters.{master_other, master_same}
-use Rattle.rk_inv_tablets.proofs.steady.Sealed.{IsSealedAt, SealsThere, each_from_there, either_seals, sealed_at, seals_there, seals_with_tablet, there_from_each}
+use Rattle.rk_inv_tablets.proofs.steady.Sealed.{IsSealedAt, SealsThere, each_from_there, either_seals, sealed_at, seals_there}
+use Rattle.rk_inv_tablets.proofs.steady.Sealed.{seals_with_tablet, there_from_each}
 use Rattle.rk_inv_tablets.proofs.steady.Steps.{step_there}
 use Rattle.rk_inv_tablets.proofs.steady.Turns.{turn_seals}
 use Rattle.rk_inv_tablets.proofs.steady.Walks.{IsKept, Part, accept_keeps, ask_keeps, event_keeps}
@@ -20,8 +21,7 @@ use Rattle.rk_inv_tablets.specs.steady.Steady.{AllSealedThere}
 
 -- each of so many backups tells what it stores
 abbrev Tell : Part
-Tell masters count backups =
-    (backup : ℕ) → (nat_le 1 backup && nat_le backup count) ≡ true → is_some (get backups backup) ≡ true
+Tell masters count backups = (backup : ℕ) → (nat_le 1 backup && nat_le backup count) ≡ true → is_some (get backups backup) ≡ true
 
 told_with : (backups : NumberMap Segments) (number : ℕ) (segments : Segments) (backup : ℕ) → is_some (get backups backup) ≡ true → is_some (get (insert backups number segments) backup) ≡ true
 told_with backups number segments backup told =
@@ -95,8 +95,8 @@ module _ (w : World) (sealed : AllSealedThere w) where
   put_sealed : (number : ℕ) (master : Master) → SealsThere master → AllSealedThere (with_master w number master)
   put_sealed number master there q =
       ⊎_elim
-      (λ (is : q ≡ number). subst IsSealedAt (sym (master_same w number master q is)) (each_from_there master there))
-      (λ (apart : q ≡ number → ⊥). subst IsSealedAt (sym (master_other w number master q apart)) (sealed q))
+      (λ (is : q ≡ number). rw (master_same w number master q is) (each_from_there master there))
+      (λ (apart : q ≡ number → ⊥). rw (master_other w number master q apart) (sealed q))
       (cases_eq q number)
 
   -- the tablets of a master of a well formed lane are in order
@@ -132,7 +132,7 @@ module _ (w : World) (sealed : AllSealedThere w) where
 pub sealed_new : (lane masters backups : ℕ) → AllSealedThere (new_world lane masters backups)
 sealed_new lane masters backups master =
     let fresh = each_fresh lane masters backups master in
-    subst IsSealedAt (sym fresh.is_new) (λ tablet. All-nil _)
+    rw fresh.is_new (λ tablet. All-nil _)
 
 pub sealed_event : (w : World) (event : Event) (called : Called) → IsWellFormed w → AllSealedThere w → AllSealedThere (happened w event called).world
 sealed_event w event called formed sealed = event_keeps Sealed w (sealed_kept w sealed formed) event called

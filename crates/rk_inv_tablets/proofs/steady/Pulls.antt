@@ -1,17 +1,18 @@
 -- What targets have sealed is there where a target takes what it pulled, and also where it seals its side lists.
-use Rattle.std.proofs.Common.{◌<◌, ◌≤◌, ◌+◌, ◌&&◌, ℕ, Bool, true, false, cond, All, List, [], ◌∷◌, length, fold, Option, None, Some, sym}
-use Rattle.std.proofs.Common.{subst, arith, ◌%◌}
+use Rattle.std.proofs.Common.{◌<◌, ◌≤◌, ◌+◌, ◌&&◌, ℕ, Bool, true, false, cond, All, List, [], ◌∷◌, length, fold, Option, None, Some, arith}
+use Rattle.std.proofs.Common.{◌%◌}
 use Rattle.rk_inv_base.proofs.Words.{All-weaker, range_with_len, Held, Token, Node, FIRST_SIDE_SEGMENT, found, is_newer, end, joined}
 use Rattle.rk_inv_base.proofs.Words.{Handover, got, is_batch, Got, Pull, Pulled, Want, items_of, Master, tablet_at, with_side_segment}
 use Rattle.rk_inv_base.proofs.Words.{batch_taken, got_taken, hashes_resolved, is_token, item_replayed, joining_at, joining_by, next_sides}
 use Rattle.rk_inv_base.proofs.Words.{pull_taken, pulled_all, pulled_taken, replay, replay_one, sealing, token_passed, want_taken}
 use Rattle.rk_inv_base.proofs.Words.{with_pulled, with_pulling, is_frozen_at, is_receiving_at, sealed_sides, Tablet, with_handover, changed}
+use Rattle.rk_inv_tablets.proofs.Words.{kept_by_fold}
 use Rattle.rk_priority.specs.Hashes.{no_hashes}
 use Rattle.rk_world.specs.Master.{with_item}
-use Rattle.rk_inv_wellformed.proofs.lanes.Ledgers.{kept_by_fold}
 use Rattle.rk_inv_wellformed.proofs.masters.Turns.{range_within}
 use Rattle.rk_inv_tablets.proofs.steady.Commits.{closing_entry_seals}
-use Rattle.rk_inv_tablets.proofs.steady.Sealed.{IsSealedUnder, Seals, SealsThere, either_seals, either_works, sealed_at, seals_there, seals_with_tablet, sides_added}
+use Rattle.rk_inv_tablets.proofs.steady.Sealed.{IsSealedUnder, Seals, SealsThere, either_seals, either_works, sealed_at, seals_there}
+use Rattle.rk_inv_tablets.proofs.steady.Sealed.{seals_with_tablet, sides_added}
 
 module _ (count : ℕ) where
   -- ---- a source
@@ -31,8 +32,7 @@ module _ (count : ℕ) where
       either_seals count (is_newer item (found item.table item.key master.records)) (item_replayed number worker master item) master
       (seals_with_tablet count (with_item master item) number
       (with_pulling (tablet_at master number) (with_pulled (tablet_at master number).pulling worker item)) seals
-      (sealed_at count master number seals))
-      seals
+      (sealed_at count master number seals)) seals
 
   replay_seals : (master : Master) (number worker : ℕ) (items : List Held) → Seals count master → Seals count (replay master number worker items)
   replay_seals master number worker items seals =
@@ -60,8 +60,7 @@ module _ (count : ℕ) where
       (is_receiving_at tablet message.tenure.term && is_batch tablet.pulling.hashes.outstanding message.hashes)
       (changed (hashes_resolved now message.tenure.tablet message.hashes)) (changed master)
       (resolved_seals now message.tenure.tablet message.hashes
-      (replay_seals master message.tenure.tablet 0 (items_of message.entries) seals))
-      seals
+      (replay_seals master message.tenure.tablet 0 (items_of message.entries) seals)) seals
 
   -- ---- side segments
 
@@ -83,8 +82,7 @@ module _ (count : ℕ) where
         sealed = next_sides master (length sides);
       }))
       (sides_added sides count master seals)
-      (subst (λ (n : ℕ). All (λ number. number < FIRST_SIDE_SEGMENT + (count + length sides)) (range_with_len (FIRST_SIDE_SEGMENT + n) (length sides)))
-      (sym seals.0) (next_under (length sides)))
+      (rw seals.0 (next_under (length sides)))
 
   module _ (master : Master) (number : ℕ) (tablet : Tablet) (seals : Seals count master) (sealed : IsSealedUnder count tablet) where
     joining_at_seals : (handover : Option Handover) → Seals count (joining_at master number tablet handover)

@@ -6,7 +6,7 @@ use Rattle.rk_inv_base.proofs.Words.{as_entries, merge, begun_from, beginning, c
 use Rattle.rk_inv_base.proofs.Words.{rebuild_goes_on, rebuild_taken, rebuilding_on, rebuilt_entry, segment_gathered, with_begun}
 use Rattle.rk_inv_base.proofs.Words.{with_gathered, with_merged, without_foreign, is_gathering, Tablet, pulling_from, changed, Merged}
 use Rattle.rk_inv_base.proofs.Words.{Reading}
-use Rattle.rk_world.specs.Gather.{gather_begun}
+use Rattle.rk_inv_tablets.proofs.Words.{gather_begun}
 use Rattle.rk_world.specs.Rebuilds.{merged_at}
 use Rattle.rk_inv_tablets.proofs.steady.Handovers.{others_given_up_seal}
 use Rattle.rk_inv_tablets.proofs.steady.Sealed.{IsSealedUnder, Seals, either_works, sealed_at, seals_with_all, seals_with_tablet}
@@ -82,5 +82,4 @@ module _ (count : ℕ) where
       && is_awaited (next_reading tablet.gather) copy.master copy.segment)
       (rebuild_goes_on (segment_gathered master copy) number) (changed master)
       (goes_on_seals (segment_gathered master copy) number
-      (seals_with_tablet count master number (with_gathered tablet copy) seals (sealed_at count master number seals)))
-      seals
+      (seals_with_tablet count master number (with_gathered tablet copy) seals (sealed_at count master number seals))) seals

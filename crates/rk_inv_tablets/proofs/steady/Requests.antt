@@ -1,25 +1,20 @@
 -- What targets have sealed stays there where a master takes a request.
 use Rattle.std.proofs.Common.{ℕ}
 use Rattle.rk_inv_base.proofs.Words.{hash_of, Call, Request, Master, tablet_at, call_of, choice_of, chosen, counted_up, item_of}
-use Rattle.rk_inv_base.proofs.Words.{request_taken, with_staged, Choice, Redirects, Repeats, Ignores, Wants, Reads, Writes, Refuses}
+use Rattle.rk_inv_base.proofs.Words.{request_taken, with_staged, Choice, Wants, Writes}
 use Rattle.rk_entry.specs.declared.entry.Entry.TheVariants as entries
 use Rattle.rk_world.specs.Requests.{with_wanted}
 use Rattle.rk_inv_tablets.proofs.steady.Sealed.{Seals, sealed_at, seals_with_tablet}
 
 module _ (count : ℕ) (master : Master) (seals : Seals count master) where
   chosen_seals : (asked : ℕ) (call : Call) (choice : Choice) → Seals count (chosen master asked call choice).master
-  chosen_seals asked call Redirects = seals
-  chosen_seals asked call (Repeats end) = seals
-  chosen_seals asked call Ignores = seals
   chosen_seals asked call (Wants number) =
       seals_with_tablet count master number (with_wanted (tablet_at master number) (hash_of call.key)) seals (sealed_at count master number seals)
-  chosen_seals asked call (Reads outcome) = seals
   chosen_seals asked call (Writes number value) =
       seals_with_tablet count
       (with_staged master call (entries.Held (item_of call (tablet_at master number).handover.counter value)))
       number (counted_up (tablet_at master number)) seals (sealed_at count master number seals)
-  chosen_seals asked call (Refuses found absent) = seals
+  chosen_seals asked call _ = seals
 
   pub request_seals : (client : ℕ) (request : Request) → Seals count (request_taken master client request).master
-  request_seals client request =
-      chosen_seals request.tablet (call_of client request) (choice_of master (call_of client request))
+  request_seals client request = chosen_seals request.tablet (call_of client request) (choice_of master (call_of client request))

@@ -1,10 +1,10 @@
 -- What a master's tablets have sealed is below a count of side segments, and stays so at its small changes.
 use Rattle.std.proofs.Common.{◌≡◌, ◌<◌, ◌≤◌, ◌+◌, ℕ, Bool, true, false, cond, All, List, [], ◌∷◌, length, map, fold, Option, None, Some}
-use Rattle.std.proofs.Common.{refl, sym, subst, arith, length-append, unwrap_or}
+use Rattle.std.proofs.Common.{refl, subst, arith, length-append, unwrap_or}
 use Rattle.rk_inv_base.proofs.Words.{All-map, All-nil, All-weaker, IsInOrder, NumberMap, get, Held, spelled_all, Entry, FIRST_SIDE_SEGMENT}
 use Rattle.rk_inv_base.proofs.Words.{Master, tablet_at, with_all, with_appended, with_side_segment, with_tablet, as_entries, Tablet}
 use Rattle.rk_inv_base.proofs.Words.{no_tablet, Worked}
-use Rattle.rk_inv_wellformed.proofs.lanes.Ledgers.{kept_by_fold}
+use Rattle.rk_inv_tablets.proofs.Words.{kept_by_fold}
 use Rattle.rk_inv_wellformed.proofs.maps.Maps.{All_insert, All_pairs, each_from_pairs}
 
 -- what a tablet has sealed is among so many side segments
@@ -25,7 +25,7 @@ SealsThere master = AreSealedUnder (length master.log.sides) master.tablets
 
 -- so it is then
 pub seals_there : (count : ℕ) (master : Master) → Seals count master → SealsThere master
-seals_there count master seals = subst (λ (n : ℕ). AreSealedUnder n master.tablets) (sym seals.0) seals.1
+seals_there count master seals = rw seals.0 seals.1
 
 -- ---- more side segments
 
@@ -35,9 +35,7 @@ tablet_under_more less more tablet within sealed =
     (λ number below. omega (arith, within, below)) tablet.pulling.sealed sealed
 
 pub under_more : (less more : ℕ) (tablets : NumberMap Tablet) → less ≤ more → AreSealedUnder less tablets → AreSealedUnder more tablets
-under_more less more tablets within each =
-    All-weaker (λ entry. IsSealedUnder less entry.1) (λ entry. IsSealedUnder more entry.1)
-    (λ entry sealed. tablet_under_more less more entry.1 within sealed) tablets each
+under_more less more tablets within each = All-weaker _ _ (λ entry sealed. tablet_under_more less more entry.1 within sealed) tablets each
 
 -- one more side segment
 side_added : (count : ℕ) (master : Master) (items : List Held) → Seals count master → Seals (count + 1) (with_side_segment master items)
@@ -50,11 +48,10 @@ side_added count master items seals = (
 pub sides_added : (sides : List (List Held)) (count : ℕ) (master : Master) → Seals count master → Seals (count + length sides) (fold with_side_segment master sides)
 sides_added [] count master seals =
     let same : count ≡ count + 0 = omega arith in
-    subst (λ (n : ℕ). Seals n master) same seals
+    rw (← same) seals
 sides_added (items ∷ sides) count master seals =
     let same : count + 1 + length sides ≡ count + length (items ∷ sides) = omega arith in
-    subst (λ (n : ℕ). Seals n (fold with_side_segment (with_side_segment master items) sides)) same
-    (sides_added sides (count + 1) (with_side_segment master items) (side_added count master items seals))
+    rw (← same) (sides_added sides (count + 1) (with_side_segment master items) (side_added count master items seals))
 
 module _ (count : ℕ) where
   -- ---- tablets
@@ -76,7 +73,7 @@ module _ (count : ℕ) where
   pub each_under : (change : ℕ × Tablet → Tablet) (tablets : NumberMap Tablet) → ((entry : ℕ × Tablet) → IsSealedUnder count entry.1 → IsSealedUnder count (change entry)) → AreSealedUnder count tablets → AreSealedUnder count (map (λ entry. (entry.0, change entry)) tablets)
   each_under change tablets keeps each =
       All-map (λ (entry : ℕ × Tablet). IsSealedUnder count entry.1) (λ (entry : ℕ × Tablet). (entry.0, change entry)) tablets
-      (All-weaker (λ (entry : ℕ × Tablet). IsSealedUnder count entry.1) (λ (entry : ℕ × Tablet). IsSealedUnder count (change entry)) keeps tablets each)
+      (All-weaker _ _ keeps tablets each)
 
   -- ---- entries
 

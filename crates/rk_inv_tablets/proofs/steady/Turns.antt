@@ -15,16 +15,11 @@ module _ (count : ℕ) where
       seals_with_tablet count master number (with_outstanding tablet) seals sealed
   duty_seals master number tablet (roles.Joining (Some entry)) seals sealed =
       either_works count (nat_lt entry master.applied) _ (changed master) seals seals
-  duty_seals master number tablet (roles.Joining None) seals sealed = seals
   duty_seals master number tablet (roles.Rebuilding from None) seals sealed =
       reading_seals master number tablet (next_reading tablet.gather) seals
   duty_seals master number tablet (roles.Rebuilding from (Some entry)) seals sealed =
       either_works count (nat_lt entry master.applied) _ (changed master) seals seals
-  duty_seals master number tablet roles.Absent seals sealed = seals
-  duty_seals master number tablet roles.Serving seals sealed = seals
-  duty_seals master number tablet roles.Closing seals sealed = seals
-  duty_seals master number tablet roles.Frozen seals sealed = seals
-  duty_seals master number tablet (roles.Wanting from) seals sealed = seals
+  duty_seals master number tablet _ seals sealed = seals
 
   duties_seal : (tablets : NumberMap Tablet) (master : Master) → Seals count master → AreSealedUnder count tablets → Seals count (duties master tablets).master
   duties_seal [] master seals each = seals

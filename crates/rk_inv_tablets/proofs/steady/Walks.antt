@@ -1,13 +1,12 @@
 -- What each event and each client keeps of a lane's masters and backups, where each of the parts keeps it.
 use Rattle.std.proofs.Common.{◌+◌, ℕ, true, false, cond, Option, None, Some}
-use Rattle.rk_inv_base.proofs.Words.{NumberMap, get, insert, Call, Node, Range, Segments, row_of, Phase, Owned, Opening, Moving, Rebuilding}
-use Rattle.rk_inv_base.proofs.Words.{Row, Body, Message, Backed, Called, backup_step, stored_after, accept, accept_by, accepting, ask}
-use Rattle.rk_inv_base.proofs.Words.{ask_by, asking, asking_by, fits_with, is_asked_here, taking, untouched, ClientTurn, Session}
-use Rattle.rk_inv_base.proofs.Words.{session_turn, is_added, with_client, Master, master_step, master_turn, accept_refusal, ask_refusal}
-use Rattle.rk_inv_base.proofs.Words.{world_visited, owner_split, row_split, with_split, backed_at, client_added, delivered, delivered_to}
-use Rattle.rk_inv_base.proofs.Words.{happened, log_bytes_of, losing, quietly, seen_in, sent_again, to_backup, to_master, turned, with_added}
-use Rattle.rk_inv_base.proofs.Words.{with_sends, worked_at, World, has_crashed, is_backup, master_at, with_ledger, with_master}
-use Rattle.rk_inv_base.proofs.Words.{with_stored_by, StepError, Event}
+use Rattle.rk_inv_base.proofs.Words.{NumberMap, get, insert, Call, Node, Range, Segments, row_of, Phase, Owned, Row, Body, Message, Backed}
+use Rattle.rk_inv_base.proofs.Words.{Called, backup_step, stored_after, accept, accept_by, accepting, ask, ask_by, asking, asking_by}
+use Rattle.rk_inv_base.proofs.Words.{fits_with, is_asked_here, taking, untouched, ClientTurn, Session, session_turn, is_added, with_client}
+use Rattle.rk_inv_base.proofs.Words.{Master, master_step, master_turn, accept_refusal, ask_refusal, world_visited, owner_split, row_split}
+use Rattle.rk_inv_base.proofs.Words.{with_split, backed_at, client_added, delivered, delivered_to, happened, log_bytes_of, losing, quietly}
+use Rattle.rk_inv_base.proofs.Words.{seen_in, sent_again, to_backup, to_master, turned, with_added, with_sends, worked_at, World}
+use Rattle.rk_inv_base.proofs.Words.{has_crashed, is_backup, master_at, with_ledger, with_master, with_stored_by, StepError, Event}
 use Rattle.rk_types.specs.declared.node.Node.TheVariants as nodes
 use Rattle.rk_world.specs.declared.event.Event.TheVariants as events
 use Rattle.rk_world.specs.declared.event.Taken.TheVariants as takes
@@ -61,16 +60,13 @@ module _ (P : Part) (w : World) (kept : IsKept P w) where
   delivered_keeps (Some message) called = go message.to
     where
       go : (to : Node) → Has P (delivered_to w message to called).world
-      go (nodes.Client client) = kept.now
-      go nodes.Coordinator = kept.now
       go (nodes.Master master) = to_master_keeps master message
       go (nodes.Backup backup) = to_backup_keeps backup message.from message.body called
+      go _ = kept.now
 
   turned_keeps : (node : Node) → Has P (turned w node).world
-  turned_keeps (nodes.Client client) = kept.now
-  turned_keeps nodes.Coordinator = kept.now
   turned_keeps (nodes.Master master) = kept.turns master
-  turned_keeps (nodes.Backup backup) = kept.now
+  turned_keeps _ = kept.now
 
   sent_keeps : (found : Option Message) → Has P (sent_again w found).world
   sent_keeps None = kept.now
@@ -89,9 +85,7 @@ module _ (P : Part) (w : World) (kept : IsKept P w) where
         | true ↦ kept.now
         | false ↦ kept.splits master tablet at new term
       ]
-  owner_keeps tablet at new term (Opening source sfrom target place) = kept.now
-  owner_keeps tablet at new term (Moving source sfrom target dfrom) = kept.now
-  owner_keeps tablet at new term (Rebuilding lineage to) = kept.now
+  owner_keeps tablet at new term _ = kept.now
 
   split_keeps : (found : Option Row) (at new : ℕ) → Has P (row_split w found at new)
   split_keeps None at new = kept.now
@@ -102,13 +96,10 @@ module _ (P : Part) (w : World) (kept : IsKept P w) where
   event_keeps (events.AddTablet tablet range master) called = kept.adds master tablet range
   event_keeps (events.AddClient client) called = client_keeps client
   event_keeps (events.Deliver number) called = delivered_keeps (get w.wire.messages number) called
-  event_keeps (events.Forget number) called = kept.now
   event_keeps (events.Turn node) called = turned_keeps node
   event_keeps (events.Again client) called = sent_keeps (get w.ledger.requests client)
-  event_keeps (events.Migrate tablet to) called = kept.now
   event_keeps (events.Split tablet at new) called = split_keeps (row_of w.coordinator.rows tablet) at new
-  event_keeps (events.Crash master) called = kept.now
-  event_keeps (events.Notice master) called = kept.now
+  event_keeps _ called = kept.now
 
 -- ---- clients
 

@@ -2,15 +2,12 @@
 use Rattle.std.proofs.Common.{◌≡◌, ◌≤◌, ◌<◌, ◌+◌, ◌/◌, ◌||◌, ◌^◌, ℕ, zero, suc, Bool, false, true, cond, List, [], ◌∷◌, ◌++◌, All, length}
 use Rattle.std.proofs.Common.{Option, None, Some, IfSome, Result, Ok, Err, refl, ap, subst, sym, ◌∙◌, ⊎_elim, append_assoc, arith, lit<}
 use Rattle.std.proofs.Common.{mod-lt, w8, w16, w32, w64, position, option_map, nat_lt, not}
-use Rattle.std.specs.Int.{Width, byte_len, byte_at, bytes_high_first}
+use Rattle.rk_inv_wellformed.proofs.Words.{byte_len, get_or_past, All-get_or, cases_lt, cond-true, cond_both, nat_tests, All-append}
+use Rattle.rk_inv_wellformed.proofs.Words.{All-cons, All-head, All-nil, All-tail, All-weaker, value_fault, Ended, Range, LONGEST_KEY}
+use Rattle.rk_inv_wellformed.proofs.Words.{LONGEST_VALUE, kind_of, IsLawfulEntry, Entry, key_fault, End, is_marked}
+use Rattle.std.specs.Int.{Width, byte_at, bytes_high_first}
 use Rattle.std.specs.List.{position_or_len}
-use Rattle.std.proofs.lemmas.List.{get_or_past}
-use Rattle.std.proofs.lemmas.List.Elements.{All-get_or}
-use Rattle.rk_inv_wellformed.proofs.Words.{cases_lt, cond-true, cond_both, nat_tests, All-append, All-cons, All-head, All-nil, All-tail}
-use Rattle.rk_inv_wellformed.proofs.Words.{All-weaker, value_fault, Ended, Range, LONGEST_KEY, LONGEST_VALUE, kind_of, IsLawfulEntry, Entry}
-use Rattle.rk_types.specs.Text.{bad_byte, key_fault, text_fault}
-use Rattle.rk_types.specs.declared.call.End.{End}
-use Rattle.rk_types.specs.declared.call.End.TheVariants as ends
+use Rattle.rk_types.specs.Text.{bad_byte, text_fault}
 use Rattle.rk_types.specs.declared.text.TextError.TheVariants.{Byte, Length}
 use Rattle.rk_types.specs.declared.text.TheConstants.{FIRST_TEXT_BYTE, LAST_TEXT_BYTE}
 use Rattle.rk_entry.proofs.EntryLaws.{entry_takes, one_spelled}
@@ -19,16 +16,14 @@ use Rattle.rk_entry.proofs.Tools.{IsBytes}
 use Rattle.rk_entry.specs.Ends.{end_bytes, outcome_bytes, range_bytes}
 use Rattle.rk_entry.specs.Entries.{entries_of, entries_within, spelled_all}
 use Rattle.rk_entry.specs.Lists.{ends_bytes, segments_bytes}
-use Rattle.rk_entry.specs.Kinds.{is_marked}
-use Rattle.rk_entry.specs.declared.head.Head.{Head}
 use Rattle.rk_entry.specs.Numbers.{number_bytes}
 use Rattle.rk_entry.specs.Reading.{read_entry}
 use Rattle.rk_entry.specs.Spelling.{carried_bytes, fields_bytes, front_bytes, head_bytes, held_bytes, item_value_bytes, joined_bytes}
-use Rattle.rk_entry.specs.Spelling.{mark_bytes, mark_of, refused_bytes, spelled}
+use Rattle.rk_entry.specs.Spelling.{mark_bytes, refused_bytes, spelled}
 use Rattle.rk_entry.specs.Texts.{key_bytes, value_bytes}
-use Rattle.rk_entry.specs.declared.entry.Entry.TheVariants as entries
 use Rattle.rk_entry.specs.declared.error.DecodeError.{DecodeError}
-use Rattle.rk_inv_wellformed.proofs.maps.Lists.{all_flat, all_front}
+use Rattle.rk_entry.specs.declared.head.Head.{Head}
+use Rattle.rk_inv_wellformed.proofs.maps.{all_flat, all_front, all_each, either_way}
 
 -- each of these is a byte
 abbrev AreBytes : List ℕ → Type 0
@@ -55,18 +50,20 @@ number_are w n = digits_bytes (byte_len w) n
 below_test : (a b : ℕ) → a < b → nat_lt a b ≡ true
 below_test a b below = grind (arith, nat_tests)
 
+fails_where : (b : Bool) → not b ≡ true → b ≡ false
+fails_where true is = absurd (cc is)
+fails_where false is = refl
+
 -- where no place is found none passes
 none_passes : (p : ℕ → Bool) (xs : List ℕ) → (position_or_len p xs < length xs → ⊥) → All (λ x. p x ≡ false) xs
 none_passes p [] none = All-nil _
-none_passes p (x ∷ xs) none =
-    elim (p x) as (λ b. p x ≡ b → (cond (not b) (1 + position_or_len p xs) 0 < length (x ∷ xs) → ⊥) → All (λ x. p x ≡ false) (x ∷ xs)) [
-      | true ↦ λ is beyond. absurd (beyond (omega arith))
-      | false ↦ λ is beyond. All-cons (λ x. p x ≡ false) x xs is (none_passes p xs (λ below. beyond (omega arith)))
-    ] refl none
+none_passes p (x ∷ xs) none = cond_both (not (p x)) (1 + position_or_len p xs) 0
+    (λ (place : ℕ). (place < length (x ∷ xs) → ⊥) → All (λ x. p x ≡ false) (x ∷ xs))
+    (λ is beyond. All-cons (λ x. p x ≡ false) x xs (fails_where (p x) is) (none_passes p xs (λ below. beyond (omega arith))))
+    (λ is beyond. absurd (beyond (omega arith))) none
 
 none_found : (p : ℕ → Bool) (xs : List ℕ) → position p xs ≡ None → All (λ x. p x ≡ false) xs
-none_found p xs none =
-    none_passes p xs
+none_found p xs none = none_passes p xs
     (λ below.
     let found : position p xs ≡ Some (position_or_len p xs) = cond-true _ _ _ (below_test (position_or_len p xs) (length xs) below) in
     absurd (cc (sym found ∙ none)))
@@ -82,8 +79,7 @@ none_bad bytes none =
     (none_found (λ byte. nat_lt byte FIRST_TEXT_BYTE || nat_lt LAST_TEXT_BYTE byte) bytes none)
 
 text_bytes : (shortest longest : ℕ) (bytes : List ℕ) → text_fault shortest longest bytes ≡ None → AreBytes bytes
-text_bytes shortest longest bytes none =
-    go (nat_lt (length bytes) shortest || nat_lt longest (length bytes)) none
+text_bytes shortest longest bytes none = go (nat_lt (length bytes) shortest || nat_lt longest (length bytes)) none
   where
     inner : (bad : Option ℕ) → option_map Byte bad ≡ None → bad ≡ None
     inner None is = refl
@@ -97,22 +93,18 @@ text_bytes shortest longest bytes none =
 
 op_end : (end : End) → AreBytes (outcome_bytes end)
 unfolding outcome_bytes
-op_end (ends.Written version) = both_bytes _ _ (number_are w8 _) (number_are w64 version)
-op_end (ends.Deleted version) = both_bytes _ _ (number_are w8 _) (number_are w64 version)
-op_end ends.Absent = both_bytes _ _ (number_are w8 _) (number_are w64 0)
-op_end (ends.Mismatch version) = both_bytes _ _ (number_are w8 _) (number_are w64 version)
+op_end End.Absent = both_bytes _ _ (number_are w8 _) (number_are w64 0)
+op_end _ = both_bytes _ _ (number_are w8 _) (number_are w64 _)
 
 end_are : (end : Ended) → AreBytes (end_bytes end)
 unfolding end_bytes
 end_are end = both_bytes _ _ (number_are w32 end.client) (both_bytes _ _ (number_are w64 end.seq) (op_end end.end))
 
 each_end : (list : List Ended) → All (λ end. AreBytes (end_bytes end)) list
-each_end [] = All-nil _
-each_end (end ∷ list) = All-cons (λ end. AreBytes (end_bytes end)) end list (end_are end) (each_end list)
+each_end list = all_each (λ end. AreBytes (end_bytes end)) list end_are
 
 each_number : (list : List ℕ) → All (λ n. AreBytes (number_bytes w32 n)) list
-each_number [] = All-nil _
-each_number (n ∷ list) = All-cons (λ n. AreBytes (number_bytes w32 n)) n list (number_are w32 n) (each_number list)
+each_number list = all_each (λ n. AreBytes (number_bytes w32 n)) list (number_are w32)
 
 ends_are : (list : List Ended) → AreBytes (ends_bytes list)
 unfolding ends_bytes
@@ -129,8 +121,7 @@ range_are range =
 
 head_are : (head : Head) → AreBytes (head_bytes head)
 unfolding head_bytes
-head_are head =
-    both_bytes _ _ (number_are w64 head.table)
+head_are head = both_bytes _ _ (number_are w64 head.table)
     (both_bytes _ _ (number_are w64 head.version) (both_bytes _ _ (number_are w32 head.client) (number_are w64 head.seq)))
 
 key_are : (key : List ℕ) → key_fault key ≡ None → AreBytes (key_bytes key)
@@ -144,42 +135,35 @@ value_are (Some value) none = both_bytes _ _ (number_are w32 (length value)) (te
 
 fields_are : (entry : Entry) → IsLawfulEntry entry → AreBytes (fields_bytes entry)
 unfolding held_bytes refused_bytes carried_bytes joined_bytes
-fields_are (entries.Held held) lawful =
+fields_are (Entry.Held held) lawful =
     both_bytes _ _ (head_are _) (both_bytes _ _ (key_are held.key lawful.key) (value_are held.value lawful.value))
-fields_are (entries.Refused refused) lawful =
+fields_are (Entry.Refused refused) lawful =
     both_bytes _ _ (head_are _) (both_bytes _ _ (number_are w8 _) (key_are refused.key lawful.key))
-fields_are (entries.Carried carried) lawful =
-    both_bytes _ _ (range_are carried.range)
+fields_are (Entry.Carried carried) lawful = both_bytes _ _ (range_are carried.range)
     (both_bytes _ _ (number_are w64 carried.term)
     (both_bytes _ _ (number_are w64 carried.floor) (both_bytes _ _ (number_are w16 _) (ends_are carried.ends))))
-fields_are (entries.Joined joined) lawful =
-    both_bytes _ _ (range_are joined.range)
+fields_are (Entry.Joined joined) lawful = both_bytes _ _ (range_are joined.range)
     (both_bytes _ _ (number_are w64 joined.term) (both_bytes _ _ (number_are w32 _) (segments_are joined.segments)))
 
 mark_are : (entry : Entry) → AreBytes (mark_bytes (kind_of entry) (front_bytes entry))
-mark_are entry =
-    cond_both (is_marked (kind_of entry)) (number_bytes w8 (mark_of (front_bytes entry))) [] AreBytes
-    (λ marked. number_are w8 _) (λ bare. All-nil _)
+mark_are entry = either_way AreBytes (is_marked (kind_of entry)) (number_are w8 _) (All-nil _)
 
 -- what is spelled of a lawful entry are bytes
 pub spelled_are : (entry : Entry) → IsLawfulEntry entry → AreBytes (spelled entry)
 unfolding spelled front_bytes
 spelled_are entry lawful =
-    both_bytes _ _
-    (both_bytes _ _ (number_are w8 _) (both_bytes _ _ (number_are w32 _) (fields_are entry lawful))) (mark_are entry)
+    both_bytes _ _ (both_bytes _ _ (number_are w8 _) (both_bytes _ _ (number_are w32 _) (fields_are entry lawful))) (mark_are entry)
 
 all_spelled_are : (list : List Entry) → All IsLawfulEntry list → AreBytes (spelled_all list)
 unfolding spelled_all
-all_spelled_are list lawful =
-    all_flat (λ byte. byte < 256) spelled list
+all_spelled_are list lawful = all_flat (λ byte. byte < 256) spelled list
     (All-weaker IsLawfulEntry (λ entry. AreBytes (spelled entry)) (λ entry it. spelled_are entry it) list lawful)
 
 -- ---- what is read of a first part
 
 below_length : (list : List ℕ) → AreBytes list → IsBytes list
 below_length list all place =
-    ⊎_elim
-    (λ (within : place < length list). All-get_or (λ byte. byte < 256) list place 0 within all)
+    ⊎_elim (λ (within : place < length list). All-get_or (λ byte. byte < 256) list place 0 within all)
     (λ (past : length list ≤ place). subst (λ (n : ℕ). n < 256) (sym (get_or_past list place 0 past)) (lit< tt))
     (cases_lt place (length list))
 
@@ -214,14 +198,11 @@ none_read P (byte ∷ front) rest is = absurd (cc is)
 -- what is read of a first part of a spelling has what each spelled entry has
 pub read_front : (P : Entry → Type 0) (list : List Entry) (front rest : List ℕ) → All IsLawfulEntry list → All P list → spelled_all list ≡ front ++ rest → All P (entries_of front)
 read_front P [] front rest lawful all is = none_read P front rest (sym spelled_nil ∙ is)
-read_front P (first ∷ list) front rest lawful all is =
-    go (read_entry front) refl
+read_front P (first ∷ list) front rest lawful all is = go (read_entry front) refl
     (λ after same. read_front P list after rest (All-tail IsLawfulEntry first list lawful) (All-tail P first list all) same)
   where
     bytes : AreBytes front
-    bytes =
-        all_front (λ byte. byte < 256) front rest
-        (subst AreBytes is (all_spelled_are (first ∷ list) lawful))
+    bytes = all_front (λ byte. byte < 256) front rest (subst AreBytes is (all_spelled_are (first ∷ list) lawful))
 
     go : (read : Result (Entry × List ℕ) DecodeError) → read_entry front ≡ read → ((after : List ℕ) → spelled_all list ≡ after ++ rest → All P (entries_of after)) → All P (entries_of front)
     go (Err fault) read later = subst (All P) (sym (entries_of-none front fault read)) (All-nil P)

@@ -1,29 +1,27 @@
 -- How many bytes a rebuild appends: its copies have no more than what it read, once for each member of the lineage, and its closing entry.
 use Rattle.std.proofs.Common.{◌≡◌, ◌≤◌, ◌+◌, ◌==◌, ◌&&◌, ℕ, zero, suc, Bool, true, false, cond, not, List, [], ◌∷◌, ◌++◌, drop, filter}
-use Rattle.std.proofs.Common.{length, map, All, refl, sym, subst, ap, ◌∙◌, ⊎_elim, arith, Contains, bytes_eq, flat_map, sum_by, eq-eqb}
-use Rattle.std.specs.List.Sorted.{IsStrictlySortedBy}
-use Rattle.std.specs.Ordering.{ordering_reverse}
-use Rattle.std.proofs.lemmas.Grind.{flat_map-append}
-use Rattle.std.proofs.lemmas.List.Elements.{All-contains_itself, Contains-append_cases, Contains-append_left, Contains-append_right}
-use Rattle.std.proofs.lemmas.List.Elements.{filter-append}
+use Rattle.std.proofs.Common.{length, map, refl, sym, subst, ap, ◌∙◌, ⊎_elim, arith, Contains, bytes_eq, flat_map, sum_by, eq-eqb, Less}
+use Rattle.std.proofs.Common.{Greater}
+use Rattle.rk_inv_wellformed.proofs.Words.{flat_map-append, All-contains_itself, All-contains, All-filter, sum-map, sum_by-append}
+use Rattle.rk_inv_wellformed.proofs.Words.{sum_by-cons, ⊤, spelled_of, Held, Member, Range, spelled_all, Entry, newest_is, items_of}
+use Rattle.rk_inv_wellformed.proofs.Words.{Gathered, by_member, newest_items_are, newest_items, Gather, counted_of, gather_begun}
+use Rattle.rk_inv_wellformed.proofs.Words.{is_of_lineage, material_by, side_read, unread, material_of, copies_of, has_version, copied_bytes}
+use Rattle.std.proofs.lemmas.List.Elements.{Contains-append_cases, Contains-append_left, Contains-append_right, filter-append}
+use Rattle.std.proofs.lemmas.List.Elements.{filter_passes}
 use Rattle.std.proofs.lemmas.List.Folds.{list_any_at}
 use Rattle.std.proofs.lemmas.List.Kept.{IsStrictlySortedBy-filter}
 use Rattle.std.proofs.lemmas.Map.Views.{All-after_first}
 use Rattle.std.proofs.lemmas.Slice.Eq.{bytes_eq-Decides}
-use Rattle.rk_inv_wellformed.proofs.Words.{cond_both, All-contains, All-cons, All-filter, All-nil, sum-map, sum_by-append, sum_by-cons, ⊤}
-use Rattle.rk_inv_wellformed.proofs.Words.{Less, Greater, spelled_of, Held, Member, Range, spelled_all, Entry, newest_is, items_of}
-use Rattle.rk_inv_wellformed.proofs.Words.{Gathered, by_member}
+use Rattle.std.specs.List.Sorted.{IsStrictlySortedBy}
+use Rattle.std.specs.Ordering.{ordering_reverse}
 use Rattle.rk_overlay.proofs.Members.{behind_stands, first_stands, none_stands, stands_cases}
 use Rattle.rk_overlay.proofs.Ordered.{item_total}
-use Rattle.rk_overlay.proofs.Overlays.{newest_items_are}
-use Rattle.rk_overlay.specs.Overlay.{item_cmp, newest_items}
+use Rattle.rk_overlay.specs.Overlay.{item_cmp}
 use Rattle.rk_world.specs.Ends.{items_in}
-use Rattle.rk_world.specs.Gather.{Gather, counted, counted_of, gather_begun, is_of_lineage, material_by, side_read, unread}
-use Rattle.rk_world.specs.Material.{material_of}
-use Rattle.rk_world.specs.Merge.{copies_of, has_version}
+use Rattle.rk_world.specs.Gather.{counted}
 use Rattle.rk_inv_wellformed.proofs.bytes.PullBytes.{items_bytes, items_few, none_bytes}
+use Rattle.rk_inv_wellformed.proofs.maps.{either_way}
 use Rattle.rk_inv_wellformed.proofs.masters.Sealing.{items_spelled}
-use Rattle.rk_inv_wellformed.specs.Brought.{copied_bytes}
 
 -- ---- a list of things that differ
 
@@ -37,8 +35,7 @@ module _ {X : Type 0} where
   parted : (xs : List X) (x : X) → Contains xs x → IsParted xs x
   parted [] x stands = absurd (none_stands x stands)
   parted (y ∷ xs) x stands =
-      ⊎_elim
-      (λ (same : y ≡ x). record { front = []; back = xs; whole = ap (λ (z : X). z ∷ xs) same })
+      ⊎_elim (λ (same : y ≡ x). record { front = []; back = xs; whole = ap (λ (z : X). z ∷ xs) same })
       (λ (behind : Contains xs x).
       let rest = parted xs x behind in
       record { front = y ∷ rest.front; back = rest.back; whole = ap (λ (l : List X). y ∷ l) rest.whole })
@@ -47,13 +44,9 @@ module _ {X : Type 0} where
   -- another thing stands in the two parts
   others_stand : (front back : List X) (x z : X) → (x ≡ z → ⊥) → Contains (front ++ x ∷ back) z → Contains (front ++ back) z
   others_stand front back x z differ stands =
-      ⊎_elim
-      (λ (before : Contains front z). Contains-append_left front back z before)
-      (λ (after : Contains (x ∷ back) z).
-      ⊎_elim
-      (λ (same : x ≡ z). absurd (differ same))
-      (λ (behind : Contains back z). Contains-append_right front back z behind)
-      (stands_cases x back z after))
+      ⊎_elim (λ (before : Contains front z). Contains-append_left front back z before)
+      (λ (after : Contains (x ∷ back) z). ⊎_elim (λ (same : x ≡ z). absurd (differ same))
+      (λ (behind : Contains back z). Contains-append_right front back z behind) (stands_cases x back z after))
       (Contains-append_cases front (x ∷ back) z stands)
 
   -- each thing differs from those behind it
@@ -66,35 +59,17 @@ module _ {X : Type 0} where
   sum_within size [] ys apart within = omega arith
   sum_within size (x ∷ xs) ys apart within =
       let parts = parted ys x (within x (first_stands x xs)) in
-      omega (
-        arith,
-        sum_within size xs (parts.front ++ parts.back) apart.1
-            (λ z stands.
-            others_stand parts.front parts.back x z (apart.0 z stands)
-            (subst (λ (l : List X). Contains l z) parts.whole (within z (behind_stands x xs z stands)))),
-        sum_by-cons size x xs,
-        ap (λ (l : List X). sum_by size l) parts.whole,
-        sum_by-append size parts.front (x ∷ parts.back),
-        sum_by-append size parts.front parts.back,
-        sum_by-cons size x parts.back,
-      )
+      let few = sum_within size xs (parts.front ++ parts.back) apart.1
+      (λ z stands. others_stand parts.front parts.back x z (apart.0 z stands)
+      (subst (λ (l : List X). Contains l z) parts.whole (within z (behind_stands x xs z stands)))) in
+      omega (arith, few, sum_by-cons {X = X}, ap (λ (l : List X). sum_by size l) parts.whole, sum_by-append {X = X})
 
   -- a test that keeps some leaves no more
   kept_less : (size : X → ℕ) (p : X → Bool) (xs : List X) → sum_by size (filter p xs) ≤ sum_by size xs
   kept_less size p [] = omega arith
-  kept_less size p (x ∷ xs) =
-      cond_both (p x) (x ∷ filter p xs) (filter p xs) (λ (l : List X). sum_by size l ≤ sum_by size (x ∷ xs))
-      (λ kept. omega (arith, kept_less size p xs, sum_by-cons size x xs, sum_by-cons size x (filter p xs)))
-      (λ dropped. omega (arith, kept_less size p xs, sum_by-cons size x xs))
-
-  -- what a test keeps passes it
-  kept_pass : (p : X → Bool) (xs : List X) → All (λ x. p x ≡ true) (filter p xs)
-  kept_pass p [] = All-nil _
-  kept_pass p (x ∷ xs) =
-      elim (p x) as (λ b. p x ≡ b → All (λ x. p x ≡ true) (cond b (x ∷ filter p xs) (filter p xs))) [
-        | true ↦ λ is. All-cons (λ x. p x ≡ true) x (filter p xs) is (kept_pass p xs)
-        | false ↦ λ is. kept_pass p xs
-      ] refl
+  kept_less size p (x ∷ xs) = either_way (λ (l : List X). sum_by size l ≤ sum_by size (x ∷ xs)) (p x)
+      (omega (arith, kept_less size p xs, sum_by-cons size x xs, sum_by-cons size x (filter p xs)))
+      (omega (arith, kept_less size p xs, sum_by-cons size x xs))
 
   -- what passes a test is kept
   pass_kept : (p : X → Bool) (xs : List X) (x : X) → Contains xs x → p x ≡ true → Contains (filter p xs) x
@@ -102,15 +77,11 @@ module _ {X : Type 0} where
   pass_kept p (y ∷ xs) x stands is =
       elim (p y) as (λ b. p y ≡ b → Contains (cond b (y ∷ filter p xs) (filter p xs)) x) [
         | true ↦ λ passes.
-            ⊎_elim
-            (λ (same : y ≡ x). subst (λ (z : X). Contains (y ∷ filter p xs) z) same (first_stands y (filter p xs)))
-            (λ (behind : Contains xs x). behind_stands y (filter p xs) x (pass_kept p xs x behind is))
-            (stands_cases y xs x stands)
+            ⊎_elim (λ (same : y ≡ x). subst (λ (z : X). Contains (y ∷ filter p xs) z) same (first_stands y (filter p xs)))
+            (λ (behind : Contains xs x). behind_stands y (filter p xs) x (pass_kept p xs x behind is)) (stands_cases y xs x stands)
         | false ↦ λ fails.
-            ⊎_elim
-            (λ (same : y ≡ x). let both : true ≡ false = sym is ∙ ap p (sym same) ∙ fails in absurd (cc both))
-            (λ (behind : Contains xs x). pass_kept p xs x behind is)
-            (stands_cases y xs x stands)
+            ⊎_elim (λ (same : y ≡ x). let both : true ≡ false = sym is ∙ ap p (sym same) ∙ fails in absurd (cc both))
+            (λ (behind : Contains xs x). pass_kept p xs x behind is) (stands_cases y xs x stands)
       ] refl
 
   -- where none passes a test none is kept
@@ -134,16 +105,14 @@ unfolding IsStrictlySortedBy
 order_apart [] order = tt
 order_apart (item ∷ items) order = (
   λ other stands same.
-      not_before_itself item
-      (All-contains (λ z. item_cmp item z ≡ Less) items item (All-after_first item_cmp item items order)
+      not_before_itself item (All-contains (λ z. item_cmp item z ≡ Less) items item (All-after_first item_cmp item items order)
       (subst (Contains items) (sym same) stands)),
   order_apart items order.1,
 )
 
 -- an item that stands among items has its version there
 own_has : (items : List Held) (item : Held) → Contains items item → has_version items item ≡ true
-own_has items item stands =
-    list_any_at test items stands.0 item stands.1 (ap test stands.2 ∙ itself)
+own_has items item stands = list_any_at test items stands.0 item stands.1 (ap test stands.2 ∙ itself)
   where
     test : Held → Bool
     test other = other.table == item.table && bytes_eq other.key item.key && (other.version == item.version)
@@ -152,8 +121,7 @@ own_has items item stands =
     all_three a b c x y z = rw (x, y, z) refl
 
     itself : test item ≡ true
-    itself =
-        all_three (item.table == item.table) (bytes_eq item.key item.key) (item.version == item.version)
+    itself = all_three (item.table == item.table) (bytes_eq item.key item.key) (item.version == item.version)
         (eq-eqb item.table item.table refl) ((bytes_eq-Decides item.key item.key).1 refl) (eq-eqb item.version item.version refl)
 
 -- whether an item is no own one
@@ -169,9 +137,8 @@ copies_few own all =
     (λ item stands.
     let newest = All-contains (Contains (newest_items all)) (copies_of own all) item
     (All-filter (is_foreign own) (Contains (newest_items all)) (newest_items all) (All-contains_itself (newest_items all))) stands in
-    pass_kept (is_foreign own) all item
-    (newest_is all item.table item.key item ((are.newest item).0 newest)).stands
-    (All-contains (λ x. is_foreign own x ≡ true) (copies_of own all) item (kept_pass (is_foreign own) (newest_items all)) stands))
+    pass_kept (is_foreign own) all item (newest_is all item.table item.key item ((are.newest item).0 newest)).stands
+    (All-contains (λ x. is_foreign own x ≡ true) (copies_of own all) item (filter_passes (is_foreign own) (newest_items all)) stands))
 
 -- ---- what counts of members
 
@@ -188,52 +155,28 @@ foreign_append own a b =
 -- they have no more bytes than the entries
 foreign_few : (own : List Held) (list : List Entry) → foreign_bytes own list ≤ length (spelled_all list)
 foreign_few own list =
-    omega (
-      arith,
-      kept_less spelled_of (is_foreign own) (items_of list),
-      items_spelled (items_of list),
-      sum-map spelled_of (items_of list),
-      items_few list,
-    )
+    omega (arith, kept_less spelled_of (is_foreign own) (items_of list), items_spelled, sum-map {X = Held}, items_few list)
 
 -- the own ones have none
 foreign_none : (list : List Entry) → foreign_bytes (items_of list) list ≡ 0
-foreign_none list =
-    ap (λ (items : List Held). sum_by spelled_of items)
-    (none_kept (is_foreign (items_of list)) (items_of list)
-    (λ item stands. ap not (own_has (items_of list) item stands)))
+foreign_none list = ap (λ (items : List Held). sum_by spelled_of items)
+    (none_kept (is_foreign (items_of list)) (items_of list) (λ item stands. ap not (own_has (items_of list) item stands)))
 
 -- of all members they have what they have of each
 foreign_all : (own : List Held) (lists : List (List Entry)) → foreign_bytes own (flat_map (λ list. list) lists) ≡ sum_by (foreign_bytes own) lists
 foreign_all own [] = refl
 foreign_all own (list ∷ lists) =
-    omega (
-      arith,
-      foreign_append own list (flat_map (λ list. list) lists),
-      foreign_all own lists,
-      sum_by-cons (foreign_bytes own) list lists,
-    )
+    omega (arith, foreign_append, foreign_all own lists, sum_by-cons {X = List Entry})
 
 -- of some members that were read no more than of all
 foreign_some : (own : List Held) (range : Range) (p : Gathered → Bool) (members : List Gathered)
     → foreign_bytes own (flat_map (counted_of range) (filter p members)) ≤ foreign_bytes own (flat_map (counted_of range) members)
 foreign_some own range p [] = omega arith
 foreign_some own range p (member ∷ members) =
-    cond_both (p member) (member ∷ filter p members) (filter p members)
-    (λ (some : List Gathered). foreign_bytes own (flat_map (counted_of range) some) ≤ foreign_bytes own (flat_map (counted_of range) (member ∷ members)))
-    (λ kept.
-    omega (
-      arith,
-      foreign_some own range p members,
-      foreign_append own (counted_of range member) (flat_map (counted_of range) members),
-      foreign_append own (counted_of range member) (flat_map (counted_of range) (filter p members)),
-    ))
-    (λ dropped.
-    omega (
-      arith,
-      foreign_some own range p members,
-      foreign_append own (counted_of range member) (flat_map (counted_of range) members),
-    ))
+    let all = foreign_append own (counted_of range member) (flat_map (counted_of range) members) in
+    let some = foreign_append own (counted_of range member) (flat_map (counted_of range) (filter p members)) in
+    either_way (λ (kept : List Gathered). foreign_bytes own (flat_map (counted_of range) kept) ≤ foreign_bytes own (flat_map (counted_of range) (member ∷ members)))
+    (p member) (omega (arith, foreign_some own range p members, all, some)) (omega (arith, foreign_some own range p members, all))
 
 module _ (gather : Gather) (own : List Entry) where
   -- the bytes of what was read and counts
@@ -242,13 +185,9 @@ module _ (gather : Gather) (own : List Entry) where
 
   -- of one member no more than was read of all
   foreign_by : (master : ℕ) → foreign_bytes (items_of own) (material_by gather own master) ≤ read_bytes
-  foreign_by master =
-      let theirs = filter (λ gathered. gathered.member.master == master) gather.members in
-      cond_both (master == gather.own) own (flat_map (counted_of gather.range) theirs)
-      (λ (list : List Entry). foreign_bytes (items_of own) list ≤ read_bytes)
-      (λ is. omega (arith, foreign_none own))
-      (λ other.
-      omega (
+  foreign_by master = either_way (λ (list : List Entry). foreign_bytes (items_of own) list ≤ read_bytes) (master == gather.own)
+      (omega (arith, foreign_none own))
+      (omega (
         arith,
         foreign_some (items_of own) gather.range (λ gathered. gathered.member.master == master) gather.members,
         foreign_few (items_of own) (counted gather),
@@ -258,35 +197,18 @@ module _ (gather : Gather) (own : List Entry) where
       → sum_by (foreign_bytes (items_of own)) (map (λ member. material_by gather own member.master) lineage) ≤ sum_by (λ member. read_bytes) lineage
   foreign_lineage [] = omega arith
   foreign_lineage (member ∷ lineage) =
-      omega (
-        arith,
-        foreign_by member.master,
-        foreign_lineage lineage,
-        sum_by-cons (foreign_bytes (items_of own)) (material_by gather own member.master) (map (λ member. material_by gather own member.master) lineage),
-        sum_by-cons (λ (member : Member). read_bytes) member lineage,
-      )
+      omega (arith, foreign_by member.master, foreign_lineage lineage, sum_by-cons {X = List Entry}, sum_by-cons {X = Member})
 
   foreign_outside : sum_by (foreign_bytes (items_of own)) (cond (is_of_lineage gather) [] (own ∷ [])) ≡ 0
-  foreign_outside =
-      cond_both (is_of_lineage gather) [] (own ∷ []) (λ (lists : List (List Entry)). sum_by (foreign_bytes (items_of own)) lists ≡ 0)
-      (λ of. refl)
-      (λ outside. omega (arith, sum_by-cons (foreign_bytes (items_of own)) own [], foreign_none own))
+  foreign_outside = either_way (λ (lists : List (List Entry)). sum_by (foreign_bytes (items_of own)) lists ≡ 0) (is_of_lineage gather)
+      refl (omega (arith, sum_by-cons (foreign_bytes (items_of own)) own [], foreign_none own))
 
   -- the copies that a merge makes of its own entries and of what it read
   pub copies_within : items_bytes (copies_of (items_of own) (items_of (flat_map (λ list. list) (by_member gather own)))) ≤ copied_bytes gather
   copies_within =
       let lists = map (λ member. material_by gather own member.master) gather.lineage in
       let all = items_of (flat_map (λ list. list) (by_member gather own)) in
-      omega (
-        arith,
-        items_spelled (copies_of (items_of own) all),
-        sum-map spelled_of (copies_of (items_of own) all),
-        copies_few (items_of own) all,
-        foreign_all (items_of own) (by_member gather own),
-        sum_by-append (foreign_bytes (items_of own)) lists (cond (is_of_lineage gather) [] (own ∷ [])),
-        foreign_lineage gather.lineage,
-        foreign_outside,
-      )
+      omega (arith, items_spelled, sum-map {X = Held}, copies_few (items_of own) all, foreign_all, sum_by-append {X = List Entry}, foreign_lineage gather.lineage, foreign_outside)
 
 -- ---- a rebuild that begins
 
@@ -307,16 +229,9 @@ unread_counts range (member ∷ members) =
 none_copied : (list : List Entry) (lineage : List Member) → list ≡ [] → sum_by (λ member. length (spelled_all list)) lineage ≡ 0
 none_copied list [] is = refl
 none_copied list (member ∷ lineage) is =
-    omega (
-      arith,
-      sum_by-cons (λ (member : Member). length (spelled_all list)) member lineage,
-      ap (λ (l : List Entry). length (spelled_all l)) is,
-      none_bytes,
-      none_copied list lineage is,
-    )
+    omega (arith, sum_by-cons {X = Member}, ap (λ (l : List Entry). length (spelled_all l)) is, none_bytes, none_copied list lineage is)
 
 -- a rebuild that begins has nothing to copy
 pub begun_copies : (range : Range) (lineage : List Member) (own : ℕ) → copied_bytes (gather_begun range lineage own) ≡ 0
-begun_copies range lineage own =
-    none_copied (counted (gather_begun range lineage own)) lineage
+begun_copies range lineage own = none_copied (counted (gather_begun range lineage own)) lineage
     (unread_counts range (filter (λ member. not (member.master == own)) lineage))

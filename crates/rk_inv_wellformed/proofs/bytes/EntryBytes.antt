@@ -1,17 +1,12 @@
 -- Each entry that a master leaves of its own fits a segment: an item, a refusal, what a target was granted or a rebuild merged.
 use Rattle.std.proofs.Common.{IfSome, ◌≡◌, ◌≤◌, ◌+◌, ℕ, List, length, Option, None, Some, arith}
-use Rattle.rk_inv_wellformed.proofs.Words.{cond_both, value_fault, Held, SEGMENT_BYTES, LONGEST_KEY, LONGEST_VALUE, spelled_count, kind_of}
-use Rattle.rk_inv_wellformed.proofs.Words.{spelled, Entry, MOST_BASE_CLIENTS, MOST_CLIENTS}
-use Rattle.rk_types.specs.Text.{key_fault}
-use Rattle.rk_entry.proofs.TextLaws.{text_within}
-use Rattle.rk_entry.specs.Kinds.{is_marked}
+use Rattle.rk_inv_wellformed.proofs.Words.{value_fault, Held, SEGMENT_BYTES, LONGEST_KEY, LONGEST_VALUE, spelled_count, kind_of, spelled}
+use Rattle.rk_inv_wellformed.proofs.Words.{Entry, MOST_BASE_CLIENTS, MOST_CLIENTS, key_fault, text_within, is_marked, Refused}
 use Rattle.rk_entry.specs.Lengths.{value_count}
 use Rattle.rk_entry.specs.Spelling.{mark_count}
 use Rattle.rk_entry.specs.declared.entry.Carried.{Carried}
-use Rattle.rk_entry.specs.declared.entry.Entry.TheVariants as entries
-use Rattle.rk_entry.specs.declared.entry.Refused.{Refused}
 use Rattle.rk_entry.specs.declared.kind.Kind.{Kind}
-use Rattle.rk_entry.specs.declared.kind.TheConstants.{MARK_BYTES}
+use Rattle.rk_inv_wellformed.proofs.maps.{either_way}
 
 -- an entry that fits a segment
 abbrev pub FitsSegment : Entry → Type 0
@@ -19,7 +14,7 @@ FitsSegment entry = length (spelled entry) ≤ SEGMENT_BYTES
 
 -- an entry has a byte of its mark at most
 pub mark_few : (kind : Kind) → mark_count kind ≤ 1
-mark_few kind = cond_both (is_marked kind) MARK_BYTES 0 (λ (n : ℕ). n ≤ 1) (λ is. omega arith) (λ is. omega arith)
+mark_few kind = either_way (λ (n : ℕ). n ≤ 1) (is_marked kind) (omega arith) (omega arith)
 
 -- the value of an item, with its length, has no more bytes than the longest one
 value_few : (value : Option (List ℕ)) → IfSome value (λ value. value_fault value ≡ None) → value_count value ≤ 4 + LONGEST_VALUE
@@ -27,27 +22,27 @@ value_few None fits = omega arith
 value_few (Some value) fits = omega (arith, (text_within 0 LONGEST_VALUE value fits).1)
 
 -- an item whose key and value are within their limits
-pub held_fits : (held : Held) → key_fault held.key ≡ None → IfSome held.value (λ value. value_fault value ≡ None) → FitsSegment (entries.Held held)
+pub held_fits : (held : Held) → key_fault held.key ≡ None → IfSome held.value (λ value. value_fault value ≡ None) → FitsSegment (Entry.Held held)
 held_fits held key value =
     omega (
       arith,
-      spelled_count (entries.Held held),
-      mark_few (kind_of (entries.Held held)),
+      spelled_count (Entry.Held held),
+      mark_few (kind_of (Entry.Held held)),
       (text_within 1 LONGEST_KEY held.key key).1,
       value_few held.value value,
     )
 
 -- a refusal whose key is within its limits
-pub refused_fits : (refused : Refused) → key_fault refused.key ≡ None → FitsSegment (entries.Refused refused)
+pub refused_fits : (refused : Refused) → key_fault refused.key ≡ None → FitsSegment (Entry.Refused refused)
 refused_fits refused key =
     omega (
       arith,
-      spelled_count (entries.Refused refused),
-      mark_few (kind_of (entries.Refused refused)),
+      spelled_count (Entry.Refused refused),
+      mark_few (kind_of (Entry.Refused refused)),
       (text_within 1 LONGEST_KEY refused.key key).1,
     )
 
 -- what came with a tablet, where the ends are no more than the clients that a lane may have
-pub carried_fits : (carried : Carried) → length carried.ends ≤ MOST_CLIENTS + MOST_BASE_CLIENTS → FitsSegment (entries.Carried carried)
+pub carried_fits : (carried : Carried) → length carried.ends ≤ MOST_CLIENTS + MOST_BASE_CLIENTS → FitsSegment (Entry.Carried carried)
 carried_fits carried few =
-    omega (arith, few, spelled_count (entries.Carried carried), mark_few (kind_of (entries.Carried carried)))
+    omega (arith, few, spelled_count (Entry.Carried carried), mark_few (kind_of (Entry.Carried carried)))

@@ -1,25 +1,22 @@
 -- How many bytes a master has after it took a batch, or the items that it asked for first: no more than before and what came, and an entry
 -- that closes where all has come.
 use Rattle.std.proofs.Common.{◌≡◌, ◌≤◌, ◌<◌, ◌+◌, ◌%◌, ◌&&◌, ℕ, List, [], ◌∷◌, ◌++◌, fold, length, map, nat_le, sum, Option, None, Some}
-use Rattle.std.proofs.Common.{refl, sym, subst, ap, ⊎_elim, arith, length-append, slice_index_or, slice_set, sum_by}
+use Rattle.std.proofs.Common.{refl, sym, subst, ap, ⊎_elim, arith, length-append, slice_index_or, slice_set, sum_by, flat_map}
+use Rattle.rk_inv_wellformed.proofs.Words.{cases_lt, sum-map, sum_by-append, sum_by-cons, in_order_insert, spelled_of, IsInOrder, NumberMap}
+use Rattle.rk_inv_wellformed.proofs.Words.{get_or, Held, SEGMENT_BYTES, Token, held_spelled, spelled, Entry, found, is_newer, joined}
+use Rattle.rk_inv_wellformed.proofs.Words.{Handover, Got, Pulled, items_of, Master, log_bytes, tablet_at, unsealed_bytes, with_item}
+use Rattle.rk_inv_wellformed.proofs.Words.{with_side_segment, with_tablet, as_entries, replay, token_passed, with_pulling, sealed_sides}
+use Rattle.rk_inv_wellformed.proofs.Words.{Tablet, no_tablet, with_handover, closing_entry, joined_entry, Worked, got, is_batch, no_hashes}
+use Rattle.rk_inv_wellformed.proofs.Words.{end, batch_taken, got_taken, is_token, item_replayed, joining_at, joining_by, next_sides}
+use Rattle.rk_inv_wellformed.proofs.Words.{pulled_all, pulled_taken, replay_one, sealing, with_pulled, is_receiving_at, with_side_item}
+use Rattle.rk_inv_wellformed.proofs.Words.{with_appended}
 use Rattle.std.proofs.lemmas.List.{set_past}
 use Rattle.std.proofs.lemmas.List.Sums.{sum_by-set}
-use Rattle.rk_inv_wellformed.proofs.Words.{cases_lt, cond_both, sum-map, sum_by-append, sum_by-cons, in_order_insert, spelled_of, IsInOrder}
-use Rattle.rk_inv_wellformed.proofs.Words.{NumberMap, get_or, Held, SEGMENT_BYTES, Token, held_spelled, spelled, Entry, found, is_newer}
-use Rattle.rk_inv_wellformed.proofs.Words.{joined, Handover, Got, Pulled, items_of, Master, log_bytes, tablet_at, unsealed_bytes, with_item}
-use Rattle.rk_inv_wellformed.proofs.Words.{with_side_segment, with_tablet, as_entries, replay, token_passed, with_pulling, sealed_sides}
-use Rattle.rk_inv_wellformed.proofs.Words.{Tablet, no_tablet, with_handover, closing_entry, joined_entry, Worked, changed}
 use Rattle.rk_entry.specs.Entries.{spelled_all}
-use Rattle.rk_entry.specs.declared.entry.Entry.TheVariants as entries
-use Rattle.rk_priority.specs.Hashes.{got, is_batch, no_hashes}
-use Rattle.rk_table.specs.Scans.{end}
-use Rattle.rk_world.specs.Pulls.{batch_taken, got_taken, hashes_resolved, is_token, item_replayed, joining_at, joining_by, next_sides}
-use Rattle.rk_world.specs.Pulls.{pulled_all, pulled_taken, replay_one, sealing, with_pulled}
-use Rattle.rk_world.specs.RoleTests.{is_receiving_at}
-use Rattle.rk_world.specs.SideLogs.{cut_items, with_side_item}
 use Rattle.rk_inv_wellformed.proofs.bytes.LogBytes.{bytes_appended, bytes_put, none_pulled}
-use Rattle.rk_inv_wellformed.proofs.masters.Sealing.{items_spelled, sides_tablets, sum_pushed}
 use Rattle.rk_inv_wellformed.proofs.bytes.TurnBytes.{CLOSING_BYTES, joined_short}
+use Rattle.rk_inv_wellformed.proofs.maps.{either_way}
+use Rattle.rk_inv_wellformed.proofs.masters.Sealing.{items_spelled, sides_tablets, sum_pushed}
 
 -- ---- items
 
@@ -32,56 +29,29 @@ none_bytes = omega (arith, items_spelled [], sum-map spelled_of [])
 
 pub first_bytes : (item : Held) (items : List Held) → items_bytes (item ∷ items) ≡ spelled_of item + items_bytes items
 first_bytes item items =
-    omega (
-      arith,
-      items_spelled (item ∷ items),
-      items_spelled items,
-      sum-map spelled_of (item ∷ items),
-      sum-map spelled_of items,
-      sum_by-cons spelled_of item items,
-    )
+    omega (arith, items_spelled, sum-map {X = Held}, sum_by-cons {X = Held})
 
 last_bytes : (items : List Held) (item : Held) → items_bytes (items ++ item ∷ []) ≡ items_bytes items + spelled_of item
 last_bytes items item = omega (arith, items_spelled (items ++ item ∷ []), items_spelled items, sum_pushed items item)
 
-first_entry : (entry : Entry) (list : List Entry) → spelled_all (entry ∷ list) ≡ spelled entry ++ spelled_all list
+-- an entry before others has its bytes beside theirs
+entry_bytes : (entry : Entry) (list : List Entry) → length (spelled_all (entry ∷ list)) ≡ length (spelled entry) + length (spelled_all list)
 unfolding spelled_all
-first_entry entry list = refl
-
--- an entry more has no fewer
-other_few : (entry : Entry) (list : List Entry) → items_bytes (items_of list) ≤ length (spelled_all list)
-    → items_bytes (items_of list) ≤ length (spelled_all (entry ∷ list))
-other_few entry list few =
-    omega (
-      arith,
-      few,
-      ap (λ (l : List ℕ). length l) (first_entry entry list),
-      length-append (spelled entry) (spelled_all list),
-    )
+entry_bytes entry list = length-append (spelled entry) (flat_map spelled list)
 
 -- the items among entries have no more bytes than the entries
 pub items_few : (list : List Entry) → items_bytes (items_of list) ≤ length (spelled_all list)
 items_few [] = omega arith
-items_few (entries.Held held ∷ list) =
-    omega (
-      arith,
-      first_bytes held (items_of list),
-      held_spelled held,
-      items_few list,
-      ap (λ (l : List ℕ). length l) (first_entry (entries.Held held) list),
-      length-append (spelled (entries.Held held)) (spelled_all list),
-    )
-items_few (entries.Refused refused ∷ list) = other_few (entries.Refused refused) list (items_few list)
-items_few (entries.Carried carried ∷ list) = other_few (entries.Carried carried) list (items_few list)
-items_few (entries.Joined joined ∷ list) = other_few (entries.Joined joined) list (items_few list)
+items_few (Entry.Held held ∷ list) =
+    omega (arith, first_bytes held (items_of list), held_spelled held, items_few list, entry_bytes (Entry.Held held) list)
+items_few (entry ∷ list) = omega (arith, items_few list, entry_bytes entry list)
 
 -- ---- a replay
 
 -- a worker has an item more, where there is that worker
 worker_bytes : (sides : List (List Held)) (worker : ℕ) (item : Held)
     → sum_by items_bytes (slice_set sides worker (slice_index_or sides worker [] ++ item ∷ [])) ≤ sum_by items_bytes sides + spelled_of item
-worker_bytes sides worker item =
-    ⊎_elim
+worker_bytes sides worker item = ⊎_elim
     (λ (within : worker < length sides).
     omega (
       arith,
@@ -95,13 +65,7 @@ worker_bytes sides worker item =
 tablet_pulled : (tablet : Tablet) (worker : ℕ) (item : Held)
     → unsealed_bytes (with_pulling tablet (with_pulled tablet.pulling worker item)) ≤ unsealed_bytes tablet + spelled_of item
 tablet_pulled tablet worker item =
-    let now = slice_set tablet.pulling.sides worker (slice_index_or tablet.pulling.sides worker [] ++ item ∷ []) in
-    omega (
-      arith,
-      worker_bytes tablet.pulling.sides worker item,
-      sum-map items_bytes tablet.pulling.sides,
-      sum-map items_bytes now,
-    )
+    omega (arith, worker_bytes tablet.pulling.sides worker item, sum-map {X = List Held})
 
 -- a master whose tablets are in order, with no more than so many bytes
 pub record HasBytes (bytes : ℕ) (master : Master) : Type 0 where
@@ -116,35 +80,32 @@ put_has bytes more id master tablet few has = record {
   fits = omega (arith, few, has.fits, bytes_put master id tablet has.order);
 }
 
-replayed_has : (bytes id worker : ℕ) (master : Master) (item : Held) → HasBytes bytes master
+pub more_has : (bytes more : ℕ) {master : Master} → bytes ≤ more → HasBytes bytes master → HasBytes more master
+more_has bytes more no_fewer has = record { order = has.order; fits = omega (arith, no_fewer, has.fits) }
+
+replayed_has : {bytes : ℕ} (id worker : ℕ) {master : Master} (item : Held) → HasBytes bytes master
     → HasBytes (bytes + spelled_of item) (item_replayed id worker master item)
-replayed_has bytes id worker master item has =
-    put_has bytes (spelled_of item) id (with_item master item) _ (tablet_pulled (tablet_at master id) worker item)
-    (record { order = has.order; fits = has.fits })
+replayed_has {bytes} id worker {master} item has = put_has bytes (spelled_of item) id (with_item master item) _
+    (tablet_pulled (tablet_at master id) worker item) (record { order = has.order; fits = has.fits })
 
-replay_one_has : (bytes id worker : ℕ) (master : Master) (item : Held) → HasBytes bytes master
+replay_one_has : {bytes : ℕ} (id worker : ℕ) {master : Master} (item : Held) → HasBytes bytes master
     → HasBytes (bytes + spelled_of item) (replay_one id worker master item)
-replay_one_has bytes id worker master item has =
-    cond_both (is_newer item (found item.table item.key master.records)) (item_replayed id worker master item) master (HasBytes (bytes + spelled_of item))
-    (λ newer. replayed_has bytes id worker master item has)
-    (λ older. record { order = has.order; fits = omega (arith, has.fits) })
-
-pub more_has : (bytes more : ℕ) (master : Master) → bytes ≤ more → HasBytes bytes master → HasBytes more master
-more_has bytes more master no_fewer has = record { order = has.order; fits = omega (arith, no_fewer, has.fits) }
+replay_one_has {bytes} id worker {master} item has =
+    either_way (HasBytes (bytes + spelled_of item)) (is_newer item (found item.table item.key master.records)) (replayed_has id worker item has)
+    (more_has bytes (bytes + spelled_of item) (omega arith) has)
 
 replay_has : (bytes id worker : ℕ) (items : List Held) (master : Master) → HasBytes bytes master
     → HasBytes (bytes + items_bytes items) (replay master id worker items)
-replay_has bytes id worker [] master has = more_has bytes (bytes + items_bytes []) master (omega arith) has
-replay_has bytes id worker (item ∷ items) master has =
-    more_has (bytes + spelled_of item + items_bytes items) (bytes + items_bytes (item ∷ items)) (replay master id worker (item ∷ items))
-    (omega (arith, first_bytes item items))
-    (replay_has (bytes + spelled_of item) id worker items (replay_one id worker master item) (replay_one_has bytes id worker master item has))
+replay_has bytes id worker [] master has = more_has bytes (bytes + items_bytes []) (omega arith) has
+replay_has bytes id worker (item ∷ items) master has = more_has (bytes + spelled_of item + items_bytes items)
+    (bytes + items_bytes (item ∷ items)) (omega (arith, first_bytes item items))
+    (replay_has (bytes + spelled_of item) id worker items (replay_one id worker master item) (replay_one_has id worker item has))
 
 -- a tablet that pulls on has the items that it had
 pub same_has : (bytes id : ℕ) (master : Master) (tablet : Tablet) → unsealed_bytes tablet ≡ unsealed_bytes (tablet_at master id)
     → HasBytes bytes master → HasBytes bytes (with_tablet master id tablet)
 same_has bytes id master tablet same has =
-    more_has (bytes + 0) bytes (with_tablet master id tablet) (omega arith) (put_has bytes 0 id master tablet (omega (arith, same)) has)
+    more_has (bytes + 0) bytes (omega arith) (put_has bytes 0 id master tablet (omega (arith, same)) has)
 
 -- ---- side segments
 
@@ -153,31 +114,12 @@ placed_bytes : (pieces : List (List Held)) (item : Held)
     → sum_by items_bytes (with_side_item pieces item) ≤ sum_by items_bytes pieces + spelled_of item
 placed_bytes [] item = omega (arith, sum_by-cons items_bytes (item ∷ []) [], first_bytes item [], none_bytes)
 placed_bytes (items ∷ []) item =
-    cond_both (nat_le (sum (map spelled_of items) + spelled_of item) SEGMENT_BYTES) ((items ++ item ∷ []) ∷ []) (items ∷ (item ∷ []) ∷ [])
-    (λ (pieces : List (List Held)). sum_by items_bytes pieces ≤ sum_by items_bytes (items ∷ []) + spelled_of item)
-    (λ fits.
-    omega (
-      arith,
-      sum_by-cons items_bytes (items ++ item ∷ []) [],
-      sum_by-cons items_bytes items [],
-      last_bytes items item,
-    ))
-    (λ beyond.
-    omega (
-      arith,
-      sum_by-cons items_bytes items ((item ∷ []) ∷ []),
-      sum_by-cons items_bytes (item ∷ []) [],
-      sum_by-cons items_bytes items [],
-      first_bytes item [],
-      none_bytes,
-    ))
+    either_way (λ (pieces : List (List Held)). sum_by items_bytes pieces ≤ sum_by items_bytes (items ∷ []) + spelled_of item)
+    (nat_le (sum (map spelled_of items) + spelled_of item) SEGMENT_BYTES)
+    (omega (arith, sum_by-cons items_bytes (items ++ item ∷ []) [], sum_by-cons items_bytes items [], last_bytes items item))
+    (omega (arith, sum_by-cons {X = List Held}, first_bytes item [], none_bytes))
 placed_bytes (items ∷ next ∷ more) item =
-    omega (
-      arith,
-      placed_bytes (next ∷ more) item,
-      sum_by-cons items_bytes items (with_side_item (next ∷ more) item),
-      sum_by-cons items_bytes items (next ∷ more),
-    )
+    omega (arith, placed_bytes (next ∷ more) item, sum_by-cons {X = List Held})
 
 cut_from_bytes : (items : List Held) (pieces : List (List Held))
     → sum_by items_bytes (fold with_side_item pieces items) ≤ sum_by items_bytes pieces + items_bytes items
@@ -189,61 +131,41 @@ cut_from_bytes (item ∷ items) pieces =
 sealed_bytes : (sides : List (List Held)) → sum_by items_bytes (sealed_sides sides) ≤ sum_by items_bytes sides
 sealed_bytes [] = omega arith
 sealed_bytes (side ∷ sides) =
-    omega (
-      arith,
-      sealed_bytes sides,
-      cut_from_bytes side [],
-      sum_by-append items_bytes (cut_items side) (sealed_sides sides),
-      sum_by-cons items_bytes side sides,
-    )
+    omega (arith, sealed_bytes sides, cut_from_bytes side [], sum_by-append {X = List Held}, sum_by-cons {X = List Held})
 
 -- side segments have the bytes of their items
 sides_bytes : (pieces : List (List Held)) (master : Master)
     → log_bytes (fold with_side_segment master pieces) ≡ log_bytes master + sum_by items_bytes pieces
 sides_bytes [] master = omega arith
 sides_bytes (items ∷ pieces) master =
-    omega (
-      arith,
-      sides_bytes pieces (with_side_segment master items),
-      sum_by-append (λ (b : List ℕ). length b) master.log.sides (spelled_all (as_entries items) ∷ []),
-      sum_by-cons (λ (b : List ℕ). length b) (spelled_all (as_entries items)) [],
-      sum_by-cons items_bytes items pieces,
-    )
+    omega (arith, sides_bytes pieces (with_side_segment master items), sum_by-append {X = List ℕ}, sum_by-cons {X = List ℕ}, sum_by-cons {X = List Held})
 
 -- ---- a target that has all
 
-closing_has : (bytes id : ℕ) (master : Master) (tablet : Tablet) (moved : Option Handover)
+closing_has : {bytes : ℕ} (id : ℕ) {master : Master} (tablet : Tablet) (moved : Option Handover)
     → unsealed_bytes tablet ≡ unsealed_bytes (tablet_at master id) → tablet.pulling.sealed ≡ []
     → HasBytes bytes master → HasBytes (bytes + CLOSING_BYTES) (closing_entry master id tablet moved)
-closing_has bytes id master tablet None same none has = more_has bytes (bytes + CLOSING_BYTES) master (omega arith) has
-closing_has bytes id master tablet (Some handover) same none has =
+closing_has {bytes} id tablet None same none has = more_has bytes (bytes + CLOSING_BYTES) (omega arith) has
+closing_has {bytes} id {master} tablet (Some handover) same none has =
+    let now = with_tablet master id (with_handover tablet handover) in
     let put = same_has bytes id master (with_handover tablet handover) same has in
-    record {
-      order = put.order;
-      fits =
-          omega (
-            arith,
-            put.fits,
-            bytes_appended (with_tablet master id (with_handover tablet handover)) (joined_entry tablet),
-            joined_short tablet,
-            ap (λ (list : List ℕ). length list) none,
-          );
-    }
+    let fits : log_bytes (with_appended now (joined_entry tablet)) ≤ bytes + CLOSING_BYTES =
+    omega (arith, put.fits, bytes_appended now (joined_entry tablet), joined_short tablet, ap (λ (list : List ℕ). length list) none) in
+    assumption put
 
-joining_at_has : (bytes id : ℕ) (master : Master) (tablet : Tablet) (moved : Option Handover)
+joining_at_has : {bytes : ℕ} (id : ℕ) {master : Master} (tablet : Tablet) (moved : Option Handover)
     → unsealed_bytes tablet ≡ unsealed_bytes (tablet_at master id) → HasBytes bytes master → HasBytes bytes (joining_at master id tablet moved)
-joining_at_has bytes id master tablet None same has = has
-joining_at_has bytes id master tablet (Some handover) same has = same_has bytes id master (with_handover tablet handover) same has
+joining_at_has id tablet None same has = has
+joining_at_has {bytes} id {master} tablet (Some handover) same has = same_has bytes id master (with_handover tablet handover) same has
 
-joining_has : (bytes id : ℕ) (master : Master) (tablet : Tablet) (numbers : List ℕ) → unsealed_bytes tablet ≡ unsealed_bytes (tablet_at master id)
+joining_has : {bytes : ℕ} (id : ℕ) (master : Master) (tablet : Tablet) (numbers : List ℕ) → unsealed_bytes tablet ≡ unsealed_bytes (tablet_at master id)
     → tablet.pulling.sealed ≡ numbers
     → HasBytes bytes master → HasBytes (bytes + CLOSING_BYTES) (joining_by master id tablet numbers)
-joining_has bytes id master tablet [] same is has =
-    closing_has bytes id master tablet (joined tablet.handover tablet.handover.term (Some (length master.log.entries))) same is has
-joining_has bytes id master tablet (number ∷ numbers) same is has =
+joining_has id master tablet [] same is has =
+    closing_has id tablet (joined tablet.handover tablet.handover.term (Some (length master.log.entries))) same is has
+joining_has {bytes} id master tablet (number ∷ numbers) same is has =
     let moved = joined tablet.handover tablet.handover.term None in
-    more_has bytes (bytes + CLOSING_BYTES) (joining_at master id tablet moved) (omega arith)
-    (joining_at_has bytes id master tablet moved same has)
+    more_has bytes (bytes + CLOSING_BYTES) (omega arith) (joining_at_has id tablet moved same has)
 
 module _ (bytes id : ℕ) (master : Master) (has : HasBytes bytes master) where
   abbrev it : Tablet
@@ -291,12 +213,12 @@ module _ (bytes id : ℕ) (master : Master) (has : HasBytes bytes master) where
 
   -- a target that has all
   all_has : HasBytes (bytes + CLOSING_BYTES) (pulled_all master id)
-  all_has = joining_has bytes id sealed (tablet_at sealed id) (tablet_at sealed id).pulling.sealed refl refl sealed_has
+  all_has = joining_has id sealed (tablet_at sealed id) (tablet_at sealed id).pulling.sealed refl refl sealed_has
 
 -- ---- what a target takes
 
-passed_has : (bytes id : ℕ) (master : Master) (next : Token) → HasBytes bytes master → HasBytes bytes (token_passed master id next)
-passed_has bytes id master next has = same_has bytes id master _ refl has
+passed_has : {bytes : ℕ} (id : ℕ) {master : Master} (next : Token) → HasBytes bytes master → HasBytes bytes (token_passed master id next)
+passed_has {bytes} id {master} next has = same_has bytes id master _ refl has
 
 batch_has : (id : ℕ) (master : Master) (pulled : Pulled) → IsInOrder master.tablets
     → HasBytes (log_bytes master + length (spelled_all pulled.entries) + CLOSING_BYTES) (batch_taken master id pulled)
@@ -307,22 +229,18 @@ batch_has id master pulled order =
     let now = token_passed (replay master id worker items) id pulled.next in
     let replayed = replay_has (log_bytes master) id worker items master (record { order = order; fits = omega arith }) in
     let few : log_bytes master + items_bytes items ≤ most = omega (arith, items_few pulled.entries) in
-    let passed = passed_has most id (replay master id worker items) pulled.next
-    (more_has (log_bytes master + items_bytes items) most (replay master id worker items) few replayed) in
-    cond_both (is_token pulled.next end) (pulled_all now id) now (HasBytes (most + CLOSING_BYTES))
-    (λ last. all_has most id now passed)
-    (λ more. more_has most (most + CLOSING_BYTES) now (omega arith) passed)
+    let passed = passed_has id pulled.next (more_has (log_bytes master + items_bytes items) most few replayed) in
+    either_way (HasBytes (most + CLOSING_BYTES)) (is_token pulled.next end) (all_has most id now passed)
+    (more_has most (most + CLOSING_BYTES) (omega arith) passed)
 
 -- after a Pulled a master has no more bytes than before and its entries, and an entry that closes
 pub pulled_bytes : (master : Master) (pulled : Pulled) → IsInOrder master.tablets
     → log_bytes (pulled_taken master pulled).master ≤ log_bytes master + length (spelled_all pulled.entries) + CLOSING_BYTES
 pulled_bytes master pulled order =
     let it = tablet_at master pulled.tenure.tablet in
-    let most = log_bytes master + length (spelled_all pulled.entries) + CLOSING_BYTES in
-    cond_both (is_receiving_at it pulled.tenure.term && is_token pulled.token it.pulling.token)
-    (changed (batch_taken master pulled.tenure.tablet pulled)) (changed master) (λ (worked : Worked). log_bytes worked.master ≤ most)
-    (λ takes. (batch_has pulled.tenure.tablet master pulled order).fits)
-    (λ other. omega arith)
+    either_way (λ (worked : Worked). log_bytes worked.master ≤ log_bytes master + length (spelled_all pulled.entries) + CLOSING_BYTES)
+    (is_receiving_at it pulled.tenure.term && is_token pulled.token it.pulling.token)
+    (batch_has pulled.tenure.tablet master pulled order).fits (omega arith)
 
 -- after a Got no more than before and its entries
 pub got_bytes : (master : Master) (message : Got) → IsInOrder master.tablets
@@ -335,8 +253,6 @@ got_bytes master message order =
     let replayed = replay_has (log_bytes master) id 0 items master (record { order = order; fits = omega arith }) in
     let resolved = same_has (log_bytes master + items_bytes items) id now
     (with_pulling (tablet_at now id) (record (tablet_at now id).pulling { hashes = got (tablet_at now id).pulling.hashes message.hashes })) refl replayed in
-    cond_both (is_receiving_at it message.tenure.term && is_batch it.pulling.hashes.outstanding message.hashes)
-    (changed (hashes_resolved now id message.hashes)) (changed master)
-    (λ (worked : Worked). log_bytes worked.master ≤ log_bytes master + length (spelled_all message.entries))
-    (λ takes. omega (arith, resolved.fits, items_few message.entries))
-    (λ other. omega arith)
+    either_way (λ (worked : Worked). log_bytes worked.master ≤ log_bytes master + length (spelled_all message.entries))
+    (is_receiving_at it message.tenure.term && is_batch it.pulling.hashes.outstanding message.hashes)
+    (omega (arith, resolved.fits, items_few message.entries)) (omega arith)

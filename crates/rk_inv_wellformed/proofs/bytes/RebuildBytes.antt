@@ -1,54 +1,51 @@
 -- How many bytes a master has after a Rebuild and after a Copy: no more than before, the copies of what was read, and a closing entry.
-use Rattle.std.proofs.Common.{◌≡◌, ◌≤◌, ◌+◌, ◌==◌, ◌&&◌, ℕ, Bool, true, false, cond, not, List, [], ◌∷◌, length, Option, None, Some, refl}
-use Rattle.std.proofs.Common.{sym, ap, ◌∙◌, arith, w64, option_map, nat_lt, unwrap_or, eq-eqb}
-use Rattle.std.specs.List.{list_all}
+use Rattle.std.proofs.Common.{◌≡◌, ◌≤◌, ◌+◌, ◌==◌, ◌&&◌, ℕ, Bool, true, cond, not, List, [], ◌∷◌, length, Option, None, Some, refl, sym, ap}
+use Rattle.std.proofs.Common.{◌∙◌, arith, w64, option_map, nat_lt, unwrap_or, eq-eqb}
 use Rattle.rk_inv_wellformed.proofs.Words.{cond-true, in_order_changed, spelled_of, IsInOrder, NumberMap, get, get_or, meets, Held, Member}
-use Rattle.rk_inv_wellformed.proofs.Words.{Range, held_spelled, IsNumber, Entry, completions_from, ends_of, begun, carried, Handover, Role}
+use Rattle.rk_inv_wellformed.proofs.Words.{Range, held_spelled, IsNumber, Entry, completions_from, ends_of, begun, Handover, Role}
 use Rattle.rk_inv_wellformed.proofs.Words.{CopySegment, Rebuild, IsFormedMaster, MOST_BASE_CLIENTS, by_member, is_awaited, next_reading}
 use Rattle.rk_inv_wellformed.proofs.Words.{given_up, is_greater, with_others_given_up, IsFormedCopy, IsFormedRebuild, Limits, own_member}
-use Rattle.rk_inv_wellformed.proofs.Words.{Master, log_bytes, tablet_at, unsealed_bytes, with_all, with_appended, with_tablet, as_entries}
-use Rattle.rk_inv_wellformed.proofs.Words.{merge, MOST_CLIENTS, is_gathering, Tablet, no_tablet, pulling_from, changed, Merged, Reading}
-use Rattle.rk_entry.specs.declared.entry.Entry.TheVariants as entries
-use Rattle.rk_transfer.specs.declared.role.Role.TheVariants as roles
-use Rattle.rk_world.specs.Gather.{gather_begun}
-use Rattle.rk_world.specs.Handovers.{is_above}
+use Rattle.rk_inv_wellformed.proofs.Words.{Master, log_bytes, tablet_at, unsealed_bytes, with_all, with_appended, as_entries, merge}
+use Rattle.rk_inv_wellformed.proofs.Words.{MOST_CLIENTS, is_gathering, Tablet, no_tablet, pulling_from, changed, Merged, gather_begun}
+use Rattle.rk_inv_wellformed.proofs.Words.{LONGEST_LEFT, copied_bytes, cond_both, Worked}
+use Rattle.std.specs.List.{list_all}
 use Rattle.rk_world.specs.Rebuilds as rebuilds
+use Rattle.rk_world.specs.Handovers.{is_above}
 use Rattle.rk_inv_wellformed.proofs.bytes.CopyBytes.{begun_copies, copies_within}
 use Rattle.rk_inv_wellformed.proofs.bytes.EntryBytes.{carried_fits}
 use Rattle.rk_inv_wellformed.proofs.bytes.LogBytes.{bytes_appended, bytes_given_up, pulls_none}
-use Rattle.rk_inv_wellformed.proofs.maps.Maps.{found_changed}
 use Rattle.rk_inv_wellformed.proofs.bytes.PullBytes.{HasBytes, first_bytes, items_bytes, more_has, put_has, same_has}
-use Rattle.rk_inv_wellformed.proofs.masters.Rebuilding.{begins, few_ends, formed_gathered, merge_formed}
+use Rattle.rk_inv_wellformed.proofs.maps.{by_found, found_changed}
 use Rattle.rk_inv_wellformed.proofs.masters.Handovers.{one_stood}
+use Rattle.rk_inv_wellformed.proofs.masters.Rebuilding.{begins, few_ends, formed_gathered, merge_formed}
 use Rattle.rk_inv_wellformed.proofs.masters.Sealing.{first_holds}
 use Rattle.rk_inv_wellformed.proofs.masters.Tablets.{tablet_with_same}
 use Rattle.rk_inv_wellformed.proofs.masters.Work.{AreLimits}
-use Rattle.rk_inv_wellformed.specs.Brought.{LONGEST_LEFT, copied_bytes}
 
 -- ---- a merge
 
 -- items that are appended
 all_has : (bytes : ℕ) (items : List Held) (master : Master) → HasBytes bytes master
     → HasBytes (bytes + items_bytes items) (with_all master (as_entries items))
-all_has bytes [] master has = more_has bytes (bytes + items_bytes []) master (omega arith) has
+all_has bytes [] master has = more_has bytes (bytes + items_bytes []) (omega arith) has
 all_has bytes (item ∷ items) master has =
-    let now = with_appended master (entries.Held item) in
-    more_has (bytes + spelled_of item + items_bytes items) (bytes + items_bytes (item ∷ items)) (with_all now (as_entries items))
+    let now = with_appended master (Entry.Held item) in
+    more_has (bytes + spelled_of item + items_bytes items) (bytes + items_bytes (item ∷ items))
     (omega (arith, first_bytes item items))
     (all_has (bytes + spelled_of item) items now
-    (record { order = has.order; fits = omega (arith, has.fits, bytes_appended master (entries.Held item), held_spelled item) }))
+    (record { order = has.order; fits = omega (arith, has.fits, bytes_appended master (Entry.Held item), held_spelled item) }))
 
 -- they leave the tablets as they are
 all_tablets : (list : List Entry) (master : Master) → (with_all master list).tablets ≡ master.tablets
 all_tablets [] master = refl
 all_tablets (entry ∷ list) master = all_tablets list (with_appended master entry)
 
-merging_has : (bytes id : ℕ) (master : Master) (merged : Merged) (moved : Option Handover)
+merging_has : {bytes : ℕ} (id : ℕ) {master : Master} (merged : Merged) (moved : Option Handover)
     → length (ends_of (completions_from [] merged.ends)) ≤ MOST_CLIENTS + MOST_BASE_CLIENTS → HasBytes bytes master
     → HasBytes (bytes + items_bytes merged.copies + LONGEST_LEFT) (rebuilds.merging master id (tablet_at master id) merged moved).master
-merging_has bytes id master merged None few has =
-    more_has bytes (bytes + items_bytes merged.copies + LONGEST_LEFT) master (omega arith) has
-merging_has bytes id master merged (Some handover) few has =
+merging_has {bytes} id merged None few has =
+    more_has bytes (bytes + items_bytes merged.copies + LONGEST_LEFT) (omega arith) has
+merging_has {bytes} id {master} merged (Some handover) few has =
     let it = tablet_at master id in
     let copied = with_all master (as_entries merged.copies) in
     let copied_has = all_has bytes merged.copies master has in
@@ -70,24 +67,18 @@ merging_has bytes id master merged (Some handover) few has =
     })
 
 -- a rebuild that goes on
-goes_on_has : (limits : Limits) (number bytes id : ℕ) (master : Master) → AreLimits limits → 1 ≤ limits.top → IsFormedMaster limits number master
+goes_on_has : {limits : Limits} {number bytes : ℕ} (id : ℕ) {master : Master} → AreLimits limits → 1 ≤ limits.top → IsFormedMaster limits number master
     → HasBytes bytes master
     → HasBytes (bytes + copied_bytes (tablet_at master id).gather + LONGEST_LEFT) (rebuilds.rebuild_goes_on master id).master
-goes_on_has limits number bytes id master are some formed has = go (next_reading (tablet_at master id).gather)
-  where
-    go : (reading : Option Reading)
-        → HasBytes (bytes + copied_bytes (tablet_at master id).gather + LONGEST_LEFT) (rebuilds.rebuilding_on master id reading).master
-    go (Some reading) = more_has bytes (bytes + copied_bytes (tablet_at master id).gather + LONGEST_LEFT) master (omega arith) has
-    go None =
-        let it = tablet_at master id in
-        let own = rebuilds.own_material master it in
-        let merged = merge own (by_member it.gather own) in
-        let moved = carried it.handover it.handover.term (length (with_all master (as_entries merged.copies)).log.entries) merged.floor in
-        more_has (bytes + items_bytes merged.copies + LONGEST_LEFT) (bytes + copied_bytes it.gather + LONGEST_LEFT)
-        (rebuilds.merging master id it merged moved).master
-        (omega (arith, copies_within it.gather own))
-        (merging_has bytes id master merged moved
-        (few_ends limits merged.ends are (merge_formed limits number master id some formed).told) has)
+goes_on_has {limits} {number} {bytes} id {master} are some formed has =
+    let it = tablet_at master id in
+    let own = rebuilds.own_material master it in
+    let merged = merge own (by_member it.gather own) in
+    let most = bytes + copied_bytes it.gather + LONGEST_LEFT in
+    by_found (λ reading. HasBytes most (rebuilds.rebuilding_on master id reading).master) (next_reading it.gather)
+    (λ none. more_has (bytes + items_bytes merged.copies + LONGEST_LEFT) most (omega (arith, copies_within it.gather own))
+    (merging_has id merged _ (few_ends limits merged.ends are (merge_formed limits number master id some formed).told) has))
+    (λ reading is. more_has bytes most (omega arith) has)
 
 -- ---- Rebuild
 
@@ -104,8 +95,8 @@ kept_tablet master id range =
     go (Some tablet) =
         ap (λ (same : Bool). cond (not same && meets tablet.handover.range range) (given_up tablet) tablet) (eq-eqb id id refl)
 
-given_up_has : (bytes id : ℕ) (master : Master) (range : Range) → HasBytes bytes master → HasBytes bytes (with_others_given_up master id range)
-given_up_has bytes id master range has = record {
+given_up_has : {bytes : ℕ} (id : ℕ) {master : Master} (range : Range) → HasBytes bytes master → HasBytes bytes (with_others_given_up master id range)
+given_up_has id {master} range has = record {
   order =
       in_order_changed (λ number tablet. cond (not (number == id) && meets tablet.handover.range range) (given_up tablet) tablet)
       master.tablets has.order;
@@ -114,13 +105,13 @@ given_up_has bytes id master range has = record {
 
 foreign_has : (bytes : ℕ) (master : Master) (range : Range) (own : Option Member) → HasBytes bytes master
     → HasBytes bytes (rebuilds.without_foreign master range own)
-foreign_has bytes master range None has = record { order = has.order; fits = has.fits }
+foreign_has bytes master range None has = assumption
 foreign_has bytes master range (Some own) has = has
 
 foreign_tablet : (master : Master) (range : Range) (own : Option Member) (id : ℕ)
     → tablet_at (rebuilds.without_foreign master range own) id ≡ tablet_at master id
-foreign_tablet master range None id = refl
-foreign_tablet master range (Some own) id = refl
+foreign_tablet master range own id =
+    by_found (λ found. tablet_at (rebuilds.without_foreign master range found) id ≡ tablet_at master id) own (λ none. refl) (λ some is. refl)
 
 -- a move to a greater term is made
 move_made : (handover : Handover) (term : ℕ) (range : Range) (role : Role) → nat_lt handover.term term ≡ true
@@ -133,10 +124,10 @@ record HasBegun (bytes id : ℕ) (master : Master) : Type 0 where
   has : HasBytes bytes master
   copies : copied_bytes (tablet_at master id).gather ≡ 0
 
-with_begun_has : (bytes : ℕ) (now : Master) (rebuild : Rebuild) (moved : Option Handover) (handover : Handover) → moved ≡ Some handover
+with_begun_has : {bytes : ℕ} {now : Master} (rebuild : Rebuild) (moved : Option Handover) (handover : Handover) → moved ≡ Some handover
     → HasBytes bytes now → HasBegun bytes rebuild.tenure.tablet (rebuilds.with_begun now rebuild moved)
-with_begun_has bytes now rebuild None handover is has = absurd (cc is)
-with_begun_has bytes now rebuild (Some made) handover is has =
+with_begun_has rebuild None handover is has = absurd (cc is)
+with_begun_has {bytes} {now} rebuild (Some made) handover is has =
     let id = rebuild.tenure.tablet in
     let its : Tablet = record (tablet_at now id) {
       handover = made;
@@ -145,11 +136,9 @@ with_begun_has bytes now rebuild (Some made) handover is has =
       merged_ends = [];
     } in
     record {
-      has =
-          more_has (bytes + 0) bytes (with_tablet now id its) (omega arith)
+      has = more_has (bytes + 0) bytes (omega arith)
           (put_has bytes 0 id now its (omega (arith, pulls_none its (tablet_at now id).pulling.source refl)) has);
-      copies =
-          ap (λ (t : Tablet). copied_bytes t.gather) (tablet_with_same now id its)
+      copies = ap (λ (t : Tablet). copied_bytes t.gather) (tablet_with_same now id its)
           ∙ begun_copies rebuild.range rebuild.lineage now.number;
     }
 
@@ -161,60 +150,44 @@ begun_has master rebuild order above =
     let own = own_member rebuild.lineage master.number in
     let foreign = rebuilds.without_foreign master rebuild.range own in
     let now = with_others_given_up foreign id rebuild.range in
-    let role = roles.Rebuilding (rebuilds.begun_from master own) None in
+    let role = Role.Rebuilding (rebuilds.begun_from master own) None in
     let same : tablet_at now id ≡ tablet_at master id = kept_tablet foreign id rebuild.range ∙ foreign_tablet master rebuild.range own id in
-    with_begun_has (log_bytes master) now rebuild _ _
-    (move_made (tablet_at now id).handover rebuild.tenure.term rebuild.range role
+    with_begun_has rebuild _ _ (move_made (tablet_at now id).handover rebuild.tenure.term rebuild.range role
     (ap (λ (t : Tablet). nat_lt t.handover.term rebuild.tenure.term) same ∙ above))
-    (given_up_has (log_bytes master) id foreign rebuild.range
-    (foreign_has (log_bytes master) master rebuild.range own (record { order = order; fits = omega arith })))
+    (given_up_has id rebuild.range (foreign_has (log_bytes master) master rebuild.range own (record { order = order; fits = omega arith })))
 
 -- after a Rebuild a master has no more bytes than before, and a closing entry
-pub rebuild_bytes : (limits : Limits) (number : ℕ) (master : Master) (rebuild : Rebuild) → AreLimits limits → IsFormedRebuild limits rebuild
+pub rebuild_bytes : {limits : Limits} {number : ℕ} {master : Master} {rebuild : Rebuild} → AreLimits limits → IsFormedRebuild limits rebuild
     → IsNumber w64 0 (length master.log.entries)
     → IsFormedMaster limits number master → log_bytes (rebuilds.rebuild_taken master rebuild).master ≤ log_bytes master + LONGEST_LEFT
-rebuild_bytes limits number master rebuild are told place formed =
-    elim (is_greater master id rebuild.tenure.term rebuild.range) as (λ b. is_greater master id rebuild.tenure.term rebuild.range ≡ b → log_bytes (cond b (rebuilds.beginning master rebuild) (changed master)).master ≤ log_bytes master + LONGEST_LEFT) [
-      | true ↦ λ greater.
-          let begins_so = begun_has master rebuild formed.tablets_order
-          (first_holds (nat_lt (tablet_at master id).handover.term rebuild.tenure.term) (list_all (is_above rebuild.range rebuild.tenure.term) master.tablets) greater) in
-          let goes = goes_on_has limits number (log_bytes master) id (rebuilds.rebuild_begun master rebuild) are (one_stood limits rebuild.tenure.term told.tenure.term)
-          (begins limits number master rebuild told place formed) begins_so.has in
-          omega (arith, goes.fits, begins_so.copies)
-      | false ↦ λ less. omega arith
-    ] refl
-  where
-    id : ℕ
-    id = rebuild.tenure.tablet
+rebuild_bytes {limits} {number} {master} {rebuild} are told place formed =
+    let id = rebuild.tenure.tablet in
+    cond_both (is_greater master id rebuild.tenure.term rebuild.range) _ _ (λ (worked : Worked). log_bytes worked.master ≤ log_bytes master + LONGEST_LEFT)
+    (λ greater.
+    let begins_so = begun_has master rebuild formed.tablets_order
+    (first_holds (nat_lt (tablet_at master id).handover.term rebuild.tenure.term) (list_all (is_above rebuild.range rebuild.tenure.term) master.tablets) greater) in
+    let goes = goes_on_has id are (one_stood limits rebuild.tenure.term told.tenure.term)
+    (begins limits number master rebuild told place formed) begins_so.has in
+    omega (arith, goes.fits, begins_so.copies))
+    (λ lower. omega arith)
 
 -- ---- Copy
 
 -- after a Copy no more than before, the copies of what was read then, and a closing entry
-pub copy_bytes : (limits : Limits) (number : ℕ) (master : Master) (copy : CopySegment) → AreLimits limits → IsFormedCopy limits copy
+pub copy_bytes : {limits : Limits} {number : ℕ} {master : Master} {copy : CopySegment} → AreLimits limits → IsFormedCopy limits copy
     → IsFormedMaster limits number master
     → log_bytes (rebuilds.copy_taken master copy).master ≤ log_bytes master + copied_bytes (rebuilds.with_gathered (tablet_at master copy.tenure.tablet) copy).gather + LONGEST_LEFT
-copy_bytes limits number master copy are told formed = go awaited refl
-  where
-    awaited : Bool
-    awaited =
-        is_gathering (tablet_at master copy.tenure.tablet).handover.role && ((tablet_at master copy.tenure.tablet).handover.term == copy.tenure.term)
-        && is_awaited (next_reading (tablet_at master copy.tenure.tablet).gather) copy.master copy.segment
-
-    most : ℕ
-    most = log_bytes master + copied_bytes (rebuilds.with_gathered (tablet_at master copy.tenure.tablet) copy).gather + LONGEST_LEFT
-
-    go : (test : Bool) → awaited ≡ test
-        → log_bytes (cond test (rebuilds.rebuild_goes_on (rebuilds.segment_gathered master copy) copy.tenure.tablet) (changed master)).master ≤ most
-    go true is =
-        let now = rebuilds.segment_gathered master copy in
-        let put = same_has (log_bytes master) copy.tenure.tablet master (rebuilds.with_gathered (tablet_at master copy.tenure.tablet) copy) refl
-        (record { order = formed.tablets_order; fits = omega arith }) in
-        let goes = goes_on_has limits number (log_bytes master) copy.tenure.tablet now are (one_stood limits copy.tenure.term told.tenure.term)
-        (formed_gathered limits number master copy told (first_holds _ _ is) formed) put in
-        omega (
-          arith,
-          goes.fits,
-          ap (λ (t : Tablet). copied_bytes t.gather)
-              (tablet_with_same master copy.tenure.tablet (rebuilds.with_gathered (tablet_at master copy.tenure.tablet) copy)),
-        )
-    go false is = omega arith
+copy_bytes {limits} {number} {master} {copy} are told formed =
+    let id = copy.tenure.tablet in
+    let it = rebuilds.with_gathered (tablet_at master id) copy in
+    let here = tablet_at master id in
+    cond_both
+    (is_gathering here.handover.role && (here.handover.term == copy.tenure.term) && is_awaited (next_reading here.gather) copy.master copy.segment)
+    (rebuilds.rebuild_goes_on (rebuilds.segment_gathered master copy) id) (changed master)
+    (λ (worked : Worked). log_bytes worked.master ≤ log_bytes master + copied_bytes it.gather + LONGEST_LEFT)
+    (λ is.
+    let put = same_has (log_bytes master) id master it refl (record { order = formed.tablets_order; fits = omega arith }) in
+    let goes = goes_on_has id are (one_stood limits copy.tenure.term told.tenure.term)
+    (formed_gathered limits number master copy told (first_holds _ _ is) formed) put in
+    omega (arith, goes.fits, ap (λ (t : Tablet). copied_bytes t.gather) (tablet_with_same master id it)))
+    (λ other. omega arith)

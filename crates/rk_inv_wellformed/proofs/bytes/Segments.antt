@@ -1,17 +1,15 @@
 -- The segments of a log whose entries fit a segment: each has at most the bytes that a segment may have, its number fits four bytes,
 -- and so does what a backup is to be sent of it.
-use Rattle.std.proofs.Common.{◌≡◌, ◌≤◌, ◌<◌, ◌+◌, ◌-◌, ◌^◌, ℕ, suc, Bool, true, false, not, All, List, [], ◌∷◌, ◌++◌, length, Option, None}
-use Rattle.std.proofs.Common.{Some, refl, arith, length-append, length-drop, leb, find, sum_by, IfSome, w32, option_map, leb-false}
-use Rattle.std.proofs.Common.{leb-true}
+use Rattle.std.proofs.Common.{◌≡◌, ◌≤◌, ◌<◌, ◌+◌, ◌-◌, ◌^◌, ℕ, suc, Bool, true, false, not, All, List, [], ◌∷◌, ◌++◌, length, refl, arith}
+use Rattle.std.proofs.Common.{length-append, length-drop, leb, find, sum_by, IfSome, w32, option_map, leb-false, leb-true}
 use Rattle.rk_inv_wellformed.proofs.Words.{cond_both, and_parts, All-append, All-cons, All-head, All-nil, All-push, All-set, All-tail}
 use Rattle.rk_inv_wellformed.proofs.Words.{All-weaker, SEGMENT_BYTES, IsNumber, spelled, Entry, FIRST_SIDE_SEGMENT, cut, Log, pending}
-use Rattle.rk_inv_wellformed.proofs.Words.{segments, PlacedBytes, IsFormedSide, MOST_BYTES}
-use Rattle.rk_segment.specs.Segment.{NumberedBytes}
+use Rattle.rk_inv_wellformed.proofs.Words.{segments, PlacedBytes, IsFormedSide, MOST_BYTES, NumberedBytes, cut_after, last_of, with_bytes}
+use Rattle.rk_inv_wellformed.proofs.Words.{Known, known_of, numbered, segment_bytes}
 use Rattle.rk_log.proofs.Cuts.{cut_filled, length-le-bytes}
-use Rattle.rk_log.specs.Cut.{cut_after, has_room, in_last, last_of, with_bytes}
-use Rattle.rk_log.specs.Known.{Known, is_whole, known_length}
-use Rattle.rk_log.specs.Log.{known_of, missing, numbered, segment_bytes}
-use Rattle.rk_inv_wellformed.proofs.maps.Lists.{all_find, find_passes}
+use Rattle.rk_log.specs.Known.{is_whole, known_length}
+use Rattle.rk_log.specs.Log.{missing}
+use Rattle.rk_inv_wellformed.proofs.maps.{all_find, find_passes, by_found}
 use Rattle.rk_inv_wellformed.proofs.masters.Waiting.{FitsSegment}
 
 -- bytes that a segment may have
@@ -22,17 +20,11 @@ FitsBytes bytes = length bytes ≤ SEGMENT_BYTES
 
 -- bytes go into the last segment only where they fit
 fits_with_bytes : (segments : List (List ℕ)) (bytes : List ℕ) → All FitsBytes segments → FitsBytes bytes → All FitsBytes (with_bytes segments bytes)
-fits_with_bytes segments bytes each new =
-    cond_both (has_room segments bytes) (in_last segments bytes) (segments ++ bytes ∷ []) (All FitsBytes)
+fits_with_bytes segments bytes each new = cond_both _ _ _ (All FitsBytes)
     (λ room.
+    let below = leb-true (length (last_of segments) + length bytes) SEGMENT_BYTES (and_parts _ (leb (length (last_of segments) + length bytes) SEGMENT_BYTES) room).1 in
     All-set FitsBytes segments (length segments - 1) (last_of segments ++ bytes)
-    (omega (
-      arith,
-      length-append (last_of segments) bytes,
-      leb-true (length (last_of segments) + length bytes) SEGMENT_BYTES
-          (and_parts _ (leb (length (last_of segments) + length bytes) SEGMENT_BYTES) room).1,
-    ))
-    each)
+    (omega (arith, below, length-append (last_of segments) bytes)) each)
     (λ full. All-push FitsBytes segments bytes each new)
 
 fits_cut_after : (segments : List (List ℕ)) (entries : List Entry) → All FitsBytes segments → All FitsSegment entries
@@ -100,12 +92,8 @@ missing_told known segment told lacks =
 
 -- what a backup is to be sent can be told
 pub pending_told : (log : Log) (backup : ℕ) → All IsTold (segments log) → IfSome (pending log backup) IsToldPiece
-pending_told log backup each = go (find (λ segment. not (is_whole (known_of log backup) segment)) (segments log)) refl
-  where
-    go : (found : Option NumberedBytes) → find (λ segment. not (is_whole (known_of log backup) segment)) (segments log) ≡ found
-        → IfSome (option_map (missing (known_of log backup)) found) IsToldPiece
-    go None is = tt
-    go (Some segment) is =
-        missing_told (known_of log backup) segment
-        (all_find IsTold (λ segment. not (is_whole (known_of log backup) segment)) (segments log) segment each is)
-        (find_passes (λ segment. not (is_whole (known_of log backup) segment)) (segments log) segment is)
+pending_told log backup each =
+    let lacks = λ (segment : NumberedBytes). not (is_whole (known_of log backup) segment) in
+    by_found (λ found. IfSome (option_map (missing (known_of log backup)) found) IsToldPiece) (find lacks (segments log)) (λ none. tt)
+    (λ segment is. missing_told (known_of log backup) segment (all_find IsTold lacks (segments log) segment each is)
+    (find_passes lacks (segments log) segment is))

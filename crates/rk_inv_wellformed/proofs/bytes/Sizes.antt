@@ -1,8 +1,8 @@
 -- How great a log is: it has no more entries than bytes.
 use Rattle.std.proofs.Common.{◌≡◌, ◌≤◌, ◌<◌, ◌^◌, ℕ, List, [], ◌∷◌, ◌++◌, length, refl, ap, sym, ◌∙◌, arith, w64, flat_map, sum_by}
-use Rattle.std.specs.List.{concat}
-use Rattle.std.proofs.lemmas.List.Concat.{length-flat_map}
 use Rattle.rk_inv_wellformed.proofs.Words.{sum_by-cons, IsNumber, spelled, Entry, cut, Limits, Master, log_bytes}
+use Rattle.std.proofs.lemmas.List.Concat.{length-flat_map}
+use Rattle.std.specs.List.{concat}
 use Rattle.rk_entry.specs.Entries.{spelled_all}
 use Rattle.rk_log.proofs.CutLaws.{cut_whole}
 use Rattle.rk_log.proofs.Cuts.{spelled_some}
@@ -16,10 +16,8 @@ joined (segment ∷ segments) = ap (λ (rest : List ℕ). segment ++ rest) (join
 -- the bytes of the main segments are those of the entries
 pub bytes_spelled : (entries : List Entry) → sum_by (λ (b : List ℕ). length b) (cut entries) ≡ sum_by (λ (e : Entry). length (spelled e)) entries
 unfolding spelled_all
-bytes_spelled entries =
-    sym (length-flat_map (λ (b : List ℕ). b) (cut entries))
-    ∙ ap (λ (b : List ℕ). length b) (sym (joined (cut entries)) ∙ cut_whole entries)
-    ∙ length-flat_map spelled entries
+bytes_spelled entries = sym (length-flat_map (λ (b : List ℕ). b) (cut entries))
+    ∙ ap (λ (b : List ℕ). length b) (sym (joined (cut entries)) ∙ cut_whole entries) ∙ length-flat_map spelled entries
 
 -- each entry has a byte
 count_spelled : (entries : List Entry) → length entries ≤ sum_by (λ (e : Entry). length (spelled e)) entries
@@ -37,7 +35,7 @@ side_bytes master = omega arith
 
 -- fewer than this can be spelled
 pub below_fits : (count bytes : ℕ) → count ≤ bytes → bytes < 2 ^ 30 → IsNumber w64 0 count
-below_fits count bytes few room = record { least_is = omega arith; fits = omega arith }
+below_fits count bytes few room = omega arith
 
 -- so each place of its log can be spelled
 pub place_fits : (limits : Limits) (master : Master) → HasRoomFor limits master → IsNumber w64 0 (length master.log.entries)

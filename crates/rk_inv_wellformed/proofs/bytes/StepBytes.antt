@@ -1,35 +1,28 @@
 -- How many bytes a master has after a message: for a request, a grant and a rebuild an entry more, what the message brings, and at most
 -- as many again as before for each tablet that changes.
-use Rattle.std.proofs.Common.{◌≤◌, ◌<◌, ◌+◌, ◌*◌, ◌==◌, ℕ, Bool, true, false, cond, [], length, Option, None, Some, refl, ap, arith}
+use Rattle.std.proofs.Common.{◌≤◌, ◌<◌, ◌+◌, ◌*◌, ◌==◌, ℕ, [], length, Option, None, Some, refl, ap, arith}
 use Rattle.rk_inv_wellformed.proofs.Words.{cond_both, All-weaker, hash_of, IsInOrder, Call, Node, completions_from, closed, frozen}
 use Rattle.rk_inv_wellformed.proofs.Words.{Handover, Role, overreach, Grant, Prepare, Tenure, Body, Pull, Want, IsFormedMaster}
 use Rattle.rk_inv_wellformed.proofs.Words.{MOST_BASE_CLIENTS, IsClient, IsFormedBody, IsFormedEnd, IsFormedGrant, Limits, Master}
-use Rattle.rk_inv_wellformed.proofs.Words.{is_settled, log_bytes, tablet_at, unsealed_bytes, with_appended, with_tablet, without_items}
-use Rattle.rk_inv_wellformed.proofs.Words.{backup_message, client_message, order, peer_message, told_master, IsLawfulCall, range_below}
-use Rattle.rk_inv_wellformed.proofs.Words.{range_from, MOST_CLIENTS, call_of, choice_of, chosen, counted_up, item_of, with_staged}
-use Rattle.rk_inv_wellformed.proofs.Words.{with_wanted, is_frozen_at, MOST_BYTES, has_parts, with_half, with_halves, with_split, Tablet}
-use Rattle.rk_inv_wellformed.proofs.Words.{pulling_from, with_handover, without_merged, freezing, tablet_frozen, Worked, changed, sending}
-use Rattle.rk_inv_wellformed.proofs.Words.{Choice, Redirects, Repeats, Ignores, Wants, Reads, Writes, Refuses}
-use Rattle.rk_types.specs.declared.node.Node.TheVariants as nodes
-use Rattle.rk_entry.specs.declared.entry.Entry.TheVariants as entries
-use Rattle.rk_message.specs.declared.message.Body.TheVariants as bodies
-use Rattle.rk_transfer.specs.Handover.{granted, owned, prepared, released}
-use Rattle.rk_transfer.specs.declared.role.Role.TheVariants as roles
+use Rattle.rk_inv_wellformed.proofs.Words.{is_settled, log_bytes, tablet_at, unsealed_bytes, with_tablet, without_items, backup_message}
+use Rattle.rk_inv_wellformed.proofs.Words.{client_message, order, peer_message, told_master, IsLawfulCall, range_below, range_from}
+use Rattle.rk_inv_wellformed.proofs.Words.{MOST_CLIENTS, call_of, choice_of, chosen, counted_up, item_of, with_staged, with_wanted}
+use Rattle.rk_inv_wellformed.proofs.Words.{is_frozen_at, MOST_BYTES, has_parts, with_half, with_halves, with_split, Tablet, pulling_from}
+use Rattle.rk_inv_wellformed.proofs.Words.{with_handover, without_merged, freezing, Worked, Choice, Wants, Writes, Refuses, granted, owned}
+use Rattle.rk_inv_wellformed.proofs.Words.{prepared, released, refusal_of, LONGEST_LEFT, brought_by, Entry}
 use Rattle.rk_world.specs.Handovers as handovers
 use Rattle.rk_world.specs.Master.{with_call}
 use Rattle.rk_world.specs.Pulls.{pull_taken, want_taken}
-use Rattle.rk_world.specs.Requests.{refusal_of}
 use Rattle.rk_inv_wellformed.proofs.bytes.EntryBytes.{carried_fits, held_fits, refused_fits}
 use Rattle.rk_inv_wellformed.proofs.bytes.LogBytes.{bytes_appended, bytes_given_up, bytes_with_tablet, pulls_none, unsealed_at_most}
-use Rattle.rk_inv_wellformed.proofs.masters.Requests.{IsFormedChoice, choice_formed}
-use Rattle.rk_inv_wellformed.proofs.maps.Rising.{rising_within}
-use Rattle.rk_inv_wellformed.proofs.masters.Tablets.{tablet_with_same}
-use Rattle.rk_inv_wellformed.proofs.masters.Work.{AreLimits}
-use Rattle.rk_inv_wellformed.specs.Brought.{LONGEST_LEFT, brought_by}
 use Rattle.rk_inv_wellformed.proofs.bytes.PullBytes.{got_bytes, pulled_bytes}
 use Rattle.rk_inv_wellformed.proofs.bytes.RebuildBytes.{copy_bytes, rebuild_bytes}
 use Rattle.rk_inv_wellformed.proofs.bytes.Sizes.{below_fits, entries_few}
 use Rattle.rk_inv_wellformed.proofs.bytes.TurnBytes.{stored_thrice}
+use Rattle.rk_inv_wellformed.proofs.maps.{either_way, rising_within}
+use Rattle.rk_inv_wellformed.proofs.masters.Requests.{IsFormedChoice, choice_formed}
+use Rattle.rk_inv_wellformed.proofs.masters.Tablets.{tablet_with_same}
+use Rattle.rk_inv_wellformed.proofs.masters.Work.{AreLimits}
 
 same_unsealed : (master : Master) (id : ℕ) (tablet : Tablet) → unsealed_bytes tablet ≤ log_bytes master → log_bytes (with_tablet master id tablet) ≤ log_bytes master + log_bytes master
 same_unsealed master id tablet few = omega (arith, few, bytes_with_tablet master id tablet)
@@ -37,15 +30,16 @@ same_unsealed master id tablet few = omega (arith, few, bytes_with_tablet master
 -- a tablet freezes, or stays
 freezing_bytes : (master : Master) (id : ℕ) (tablet : Tablet) (moved : Option Handover) → log_bytes (freezing master id tablet moved) ≤ log_bytes master + unsealed_bytes tablet
 freezing_bytes master id tablet None = omega arith
-freezing_bytes master id tablet (Some handover) =
-    cond_both (is_settled master tablet.handover.range) (tablet_frozen master id tablet handover) master
-    (λ (now : Master). log_bytes now ≤ log_bytes master + unsealed_bytes tablet)
-    (λ settled. bytes_with_tablet master id (with_handover tablet handover)) (λ staged. omega arith)
+freezing_bytes master id tablet (Some handover) = either_way (λ (now : Master). log_bytes now ≤ log_bytes master + unsealed_bytes tablet)
+    (is_settled master tablet.handover.range) (bytes_with_tablet master id (with_handover tablet handover)) (omega arith)
 
 module _ (master : Master) (below : log_bytes master < MOST_BYTES) where
   -- what a master may have after a step that brings nothing
   abbrev BytesFit : Master → Type 0
   BytesFit now = log_bytes now ≤ 3 * log_bytes master + LONGEST_LEFT
+
+  abbrev WorkedFits : Worked → Type 0
+  WorkedFits worked = BytesFit worked.master
 
   -- and after a message that brings its bytes
   risen : (body : Body) (now : Master) → BytesFit now → log_bytes now ≤ 3 * log_bytes master + LONGEST_LEFT + brought_by master body
@@ -54,36 +48,29 @@ module _ (master : Master) (below : log_bytes master < MOST_BYTES) where
   kept : BytesFit master
   kept = omega (arith, below)
 
-  tested : (b : Bool) (x y : Worked) → BytesFit x.master → BytesFit y.master → BytesFit (cond b x y).master
-  tested true x y left right = left
-  tested false x y left right = right
-
   -- ---- a request
 
-  chosen_fits : (limits : Limits) (asked : ℕ) (call : Call) (choice : Choice) → IsLawfulCall call → IsFormedChoice limits master choice → BytesFit (chosen master asked call choice).master
-  chosen_fits limits asked call Redirects lawful formed = kept
-  chosen_fits limits asked call (Repeats end) lawful formed = kept
-  chosen_fits limits asked call Ignores lawful formed = kept
-  chosen_fits limits asked call (Wants id) lawful formed =
+  chosen_fits : (limits : Limits) (asked : ℕ) {call : Call} (choice : Choice) → IsLawfulCall call → IsFormedChoice limits master choice → BytesFit (chosen master asked call choice).master
+  chosen_fits limits asked {call} (Wants id) lawful formed =
       omega (arith, below, same_unsealed master id (with_wanted (tablet_at master id) (hash_of call.key)) (unsealed_at_most master id))
-  chosen_fits limits asked call (Reads outcome) lawful formed = kept
-  chosen_fits limits asked call (Writes id value) lawful formed =
+  chosen_fits limits asked {call} (Writes id value) lawful formed =
       let item = item_of call (tablet_at master id).handover.counter value in
       omega (
         arith,
         below,
-        bytes_with_tablet (with_staged master call (entries.Held item)) id (counted_up (tablet_at master id)),
-        bytes_appended (with_call master call) (entries.Held item),
+        bytes_with_tablet (with_staged master call (Entry.Held item)) id (counted_up (tablet_at master id)),
+        bytes_appended (with_call master call) (Entry.Held item),
         held_fits item lawful.key formed.1,
         unsealed_at_most master id,
       )
-  chosen_fits limits asked call (Refuses found absent) lawful formed =
+  chosen_fits limits asked {call} (Refuses found absent) lawful formed =
       omega (
         arith,
         below,
         bytes_appended (with_call master call) (refusal_of call found absent),
         refused_fits (record { table = call.table; found = found; client = call.client; seq = call.seq; absent = absent; key = call.key }) lawful.key,
       )
+  chosen_fits limits asked _ lawful formed = kept
 
   -- ---- handovers
 
@@ -98,20 +85,14 @@ module _ (master : Master) (below : log_bytes master < MOST_BYTES) where
       )
 
   again_fits : (tenure : Tenure) (role : Role) (term : ℕ) → BytesFit (handovers.ready_again master tenure role term).master
-  again_fits tenure (roles.Wanting from) term = tested (term == tenure.term) _ _ kept kept
-  again_fits tenure roles.Absent term = kept
-  again_fits tenure roles.Serving term = kept
-  again_fits tenure roles.Closing term = kept
-  again_fits tenure roles.Frozen term = kept
-  again_fits tenure roles.Receiving term = kept
-  again_fits tenure (roles.Joining entry) term = kept
-  again_fits tenure (roles.Rebuilding from entry) term = kept
+  again_fits tenure (Role.Wanting from) term = either_way WorkedFits (term == tenure.term) kept kept
+  again_fits tenure _ term = kept
 
   prepare_fits : (prepare : Prepare) → BytesFit (handovers.prepare_taken master prepare).master
   prepare_fits prepare =
       let id = prepare.tenure.tablet in
       let now = handovers.with_others_given_up (without_items master prepare.range) id prepare.range in
-      tested (handovers.is_greater master id prepare.tenure.term prepare.range) _ _
+      either_way WorkedFits (handovers.is_greater master id prepare.tenure.term prepare.range)
       (moved_fits now id (prepared (tablet_at now id).handover prepare.tenure.term prepare.range (length master.log.entries))
       (bytes_given_up (without_items master prepare.range) id prepare.range))
       (again_fits prepare.tenure (tablet_at master id).handover.role (tablet_at master id).handover.term)
@@ -131,28 +112,17 @@ module _ (master : Master) (below : log_bytes master < MOST_BYTES) where
       )
 
   transferring_fits : (now : Master) (tenure : Tenure) → BytesFit now → BytesFit (handovers.transferring now tenure).master
-  transferring_fits now tenure fits =
-      let tablet = tablet_at now tenure.tablet in
-      cond_both (is_frozen_at tablet tenure.term) (sending now (handovers.transfer now tenure tablet)) (changed now)
-      (λ (worked : Worked). BytesFit worked.master) (λ is. fits) (λ other. fits)
+  transferring_fits now tenure fits = either_way WorkedFits (is_frozen_at (tablet_at now tenure.tablet) tenure.term) fits fits
 
   close_fits : (tenure : Tenure) → BytesFit (handovers.close_taken master tenure).master
   close_fits tenure =
       transferring_fits (handovers.closing master tenure.tablet (closed (tablet_at master tenure.tablet).handover tenure.term)) tenure
       (closing_fits tenure.tablet (closed (tablet_at master tenure.tablet).handover tenure.term))
 
-  granting_fits : (limits : Limits) (grant : Grant) (moved : Option Handover) → AreLimits limits → IsFormedGrant limits grant → BytesFit (handovers.granting master grant moved).master
-  granting_fits limits grant None are told = kept
-  granting_fits limits grant (Some handover) are told =
-      omega (
-        arith,
-        below,
-        are.clients,
-        bytes_with_tablet (with_appended master (handovers.carried_entry handover grant)) grant.tenure.tablet granted_tablet,
-        pulls_none granted_tablet grant.source refl,
-        bytes_appended master (handovers.carried_entry handover grant),
-        carried_fits (record { range = handover.range; term = handover.term; floor = grant.floor; ends = grant.ends }) few,
-      )
+  granting_fits : {limits : Limits} {grant : Grant} (moved : Option Handover) → AreLimits limits → IsFormedGrant limits grant → BytesFit (handovers.granting master grant moved).master
+  granting_fits None are told = kept
+  granting_fits {limits} {grant} (Some handover) are told =
+      omega (arith, below, are, bytes_with_tablet, pulls_none granted_tablet grant.source refl, bytes_appended, carried_fits (record { range = handover.range; term = handover.term; floor = grant.floor; ends = grant.ends }) few)
     where
       few : length grant.ends ≤ MOST_CLIENTS + MOST_BASE_CLIENTS
       few =
@@ -182,68 +152,67 @@ module _ (master : Master) (below : log_bytes master < MOST_BYTES) where
 
   -- ---- what a master makes of a message
 
-  client_fits : (limits : Limits) (number client : ℕ) (body : Body) → IsFormedMaster limits number master → IsFormedBody limits (nodes.Client client) body → BytesFit (client_message master client body).master
-  client_fits limits number client (bodies.Request request) formed says =
-      chosen_fits limits request.tablet (call_of client request) (choice_of master (call_of client request)) says.call
+  client_fits : {limits : Limits} {number : ℕ} (client : ℕ) (body : Body) → IsFormedMaster limits number master → IsFormedBody limits (Node.Client client) body → BytesFit (client_message master client body).master
+  client_fits {limits} {number} client (Body.Request request) formed says =
+      chosen_fits limits request.tablet (choice_of master (call_of client request)) says.call
       (choice_formed limits number master (call_of client request) formed says.call)
-  client_fits limits number client _ formed says = kept
+  client_fits client _ formed says = kept
 
-  order_fits : (limits : Limits) (number : ℕ) (body : Body) → AreLimits limits → IsFormedMaster limits number master
-      → IsFormedBody limits nodes.Coordinator body → BytesFit (order master body).master
-  order_fits limits number (bodies.Prepare prepare) are formed says = prepare_fits prepare
-  order_fits limits number (bodies.Close tenure) are formed says = close_fits tenure
-  order_fits limits number (bodies.Grant grant) are formed says =
-      granting_fits limits grant (granted (tablet_at master grant.tenure.tablet).handover grant.tenure.term grant.floor) are says
-  order_fits limits number (bodies.Own tenure) are formed says =
+  order_fits : {limits : Limits} {number : ℕ} (body : Body) → AreLimits limits → IsFormedMaster limits number master
+      → IsFormedBody limits Node.Coordinator body → BytesFit (order master body).master
+  order_fits (Body.Prepare prepare) are formed says = prepare_fits prepare
+  order_fits (Body.Close tenure) are formed says = close_fits tenure
+  order_fits (Body.Grant grant) are formed says =
+      granting_fits (granted (tablet_at master grant.tenure.tablet).handover grant.tenure.term grant.floor) are says
+  order_fits (Body.Own tenure) are formed says =
       owning_fits tenure.tablet (owned (tablet_at master tenure.tablet).handover tenure.term master.applied)
-  order_fits limits number (bodies.Release tenure) are formed says =
+  order_fits (Body.Release tenure) are formed says =
       releasing_fits tenure.tablet (released (tablet_at master tenure.tablet).handover tenure.term)
-  order_fits limits number (bodies.Rebuild rebuild) are formed says =
+  order_fits (Body.Rebuild rebuild) are formed says =
       omega (
         arith,
         below,
-        rebuild_bytes limits number master rebuild are says
+        rebuild_bytes are says
             (below_fits (length master.log.entries) (log_bytes master) (entries_few master) (omega (arith, below))) formed,
       )
-  order_fits limits number _ are formed says = kept
+  order_fits _ are formed says = kept
 
   pull_fits : (sender : Node) (pull : Pull) → BytesFit (pull_taken master sender pull).master
   pull_fits sender pull =
-      tested (is_frozen_at (tablet_at master pull.tenure.tablet) pull.tenure.term) _ (changed master) kept kept
+      either_way WorkedFits (is_frozen_at (tablet_at master pull.tenure.tablet) pull.tenure.term) kept kept
 
   want_fits : (sender : Node) (want : Want) → BytesFit (want_taken master sender want).master
   want_fits sender want =
-      tested (is_frozen_at (tablet_at master want.tenure.tablet) want.tenure.term) _ (changed master) kept kept
+      either_way WorkedFits (is_frozen_at (tablet_at master want.tenure.tablet) want.tenure.term) kept kept
 
   peer_fits : (sender : ℕ) (body : Body) → IsInOrder master.tablets
-      → log_bytes (peer_message master (nodes.Master sender) body).master ≤ 3 * log_bytes master + LONGEST_LEFT + brought_by master body
-  peer_fits sender (bodies.Pull pull) ordered =
-      risen (bodies.Pull pull) (pull_taken master (nodes.Master sender) pull).master (pull_fits (nodes.Master sender) pull)
-  peer_fits sender (bodies.Want want) ordered =
-      risen (bodies.Want want) (want_taken master (nodes.Master sender) want).master (want_fits (nodes.Master sender) want)
-  peer_fits sender (bodies.Pulled pulled) ordered = omega (arith, pulled_bytes master pulled ordered)
-  peer_fits sender (bodies.Got message) ordered = omega (arith, got_bytes master message ordered)
+      → log_bytes (peer_message master (Node.Master sender) body).master ≤ 3 * log_bytes master + LONGEST_LEFT + brought_by master body
+  peer_fits sender (Body.Pull pull) ordered =
+      risen (Body.Pull pull) (pull_taken master (Node.Master sender) pull).master (pull_fits (Node.Master sender) pull)
+  peer_fits sender (Body.Want want) ordered =
+      risen (Body.Want want) (want_taken master (Node.Master sender) want).master (want_fits (Node.Master sender) want)
+  peer_fits sender (Body.Pulled pulled) ordered = omega (arith, pulled_bytes master pulled ordered)
+  peer_fits sender (Body.Got message) ordered = omega (arith, got_bytes master message ordered)
   peer_fits sender other ordered = risen other master kept
 
-  backup_fits : (limits : Limits) (number backup : ℕ) (body : Body) → AreLimits limits → IsFormedMaster limits number master
-      → IsFormedBody limits (nodes.Backup backup) body
+  backup_fits : {limits : Limits} {number : ℕ} (backup : ℕ) (body : Body) → AreLimits limits → IsFormedMaster limits number master
+      → IsFormedBody limits (Node.Backup backup) body
       → log_bytes (backup_message master backup body).master ≤ 3 * log_bytes master + LONGEST_LEFT + brought_by master body
-  backup_fits limits number backup (bodies.Stored stored) are formed says =
-      omega (arith, stored_thrice limits number master backup stored (overreach master.log stored.segment stored.length) formed)
-  backup_fits limits number backup (bodies.Copy copy) are formed says =
-      omega (arith, copy_bytes limits number master copy are says formed)
-  backup_fits limits number backup other are formed says = risen other master kept
+  backup_fits backup (Body.Stored stored) are formed says =
+      omega (arith, stored_thrice backup stored (overreach master.log stored.segment stored.length) formed)
+  backup_fits backup (Body.Copy copy) are formed says = omega (arith, copy_bytes are says formed)
+  backup_fits backup other are formed says = risen other master kept
 
   -- a message: three times the bytes before it, an entry, and what it brings
   pub told_bytes : (limits : Limits) (number : ℕ) (sender : Node) (body : Body) → AreLimits limits → IsFormedMaster limits number master
       → IsFormedBody limits sender body
       → log_bytes (told_master master sender body).master ≤ 3 * log_bytes master + LONGEST_LEFT + brought_by master body
-  told_bytes limits number (nodes.Client client) body are formed says =
-      risen body (client_message master client body).master (client_fits limits number client body formed says)
-  told_bytes limits number nodes.Coordinator body are formed says =
-      risen body (order master body).master (order_fits limits number body are formed says)
-  told_bytes limits number (nodes.Master sender) body are formed says = peer_fits sender body formed.tablets_order
-  told_bytes limits number (nodes.Backup backup) body are formed says = backup_fits limits number backup body are formed says
+  told_bytes limits number (Node.Client client) body are formed says =
+      risen body (client_message master client body).master (client_fits client body formed says)
+  told_bytes limits number Node.Coordinator body are formed says =
+      risen body (order master body).master (order_fits body are formed says)
+  told_bytes limits number (Node.Master sender) body are formed says = peer_fits sender body formed.tablets_order
+  told_bytes limits number (Node.Backup backup) body are formed says = backup_fits backup body are formed says
 
 -- ---- a split
 

@@ -3,20 +3,18 @@
 use Rattle.std.proofs.Common.{◌≡◌, ◌≤◌, ◌<◌, ◌+◌, ℕ, zero, suc, Bool, true, false, not, cond, ◌==◌, ◌&&◌, ◌||◌, List, [], ◌∷◌, ◌++◌, All}
 use Rattle.std.proofs.Common.{IfSome, length, filter, find, get_or, fold, map, Option, None, Some, refl, sym, ap, subst, ◌∙◌, arith}
 use Rattle.std.proofs.Common.{unwrap_or, eqb-true, length-append}
-use Rattle.std.proofs.lemmas.Bool.{or_parts}
+use Rattle.rk_inv_wellformed.proofs.Words.{All-append, All-filter, All-head, All-map, All-push, All-tail, All-weaker, length-range_with_len}
+use Rattle.rk_inv_wellformed.proofs.Words.{AllByRecursion, list_any, range_with_len, numbers, has, Member, IsTabletMap, is_covered, Phase}
+use Rattle.rk_inv_wellformed.proofs.Words.{Moving, Opening, Owned, Rebuilding, Row, Coordinator, IsFormedCoordinator, IsFormedRow}
+use Rattle.rk_inv_wellformed.proofs.Words.{IsWellFormed, IsFormedMember, Limits, coordinator_notice, IsMaster, World, crashed_masters}
+use Rattle.rk_inv_wellformed.proofs.Words.{has_crashed, member, Precedes, is_noticed, SomeLives, cond_both, list_any-append}
 use Rattle.std.proofs.lemmas.List.Elements.{filter_passes}
-use Rattle.rk_inv_wellformed.proofs.Words.{All-append, All-cons, All-filter, All-head, All-map, All-nil, All-push, All-tail, All-weaker}
-use Rattle.rk_inv_wellformed.proofs.Words.{length-range_with_len, AllByRecursion, list_any, range_with_len, numbers, has, Member}
-use Rattle.rk_inv_wellformed.proofs.Words.{IsTabletMap, is_covered, Phase, Moving, Opening, Owned, Rebuilding, Row, Coordinator}
-use Rattle.rk_inv_wellformed.proofs.Words.{IsFormedCoordinator, IsFormedRow, IsWellFormed, IsFormedMember, Limits, coordinator_notice}
-use Rattle.rk_inv_wellformed.proofs.Words.{IsMaster, World, crashed_masters, has_crashed}
-use Rattle.rk_tablet_map.specs.Phase.{member}
-use Rattle.rk_tablet_map.specs.Rows.{Precedes}
-use Rattle.rk_world.specs.Coordinator.{is_noticed, lowest_left}
-use Rattle.rk_world.specs.Formed.{SomeLives}
+use Rattle.std.proofs.lemmas.List.Folds.{list_any_none}
+use Rattle.rk_world.specs.Coordinator.{lowest_left}
 use Rattle.rk_world.specs.Notices.{is_named, next_rebuilder, notice_one, notice_order, phase_noticed, row_noticed}
 use Rattle.rk_inv_wellformed.proofs.coordinator.Coordinators.{before_last, first_named, one_named, second_named, two_named}
-use Rattle.rk_inv_wellformed.proofs.coordinator.Rows.{AreTermsUpTo, Cover, IsFormedPhase, found_has, phase_of_formed, terms_below}
+use Rattle.rk_inv_wellformed.proofs.coordinator.Rows.{AreTermsUpTo, Cover, IsFormedPhase, phase_of_formed, terms_below}
+use Rattle.rk_inv_wellformed.proofs.maps.{by_found, filter_few, range_within, found_has}
 
 -- ---- the lowest master that is left
 
@@ -33,21 +31,12 @@ passes_apart test number other passes fails same =
 
 -- the first number of a range that passes, where some number there passes, is within it
 first_between : (test : ℕ → Bool) (start count number : ℕ) → IsBetween start count number → test number ≡ true → IsBetween start count (unwrap_or (find test (range_with_len start count)) 0)
-first_between test start zero number within passes = absurd (omega (arith, within.first, within.before))
-first_between test start (suc count) number within passes =
-    go (test start) refl
-    (λ apart.
-    first_between test (start + 1) count number
-    (record { first = omega (arith, apart, within.first); before = omega (arith, within.before) }) passes)
-  where
-    rest : List ℕ
-    rest = range_with_len (start + 1) count
-
-    go : (b : Bool) → test start ≡ b → ((number ≡ start → ⊥) → IsBetween (start + 1) count (unwrap_or (find test rest) 0)) → IsBetween start (suc count) (unwrap_or (cond b (Some start) (find test rest)) 0)
-    go true is later = record { first = omega arith; before = omega arith }
-    go false fails later =
-        let found = later (passes_apart test number start passes fails) in
-        record { first = omega (arith, found.first); before = omega (arith, found.before) }
+first_between test start zero number within passes = absurd (omega (arith, within))
+first_between test start (suc count) number within passes = cond_both _ _ _ (λ (found : Option ℕ). IsBetween start (suc count) (unwrap_or found 0))
+    (λ is. omega arith)
+    (λ fails.
+    let apart = passes_apart test number start passes fails in
+    omega (arith, first_between test (start + 1) count number (omega (arith, apart, within)) passes))
 
 -- a master that is there and was not noticed
 pub record IsLeft (limits : Limits) (coordinator : Coordinator) (living : ℕ) : Type 0 where
@@ -57,21 +46,16 @@ pub record IsLeft (limits : Limits) (coordinator : Coordinator) (living : ℕ) :
 
 -- so the lowest one that is left is there
 lowest_is_there : (limits : Limits) (coordinator : Coordinator) (living : ℕ) → IsLeft limits coordinator living → IsMaster limits.masters (lowest_left coordinator)
-lowest_is_there limits coordinator living left =
-    let lowest =
-    first_between (λ master. not (is_noticed coordinator master)) 1 coordinator.masters living
-    (record { first = left.there.first; before = omega (arith, left.there.last, left.masters) })
-    (ap not left.unnoticed) in
-    record { first = lowest.first; last = omega (arith, lowest.before, left.masters) }
+lowest_is_there limits coordinator living left = omega (
+  arith,
+  left,
+  first_between (λ master. not (is_noticed coordinator master)) 1 coordinator.masters living (omega (arith, left)) (ap not left.unnoticed),
+)
 
 -- what all have, and another one, what is found among them or else that other one has
 found_or : {X : Type 0} (P : X → Type 0) (test : X → Bool) (list : List X) (other : X) → All P list → P other → P (unwrap_or (find test list) other)
 found_or {X} P test list other all it =
-    go (find test list) (found_has P test list all)
-  where
-    go : (found : Option X) → IfSome found P → P (unwrap_or found other)
-    go None has = it
-    go (Some x) has = has
+    by_found (λ found. IfSome found P → P (unwrap_or found other)) (find test list) (λ none has. it) (λ x some has. has) (found_has P test list all)
 
 -- who rebuilds next is there
 next_is_there : (limits : Limits) (coordinator : Coordinator) (lineage : List Member) → All (IsFormedMember limits) lineage → IsMaster limits.masters (lowest_left coordinator) → IsMaster limits.masters (next_rebuilder coordinator lineage)
@@ -82,13 +66,9 @@ next_is_there limits coordinator lineage members lowest =
 -- ---- the phase of a row
 
 -- a tablet is rebuilt by a master that is there
-rebuilding_is_formed : (limits : Limits) (lineage : List Member) (to : ℕ) → All (IsFormedMember limits) lineage → length lineage ≤ 2 → IsMaster limits.masters to → IsFormedPhase limits (Rebuilding lineage to)
-rebuilding_is_formed limits lineage to members few there = record {
-  named =
-      All-push (IsFormedMember limits) lineage (member to 0) members
-      (record { master = there; from = record { least_is = omega arith; fits = omega arith } });
-  few = few;
-}
+rebuilding_is_formed : (limits : Limits) (lineage : List Member) {to : ℕ} → All (IsFormedMember limits) lineage → length lineage ≤ 2 → IsMaster limits.masters to → IsFormedPhase limits (Rebuilding lineage to)
+rebuilding_is_formed limits lineage {to} members few there =
+    assumption (All-push (IsFormedMember limits) lineage (member to 0) members (record { master = there; from = omega arith }))
 
 -- by a test: what has a property, or else another one that has it, if there is one
 some_where : {X : Type 0} (P : X → Type 0) (test : Bool) (x : X) (other : Option X) → P x → IfSome other P → IfSome (cond test (Some x) other) P
@@ -96,50 +76,44 @@ some_where P true x other it has = it
 some_where P false x other it has = has
 
 -- the phase of a row, where it changes
-phase_is_formed : (limits : Limits) (coordinator : Coordinator) (dead : ℕ) (phase : Phase) → IsMaster limits.masters dead → IsMaster limits.masters (lowest_left coordinator) → IsFormedPhase limits phase → IfSome (phase_noticed coordinator dead phase) (IsFormedPhase limits)
-phase_is_formed limits coordinator dead (Owned master from) gone lowest there =
+phase_is_formed : {limits : Limits} (coordinator : Coordinator) {dead : ℕ} (phase : Phase) → IsMaster limits.masters dead → IsMaster limits.masters (lowest_left coordinator) → IsFormedPhase limits phase → IfSome (phase_noticed coordinator dead phase) (IsFormedPhase limits)
+phase_is_formed {limits} coordinator {dead} (Owned master from) gone lowest there =
     let own = first_named limits (member master from) [] there.named in
     some_where (IsFormedPhase limits) (master == dead) (Rebuilding (member dead from ∷ []) (lowest_left coordinator)) None
-    (rebuilding_is_formed limits (member dead from ∷ []) (lowest_left coordinator)
+    (rebuilding_is_formed limits (member dead from ∷ [])
     (one_named limits (member dead from) (record { master = gone; from = own.from })) (omega arith) lowest)
     tt
-phase_is_formed limits coordinator dead (Opening source sfrom target dfrom) gone lowest there =
+phase_is_formed {limits} coordinator {dead} (Opening source sfrom target dfrom) gone lowest there =
     let old = first_named limits (member source sfrom) (member target (unwrap_or dfrom 0) ∷ []) there.named in
     some_where (IsFormedPhase limits) (source == dead) (Rebuilding (member dead sfrom ∷ []) (lowest_left coordinator)) _
-    (rebuilding_is_formed limits (member dead sfrom ∷ []) (lowest_left coordinator)
+    (rebuilding_is_formed limits (member dead sfrom ∷ [])
     (one_named limits (member dead sfrom) (record { master = gone; from = old.from })) (omega arith) lowest)
     (some_where (IsFormedPhase limits) (target == dead) (Rebuilding (member source sfrom ∷ []) source) None
-    (rebuilding_is_formed limits (member source sfrom ∷ []) source (one_named limits (member source sfrom) old) (omega arith) old.master)
+    (rebuilding_is_formed limits (member source sfrom ∷ []) (one_named limits (member source sfrom) old) (omega arith) old.master)
     tt)
-phase_is_formed limits coordinator dead (Moving source sfrom target dfrom) gone lowest there =
+phase_is_formed {limits} coordinator {dead} (Moving source sfrom target dfrom) gone lowest there =
     let old = first_named limits (member source sfrom) (member target dfrom ∷ []) there.named in
     let own = second_named limits (member source sfrom) (member target dfrom) [] there.named in
     some_where (IsFormedPhase limits) (source == dead) (Rebuilding (member dead sfrom ∷ member target dfrom ∷ []) target) _
-    (rebuilding_is_formed limits (member dead sfrom ∷ member target dfrom ∷ []) target
+    (rebuilding_is_formed limits (member dead sfrom ∷ member target dfrom ∷ [])
     (two_named limits (member dead sfrom) (member target dfrom) (record { master = gone; from = old.from }) own) (omega arith) own.master)
     (some_where (IsFormedPhase limits) (target == dead) (Rebuilding (member source sfrom ∷ member dead dfrom ∷ []) source) None
-    (rebuilding_is_formed limits (member source sfrom ∷ member dead dfrom ∷ []) source
+    (rebuilding_is_formed limits (member source sfrom ∷ member dead dfrom ∷ [])
     (two_named limits (member source sfrom) (member dead dfrom) old (record { master = gone; from = own.from })) (omega arith) old.master)
     tt)
-phase_is_formed limits coordinator dead (Rebuilding lineage to) gone lowest there =
+phase_is_formed {limits} coordinator {dead} (Rebuilding lineage to) gone lowest there =
     let members = before_last limits lineage (member to 0) there.named in
     some_where (IsFormedPhase limits) (to == dead) (Rebuilding lineage (next_rebuilder coordinator lineage)) None
-    (rebuilding_is_formed limits lineage (next_rebuilder coordinator lineage) members there.few
-    (next_is_there limits coordinator lineage members lowest))
-    tt
+    (rebuilding_is_formed limits lineage members there.few (next_is_there limits coordinator lineage members lowest)) tt
 
 -- ---- rows
 
 -- a row whose phase may change
-row_is_formed : (limits : Limits) (row : Row) (changed : Option Phase) → IfSome changed (IsFormedPhase limits) → IsFormedRow limits row → IsFormedRow limits (row_noticed row changed)
-row_is_formed limits row None there formed = formed
-row_is_formed limits row (Some phase) there formed = record {
-  number_is = formed.number_is;
-  term = omega arith;
-  range = formed.range;
-  named = there.named;
-  few = there.few;
-}
+row_is_formed : {limits : Limits} {row : Row} (changed : Option Phase) → IfSome changed (IsFormedPhase limits) → IsFormedRow limits row → IsFormedRow limits (row_noticed row changed)
+row_is_formed None there formed = formed
+row_is_formed {row} (Some phase) there formed =
+    let term : 1 ≤ row.term + 1 = omega arith in
+    assumption (there, formed)
 
 -- what leaves rows at their place: their numbers and their ranges stay
 record Stays (change : Row → Row) : Type 0 where
@@ -173,10 +147,7 @@ covered_each change (first ∷ rest) table hash stays =
 
 -- what no element of a list is, nor another one, none is with that one at the end
 none_pushed : (test : ℕ → Bool) (list : List ℕ) (last : ℕ) → list_any test list ≡ false → test last ≡ false → list_any test (list ++ last ∷ []) ≡ false
-none_pushed test [] last none fails = rw fails refl
-none_pushed test (first ∷ rest) last none fails =
-    let parts = or_parts (test first) (list_any test rest) none in
-    rw parts.0 (none_pushed test rest last parts.1 fails)
+none_pushed test list last none fails = rw (list_any-append test list (last ∷ []), none, fails) refl
 
 -- a coordinator after notices: it is well formed, a master is left, and what was covered is covered; each term rose by so much at most
 pub record IsFormedNotice (limits : Limits) (living most_rise : ℕ) (before after : Coordinator) : Type 0 where
@@ -199,35 +170,23 @@ marked coordinator dead = record coordinator { noticed = coordinator.noticed ++ 
 abbrev after_notice : Coordinator → ℕ → Row → Row
 after_notice coordinator dead row = row_noticed row (phase_noticed (marked coordinator dead) dead row.phase)
 
--- rows stay at their place
-row_stays : (row : Row) (changed : Option Phase) → (row_noticed row changed).tablet ≡ row.tablet
-row_stays row None = refl
-row_stays row (Some phase) = refl
-
-range_stays : (row : Row) (changed : Option Phase) → (row_noticed row changed).range ≡ row.range
-range_stays row None = refl
-range_stays row (Some phase) = refl
-
 notice_stays : (coordinator : Coordinator) (dead : ℕ) → Stays (after_notice coordinator dead)
 notice_stays coordinator dead = record {
-  tablet = λ row. row_stays row (phase_noticed (marked coordinator dead) dead row.phase);
-  range = λ row. range_stays row (phase_noticed (marked coordinator dead) dead row.phase);
+  tablet = λ row. by_found (λ changed. (row_noticed row changed).tablet ≡ row.tablet) _ (λ none. refl) (λ phase is. refl);
+  range = λ row. by_found (λ changed. (row_noticed row changed).range ≡ row.range) _ (λ none. refl) (λ phase is. refl);
 }
 
 -- a term rises by one at most
 term_rises : (row : Row) (changed : Option Phase) (most : ℕ) → row.term ≤ most → (row_noticed row changed).term ≤ most + 1
-term_rises row None most below = omega arith
-term_rises row (Some phase) most below = omega arith
+term_rises row changed most below =
+    by_found (λ noticed. (row_noticed row noticed).term ≤ most + 1) changed (λ none. omega arith) (λ phase is. omega arith)
 
 -- a coordinator where a master is marked as dead
 module _ (limits : Limits) (coordinator : Coordinator) (living dead : ℕ) (left : IsLeft limits coordinator living) (gone : IsGone limits living dead) where
   -- the other master is left
   left_marked : IsLeft limits (marked coordinator dead) living
-  left_marked = record {
-    masters = left.masters;
-    there = left.there;
-    unnoticed = none_pushed (λ noticed. noticed == living) coordinator.noticed dead left.unnoticed gone.apart;
-  }
+  left_marked =
+      assumption (left, none_pushed (λ noticed. noticed == living) coordinator.noticed dead left.unnoticed gone.apart)
 
   -- each row is well formed
   rows_noticed : All (IsFormedRow limits) coordinator.rows → All (IsFormedRow limits) (map (after_notice coordinator dead) coordinator.rows)
@@ -235,9 +194,8 @@ module _ (limits : Limits) (coordinator : Coordinator) (living dead : ℕ) (left
       let lowest = lowest_is_there limits (marked coordinator dead) living left_marked in
       All-map (IsFormedRow limits) (after_notice coordinator dead) coordinator.rows
       (All-weaker (IsFormedRow limits) (λ row. IsFormedRow limits (after_notice coordinator dead row))
-      (λ row old.
-      row_is_formed limits row (phase_noticed (marked coordinator dead) dead row.phase)
-      (phase_is_formed limits (marked coordinator dead) dead row.phase gone.there lowest (phase_of_formed limits row old)) old)
+      (λ row old. row_is_formed (phase_noticed (marked coordinator dead) dead row.phase)
+      (phase_is_formed (marked coordinator dead) row.phase gone.there lowest (phase_of_formed old)) old)
       coordinator.rows rows)
 
   -- and so is the coordinator
@@ -251,7 +209,7 @@ module _ (limits : Limits) (coordinator : Coordinator) (living dead : ℕ) (left
       handed = formed.handed;
     };
     masters = refl;
-    left = record { masters = left.masters; there = left.there; unnoticed = left_marked.unnoticed };
+    left = assumption left_marked;
     covers = λ table hash covered.
         covered_each (after_notice coordinator dead) coordinator.rows table hash (notice_stays coordinator dead) ∙ covered;
     terms = λ most all.
@@ -278,15 +236,6 @@ order_has P rows dead list all =
     (All-append P (filter (is_other rows dead) list) (filter (is_itself rows dead) list) (All-filter (is_other rows dead) P list all)
     (All-filter (is_itself rows dead) P list all))
 
--- a list has no fewer elements than pass a test
-pub filter_shorter : {X : Type 0} (test : X → Bool) (list : List X) → length (filter test list) ≤ length list
-filter_shorter test [] = omega arith
-filter_shorter test (first ∷ rest) =
-    elim (test first) as (λ b. length (cond b (first ∷ filter test rest) (filter test rest)) ≤ suc (length rest)) [
-      | true ↦ omega (arith, filter_shorter test rest)
-      | false ↦ omega (arith, filter_shorter test rest)
-    ]
-
 -- the parts of a list by two tests have no more elements than it
 parts_shorter : (a b : ℕ → Bool) (list : List ℕ) → length (filter (λ n. not (a n)) list) + (length (filter (λ n. a n && not (b n)) list) + length (filter (λ n. a n && b n) list)) ≤ length list
 parts_shorter a b [] = omega arith
@@ -302,30 +251,25 @@ parts_shorter a b (first ∷ rest) =
 -- the order has no more masters than are noticed
 order_shorter : (rows : List Row) (dead : ℕ) (list : List ℕ) → length (notice_order rows dead list) ≤ length list
 order_shorter rows dead list =
-    omega (
-      arith,
-      length-append (filter (λ master. not (is_named rows master)) list) (filter (is_other rows dead) list ++ filter (is_itself rows dead) list),
-      length-append (filter (is_other rows dead) list) (filter (is_itself rows dead) list),
-      parts_shorter (is_named rows) (λ master. master == dead) list,
-    )
+    omega (arith, length-append {A = ℕ}, parts_shorter (is_named rows) (λ master. master == dead) list)
 
 -- ---- all notices
 
 module _ (limits : Limits) (living : ℕ) where
   -- masters are noticed dead, one after the other
-  notices_are_formed : (order : List ℕ) (coordinator : Coordinator) → IsLeft limits coordinator living → All (IsGone limits living) order → IsFormedCoordinator limits coordinator → IsFormedNotice limits living (length order) coordinator (fold notice_one coordinator order)
-  notices_are_formed [] coordinator left all formed = record {
+  notices_are_formed : (order : List ℕ) {coordinator : Coordinator} → IsLeft limits coordinator living → All (IsGone limits living) order → IsFormedCoordinator limits coordinator → IsFormedNotice limits living (length order) coordinator (fold notice_one coordinator order)
+  notices_are_formed [] {coordinator} left all formed = record {
     formed = formed;
     masters = refl;
     left = left;
     covers = λ table hash covered. covered;
     terms = λ most below. terms_below most (most + 0) coordinator.rows (omega arith) below;
   }
-  notices_are_formed (dead ∷ rest) coordinator left all formed =
+  notices_are_formed (dead ∷ rest) {coordinator} left all formed =
       let gone = All-head (IsGone limits living) dead rest all in
       let others = All-tail (IsGone limits living) dead rest all in
       let first = notice_one_is_formed limits coordinator living dead left gone formed in
-      let later = notices_are_formed rest (notice_one coordinator dead) first.left others first.formed in
+      let later = notices_are_formed rest first.left others first.formed in
       record {
         formed = later.formed;
         masters = later.masters;
@@ -346,7 +290,7 @@ module _ (limits : Limits) (living : ℕ) (coordinator : Coordinator) where
     covers = done.covers;
     terms = λ most below.
         terms_below (most + length order) (most + length crashed) (fold notice_one coordinator order).rows
-        (omega (arith, order_shorter coordinator.rows dead fresh, filter_shorter (λ master. not (is_noticed coordinator master)) crashed))
+        (omega (arith, order_shorter coordinator.rows dead fresh, filter_few (λ master. not (is_noticed coordinator master)) crashed))
         (done.terms most below);
   }
     where
@@ -357,17 +301,14 @@ module _ (limits : Limits) (living : ℕ) (coordinator : Coordinator) where
       order = notice_order coordinator.rows dead fresh
 
       done : IsFormedNotice limits living (length order) coordinator (fold notice_one coordinator order)
-      done =
-          notices_are_formed limits living order coordinator left
-          (order_has (IsGone limits living) coordinator.rows dead fresh
+      done = notices_are_formed limits living order left (order_has (IsGone limits living) coordinator.rows dead fresh
           (All-filter (λ master. not (is_noticed coordinator master)) (IsGone limits living) crashed gone))
           formed
 
 -- all who are noticed after some were noticed, one after the other
 noticed_in_order : (P : ℕ → Type 0) (order : List ℕ) (coordinator : Coordinator) → All P coordinator.noticed → All P order → All P (fold notice_one coordinator order).noticed
 noticed_in_order P [] coordinator before all = before
-noticed_in_order P (dead ∷ rest) coordinator before all =
-    noticed_in_order P rest (notice_one coordinator dead)
+noticed_in_order P (dead ∷ rest) coordinator before all = noticed_in_order P rest (notice_one coordinator dead)
     (All-push P coordinator.noticed dead before (All-head P dead rest all)) (All-tail P dead rest all)
 
 -- all who are noticed then were noticed before or have crashed: what both have, they have
@@ -395,34 +336,19 @@ apart_from_all test list living all fails =
 
 -- none is noticed that no noticed one is
 pub unnoticed_apart : (list : List ℕ) (living : ℕ) → All (λ master. (master == living) ≡ false) list → list_any (λ master. master == living) list ≡ false
-unnoticed_apart [] living all = refl
-unnoticed_apart (first ∷ rest) living all =
-    rw (All-head (λ master. (master == living) ≡ false) first rest all)
-    (unnoticed_apart rest living (All-tail (λ master. (master == living) ≡ false) first rest all))
-
--- the numbers of a range lie in it
-range_between : (start count : ℕ) → All (IsBetween start count) (range_with_len start count)
-range_between start zero = All-nil _
-range_between start (suc count) =
-    All-cons (IsBetween start (suc count)) start (range_with_len (start + 1) count)
-    (record { first = omega arith; before = omega arith })
-    (All-weaker (IsBetween (start + 1) count) (IsBetween start (suc count))
-    (λ number within. record { first = omega (arith, within.first); before = omega (arith, within.before) })
-    (range_with_len (start + 1) count) (range_between (start + 1) count))
+unnoticed_apart list living all = list_any_none (λ master. master == living) list all
 
 -- the masters of a lane that have crashed are there
 pub crashed_are_there : (w : World) → numbers w.masters ≡ range_with_len 1 w.coordinator.masters → All (IsMaster w.coordinator.masters) (crashed_masters w)
-crashed_are_there w are =
-    All-filter (has_crashed w) (IsMaster w.coordinator.masters) (numbers w.masters)
+crashed_are_there w are = All-filter (has_crashed w) (IsMaster w.coordinator.masters) (numbers w.masters)
     (subst (All (IsMaster w.coordinator.masters)) (sym are)
-    (All-weaker (IsBetween 1 w.coordinator.masters) (IsMaster w.coordinator.masters)
-    (λ number within. record { first = within.first; last = omega (arith, within.before) })
-    (range_with_len 1 w.coordinator.masters) (range_between 1 w.coordinator.masters)))
+    (All-weaker (λ n. (1 ≤ n) × (n < 1 + w.coordinator.masters)) (IsMaster w.coordinator.masters) (λ number within. omega (arith, within))
+    (range_with_len 1 w.coordinator.masters) (range_within 1 w.coordinator.masters)))
 
 -- they are no more than all
 pub crashed_are_few : (w : World) → numbers w.masters ≡ range_with_len 1 w.coordinator.masters → length (crashed_masters w) ≤ w.coordinator.masters
 crashed_are_few w are =
-    omega (arith, filter_shorter (has_crashed w) (numbers w.masters), ap length are, length-range_with_len 1 w.coordinator.masters)
+    omega (arith, filter_few (has_crashed w) (numbers w.masters), ap length are, length-range_with_len 1 w.coordinator.masters)
 
 -- and each has crashed
 pub crashed_have_crashed : (w : World) → All (λ master. has_crashed w master ≡ true) (crashed_masters w)
@@ -461,8 +387,7 @@ formed_noticed limits w dead crashed are coordinator formed = record {
     left = record {
       masters = are;
       there = subst (λ (count : ℕ). IsMaster count living) are some.there;
-      unnoticed =
-          unnoticed_apart w.coordinator.noticed living
+      unnoticed = unnoticed_apart w.coordinator.noticed living
           (apart_from_all (has_crashed w) w.coordinator.noticed living formed.noticed some.lives);
     }
 

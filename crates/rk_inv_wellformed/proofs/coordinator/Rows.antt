@@ -1,17 +1,18 @@
 -- Rows of a tablet map that are well formed stay so when one of them takes another term and phase, when one is added and when one is
 -- split. They cover then what they covered, and their terms stay below what bounds the old ones and the new.
 use Rattle.std.proofs.Common.{◌≡◌, ◌≤◌, ◌<◌, ℕ, w32, Bool, true, false, ◌||◌, cond, ◌==◌, nat_le, nat_lt, List, [], ◌∷◌, All, length}
-use Rattle.std.proofs.Common.{Option, None, Some, is_some, find, IfSome, refl, sym, ap, subst, ◌∙◌, arith, eqb-true, leb-true, ltb-true}
-use Rattle.std.proofs.Math.Nat.{le_trans}
-use Rattle.std.proofs.lemmas.Bool.{eqb-false}
+use Rattle.std.proofs.Common.{Option, None, Some, is_some, refl, sym, ap, subst, ◌∙◌, arith, eqb-true, leb-true, ltb-true}
 use Rattle.rk_inv_wellformed.proofs.Words.{and_parts, All-cons, All-head, All-nil, All-tail, All-weaker, has, Range, IsLawfulRange}
 use Rattle.rk_inv_wellformed.proofs.Words.{IsNumber, IsTabletMap, add_fault, is_covered, row_of, Phase, Row, new_row, IsFormedRow, named_in}
-use Rattle.rk_inv_wellformed.proofs.Words.{IsFormedMember, Limits, IsMaster, range_below, range_from}
-use Rattle.rk_tablet_map.proofs.Lawful.{IsNew, covered_split, lawful_placed, lawful_split, lawful_turned, number_of}
+use Rattle.rk_inv_wellformed.proofs.Words.{IsFormedMember, Limits, IsMaster, range_below, range_from, number_of, changed_rows, split_fault}
+use Rattle.rk_inv_wellformed.proofs.Words.{split_rows, cond_both}
+use Rattle.std.proofs.Math.Nat.{le_trans}
+use Rattle.std.proofs.lemmas.Bool.{eqb-false, or_right}
+use Rattle.rk_tablet_map.proofs.Lawful.{IsNew, covered_split, lawful_placed, lawful_split, lawful_turned}
 use Rattle.rk_tablet_map.specs.Phase.{lineage_of}
-use Rattle.rk_tablet_map.specs.Rows.{changed_rows, cut_fault, divided, is_split, lower_part, meets_any, placed, replaced, split_fault}
-use Rattle.rk_tablet_map.specs.Rows.{split_rows, turned, upper_part}
+use Rattle.rk_tablet_map.specs.Rows.{cut_fault, divided, is_split, lower_part, meets_any, placed, replaced, turned, upper_part}
 use Rattle.rk_tablet_map.specs.declared.error.MapError.TheVariants.{BadSplit, Overlap, Taken}
+use Rattle.rk_inv_wellformed.proofs.maps.{all_find, by_found, either_way}
 
 -- ---- what all rows have
 
@@ -23,58 +24,35 @@ found_cases P first row rest tablet found here later =
       | false ↦ λ apart same. later apart same
     ] refl found
 
--- what all have, what is found among them has
-pub found_has : {X : Type 0} (P : X → Type 0) (test : X → Bool) (list : List X) → All P list → IfSome (find test list) P
-found_has P test [] all = tt
-found_has P test (first ∷ rest) all =
-    elim (test first) as (λ b. IfSome (cond b (Some first) (find test rest)) P) [
-      | true ↦ All-head P first rest all
-      | false ↦ found_has P test rest (All-tail P first rest all)
-    ]
-
 -- and so the row that is found
 pub all_found : (P : Row → Type 0) (row : Row) (tablet : ℕ) (rows : List Row) → row_of rows tablet ≡ Some row → All P rows → P row
-all_found P row tablet rows found all =
-    subst (λ (o : Option Row). IfSome o P) found (found_has P (λ r. r.tablet == tablet) rows all)
+all_found P row tablet rows found all = all_find P (λ r. r.tablet == tablet) rows row all found
 
 -- what all rows have, and the new one, all have with the new one in the place of that of its tablet
 pub all_replaced : (P : Row → Type 0) (new : Row) (tablet : ℕ) (rows : List Row) → P new → All P rows → All P (replaced tablet new rows)
 all_replaced P new tablet [] it all = all
-all_replaced P new tablet (first ∷ rest) it all =
-    elim (first.tablet == tablet) as (λ b. All P (cond b (new ∷ rest) (first ∷ replaced tablet new rest))) [
-      | true ↦ All-cons P new rest it (All-tail P first rest all)
-      | false ↦ All-cons P first (replaced tablet new rest) (All-head P first rest all)
-          (all_replaced P new tablet rest it (All-tail P first rest all))
-    ]
+all_replaced P new tablet (first ∷ rest) it all = either_way (All P) (first.tablet == tablet) (All-cons P new rest it (All-tail P first rest all))
+    (All-cons P first (replaced tablet new rest) (All-head P first rest all) (all_replaced P new tablet rest it (All-tail P first rest all)))
 
 -- what all rows have, and a new one, all have with the new one placed
 pub all_placed : (P : Row → Type 0) (row : Row) (rows : List Row) → P row → All P rows → All P (placed row rows)
 all_placed P row [] it all = All-cons P row [] it all
-all_placed P row (first ∷ rest) it all =
-    elim (nat_le row.tablet first.tablet) as (λ b. All P (cond b (row ∷ first ∷ rest) (first ∷ placed row rest))) [
-      | true ↦ All-cons P row (first ∷ rest) it all
-      | false ↦ All-cons P first (placed row rest) (All-head P first rest all)
-          (all_placed P row rest it (All-tail P first rest all))
-    ]
+all_placed P row (first ∷ rest) it all = either_way (All P) (nat_le row.tablet first.tablet) (All-cons P row (first ∷ rest) it all)
+    (All-cons P first (placed row rest) (All-head P first rest all) (all_placed P row rest it (All-tail P first rest all)))
 
 -- what all have with a new row placed, it has
 pub placed_has : (P : Row → Type 0) (row : Row) (rows : List Row) → All P (placed row rows) → P row
 placed_has P row [] all = All-head P row [] all
-placed_has P row (first ∷ rest) all =
-    elim (nat_le row.tablet first.tablet) as (λ b. All P (cond b (row ∷ first ∷ rest) (first ∷ placed row rest)) → P row) [
-      | true ↦ λ here. All-head P row (first ∷ rest) here
-      | false ↦ λ later. placed_has P row rest (All-tail P first (placed row rest) later)
-    ] all
+placed_has P row (first ∷ rest) all = either_way (λ (now : List Row). All P now → P row) (nat_le row.tablet first.tablet)
+    (λ here. All-head P row (first ∷ rest) here) (λ later. placed_has P row rest (All-tail P first (placed row rest) later)) all
 
 -- what all have with a row in the place of one that is there, it has
 replaced_has : (P : Row → Type 0) (row new : Row) (tablet : ℕ) (rows : List Row) → row_of rows tablet ≡ Some row → All P (replaced tablet new rows) → P new
 replaced_has P row new tablet [] found all = absurd (cc found)
-replaced_has P row new tablet (first ∷ rest) found all =
-    found_cases _ first row rest tablet found
+replaced_has P row new tablet (first ∷ rest) found all = found_cases _ first row rest tablet found
     (λ is same. All-head P new rest (subst (λ b. All P (cond b (new ∷ rest) (first ∷ replaced tablet new rest))) is all))
-    (λ apart later.
-    replaced_has P row new tablet rest later
-    (All-tail P first (replaced tablet new rest) (subst (λ b. All P (cond b (new ∷ rest) (first ∷ replaced tablet new rest))) apart all)))
+    (λ apart later. replaced_has P row new tablet rest later (All-tail P first (replaced tablet new rest)
+    (subst (λ b. All P (cond b (new ∷ rest) (first ∷ replaced tablet new rest))) apart all)))
 
 -- ---- which tablets have rows
 
@@ -84,36 +62,24 @@ IsKnown rows tablet = is_some (row_of rows tablet) ≡ true
 
 -- where the first row is that of the tablet, or a later one
 known_by : (first : Row) (rest : List Row) (tablet : ℕ) → ((first.tablet == tablet) ≡ false → IsKnown rest tablet) → IsKnown (first ∷ rest) tablet
-known_by first rest tablet later =
-    go (first.tablet == tablet) refl
-  where
-    go : (b : Bool) → (first.tablet == tablet) ≡ b → is_some (cond b (Some first) (row_of rest tablet)) ≡ true
-    go true is = refl
-    go false apart = later apart
+known_by first rest tablet later = cond_both _ _ _ (λ (found : Option Row). is_some found ≡ true) (λ is. refl) later
 
 -- a row that is placed is there
 pub known_placed : (row : Row) (rows : List Row) → IsKnown (placed row rows) row.tablet
 known_placed row [] = known_by row [] row.tablet (λ apart. absurd (eqb-false row.tablet row.tablet apart refl))
-known_placed row (first ∷ rest) =
-    elim (nat_le row.tablet first.tablet) as (λ b. IsKnown (cond b (row ∷ first ∷ rest) (first ∷ placed row rest)) row.tablet) [
-      | true ↦ known_by row (first ∷ rest) row.tablet (λ apart. absurd (eqb-false row.tablet row.tablet apart refl))
-      | false ↦ known_by first (placed row rest) row.tablet (λ apart. known_placed row rest)
-    ]
+known_placed row (first ∷ rest) = either_way (λ (now : List Row). IsKnown now row.tablet) (nat_le row.tablet first.tablet)
+    (known_by row (first ∷ rest) row.tablet (λ apart. absurd (eqb-false row.tablet row.tablet apart refl)))
+    (known_by first (placed row rest) row.tablet (λ apart. known_placed row rest))
 
 -- a row in the place of another one leaves all tablets known
 known_replaced : (new : Row) (tablet : ℕ) (rows : List Row) (other : ℕ) → new.tablet ≡ tablet → IsKnown rows other → IsKnown (replaced tablet new rows) other
 known_replaced new tablet [] other same known = known
-known_replaced new tablet (first ∷ rest) other same known =
-    go (first.tablet == tablet) refl (λ apart. known_replaced new tablet rest other same (behind apart))
+known_replaced new tablet (first ∷ rest) other same known = cond_both _ _ _ (λ (now : List Row). IsKnown now other)
+    (λ is. known_by new rest other (λ apart. behind (ap (λ (n : ℕ). n == other) (eqb-true first.tablet tablet is ∙ sym same) ∙ apart)))
+    (λ not_it. known_by first (replaced tablet new rest) other (λ apart. known_replaced new tablet rest other same (behind apart)))
   where
     behind : (first.tablet == other) ≡ false → IsKnown rest other
     behind apart = subst (λ b. is_some (cond b (Some first) (row_of rest other)) ≡ true) apart known
-
-    go : (b : Bool) → (first.tablet == tablet) ≡ b → ((first.tablet == other) ≡ false → IsKnown (replaced tablet new rest) other) → IsKnown (cond b (new ∷ rest) (first ∷ replaced tablet new rest)) other
-    go true is later =
-        known_by new rest other
-        (λ apart. behind (ap (λ (n : ℕ). n == other) (eqb-true first.tablet tablet is ∙ sym same) ∙ apart))
-    go false is later = known_by first (replaced tablet new rest) other later
 
 -- ---- what rows cover
 
@@ -124,17 +90,10 @@ Cover others rows = (table hash : ℕ) → is_covered rows table hash ≡ true �
 -- a row of the same range in another one's place covers what that one covers
 covered_replaced : (row new : Row) (tablet : ℕ) (rows : List Row) (table hash : ℕ) → row_of rows tablet ≡ Some row → new.range ≡ row.range → is_covered (replaced tablet new rows) table hash ≡ is_covered rows table hash
 covered_replaced row new tablet [] table hash found range = refl
-covered_replaced row new tablet (first ∷ rest) table hash found range =
-    found_cases _ first row rest tablet found
-    (λ is same.
-    rw is (ap (λ r. has r table hash || is_covered rest table hash) (range ∙ ap (λ (r : Row). r.range) (sym same))))
-    (λ apart later.
-    rw apart (ap (λ b. has first.range table hash || b) (covered_replaced row new tablet rest table hash later range)))
-
--- or is true where its right side is
-or_right : (a b : Bool) → b ≡ true → (a || b) ≡ true
-or_right true b is = refl
-or_right false b is = is
+covered_replaced row new tablet (first ∷ rest) table hash found range = found_cases _ first row rest tablet found
+    (λ is same. rw is (ap (λ r. has r table hash || is_covered rest table hash) (range ∙ ap (λ (r : Row). r.range) (sym same))))
+    (λ apart later. rw apart (ap (λ b. has first.range table hash || b)
+    (covered_replaced row new tablet rest table hash later range)))
 
 -- and where its left side is, or else what may be put for its right side is
 or_later : (a b c : Bool) → (a || b) ≡ true → (b ≡ true → c ≡ true) → (a || c) ≡ true
@@ -145,11 +104,10 @@ or_later false b c is later = later is
 pub covered_placed : (row : Row) (rows : List Row) → Cover (placed row rows) rows
 covered_placed row [] table hash covered = absurd (cc covered)
 covered_placed row (first ∷ rest) table hash covered =
-    elim (nat_le row.tablet first.tablet) as (λ b. is_covered (cond b (row ∷ first ∷ rest) (first ∷ placed row rest)) table hash ≡ true) [
-      | true ↦ or_right (has row.range table hash) (is_covered (first ∷ rest) table hash) covered
-      | false ↦ or_later (has first.range table hash) (is_covered rest table hash) (is_covered (placed row rest) table hash) covered
-          (covered_placed row rest table hash)
-    ]
+    either_way (λ (now : List Row). is_covered now table hash ≡ true) (nat_le row.tablet first.tablet)
+    (or_right (has row.range table hash) (is_covered (first ∷ rest) table hash) covered)
+    (or_later (has first.range table hash) (is_covered rest table hash) (is_covered (placed row rest) table hash) covered
+    (covered_placed row rest table hash))
 
 -- ---- rows that are well formed
 
@@ -173,8 +131,8 @@ terms_below most greater rows less all =
     All-weaker (λ row. row.term ≤ most) (λ row. row.term ≤ greater) (λ row below. le_trans below less) rows all
 
 -- the phase of a row that is well formed
-pub phase_of_formed : (limits : Limits) (row : Row) → IsFormedRow limits row → IsFormedPhase limits row.phase
-phase_of_formed limits row formed = record { named = formed.named; few = formed.few }
+pub phase_of_formed : {limits : Limits} {row : Row} → IsFormedRow limits row → IsFormedPhase limits row.phase
+phase_of_formed formed = assumption
 
 -- a row at another term and phase
 abbrev at_phase : Row → ℕ → Phase → Row
@@ -182,87 +140,64 @@ at_phase row term phase = record row { term = term; phase = phase }
 
 -- ---- another term and phase
 
-turned_is_formed : (limits : Limits) (rows : List Row) (tablet term : ℕ) (phase : Phase) (found : Option Row) → row_of rows tablet ≡ found → 1 ≤ term → IsFormedPhase limits phase → AreFormedRows limits rows → AreFormedRows limits (turned found rows tablet term phase)
-turned_is_formed limits rows tablet term phase None found first there formed = formed
-turned_is_formed limits rows tablet term phase (Some row) found first there formed =
-    let old = all_found (IsFormedRow limits) row tablet rows found formed.each in
-    record {
-      map = lawful_turned rows tablet row (at_phase row term phase) found refl refl formed.map;
-      each =
-          all_replaced (IsFormedRow limits) (at_phase row term phase) tablet rows
-          (record { number_is = old.number_is; term = first; range = old.range; named = there.named; few = there.few })
-          formed.each;
-    }
-
 -- rows of which one takes another term, from 1 on, and another phase
-pub formed_changed_rows : (limits : Limits) (rows : List Row) (tablet term : ℕ) (phase : Phase) → 1 ≤ term → IsFormedPhase limits phase → AreFormedRows limits rows → AreFormedRows limits (changed_rows rows tablet term phase)
-formed_changed_rows limits rows tablet term phase first there formed =
-    turned_is_formed limits rows tablet term phase (row_of rows tablet) refl first there formed
-
-turned_covers : (rows : List Row) (tablet term : ℕ) (phase : Phase) (found : Option Row) → row_of rows tablet ≡ found → Cover (turned found rows tablet term phase) rows
-turned_covers rows tablet term phase None found table hash covered = covered
-turned_covers rows tablet term phase (Some row) found table hash covered =
-    covered_replaced row (at_phase row term phase) tablet rows table hash found refl ∙ covered
+pub formed_changed_rows : {limits : Limits} {rows : List Row} (tablet term : ℕ) {phase : Phase} → 1 ≤ term → IsFormedPhase limits phase → AreFormedRows limits rows → AreFormedRows limits (changed_rows rows tablet term phase)
+formed_changed_rows {limits} {rows} tablet term {phase} first there formed =
+    by_found (λ found. AreFormedRows limits (turned found rows tablet term phase)) (row_of rows tablet) (λ none. formed)
+    (λ row found.
+    let old = all_found (IsFormedRow limits) row tablet rows found formed.each in
+    assumption (
+      lawful_turned rows tablet row (at_phase row term phase) found refl refl formed.map,
+      all_replaced (IsFormedRow limits) (at_phase row term phase) tablet rows (assumption) formed.each,
+    ))
 
 -- they cover what they covered
 pub covered_changed : (rows : List Row) (tablet term : ℕ) (phase : Phase) → Cover (changed_rows rows tablet term phase) rows
-covered_changed rows tablet term phase = turned_covers rows tablet term phase (row_of rows tablet) refl
+covered_changed rows tablet term phase =
+    by_found (λ found. Cover (turned found rows tablet term phase) rows) (row_of rows tablet) (λ none table hash covered. covered)
+    (λ row found table hash covered. covered_replaced row (at_phase row term phase) tablet rows table hash found refl ∙ covered)
 
 -- and their terms stay below what bounds the new one too
 pub terms_changed : (most : ℕ) (rows : List Row) (tablet term : ℕ) (phase : Phase) → term ≤ most → AreTermsUpTo most rows → AreTermsUpTo most (changed_rows rows tablet term phase)
 terms_changed most rows tablet term phase below all =
-    go (row_of rows tablet)
-  where
-    go : (found : Option Row) → AreTermsUpTo most (turned found rows tablet term phase)
-    go None = all
-    go (Some row) = all_replaced (λ r. r.term ≤ most) (at_phase row term phase) tablet rows below all
+    by_found (λ found. AreTermsUpTo most (turned found rows tablet term phase)) (row_of rows tablet) (λ none. all)
+    (λ row found. all_replaced (λ r. r.term ≤ most) (at_phase row term phase) tablet rows below all)
 
 -- all tablets are known that were
 pub known_changed : (rows : List Row) (tablet term : ℕ) (phase : Phase) (other : ℕ) → IsKnown rows other → IsKnown (changed_rows rows tablet term phase) other
 known_changed rows tablet term phase other known =
-    go (row_of rows tablet) refl
-  where
-    go : (found : Option Row) → row_of rows tablet ≡ found → IsKnown (turned found rows tablet term phase) other
-    go None found = known
-    go (Some row) found = known_replaced (at_phase row term phase) tablet rows other (number_of rows tablet row found) known
+    by_found (λ found. IsKnown (turned found rows tablet term phase) other) (row_of rows tablet) (λ none. known)
+    (λ row found. known_replaced (at_phase row term phase) tablet rows other (number_of rows tablet row found) known)
 
 -- where the tablet is known, its new term is one that they have
 pub term_changed : (most : ℕ) (rows : List Row) (tablet term : ℕ) (phase : Phase) → IsKnown rows tablet → AreTermsUpTo most (changed_rows rows tablet term phase) → term ≤ most
 term_changed most rows tablet term phase known all =
-    go (row_of rows tablet) refl known all
-  where
-    go : (found : Option Row) → row_of rows tablet ≡ found → is_some found ≡ true → AreTermsUpTo most (turned found rows tablet term phase) → term ≤ most
-    go None found some below = absurd (cc some)
-    go (Some row) found some below = replaced_has (λ r. r.term ≤ most) row (at_phase row term phase) tablet rows found below
+    by_found (λ found. is_some found ≡ true → AreTermsUpTo most (turned found rows tablet term phase) → term ≤ most) (row_of rows tablet)
+    (λ none some below. absurd (cc some))
+    (λ row found some below. replaced_has (λ r. r.term ≤ most) row (at_phase row term phase) tablet rows found below) known all
 
 -- ---- one more row
 
 -- a row that is not refused is new
 pub not_refused : (rows : List Row) (row : Row) → add_fault rows row ≡ None → IsNew row rows
-not_refused rows row none =
-    go (is_some (row_of rows row.tablet)) (meets_any rows row.range) refl refl none
+not_refused rows row none = go (is_some (row_of rows row.tablet)) (meets_any rows row.range) refl refl none
   where
     go : (known meets : Bool) → is_some (row_of rows row.tablet) ≡ known → meets_any rows row.range ≡ meets → cond known (Some (Taken row.tablet)) (cond meets (Some Overlap) None) ≡ None → IsNew row rows
-    go true meets unknown apart fault = absurd (cc fault)
-    go false true unknown apart fault = absurd (cc fault)
-    go false false unknown apart fault = record { unknown = unknown; apart = apart }
+    go false false unknown apart fault = assumption
+    go _ _ unknown apart fault = absurd (cc fault)
 
 -- a row that is not refused is added to rows that are well formed
-pub formed_placed : (limits : Limits) (row : Row) (rows : List Row) → add_fault rows row ≡ None → IsFormedRow limits row → AreFormedRows limits rows → AreFormedRows limits (placed row rows)
-formed_placed limits row rows none new formed = record {
-  map = lawful_placed row rows formed.map (not_refused rows row none);
-  each = all_placed (IsFormedRow limits) row rows new formed.each;
-}
+pub formed_placed : {limits : Limits} {row : Row} {rows : List Row} → add_fault rows row ≡ None → IsFormedRow limits row → AreFormedRows limits rows → AreFormedRows limits (placed row rows)
+formed_placed {limits} {row} {rows} none new formed =
+    assumption (lawful_placed row rows formed.map (not_refused rows row none), all_placed (IsFormedRow limits) row rows new formed.each)
 
 -- the row of a new tablet at a master that is there
-pub formed_new_row : (limits : Limits) (tablet : ℕ) (range : Range) (master : ℕ) → IsNumber w32 1 tablet → IsLawfulRange range → IsMaster limits.masters master → IsFormedRow limits (new_row tablet range master)
-formed_new_row limits tablet range master number lawful there = record {
+pub formed_new_row : (limits : Limits) {tablet : ℕ} {range : Range} {master : ℕ} → IsNumber w32 1 tablet → IsLawfulRange range → IsMaster limits.masters master → IsFormedRow limits (new_row tablet range master)
+formed_new_row limits {range} {master} number lawful there = record {
   number_is = number;
   term = omega arith;
   range = lawful;
-  named =
-      All-cons (IsFormedMember limits) _ []
-      (record { master = there; from = record { least_is = omega arith; fits = omega arith } }) (All-nil _);
+  named = All-cons (IsFormedMember limits) _ [] (record { master = there; from = omega arith }) (All-nil _);
   few = omega arith;
 }
 
@@ -270,19 +205,12 @@ formed_new_row limits tablet range master number lawful there = record {
 
 -- the part of a range below a hash that splits it is not empty
 pub lawful_below : (range : Range) (at : ℕ) → range.first < at → at ≤ range.last → IsLawfulRange range → IsLawfulRange (range_below range at)
-lawful_below range at above within lawful = record {
-  table = lawful.table;
-  first = lawful.first;
-  last = record { least_is = omega arith; fits = omega (arith, lawful.last.fits) };
-}
+lawful_below range at above within lawful = record { table = lawful.table; first = lawful.first; last = omega (arith, lawful.last) }
 
 -- neither is the part from there on
 pub lawful_from : (range : Range) (at : ℕ) → range.first < at → at ≤ range.last → IsLawfulRange range → IsLawfulRange (range_from range at)
-lawful_from range at above within lawful = record {
-  table = lawful.table;
-  first = record { least_is = omega arith; fits = omega (arith, lawful.last.fits) };
-  last = record { least_is = within; fits = lawful.last.fits };
-}
+lawful_from range at above within lawful =
+    record { table = lawful.table; first = omega (arith, lawful.last); last = omega (arith, lawful.last) }
 
 -- what a split that is not refused says: the new number is free, and the hash splits the range
 pub record IsFree (rows : List Row) (row : Row) (at new : ℕ) : Type 0 where
@@ -313,68 +241,42 @@ split_is_free rows tablet at new row found none =
 
 -- the two parts of a row that is split
 formed_lower : (limits : Limits) (rows : List Row) (row : Row) (at new : ℕ) → IsFree rows row at new → IsFormedRow limits row → IsFormedRow limits (lower_part row at)
-formed_lower limits rows row at new free formed = record {
-  number_is = formed.number_is;
-  term = formed.term;
-  range = lawful_below row.range at free.above free.within formed.range;
-  named = formed.named;
-  few = formed.few;
-}
+formed_lower limits rows row at new free formed = assumption (lawful_below row.range at free.above free.within formed.range)
 
 formed_upper : (limits : Limits) (rows : List Row) (row : Row) (at new : ℕ) → IsNumber w32 1 new → IsFree rows row at new → IsFormedRow limits row → IsFormedRow limits (upper_part row at new)
-formed_upper limits rows row at new number free formed = record {
-  number_is = number;
-  term = formed.term;
-  range = lawful_from row.range at free.above free.within formed.range;
-  named = formed.named;
-  few = formed.few;
-}
-
-divided_is_formed : (limits : Limits) (rows : List Row) (tablet at new : ℕ) (found : Option Row) → row_of rows tablet ≡ found → IsNumber w32 1 new → split_fault rows tablet at new ≡ None → AreFormedRows limits rows → AreFormedRows limits (divided found rows tablet at new)
-divided_is_formed limits rows tablet at new None found number none formed = formed
-divided_is_formed limits rows tablet at new (Some row) found number none formed =
-    let free = split_is_free rows tablet at new row found none in
-    let old = all_found (IsFormedRow limits) row tablet rows found formed.each in
-    record {
-      map = lawful_split rows tablet at new row found free.unknown free.splits formed.map;
-      each =
-          all_placed (IsFormedRow limits) (upper_part row at new) (replaced tablet (lower_part row at) rows)
-          (formed_upper limits rows row at new number free old)
-          (all_replaced (IsFormedRow limits) (lower_part row at) tablet rows (formed_lower limits rows row at new free old) formed.each);
-    }
+formed_upper limits rows row at new number free formed = assumption (lawful_from row.range at free.above free.within formed.range)
 
 -- rows of which one is split, where that is not refused
 pub formed_split_rows : (limits : Limits) (rows : List Row) (tablet at new : ℕ) → IsNumber w32 1 new → split_fault rows tablet at new ≡ None → AreFormedRows limits rows → AreFormedRows limits (split_rows rows tablet at new)
 formed_split_rows limits rows tablet at new number none formed =
-    divided_is_formed limits rows tablet at new (row_of rows tablet) refl number none formed
+    by_found (λ found. AreFormedRows limits (divided found rows tablet at new)) (row_of rows tablet) (λ nothing. formed)
+    (λ row found.
+    let free = split_is_free rows tablet at new row found none in
+    let old = all_found (IsFormedRow limits) row tablet rows found formed.each in
+    assumption (
+      lawful_split rows tablet at new row found free.unknown free.splits formed.map,
+      all_placed (IsFormedRow limits) (upper_part row at new) (replaced tablet (lower_part row at) rows)
+          (formed_upper limits rows row at new number free old)
+          (all_replaced (IsFormedRow limits) (lower_part row at) tablet rows (formed_lower limits rows row at new free old) formed.each),
+    ))
 
 -- they cover what they covered
 pub covered_split_rows : (rows : List Row) (tablet at new : ℕ) → split_fault rows tablet at new ≡ None → Cover (split_rows rows tablet at new) rows
 covered_split_rows rows tablet at new none table hash covered =
-    go (row_of rows tablet) refl
-  where
-    go : (found : Option Row) → row_of rows tablet ≡ found → is_covered (divided found rows tablet at new) table hash ≡ true
-    go None found = covered
-    go (Some row) found =
-        covered_split rows tablet at new row table hash found (split_is_free rows tablet at new row found none).splits ∙ covered
+    by_found (λ found. is_covered (divided found rows tablet at new) table hash ≡ true) (row_of rows tablet) (λ nothing. covered)
+    (λ row found. covered_split rows tablet at new row table hash found (split_is_free rows tablet at new row found none).splits ∙ covered)
 
 -- and no term is greater than before
 pub terms_split_rows : (most : ℕ) (rows : List Row) (tablet at new : ℕ) → AreTermsUpTo most rows → AreTermsUpTo most (split_rows rows tablet at new)
 terms_split_rows most rows tablet at new all =
-    go (row_of rows tablet) refl
-  where
-    go : (found : Option Row) → row_of rows tablet ≡ found → AreTermsUpTo most (divided found rows tablet at new)
-    go None found = all
-    go (Some row) found =
-        let old : row.term ≤ most = all_found (λ r. r.term ≤ most) row tablet rows found all in
-        all_placed (λ r. r.term ≤ most) (upper_part row at new) (replaced tablet (lower_part row at) rows) old
-        (all_replaced (λ r. r.term ≤ most) (lower_part row at) tablet rows old all)
+    by_found (λ found. AreTermsUpTo most (divided found rows tablet at new)) (row_of rows tablet) (λ nothing. all)
+    (λ row found.
+    let old : row.term ≤ most = all_found (λ r. r.term ≤ most) row tablet rows found all in
+    all_placed (λ r. r.term ≤ most) (upper_part row at new) (replaced tablet (lower_part row at) rows) old
+    (all_replaced (λ r. r.term ≤ most) (lower_part row at) tablet rows old all))
 
 -- the new tablet has a row
 pub known_split : (rows : List Row) (tablet at new : ℕ) → IsKnown rows tablet → IsKnown (split_rows rows tablet at new) new
 known_split rows tablet at new known =
-    go (row_of rows tablet) known
-  where
-    go : (found : Option Row) → is_some found ≡ true → IsKnown (divided found rows tablet at new) new
-    go None some = absurd (cc some)
-    go (Some row) some = known_placed (upper_part row at new) (replaced tablet (lower_part row at) rows)
+    by_found (λ found. is_some found ≡ true → IsKnown (divided found rows tablet at new) new) (row_of rows tablet) (λ none some. absurd (cc some))
+    (λ row found some. known_placed (upper_part row at new) (replaced tablet (lower_part row at) rows)) known

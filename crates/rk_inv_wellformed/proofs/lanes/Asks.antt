@@ -1,28 +1,24 @@
 -- A lane stays well formed when a client asks there and when it takes an answer, and the client's session may act then.
-use Rattle.std.proofs.Common.{◌≡◌, ◌≤◌, ◌++◌, ℕ, Bool, true, false, ◌||◌, ◌&&◌, cond, [], ◌∷◌, All, Option, None, Some, is_some, refl, sym}
-use Rattle.std.proofs.Common.{ap, subst, ◌∙◌, ⊎_elim, slice_get, IfSome, Ok, not, unwrap_or, ◌==◌, option_map, eqb-true}
+use Rattle.std.proofs.Common.{◌≡◌, ◌≤◌, ◌++◌, ℕ, Bool, true, false, ◌||◌, ◌&&◌, [], ◌∷◌, All, Option, None, Some, is_some, refl, sym, ap}
+use Rattle.std.proofs.Common.{subst, ◌∙◌, ⊎_elim, slice_get, IfSome, Ok, not, unwrap_or, ◌==◌, option_map, eqb-true}
 use Rattle.rk_inv_wellformed.proofs.Words.{and_parts, cases_eq, All-cons, All-nil, option_or, get_other, get_same, get, Call, Body, Message}
 use Rattle.rk_inv_wellformed.proofs.Words.{Visited, accept, ask, ClientTurn, Session, session_accept, IsFormedLedger, IsWellFormed, Ledger}
 use Rattle.rk_inv_wellformed.proofs.Words.{asked_by, is_added, seen_of, IsFormedMessage, Limits, limits_of, IsLawfulCall, MayAct}
 use Rattle.rk_inv_wellformed.proofs.Words.{where_true, worn, HasRoom, with_sends, World, with_all_sent, with_ledger, StepError, LastCall}
-use Rattle.rk_message.specs.declared.message.Body.TheVariants as bodies
-use Rattle.rk_world.specs.declared.error.StepError.TheVariants as errors
-use Rattle.rk_world.specs.declared.event.Taken.{Taken}
-use Rattle.rk_world.specs.declared.event.Taken.TheVariants as takes
-use Rattle.rk_world.specs.Calls.{accept_by, accepting, ask_by, asking, asking_by, fits_with, is_asked, is_asked_here, is_call, is_last}
-use Rattle.rk_world.specs.Calls.{is_next, ledger_asked, ledger_requested, ledger_taken, taking, untouched}
-use Rattle.rk_world.specs.Client.{call_lane, range_of, session_turn, turn_by, turn_of}
-use Rattle.rk_world.specs.Formed.{IsFormedLast}
+use Rattle.rk_inv_wellformed.proofs.Words.{Taken, accept_by, accepting, ask_by, asking, asking_by, fits_with, is_asked_here, ledger_asked}
+use Rattle.rk_inv_wellformed.proofs.Words.{ledger_requested, ledger_taken, untouched, call_lane, range_of, turn_by, IsFormedLast}
+use Rattle.rk_inv_wellformed.proofs.Words.{with_accepted, with_asked, accept_refusal, ask_refusal, worn_session, cond_both}
+use Rattle.rk_world.specs.Calls.{is_asked, is_call, is_last, is_next}
+use Rattle.rk_world.specs.Client.{turn_of}
 use Rattle.rk_world.specs.Journal.{is_accepted}
-use Rattle.rk_world.specs.Ledger.{with_accepted, with_asked}
 use Rattle.rk_world.specs.Premises.{IsAfterStart}
-use Rattle.rk_world.specs.Refusals.{accept_refusal, ask_refusal, worn_session}
-use Rattle.rk_inv_wellformed.proofs.maps.Bounds.{all_in_map}
 use Rattle.rk_inv_wellformed.proofs.lanes.Events.{does_not_hold, no_second}
 use Rattle.rk_inv_wellformed.proofs.lanes.Ledgers.{formed_accepted, formed_asked, formed_requested, last_stamp_accepted}
 use Rattle.rk_inv_wellformed.proofs.lanes.Sessions.{MayActWithin, acts_accepted, cached_of, formed_turn}
-use Rattle.rk_inv_wellformed.proofs.lanes.Works.{top_rises}
-use Rattle.rk_inv_wellformed.proofs.lanes.Worlds.{HasClientsOf, IsFormedWorld, added_is_client, formed_topped, formed_within, kept_with_all_sent, kept_with_ledger, more_limits, counters_in, seen_within, stamps_seen, terms_in, top_is_limit}
+use Rattle.rk_inv_wellformed.proofs.lanes.Works.{top_rises, formed_after_change}
+use Rattle.rk_inv_wellformed.proofs.lanes.Worlds.{HasClientsOf, added_is_client, kept_with_all_sent, kept_with_ledger, more_limits}
+use Rattle.rk_inv_wellformed.proofs.lanes.Worlds.{counters_in, seen_within, stamps_seen, terms_in, top_is_limit, formed_as, formed_standing}
+use Rattle.rk_inv_wellformed.proofs.maps.{all_in_map, by_found, either_way}
 
 -- what becomes of a lane and a session is well formed
 pub record IsFormedVisit (w : World) (visited : Visited) : Type 0 where
@@ -37,11 +33,7 @@ now_asked session call = record { call = call; seen = session.seen }
 
 -- the ledger stays where the call was asked, and else has it as its client's last
 pub asked_is : (P : Ledger → Type 0) (ledger : Ledger) (session : Session) (call : Call) → (is_asked ledger session call ≡ true → P ledger) → (is_asked ledger session call ≡ false → P (with_asked ledger session.client (now_asked session call))) → P (ledger_asked ledger session call)
-asked_is P ledger session call before now = go (is_asked ledger session call) refl
-  where
-    go : (b : Bool) → is_asked ledger session call ≡ b → P (cond b ledger (with_asked ledger session.client (now_asked session call)))
-    go true is = before is
-    go false is = now is
+asked_is P ledger session call before now = cond_both _ _ _ P before now
 
 -- the last call of a client, with what it had seen
 record HasSeen (ledger : Ledger) (client seen : ℕ) : Type 0 where
@@ -57,21 +49,18 @@ found_asked (Some asked) last is = ap Some is
 -- a call that was asked was asked with what its client had seen
 seen_where_asked : (ledger : Ledger) (session : Session) (call : Call) → is_asked ledger session call ≡ true → HasSeen ledger session.client session.seen
 seen_where_asked ledger session call asked =
-    go (asked_by ledger session.client) refl
-    (and_parts (is_last call session.seen (asked_by ledger session.client)) (not (is_accepted ledger.journal session.client call.seq)) asked).0
-  where
-    go : (last : Option LastCall) → asked_by ledger session.client ≡ last → is_last call session.seen last ≡ true → HasSeen ledger session.client session.seen
-    go None is it = absurd (cc it)
-    go (Some last) is it = record {
+    by_found (λ last. asked_by ledger session.client ≡ last → is_last call session.seen last ≡ true → HasSeen ledger session.client session.seen)
+    (asked_by ledger session.client) (λ none is it. absurd (cc it))
+    (λ last some is it. record {
       last = last;
       found = found_asked (get ledger.clients session.client) last is;
       seen_is = eqb-true last.seen session.seen (and_parts (is_call last.call call) (last.seen == session.seen) it).1;
-    }
+    })
+    refl (and_parts (is_last call session.seen (asked_by ledger session.client)) (not (is_accepted ledger.journal session.client call.seq)) asked).0
 
 -- so it is once the call was asked
 seen_asked : (ledger : Ledger) (session : Session) (call : Call) → HasSeen (ledger_asked ledger session call) session.client session.seen
-seen_asked ledger session call =
-    asked_is (λ now. HasSeen now session.client session.seen) ledger session call
+seen_asked ledger session call = asked_is (λ now. HasSeen now session.client session.seen) ledger session call
     (λ asked. seen_where_asked ledger session call asked)
     (λ new. record {
       last = now_asked session call;
@@ -82,8 +71,7 @@ seen_asked ledger session call =
 -- who was added is added once the call was asked
 added_asked : (ledger : Ledger) (session : Session) (call : Call) → HasClientsOf (ledger_asked ledger session call) ledger
 added_asked ledger session call client added =
-    asked_is (λ now. is_added now client ≡ true) ledger session call
-    (λ asked. added)
+    asked_is (λ now. is_added now client ≡ true) ledger session call (λ asked. added)
     (λ new. ⊎_elim
     (λ (is : client ≡ session.client). ap is_some (get_same ledger.clients session.client (Some (now_asked session call)) client is))
     (λ (apart : client ≡ session.client → ⊥).
@@ -92,14 +80,14 @@ added_asked ledger session call client added =
 
 -- the clients stay when a request is saved
 pub clients_requested : (ledger : Ledger) (client : ℕ) (message : Message) (body : Body) → (ledger_requested ledger client message body).clients ≡ ledger.clients
-clients_requested ledger client message (bodies.Request request) = refl
+clients_requested ledger client message (Body.Request request) = refl
 clients_requested ledger client message body = refl
 
 -- the ledger stays well formed when a message is saved
-requested_is_formed : (limits : Limits) (w : World) (ledger : Ledger) (client : ℕ) (message : Message) (body : Body) → IsFormedMessage limits message → IsFormedLedger limits w.base w.lane ledger → IsFormedLedger limits w.base w.lane (ledger_requested ledger client message body)
-requested_is_formed limits w ledger client message (bodies.Request request) new formed =
-    formed_requested limits w.base w.lane ledger client message new formed
-requested_is_formed limits w ledger client message body new formed = formed
+requested_is_formed : {limits : Limits} (w : World) {ledger : Ledger} (client : ℕ) {message : Message} (body : Body) → IsFormedMessage limits message → IsFormedLedger limits w.base w.lane ledger → IsFormedLedger limits w.base w.lane (ledger_requested ledger client message body)
+requested_is_formed {limits} w client (Body.Request request) new formed =
+    formed_requested limits w.base w.lane client new formed
+requested_is_formed w client body new formed = formed
 
 -- ---- a client asks
 
@@ -110,15 +98,13 @@ MayBeLast w session call =
 
 module _ (w : World) (session : Session) (call : Call) (turned : ClientTurn) where
   abbrev pub asked_ledger : Ledger
-  asked_ledger =
-      ledger_requested (ledger_asked w.ledger session call) session.client turned.message turned.message.body
+  asked_ledger = ledger_requested (ledger_asked w.ledger session call) session.client turned.message turned.message.body
 
   abbrev pub after_asking : World
   after_asking = (with_sends (with_ledger w asked_ledger) (turned.message ∷ [])).world
 
   asked_has : HasClientsOf asked_ledger w.ledger
-  asked_has client added =
-      subst (λ clients. is_some (get clients client) ≡ true)
+  asked_has client added = subst (λ clients. is_some (get clients client) ≡ true)
       (sym (clients_requested (ledger_asked w.ledger session call) session.client turned.message turned.message.body))
       (added_asked w.ledger session call client added)
 
@@ -141,28 +127,14 @@ module _ (w : World) (session : Session) (call : Call) (turned : ClientTurn) whe
   -- the world after it is well formed
   formed_after_asking : IsFormedMessage (limits_of after_asking) turned.message → is_added w.ledger session.client ≡ true → MayAct w.coordinator.masters session → MayBeLast w session call → IsWellFormed w → IsWellFormed after_asking
   formed_after_asking message added may last formed =
-      formed_topped (with_all_sent (with_ledger w asked_ledger) (turned.message ∷ []))
-      (kept_with_all_sent limits (with_ledger w asked_ledger)
-      (kept_with_ledger limits w before asked_ledger
-      (requested_is_formed limits w (ledger_asked w.ledger session call) session.client turned.message turned.message.body message ledger))
-      (turned.message ∷ [])
-      (All-cons (IsFormedMessage limits) turned.message [] message (All-nil _)))
-    where
-      limits : Limits
-      limits = limits_of after_asking
-
-      before : IsFormedWorld limits w
-      before =
-          formed_within w limits
-          (more_limits w w.coordinator asked_ledger after_asking.top refl asked_has (top_rises (with_all_sent (with_ledger w asked_ledger) (turned.message ∷ []))))
-          formed
-
-      ledger : IsFormedLedger limits w.base w.lane (ledger_asked w.ledger session call)
-      ledger =
-          asked_is (IsFormedLedger limits w.base w.lane) w.ledger session call
-          (λ asked. before.ledger)
-          (λ new.
-          formed_asked limits w.base w.lane w.ledger session.client (now_asked session call) may.client added (last new) before.ledger)
+      formed_after_change (with_all_sent (with_ledger w asked_ledger) (turned.message ∷ []))
+      (more_limits w w.coordinator asked_ledger after_asking.top refl asked_has (top_rises (with_all_sent (with_ledger w asked_ledger) (turned.message ∷ []))))
+      (λ before. kept_with_all_sent _ (with_ledger w asked_ledger)
+      (kept_with_ledger _ w before (requested_is_formed w session.client turned.message.body message
+      (asked_is (IsFormedLedger _ w.base w.lane) w.ledger session call (λ asked. before.ledger)
+      (λ new. formed_asked _ w.base w.lane may.client added (last new) before.ledger))))
+      (turned.message ∷ []) (All-cons (IsFormedMessage (limits_of after_asking)) turned.message [] message (All-nil _)))
+      formed
 
 -- where one of two holds and not the first, the second does
 or_second : (a b : Bool) → (a || b) ≡ true → a ≡ false → b ≡ true
@@ -171,21 +143,18 @@ or_second false b either first = either
 
 -- the client of a turn that is not refused was added
 asker_is_added : (w : World) (session : Session) → ask_refusal w session ≡ None → is_added w.ledger session.client ≡ true
-asker_is_added w session none =
-    added (is_added w.ledger session.client)
-    (does_not_hold (not (is_added w.ledger session.client)) (errors.Stranger session.client)
-    (no_second
-    (option_map errors.Worn (option_or (worn w) (worn_session session session.outstanding)))
-    (where_true (not (is_added w.ledger session.client)) (errors.Stranger session.client)) none))
+asker_is_added w session none = added (is_added w.ledger session.client)
+    (does_not_hold (not (is_added w.ledger session.client)) (StepError.Stranger session.client)
+    (no_second (option_map StepError.Worn (option_or (worn w) (worn_session session session.outstanding)))
+    (where_true (not (is_added w.ledger session.client)) (StepError.Stranger session.client)) none))
   where
     added : (b : Bool) → not b ≡ false → b ≡ true
     added true is = refl
     added false is = absurd (cc is)
 
 -- a lane stays well formed when a client asks there, and its session may act
-pub formed_asking : (w : World) (session : Session) → MayAct w.coordinator.masters session → IfSome session.outstanding (IsAfterStart w.base) → ask_refusal w session ≡ None → HasRoom (asking w session session.outstanding).world → IsWellFormed w → IsFormedVisit w (asking w session session.outstanding)
-formed_asking w session may start none room formed =
-    go session.outstanding refl room
+pub formed_asking : {w : World} {session : Session} → MayAct w.coordinator.masters session → IfSome session.outstanding (IsAfterStart w.base) → ask_refusal w session ≡ None → HasRoom (asking w session session.outstanding).world → IsWellFormed w → IsFormedVisit w (asking w session session.outstanding)
+formed_asking {w} {session} may start none room formed = go session.outstanding refl room
   where
     nothing : IsFormedVisit w (untouched w session None)
     nothing = record { world = formed; session = may }
@@ -194,8 +163,7 @@ formed_asking w session may start none room formed =
     last call is fitting new = record {
       lawful = subst (λ o. IfSome o IsLawfulCall) is may.call;
       own = (subst (λ o. IfSome o (λ call. (call.client ≡ session.client) × (call.seq ≡ session.last))) is may.own).0;
-      here =
-          eqb-true (call_lane call) w.lane
+      here = eqb-true (call_lane call) w.lane
           (and_parts (call_lane call == w.lane) (is_next w.ledger session call (asked_by w.ledger session.client))
           (or_second (is_asked w.ledger session call) (call_lane call == w.lane && is_next w.ledger session call (asked_by w.ledger session.client)) fitting new)).0;
       after = subst (λ o. IfSome o (IsAfterStart w.base)) is start;
@@ -215,80 +183,52 @@ formed_asking w session may start none room formed =
     go : (outstanding : Option Call) → session.outstanding ≡ outstanding → HasRoom (asking w session outstanding).world → IsFormedVisit w (asking w session outstanding)
     go None is room_left = nothing
     go (Some call) is room_left =
-        elim (fits_with w session call) as (λ b. fits_with w session call ≡ b → HasRoom (cond b (asking_by w session call (session_turn session)) (untouched w session None)).world → IsFormedVisit w (cond b (asking_by w session call (session_turn session)) (untouched w session None))) [
-          | true ↦ λ fitting room_there.
-              subst (λ o. HasRoom (asking_by w session call (turn_of session o)).world → IsFormedVisit w (asking_by w session call (turn_of session o))) (sym is)
-              (asks call is fitting) room_there
-          | false ↦ λ fitting room_there. nothing
-        ] refl room_left
+        cond_both _ _ _ (λ (visited : Visited). HasRoom visited.world → IsFormedVisit w visited)
+        (λ fitting. subst (λ o. HasRoom (asking_by w session call (turn_of session o)).world → IsFormedVisit w (asking_by w session call (turn_of session o))) (sym is)
+        (asks call is fitting))
+        (λ other room_there. nothing) room_left
 
 -- so it is where the client's turn is not refused
 pub formed_ask : (w : World) (session : Session) (visited : Visited) → ask w session ≡ Ok visited → MayAct w.coordinator.masters session → IfSome session.outstanding (IsAfterStart w.base) → HasRoom visited.world → IsWellFormed w → IsFormedVisit w visited
-formed_ask w session visited asked may start room formed = go (ask_refusal w session) refl asked
-  where
-    go : (refused : Option StepError) → ask_refusal w session ≡ refused → ask_by w session refused ≡ Ok visited → IsFormedVisit w visited
-    go None none is =
-        let visited_is : asking w session session.outstanding ≡ visited = cc is in
-        subst (IsFormedVisit w) visited_is
-        (formed_asking w session may start none (subst (λ (v : Visited). HasRoom v.world) (sym visited_is) room) formed)
-    go (Some error) none is = absurd (cc is)
+formed_ask w session visited asked may start room formed =
+    by_found (λ refused. ask_by w session refused ≡ Ok visited → IsFormedVisit w visited) (ask_refusal w session)
+    (λ none is.
+    let visited_is : asking w session session.outstanding ≡ visited = cc is in
+    subst (IsFormedVisit w) visited_is (formed_asking may start none (subst (λ (v : Visited). HasRoom v.world) (sym visited_is) room) formed))
+    (λ error some is. absurd (cc is)) asked
 
 -- ---- a client takes an answer
 
 -- a lane stays well formed when a record is accepted
-formed_with_accepted : (w : World) (place : ℕ) → IsWellFormed w → IsWellFormed (with_ledger w (with_accepted w.ledger place))
-formed_with_accepted w place formed = record {
-  masters_are = formed.masters_are;
-  few_masters = formed.few_masters;
-  backed = formed.backed;
-  few_backups = formed.few_backups;
-  masters = formed.masters;
-  coordinator = formed.coordinator;
-  ledger = formed_accepted (limits_of w) w.base w.lane w.ledger place formed.ledger;
-  wire = formed.wire;
-  crashed = formed.crashed;
-  left = λ master dead.
-      let some = formed.left master dead in
-      record { master = some.master; there = some.there; lives = some.lives };
-  noticed = formed.noticed;
-  base = formed.base;
-  few_base_clients = formed.few_base_clients;
-  standing =
-      subst (λ (stamp : ℕ). All (λ n. n ≤ w.top) (w.wire.sent ∷ stamp ∷ ((stamps_seen w ++ terms_in w) ++ counters_in w)))
-      (sym (last_stamp_accepted w.ledger.journal place (slice_get w.ledger.journal place) refl)) formed.standing;
-}
+formed_with_accepted : {w : World} (place : ℕ) → IsWellFormed w → IsWellFormed (with_ledger w (with_accepted w.ledger place))
+formed_with_accepted {w} place formed =
+    formed_standing (kept_with_ledger (limits_of w) w (formed_as formed) (formed_accepted (limits_of w) w.base w.lane place formed.ledger))
+    (subst (λ (stamp : ℕ). All (λ n. n ≤ w.top) (w.wire.sent ∷ stamp ∷ ((stamps_seen w ++ terms_in w) ++ counters_in w)))
+    (sym (last_stamp_accepted w.ledger.journal place (slice_get w.ledger.journal place) refl)) formed.standing)
 
-formed_taken : (w : World) (body : Body) (taken : Taken) → IsWellFormed w → IsWellFormed (with_ledger w (ledger_taken w.ledger body taken))
-formed_taken w (bodies.Reply reply) takes.Done formed = formed_with_accepted w reply.place formed
-formed_taken w (bodies.Reply reply) taken formed = formed
-formed_taken w body taken formed = formed
+formed_taken : {w : World} (body : Body) (taken : Taken) → IsWellFormed w → IsWellFormed (with_ledger w (ledger_taken w.ledger body taken))
+formed_taken (Body.Reply reply) Taken.Done formed = formed_with_accepted reply.place formed
+formed_taken _ _ formed = formed
 
 -- a lane stays well formed when a client takes a message of its wire, and its session may act
-pub formed_accepting : (w : World) (number : ℕ) (session : Session) → MayAct w.coordinator.masters session → IsWellFormed w → IsFormedVisit w (accepting w session (get w.wire.messages number))
-formed_accepting w number session may formed =
-    go (get w.wire.messages number) refl
-  where
-    takes_it : (message : Message) → IsFormedMessage (limits_of w) message → IsFormedVisit w (taking w session message.body)
-    takes_it message it = record {
-      world = formed_taken w message.body (session_accept session message.body).taken formed;
+pub formed_accepting : {w : World} (number : ℕ) {session : Session} → MayAct w.coordinator.masters session → IsWellFormed w → IsFormedVisit w (accepting w session (get w.wire.messages number))
+formed_accepting {w} number {session} may formed =
+    by_found (λ found. IsFormedVisit w (accepting w session found)) (get w.wire.messages number) (λ none. assumption)
+    (λ message is.
+    let it = formed.wire.each number message is in
+    either_way (IsFormedVisit w) (is_asked_here w session)
+    (record {
+      world = formed_taken message.body (session_accept session message.body).taken formed;
       session = acts_accepted (limits_of w) session may message.from message.body it.lawful it.says;
-    }
-
-    go : (found : Option Message) → get w.wire.messages number ≡ found → IsFormedVisit w (accepting w session found)
-    go None is = record { world = formed; session = may }
-    go (Some message) is =
-        elim (is_asked_here w session) as (λ b. IsFormedVisit w (cond b (taking w session message.body) (untouched w session (Some takes.Ignored)))) [
-          | true ↦ takes_it message (formed.wire.each number message is)
-          | false ↦ record { world = formed; session = may }
-        ]
+    })
+    assumption)
 
 -- so it is where the client's message is not refused
 pub formed_accept : (w : World) (number : ℕ) (session : Session) (visited : Visited) → accept w number session ≡ Ok visited → MayAct w.coordinator.masters session → IsWellFormed w → IsFormedVisit w visited
 formed_accept w number session visited taken may formed =
-    go (accept_refusal w number session.client (get w.wire.messages number)) taken
-  where
-    go : (refused : Option StepError) → accept_by w number session refused ≡ Ok visited → IsFormedVisit w visited
-    go None is =
-        let visited_is : accepting w session (get w.wire.messages number) ≡ visited = cc is in
-        subst (IsFormedVisit w) visited_is (formed_accepting w number session may formed)
-    go (Some error) is = absurd (cc is)
+    by_found (λ refused. accept_by w number session refused ≡ Ok visited → IsFormedVisit w visited)
+    (accept_refusal w number session.client (get w.wire.messages number))
+    (λ none is.
+    let visited_is : accepting w session (get w.wire.messages number) ≡ visited = cc is in
+    subst (IsFormedVisit w) visited_is (formed_accepting number may formed))
+    (λ error some is. absurd (cc is)) taken

@@ -2,21 +2,20 @@
 -- sent again.
 use Rattle.std.proofs.Common.{◌≡◌, ◌≤◌, ◌<◌, ℕ, zero, suc, ◌+◌, Bool, true, false, ◌||◌, cond, [], ◌∷◌, ◌++◌, length, Option, None, Some}
 use Rattle.std.proofs.Common.{is_some, refl, ap, subst, ◌∙◌, ⊎_elim, arith, option_map, nat_eq, nat_le, not, ◌&&◌, leb-false}
-use Rattle.std.proofs.lemmas.Bool.{or_from}
 use Rattle.rk_inv_wellformed.proofs.Words.{and_parts, cases_eq, All-cons, All-nil, list_any-append, nat_eq_equiv, list_any, range_with_len}
-use Rattle.rk_inv_wellformed.proofs.Words.{option_or, get_other, get_same, get, without_message, Message, Called, IsWellFormed, is_added}
-use Rattle.rk_inv_wellformed.proofs.Words.{with_client, IsFormedMessage, Limits, limits_of, MayHappen, MOST_CLIENTS, WORN_NUMBER}
-use Rattle.rk_inv_wellformed.proofs.Words.{comes_anyway, refusal, where_true, worn, IsCalmEvent, happened, sent_again, World, bytes_of_logs}
-use Rattle.rk_inv_wellformed.proofs.Words.{has_crashed, with_crash, with_ledger, with_top, with_wire, StepError, Event}
-use Rattle.rk_world.specs.declared.error.StepError.TheVariants as errors
-use Rattle.rk_world.specs.declared.event.Event.TheVariants as events
-use Rattle.rk_world.specs.Refusals.{WORN_BYTES, fault_of, too_great}
+use Rattle.rk_inv_wellformed.proofs.Words.{option_or, get_other, get_same, get, without_message, Called, IsWellFormed, is_added}
+use Rattle.rk_inv_wellformed.proofs.Words.{with_client, IsFormedMessage, limits_of, MayHappen, MOST_CLIENTS, WORN_NUMBER, comes_anyway}
+use Rattle.rk_inv_wellformed.proofs.Words.{refusal, where_true, worn, IsCalmEvent, happened, sent_again, World, bytes_of_logs, has_crashed}
+use Rattle.rk_inv_wellformed.proofs.Words.{with_crash, with_ledger, with_top, with_wire, StepError, Event, too_great, cond_both}
+use Rattle.std.proofs.lemmas.Bool.{or_from}
+use Rattle.rk_world.specs.Refusals.{WORN_BYTES, fault_of}
 use Rattle.rk_world.specs.Runs.{lives_another}
 use Rattle.rk_world.specs.World.{lives}
 use Rattle.rk_inv_wellformed.proofs.lanes.Ledgers.{formed_client}
 use Rattle.rk_inv_wellformed.proofs.lanes.Wires.{wire_forgotten}
-use Rattle.rk_inv_wellformed.proofs.lanes.Works.{formed_losing, formed_sending_old, top_rises}
-use Rattle.rk_inv_wellformed.proofs.lanes.Worlds.{HasClientsOf, IsFormedWorld, SomeIsLeft, formed_topped, formed_within, kept_with_crash, kept_with_ledger, kept_with_wire, more_limits}
+use Rattle.rk_inv_wellformed.proofs.lanes.Works.{formed_losing, formed_sending_old, top_rises, formed_after_change, more_topped}
+use Rattle.rk_inv_wellformed.proofs.lanes.Worlds.{HasClientsOf, SomeIsLeft, kept_with_crash, kept_with_ledger, kept_with_wire, more_limits}
+use Rattle.rk_inv_wellformed.proofs.maps.{by_found, either_way}
 
 -- ---- what is not refused
 
@@ -41,19 +40,13 @@ does_not_hold false cause none = refl
 
 -- an event that is not refused has no fault
 pub has_no_fault : (w : World) (event : Event) → refusal w event ≡ None → fault_of w event ≡ None
-has_no_fault w event none =
-    elim (comes_anyway event) as (λ b. cond b (fault_of w event) (option_or (option_map errors.Worn (worn w)) (fault_of w event)) ≡ None → fault_of w event ≡ None) [
-      | true ↦ λ it. it
-      | false ↦ λ it. no_second (option_map errors.Worn (worn w)) (fault_of w event) it
-    ] none
+has_no_fault w event none = either_way (λ (cause : Option StepError). cause ≡ None → fault_of w event ≡ None) (comes_anyway event) (λ it. it)
+    (λ it. no_second (option_map StepError.Worn (worn w)) (fault_of w event) it) none
 
 -- a number that is not too great is below the limit
 pub not_too_great : (limit number : ℕ) → too_great limit number ≡ None → number < limit
-not_too_great limit number none = go (nat_le limit number) refl none
-  where
-    go : (b : Bool) → nat_le limit number ≡ b → cond b (Some number) None ≡ None → number < limit
-    go true is it = absurd (cc it)
-    go false is it = leb-false limit number is
+not_too_great limit number none = cond_both (nat_le limit number) _ _ (λ (great : Option ℕ). great ≡ None → number < limit)
+    (λ is it. absurd (cc it)) (λ is it. leb-false limit number is) none
 
 -- a lane that is not worn
 pub record IsFresh (w : World) : Type 0 where
@@ -68,70 +61,44 @@ not_worn w none = record {
 
 -- an event that is not refused comes in a lane that is not worn, unless it comes anyway
 pub comes_fresh : (w : World) (event : Event) → comes_anyway event ≡ false → refusal w event ≡ None → IsFresh w
-comes_fresh w event careful none =
-    not_worn w
-    (no_inner errors.Worn (worn w)
-    (no_first (option_map errors.Worn (worn w)) (fault_of w event)
-    (subst (λ b. cond b (fault_of w event) (option_or (option_map errors.Worn (worn w)) (fault_of w event)) ≡ None) careful none)))
+comes_fresh w event careful none = not_worn w
+    (no_inner StepError.Worn (worn w)
+    (no_first (option_map StepError.Worn (worn w)) (fault_of w event)
+    (subst (λ b. cond b (fault_of w event) (option_or (option_map StepError.Worn (worn w)) (fault_of w event)) ≡ None) careful none)))
 
 -- ---- a message is forgotten
 
 -- a lane stays well formed when a message is forgotten
-pub formed_forgotten : (w : World) (number : ℕ) (called : Called) → IsWellFormed w → IsWellFormed (happened w (events.Forget number) called).world
-formed_forgotten w number called formed =
-    formed_topped after
-    (kept_with_wire limits w before (without_message number w.wire)
-    (wire_forgotten limits w.wire number before.wire))
-  where
-    after : World
-    after = with_wire w (without_message number w.wire)
-
-    limits : Limits
-    limits = limits_of (with_top after)
-
-    before : IsFormedWorld limits w
-    before =
-        formed_within w limits
-        (more_limits w w.coordinator w.ledger (with_top after).top refl (λ client added. added) (top_rises after)) formed
+pub formed_forgotten : {w : World} (number : ℕ) (called : Called) → IsWellFormed w → IsWellFormed (happened w (Event.Forget number) called).world
+formed_forgotten {w} number called formed =
+    let after = with_wire w (without_message number w.wire) in
+    formed_after_change after (more_topped w (with_top after).top (top_rises after))
+    (λ before. kept_with_wire _ w before (wire_forgotten _ number before.wire)) formed
 
 -- ---- a client comes
 
 -- who was added before a client came is added then
 still_added : (w : World) (client : ℕ) → HasClientsOf (with_client w.ledger client) w.ledger
 still_added w client other added =
-    ⊎_elim
-    (λ (is : other ≡ client). ap is_some (get_same w.ledger.clients client None other is))
+    ⊎_elim (λ (is : other ≡ client). ap is_some (get_same w.ledger.clients client None other is))
     (λ (apart : other ≡ client → ⊥). ap is_some (get_other w.ledger.clients client None other apart) ∙ added)
     (cases_eq other client)
 
 -- it stays so when a client comes that is not refused
-pub formed_come : (w : World) (client : ℕ) (called : Called) → MayHappen w (events.AddClient client) → refusal w (events.AddClient client) ≡ None → IsWellFormed w → IsWellFormed (happened w (events.AddClient client) called).world
-formed_come w client called number none formed = go (is_added w.ledger client) refl
+pub formed_come : {w : World} (client : ℕ) (called : Called) → MayHappen w (Event.AddClient client) → refusal w (Event.AddClient client) ≡ None → IsWellFormed w → IsWellFormed (happened w (Event.AddClient client) called).world
+formed_come {w} client called number none formed =
+    cond_both _ _ _ (λ (after : World). IsWellFormed (with_top after)) (λ added. formed_losing formed)
+    (λ new. formed_after_change comes (more_limits w w.coordinator (with_client w.ledger client) (with_top comes).top refl (still_added w client) (top_rises comes))
+    (λ before. kept_with_ledger _ w before (formed_client _ w.base w.lane number new (few new) before.ledger)) formed)
   where
     comes : World
     comes = with_ledger w (with_client w.ledger client)
 
-    limits : Limits
-    limits = limits_of (with_top comes)
-
-    before : IsFormedWorld limits w
-    before =
-        formed_within w limits
-        (more_limits w w.coordinator (with_client w.ledger client) (with_top comes).top refl (still_added w client) (top_rises comes)) formed
-
     few : is_added w.ledger client ≡ false → length w.ledger.clients < MOST_CLIENTS
-    few new =
-        leb-false MOST_CLIENTS (length w.ledger.clients)
+    few new = leb-false MOST_CLIENTS (length w.ledger.clients)
         (subst (λ b. (not b && nat_le MOST_CLIENTS (length w.ledger.clients)) ≡ false) new
-        (does_not_hold (not (is_added w.ledger client) && nat_le MOST_CLIENTS (length w.ledger.clients)) errors.TooMany
-        (has_no_fault w (events.AddClient client) none)))
-
-    go : (added : Bool) → is_added w.ledger client ≡ added → IsWellFormed (with_top (cond added w comes))
-    go true is = formed_losing w formed
-    go false is =
-        formed_topped comes
-        (kept_with_ledger limits w before (with_client w.ledger client)
-        (formed_client limits w.base w.lane w.ledger client number is (few is) before.ledger))
+        (does_not_hold (not (is_added w.ledger client) && nat_le MOST_CLIENTS (length w.ledger.clients)) StepError.TooMany
+        (has_no_fault w (Event.AddClient client) none)))
 
 -- ---- a master crashes
 
@@ -150,8 +117,6 @@ passes_within test start (suc count) some =
       | true ↦ λ is it. record { passing = start; low = omega arith; high = omega arith; passes = is }
       | false ↦ λ is it.
           let rest = passes_within test (start + 1) count it in
-          let low = rest.low in
-          let high = rest.high in
           record { passing = rest.passing; low = omega arith; high = omega arith; passes = rest.passes }
     ] refl some
 
@@ -160,12 +125,10 @@ left_after : (w : World) (master : ℕ) → lives_another w master ≡ true → 
 left_after w master another =
     let other = passes_within (λ other. lives w other && not (nat_eq other master)) 1 w.coordinator.masters another in
     let parts = and_parts (lives w other.passing) (not (nat_eq other.passing master)) other.passes in
-    let high = other.high in
     record {
       master = other.passing;
-      there = record { first = other.low; last = omega arith };
-      lives =
-          list_any-append (λ dead. nat_eq dead other.passing) w.crashed (master ∷ [])
+      there = omega (arith, other.low, other.high);
+      lives = list_any-append (λ dead. nat_eq dead other.passing) w.crashed (master ∷ [])
           ∙ or_from (has_crashed w other.passing) (nat_eq master other.passing || false)
           (not_true (has_crashed w other.passing) parts.0)
           (or_from (nat_eq master other.passing) false (nat_eq_equiv.symm master other.passing ∙ not_true (nat_eq other.passing master) parts.1) refl);
@@ -176,31 +139,17 @@ left_after w master another =
     not_true false is = refl
 
 -- it stays so when a master crashes while another one lives
-pub formed_crashed : (w : World) (master : ℕ) (called : Called) → MayHappen w (events.Crash master) → IsCalmEvent w (events.Crash master) → IsWellFormed w → IsWellFormed (happened w (events.Crash master) called).world
-formed_crashed w master called there calm formed =
-    formed_topped after (kept_with_crash limits w before master there (left_after w master calm))
-  where
-    after : World
-    after = with_crash w master
-
-    limits : Limits
-    limits = limits_of (with_top after)
-
-    before : IsFormedWorld limits w
-    before =
-        formed_within w limits
-        (more_limits w w.coordinator w.ledger (with_top after).top refl (λ client added. added) (top_rises after)) formed
+pub formed_crashed : {w : World} (master : ℕ) (called : Called) → MayHappen w (Event.Crash master) → IsCalmEvent w (Event.Crash master) → IsWellFormed w → IsWellFormed (happened w (Event.Crash master) called).world
+formed_crashed {w} master called there calm formed =
+    let after = with_crash w master in
+    formed_after_change after (more_topped w (with_top after).top (top_rises after))
+    (λ before. kept_with_crash _ w before there (left_after w master calm)) formed
 
 -- ---- a request is sent again
 
 -- it stays so when a client's last request is sent again
-pub formed_again : (w : World) (client : ℕ) (called : Called) → IsWellFormed w → IsWellFormed (happened w (events.Again client) called).world
-formed_again w client called formed =
-    go (get w.ledger.requests client) refl
-  where
-    go : (request : Option Message) → get w.ledger.requests client ≡ request → IsWellFormed (sent_again w request).world
-    go None found = formed_losing w formed
-    go (Some message) found =
-        formed_sending_old w (message ∷ [])
-        (All-cons (IsFormedMessage (limits_of w)) message [] (formed.ledger.requests client message found) (All-nil _))
-        formed
+pub formed_again : {w : World} (client : ℕ) (called : Called) → IsWellFormed w → IsWellFormed (happened w (Event.Again client) called).world
+formed_again {w} client called formed =
+    by_found (λ request. IsWellFormed (sent_again w request).world) (get w.ledger.requests client) (λ none. formed_losing formed)
+    (λ message found. formed_sending_old (message ∷ [])
+    (All-cons (IsFormedMessage (limits_of w)) message [] (formed.ledger.requests client message found) (All-nil _)) formed)

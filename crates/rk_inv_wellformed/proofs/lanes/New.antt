@@ -1,20 +1,16 @@
 -- A new lane is well formed and has room, and a new session may act, also once it asked its next call.
 use Rattle.std.proofs.Common.{◌≡◌, ◌≤◌, ℕ, zero, suc, List, [], ◌∷◌, length, map, replicate, sum, All, Option, None, Some, refl, ap, subst}
 use Rattle.std.proofs.Common.{arith, w32, flat_map}
-use Rattle.std.specs.List.Sorted.{IsStrictlySortedBy}
-use Rattle.std.proofs.lemmas.List.Elements.{All-replicate}
 use Rattle.rk_inv_wellformed.proofs.Words.{All-cons, All-map, All-nil, sum_by-cons, range_with_len, EachIn, IsInOrder, IsNumber}
 use Rattle.rk_inv_wellformed.proofs.Words.{IsInScanOrder, MOST_BACKUPS, Session, IsFormedMaster, IsWellFormed, Limits, limits_of, Master}
-use Rattle.rk_inv_wellformed.proofs.Words.{log_bytes, new_master, IsLawfulCall, MOST_MASTERS, MayAct, HasRoom, counters_of}
-use Rattle.rk_types.specs.declared.call.Op.{Op}
+use Rattle.rk_inv_wellformed.proofs.Words.{log_bytes, new_master, IsLawfulCall, MOST_MASTERS, MayAct, HasRoom, counters_of, Op, Known}
+use Rattle.rk_inv_wellformed.proofs.Words.{nothing, IsCached, HasRoomIn}
+use Rattle.std.proofs.lemmas.List.Elements.{All-replicate}
+use Rattle.std.specs.List.Sorted.{IsStrictlySortedBy}
 use Rattle.rk_types.specs.declared.hashing.TheConstants.{LANES}
-use Rattle.rk_log.specs.Known.{Known, nothing}
 use Rattle.rk_world.specs.Client.{busy, new_session, next_call, session_calling}
-use Rattle.rk_world.specs.Premises.{IsCached}
-use Rattle.rk_world.specs.Room.{HasRoomIn}
 use Rattle.rk_world.specs.World.{new_masters, new_world}
-use Rattle.rk_inv_wellformed.proofs.maps.Lists.{all_flat}
-use Rattle.rk_inv_wellformed.proofs.maps.Numbered.{found_numbered, numbers_are, with_numbers}
+use Rattle.rk_inv_wellformed.proofs.maps.{all_flat, all_each, found_numbered, numbers_are, with_numbers}
 
 -- ---- a lane
 
@@ -30,10 +26,6 @@ length_replicated (suc count) thing = ap suc (length_replicated count thing)
 none_in_order : IsInScanOrder []
 unfolding IsStrictlySortedBy
 none_in_order = tt
-
--- what holds of each thing holds of all elements
-all_of_each : {X : Type 0} (P : X → Type 0) (each : (x : X) → P x) (list : List X) → All P list
-all_of_each P each list place other within = each _
 
 -- new masters have no bytes
 no_bytes_in : (known : List Known) (list : List ℕ) → sum (map (λ entry. log_bytes entry.1) (with_numbers (λ number. new_master number known) list)) ≡ 0
@@ -99,12 +91,11 @@ module _ (lane masters backups : ℕ) where
     noticed = All-nil _;
     base = All-nil _;
     few_base_clients = omega arith;
-    standing =
-        All-cons (λ n. n ≤ 0) 0 (0 ∷ counters) (omega arith)
+    standing = All-cons (λ n. n ≤ 0) 0 (0 ∷ counters) (omega arith)
         (All-cons (λ n. n ≤ 0) 0 counters (omega arith)
         (all_flat (λ n. n ≤ 0) (λ entry. counters_of entry.1) (new_masters masters backups)
         (All-map (λ (entry : ℕ × Master). All (λ n. n ≤ 0) (counters_of entry.1)) (λ number. (number, made number)) (range_with_len 1 masters)
-        (all_of_each (λ number. All (λ n. n ≤ 0) (counters_of (made number))) (λ number. All-nil _) (range_with_len 1 masters)))));
+        (all_each (λ number. All (λ n. n ≤ 0) (counters_of (made number))) (range_with_len 1 masters) (λ number. All-nil _)))));
   }
     where
       limits : Limits

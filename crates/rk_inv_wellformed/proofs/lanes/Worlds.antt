@@ -1,8 +1,7 @@
 -- A world that keeps to limits: what is well formed keeps to wider limits, and so do the changes of a lane; a world that keeps to the
 -- limits that its greatest number gives it is well formed.
-use Rattle.std.proofs.Common.{◌≡◌, ◌≤◌, ◌<◌, ℕ, suc, max, true, false, ◌||◌, cond, List, [], ◌∷◌, ◌++◌, length, map, All, Option, None}
-use Rattle.std.proofs.Common.{Some, is_some, refl, sym, ap, subst, ◌∙◌, ⊎_elim, arith, nat_eq, unwrap_or, flat_map, nat_cmp, length-append}
-use Rattle.std.proofs.lemmas.Bool.{cases_Bool, or_left, or_right}
+use Rattle.std.proofs.Common.{◌≡◌, ◌≤◌, ◌<◌, ℕ, suc, max, true, false, ◌||◌, cond, List, [], ◌∷◌, ◌++◌, length, map, All, Option, Some}
+use Rattle.std.proofs.Common.{is_some, refl, sym, ap, subst, ◌∙◌, ⊎_elim, arith, nat_eq, unwrap_or, flat_map, nat_cmp, length-append, ◌+◌}
 use Rattle.rk_inv_wellformed.proofs.Words.{All-head, All-push, All-tail, All-weaker, list_any-append, nat_eq_equiv, unsigned_tied, list_any}
 use Rattle.rk_inv_wellformed.proofs.Words.{range_with_len, eq_by_cmp, each_insert, hash_of, EachIn, NumberMap, get, numbers, is_among}
 use Rattle.rk_inv_wellformed.proofs.Words.{is_covered, Row, MOST_BACKUPS, Traffic, Message, Coordinator, IsFormedCoordinator}
@@ -10,15 +9,13 @@ use Rattle.rk_inv_wellformed.proofs.Words.{IsFormedLedger, IsFormedMaster, IsFor
 use Rattle.rk_inv_wellformed.proofs.Words.{Ledger, is_added, seen_of, IsClient, IsFormedMessage, Limits, limits_of, Master, log_bytes}
 use Rattle.rk_inv_wellformed.proofs.Words.{new_master, IsMaster, MOST_MASTERS, MOST_CLIENTS, HasRoom, MOST_NUMBER, World, counters_of}
 use Rattle.rk_inv_wellformed.proofs.Words.{has_crashed, master_at, standing, with_all_sent, with_coordinator, with_crash, with_ledger}
-use Rattle.rk_inv_wellformed.proofs.Words.{with_master, with_top, with_wire}
-use Rattle.rk_world.specs.Formed.{SomeLives}
+use Rattle.rk_inv_wellformed.proofs.Words.{with_master, with_top, with_wire, SomeLives, greatest, each_weaker, MOST_BYTES}
+use Rattle.std.proofs.lemmas.Bool.{cases_Bool, or_left, or_right}
 use Rattle.rk_world.specs.Limits.{base_clients, limits_at}
-use Rattle.rk_world.specs.World.{greatest}
-use Rattle.rk_inv_wellformed.proofs.maps.Lists.{all_back, all_before, all_front, all_given}
-use Rattle.rk_inv_wellformed.proofs.maps.Bounds.{all_in_map, below_greatest, within_sum_of}
 use Rattle.rk_inv_wellformed.proofs.lanes.More.{IsMore, more_coordinator, more_ledger, more_master, more_master_number, more_wire}
-use Rattle.rk_inv_wellformed.proofs.maps.Numbered.{found_in_range, numbers_kept}
 use Rattle.rk_inv_wellformed.proofs.lanes.Wires.{wire_of_all}
+use Rattle.rk_inv_wellformed.proofs.maps.{all_in_map, below_greatest, within_sum_of, all_back, all_before, all_front, all_given, by_found}
+use Rattle.rk_inv_wellformed.proofs.maps.{found_in_range, numbers_kept}
 use Rattle.rk_inv_wellformed.proofs.masters.Work.{AreLimits, HasRoomFor}
 
 -- ---- clients
@@ -58,8 +55,7 @@ more_limits w coordinator ledger top same has greater = record {
   backups = refl;
   top = greater;
   clients = λ client known.
-      list_any-append (λ n. nat_eq n client) (numbers ledger.clients) (base_clients w.base)
-      ∙ ⊎_elim
+      list_any-append (λ n. nat_eq n client) (numbers ledger.clients) (base_clients w.base) ∙ ⊎_elim
       (λ (added : is_among client (numbers w.ledger.clients) ≡ true).
       or_left (is_among client (numbers ledger.clients)) (is_among client (base_clients w.base))
       (among_numbers ledger.clients client ∙ has client (sym (among_numbers w.ledger.clients client) ∙ added)))
@@ -74,26 +70,13 @@ more_limits w coordinator ledger top same has greater = record {
 -- these are limits that a lane may have, where there are few clients and the greatest number fits
 pub limits_with : (w : World) (coordinator : Coordinator) (ledger : Ledger) (top : ℕ) → w.coordinator.masters ≡ coordinator.masters → length ledger.clients ≤ MOST_CLIENTS → top < MOST_NUMBER → IsWellFormed w → AreLimits (limits_at (with_ledger (with_coordinator w coordinator) ledger) top)
 limits_with w coordinator ledger top same few room formed =
-    let base = formed.few_base_clients in
-    let both = length-append (numbers ledger.clients) (base_clients w.base) in
-    let added = length_numbers ledger.clients in
-    record {
-      masters = subst (λ (count : ℕ). count ≤ MOST_MASTERS) same formed.few_masters;
-      backed = formed.backed;
-      backups = formed.few_backups;
-      top = room;
-      clients = omega arith;
-    }
-
--- so it is with a lane's own ones where its greatest number fits
-pub limits_before : (w : World) (top : ℕ) → w.top ≤ top → top < MOST_NUMBER → IsWellFormed w → AreLimits (limits_of w)
-limits_before w top within room formed =
-    limits_with w w.coordinator w.ledger w.top refl formed.ledger.few (omega arith) formed
+    let clients : length (numbers ledger.clients ++ base_clients w.base) ≤ MOST_CLIENTS + MOST_BASE_CLIENTS =
+    omega (arith, few, formed.few_base_clients, length-append (numbers ledger.clients) (base_clients w.base), length_numbers ledger.clients) in
+    assumption (subst (λ (count : ℕ). count ≤ MOST_MASTERS) same formed.few_masters)
 
 -- a lane that is well formed and has room has limits that a lane may have
 pub formed_limits : (w : World) → IsWellFormed w → HasRoom w → AreLimits (limits_of w)
-formed_limits w formed room =
-    limits_with w w.coordinator w.ledger w.top refl formed.ledger.few room.number formed
+formed_limits w formed room = limits_with w w.coordinator w.ledger w.top refl formed.ledger.few room.number formed
 
 -- ---- what stands
 
@@ -103,8 +86,7 @@ IsLimit limit w = All (λ number. number ≤ limit) (standing w)
 
 -- the greatest number of a lane once what stands is counted is such a limit
 pub top_is_limit : (w : World) → IsLimit (with_top w).top w
-top_is_limit w =
-    All-weaker (λ n. n ≤ greatest (standing w)) (λ n. n ≤ max w.top (greatest (standing w)))
+top_is_limit w = All-weaker (λ n. n ≤ greatest (standing w)) (λ n. n ≤ max w.top (greatest (standing w)))
     (λ n below. under n w.top (greatest (standing w)) below) (standing w) (below_greatest (standing w))
   where
     under : (n top greatest : ℕ) → n ≤ greatest → n ≤ max top greatest
@@ -146,14 +128,12 @@ module _ (w : World) (limit : ℕ) (all : IsLimit limit w) where
 
   -- what each client had seen
   pub seen_within : All (λ entry. seen_of entry.1 ≤ limit) w.ledger.clients
-  seen_within =
-      all_before (λ (n : ℕ). n ≤ limit) (λ entry. seen_of entry.1) w.ledger.clients
+  seen_within = all_before (λ (n : ℕ). n ≤ limit) (λ entry. seen_of entry.1) w.ledger.clients
       (all_front (λ (n : ℕ). n ≤ limit) (stamps_seen w) (terms_in w) from_terms)
 
   -- the term of each row
   pub terms_within : All (λ row. row.term ≤ limit) w.coordinator.rows
-  terms_within =
-      all_before (λ (n : ℕ). n ≤ limit) (λ row. row.term) w.coordinator.rows
+  terms_within = all_before (λ (n : ℕ). n ≤ limit) (λ row. row.term) w.coordinator.rows
       (all_back (λ (n : ℕ). n ≤ limit) (stamps_seen w) (terms_in w) from_terms)
 
   -- the counters of a master's tablets
@@ -166,13 +146,8 @@ module _ (w : World) (limit : ℕ) (all : IsLimit limit w) where
 -- what a master of a lane with room has fits
 pub room_of_master : (w : World) (number : ℕ) (master : Master) → get w.masters number ≡ Some master → IsLimit w.top w → HasRoom w → HasRoomFor (limits_of w) master
 room_of_master w number master found all room =
-    let part = within_sum_of log_bytes w.masters number master found in
-    let whole = room.bytes in
-    record {
-      room = room.masters number master found;
-      bytes = omega arith;
-      counters = counters_within w w.top all number master found;
-    }
+    let bytes : log_bytes master < MOST_BYTES = omega (arith, within_sum_of log_bytes w.masters number master found, room.bytes) in
+    assumption (room.masters number master found, counters_within w w.top all number master found)
 
 -- ---- a world that keeps to limits
 
@@ -200,50 +175,39 @@ pub record IsFormedWorld (limits : Limits) (w : World) : Type 0 where
   pub few_base_clients : length (base_clients w.base) ≤ MOST_BASE_CLIENTS
 
 -- a well formed lane keeps to wider limits than its own
-pub formed_within : (w : World) (limits : Limits) → IsMore (limits_of w) limits → IsWellFormed w → IsFormedWorld limits w
-formed_within w limits more formed = record {
-  masters_are = subst (λ (count : ℕ). numbers w.masters ≡ range_with_len 1 count) more.masters formed.masters_are;
-  few_masters = subst (λ (count : ℕ). count ≤ MOST_MASTERS) more.masters formed.few_masters;
-  backed = subst (λ (count : ℕ). 1 ≤ count) more.backups formed.backed;
-  few_backups = subst (λ (count : ℕ). count ≤ MOST_BACKUPS) more.backups formed.few_backups;
-  masters = λ number master found. more_master (limits_of w) limits more number master (formed.masters number master found);
-  coordinator = more_coordinator (limits_of w) limits more w.coordinator formed.coordinator;
-  ledger = more_ledger (limits_of w) limits more w.base w.lane w.ledger formed.ledger;
-  wire = more_wire (limits_of w) limits more w.wire formed.wire;
-  crashed = All-weaker (IsMaster w.coordinator.masters) (IsMaster limits.masters) (more_master_number (limits_of w) limits more) w.crashed formed.crashed;
-  left = λ master dead. still_left (formed.left master dead);
-  noticed = formed.noticed;
-  base = formed.base;
-  few_base_clients = formed.few_base_clients;
-}
-  where
-    still_left : SomeLives w → SomeIsLeft limits.masters w.crashed
-    still_left some = record {
-      master = some.master;
-      there = more_master_number (limits_of w) limits more some.master some.there;
-      lives = some.lives;
-    }
+pub formed_within : {w : World} {limits : Limits} → IsMore (limits_of w) limits → IsWellFormed w → IsFormedWorld limits w
+formed_within {w} {limits} more formed =
+    let left : (master : ℕ) → has_crashed w master ≡ true → SomeIsLeft limits.masters w.crashed = λ master dead.
+    let some = formed.left master dead in
+    record { master = some.master; there = more_master_number (limits_of w) limits more some.master some.there; lives = some.lives } in
+    assumption (
+      subst (λ (count : ℕ). numbers w.masters ≡ range_with_len 1 count) more.masters formed.masters_are,
+      subst (λ (count : ℕ). count ≤ MOST_MASTERS) more.masters formed.few_masters,
+      subst (λ (count : ℕ). 1 ≤ count) more.backups formed.backed,
+      subst (λ (count : ℕ). count ≤ MOST_BACKUPS) more.backups formed.few_backups,
+      each_weaker (IsFormedMaster (limits_of w)) (IsFormedMaster limits) w.masters (λ number master. more_master (limits_of w) limits more)
+          formed.masters,
+      more_coordinator (limits_of w) limits more formed.coordinator,
+      more_ledger (limits_of w) limits more formed.ledger,
+      more_wire (limits_of w) limits more formed.wire,
+      All-weaker (IsMaster w.coordinator.masters) (IsMaster limits.masters) (more_master_number (limits_of w) limits more) w.crashed formed.crashed,
+    )
 
--- a world that keeps to the limits that it has once what stands is counted is well formed then
-pub formed_topped : (w : World) → IsFormedWorld (limits_of (with_top w)) w → IsWellFormed (with_top w)
-formed_topped w kept = record {
-  masters_are = kept.masters_are;
-  few_masters = kept.few_masters;
-  backed = kept.backed;
-  few_backups = kept.few_backups;
-  masters = kept.masters;
-  coordinator = kept.coordinator;
-  ledger = kept.ledger;
-  wire = kept.wire;
-  crashed = kept.crashed;
-  left = λ master dead.
-      let some = kept.left master dead in
-      record { master = some.master; there = some.there; lives = some.lives };
-  noticed = kept.noticed;
-  base = kept.base;
-  few_base_clients = kept.few_base_clients;
-  standing = top_is_limit w;
-}
+-- a world that keeps to the limits that it has is well formed, where its greatest number bounds what stands
+pub formed_standing : {w : World} → IsFormedWorld (limits_of w) w → IsLimit w.top w → IsWellFormed w
+formed_standing {w} kept standing =
+    let left : (master : ℕ) → has_crashed w master ≡ true → SomeLives w = λ master dead.
+    let some = kept.left master dead in
+    record { master = some.master; there = some.there; lives = some.lives } in
+    assumption
+
+-- so is one that keeps to those that it has once what stands is counted
+pub formed_topped : {w : World} → IsFormedWorld (limits_of (with_top w)) w → IsWellFormed (with_top w)
+formed_topped {w} kept = formed_standing {w = with_top w} (assumption) (top_is_limit w)
+
+-- and a well formed lane keeps to its own limits
+pub formed_as : {w : World} → IsWellFormed w → IsFormedWorld (limits_of w) w
+formed_as {w} formed = formed_within (record { masters = refl; backups = refl; top = omega arith; clients = λ client known. known }) formed
 
 -- rows cover what a history starts from
 abbrev pub CoversBase : World → List Row → Type 0
@@ -262,138 +226,71 @@ pub record MayCoordinate (limits : Limits) (w : World) (coordinator : Coordinato
   pub base : CoversBase w coordinator.rows
 
 -- rows that cover what was covered cover what the history starts from
-pub base_covered : (w : World) (rows : List Row) → StillCovers rows w.coordinator.rows → IsWellFormed w → CoversBase w rows
-base_covered w rows covers formed =
+pub base_covered : {w : World} (rows : List Row) → StillCovers rows w.coordinator.rows → IsWellFormed w → CoversBase w rows
+base_covered {w} rows covers formed =
     All-weaker (λ item. is_covered w.coordinator.rows item.table (hash_of item.key) ≡ true) (λ item. is_covered rows item.table (hash_of item.key) ≡ true)
     (λ item covered. covers item.table (hash_of item.key) covered) w.base.items formed.base
 
 module _ (limits : Limits) (w : World) (coordinator : Coordinator) where
   -- so it may where it noticed no more masters than before, and covers what was covered
   pub may_coordinate : IsFormedCoordinator limits coordinator → w.coordinator.masters ≡ coordinator.masters → coordinator.noticed ≡ w.coordinator.noticed → StillCovers coordinator.rows w.coordinator.rows → IsWellFormed w → MayCoordinate limits w coordinator
-  may_coordinate new masters noticed covers formed = record {
-    formed = new;
-    masters = masters;
-    noticed = subst (All (λ master. has_crashed w master ≡ true)) (sym noticed) formed.noticed;
-    base = base_covered w coordinator.rows covers formed;
-  }
+  may_coordinate new masters noticed covers formed = assumption (
+    subst (All (λ master. has_crashed w master ≡ true)) (sym noticed) formed.noticed,
+    base_covered coordinator.rows covers formed,
+  )
 
 -- ---- changes of a world that keeps to limits
 
 module _ (limits : Limits) (w : World) (formed : IsFormedWorld limits w) where
   -- one of its masters is so
-  pub kept_with_master : (number : ℕ) (master : Master) → IsMaster limits.masters number → IsFormedMaster limits number master → IsFormedWorld limits (with_master w number master)
-  kept_with_master number master there new = record {
-    masters_are = numbers_kept w.masters limits.masters number master formed.masters_are there ∙ formed.masters_are;
-    few_masters = formed.few_masters;
-    backed = formed.backed;
-    few_backups = formed.few_backups;
-    masters = each_insert (IsFormedMaster limits) w.masters number master formed.masters new;
-    coordinator = formed.coordinator;
-    ledger = formed.ledger;
-    wire = formed.wire;
-    crashed = formed.crashed;
-    left = formed.left;
-    noticed = formed.noticed;
-    base = formed.base;
-    few_base_clients = formed.few_base_clients;
-  }
+  pub kept_with_master : {number : ℕ} {master : Master} → IsMaster limits.masters number → IsFormedMaster limits number master → IsFormedWorld limits (with_master w number master)
+  kept_with_master {number} {master} there new =
+      assumption (
+        numbers_kept w.masters limits.masters number master formed.masters_are there ∙ formed.masters_are,
+        each_insert (IsFormedMaster limits) w.masters number master formed.masters new,
+      )
 
   -- the coordinator is so
   pub kept_with_coordinator : (coordinator : Coordinator) → MayCoordinate limits w coordinator → IsFormedWorld limits (with_coordinator w coordinator)
-  kept_with_coordinator coordinator new = record {
-    masters_are = formed.masters_are;
-    few_masters = formed.few_masters;
-    backed = formed.backed;
-    few_backups = formed.few_backups;
-    masters = formed.masters;
-    coordinator = new.formed;
-    ledger = formed.ledger;
-    wire = formed.wire;
-    crashed = formed.crashed;
-    left = formed.left;
-    noticed = new.noticed;
-    base = new.base;
-    few_base_clients = formed.few_base_clients;
-  }
+  kept_with_coordinator coordinator new = assumption
 
   -- the ledger is so
-  pub kept_with_ledger : (ledger : Ledger) → IsFormedLedger limits w.base w.lane ledger → IsFormedWorld limits (with_ledger w ledger)
-  kept_with_ledger ledger new = record {
-    masters_are = formed.masters_are;
-    few_masters = formed.few_masters;
-    backed = formed.backed;
-    few_backups = formed.few_backups;
-    masters = formed.masters;
-    coordinator = formed.coordinator;
-    ledger = new;
-    wire = formed.wire;
-    crashed = formed.crashed;
-    left = formed.left;
-    noticed = formed.noticed;
-    base = formed.base;
-    few_base_clients = formed.few_base_clients;
-  }
+  pub kept_with_ledger : {ledger : Ledger} → IsFormedLedger limits w.base w.lane ledger → IsFormedWorld limits (with_ledger w ledger)
+  kept_with_ledger {ledger} new = assumption
 
   -- the wire is so
-  pub kept_with_wire : (wire : Traffic) → IsFormedWire limits wire → IsFormedWorld limits (with_wire w wire)
-  kept_with_wire wire new = record {
-    masters_are = formed.masters_are;
-    few_masters = formed.few_masters;
-    backed = formed.backed;
-    few_backups = formed.few_backups;
-    masters = formed.masters;
-    coordinator = formed.coordinator;
-    ledger = formed.ledger;
-    wire = new;
-    crashed = formed.crashed;
-    left = formed.left;
-    noticed = formed.noticed;
-    base = formed.base;
-    few_base_clients = formed.few_base_clients;
-  }
+  pub kept_with_wire : {wire : Traffic} → IsFormedWire limits wire → IsFormedWorld limits (with_wire w wire)
+  kept_with_wire {wire} new = assumption
 
   -- messages are sent
   pub kept_with_all_sent : (messages : List Message) → All (IsFormedMessage limits) messages → IsFormedWorld limits (with_all_sent w messages)
-  kept_with_all_sent messages all =
-      kept_with_wire (with_all_sent w messages).wire (wire_of_all limits w.wire messages formed.wire all)
+  kept_with_all_sent messages all = kept_with_wire (wire_of_all limits messages formed.wire all)
 
   -- a master stops while another one is left
-  pub kept_with_crash : (master : ℕ) → IsMaster limits.masters master → SomeIsLeft limits.masters (w.crashed ++ master ∷ []) → IsFormedWorld limits (with_crash w master)
-  kept_with_crash master there some = record {
-    masters_are = formed.masters_are;
-    few_masters = formed.few_masters;
-    backed = formed.backed;
-    few_backups = formed.few_backups;
-    masters = formed.masters;
-    coordinator = formed.coordinator;
-    ledger = formed.ledger;
-    wire = formed.wire;
-    crashed = All-push (IsMaster limits.masters) w.crashed master formed.crashed there;
-    left = λ dead crashed. some;
-    noticed =
+  pub kept_with_crash : {master : ℕ} → IsMaster limits.masters master → SomeIsLeft limits.masters (w.crashed ++ master ∷ []) → IsFormedWorld limits (with_crash w master)
+  kept_with_crash {master} there some =
+      let left : (dead : ℕ) → has_crashed (with_crash w master) dead ≡ true → SomeIsLeft limits.masters (w.crashed ++ master ∷ []) = λ dead crashed. some in
+      assumption (
+        All-push (IsMaster limits.masters) w.crashed master formed.crashed there,
         All-weaker (λ dead. has_crashed w dead ≡ true) (λ dead. has_crashed (with_crash w master) dead ≡ true)
-        (λ dead crashed. list_any-append (λ one. nat_eq one dead) w.crashed (master ∷ []) ∙ or_left (has_crashed w dead) (list_any (λ one. nat_eq one dead) (master ∷ [])) crashed)
-        w.coordinator.noticed formed.noticed;
-    base = formed.base;
-    few_base_clients = formed.few_base_clients;
-  }
+            (λ dead crashed. list_any-append (λ one. nat_eq one dead) w.crashed (master ∷ []) ∙ or_left (has_crashed w dead) (list_any (λ one. nat_eq one dead) (master ∷ [])) crashed)
+            w.coordinator.noticed formed.noticed,
+      )
+
+-- what each master of a well formed lane has that is there, the master of a number has
+found_there : (w : World) (number : ℕ) → IsMaster w.coordinator.masters number → IsWellFormed w → (P : Option Master → Type 0)
+    → ((master : Master) → get w.masters number ≡ Some master → P (Some master)) → P (get w.masters number)
+found_there w number there formed P some =
+    by_found (λ found. is_some found ≡ true → P found) (get w.masters number) (λ none is. absurd (cc is)) (λ master is it. some master is)
+    (found_in_range w.masters formed.masters_are there)
 
 -- a master of a well formed lane is well formed
 pub master_of : (w : World) (number : ℕ) → IsMaster w.coordinator.masters number → IsWellFormed w → IsFormedMaster (limits_of w) number (master_at w number)
 master_of w number there formed =
-    go (get w.masters number) refl
-    (found_in_range w.masters w.coordinator.masters number formed.masters_are there)
-  where
-    go : (found : Option Master) → get w.masters number ≡ found → is_some found ≡ true → IsFormedMaster (limits_of w) number (unwrap_or found (new_master number []))
-    go None is some = absurd (cc some)
-    go (Some master) is some = formed.masters number master is
+    found_there w number there formed (λ found. IsFormedMaster (limits_of w) number (unwrap_or found (new_master number []))) (formed.masters number)
 
 -- a master of a well formed lane with room has room
 pub room_at : (w : World) (number : ℕ) → IsMaster w.coordinator.masters number → IsWellFormed w → HasRoom w → HasRoomFor (limits_of w) (master_at w number)
 room_at w number there formed room =
-    go (get w.masters number) refl
-    (found_in_range w.masters w.coordinator.masters number formed.masters_are there)
-  where
-    go : (found : Option Master) → get w.masters number ≡ found → is_some found ≡ true → HasRoomFor (limits_of w) (unwrap_or found (new_master number []))
-    go None is some = absurd (cc some)
-    go (Some master) is some = room_of_master w number master is formed.standing room
+    found_there w number there formed (λ found. HasRoomFor (limits_of w) (unwrap_or found (new_master number [])))
+    (λ master is. room_of_master w number master is formed.standing room)

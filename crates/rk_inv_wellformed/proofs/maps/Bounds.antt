@@ -1,8 +1,7 @@
 -- What holds of all numbers of lists and of maps by number holds of each: none is above the greatest, and none above the sum.
-use Rattle.std.proofs.Common.{◌≡◌, ◌≤◌, ℕ, max, true, false, cond, List, [], ◌∷◌, map, fold, sum, All, Some, sym, ap, subst, arith, sum_by}
-use Rattle.std.proofs.Common.{nat_cmp}
-use Rattle.rk_inv_wellformed.proofs.Words.{All-cons, All-head, All-nil, All-tail, sum-map, sum_by-cons, eq_by_cmp, NumberMap, get}
-use Rattle.rk_world.specs.World.{greatest}
+use Rattle.std.proofs.Common.{◌≡◌, ◌≤◌, ℕ, max, List, [], ◌∷◌, map, fold, sum, All, Some, sym, ap, subst, arith, sum_by, nat_cmp, Option}
+use Rattle.rk_inv_wellformed.proofs.Words.{All-cons, All-head, All-nil, All-tail, sum-map, sum_by-cons, eq_by_cmp, NumberMap, get, greatest}
+use Rattle.rk_inv_wellformed.proofs.maps.Lists.{either_way}
 
 -- ---- the greatest of numbers
 
@@ -38,30 +37,19 @@ greatest_within limit numbers all = greatest_from limit 0 numbers (omega arith) 
 -- what holds of each thing of a map holds of the one that is found
 pub all_in_map : {X : Type 0} (P : X → Type 0) (things : NumberMap X) (number : ℕ) (thing : X) → get things number ≡ Some thing → All (λ entry. P entry.1) things → P thing
 all_in_map P [] number thing found all = absurd (cc found)
-all_in_map P (first ∷ rest) number thing found all =
-    elim (eq_by_cmp nat_cmp number first.0) as (λ b. cond b (Some first.1) (get rest number) ≡ Some thing → P thing) [
-      | true ↦ λ same.
-          let is : first.1 ≡ thing = cc same in
-          subst P is (All-head (λ entry. P entry.1) first rest all)
-      | false ↦ λ later. all_in_map P rest number thing later (All-tail (λ entry. P entry.1) first rest all)
-    ] found
+all_in_map {X} P (first ∷ rest) number thing found all = either_way (λ (there : Option X). there ≡ Some thing → P thing) (eq_by_cmp nat_cmp number first.0)
+    (λ same. let is : first.1 ≡ thing = cc same in subst P is (All-head (λ entry. P entry.1) first rest all))
+    (λ later. all_in_map P rest number thing later (All-tail (λ entry. P entry.1) first rest all)) found
 
 -- what is found counts in the sum
 pub within_sum : {X : Type 0} (size : X → ℕ) (things : NumberMap X) (number : ℕ) (thing : X) → get things number ≡ Some thing → size thing ≤ sum_by (λ entry. size entry.1) things
 within_sum size [] number thing found = absurd (cc found)
-within_sum size (first ∷ rest) number thing found =
-    let whole = sum_by-cons (λ entry. size entry.1) first rest in
-    elim (eq_by_cmp nat_cmp number first.0) as (λ b. cond b (Some first.1) (get rest number) ≡ Some thing → size thing ≤ sum_by (λ entry. size entry.1) (first ∷ rest)) [
-      | true ↦ λ same.
-          let is : first.1 ≡ thing = cc same in
-          let it : size first.1 ≡ size thing = ap size is in
-          omega (arith, whole, it)
-      | false ↦ λ later.
-          let it = within_sum size rest number thing later in
-          omega (arith, whole, it)
-    ] found
+within_sum {X} size (first ∷ rest) number thing found =
+    let whole = sum_by-cons (λ (entry : ℕ × X). size entry.1) first rest in
+    either_way (λ (there : Option X). there ≡ Some thing → size thing ≤ sum_by (λ entry. size entry.1) (first ∷ rest)) (eq_by_cmp nat_cmp number first.0)
+    (λ same. let is : first.1 ≡ thing = cc same in omega (arith, whole, ap size is))
+    (λ later. omega (arith, whole, within_sum size rest number thing later)) found
 
 pub within_sum_of : {X : Type 0} (size : X → ℕ) (things : NumberMap X) (number : ℕ) (thing : X) → get things number ≡ Some thing → size thing ≤ sum (map (λ entry. size entry.1) things)
-within_sum_of size things number thing found =
-    subst (λ (whole : ℕ). size thing ≤ whole) (sym (sum-map (λ entry. size entry.1) things))
-    (within_sum size things number thing found)
+within_sum_of size things number thing found = subst (λ (whole : ℕ). size thing ≤ whole)
+    (sym (sum-map (λ entry. size entry.1) things)) (within_sum size things number thing found)

@@ -1,9 +1,9 @@
 -- Completions: what each end has stays so when another end is noted, and the ends of completions in order rise by client.
 use Rattle.std.proofs.Common.{◌≤◌, ℕ, T, All, List, [], ◌∷◌, is_lt, nat_cmp}
-use Rattle.rk_inv_wellformed.proofs.Words.{cond_both, All-cons, All-head, All-map, All-nil, All-tail, below_all, in_order_insert, IsInOrder}
-use Rattle.rk_inv_wellformed.proofs.Words.{get, insert, Ended, Completions, completions_from, ended_of, ends_of, noted}
+use Rattle.rk_inv_wellformed.proofs.Words.{cond_both, All-head, All-map, All-tail, below_all, in_order_insert, IsInOrder, get, insert}
+use Rattle.rk_inv_wellformed.proofs.Words.{Ended, Completions, completions_from, ended_of, ends_of, noted, RiseAbove, Completion}
 use Rattle.rk_done.specs.Completions.{is_later}
-use Rattle.rk_entry.specs.Ends.{RiseAbove}
+use Rattle.rk_inv_wellformed.proofs.maps.Lists.{all_before, either_way}
 use Rattle.rk_inv_wellformed.proofs.maps.Maps.{All_insert, first, is_below, second}
 
 -- ends are those of completions pair by pair
@@ -12,28 +12,22 @@ ends_from_pairs P completions each = All-map P ended_of completions each
 
 -- and what each end has, each pair has of its end
 pub pairs_from_ends : (P : Ended → Type 0) (completions : Completions) → All P (ends_of completions) → All (λ entry. P (ended_of entry)) completions
-pairs_from_ends P [] each = All-nil (λ entry. P (ended_of entry))
-pairs_from_ends P (entry ∷ entries) each =
-    All-cons (λ entry. P (ended_of entry)) entry entries (All-head P (ended_of entry) (ends_of entries) each)
-    (pairs_from_ends P entries (All-tail P (ended_of entry) (ends_of entries) each))
+pairs_from_ends P completions each = all_before P ended_of completions each
 
 -- the completions stay in order when a call ended
 pub noted_order : (completions : Completions) (ended : Ended) → IsInOrder completions → IsInOrder (noted completions ended)
 noted_order completions ended order =
-    cond_both (is_later (get completions ended.client) ended.seq)
-    (insert completions ended.client (record { seq = ended.seq; end = ended.end })) completions IsInOrder
-    (λ later. in_order_insert completions ended.client (record { seq = ended.seq; end = ended.end }) order) (λ older. order)
+    either_way (λ (now : Completions). IsInOrder now) (is_later (get completions ended.client) ended.seq)
+    (in_order_insert completions ended.client (record { seq = ended.seq; end = ended.end }) order) order
 
 -- each end has what it had, and the new one has
 pub noted_each : (P : Ended → Type 0) (completions : Completions) (ended : Ended) → All P (ends_of completions) → P ended
     → All P (ends_of (noted completions ended))
 noted_each P completions ended each new =
-    cond_both (is_later (get completions ended.client) ended.seq)
-    (insert completions ended.client (record { seq = ended.seq; end = ended.end })) completions (λ now. All P (ends_of now))
-    (λ later.
-    ends_from_pairs P (insert completions ended.client (record { seq = ended.seq; end = ended.end }))
-    (All_insert (λ entry. P (ended_of entry)) completions ended.client (record { seq = ended.seq; end = ended.end })
-    (pairs_from_ends P completions each) new))
+    let entry : Completion = record { seq = ended.seq; end = ended.end } in
+    cond_both _ _ _ (λ now. All P (ends_of now))
+    (λ later. ends_from_pairs P (insert completions ended.client entry)
+    (All_insert (λ entry. P (ended_of entry)) completions ended.client entry (pairs_from_ends P completions each) new))
     (λ older. each)
 
 -- and so it is for ends one after the other
@@ -46,8 +40,7 @@ completions_order completions (ended ∷ later) order =
 pub completions_each : (P : Ended → Type 0) (completions : Completions) (ends : List Ended) → All P (ends_of completions) → All P ends
     → All P (ends_of (completions_from completions ends))
 completions_each P completions [] each new = each
-completions_each P completions (ended ∷ later) each new =
-    completions_each P (noted completions ended) later
+completions_each P completions (ended ∷ later) each new = completions_each P (noted completions ended) later
     (noted_each P completions ended each (All-head P ended later new)) (All-tail P ended later new)
 
 -- clients above one that is below all rise

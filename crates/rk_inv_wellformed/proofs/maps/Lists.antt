@@ -1,14 +1,27 @@
 -- Lists: what holds of each element of a list stays so where the list is joined, parted, changed, found in or folded over.
-use Rattle.std.proofs.Common.{◌≡◌, ℕ, zero, suc, Bool, true, false, cond, List, [], ◌∷◌, ◌++◌, map, fold, All, Some, flat_map, refl, subst}
-use Rattle.std.proofs.Common.{find, slice_get, slice_index_or}
-use Rattle.rk_inv_wellformed.proofs.Words.{All-append, All-cons, All-head, All-nil, All-tail}
+use Rattle.std.proofs.Common.{◌≡◌, ℕ, zero, suc, Bool, true, false, cond, List, [], ◌∷◌, ◌++◌, map, fold, All, Option, None, Some, IfSome}
+use Rattle.std.proofs.Common.{flat_map, refl, subst, find, slice_get, slice_index_or, arith, filter, length, ◌≤◌, ◌<◌, ◌+◌}
+use Rattle.rk_inv_wellformed.proofs.Words.{All-append, All-cons, All-head, All-nil, All-tail, All-weaker, range_with_len}
+
+-- ---- one of two
+
+-- what both have, what a test chooses of them has
+pub either_way : {X : Type 0} (P : X → Type 0) (test : Bool) {x y : X} → P x → P y → P (cond test x y)
+either_way P true left right = left
+either_way P false left right = right
+
+-- what there is none of, and what there is, each have what they are to have; so what is found has it
+pub by_found : {X : Type 0} (P : Option X → Type 0) (found : Option X) → (found ≡ None → P None) → ((x : X) → found ≡ Some x → P (Some x)) → P found
+by_found P None none some = none refl
+by_found P (Some x) none some = some x refl
+
+-- ---- lists
 
 -- what holds of all elements of two lists holds of those of the first
 pub all_front : {X : Type 0} (P : X → Type 0) (front back : List X) → All P (front ++ back) → All P front
 all_front P [] back all = All-nil P
 all_front P (first ∷ rest) back all =
-    All-cons P first rest (All-head P first (rest ++ back) all)
-    (all_front P rest back (All-tail P first (rest ++ back) all))
+    All-cons P first rest (All-head P first (rest ++ back) all) (all_front P rest back (All-tail P first (rest ++ back) all))
 
 -- and of those of the second
 pub all_back : {X : Type 0} (P : X → Type 0) (front back : List X) → All P (front ++ back) → All P back
@@ -18,16 +31,14 @@ all_back P (first ∷ rest) back all = all_back P rest back (All-tail P first (r
 -- what holds of all elements of what each gives holds of all that is given
 pub all_flat : {X Y : Type 0} (P : Y → Type 0) (give : X → List Y) (list : List X) → All (λ x. All P (give x)) list → All P (flat_map give list)
 all_flat P give [] all = All-nil P
-all_flat P give (first ∷ rest) all =
-    All-append P (give first) (flat_map give rest) (All-head (λ x. All P (give x)) first rest all)
-    (all_flat P give rest (All-tail (λ x. All P (give x)) first rest all))
+all_flat P give (first ∷ rest) all = All-append P (give first) (flat_map give rest)
+    (All-head (λ x. All P (give x)) first rest all) (all_flat P give rest (All-tail (λ x. All P (give x)) first rest all))
 
 -- and the other way round
 pub all_given : {X Y : Type 0} (P : Y → Type 0) (give : X → List Y) (list : List X) → All P (flat_map give list) → All (λ x. All P (give x)) list
 all_given P give [] all = All-nil _
-all_given P give (first ∷ rest) all =
-    All-cons (λ x. All P (give x)) first rest (all_front P (give first) (flat_map give rest) all)
-    (all_given P give rest (all_back P (give first) (flat_map give rest) all))
+all_given P give (first ∷ rest) all = All-cons (λ x. All P (give x)) first rest
+    (all_front P (give first) (flat_map give rest) all) (all_given P give rest (all_back P (give first) (flat_map give rest) all))
 
 -- what holds of all that a list was changed into
 pub all_before : {X Y : Type 0} (P : Y → Type 0) (change : X → Y) (list : List X) → All P (map change list) → All (λ x. P (change x)) list
@@ -49,13 +60,16 @@ pub all_last : {X : Type 0} (P : X → Type 0) (list : List X) (last : X) → Al
 all_last P list last all = All-head P last [] (all_back P list (last ∷ []) all)
 
 -- what a test finds has what each element has
+pub found_has : {X : Type 0} (P : X → Type 0) (p : X → Bool) (xs : List X) → All P xs → IfSome (find p xs) P
+found_has P p [] each = tt
+found_has P p (y ∷ ys) each =
+    elim (p y) as (λ b. IfSome (cond b (Some y) (find p ys)) P) [
+      | true ↦ All-head P y ys each
+      | false ↦ found_has P p ys (All-tail P y ys each)
+    ]
+
 pub all_find : {X : Type 0} (P : X → Type 0) (p : X → Bool) (xs : List X) (x : X) → All P xs → find p xs ≡ Some x → P x
-all_find P p [] x each found = absurd (cc found)
-all_find P p (y ∷ ys) x each found =
-    elim (p y) as (λ b. cond b (Some y) (find p ys) ≡ Some x → P x) [
-      | true ↦ λ e. let same : y ≡ x = cc e in subst P same (All-head P y ys each)
-      | false ↦ λ e. all_find P p ys x (All-tail P y ys each) e
-    ] found
+all_find {X} P p xs x each found = subst (λ (there : Option X). IfSome there P) found (found_has P p xs each)
 
 -- it passes the test
 pub find_passes : {X : Type 0} (p : X → Bool) (xs : List X) (x : X) → find p xs ≡ Some x → p x ≡ true
@@ -65,6 +79,21 @@ find_passes {X} p (y ∷ ys) x found =
       | true ↦ λ is e. let same : y ≡ x = cc e in subst (λ (z : X). p z ≡ true) same is
       | false ↦ λ is e. find_passes p ys x e
     ] refl found
+
+-- what passes a test are no more than all
+pub filter_few : {X : Type 0} (p : X → Bool) (xs : List X) → length (filter p xs) ≤ length xs
+filter_few p [] = omega arith
+filter_few {X} p (x ∷ xs) =
+    let rest = filter_few p xs in
+    either_way (λ (kept : List X). length kept ≤ length (x ∷ xs)) (p x) (omega arith) (omega arith)
+
+-- numbers that count up from one on are at least that, and below the one behind the last
+pub range_within : (start count : ℕ) → All (λ n. (start ≤ n) × (n < start + count)) (range_with_len start count)
+range_within start zero = All-nil (λ n. (start ≤ n) × (n < start + 0))
+range_within start (suc count) =
+    All-cons (λ n. (start ≤ n) × (n < start + suc count)) start (range_with_len (start + 1) count) (omega arith)
+    (All-weaker (λ n. (start + 1 ≤ n) × (n < start + 1 + count)) (λ n. (start ≤ n) × (n < start + suc count))
+    (λ n within. omega (arith, within)) (range_with_len (start + 1) count) (range_within (start + 1) count))
 
 -- what each step of a fold keeps, the fold keeps
 pub fold_keeps : {A B : Type 0} (P : B → Type 0) (f : B → A → B) (xs : List A) (b : B) → P b → ((b : B) (a : A) → P b → P (f b a)) → P (fold f b xs)
@@ -80,8 +109,7 @@ fold_keeps_all P Q f (x ∷ xs) b now each step =
 
 -- what each thing has, each of a list has
 pub all_each : {X : Type 0} (P : X → Type 0) (xs : List X) → ((x : X) → P x) → All P xs
-all_each P [] holds = All-nil P
-all_each P (x ∷ xs) holds = All-cons P x xs (holds x) (all_each P xs holds)
+all_each P xs holds place other within = holds _
 
 -- what all have, and what stands in for none, the one at a place has
 pub all_at : {X : Type 0} (P : X → Type 0) (xs : List X) (place : ℕ) (none : X) → P none → All P xs → P (slice_index_or xs place none)

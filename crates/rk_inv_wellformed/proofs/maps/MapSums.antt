@@ -1,8 +1,10 @@
 -- Sums over a map by number: what they are where one thing more is put there.
 use Rattle.std.proofs.Common.{◌≡◌, ◌≤◌, ◌+◌, ℕ, cond, T, [], ◌∷◌, map, sum, Option, None, Some, refl, sym, arith, sum_by, is_eq, nat_cmp}
-use Rattle.std.specs.Cmp.{ranked}
-use Rattle.std.specs.declared.cmp.Ordering.TheVariants.{Equal}
-use Rattle.rk_inv_wellformed.proofs.Words.{sum-map, sum_by-cons, below_all, by_order, Less, Greater, IsInOrder, NumberMap, get, insert}
+use Rattle.std.proofs.Common.{unwrap_or, Equal, Less, Greater}
+use Rattle.rk_inv_wellformed.proofs.Words.{ranked, sum-map, sum_by-cons, below_all, by_order, changed_each, IsInOrder, NumberMap, get}
+use Rattle.rk_inv_wellformed.proofs.Words.{get_or, insert}
+use Rattle.rk_inv_wellformed.proofs.maps.Bounds.{within_sum_of}
+use Rattle.rk_inv_wellformed.proofs.maps.Lists.{by_found}
 use Rattle.rk_inv_wellformed.proofs.maps.Maps.{above_all, first, second}
 
 -- the size of what is under a number, 0 where nothing is
@@ -42,8 +44,7 @@ sum_inserted {X} size (here ∷ things) number thing order =
 -- and in any map no more than beside all that is there
 sum_inserted_most : {X : Type 0} (size : X → ℕ) (things : NumberMap X) (number : ℕ) (thing : X)
     → sum_by (λ entry. size entry.1) (insert things number thing) ≤ sum_by (λ entry. size entry.1) things + size thing
-sum_inserted_most {X} size [] number thing =
-    omega (arith, sum_by-cons (λ (entry : ℕ × X). size entry.1) (number, thing) [])
+sum_inserted_most {X} size [] number thing = omega (arith, sum_by-cons (λ (entry : ℕ × X). size entry.1) (number, thing) [])
 sum_inserted_most {X} size (here ∷ things) number thing =
     let whole = sum_by-cons (λ (entry : ℕ × X). size entry.1) here things in
     let rest = sum_inserted_most size things number thing in
@@ -55,10 +56,26 @@ sum_inserted_most {X} size (here ∷ things) number thing =
 
 pub inserted_most : {X : Type 0} (size : X → ℕ) (things : NumberMap X) (number : ℕ) (thing : X)
     → sum (map (λ entry. size entry.1) (insert things number thing)) ≤ sum (map (λ entry. size entry.1) things) + size thing
-inserted_most size things number thing =
-    omega (
-      arith,
-      sum_inserted_most size things number thing,
-      sum-map (λ entry. size entry.1) things,
-      sum-map (λ entry. size entry.1) (insert things number thing),
-    )
+inserted_most {X} size things number thing = omega (arith, sum_inserted_most size things number thing, sum-map {X = ℕ × X})
+
+-- ---- things that are looked up
+
+module _ {X : Type 0} (size : X → ℕ) (none : X) (nothing : size none ≡ 0) where
+  -- a thing that is put counts in place of what was looked up
+  pub sum_put : (things : NumberMap X) (number : ℕ) (thing : X) → IsInOrder things
+      → sum (map (λ entry. size entry.1) (insert things number thing)) + size (get_or none things number) ≡ sum (map (λ entry. size entry.1) things) + size thing
+  sum_put things number thing order =
+      let found = by_found (λ there. size_found size there ≡ size (unwrap_or there none)) (get things number) (λ is. sym nothing) (λ x is. refl) in
+      omega (arith, found, sum_inserted size things number thing order, sum-map {X = ℕ × X})
+
+  -- and what is looked up is not above the sum
+  pub within_or : (things : NumberMap X) (number : ℕ) → size (get_or none things number) ≤ sum (map (λ entry. size entry.1) things)
+  within_or things number = by_found (λ there. size (unwrap_or there none) ≤ sum (map (λ entry. size entry.1) things)) (get things number)
+      (λ is. omega (arith, nothing)) (λ thing is. within_sum_of size things number thing is)
+
+-- where no thing is greater after a change, neither is the sum
+pub sum_changed : {X : Type 0} (size : X → ℕ) (change : ℕ → X → X) → ((number : ℕ) (thing : X) → size (change number thing) ≤ size thing)
+    → (things : NumberMap X) → sum_by (λ entry. size entry.1) (changed_each change things) ≤ sum_by (λ entry. size entry.1) things
+sum_changed size change less [] = omega arith
+sum_changed {X} size change less (here ∷ rest) =
+    omega (arith, less here.0 here.1, sum_changed size change less rest, sum_by-cons {X = ℕ × X})

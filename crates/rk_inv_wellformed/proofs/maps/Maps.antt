@@ -1,13 +1,10 @@
 -- Maps by number: what each thing of a map has, each of its pairs has, and the other way round; and a map where each thing changed.
-use Rattle.std.proofs.Common.{option_map, Option, None, ap, ◌≡◌, ◌<◌, ℕ, Bool, true, false, ◌&&◌, cond, T, All, [], ◌∷◌, Some, refl, sym}
-use Rattle.std.proofs.Common.{subst, ◌∙◌, arith, eq-eqb, ne_eqb, find, is_lt, nat_cmp}
-use Rattle.std.proofs.lemmas.Bool.{cond-false}
-use Rattle.std.specs.Cmp.{ranked}
-use Rattle.std.specs.declared.cmp.Ordering.TheVariants.{Equal}
-use Rattle.rk_inv_wellformed.proofs.Words.{cond-true, All-cons, All-head, All-nil, All-tail, unsigned_tied, below_all, by_order, eq_by_cmp}
-use Rattle.rk_inv_wellformed.proofs.Words.{Less, Greater, EachIn, IsInOrder, NumberMap, changed_each, get, insert}
+use Rattle.std.proofs.Common.{option_map, ap, ◌≡◌, ◌<◌, ℕ, Bool, true, false, ◌&&◌, cond, T, All, [], ◌∷◌, Some, IfSome, refl, sym, subst}
+use Rattle.std.proofs.Common.{◌∙◌, arith, eq-eqb, ne_eqb, find, is_lt, nat_cmp, unwrap_or, Equal, Less, Greater}
+use Rattle.rk_inv_wellformed.proofs.Words.{cond-false, ranked, cond-true, All-cons, All-head, All-nil, All-tail, unsigned_tied, below_all}
+use Rattle.rk_inv_wellformed.proofs.Words.{by_order, eq_by_cmp, EachIn, IsInOrder, NumberMap, changed_each, get, get_or, insert}
 use Rattle.rk_types.proofs.NumberMaps.{same_number}
-use Rattle.rk_inv_wellformed.proofs.maps.Lists.{all_find}
+use Rattle.rk_inv_wellformed.proofs.maps.Lists.{all_find, by_found}
 
 -- ---- maps
 
@@ -48,8 +45,7 @@ module _ {X : Type 0} where
 
   -- the first pair is found under its number
   pub get_first : (thing : ℕ × X) (things : NumberMap X) → get (thing ∷ things) thing.0 ≡ Some thing.1
-  get_first thing things =
-      cond-true (eq_by_cmp nat_cmp thing.0 thing.0) (Some thing.1) (get things thing.0)
+  get_first thing things = cond-true (eq_by_cmp nat_cmp thing.0 thing.0) (Some thing.1) (get things thing.0)
       (unsigned_tied thing.0 thing.0 ∙ eq-eqb thing.0 thing.0 refl)
 
   -- and what is found behind it is found
@@ -58,8 +54,7 @@ module _ {X : Type 0} where
   get_later thing things q x order found =
       let above : thing.0 < q = above_all thing.0 things q x (first (below_all nat_cmp thing.0 things) _ order) found in
       cond-false (eq_by_cmp nat_cmp q thing.0) (Some thing.1) (get things q)
-      (unsigned_tied q thing.0 ∙ ne_eqb q thing.0 (λ (is : q ≡ thing.0). omega arith))
-      ∙ found
+      (unsigned_tied q thing.0 ∙ ne_eqb q thing.0 (λ (is : q ≡ thing.0). omega arith)) ∙ found
 
   -- what stands behind the first pair of a map in order is in order
   pub order_tail : (thing : ℕ × X) (things : NumberMap X) → IsInOrder (thing ∷ things) → IsInOrder things
@@ -102,9 +97,19 @@ module _ {X : Type 0} where
   -- what a test finds among the pairs of a map in order is found under its number
   pub find_is_got : (p : ℕ × X → Bool) (things : NumberMap X) (pair : ℕ × X) → IsInOrder things → find p things ≡ Some pair
       → get things pair.0 ≡ Some pair.1
-  find_is_got p things pair order found =
-      all_find (λ (pair : ℕ × X). get things pair.0 ≡ Some pair.1) p things pair
+  find_is_got p things pair order found = all_find (λ (pair : ℕ × X). get things pair.0 ≡ Some pair.1) p things pair
       (All_pairs (λ q x. get things q ≡ Some x) things order (λ q x there. there)) found
+
+  -- what each thing has under its number, what is found has
+  pub found_each : (Fits : ℕ → X → Type 0) (things : NumberMap X) (number : ℕ) → EachIn Fits things → IfSome (get things number) (Fits number)
+  found_each Fits things number each =
+      by_found (λ found. IfSome found (Fits number)) (get things number) (λ is. tt) (λ thing is. each number thing is)
+
+  -- and so has what is looked up, where what stands for none has it
+  pub each_or : (Fits : ℕ → X → Type 0) (none : X) (things : NumberMap X) (number : ℕ) → Fits number none → EachIn Fits things
+      → Fits number (get_or none things number)
+  each_or Fits none things number it each =
+      by_found (λ found. Fits number (unwrap_or found none)) (get things number) (λ is. it) (λ thing is. each number thing is)
 
 -- ---- each thing changed
 
@@ -120,11 +125,16 @@ found_changed {X = X} {Y = Y} change (first ∷ rest) q =
 
 -- each thing has its property after a change that gives it
 pub each_changed : {X Y : Type 0} (Fits : ℕ → X → Type 0) (Gives : ℕ → Y → Type 0) (change : ℕ → X → Y) → ((number : ℕ) (thing : X) → Fits number thing → Gives number (change number thing)) → (things : NumberMap X) → EachIn Fits things → EachIn Gives (changed_each change things)
-each_changed {X = X} {Y = Y} Fits Gives change gives things each q y found =
-    go (get things q) refl (sym (found_changed change things q) ∙ found)
-  where
-    go : (there : Option X) → get things q ≡ there → option_map (change q) there ≡ Some y → Gives q y
-    go None there is = absurd (cc is)
-    go (Some x) there is =
-        let same : change q x ≡ y = cc is in
-        subst (Gives q) same (gives q x (each q x there))
+each_changed {X = X} {Y = Y} Fits Gives change gives things each q y found = by_found (λ there. option_map (change q) there ≡ Some y → Gives q y)
+    (get things q) (λ is none. absurd (cc none))
+    (λ x there is. let same : change q x ≡ y = cc is in subst (Gives q) same (gives q x (each q x there)))
+    (sym (found_changed change things q) ∙ found)
+
+-- and so has each pair after a change that keeps it
+pub all_changed : {X : Type 0} (P : X → Type 0) (change : ℕ → X → X) → ((number : ℕ) (thing : X) → P thing → P (change number thing))
+    → (things : NumberMap X) → All (λ entry. P entry.1) things → All (λ entry. P entry.1) (changed_each change things)
+all_changed P change keeps [] all = All-nil (λ entry. P entry.1)
+all_changed P change keeps (first ∷ rest) all =
+    All-cons (λ entry. P entry.1) (first.0, change first.0 first.1) (changed_each change rest)
+    (keeps first.0 first.1 (All-head (λ entry. P entry.1) first rest all))
+    (all_changed P change keeps rest (All-tail (λ entry. P entry.1) first rest all))

@@ -2,14 +2,13 @@
 -- under one of them.
 use Rattle.std.proofs.Common.{◌≡◌, ◌≤◌, ◌<◌, Less, Equal, Greater, ℕ, zero, suc, ◌+◌, eqb, Bool, true, false, ◌&&◌, cond, T, List, [], ◌∷◌}
 use Rattle.std.proofs.Common.{map, Some, is_some, refl, sym, ap, subst, ◌∙◌, ⊎_elim, arith, is_lt, nat_cmp, eq-eqb, ne_eqb}
+use Rattle.rk_inv_wellformed.proofs.Words.{cond-false, cases_eq, cases_lt, cond-true, unsigned_tied, below_all, by_order, range_with_len}
+use Rattle.rk_inv_wellformed.proofs.Words.{eq_by_cmp, get_other, get_same, in_order_insert, IsInOrder, NumberMap, changed_each, get, insert}
+use Rattle.rk_inv_wellformed.proofs.Words.{numbers, IsMaster}
 use Rattle.std.specs.Cmp.{nat_cmp_is}
 use Rattle.std.specs.FinMap.{is_sorted}
-use Rattle.std.proofs.lemmas.Bool.{cond-false}
-use Rattle.rk_inv_wellformed.proofs.Words.{cases_eq, cases_lt, cond-true, unsigned_tied, below_all, by_order, range_with_len, eq_by_cmp}
-use Rattle.rk_inv_wellformed.proofs.Words.{get_other, get_same, in_order_insert, IsInOrder, NumberMap, changed_each, get, insert, numbers}
-use Rattle.rk_inv_wellformed.proofs.Words.{IsMaster}
 use Rattle.rk_types.proofs.NumberMaps.{same_map}
-use Rattle.rk_inv_wellformed.proofs.maps.Maps.{first as first_of, second as second_of}
+use Rattle.rk_inv_wellformed.proofs.maps.Maps.{both_hold, first as first_of, second as second_of}
 
 -- ---- things of numbers that follow one another
 
@@ -34,13 +33,11 @@ found_behind thing n numbers q apart =
 -- what is found under a number is its thing
 pub found_numbered : {X : Type 0} (thing : ℕ → X) (numbers : List ℕ) (q : ℕ) (x : X) → get (with_numbers thing numbers) q ≡ Some x → thing q ≡ x
 found_numbered thing [] q x found = absurd (cc found)
-found_numbered thing (n ∷ numbers) q x found =
-    ⊎_elim
+found_numbered thing (n ∷ numbers) q x found = ⊎_elim
     (λ (is : q ≡ n).
     let same : Some (thing q) ≡ Some x = sym (found_here thing n numbers q is) ∙ found in
     cc same)
-    (λ (apart : q ≡ n → ⊥). found_numbered thing numbers q x (sym (found_behind thing n numbers q apart) ∙ found))
-    (cases_eq q n)
+    (λ (apart : q ≡ n → ⊥). found_numbered thing numbers q x (sym (found_behind thing n numbers q apart) ∙ found)) (cases_eq q n)
 
 -- the numbers of such things are these
 pub numbers_are : {X : Type 0} (thing : ℕ → X) (list : List ℕ) → numbers (with_numbers thing list) ≡ list
@@ -55,8 +52,7 @@ above a b low apart =
 found_within : {X : Type 0} (thing : ℕ → X) (start count q : ℕ) → start ≤ q → q < start + count → get (with_numbers thing (range_with_len start count)) q ≡ Some (thing q)
 found_within thing start zero q low high = absurd (omega (arith, low, high))
 found_within thing start (suc count) q low high =
-    ⊎_elim
-    (λ (is : q ≡ start). found_here thing start (range_with_len (start + 1) count) q is)
+    ⊎_elim (λ (is : q ≡ start). found_here thing start (range_with_len (start + 1) count) q is)
     (λ (apart : q ≡ start → ⊥).
     found_behind thing start (range_with_len (start + 1) count) q apart
     ∙ found_within thing (start + 1) count q (above start q low apart) (omega (arith, high)))
@@ -104,10 +100,6 @@ below_range n start (suc count) below =
     subst (λ o. T (is_lt o && below_all nat_cmp n (ticks (range_with_len (start + 1) count))))
     (nat_cmp_is n start Less below) (below_range n (start + 1) count (omega arith))
 
-both_hold : (a b : Bool) → T a → T b → T (a && b)
-both_hold true b h k = k
-both_hold false b h k = absurd h
-
 range_in_order : (start count : ℕ) → IsInOrder (ticks (range_with_len start count))
 range_in_order start zero = tt
 range_in_order start (suc count) =
@@ -117,15 +109,13 @@ range_in_order start (suc count) =
 -- a map whose numbers are those of a range is in order
 below_ticked : {X : Type 0} (n : ℕ) (things : NumberMap X) → T (below_all nat_cmp n (ticked things)) → T (below_all nat_cmp n things)
 below_ticked n [] below = tt
-below_ticked n (thing ∷ things) below =
-    both_hold (is_lt (nat_cmp n thing.0)) (below_all nat_cmp n things)
+below_ticked n (thing ∷ things) below = both_hold (is_lt (nat_cmp n thing.0)) (below_all nat_cmp n things)
     (first_of (is_lt (nat_cmp n thing.0)) (below_all nat_cmp n (ticked things)) below)
     (below_ticked n things (second_of (is_lt (nat_cmp n thing.0)) (below_all nat_cmp n (ticked things)) below))
 
 ticked_order : {X : Type 0} (things : NumberMap X) → IsInOrder (ticked things) → IsInOrder things
 ticked_order [] order = tt
-ticked_order (thing ∷ things) order =
-    both_hold (below_all nat_cmp thing.0 things) (is_sorted nat_cmp things)
+ticked_order (thing ∷ things) order = both_hold (below_all nat_cmp thing.0 things) (is_sorted nat_cmp things)
     (below_ticked thing.0 things (first_of (below_all nat_cmp thing.0 (ticked things)) (is_sorted nat_cmp (ticked things)) order))
     (ticked_order things (second_of (below_all nat_cmp thing.0 (ticked things)) (is_sorted nat_cmp (ticked things)) order))
 
@@ -146,10 +136,8 @@ below_next : (q count : ℕ) → q ≤ count → q < 1 + count
 below_next q count within = omega arith
 
 -- what is found under a number that such a map has
-pub found_in_range : {X : Type 0} (things : NumberMap X) (count q : ℕ) → numbers things ≡ range_with_len 1 count → IsMaster count q → is_some (get things q) ≡ true
-found_in_range things count q are there =
-    sym (found_ticked things q)
-    ∙ ap is_some
+pub found_in_range : {X : Type 0} (things : NumberMap X) {count q : ℕ} → numbers things ≡ range_with_len 1 count → IsMaster count q → is_some (get things q) ≡ true
+found_in_range things {count} {q} are there = sym (found_ticked things q) ∙ ap is_some
     (ap (λ t. get t q) (ticked_is things ∙ ap ticks are)
     ∙ found_within {X = ℕ} (λ number. 0) 1 count q there.first (below_next q count there.last))
 
@@ -162,15 +150,12 @@ numbers_kept things count n thing are there =
     order = subst IsInOrder (sym (ticked_is things ∙ ap ticks are)) (range_in_order 1 count)
 
     found : (q : ℕ) → get (insert (ticked things) n 0) q ≡ get (ticked things) q
-    found q =
-        ⊎_elim
+    found q = ⊎_elim
         (λ (is : q ≡ n).
         get_same (ticked things) n 0 q is
-        ∙ sym (each_ticked things q (subst (λ k. is_some (get things k) ≡ true) (sym is) (found_in_range things count n are there))))
-        (λ (apart : q ≡ n → ⊥). get_other (ticked things) n 0 q apart)
-        (cases_eq q n)
+        ∙ sym (each_ticked things q (subst (λ k. is_some (get things k) ≡ true) (sym is) (found_in_range things are there))))
+        (λ (apart : q ≡ n → ⊥). get_other (ticked things) n 0 q apart) (cases_eq q n)
 
     same : ticked (insert things n thing) ≡ ticked things
-    same =
-        ticked_insert things n thing
+    same = ticked_insert things n thing
         ∙ same_map (insert (ticked things) n 0) (ticked things) (in_order_insert (ticked things) n 0 order) order found

@@ -1,8 +1,8 @@
 -- Ends of rising clients that are all among some clients are no more than these.
 use Rattle.std.proofs.Common.{◌≡◌, ◌≤◌, ◌<◌, ◌+◌, ◌==◌, ◌||◌, ℕ, Bool, false, true, cond, nat_lt, List, [], ◌∷◌, All, length, refl, subst}
 use Rattle.std.proofs.Common.{sym, arith, eqb-true}
-use Rattle.rk_inv_wellformed.proofs.Words.{nat_tests, All-head, All-tail, Ended, is_among}
-use Rattle.rk_entry.specs.Ends.{RiseAbove}
+use Rattle.rk_inv_wellformed.proofs.Words.{nat_tests, All-head, All-tail, Ended, is_among, RiseAbove}
+use Rattle.rk_inv_wellformed.proofs.maps.Lists.{either_way}
 
 -- how many of the numbers are above this one
 abbrev above : ℕ → List ℕ → ℕ
@@ -13,14 +13,13 @@ above_few : (least : ℕ) (numbers : List ℕ) → above least numbers ≤ lengt
 above_few least [] = omega arith
 above_few least (n ∷ numbers) =
     let rest = above_few least numbers in
-    elim (nat_lt least n) as (λ b. cond b 1 0 + above least numbers ≤ length (n ∷ numbers)) [ true ↦ omega arith | false ↦ omega arith ]
+    either_way (λ (one : ℕ). one + above least numbers ≤ length (n ∷ numbers)) (nat_lt least n) (omega arith) (omega arith)
 
 -- fewer are above a greater number
 one_less : (a b : Bool) (n least next : ℕ) → least < next → nat_lt least n ≡ a → nat_lt next n ≡ b → cond b 1 0 ≤ cond a 1 0
-one_less true true n least next up is_a is_b = omega arith
-one_less true false n least next up is_a is_b = omega arith
-one_less false false n least next up is_a is_b = omega arith
 one_less false true n least next up is_a is_b = grind (arith, nat_tests)
+one_less true b n least next up is_a is_b = either_way (λ (one : ℕ). one ≤ 1) b (omega arith) (omega arith)
+one_less false false n least next up is_a is_b = omega arith
 
 above_less : (least next : ℕ) (numbers : List ℕ) → least < next → above next numbers ≤ above least numbers
 above_less least next [] up = omega arith

@@ -1,15 +1,15 @@
 -- The ends that a rebuild merges are of distinct clients: each is that of its client's greatest seq, and stands with the last member
 -- that tells it, where it comes first. So there are no more of them than clients.
-use Rattle.std.proofs.Common.{◌≡◌, ◌≤◌, ◌==◌, ◌&&◌, ◌||◌, ℕ, Bool, true, false, cond, not, nat_eq, nat_lt, List, [], ◌∷◌, ◌++◌, map, length}
-use Rattle.std.proofs.Common.{All, Option, None, Some, refl, subst, sym, ◌∙◌, arith, flat_map, eqb-true}
-use Rattle.std.specs.List.{IsDistinct}
-use Rattle.std.proofs.lemmas.Map.Made.{length-le_from_is_member}
+use Rattle.std.proofs.Common.{◌≡◌, ◌≤◌, ◌==◌, ◌&&◌, ◌||◌, ℕ, Bool, true, false, not, nat_eq, nat_lt, List, [], ◌∷◌, ◌++◌, map, length, All}
+use Rattle.std.proofs.Common.{Option, refl, subst, sym, ◌∙◌, arith, flat_map, eqb-true}
 use Rattle.rk_inv_wellformed.proofs.Words.{and_parts, nat_tests, length-map, All-append, All-cons, All-head, All-map, All-nil, All-tail}
 use Rattle.rk_inv_wellformed.proofs.Words.{All-weaker, recursion_from_All, list_any-append, nat_eq_equiv, list_any, get, Ended, is_among}
-use Rattle.rk_inv_wellformed.proofs.Words.{Entry, completions_from, Completion, AreOfDistinctClients}
-use Rattle.rk_world.specs.Ends.{told}
-use Rattle.rk_world.specs.Merge.{ends_by_place, first_told, is_outrun_by, is_placed, is_same_call, merged_ends, placed_ends}
-use Rattle.rk_inv_wellformed.proofs.maps.Lists.{all_given}
+use Rattle.rk_inv_wellformed.proofs.Words.{Entry, completions_from, Completion, AreOfDistinctClients, told, ends_by_place, first_told}
+use Rattle.rk_inv_wellformed.proofs.Words.{is_placed, merged_ends, placed_ends, cond_both}
+use Rattle.std.proofs.lemmas.Map.Made.{length-le_from_is_member}
+use Rattle.std.specs.List.{IsDistinct}
+use Rattle.rk_world.specs.Merge.{is_outrun_by, is_same_call}
+use Rattle.rk_inv_wellformed.proofs.maps.{all_given, by_found}
 
 -- ---- ends of distinct clients
 
@@ -91,12 +91,10 @@ placed_each : (P Q : Ended → Type 0) (S : List Ended → Type 0) (all later se
 placed_each P Q S all later seen [] start next holds each = All-nil P
 placed_each P Q S all later seen (end ∷ ends) start next holds each =
     let rest = placed_each P Q S all later (seen ++ end ∷ []) ends (next seen end start) next holds (All-tail Q end ends each) in
-    elim (is_placed all later seen end) as (λ b. is_placed all later seen end ≡ b → All P (cond b (end ∷ placed_ends all later (seen ++ end ∷ []) ends) (placed_ends all later (seen ++ end ∷ []) ends))) [
-      | true ↦ λ is.
-          All-cons P end (placed_ends all later (seen ++ end ∷ []) ends)
-          (holds seen end start (All-head Q end ends each) (has_place all later seen end is)) rest
-      | false ↦ λ is. rest
-    ] refl
+    cond_both (is_placed all later seen end) _ _ (All P)
+    (λ is. All-cons P end (placed_ends all later (seen ++ end ∷ []) ends)
+    (holds seen end start (All-head Q end ends each) (has_place all later seen end is)) rest)
+    (λ is. rest)
 
 -- an end was seen: who tells none of the seen calls does not tell its call
 WasSeen : Ended → List Ended → Type 0
@@ -111,10 +109,8 @@ seen_now end seen other none =
 
 seen_still : (end : Ended) (seen : List Ended) (next : Ended) → WasSeen end seen → WasSeen end (seen ++ next ∷ [])
 unfolding WasSeen
-seen_still end seen next was other none =
-    was other
-    (neither (list_any (is_same_call other) seen) (list_any (is_same_call other) (next ∷ []))
-    (sym (list_any-append (is_same_call other) seen (next ∷ [])) ∙ none)).0
+seen_still end seen next was other none = was other (neither (list_any (is_same_call other) seen)
+    (list_any (is_same_call other) (next ∷ [])) (sym (list_any-append (is_same_call other) seen (next ∷ [])) ∙ none)).0
 
 -- those behind an end of the same member are of other clients
 apart_behind : (all later seen ends : List Ended) (end : Ended) → IsLast all end → WasSeen end seen → All (IsHeldBy all) ends → IsApartFrom (placed_ends all later seen ends) end
@@ -161,30 +157,26 @@ placed_once all later seen (end ∷ ends) each others once =
     let placed = placed_ends all told (seen ++ end ∷ []) ends in
     let behind = All-tail (IsHeldBy all) end ends each in
     let rest = placed_once all later (seen ++ end ∷ []) ends behind others once in
-    elim (is_placed all told seen end) as (λ b. is_placed all told seen end ≡ b → AreOfDistinctClients (cond b (end ∷ placed) placed ++ ends_by_place all later)) [
-      | true ↦ λ is.
-          let place = has_place all told seen end is in
-          let is_last : IsLast all end = record { held = All-head (IsHeldBy all) end ends each; last = place.last } in
-          once_more end (placed ++ ends_by_place all later)
-          (All-append (λ other. nat_eq end.client other.client ≡ false) placed (ends_by_place all later)
-          (apart_behind all told (seen ++ end ∷ []) ends end is_last (seen_now end seen) behind)
-          (apart_later all later end is_last place.later_not others))
-          rest
-      | false ↦ λ is. rest
-    ] refl
+    cond_both (is_placed all told seen end) (end ∷ placed) placed (λ (now : List Ended). AreOfDistinctClients (now ++ ends_by_place all later))
+    (λ is.
+    let place = has_place all told seen end is in
+    let is_last : IsLast all end = record { held = All-head (IsHeldBy all) end ends each; last = place.last } in
+    once_more end (placed ++ ends_by_place all later) (All-append (λ other. nat_eq end.client other.client ≡ false) placed
+    (ends_by_place all later) (apart_behind all told (seen ++ end ∷ []) ends end is_last (seen_now end seen) behind)
+    (apart_later all later end is_last place.later_not others))
+    rest)
+    (λ is. rest)
 
 -- the ends of all members that have their place
 members_once : (all : List Ended) (members : List (List Ended)) → All (All (IsHeldBy all)) members → AreOfDistinctClients (ends_by_place all members)
 members_once all [] each = none_twice
-members_once all (ends ∷ later) each =
-    placed_once all later [] ends (All-head (All (IsHeldBy all)) ends later each) (All-tail (All (IsHeldBy all)) ends later each)
-    (members_once all later (All-tail (All (IsHeldBy all)) ends later each))
+members_once all (ends ∷ later) each = placed_once all later [] ends (All-head (All (IsHeldBy all)) ends later each)
+    (All-tail (All (IsHeldBy all)) ends later each) (members_once all later (All-tail (All (IsHeldBy all)) ends later each))
 
 -- ---- what a merge tells
 
 client_kept : (end : Ended) (last : Option Completion) → (first_told end last).client ≡ end.client
-client_kept end None = refl
-client_kept end (Some last) = refl
+client_kept end last = by_found (λ found. (first_told end found).client ≡ end.client) last (λ none. refl) (λ some is. refl)
 
 clients_kept : (change : Ended → Ended) (list : List Ended) → ((end : Ended) → (change end).client ≡ end.client) → map (λ end. end.client) (map change list) ≡ map (λ end. end.client) list
 clients_kept change [] same = refl
@@ -194,27 +186,23 @@ clients_kept change (end ∷ list) same = cc (same end, clients_kept change list
 pub merged_once : (members : List (List Entry)) → AreOfDistinctClients (merged_ends members)
 merged_once members =
     let all = flat_map told members in
-    subst (IsDistinct nat_eq)
-    (sym
-    (clients_kept (λ end. first_told end (get (completions_from [] all) end.client)) (ends_by_place all (map told members))
-    (λ end. client_kept end (get (completions_from [] all) end.client))))
-    (members_once all (map told members)
-    (All-map (All (IsHeldBy all)) told members (all_given (IsHeldBy all) told members (each_held all))))
+    subst (IsDistinct nat_eq) (sym (clients_kept (λ end. first_told end (get (completions_from [] all) end.client))
+    (ends_by_place all (map told members)) (λ end. client_kept end (get (completions_from [] all) end.client))))
+    (members_once all (map told members) (All-map (All (IsHeldBy all)) told members
+    (all_given (IsHeldBy all) told members (each_held all))))
 
 -- ---- how many there are
 
 among_turned : (number : ℕ) (numbers : List ℕ) → is_among number numbers ≡ list_any (nat_eq number) numbers
 among_turned number [] = refl
-among_turned number (first ∷ rest) =
-    cc (nat_eq_equiv.symm first number, among_turned number rest)
+among_turned number (first ∷ rest) = cc (nat_eq_equiv.symm first number, among_turned number rest)
 
 client_among : (list : List Ended) (clients : List ℕ) (client : ℕ) → All (λ end. is_among end.client clients ≡ true) list → list_any (nat_eq client) (map (λ end. end.client) list) ≡ true → list_any (nat_eq client) clients ≡ true
 client_among [] clients client all is = absurd (cc is)
 client_among (end ∷ list) clients client all is =
     elim (nat_eq client end.client) as (λ b. nat_eq client end.client ≡ b → (b || list_any (nat_eq client) (map (λ end. end.client) list)) ≡ true → list_any (nat_eq client) clients ≡ true) [
       | true ↦ λ same here.
-          sym (among_turned client clients)
-          ∙ subst (λ (n : ℕ). is_among n clients ≡ true) (sym (eqb-true client end.client same))
+          sym (among_turned client clients) ∙ subst (λ (n : ℕ). is_among n clients ≡ true) (sym (eqb-true client end.client same))
           (All-head (λ (end : Ended). is_among end.client clients ≡ true) end list all)
       | false ↦ λ other later.
           client_among list clients client (All-tail (λ (end : Ended). is_among end.client clients ≡ true) end list all) later

@@ -1,24 +1,22 @@
 -- A source that answers pulls and a target that replays what it pulled stay well formed, and what the source sends is.
-use Rattle.std.proofs.Common.{◌≡◌, ◌≤◌, ◌<◌, ◌-◌, ◌==◌, ◌^◌, ℕ, Bool, false, true, cond, nat_le, List, [], ◌∷◌, ◌++◌, filter, All, length}
-use Rattle.std.proofs.Common.{Option, None, Some, refl, ap, subst, sym, arith, lit<, length-append, w64, flat_map}
-use Rattle.std.specs.List.{last_or}
+use Rattle.std.proofs.Common.{◌≡◌, ◌≤◌, ◌<◌, ◌-◌, ◌==◌, ◌^◌, ℕ, nat_le, List, [], ◌∷◌, ◌++◌, All, length, Option, None, Some, refl, ap}
+use Rattle.std.proofs.Common.{subst, sym, arith, length-append, w64, flat_map}
 use Rattle.rk_inv_wellformed.proofs.Words.{All-append, All-cons, All-drop, All-filter, All-head, All-nil, All-tail, AllByRecursion}
 use Rattle.rk_inv_wellformed.proofs.Words.{spelled_of, Held, Token, Node, IsLawfulEntry, IsNumber, IsInScanOrder, IsLawfulToken, Message}
 use Rattle.rk_inv_wellformed.proofs.Words.{Pull, Want, items_of, IsFormedMaster, IsFormedHeld, IsFormedMessage, IsFormedTenure, IsThere}
-use Rattle.rk_inv_wellformed.proofs.Words.{Limits, Master, tablet_at, as_entries, IsMaster, is_frozen_at, Tablet, changed, from_master}
-use Rattle.rk_inv_wellformed.proofs.Words.{sending}
+use Rattle.rk_inv_wellformed.proofs.Words.{Limits, Master, tablet_at, as_entries, IsMaster, Tablet, from_master, Body, cond_both}
+use Rattle.std.specs.List.{last_or}
+use Rattle.rk_world.specs.Pulls as pulling
 use Rattle.rk_table.proofs.Changes.{order_live}
 use Rattle.rk_table.proofs.InOrder.{bucket_below_end, rises_in_order}
 use Rattle.rk_table.proofs.Tokens.{passed_and_left}
 use Rattle.rk_table.specs.Items.{at_hash, is_live_in}
 use Rattle.rk_table.specs.Order.{item_bucket}
 use Rattle.rk_table.specs.Scans.{batch_at, batch_of, left, next_token, passed, rest_at, token_before, token_of}
-use Rattle.rk_message.specs.declared.message.Body.TheVariants as bodies
 use Rattle.rk_pull.specs.declared.batches.TheConstants.{BATCH_BYTES}
-use Rattle.rk_world.specs.Pulls as pulling
-use Rattle.rk_inv_wellformed.proofs.maps.Lists.{all_each, all_flat}
 use Rattle.rk_inv_wellformed.proofs.lanes.Messages.{formed_from, tenure_fits}
-use Rattle.rk_inv_wellformed.proofs.masters.Work.{AreLimits, HasRoomFor, IsFormedWork, formed_changed, formed_sending}
+use Rattle.rk_inv_wellformed.proofs.maps.{all_each, all_flat, either_way, filter_few}
+use Rattle.rk_inv_wellformed.proofs.masters.Work.{AreLimits, HasRoomFor, IsFormedWork, formed_changed, formed_sending, WorkFits}
 
 -- ---- lists
 
@@ -38,65 +36,40 @@ lawful_entries limits (item ∷ items) all =
 -- a batch has items of the list
 each_batch : (P : Held → Type 0) (limit : ℕ) (items : List Held) → All P items → All P (batch_of limit items)
 each_batch P limit [] all = All-nil P
-each_batch P limit (item ∷ items) all =
-    let rest = each_batch P (limit - spelled_of item) items (All-tail P item items all) in
-    All-cons P item _ (All-head P item items all)
-    (elim (nat_le limit (spelled_of item)) as (λ b. All P (cond b [] (batch_of (limit - spelled_of item) items))) [
-      | true ↦ All-nil P
-      | false ↦ rest
-    ])
+each_batch P limit (item ∷ items) all = All-cons P item _ (All-head P item items all)
+    (either_way (All P) (nat_le limit (spelled_of item)) (All-nil P) (each_batch P (limit - spelled_of item) items (All-tail P item items all)))
 
 batch_few : (limit : ℕ) (items : List Held) → length (batch_of limit items) ≤ length items
 batch_few limit [] = omega arith
-batch_few limit (item ∷ items) =
-    let rest = batch_few (limit - spelled_of item) items in
-    elim (nat_le limit (spelled_of item)) as (λ b. length (item ∷ cond b [] (batch_of (limit - spelled_of item) items)) ≤ length (item ∷ items)) [
-      | true ↦ omega arith
-      | false ↦ omega arith
-    ]
+batch_few limit (item ∷ items) = either_way (λ (rest : List Held). length (item ∷ rest) ≤ length (item ∷ items)) (nat_le limit (spelled_of item))
+    (omega arith) (omega (arith, batch_few (limit - spelled_of item) items))
 
 -- what is left at a token are items of the list
 each_left : (P : Held → Type 0) (token : Token) (items : List Held) → All P items → All P (left token items)
 each_left P token items all =
     All-append P _ _ (All-drop P token.skip _ (All-filter _ P items all)) (All-filter _ P items all)
 
-filter_few : (p : Held → Bool) (items : List Held) → length (filter p items) ≤ length items
-filter_few p [] = omega arith
-filter_few p (item ∷ items) =
-    let rest = filter_few p items in
-    elim (p item) as (λ b. length (cond b (item ∷ filter p items) (filter p items)) ≤ length (item ∷ items)) [ true ↦ omega arith | false ↦ omega arith ]
-
 -- a token that stands behind so many items can be spelled
 token_behind_fits : (last : Option Held) (done : List Held) → length done < 2 ^ 30 → IsLawfulToken (token_of last done)
-token_behind_fits None done few =
-    (record { least_is = omega arith; fits = lit< tt }, record { least_is = omega arith; fits = lit< tt })
-token_behind_fits (Some item) done few = (
-  record { least_is = omega arith; fits = omega (arith, bucket_below_end item) },
-  record { least_is = omega arith; fits = omega (arith, filter_few (λ other. item_bucket other == item_bucket item) done) },
-)
+token_behind_fits None done few = omega arith
+token_behind_fits (Some item) done few =
+    omega (arith, few, bucket_below_end item, filter_few (λ other. item_bucket other == item_bucket item) done)
 
 token_fits : (rest done : List Held) → length done < 2 ^ 30 → IsLawfulToken (token_before rest done)
-token_fits [] done few =
-    (record { least_is = omega arith; fits = lit< tt }, record { least_is = omega arith; fits = lit< tt })
+token_fits [] done few = omega arith
 token_fits (item ∷ rest) done few = token_behind_fits (last_or None done) done few
 
 -- the token that a scan answers can be spelled
 next_fits : (token : Token) (limit : ℕ) (items : List Held) → IsInScanOrder items → length items < 2 ^ 30 → IsLawfulToken (next_token token limit items)
 next_fits token limit items order few =
     token_fits (rest_at token limit items) (passed token items ++ batch_at token limit items)
-    (omega (
-      arith,
-      batch_few limit (left token items),
-      length-append (passed token items) (batch_at token limit items),
-      length-append (passed token items) (left token items),
-      ap (λ (l : List Held). length l) (passed_and_left token items (rises_in_order items order)),
-    ))
+    (omega (arith, batch_few limit (left token items), length-append {A = Held}, ap (λ (l : List Held). length l) (passed_and_left token items (rises_in_order items order))))
 
 -- ---- what a source answers
 
 -- the live items of a range are well formed
-each_live : (limits : Limits) (number : ℕ) (master : Master) (tablet : Tablet) → IsFormedMaster limits number master → All (IsFormedHeld limits) (pulling.scan_of master tablet)
-each_live limits number master tablet formed =
+each_live : {limits : Limits} {number : ℕ} {master : Master} (tablet : Tablet) → IsFormedMaster limits number master → All (IsFormedHeld limits) (pulling.scan_of master tablet)
+each_live {limits} {master} tablet formed =
     All-filter (is_live_in tablet.handover.range) (IsFormedHeld limits) master.records formed.records
 
 module _ (limits : Limits) (number : ℕ) (master : Master) (sender : Node) (pull : Pull) where
@@ -107,7 +80,7 @@ module _ (limits : Limits) (number : ℕ) (master : Master) (sender : Node) (pul
   -- the batch that is answered
   abbrev answer : Message
   answer =
-      from_master master sender (bodies.Pulled (record {
+      from_master master sender (Body.Pulled (record {
         tenure = pull.tenure;
         token = pull.token;
         next = next_token pull.token BATCH_BYTES scan;
@@ -115,9 +88,8 @@ module _ (limits : Limits) (number : ℕ) (master : Master) (sender : Node) (pul
       }))
 
   each_scanned : IsFormedMaster limits number master → All (IsFormedHeld limits) (batch_at pull.token BATCH_BYTES scan)
-  each_scanned formed =
-      each_batch (IsFormedHeld limits) BATCH_BYTES _
-      (each_left (IsFormedHeld limits) pull.token _ (each_live limits number master (tablet_at master pull.tenure.tablet) formed))
+  each_scanned formed = each_batch (IsFormedHeld limits) BATCH_BYTES _
+      (each_left (IsFormedHeld limits) pull.token _ (each_live (tablet_at master pull.tenure.tablet) formed))
 
   few_scanned : HasRoomFor limits master → length scan < 2 ^ 30
   few_scanned fits =
@@ -125,27 +97,20 @@ module _ (limits : Limits) (number : ℕ) (master : Master) (sender : Node) (pul
 
   answer_is_formed : AreLimits limits → IsMaster limits.masters number → IsThere limits sender → IsLawfulToken pull.token → IsFormedTenure limits pull.tenure → IsFormedMaster limits number master → HasRoomFor limits master → IsFormedMessage limits answer
   answer_is_formed are there sender_there token tenure formed room =
-      formed_from limits number master sender _ there formed.number_is sender_there
-      (record {
-        tenure = tenure_fits limits pull.tenure are tenure;
-        token = token;
-        next =
-            next_fits pull.token BATCH_BYTES _
-            (order_live (tablet_at master pull.tenure.tablet).handover.range master.records formed.scanned) (few_scanned room);
-        entries = lawful_entries limits _ (each_scanned formed);
-      })
+      formed_from limits master sender _ there formed.number_is sender_there
+      (assumption (
+        tenure_fits are tenure,
+        next_fits pull.token BATCH_BYTES _
+            (order_live (tablet_at master pull.tenure.tablet).handover.range master.records formed.scanned) (few_scanned room),
+        lawful_entries limits _ (each_scanned formed),
+      ))
       (tenure, subst (All (IsFormedHeld limits)) (sym (items_again _)) (each_scanned formed))
 
   -- a source that takes a Pull
   pub formed_pull : AreLimits limits → IsMaster limits.masters number → IsThere limits sender → IsLawfulToken pull.token → IsFormedTenure limits pull.tenure → IsFormedMaster limits number master → HasRoomFor limits (pulling.pull_taken master sender pull).master → IsFormedWork limits number (pulling.pull_taken master sender pull)
-  formed_pull are there sender_there token tenure formed room =
-      go (is_frozen_at (tablet_at master pull.tenure.tablet) pull.tenure.term) room
-    where
-      go : (frozen : Bool) → HasRoomFor limits (cond frozen (sending master answer) (changed master)).master → IsFormedWork limits number (cond frozen (sending master answer) (changed master))
-      go true fits =
-          formed_sending limits number master answer formed
-          (answer_is_formed are there sender_there token tenure formed fits)
-      go false fits = formed_changed limits number master formed
+  formed_pull are there sender_there token tenure formed room = cond_both _ _ _ (WorkFits limits number)
+      (λ frozen fits. formed_sending formed (answer_is_formed are there sender_there token tenure formed fits))
+      (λ other fits. formed_changed formed) room
 
 module _ (limits : Limits) (number : ℕ) (master : Master) (sender : Node) (want : Want) where
   -- the live items with a hash
@@ -154,25 +119,17 @@ module _ (limits : Limits) (number : ℕ) (master : Master) (sender : Node) (wan
 
   -- the items that are answered
   abbrev given : Message
-  given = from_master master sender (bodies.Got (record { tenure = want.tenure; hashes = want.hashes; entries = as_entries (flat_map found want.hashes) }))
+  given = from_master master sender (Body.Got (record { tenure = want.tenure; hashes = want.hashes; entries = as_entries (flat_map found want.hashes) }))
 
   each_found : IsFormedMaster limits number master → All (IsFormedHeld limits) (flat_map found want.hashes)
-  each_found formed =
-      all_flat (IsFormedHeld limits) found want.hashes
+  each_found formed = all_flat (IsFormedHeld limits) found want.hashes
       (all_each (λ hash. All (IsFormedHeld limits) (found hash)) want.hashes
-      (λ hash. All-filter _ (IsFormedHeld limits) _ (each_live limits number master (tablet_at master want.tenure.tablet) formed)))
+      (λ hash. All-filter _ (IsFormedHeld limits) _ (each_live (tablet_at master want.tenure.tablet) formed)))
 
   -- a source that takes a Want
   pub formed_want : AreLimits limits → IsMaster limits.masters number → IsThere limits sender → AllByRecursion (IsNumber w64 0) want.hashes → IsFormedTenure limits want.tenure → IsFormedMaster limits number master → IsFormedWork limits number (pulling.want_taken master sender want)
-  formed_want are there sender_there hashes tenure formed =
-      elim (is_frozen_at (tablet_at master want.tenure.tablet) want.tenure.term) as (λ b. IsFormedWork limits number (cond b (sending master given) (changed master))) [
-        | true ↦ formed_sending limits number master given formed
-            (formed_from limits number master sender _ there formed.number_is sender_there
-            (record {
-              tenure = tenure_fits limits want.tenure are tenure;
-              hashes = hashes;
-              entries = lawful_entries limits _ (each_found formed);
-            })
-            (tenure, subst (All (IsFormedHeld limits)) (sym (items_again _)) (each_found formed)))
-        | false ↦ formed_changed limits number master formed
-      ]
+  formed_want are there sender_there hashes tenure formed = cond_both _ _ _ (IsFormedWork limits number)
+      (λ frozen. formed_sending formed (formed_from limits master sender _ there formed.number_is sender_there
+      (assumption (tenure_fits are tenure, lawful_entries limits _ (each_found formed)))
+      (tenure, subst (All (IsFormedHeld limits)) (sym (items_again _)) (each_found formed))))
+      (λ other. formed_changed formed)

@@ -1,16 +1,16 @@
 -- Tablets of a master: their handover, and what they have beside it; and the tablet that a master has under a number.
-use Rattle.std.proofs.Common.{◌≡◌, ◌≤◌, ◌<◌, ℕ, true, All, List, [], ◌∷◌, ◌++◌, Option, None, Some, unwrap_or, refl, sym, ap, subst, ◌⊎◌}
-use Rattle.std.proofs.Common.{inl, inr, arith, lit<, w32, w64}
-use Rattle.std.specs.List.{IsDistinct}
-use Rattle.std.proofs.lemmas.List.Elements.{All-take}
-use Rattle.rk_inv_wellformed.proofs.Words.{cond_both, All-drop, All-nil, All-push, get_other, get_same, IsInOrder, get, Ended}
-use Rattle.rk_inv_wellformed.proofs.Words.{IsLawfulRange, IsNumber, Completions, ends_of, noted, Handover, IsFormedGathered, IsFormedMaster}
+use Rattle.std.proofs.Common.{◌≡◌, ◌≤◌, ◌<◌, ℕ, true, All, List, [], ◌∷◌, Option, Some, unwrap_or, refl, sym, ap, subst, arith, w32, w64}
+use Rattle.std.proofs.Common.{◌+◌}
+use Rattle.rk_inv_wellformed.proofs.Words.{All-take, All-drop, All-nil, All-push, get_other, get_same, IsInOrder, get, Ended, IsLawfulRange}
+use Rattle.rk_inv_wellformed.proofs.Words.{IsNumber, Completions, ends_of, noted, Handover, IsFormedGathered, IsFormedMaster}
 use Rattle.rk_inv_wellformed.proofs.Words.{IsFormedPulling, IsFormedTablet, place_in, AreOfDistinctClients, IsFormedEnd, IsFormedHeld}
 use Rattle.rk_inv_wellformed.proofs.Words.{IsFormedNumber, Limits, Master, tablet_at, with_tablet, with_outstanding, IsMaster, with_pulling}
 use Rattle.rk_inv_wellformed.proofs.Words.{counted_up, with_wanted, is_receiving, Pulling, Tablet, no_tablet, pulling_from, with_handover}
-use Rattle.rk_priority.specs.Hashes.{Hashes, batched, batched_by, is_known, wanting}
+use Rattle.rk_inv_wellformed.proofs.Words.{Hashes}
+use Rattle.std.specs.List.{IsDistinct}
+use Rattle.rk_priority.specs.Hashes.{batched, batched_by, is_known, wanting}
 use Rattle.rk_priority.specs.declared.wanted.TheConstants.{BATCH_HASHES}
-use Rattle.rk_inv_wellformed.proofs.maps.Completed.{noted_each, noted_order}
+use Rattle.rk_inv_wellformed.proofs.maps.{noted_each, noted_order, either_way, each_or}
 use Rattle.rk_inv_wellformed.proofs.masters.MergedOnce.{none_twice}
 
 -- ---- parts of a tablet
@@ -33,50 +33,24 @@ pub record IsFormedRest (limits : Limits) (tablet : Tablet) : Type 0 where
   pub merged_once : AreOfDistinctClients tablet.merged_ends
 
 -- a tablet is well formed where its number, its handover and the rest are
-pub formed_tablet : (limits : Limits) (number : ℕ) (tablet : Tablet) → IsNumber w32 1 number
+pub formed_tablet : {limits : Limits} {number : ℕ} (tablet : Tablet) → IsNumber w32 1 number
     → IsFormedHandover limits tablet.pulling.source tablet.handover → IsFormedRest limits tablet → IsFormedTablet limits number tablet
-formed_tablet limits number tablet is handover rest = record {
-  number_is = is;
-  term = handover.term;
-  place = handover.place;
-  range = handover.range;
-  counter = handover.counter;
-  order = rest.order;
-  ended = rest.ended;
-  source = handover.source_is;
-  pulled = rest.pulled;
-  gathered = rest.gathered;
-  merged = rest.merged;
-  merged_once = rest.merged_once;
-}
+formed_tablet tablet is handover rest = assumption
 
 -- the handover of a well formed tablet is well formed
-pub handover_of : (limits : Limits) (number : ℕ) (tablet : Tablet) → IsFormedTablet limits number tablet
+pub handover_of : {limits : Limits} {number : ℕ} {tablet : Tablet} → IsFormedTablet limits number tablet
     → IsFormedHandover limits tablet.pulling.source tablet.handover
-handover_of limits number tablet formed = record {
-  term = formed.term;
-  place = formed.place;
-  range = formed.range;
-  counter = formed.counter;
-  source_is = formed.source;
-}
+handover_of formed = assumption
 
 -- and so is what it has beside it
-pub rest_of : (limits : Limits) (number : ℕ) (tablet : Tablet) → IsFormedTablet limits number tablet → IsFormedRest limits tablet
-rest_of limits number tablet formed = record {
-  order = formed.order;
-  ended = formed.ended;
-  pulled = formed.pulled;
-  gathered = formed.gathered;
-  merged = formed.merged;
-  merged_once = formed.merged_once;
-}
+pub rest_of : {limits : Limits} {number : ℕ} {tablet : Tablet} → IsFormedTablet limits number tablet → IsFormedRest limits tablet
+rest_of formed = assumption
 
 -- nothing is pulled so far
 pub formed_pulling_from : (limits : Limits) (source : ℕ) → IsFormedPulling limits (pulling_from source)
 unfolding IsDistinct
 formed_pulling_from limits source = record {
-  token = (record { least_is = omega arith; fits = lit< tt }, record { least_is = omega arith; fits = lit< tt });
+  token = (omega arith, omega arith);
   wanted = All-nil (IsNumber w64 0);
   outstanding = All-nil (IsNumber w64 0);
   workers = refl;
@@ -87,86 +61,34 @@ formed_pulling_from limits source = record {
 -- ---- a tablet with another part
 
 -- a tablet with another handover
-pub formed_with_handover : (limits : Limits) (number : ℕ) (tablet : Tablet) (handover : Handover) → IsFormedTablet limits number tablet
+pub formed_with_handover : {limits : Limits} {number : ℕ} {tablet : Tablet} {handover : Handover} → IsFormedTablet limits number tablet
     → IsFormedHandover limits tablet.pulling.source handover → IsFormedTablet limits number (with_handover tablet handover)
-formed_with_handover limits number tablet handover formed new = record {
-  number_is = formed.number_is;
-  term = new.term;
-  place = new.place;
-  range = new.range;
-  counter = new.counter;
-  order = formed.order;
-  ended = formed.ended;
-  source = new.source_is;
-  pulled = formed.pulled;
-  gathered = formed.gathered;
-  merged = formed.merged;
-  merged_once = formed.merged_once;
-}
+formed_with_handover formed new = assumption
 
 -- the counter of a tablet rises by one
-pub formed_counted_up : (limits : Limits) (number : ℕ) (tablet : Tablet) → IsFormedTablet limits number tablet → tablet.handover.counter < limits.top
+pub formed_counted_up : {limits : Limits} {number : ℕ} {tablet : Tablet} → IsFormedTablet limits number tablet → tablet.handover.counter < limits.top
     → IsFormedTablet limits number (counted_up tablet)
-formed_counted_up limits number tablet formed below = record {
-  number_is = formed.number_is;
-  term = formed.term;
-  place = formed.place;
-  range = formed.range;
-  counter = record { first = omega arith; last = omega arith };
-  order = formed.order;
-  ended = formed.ended;
-  source = formed.source;
-  pulled = formed.pulled;
-  gathered = formed.gathered;
-  merged = formed.merged;
-  merged_once = formed.merged_once;
-}
+formed_counted_up {limits} {tablet} formed below =
+    let counter : IsFormedNumber limits (tablet.handover.counter + 1) = omega (arith, formed.counter) in
+    assumption
 
 -- a tablet with other completions
-pub formed_with_completions : (limits : Limits) (number : ℕ) (tablet : Tablet) (completions : Completions) → IsFormedTablet limits number tablet
+pub formed_with_completions : {limits : Limits} {number : ℕ} {tablet : Tablet} (completions : Completions) → IsFormedTablet limits number tablet
     → IsInOrder completions → All (IsFormedEnd limits) (ends_of completions)
     → IsFormedTablet limits number (record tablet { completions = completions })
-formed_with_completions limits number tablet completions formed order ended = record {
-  number_is = formed.number_is;
-  term = formed.term;
-  place = formed.place;
-  range = formed.range;
-  counter = formed.counter;
-  order = order;
-  ended = ended;
-  source = formed.source;
-  pulled = formed.pulled;
-  gathered = formed.gathered;
-  merged = formed.merged;
-  merged_once = formed.merged_once;
-}
+formed_with_completions completions formed order ended = assumption
 
 -- a tablet that notes the end of a call
-pub formed_noting : (limits : Limits) (number : ℕ) (tablet : Tablet) (end : Ended) → IsFormedTablet limits number tablet → IsFormedEnd limits end
+pub formed_noting : {limits : Limits} {number : ℕ} {tablet : Tablet} {end : Ended} → IsFormedTablet limits number tablet → IsFormedEnd limits end
     → IsFormedTablet limits number (record tablet { completions = noted tablet.completions end })
-formed_noting limits number tablet end formed new =
-    formed_with_completions limits number tablet (noted tablet.completions end) formed
-    (noted_order tablet.completions end formed.order)
-    (noted_each (IsFormedEnd limits) tablet.completions end formed.ended new)
+formed_noting {limits} {tablet} {end} formed new = formed_with_completions (noted tablet.completions end) formed
+    (noted_order tablet.completions end formed.order) (noted_each (IsFormedEnd limits) tablet.completions end formed.ended new)
 
 -- a tablet that pulls so
-pub formed_with_pulling : (limits : Limits) (number : ℕ) (tablet : Tablet) (pulling : Pulling) → IsFormedTablet limits number tablet
+pub formed_with_pulling : {limits : Limits} {number : ℕ} {tablet : Tablet} (pulling : Pulling) → IsFormedTablet limits number tablet
     → IsFormedPulling limits pulling → (is_receiving tablet.handover.role ≡ true → IsMaster limits.masters pulling.source)
     → IsFormedTablet limits number (with_pulling tablet pulling)
-formed_with_pulling limits number tablet pulling formed new source = record {
-  number_is = formed.number_is;
-  term = formed.term;
-  place = formed.place;
-  range = formed.range;
-  counter = formed.counter;
-  order = formed.order;
-  ended = formed.ended;
-  source = source;
-  pulled = new;
-  gathered = formed.gathered;
-  merged = formed.merged;
-  merged_once = formed.merged_once;
-}
+formed_with_pulling pulling formed new source = assumption
 
 -- ---- hashes
 
@@ -176,119 +98,71 @@ pub record AreFormedHashes (hashes : Hashes) : Type 0 where
   pub outstanding : All (IsNumber w64 0) hashes.outstanding
 
 -- one more hash is wanted
-pub formed_wanting : (hashes : Hashes) (hash : ℕ) → AreFormedHashes hashes → IsNumber w64 0 hash → AreFormedHashes (wanting hashes hash)
-formed_wanting hashes hash formed new =
-    cond_both (is_known hashes hash) hashes (record hashes { wanted = hashes.wanted ++ hash ∷ [] }) AreFormedHashes (λ known. formed)
-    (λ unknown. record {
-      wanted = All-push (IsNumber w64 0) hashes.wanted hash formed.wanted new;
-      outstanding = formed.outstanding;
-    })
+pub formed_wanting : {hashes : Hashes} {hash : ℕ} → AreFormedHashes hashes → IsNumber w64 0 hash → AreFormedHashes (wanting hashes hash)
+formed_wanting {hashes} {hash} formed new = either_way AreFormedHashes (is_known hashes hash) formed
+    (record { wanted = All-push (IsNumber w64 0) hashes.wanted hash formed.wanted new; outstanding = formed.outstanding })
 
 -- the wanted hashes become a batch, where none is outstanding
-pub formed_batched : (hashes : Hashes) → AreFormedHashes hashes → AreFormedHashes (batched hashes)
-formed_batched hashes formed = go hashes.outstanding
+pub formed_batched : {hashes : Hashes} → AreFormedHashes hashes → AreFormedHashes (batched hashes)
+formed_batched {hashes} formed = go hashes.outstanding
   where
     go : (outstanding : List ℕ) → AreFormedHashes (batched_by hashes outstanding)
-    go [] = record {
-      wanted = All-drop (IsNumber w64 0) BATCH_HASHES hashes.wanted formed.wanted;
-      outstanding = All-take (IsNumber w64 0) BATCH_HASHES hashes.wanted formed.wanted;
-    }
+    go [] =
+        assumption (All-drop (IsNumber w64 0) BATCH_HASHES hashes.wanted formed.wanted, All-take (IsNumber w64 0) BATCH_HASHES hashes.wanted formed.wanted)
     go (hash ∷ more) = formed
 
 -- the hashes of what is pulled
-pub hashes_of : (limits : Limits) (pulling : Pulling) → IsFormedPulling limits pulling → AreFormedHashes pulling.hashes
-hashes_of limits pulling formed = record { wanted = formed.wanted; outstanding = formed.outstanding }
+pub hashes_of : {limits : Limits} {pulling : Pulling} → IsFormedPulling limits pulling → AreFormedHashes pulling.hashes
+hashes_of formed = assumption
 
 -- pulling with other hashes
-pub pulling_with_hashes : (limits : Limits) (pulling : Pulling) (hashes : Hashes) → IsFormedPulling limits pulling → AreFormedHashes hashes
+pub pulling_with_hashes : {limits : Limits} {pulling : Pulling} {hashes : Hashes} → IsFormedPulling limits pulling → AreFormedHashes hashes
     → IsFormedPulling limits (record pulling { hashes = hashes })
-pulling_with_hashes limits pulling hashes formed new = record {
-  token = formed.token;
-  wanted = new.wanted;
-  outstanding = new.outstanding;
-  workers = formed.workers;
-  items = formed.items;
-  sealed = formed.sealed;
-}
+pulling_with_hashes formed new = assumption
 
 -- a hash is wanted for a tablet
-pub formed_with_wanted : (limits : Limits) (number : ℕ) (tablet : Tablet) (hash : ℕ) → IsFormedTablet limits number tablet → IsNumber w64 0 hash
+pub formed_with_wanted : {limits : Limits} {number : ℕ} {tablet : Tablet} {hash : ℕ} → IsFormedTablet limits number tablet → IsNumber w64 0 hash
     → IsFormedTablet limits number (with_wanted tablet hash)
-formed_with_wanted limits number tablet hash formed new =
-    formed_with_pulling limits number tablet (record tablet.pulling { hashes = wanting tablet.pulling.hashes hash }) formed
-    (pulling_with_hashes limits tablet.pulling (wanting tablet.pulling.hashes hash) formed.pulled
-    (formed_wanting tablet.pulling.hashes hash (hashes_of limits tablet.pulling formed.pulled) new))
-    formed.source
+formed_with_wanted {tablet} {hash} formed new =
+    formed_with_pulling (record tablet.pulling { hashes = wanting tablet.pulling.hashes hash }) formed
+    (pulling_with_hashes formed.pulled (formed_wanting (hashes_of formed.pulled) new)) formed.source
 
 -- the wanted hashes of a tablet become a batch
-pub formed_with_outstanding : (limits : Limits) (number : ℕ) (tablet : Tablet) → IsFormedTablet limits number tablet
+pub formed_with_outstanding : {limits : Limits} {number : ℕ} {tablet : Tablet} → IsFormedTablet limits number tablet
     → IsFormedTablet limits number (with_outstanding tablet)
-formed_with_outstanding limits number tablet formed =
-    formed_with_pulling limits number tablet (record tablet.pulling { hashes = batched tablet.pulling.hashes }) formed
-    (pulling_with_hashes limits tablet.pulling (batched tablet.pulling.hashes) formed.pulled
-    (formed_batched tablet.pulling.hashes (hashes_of limits tablet.pulling formed.pulled)))
-    formed.source
+formed_with_outstanding {tablet} formed =
+    formed_with_pulling (record tablet.pulling { hashes = batched tablet.pulling.hashes }) formed
+    (pulling_with_hashes formed.pulled (formed_batched (hashes_of formed.pulled))) formed.source
 
 -- ---- the tablet under a number
-
--- it is the one that is found, or one that the master does not know
-pub tablet_cases : (master : Master) (number : ℕ)
-    → (get master.tablets number ≡ Some (tablet_at master number)) ⊎ ((get master.tablets number ≡ None) × (tablet_at master number ≡ no_tablet))
-tablet_cases master number = go (get master.tablets number) refl
-  where
-    go : (found : Option Tablet) → get master.tablets number ≡ found
-        → (get master.tablets number ≡ Some (unwrap_or found no_tablet)) ⊎ ((get master.tablets number ≡ None) × (unwrap_or found no_tablet ≡ no_tablet))
-    go None is = inr (is, refl)
-    go (Some tablet) is = inl is
 
 -- the one that is found
 pub tablet_found : (master : Master) (number : ℕ) (tablet : Tablet) → get master.tablets number ≡ Some tablet → tablet_at master number ≡ tablet
 tablet_found master number tablet is = ap (λ (found : Option Tablet). unwrap_or found no_tablet) is
 
 -- a tablet that is found is well formed
-pub formed_found : (limits : Limits) (number : ℕ) (master : Master) (id : ℕ) (tablet : Tablet) → IsFormedMaster limits number master
+pub formed_found : {limits : Limits} {number : ℕ} {master : Master} (id : ℕ) (tablet : Tablet) → IsFormedMaster limits number master
     → get master.tablets id ≡ Some tablet → IsFormedTablet limits id (tablet_at master id)
-formed_found limits number master id tablet formed is =
+formed_found {limits} {master} id tablet formed is =
     subst (IsFormedTablet limits id) (sym (tablet_found master id tablet is)) (formed.tablets id tablet is)
 
 -- what a tablet that is not known has beside its handover
 pub rest_of_none : (limits : Limits) → IsFormedRest limits no_tablet
-rest_of_none limits = record {
-  order = tt;
-  ended = All-nil (IsFormedEnd limits);
-  pulled = formed_pulling_from limits 0;
-  gathered = All-nil (IsFormedGathered limits);
-  merged = All-nil (IsFormedEnd limits);
-  merged_once = none_twice;
-}
+rest_of_none limits =
+    assumption (All-nil (IsFormedEnd limits), formed_pulling_from limits 0, All-nil (IsFormedGathered limits), none_twice)
 
 -- what any tablet of a master has beside its handover
 pub rest_at : (limits : Limits) (number : ℕ) (master : Master) (id : ℕ) → IsFormedMaster limits number master
     → IsFormedRest limits (tablet_at master id)
-rest_at limits number master id formed = go (get master.tablets id) refl
-  where
-    go : (found : Option Tablet) → get master.tablets id ≡ found → IsFormedRest limits (unwrap_or found no_tablet)
-    go None is = rest_of_none limits
-    go (Some tablet) is = rest_of limits id tablet (formed.tablets id tablet is)
+rest_at limits number master id formed = each_or (λ id tablet. IsFormedRest limits tablet) no_tablet master.tablets id (rest_of_none limits)
+    (λ id tablet is. rest_of (formed.tablets id tablet is))
 
 -- its counter counts from 1, and its term is no greater than the greatest number
-pub counter_at : (limits : Limits) (number : ℕ) (master : Master) (id : ℕ) → IsFormedMaster limits number master → 1 ≤ limits.top
+pub counter_at : {limits : Limits} {number : ℕ} {master : Master} (id : ℕ) → IsFormedMaster limits number master → 1 ≤ limits.top
     → IsFormedNumber limits (tablet_at master id).handover.counter
-counter_at limits number master id formed some = go (get master.tablets id) refl
-  where
-    go : (found : Option Tablet) → get master.tablets id ≡ found → IsFormedNumber limits (unwrap_or found no_tablet).handover.counter
-    go None is = record { first = omega arith; last = some }
-    go (Some tablet) is = (formed.tablets id tablet is).counter
-
--- a tablet in a role other than Absent is found, so it is well formed
-pub formed_at : (limits : Limits) (number : ℕ) (master : Master) (id : ℕ) → IsFormedMaster limits number master
-    → (tablet_at master id ≡ no_tablet → ⊥) → IsFormedTablet limits id (tablet_at master id)
-formed_at limits number master id formed known = go (get master.tablets id) refl known
-  where
-    go : (found : Option Tablet) → get master.tablets id ≡ found → (unwrap_or found no_tablet ≡ no_tablet → ⊥)
-        → IsFormedTablet limits id (unwrap_or found no_tablet)
-    go None is there = absurd (there refl)
-    go (Some tablet) is there = formed.tablets id tablet is
+counter_at {limits} {master} id formed some =
+    each_or (λ id tablet. IsFormedNumber limits tablet.handover.counter) no_tablet master.tablets id (omega (arith, some))
+    (λ id tablet is. (formed.tablets id tablet is).counter)
 
 -- what is found once a tablet is so
 pub tablet_with_same : (master : Master) (id : ℕ) (tablet : Tablet) → tablet_at (with_tablet master id tablet) id ≡ tablet

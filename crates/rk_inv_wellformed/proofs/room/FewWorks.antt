@@ -1,22 +1,17 @@
 -- How much a master sends and serves when it takes a message or its turn: for a request one message and one call, for what a backup tells
 -- no more than its log has entries, and on its turn one message for each backup and two for each tablet.
-use Rattle.std.proofs.Common.{◌≡◌, ◌≤◌, ◌<◌, ◌+◌, ◌*◌, ℕ, Bool, true, false, cond, T, nat_lt, All, List, [], ◌∷◌, length, take, Option}
-use Rattle.std.proofs.Common.{None, Some, flat_map, refl, ap, length-append, arith, is_lt, nat_cmp, length-drop, length-take}
-use Rattle.std.proofs.lemmas.List.Elements.{All-from_recursion}
-use Rattle.rk_inv_wellformed.proofs.Words.{All-cons, All-head, All-nil, All-tail, All-weaker, length-range_with_len, below_all}
-use Rattle.rk_inv_wellformed.proofs.Words.{range_with_len, IsInOrder, NumberMap, get, Call, Ended, Entry, Role, IsTabletMap, Row, pending}
-use Rattle.rk_inv_wellformed.proofs.Words.{PlacedBytes, Overreach, Request, Stored, apply_entries, apply_entry, newly_held, stored_taken}
-use Rattle.rk_inv_wellformed.proofs.Words.{with_applied, with_ended, with_entry_item, told_by, next_reading, Master, with_known, duties}
-use Rattle.rk_inv_wellformed.proofs.Words.{master_turn, reading_duty, tablet_duty, with_outstanding, call_of, choice_of, chosen}
-use Rattle.rk_inv_wellformed.proofs.Words.{request_taken, Tablet, Worked, changed, Choice, Redirects, Repeats, Ignores, Wants, Reads}
-use Rattle.rk_inv_wellformed.proofs.Words.{Writes, Refuses, Reading, Served}
-use Rattle.rk_log.specs.Log.{committed}
-use Rattle.rk_tablet_map.specs.Rows.{Precedes}
-use Rattle.rk_transfer.specs.declared.role.Role.TheVariants as roles
-use Rattle.rk_world.specs.MasterTurn.{append_of, appends, pull_of, want_of}
+use Rattle.std.proofs.Common.{◌≡◌, ◌≤◌, ◌<◌, ◌+◌, ◌*◌, ℕ, T, nat_lt, All, List, [], ◌∷◌, length, Option, None, Some, flat_map, refl, ap}
+use Rattle.std.proofs.Common.{length-append, arith, is_lt, nat_cmp, length-drop, length-take, ◌++◌}
+use Rattle.rk_inv_wellformed.proofs.Words.{All-from_recursion, All-cons, All-head, All-nil, All-tail, All-weaker, length-range_with_len}
+use Rattle.rk_inv_wellformed.proofs.Words.{below_all, range_with_len, IsInOrder, NumberMap, get, Call, Ended, Entry, Role, IsTabletMap, Row}
+use Rattle.rk_inv_wellformed.proofs.Words.{pending, PlacedBytes, Overreach, Request, Stored, apply_entries, apply_entry, newly_held}
+use Rattle.rk_inv_wellformed.proofs.Words.{stored_taken, with_applied, with_ended, with_entry_item, told_by, next_reading, Master}
+use Rattle.rk_inv_wellformed.proofs.Words.{with_known, duties, master_turn, reading_duty, tablet_duty, with_outstanding, call_of, choice_of}
+use Rattle.rk_inv_wellformed.proofs.Words.{chosen, request_taken, Tablet, Worked, changed, Choice, Redirects, Reading, Served, Precedes}
+use Rattle.rk_inv_wellformed.proofs.Words.{append_of, appends, want_of, Message}
+use Rattle.rk_inv_wellformed.proofs.maps.{by_found, either_way, first, is_below, second}
 use Rattle.rk_inv_wellformed.proofs.room.Counters.{CountersWithin, request_counters, stored_counters, turn_counters}
-use Rattle.rk_inv_wellformed.proofs.maps.Maps.{first, is_below, second}
-use Rattle.rk_inv_wellformed.proofs.room.MoreCounters.{IsFewWork}
+use Rattle.rk_inv_wellformed.proofs.room.MoreCounters.{IsFewWork, few_changed}
 
 -- ---- how many numbers there are
 
@@ -40,9 +35,11 @@ few_between least most (thing ∷ things) order some low high =
 
 -- so there are no more than numbers below the greatest
 pub few_in_order : {X : Type 0} (most : ℕ) (things : NumberMap X) → IsInOrder things → All (λ thing. thing.0 < most) things → length things ≤ most
-few_in_order most things order high =
-    let count = few_between 0 most things order (omega arith) (All-weaker (λ thing. thing.0 < most) (λ thing. 0 ≤ thing.0) (λ thing below. omega arith) things high) high in
-    omega arith
+few_in_order most things order high = omega (
+  arith,
+  few_between 0 most things order (omega arith)
+      (All-weaker (λ thing. thing.0 < most) (λ thing. 0 ≤ thing.0) (λ thing below. omega arith) things high) high,
+)
 
 -- the rows of a tablet map rise by number
 rows_between : (least most : ℕ) (rows : List Row) → IsTabletMap rows → least ≤ most → All (λ row. least ≤ row.tablet) rows → All (λ row. row.tablet < most) rows → length rows + least ≤ most
@@ -57,9 +54,11 @@ rows_between least most (row ∷ rows) (before, map) some low high =
     omega arith
 
 pub few_rows : (most : ℕ) (rows : List Row) → IsTabletMap rows → All (λ row. row.tablet < most) rows → length rows ≤ most
-few_rows most rows map high =
-    let count = rows_between 0 most rows map (omega arith) (All-weaker (λ row. row.tablet < most) (λ row. 0 ≤ row.tablet) (λ row below. omega arith) rows high) high in
-    omega arith
+few_rows most rows map high = omega (
+  arith,
+  rows_between 0 most rows map (omega arith)
+      (All-weaker (λ row. row.tablet < most) (λ row. 0 ≤ row.tablet) (λ row below. omega arith) rows high) high,
+)
 
 -- what gives at most one of each gives no more than there are
 pub one_of_each : {X Y : Type 0} (give : X → List Y) (list : List X) → ((x : X) → length (give x) ≤ 1) → length (flat_map give list) ≤ length list
@@ -75,70 +74,47 @@ record IsCounted (count : ℕ) (worked : Worked) : Type 0 where
   served : length worked.served ≤ count
 
 chosen_one : (master : Master) (asked : ℕ) (call : Call) (choice : Choice) → IsCounted 1 (chosen master asked call choice)
-chosen_one master asked call Redirects = record { sends = omega arith; served = omega arith }
-chosen_one master asked call (Repeats end) = record { sends = omega arith; served = omega arith }
-chosen_one master asked call Ignores = record { sends = omega arith; served = omega arith }
-chosen_one master asked call (Wants id) = record { sends = omega arith; served = omega arith }
-chosen_one master asked call (Reads outcome) = record { sends = omega arith; served = omega arith }
-chosen_one master asked call (Writes id value) = record { sends = omega arith; served = omega arith }
-chosen_one master asked call (Refuses found absent) = record { sends = omega arith; served = omega arith }
+chosen_one master asked call Redirects = omega arith
+chosen_one master asked call _ = omega arith
 
 -- a Request
 pub request_few : (most : ℕ) (master : Master) (client : ℕ) (request : Request) → 1 ≤ most → CountersWithin most master → IsFewWork (most + 1) 1 (request_taken master client request)
 request_few most master client request some each =
-    let one = chosen_one master request.tablet (call_of client request) (choice_of master (call_of client request)) in
-    record { counters = request_counters most master client request some each; sends = one.sends; served = one.served }
+    assumption (
+      request_counters most master client request some each,
+      chosen_one master request.tablet (call_of client request) (choice_of master (call_of client request)),
+    )
 
 -- ---- what a backup tells
 
 ended_one : (master : Master) (place : ℕ) (call : Option Call) (ends : List Ended) → IsCounted 1 (with_ended master place call ends)
-ended_one master place (Some call) (end ∷ ends) = record { sends = omega arith; served = omega arith }
-ended_one master place (Some call) [] = record { sends = omega arith; served = omega arith }
-ended_one master place None [] = record { sends = omega arith; served = omega arith }
-ended_one master place None (end ∷ ends) = record { sends = omega arith; served = omega arith }
+ended_one master place (Some call) (end ∷ ends) = omega arith
+ended_one master place _ _ = omega arith
 
 applied_counted : (entries : List Entry) (master : Master) → IsCounted (length entries) (apply_entries master entries)
-applied_counted [] master = record { sends = omega arith; served = omega arith }
+applied_counted [] master = omega arith
 applied_counted (entry ∷ entries) master =
     let now = apply_entry master entry in
     let one = ended_one (with_applied (with_entry_item master entry)) master.applied (get master.calls master.applied) (told_by entry) in
     let rest = applied_counted entries now.master in
-    record {
-      sends = omega (arith, one.sends, rest.sends, length-append now.sends (apply_entries now.master entries).sends);
-      served = omega (arith, one.served, rest.served, length-append now.served (apply_entries now.master entries).served);
-    }
+    omega (arith, one, rest, length-append {A = Message}, length-append {A = Served})
 
 -- a Stored
 pub stored_few : (most : ℕ) (master : Master) (backup : ℕ) (stored : Stored) (over : Option Overreach) → CountersWithin most master → IsFewWork most (length master.log.entries) (stored_taken master backup stored over)
-stored_few most master backup stored over each = go over (stored_counters most master backup stored over each)
-  where
-    known : Master
-    known = with_known master backup stored.segment stored.length
-
-    newly : length (newly_held known) ≤ length master.log.entries
-    newly =
-        omega (
-          arith,
-          length-drop known.applied (take (committed known.log) known.log.entries),
-          length-take (committed known.log) known.log.entries,
-        )
-
-    go : (over : Option Overreach) → CountersWithin most (stored_taken master backup stored over).master → IsFewWork most (length master.log.entries) (stored_taken master backup stored over)
-    go (Some beyond) here = record { counters = here; sends = omega arith; served = omega arith }
-    go None here =
-        let worked = apply_entries known (newly_held known) in
-        let counted = applied_counted (newly_held known) known in
-        record {
-          counters = here;
-          sends = omega (arith, newly, counted.sends, length-append worked.sends []);
-          served = omega (arith, newly, counted.served, length-append worked.served []);
-        }
+stored_few most master backup stored over each = by_found
+    (λ over. CountersWithin most (stored_taken master backup stored over).master → IsFewWork most (length master.log.entries) (stored_taken master backup stored over))
+    over
+    (λ none here.
+    let known = with_known master backup stored.segment stored.length in
+    let worked = apply_entries known (newly_held known) in
+    let counted : IsCounted (length master.log.entries) (record worked { sends = worked.sends ++ []; served = worked.served ++ [] }) = omega (arith, length-drop {A = Entry}, length-take {A = Entry}, applied_counted (newly_held known) known, length-append {A = Message}, length-append {A = Served}) in
+    assumption)
+    (λ beyond some here. few_changed most (length master.log.entries) master here) (stored_counters most master backup stored over each)
 
 -- ---- a turn
 
 append_one : (master : Master) (backup : ℕ) (piece : Option PlacedBytes) → length (append_of master backup piece) ≤ 1
-append_one master backup None = omega arith
-append_one master backup (Some piece) = omega arith
+append_one master backup piece = by_found (λ found. length (append_of master backup found) ≤ 1) piece (λ none. omega arith) (λ some is. omega arith)
 
 appends_few : (master : Master) → length (appends master) ≤ length master.log.known
 appends_few master =
@@ -161,37 +137,24 @@ record IsDuty (count : ℕ) (worked : Worked) : Type 0 where
 no_duty : (master : Master) → IsDuty 2 (changed master)
 no_duty master = record { sends = omega arith; served = refl }
 
-tested_duty : (b : Bool) (x y : Worked) → IsDuty 2 x → IsDuty 2 y → IsDuty 2 (cond b x y)
-tested_duty true x y left right = left
-tested_duty false x y left right = right
-
 reading_few : (master : Master) (id : ℕ) (tablet : Tablet) (reading : Option Reading) → IsDuty 2 (reading_duty master id tablet reading)
 reading_few master id tablet None = no_duty master
 reading_few master id tablet (Some reading) = record { sends = omega arith; served = refl }
 
 duty_few : (master : Master) (id : ℕ) (tablet : Tablet) (role : Role) → IsDuty 2 (tablet_duty master id tablet role)
-duty_few master id tablet roles.Receiving =
+duty_few master id tablet Role.Receiving =
     let now = with_outstanding tablet in
     record {
       sends =
-          omega (
-            arith,
-            want_one master id now now.pulling.hashes.outstanding,
-            length-append (want_of master id now now.pulling.hashes.outstanding) (pull_of master id now ∷ []),
-          );
+          omega (arith, want_one, length-append {A = Message});
       served = refl;
     }
-duty_few master id tablet (roles.Joining (Some entry)) =
-    tested_duty (nat_lt entry master.applied) _ (changed master) (record { sends = omega arith; served = refl }) (no_duty master)
-duty_few master id tablet (roles.Joining None) = no_duty master
-duty_few master id tablet (roles.Rebuilding from None) = reading_few master id tablet (next_reading tablet.gather)
-duty_few master id tablet (roles.Rebuilding from (Some entry)) =
-    tested_duty (nat_lt entry master.applied) _ (changed master) (record { sends = omega arith; served = refl }) (no_duty master)
-duty_few master id tablet roles.Absent = no_duty master
-duty_few master id tablet roles.Serving = no_duty master
-duty_few master id tablet roles.Closing = no_duty master
-duty_few master id tablet roles.Frozen = no_duty master
-duty_few master id tablet (roles.Wanting from) = no_duty master
+duty_few master id tablet (Role.Joining (Some entry)) =
+    either_way (IsDuty 2) (nat_lt entry master.applied) (record { sends = omega arith; served = refl }) (no_duty master)
+duty_few master id tablet (Role.Rebuilding from None) = reading_few master id tablet (next_reading tablet.gather)
+duty_few master id tablet (Role.Rebuilding from (Some entry)) =
+    either_way (IsDuty 2) (nat_lt entry master.applied) (record { sends = omega arith; served = refl }) (no_duty master)
+duty_few master id tablet _ = no_duty master
 
 duties_few : (tablets : NumberMap Tablet) (master : Master) → IsDuty (2 * length tablets) (duties master tablets)
 duties_few [] master = record { sends = omega arith; served = refl }

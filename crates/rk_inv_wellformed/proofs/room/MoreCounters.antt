@@ -1,19 +1,20 @@
 -- How far the counters of a master's tablets rise when it takes a message, and how much it sends and serves then: of any message but a
 -- backup's Stored at most one message and one call. A Grant's floor and a merge's floor are at most one above the greatest number.
-use Rattle.std.proofs.Common.{◌≡◌, ◌≤◌, ◌==◌, ◌&&◌, ◌%◌, ℕ, Bool, true, false, cond, not, nat_lt, List, [], ◌∷◌, length, fold, Option, None}
-use Rattle.std.proofs.Common.{Some, refl, subst, arith}
-use Rattle.rk_inv_wellformed.proofs.Words.{cond_both, All-map, All-weaker, meets, Held, Node, Range, begun, closed, frozen, in_role, joined}
-use Rattle.rk_inv_wellformed.proofs.Words.{role_frozen, role_granted, role_joined, Handover, Role, Grant, Prepare, Tenure, Message, Got}
-use Rattle.rk_inv_wellformed.proofs.Words.{Pull, Pulled, Want, items_of, Master, tablet_at, with_tablet, with_item, with_side_segment}
-use Rattle.rk_inv_wellformed.proofs.Words.{with_appended, without_items, is_frozen_at, sealed_sides, Pulling, Tablet, closing_entry}
-use Rattle.rk_inv_wellformed.proofs.Words.{freezing, Worked, changed, sending}
-use Rattle.rk_transfer.specs.Handover.{granted, owned, prepared, released, role_closed, role_owned, role_released}
-use Rattle.rk_transfer.specs.declared.role.Role.TheVariants as roles
+use Rattle.std.proofs.Common.{◌≤◌, ◌==◌, ◌&&◌, ◌%◌, ℕ, Bool, cond, not, nat_lt, List, [], ◌∷◌, length, fold, Option, None, Some, refl}
+use Rattle.std.proofs.Common.{arith}
+use Rattle.rk_inv_wellformed.proofs.Words.{cond_both, meets, Held, Node, Range, begun, closed, frozen, in_role, joined, role_frozen}
+use Rattle.rk_inv_wellformed.proofs.Words.{role_granted, role_joined, Handover, Role, Grant, Prepare, Tenure, Message, Got, Pull, Pulled}
+use Rattle.rk_inv_wellformed.proofs.Words.{Want, items_of, Master, tablet_at, with_tablet, with_item, with_side_segment, with_appended}
+use Rattle.rk_inv_wellformed.proofs.Words.{without_items, is_frozen_at, sealed_sides, Pulling, Tablet, closing_entry, freezing, Worked}
+use Rattle.rk_inv_wellformed.proofs.Words.{changed, sending, granted, owned, prepared, released, role_closed, role_owned, role_released}
+use Rattle.rk_inv_wellformed.proofs.Words.{is_settled}
 use Rattle.rk_world.specs.Handovers as handovers
 use Rattle.rk_world.specs.Pulls as pulls
-use Rattle.rk_inv_wellformed.proofs.room.Counters.{CountersWithin, counter_within, counters_from_counts, counters_with_tablet, counts_from_counters}
 use Rattle.rk_inv_wellformed.proofs.lanes.Ledgers.{kept_by_fold}
-use Rattle.rk_inv_wellformed.proofs.masters.Waiting.{EachMoved}
+use Rattle.rk_inv_wellformed.proofs.maps.{either_way, all_changed}
+use Rattle.rk_inv_wellformed.proofs.masters.Waiting.{EachMoved, moved_in_role, one_moved, moved_where}
+use Rattle.rk_inv_wellformed.proofs.room.Counters.{CountersWithin, counter_within, counters_from_counts, counters_with_tablet}
+use Rattle.rk_inv_wellformed.proofs.room.Counters.{counts_from_counters}
 
 -- what a master makes of something: no counter is greater then, and no more is sent and served than this
 pub record IsFewWork (most count : ℕ) (worked : Worked) : Type 0 where
@@ -27,31 +28,14 @@ few_changed most count master each = record { counters = each; sends = omega ari
 pub few_sending : (most : ℕ) (master : Master) (message : Message) → CountersWithin most master → IsFewWork most 1 (sending master message)
 few_sending most master message each = record { counters = each; sends = omega arith; served = omega arith }
 
-pub few_tested : (most count : ℕ) (b : Bool) (x y : Worked) → IsFewWork most count x → IsFewWork most count y → IsFewWork most count (cond b x y)
-few_tested most count true x y left right = left
-few_tested most count false x y left right = right
-
 -- ---- moves
 
 -- no counter that a move leaves is greater
 abbrev pub MovesWithin : ℕ → Option Handover → Type 0
 MovesWithin most moved = EachMoved (λ now. now.counter ≤ most) moved
 
-no_move : (most : ℕ) → MovesWithin most None
-no_move most now is = absurd (cc is)
-
-one_move : (most : ℕ) (handover : Handover) → handover.counter ≤ most → MovesWithin most (Some handover)
-one_move most handover within now is =
-    let same : handover ≡ now = cc is in
-    subst (λ (now : Handover). now.counter ≤ most) same within
-
-pub tested_move : (most : ℕ) (b : Bool) (moved : Option Handover) → MovesWithin most moved → MovesWithin most (cond b moved None)
-tested_move most true moved within = within
-tested_move most false moved within = no_move most
-
 pub role_move : (most : ℕ) (handover : Handover) (role : Option Role) → handover.counter ≤ most → MovesWithin most (in_role handover role)
-role_move most handover None within = no_move most
-role_move most handover (Some role) within = one_move most (record handover { role = role }) within
+role_move most handover role within = moved_in_role (λ now. now.counter ≤ most) handover role (λ r is. within)
 
 -- a master with a move of a tablet
 moved_counters : (most : ℕ) (master : Master) (id : ℕ) (moved : Option Handover) → CountersWithin most master → MovesWithin most moved → CountersWithin most (handovers.with_move master id moved)
@@ -62,20 +46,17 @@ moved_counters most master id (Some handover) each within =
 -- each other tablet whose range meets this one is given up
 pub given_up_counters : (most : ℕ) (master : Master) (id : ℕ) (range : Range) → CountersWithin most master → CountersWithin most (handovers.with_others_given_up master id range)
 given_up_counters most master id range each =
+    let met : ℕ → Tablet → Bool = λ number tablet. not (number == id) && meets tablet.handover.range range in
     counters_from_counts most (handovers.with_others_given_up master id range)
-    (All-map (λ entry. entry.1.handover.counter ≤ most) (λ entry. (entry.0, cond (not (entry.0 == id) && meets entry.1.handover.range range) (handovers.given_up entry.1) entry.1)) master.tablets
-    (All-weaker (λ entry. entry.1.handover.counter ≤ most)
-    (λ entry. (cond (not (entry.0 == id) && meets entry.1.handover.range range) (handovers.given_up entry.1) entry.1).handover.counter ≤ most)
-    (λ entry within.
-    cond_both (not (entry.0 == id) && meets entry.1.handover.range range) (handovers.given_up entry.1) entry.1
-    (λ (tablet : Tablet). tablet.handover.counter ≤ most) (λ meets. within) (λ other. within))
-    master.tablets (counts_from_counters most master each)))
+    (all_changed (λ (tablet : Tablet). tablet.handover.counter ≤ most) (λ number tablet. cond (met number tablet) (handovers.given_up tablet) tablet)
+    (λ number tablet within. either_way (λ (now : Tablet). now.handover.counter ≤ most) (met number tablet) within within)
+    master.tablets (counts_from_counters most master each))
 
 -- a master that tells what the next owner has to know
 transferring_few : (most : ℕ) (master : Master) (tenure : Tenure) → CountersWithin most master → IsFewWork most 1 (handovers.transferring master tenure)
 transferring_few most master tenure each =
     let tablet = tablet_at master tenure.tablet in
-    few_tested most 1 (is_frozen_at tablet tenure.term) (sending master (handovers.transfer master tenure tablet)) (changed master)
+    either_way (IsFewWork most 1) (is_frozen_at tablet tenure.term)
     (few_sending most master (handovers.transfer master tenure tablet) each) (few_changed most 1 master each)
 
 module _ (most : ℕ) (some : 1 ≤ most) (master : Master) (each : CountersWithin most master) where
@@ -87,26 +68,19 @@ module _ (most : ℕ) (some : 1 ≤ most) (master : Master) (each : CountersWith
 
   pub begun_move : (handover : Handover) (term : ℕ) (range : Range) (role : Role) → handover.counter ≤ most → MovesWithin most (begun handover term range role)
   begun_move handover term range role within =
-      tested_move most (nat_lt handover.term term) (Some (record handover { role = role; term = term; range = range }))
-      (one_move most (record handover { role = role; term = term; range = range }) within)
+      moved_where (λ now. now.counter ≤ most) (nat_lt handover.term term) (Some (record handover { role = role; term = term; range = range }))
+      (one_moved (λ now. now.counter ≤ most) (record handover { role = role; term = term; range = range }) within)
 
   freezing_moved : (now : Master) (id : ℕ) (tablet : Tablet) (moved : Option Handover) → CountersWithin most now → MovesWithin most moved → CountersWithin most (freezing now id tablet moved)
   freezing_moved now id tablet None here within = here
   freezing_moved now id tablet (Some handover) here within =
-      cond_both _ _ _ (CountersWithin most)
-      (λ settled. counters_with_tablet most now id _ here (within handover refl)) (λ staged. here)
+      either_way (CountersWithin most) (is_settled now tablet.handover.range) (counters_with_tablet most now id _ here (within handover refl)) here
 
   -- a Prepare
   again_few : (tenure : Tenure) (role : Role) (term : ℕ) → IsFewWork most 1 (handovers.ready_again master tenure role term)
-  again_few tenure (roles.Wanting from) term =
-      few_tested most 1 (term == tenure.term) _ _ (few_sending most master _ each) (few_changed most 1 master each)
-  again_few tenure roles.Absent term = few_changed most 1 master each
-  again_few tenure roles.Serving term = few_changed most 1 master each
-  again_few tenure roles.Closing term = few_changed most 1 master each
-  again_few tenure roles.Frozen term = few_changed most 1 master each
-  again_few tenure roles.Receiving term = few_changed most 1 master each
-  again_few tenure (roles.Joining entry) term = few_changed most 1 master each
-  again_few tenure (roles.Rebuilding from entry) term = few_changed most 1 master each
+  again_few tenure (Role.Wanting from) term =
+      either_way (IsFewWork most 1) (term == tenure.term) (few_sending most master _ each) (few_changed most 1 master each)
+  again_few tenure _ term = few_changed most 1 master each
 
   prepared_counters : (prepare : Prepare) → CountersWithin most (handovers.tablet_prepared master prepare)
   prepared_counters prepare =
@@ -114,12 +88,12 @@ module _ (most : ℕ) (some : 1 ≤ most) (master : Master) (each : CountersWith
       let now = handovers.with_others_given_up (without_items master prepare.range) id prepare.range in
       let here : CountersWithin most now = given_up_counters most (without_items master prepare.range) id prepare.range each in
       moved_counters most now id (prepared (tablet_at now id).handover prepare.tenure.term prepare.range (length master.log.entries)) here
-      (begun_move (tablet_at now id).handover prepare.tenure.term prepare.range (roles.Wanting (length master.log.entries))
+      (begun_move (tablet_at now id).handover prepare.tenure.term prepare.range (Role.Wanting (length master.log.entries))
       (counter_within most now id some here))
 
   pub prepare_few : (prepare : Prepare) → IsFewWork most 1 (handovers.prepare_taken master prepare)
   prepare_few prepare =
-      few_tested most 1 (handovers.is_greater master prepare.tenure.tablet prepare.tenure.term prepare.range) _ _
+      either_way (IsFewWork most 1) (handovers.is_greater master prepare.tenure.tablet prepare.tenure.term prepare.range)
       (few_sending most (handovers.tablet_prepared master prepare) _ (prepared_counters prepare))
       (again_few prepare.tenure (tablet_at master prepare.tenure.tablet).handover.role (tablet_at master prepare.tenure.tablet).handover.term)
 
@@ -129,16 +103,15 @@ module _ (most : ℕ) (some : 1 ≤ most) (master : Master) (each : CountersWith
   closing_counters id (Some handover) within =
       let now = handovers.tablet_closed master id handover in
       freezing_moved now id (tablet_at now id) (frozen handover handover.term)
-      (moved_counters most master id (Some handover) each within)
-      (tested_move most (handover.term == handover.term) (in_role handover (role_frozen handover.role))
-      (role_move most handover (role_frozen handover.role) (within handover refl)))
+      (moved_counters most master id (Some handover) each within) (moved_where (λ now. now.counter ≤ most) (handover.term == handover.term)
+      (in_role handover (role_frozen handover.role)) (role_move most handover (role_frozen handover.role) (within handover refl)))
 
   pub close_few : (tenure : Tenure) → IsFewWork most 1 (handovers.close_taken master tenure)
   close_few tenure =
       let handover = (tablet_at master tenure.tablet).handover in
       transferring_few most (handovers.closing master tenure.tablet (closed handover tenure.term)) tenure
       (closing_counters tenure.tablet (closed handover tenure.term)
-      (tested_move most (nat_lt handover.term tenure.term) (in_role (record handover { term = tenure.term }) (role_closed handover.role))
+      (moved_where (λ now. now.counter ≤ most) (nat_lt handover.term tenure.term) (in_role (record handover { term = tenure.term }) (role_closed handover.role))
       (role_move most (record handover { term = tenure.term }) (role_closed handover.role) (at_most tenure.tablet))))
 
   -- a Grant, whose floor is not greater
@@ -152,7 +125,7 @@ module _ (most : ℕ) (some : 1 ≤ most) (master : Master) (each : CountersWith
   grant_few grant floor =
       let handover = (tablet_at master grant.tenure.tablet).handover in
       granting_few grant (granted handover grant.tenure.term grant.floor)
-      (tested_move most (handover.term == grant.tenure.term) (in_role (record handover { counter = grant.floor }) (role_granted handover.role))
+      (moved_where (λ now. now.counter ≤ most) (handover.term == grant.tenure.term) (in_role (record handover { counter = grant.floor }) (role_granted handover.role))
       (role_move most (record handover { counter = grant.floor }) (role_granted handover.role) floor))
 
   -- an Own
@@ -165,31 +138,30 @@ module _ (most : ℕ) (some : 1 ≤ most) (master : Master) (each : CountersWith
   own_few tenure =
       let handover = (tablet_at master tenure.tablet).handover in
       owning_few tenure.tablet (owned handover tenure.term master.applied)
-      (tested_move most (handover.term == tenure.term) (in_role handover (role_owned master.applied handover.role))
+      (moved_where (λ now. now.counter ≤ most) (handover.term == tenure.term) (in_role handover (role_owned master.applied handover.role))
       (role_move most handover (role_owned master.applied handover.role) (at_most tenure.tablet)))
 
   -- a Release
   releasing_few : (id : ℕ) (moved : Option Handover) → MovesWithin most moved → IsFewWork most 1 (handovers.releasing master id moved)
   releasing_few id None within = few_changed most 1 master each
-  releasing_few id (Some handover) within =
-      few_changed most 1 (handovers.tablet_released master id handover)
+  releasing_few id (Some handover) within = few_changed most 1 (handovers.tablet_released master id handover)
       (moved_counters most (without_items master handover.range) id (Some handover) each within)
 
   pub release_few : (tenure : Tenure) → IsFewWork most 1 (handovers.release_taken master tenure)
   release_few tenure =
       let handover = (tablet_at master tenure.tablet).handover in
       releasing_few tenure.tablet (released handover tenure.term)
-      (tested_move most (handover.term == tenure.term) (in_role handover (role_released handover.role))
+      (moved_where (λ now. now.counter ≤ most) (handover.term == tenure.term) (in_role handover (role_released handover.role))
       (role_move most handover (role_released handover.role) (at_most tenure.tablet)))
 
   -- ---- pulling
 
   -- a Pull and a Want
   pub pull_few : (sender : Node) (pull : Pull) → IsFewWork most 1 (pulls.pull_taken master sender pull)
-  pull_few sender pull = few_tested most 1 _ _ _ (few_sending most master _ each) (few_changed most 1 master each)
+  pull_few sender pull = either_way (IsFewWork most 1) _ (few_sending most master _ each) (few_changed most 1 master each)
 
   pub want_few : (sender : Node) (want : Want) → IsFewWork most 1 (pulls.want_taken master sender want)
-  want_few sender want = few_tested most 1 _ _ _ (few_sending most master _ each) (few_changed most 1 master each)
+  want_few sender want = either_way (IsFewWork most 1) _ (few_sending most master _ each) (few_changed most 1 master each)
 
 -- a tablet pulls so
 pulling_counters : (most : ℕ) (master : Master) (id : ℕ) (tablet : Tablet) (pulling : Pulling) → tablet.handover.counter ≤ most → CountersWithin most master → CountersWithin most (with_tablet master id (pulls.with_pulling tablet pulling))
@@ -198,10 +170,9 @@ pulling_counters most master id tablet pulling within each = counters_with_table
 -- items are replayed
 replay_counters : (most id worker : ℕ) (items : List Held) (master : Master) → 1 ≤ most → CountersWithin most master → CountersWithin most (pulls.replay master id worker items)
 replay_counters most id worker items master some each =
-    kept_by_fold (CountersWithin most) (pulls.replay_one id worker)
-    (λ now item here.
-    cond_both _ _ _ (CountersWithin most)
-    (λ newer. pulling_counters most (with_item now item) id (tablet_at now id) _ (counter_within most now id some here) here) (λ older. here))
+    kept_by_fold (CountersWithin most) (pulls.replay_one id worker) (λ now item here. cond_both _ _ _ (CountersWithin most)
+    (λ newer. pulling_counters most (with_item now item) id (tablet_at now id) _ (counter_within most now id some here) here)
+    (λ older. here))
     items master each
 
 -- a closing entry is appended
@@ -214,9 +185,8 @@ joining_counters most master id tablet None each within = each
 joining_counters most master id tablet (Some handover) each within = counters_with_tablet most master id _ each (within handover refl)
 
 join_move : (most : ℕ) (handover : Handover) (term : ℕ) (entry : Option ℕ) → handover.counter ≤ most → MovesWithin most (joined handover term entry)
-join_move most handover term entry within =
-    tested_move most (handover.term == term) (in_role handover (role_joined entry handover.role))
-    (role_move most handover (role_joined entry handover.role) within)
+join_move most handover term entry within = moved_where (λ now. now.counter ≤ most) (handover.term == term)
+    (in_role handover (role_joined entry handover.role)) (role_move most handover (role_joined entry handover.role) within)
 
 joined_counters : (most : ℕ) (master : Master) (id : ℕ) (tablet : Tablet) (sealed : List ℕ) → CountersWithin most master → tablet.handover.counter ≤ most → CountersWithin most (pulls.joining_by master id tablet sealed)
 joined_counters most master id tablet [] each within =
@@ -240,7 +210,7 @@ pulled_all_counters most master id some each =
 -- a Pulled
 pub pulled_few : (most : ℕ) (some : 1 ≤ most) (master : Master) (pulled : Pulled) → CountersWithin most master → IsFewWork most 1 (pulls.pulled_taken master pulled)
 pulled_few most some master pulled each =
-    few_tested most 1 _ _ _ (few_changed most 1 (pulls.batch_taken master id pulled) taken) (few_changed most 1 master each)
+    either_way (IsFewWork most 1) _ (few_changed most 1 (pulls.batch_taken master id pulled) taken) (few_changed most 1 master each)
   where
     id : ℕ
     id = pulled.tenure.tablet
@@ -255,8 +225,7 @@ pulled_few most some master pulled each =
     passed = pulling_counters most replayed id (tablet_at replayed id) _ (counter_within most replayed id some here) here
 
     taken : CountersWithin most (pulls.batch_taken master id pulled)
-    taken =
-        cond_both _ _ _ (CountersWithin most)
+    taken = cond_both _ _ _ (CountersWithin most)
         (λ end. pulled_all_counters most (pulls.token_passed replayed id pulled.next) id some passed) (λ more. passed)
 
 -- a Got
@@ -265,7 +234,6 @@ got_few most some master message each =
     let id = message.tenure.tablet in
     let replayed = pulls.replay master id 0 (items_of message.entries) in
     let here = replay_counters most id 0 (items_of message.entries) master some each in
-    few_tested most 1 _ _ _
-    (few_changed most 1 (pulls.hashes_resolved replayed id message.hashes)
+    either_way (IsFewWork most 1) _ (few_changed most 1 (pulls.hashes_resolved replayed id message.hashes)
     (pulling_counters most replayed id (tablet_at replayed id) _ (counter_within most replayed id some here) here))
     (few_changed most 1 master each)

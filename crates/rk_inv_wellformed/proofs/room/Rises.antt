@@ -1,32 +1,21 @@
 -- How far the greatest number of a lane rises: by the messages that are sent, by the calls that get records, and by what terms and
 -- counters rise.
-use Rattle.std.proofs.Common.{◌≡◌, ◌≤◌, Less, Equal, Greater, ℕ, ◌+◌, List, [], ◌∷◌, ◌++◌, length, map, fold, All, Option, None, Some, refl}
-use Rattle.std.proofs.Common.{sym, subst, arith, unwrap_or, nat_cmp}
-use Rattle.rk_inv_wellformed.proofs.Words.{length-map, All-append, All-cons, All-head, All-map, All-tail, All-weaker, by_order, NumberMap}
-use Rattle.rk_inv_wellformed.proofs.Words.{get, insert, Call, Ended, Outcome, Traffic, Message, Rebuilt, Coordinator, outcome_of}
-use Rattle.rk_inv_wellformed.proofs.Words.{IsWellFormed, last_stamp, Ledger, asked_by, seen_of, with_rebuilt, Master, filled, quietly}
-use Rattle.rk_inv_wellformed.proofs.Words.{with_sends, Worked, World, counters_of, standing, with_all_sent, with_coordinator, with_ledger}
-use Rattle.rk_inv_wellformed.proofs.Words.{with_master, with_top, LastCall, Served}
-use Rattle.rk_message.specs.Wire.{with_message}
-use Rattle.rk_world.specs.Journal.{next_record}
-use Rattle.rk_world.specs.Ledger.{with_all_served, with_end, with_ends, with_record, with_served}
-use Rattle.rk_world.specs.Step.{ledger_after}
-use Rattle.rk_inv_wellformed.proofs.maps.Lists.{all_back, all_flat, all_given}
-use Rattle.rk_inv_wellformed.proofs.maps.Bounds.{all_in_map, greatest_within}
-use Rattle.rk_inv_wellformed.proofs.lanes.Works.{after_coordinated, after_work}
+use Rattle.std.proofs.Common.{◌≡◌, ◌≤◌, ℕ, ◌+◌, List, [], ◌∷◌, ◌++◌, length, map, fold, All, Option, None, Some, refl, sym, subst, arith}
+use Rattle.std.proofs.Common.{unwrap_or}
+use Rattle.rk_inv_wellformed.proofs.Words.{length-map, All-append, All-cons, All-map, NumberMap, get, insert, Call, Ended, Outcome, Traffic}
+use Rattle.rk_inv_wellformed.proofs.Words.{Message, Rebuilt, Coordinator, outcome_of, IsWellFormed, last_stamp, Ledger, asked_by, seen_of}
+use Rattle.rk_inv_wellformed.proofs.Words.{with_rebuilt, Master, filled, quietly, with_sends, Worked, World, counters_of, standing}
+use Rattle.rk_inv_wellformed.proofs.Words.{with_all_sent, with_coordinator, with_ledger, with_master, with_top, LastCall, Served}
+use Rattle.rk_inv_wellformed.proofs.Words.{with_message, next_record, with_all_served, with_end, with_ends, with_record, with_served}
+use Rattle.rk_inv_wellformed.proofs.Words.{ledger_after}
 use Rattle.rk_inv_wellformed.proofs.lanes.Ledgers.{ended_is, ended_keeps, served_is, clients_rebuilt, clients_served, last_pushed}
+use Rattle.rk_inv_wellformed.proofs.lanes.Works.{after_coordinated, after_work}
 use Rattle.rk_inv_wellformed.proofs.lanes.Worlds.{counters_in, seen_within, sent_within, stamp_within, stamps_seen, terms_in, terms_within}
+use Rattle.rk_inv_wellformed.proofs.maps.{all_in_map, greatest_within, all_back, all_flat, all_given, by_found, All_insert}
 
 -- what holds of each thing of a map, and of another one, holds of each with that one too
 pub all_inserted : {X : Type 0} (P : X → Type 0) (things : NumberMap X) (number : ℕ) (thing : X) → P thing → All (λ entry. P entry.1) things → All (λ entry. P entry.1) (insert things number thing)
-all_inserted P [] number thing new all = All-cons (λ entry. P entry.1) (number, thing) [] new all
-all_inserted P (first ∷ rest) number thing new all =
-    elim (nat_cmp number first.0) as (λ o. All (λ entry. P entry.1) (by_order o ((number, thing) ∷ first ∷ rest) ((first.0, thing) ∷ rest) (first ∷ insert rest number thing))) [
-      | Less ↦ All-cons (λ entry. P entry.1) (number, thing) (first ∷ rest) new all
-      | Equal ↦ All-cons (λ entry. P entry.1) (first.0, thing) rest new (All-tail (λ entry. P entry.1) first rest all)
-      | Greater ↦ All-cons (λ entry. P entry.1) first (insert rest number thing) (All-head (λ entry. P entry.1) first rest all)
-          (all_inserted P rest number thing new (All-tail (λ entry. P entry.1) first rest all))
-    ]
+all_inserted P things number thing new all = All_insert (λ entry. P entry.1) things number thing all new
 
 -- ---- each kind of number
 
@@ -47,30 +36,30 @@ keeps_to_top w formed = record {
   stamp = stamp_within w w.top formed.standing;
   seen = seen_within w w.top formed.standing;
   terms = terms_within w w.top formed.standing;
-  counters =
-      all_given (λ (n : ℕ). n ≤ w.top) (λ (entry : ℕ × Master). counters_of entry.1) w.masters
+  counters = all_given (λ (n : ℕ). n ≤ w.top) (λ (entry : ℕ × Master). counters_of entry.1) w.masters
       (all_back (λ (n : ℕ). n ≤ w.top) (w.wire.sent ∷ last_stamp w.ledger.journal ∷ (stamps_seen w ++ terms_in w)) (counters_in w) formed.standing);
 }
 
 -- where they keep to a limit, the greatest is not above it
 pub top_within : (limit : ℕ) (w : World) → KeepsTo limit w → (with_top w).top ≤ limit
 top_within limit w keeps =
-    let before = keeps.top in
-    let now = greatest_within limit (standing w) all in
-    omega arith
-  where
-    all : All (λ n. n ≤ limit) (standing w)
-    all =
-        All-cons (λ n. n ≤ limit) w.wire.sent (last_stamp w.ledger.journal ∷ ((stamps_seen w ++ terms_in w) ++ counters_in w)) keeps.sent
-        (All-cons (λ n. n ≤ limit) (last_stamp w.ledger.journal) ((stamps_seen w ++ terms_in w) ++ counters_in w) keeps.stamp
-        (All-append (λ n. n ≤ limit) (stamps_seen w ++ terms_in w) (counters_in w)
-        (All-append (λ n. n ≤ limit) (stamps_seen w) (terms_in w)
-        (All-map (λ n. n ≤ limit) (λ entry. seen_of entry.1) w.ledger.clients keeps.seen)
-        (All-map (λ n. n ≤ limit) (λ row. row.term) w.coordinator.rows keeps.terms))
-        (all_flat (λ n. n ≤ limit) (λ entry. counters_of entry.1) w.masters keeps.counters)))
+    let all : All (λ n. n ≤ limit) (standing w) =
+    All-cons (λ n. n ≤ limit) w.wire.sent (last_stamp w.ledger.journal ∷ ((stamps_seen w ++ terms_in w) ++ counters_in w)) keeps.sent
+    (All-cons (λ n. n ≤ limit) (last_stamp w.ledger.journal) ((stamps_seen w ++ terms_in w) ++ counters_in w) keeps.stamp
+    (All-append (λ n. n ≤ limit) (stamps_seen w ++ terms_in w) (counters_in w)
+    (All-append (λ n. n ≤ limit) (stamps_seen w) (terms_in w)
+    (All-map (λ n. n ≤ limit) (λ entry. seen_of entry.1) w.ledger.clients keeps.seen)
+    (All-map (λ n. n ≤ limit) (λ row. row.term) w.coordinator.rows keeps.terms))
+    (all_flat (λ n. n ≤ limit) (λ entry. counters_of entry.1) w.masters keeps.counters))) in
+    omega (arith, keeps.top, greatest_within limit (standing w) all)
 
 still_below : (limit more n : ℕ) → limit ≤ more → n ≤ limit → n ≤ more
 still_below limit more n greater below = omega arith
+
+-- and so do all of some numbers
+pub all_still_below : {X : Type 0} (number : X → ℕ) (limit more : ℕ) (list : List X) → limit ≤ more → All (λ x. number x ≤ limit) list
+    → All (λ x. number x ≤ more) list
+all_still_below number limit more list greater all place other within = still_below limit more _ greater (all place other within)
 
 -- what keeps to a limit keeps to greater ones
 pub keeps_to_more : (limit more : ℕ) (w : World) → limit ≤ more → KeepsTo limit w → KeepsTo more w
@@ -78,74 +67,37 @@ keeps_to_more limit more w greater keeps = record {
   top = still_below limit more w.top greater keeps.top;
   sent = still_below limit more w.wire.sent greater keeps.sent;
   stamp = still_below limit more (last_stamp w.ledger.journal) greater keeps.stamp;
-  seen =
-      All-weaker (λ entry. seen_of entry.1 ≤ limit) (λ entry. seen_of entry.1 ≤ more)
-      (λ entry below. still_below limit more (seen_of entry.1) greater below) w.ledger.clients keeps.seen;
-  terms =
-      All-weaker (λ row. row.term ≤ limit) (λ row. row.term ≤ more)
-      (λ row below. still_below limit more row.term greater below) w.coordinator.rows keeps.terms;
-  counters =
-      All-weaker (λ entry. All (λ n. n ≤ limit) (counters_of entry.1)) (λ entry. All (λ n. n ≤ more) (counters_of entry.1))
-      (λ entry all. All-weaker (λ n. n ≤ limit) (λ n. n ≤ more) (λ n below. still_below limit more n greater below) (counters_of entry.1) all)
-      w.masters keeps.counters;
+  seen = all_still_below (λ entry. seen_of entry.1) limit more w.ledger.clients greater keeps.seen;
+  terms = all_still_below (λ row. row.term) limit more w.coordinator.rows greater keeps.terms;
+  counters = λ place other within. all_still_below (λ n. n) limit more _ greater (keeps.counters place other within);
 }
 
 -- ---- changes
 
 -- a master whose counters keep to the limit
-pub keeps_with_master : (limit : ℕ) (w : World) (number : ℕ) (master : Master) → All (λ n. n ≤ limit) (counters_of master) → KeepsTo limit w → KeepsTo limit (with_master w number master)
-keeps_with_master limit w number master new keeps = record {
-  top = keeps.top;
-  sent = keeps.sent;
-  stamp = keeps.stamp;
-  seen = keeps.seen;
-  terms = keeps.terms;
-  counters =
-      all_inserted (λ (one : Master). All (λ n. n ≤ limit) (counters_of one)) w.masters number master new keeps.counters;
-}
+pub keeps_with_master : {limit : ℕ} {w : World} (number : ℕ) (master : Master) → All (λ n. n ≤ limit) (counters_of master) → KeepsTo limit w → KeepsTo limit (with_master w number master)
+keeps_with_master {limit} {w} number master new keeps =
+    assumption
+    (all_inserted (λ (one : Master). All (λ n. n ≤ limit) (counters_of one)) w.masters number master new keeps.counters)
 
 -- a coordinator whose terms do
-pub keeps_with_coordinator : (limit : ℕ) (w : World) (coordinator : Coordinator) → All (λ row. row.term ≤ limit) coordinator.rows → KeepsTo limit w → KeepsTo limit (with_coordinator w coordinator)
-keeps_with_coordinator limit w coordinator new keeps = record {
-  top = keeps.top;
-  sent = keeps.sent;
-  stamp = keeps.stamp;
-  seen = keeps.seen;
-  terms = new;
-  counters = keeps.counters;
-}
+pub keeps_with_coordinator : {limit : ℕ} {w : World} (coordinator : Coordinator) → All (λ row. row.term ≤ limit) coordinator.rows → KeepsTo limit w → KeepsTo limit (with_coordinator w coordinator)
+keeps_with_coordinator coordinator new keeps = assumption
 
 -- a ledger whose last stamp does, and what clients had seen there
-pub keeps_with_ledger : (limit : ℕ) (w : World) (ledger : Ledger) → last_stamp ledger.journal ≤ limit → All (λ entry. seen_of entry.1 ≤ limit) ledger.clients → KeepsTo limit w → KeepsTo limit (with_ledger w ledger)
-keeps_with_ledger limit w ledger stamp seen keeps = record {
-  top = keeps.top;
-  sent = keeps.sent;
-  stamp = stamp;
-  seen = seen;
-  terms = keeps.terms;
-  counters = keeps.counters;
-}
+pub keeps_with_ledger : {limit : ℕ} {w : World} (ledger : Ledger) → last_stamp ledger.journal ≤ limit → All (λ entry. seen_of entry.1 ≤ limit) ledger.clients → KeepsTo limit w → KeepsTo limit (with_ledger w ledger)
+keeps_with_ledger ledger stamp seen keeps = assumption
 
 -- each message that is sent counts
 pub sent_all : (wire : Traffic) (messages : List Message) → (fold (λ now message. with_message message now) wire messages).sent ≡ wire.sent + length messages
 sent_all wire [] = omega arith
-sent_all wire (first ∷ rest) =
-    let later = sent_all (with_message first wire) rest in
-    omega arith
+sent_all wire (first ∷ rest) = omega (arith, sent_all (with_message first wire) rest)
 
-pub keeps_with_sent : (limit : ℕ) (w : World) (messages : List Message) → KeepsTo limit w → KeepsTo (limit + length messages) (with_all_sent w messages)
-keeps_with_sent limit w messages keeps =
+pub keeps_with_sent : {limit : ℕ} {w : World} (messages : List Message) → KeepsTo limit w → KeepsTo (limit + length messages) (with_all_sent w messages)
+keeps_with_sent {limit} {w} messages keeps =
     let more = keeps_to_more limit (limit + length messages) w (omega arith) keeps in
-    let before = keeps.sent in
-    let count = sent_all w.wire messages in
-    record {
-      top = more.top;
-      sent = omega arith;
-      stamp = more.stamp;
-      seen = more.seen;
-      terms = more.terms;
-      counters = more.counters;
-    }
+    let sent : (with_all_sent w messages).wire.sent ≤ limit + length messages = omega (arith, keeps.sent, sent_all w.wire messages) in
+    assumption
 
 -- ---- records
 
@@ -159,35 +111,33 @@ seen_kept limit ledger later same all = subst (All (λ entry. seen_of entry.1 �
 
 -- so what a client had seen keeps to it
 seen_of_asked : (limit : ℕ) (ledger : Ledger) (client : ℕ) → HaveSeen limit ledger → seen_of (asked_by ledger client) ≤ limit
-seen_of_asked limit ledger client all = go (get ledger.clients client) refl
-  where
-    go : (found : Option (Option LastCall)) → get ledger.clients client ≡ found → seen_of (unwrap_or found None) ≤ limit
-    go None is = omega arith
-    go (Some last) is = all_in_map (λ (one : Option LastCall). seen_of one ≤ limit) ledger.clients client last is all
+seen_of_asked limit ledger client all =
+    by_found (λ found. seen_of (unwrap_or found None) ≤ limit) (get ledger.clients client) (λ none. omega arith)
+    (λ last is. all_in_map (λ (one : Option LastCall). seen_of one ≤ limit) ledger.clients client last is all)
 
 -- a record's stamp is one above the greatest of those that it follows
 stamp_recorded : (most : ℕ) (ledger : Ledger) (call : Call) (outcome : Outcome) (seen : ℕ) → last_stamp ledger.journal ≤ most → seen ≤ most → last_stamp (with_record ledger call outcome seen).journal ≤ most + 1
 stamp_recorded most ledger call outcome seen last within =
-    let is = last_pushed 0 ledger.journal (next_record ledger.journal call outcome seen) in
-    omega arith
+    omega (arith, last_pushed 0 ledger.journal (next_record ledger.journal call outcome seen))
 
 stamp_served_once : (limit most seen : ℕ) (ledger : Ledger) (served : Served) → limit ≤ most → seen ≤ limit → HaveSeen limit ledger → last_stamp ledger.journal ≤ most → last_stamp (with_served seen ledger served).journal ≤ most + 1
 stamp_served_once limit most seen ledger served greater within all last =
-    let asked = seen_of_asked limit ledger served.call.client all in
     served_is (λ now. last_stamp now.journal ≤ most + 1) seen ledger served (omega arith)
     (stamp_recorded most ledger served.call served.outcome seen last (omega arith))
-    (stamp_recorded most ledger served.call served.outcome (seen_of (asked_by ledger served.call.client)) last (omega arith))
+    (stamp_recorded most ledger served.call served.outcome (seen_of (asked_by ledger served.call.client)) last
+    (omega (arith, seen_of_asked limit ledger served.call.client all)))
 
 -- served calls raise the last stamp by one each at most
 pub stamp_served : (limit most seen : ℕ) (ledger : Ledger) (served : List Served) → limit ≤ most → seen ≤ limit → HaveSeen limit ledger → last_stamp ledger.journal ≤ most → last_stamp (with_all_served seen ledger served).journal ≤ most + length served
 stamp_served limit most seen ledger [] greater within all last = omega arith
 stamp_served limit most seen ledger (first ∷ rest) greater within all last =
     let next = with_served seen ledger first in
-    let later =
-    stamp_served limit (most + 1) seen next rest (omega arith) within
-    (seen_kept limit ledger next (clients_served ledger seen (first ∷ [])) all)
-    (stamp_served_once limit most seen ledger first greater within all last) in
-    omega arith
+    omega (
+      arith,
+      stamp_served limit (most + 1) seen next rest (omega arith) within
+          (seen_kept limit ledger next (clients_served ledger seen (first ∷ [])) all)
+          (stamp_served_once limit most seen ledger first greater within all last),
+    )
 
 stamp_ended_once : (limit most : ℕ) (ledger : Ledger) (end : Ended) → limit ≤ most → HaveSeen limit ledger → last_stamp ledger.journal ≤ most → last_stamp (with_end ledger end).journal ≤ most + 1
 stamp_ended_once limit most ledger end greater all last =
@@ -201,11 +151,12 @@ pub stamp_ended : (limit most : ℕ) (ledger : Ledger) (ends : List Ended) → l
 stamp_ended limit most ledger [] greater all last = omega arith
 stamp_ended limit most ledger (first ∷ rest) greater all last =
     let next = with_end ledger first in
-    let later =
-    stamp_ended limit (most + 1) next rest (omega arith)
-    (seen_kept limit ledger next (ended_keeps ledger.clients ledger first refl) all)
-    (stamp_ended_once limit most ledger first greater all last) in
-    omega arith
+    omega (
+      arith,
+      stamp_ended limit (most + 1) next rest (omega arith)
+          (seen_kept limit ledger next (ended_keeps ledger.clients ledger first refl) all)
+          (stamp_ended_once limit most ledger first greater all last),
+    )
 
 -- how many ends a rebuild tells, if there is one
 abbrev pub ends_in : Option Rebuilt → ℕ
@@ -214,8 +165,7 @@ ends_in (Some rebuilt) = length rebuilt.ends
 
 pub stamp_rebuilt : (limit : ℕ) (ledger : Ledger) (rebuilt : Option Rebuilt) → HaveSeen limit ledger → last_stamp ledger.journal ≤ limit → last_stamp (with_rebuilt ledger rebuilt).journal ≤ limit + ends_in rebuilt
 stamp_rebuilt limit ledger None all last = omega arith
-stamp_rebuilt limit ledger (Some rebuilt) all last =
-    stamp_ended limit limit ledger rebuilt.ends (omega arith) all last
+stamp_rebuilt limit ledger (Some rebuilt) all last = stamp_ended limit limit ledger rebuilt.ends (omega arith) all last
 
 -- ---- the greatest number after an event
 
@@ -223,13 +173,13 @@ module _ (w : World) (formed : IsWellFormed w) where
   -- it rises by the messages that are sent
   pub top_after_sends : (messages : List Message) → (with_sends w messages).world.top ≤ w.top + length messages
   top_after_sends messages =
-      top_within (w.top + length messages) (with_all_sent w messages) (keeps_with_sent w.top w messages (keeps_to_top w formed))
+      top_within (w.top + length messages) (with_all_sent w messages) (keeps_with_sent messages (keeps_to_top w formed))
 
   -- where a master has worked, by what its counters rise, by its served calls and by its messages
   pub top_after_work : (rise number seen : ℕ) (worked : Worked) → seen ≤ w.top + rise → All (λ n. n ≤ w.top + rise) (counters_of worked.master) → (after_work w number seen worked).top ≤ w.top + rise + length worked.served + length worked.sends
   top_after_work rise number seen worked within counters =
       let count = length-map worked.sends (filled ledger.journal worked.served) in
-      let most = top_within (most_served + length sends) (with_all_sent now sends) (keeps_with_sent most_served now sends keeps) in
+      let most = top_within (most_served + length sends) (with_all_sent now sends) (keeps_with_sent sends keeps) in
       omega arith
     where
       ledger : Ledger
@@ -251,19 +201,16 @@ module _ (w : World) (formed : IsWellFormed w) where
       more = keeps_to_more (w.top + rise) most_served w (omega arith) risen
 
       keeps : KeepsTo most_served now
-      keeps =
-          keeps_with_ledger most_served (with_master w number worked.master) ledger
+      keeps = keeps_with_ledger ledger
           (stamp_served (w.top + rise) (w.top + rise) seen w.ledger worked.served (omega arith) within risen.seen risen.stamp)
           (seen_kept most_served w.ledger ledger (clients_served w.ledger seen worked.served) more.seen)
-          (keeps_with_master most_served w number worked.master
-          (All-weaker (λ n. n ≤ w.top + rise) (λ n. n ≤ most_served)
-          (λ n below. still_below (w.top + rise) most_served n (omega arith) below) (counters_of worked.master) counters)
-          more)
+          (keeps_with_master number worked.master
+          (all_still_below (λ n. n) (w.top + rise) most_served (counters_of worked.master) (omega arith) counters) more)
 
   -- where the coordinator has worked, by what its terms rise, by the ends that it took and by its messages
   pub top_after_coordinator : (rise : ℕ) (coordinator : Coordinator) (rebuilt : Option Rebuilt) (sends : List Message) → All (λ row. row.term ≤ w.top + rise) coordinator.rows → (after_coordinated w coordinator rebuilt sends).top ≤ w.top + rise + ends_in rebuilt + length sends
   top_after_coordinator rise coordinator rebuilt sends terms =
-      top_within (most_told + length sends) (with_all_sent now sends) (keeps_with_sent most_told now sends keeps)
+      top_within (most_told + length sends) (with_all_sent now sends) (keeps_with_sent sends keeps)
     where
       ledger : Ledger
       ledger = with_rebuilt w.ledger rebuilt
@@ -281,18 +228,12 @@ module _ (w : World) (formed : IsWellFormed w) where
       more = keeps_to_more (w.top + rise) most_told w (omega arith) risen
 
       keeps : KeepsTo most_told now
-      keeps =
-          keeps_with_ledger most_told (with_coordinator w coordinator) ledger
-          (stamp_rebuilt (w.top + rise) w.ledger rebuilt risen.seen risen.stamp)
+      keeps = keeps_with_ledger ledger (stamp_rebuilt (w.top + rise) w.ledger rebuilt risen.seen risen.stamp)
           (seen_kept most_told w.ledger ledger (clients_rebuilt w.ledger rebuilt) more.seen)
-          (keeps_with_coordinator most_told w coordinator
-          (All-weaker (λ row. row.term ≤ w.top + rise) (λ row. row.term ≤ most_told)
-          (λ row below. still_below (w.top + rise) most_told row.term (omega arith) below) coordinator.rows terms)
-          more)
+          (keeps_with_coordinator coordinator
+          (all_still_below (λ row. row.term) (w.top + rise) most_told coordinator.rows (omega arith) terms) more)
 
   -- and by what terms rise where nothing is sent
   pub top_with_coordinator : (rise : ℕ) (coordinator : Coordinator) → All (λ row. row.term ≤ w.top + rise) coordinator.rows → (quietly (with_coordinator w coordinator)).world.top ≤ w.top + rise
-  top_with_coordinator rise coordinator terms =
-      top_within (w.top + rise) (with_coordinator w coordinator)
-      (keeps_with_coordinator (w.top + rise) w coordinator terms
-      (keeps_to_more w.top (w.top + rise) w (omega arith) (keeps_to_top w formed)))
+  top_with_coordinator rise coordinator terms = top_within (w.top + rise) (with_coordinator w coordinator)
+      (keeps_with_coordinator coordinator terms (keeps_to_more w.top (w.top + rise) w (omega arith) (keeps_to_top w formed)))

@@ -1,9 +1,9 @@
 -- Who has a session stays added in each lane, whatever occurs in a cluster, where nobody gets one who was not added in each lane.
 use Rattle.std.proofs.Common.{◌≡◌, ℕ, List, Option, Some, None, refl, true, Err, Ok, Result}
 use Rattle.rk_inv_base.proofs.Words.{none-some, each_insert, get, Op, Visited, accept, ask, Session, new_session, Accepts, Asks, Calls}
-use Rattle.rk_inv_base.proofs.Words.{Cluster, Happens, Joins, Occurrence, called_by_client, cluster_after, cluster_stepped, cluster_visited}
-use Rattle.rk_inv_base.proofs.Words.{joined_by, lane_at, new_cluster, session_at, with_lane, with_session, is_added, world_stepped}
-use Rattle.rk_inv_base.proofs.Words.{world_visited, Stepped, step, World, StepError}
+use Rattle.rk_inv_base.proofs.Words.{Cluster, Happens, Joins, Occurrence, called_by_client, cluster_after, cluster_stepped}
+use Rattle.rk_inv_base.proofs.Words.{cluster_visited, joined_by, lane_at, new_cluster, session_at, with_lane, with_session, is_added}
+use Rattle.rk_inv_base.proofs.Words.{world_stepped, world_visited, Stepped, step, World, StepError}
 use Rattle.rk_world.specs.Client.{busy, session_calling}
 use Rattle.rk_inv_wellformed.proofs.lanes.Worlds.{HasClientsOf}
 use Rattle.rk_runs.specs.duties.Added.{ActsAdded, AreAdded, IsAddedInAll, MayGetSession}

@@ -5,7 +5,6 @@ use Rattle.rk_inv_base.proofs.Words.{option_or, Call, Visited, ask, ask_by, aski
 use Rattle.rk_inv_base.proofs.Words.{call_lane, session_turn, turn_of, Cluster, lane_at, session_at, is_added, ask_refusal, where_true}
 use Rattle.rk_inv_base.proofs.Words.{worn, World, StepError}
 use Rattle.rk_world.specs.Refusals.{worn_session}
-use Rattle.rk_world.specs.declared.error.StepError.TheVariants as errors
 use Rattle.rk_runs.proofs.history.Clusters.{IsGood}
 use Rattle.rk_runs.specs.duties.Worn.{IsWornFor}
 use Rattle.rk_runs.proofs.duties.Fitting.{fits}
@@ -39,7 +38,7 @@ refused_worn w session error added refused =
     go (option_or (worn w) (worn_session session session.outstanding)) refl (is_added w.ledger session.client) added refused
   where
     go : (number : Option ℕ) → option_or (worn w) (worn_session session session.outstanding) ≡ number → (b : Bool) → b ≡ true
-        → ask_by w session (option_or (option_map errors.Worn number) (where_true (not b) (errors.Stranger session.client))) ≡ Err error → IsWornFor w session error
+        → ask_by w session (option_or (option_map StepError.Worn number) (where_true (not b) (StepError.Stranger session.client))) ≡ Err error → IsWornFor w session error
     go None is false yet it = absurd (cc yet)
     go None is true yet it = absurd (cc it)
     go (Some number) is b yet it = record { number = number; worn_is = is; error_is = cc it }

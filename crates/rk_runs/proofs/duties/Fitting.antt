@@ -1,10 +1,9 @@
 -- The outstanding call of a client fits its lane: it was asked there last, or it comes next.
-use Rattle.std.proofs.Common.{◌≡◌, ◌==◌, ◌&&◌, ◌+◌, ◌<◌, ℕ, Bool, true, false, not, List, Option, Some, None, length, refl, sym, ap, subst}
-use Rattle.std.proofs.Common.{◌∙◌, ⊎_elim, arith, Contains, IfSome, bytes_eq, nat_lt, eq-eqb, lt-ltb}
+use Rattle.std.proofs.Common.{◌≡◌, ◌==◌, ◌&&◌, ◌+◌, ◌<◌, ℕ, Bool, true, false, not, List, Option, Some, None, length, refl, sym, ap}
+use Rattle.std.proofs.Common.{subst, ◌∙◌, ⊎_elim, arith, Contains, IfSome, bytes_eq, nat_lt, eq-eqb, lt-ltb}
 use Rattle.rk_inv_base.proofs.Words.{and_from, or_left, or_right, All-contains, bytes_eq-Decides, Call, Op, Placed, Answered, fits_with}
 use Rattle.rk_inv_base.proofs.Words.{is_asked, is_call, is_last, Session, call_lane, Cluster, lane_at, session_at, is_accepted, asked_by}
 use Rattle.rk_inv_base.proofs.Words.{World, LastCall, IsAccepted, IsLastCall}
-use Rattle.rk_types.specs.declared.call.Op.TheVariants as ops
 use Rattle.rk_world.specs.Calls.{is_next, is_op}
 use Rattle.rk_inv_events.proofs.events.SameCalls.{accepted_found, found_accepted}
 use Rattle.rk_runs.specs.history.Agreement.{Agrees, IsLastKnown, IsOutstanding, IsToldBy, waiting}
@@ -17,10 +16,10 @@ bytes_same : (bytes : List ℕ) → bytes_eq bytes bytes ≡ true
 bytes_same bytes = (bytes_eq-Decides bytes bytes).1 refl
 
 op_same : (op : Op) → is_op op op ≡ true
-op_same ops.Get = refl
-op_same (ops.Put value) = bytes_same value
-op_same (ops.CondPut expected value) = and_from (expected == expected) _ (eq-eqb expected expected refl) (bytes_same value)
-op_same ops.Delete = refl
+op_same Op.Get = refl
+op_same (Op.Put value) = bytes_same value
+op_same (Op.CondPut expected value) = and_from (expected == expected) _ (eq-eqb expected expected refl) (bytes_same value)
+op_same Op.Delete = refl
 
 call_same : (call : Call) → is_call call call ≡ true
 call_same call =

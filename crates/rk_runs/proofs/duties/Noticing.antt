@@ -1,14 +1,14 @@
 -- Once one crash is noticed, each master that has crashed was noticed, until the next one crashes.
 use Rattle.std.proofs.Common.{◌≡◌, ◌==◌, ◌&&◌, ◌≤◌, ◌<◌, ◌+◌, ℕ, zero, suc, Bool, true, false, List, [], ◌∷◌, ◌++◌, fold, Option, Some}
-use Rattle.std.proofs.Common.{None, refl, sym, ap, subst, ◌∙◌, ⊎_elim, append-nil, append_assoc, arith, All, filter, not, eq-eqb, eqb-true}
+use Rattle.std.proofs.Common.{None, refl, sym, ap, subst, ◌∙◌, ⊎_elim, append-nil, append_assoc, arith, All, filter, not, eq-eqb}
+use Rattle.std.proofs.Common.{eqb-true}
 use Rattle.rk_inv_base.proofs.Words.{and_from, cases_eq, cond_both, false≢true, or_cases, or_left, or_right, All-contains}
-use Rattle.rk_inv_base.proofs.Words.{Any-from_list_any, list_any-append, list_any, range_with_len, row_of, Phase, Owned, Opening, Moving}
-use Rattle.rk_inv_base.proofs.Words.{Rebuilding, Row, Called, accept, ask, Session, Coordinator, is_noticed, told_coordinator, IsWellFormed}
-use Rattle.rk_inv_base.proofs.Words.{migrating, row_migrated, tablet_migrated, coordinator_notice, notice_one, notice_order, IsMaster}
-use Rattle.rk_inv_base.proofs.Words.{refusal, world_stepped, world_visited, rows_split, rows_split_of, happened, step, stepped_by, World}
+use Rattle.rk_inv_base.proofs.Words.{Any-from_list_any, list_any-append, list_any, range_with_len, row_of, Phase, Owned, Row, Called}
+use Rattle.rk_inv_base.proofs.Words.{accept, ask, Session, Coordinator, is_noticed, told_coordinator, IsWellFormed, migrating}
+use Rattle.rk_inv_base.proofs.Words.{row_migrated, tablet_migrated, coordinator_notice, notice_one, notice_order, IsMaster, refusal}
+use Rattle.rk_inv_base.proofs.Words.{world_stepped, world_visited, rows_split, rows_split_of, happened, step, stepped_by, World}
 use Rattle.rk_inv_base.proofs.Words.{crashed_masters, has_crashed, new_world, StepError, Event}
 use Rattle.rk_types.specs.NumberMap.{numbers}
-use Rattle.rk_world.specs.declared.event.Event.TheVariants as events
 use Rattle.rk_world.specs.Notices.{is_named}
 use Rattle.rk_runs.specs.duties.Owners.{AllNoticed, is_crash}
 use Rattle.rk_runs.proofs.duties.Reports.{told_same}
@@ -107,7 +107,7 @@ module _ (w : World) where
         (in_range 1 w.coordinator.masters master there.first (omega (arith, there.last))))
 
     -- so each of them is noticed then
-    pub all_noticed : (dead : ℕ) (called : Called) → AllNoticed (happened w (events.Notice dead) called).world
+    pub all_noticed : (dead : ℕ) (called : Called) → AllNoticed (happened w (Event.Notice dead) called).world
     all_noticed dead called master crashed = go (is_noticed w.coordinator master) refl
       where
         go : (b : Bool) → is_noticed w.coordinator master ≡ b → is_noticed (coordinator_notice w.coordinator dead (crashed_masters w)) master ≡ true
@@ -126,9 +126,7 @@ migrated_same coordinator (Some row) to = go row.phase
   where
     go : (phase : Phase) → (migrating coordinator row phase to).noticed ≡ coordinator.noticed
     go (Owned master from) = refl
-    go (Opening source sfrom target dfrom) = refl
-    go (Moving source sfrom target dfrom) = refl
-    go (Rebuilding lineage at) = refl
+    go _ = refl
 
 split_same : (coordinator : Coordinator) (found : Option Row) (at new : ℕ) → (rows_split_of coordinator found at new).noticed ≡ coordinator.noticed
 split_same coordinator None at new = refl
@@ -152,16 +150,16 @@ module _ (w : World) (all : AllNoticed w) where
   }
 
   comes : (event : Event) → is_crash event ≡ false → EventKeeps AreNoticed w event
-  comes (events.AddTablet tablet range master) calm = all
-  comes (events.AddClient client) calm = tt
-  comes (events.Deliver number) calm = tt
-  comes (events.Forget number) calm = tt
-  comes (events.Turn node) calm = tt
-  comes (events.Again client) calm = tt
-  comes (events.Migrate tablet to) calm = tt
-  comes (events.Split tablet at new) calm = tt
-  comes (events.Crash master) calm = absurd (cc calm)
-  comes (events.Notice master) calm = tt
+  comes (Event.AddTablet tablet range master) calm = all
+  comes (Event.AddClient client) calm = tt
+  comes (Event.Deliver number) calm = tt
+  comes (Event.Forget number) calm = tt
+  comes (Event.Turn node) calm = tt
+  comes (Event.Again client) calm = tt
+  comes (Event.Migrate tablet to) calm = tt
+  comes (Event.Split tablet at new) calm = tt
+  comes (Event.Crash master) calm = absurd (cc calm)
+  comes (Event.Notice master) calm = tt
 
   -- an event
   pub stepped_noticed : (event : Event) (called : Called) → is_crash event ≡ false → AllNoticed (world_stepped w (step w event called))

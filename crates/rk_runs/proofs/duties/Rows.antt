@@ -1,16 +1,14 @@
 -- No event gives a row to a master that was noticed dead.
 use Rattle.std.proofs.Common.{◌≡◌, ◌==◌, ◌||◌, ℕ, Bool, true, false, List, [], ◌∷◌, ◌++◌, fold, Option, Some, None, refl, sym, ap, subst}
 use Rattle.std.proofs.Common.{◌∙◌, All, filter, not, option_map, ne_eqb}
-use Rattle.std.proofs.lemmas.Bool.{eqb-false}
 use Rattle.rk_inv_base.proofs.Words.{cond_both, false≢true, All-contains, All-map, All-nil, All-weaker, list_any-append, list_any_none}
 use Rattle.rk_inv_base.proofs.Words.{list_any, Range, add_fault, changed_rows, divided, lower_part, replaced, row_of, upper_part, Phase}
 use Rattle.rk_inv_base.proofs.Words.{Owned, Opening, Moving, Rebuilding, Row, Called, accept, ask, Session, Coordinator, is_noticed}
 use Rattle.rk_inv_base.proofs.Words.{new_row, migrating, row_migrated, notice_one, notice_order, phase_noticed, row_noticed, refusal}
 use Rattle.rk_inv_base.proofs.Words.{where_true, world_stepped, world_visited, rows_split_of, step, stepped_by, World, crashed_masters}
 use Rattle.rk_inv_base.proofs.Words.{has_crashed, new_world, StepError, Event}
+use Rattle.std.proofs.lemmas.Bool.{eqb-false}
 use Rattle.rk_tablet_map.specs.Rows.{split_rows}
-use Rattle.rk_world.specs.declared.error.StepError.TheVariants as errors
-use Rattle.rk_world.specs.declared.event.Event.TheVariants as events
 use Rattle.rk_inv_wellformed.proofs.lanes.Events.{does_not_hold, has_no_fault, no_first}
 use Rattle.rk_inv_wellformed.proofs.coordinator.Rows.{all_found, all_placed, all_replaced}
 use Rattle.rk_inv_base.proofs.views.Lists.{all_by}
@@ -70,9 +68,7 @@ module _ (coordinator : Coordinator) (free : NoDeadOwner coordinator) where
       go : (phase : Phase) → NoDeadOwner (migrating coordinator row phase to)
       go (Owned master from) =
           changed_free coordinator.noticed coordinator.rows row.tablet _ (Opening master from to None) tt free
-      go (Opening source sfrom target dfrom) = free
-      go (Moving source sfrom target dfrom) = free
-      go (Rebuilding lineage at) = free
+      go _ = free
 
   abbrev HasNone : Row → Type 0
   HasNone row = IsNotOwnedBy coordinator.noticed row.phase
@@ -131,27 +127,20 @@ module _ (w : World) (free : IsFree w) where
         (λ noticed crashed. ne_eqb noticed master (λ same. false≢true (sym lives ∙ ap (has_crashed w) (sym same) ∙ crashed)))
         w.coordinator.noticed gone)
 
-    added_heard : (tablet : ℕ) (range : Range) (master : ℕ) → refusal w (events.AddTablet tablet range master) ≡ None → is_noticed w.coordinator master ≡ false
+    added_heard : (tablet : ℕ) (range : Range) (master : ℕ) → refusal w (Event.AddTablet tablet range master) ≡ None → is_noticed w.coordinator master ≡ false
     added_heard tablet range master none =
         lives_heard master
-        (does_not_hold (has_crashed w master) (errors.Dead master)
-        (no_first (where_true (has_crashed w master) (errors.Dead master)) (option_map errors.Map (add_fault w.coordinator.rows (new_row tablet range master)))
-        (has_no_fault w (events.AddTablet tablet range master) none)))
+        (does_not_hold (has_crashed w master) (StepError.Dead master)
+        (no_first (where_true (has_crashed w master) (StepError.Dead master)) (option_map StepError.Map (add_fault w.coordinator.rows (new_row tablet range master)))
+        (has_no_fault w (Event.AddTablet tablet range master) none)))
 
     -- so a new tablet is that of a master that was not noticed
     comes : (event : Event) → refusal w event ≡ None → EventKeeps HasFreeRows w event
-    comes (events.AddTablet tablet range master) none =
+    comes (Event.AddTablet tablet range master) none =
         all_placed (λ (row : Row). IsNotOwnedBy w.coordinator.noticed row.phase) (new_row tablet range master) w.coordinator.rows
         (added_heard tablet range master none) free
-    comes (events.AddClient client) none = tt
-    comes (events.Deliver number) none = tt
-    comes (events.Forget number) none = tt
-    comes (events.Turn node) none = tt
-    comes (events.Again client) none = tt
-    comes (events.Migrate tablet to) none = tt
-    comes (events.Split tablet at new) none = tt
-    comes (events.Crash master) none = free
-    comes (events.Notice master) none = tt
+    comes (Event.Crash master) none = free
+    comes _ none = tt
 
     -- an event
     pub stepped_free : (event : Event) (called : Called) → IsFree (world_stepped w (step w event called))

@@ -1,13 +1,13 @@
 -- Runs of a new cluster: its clients do their duties, and no row is owned by a master that was noticed dead.
 use Rattle.std.proofs.Common.{◌≡◌, ◌+◌, ◌<◌, ◌≤◌, ℕ, true, List, [], ◌∷◌, ◌++◌, Option, None, Some, length, refl, sym, subst, arith, All}
 use Rattle.std.proofs.Common.{Err, Ok, Result}
+use Rattle.rk_inv_base.proofs.Words.{length-map-range_with_len, hash_of, get, Call, Op, LANES, MOST_BACKUPS, Visited, accept, ask}
+use Rattle.rk_inv_base.proofs.Words.{Session, call_lane, Accepts, Asks, Calls, Cluster, Happens, Joins, Occurrence, called_by_client}
+use Rattle.rk_inv_base.proofs.Words.{cluster_after, cluster_run, cluster_stepped, cluster_visited, joined_by, lane_at, new_cluster}
+use Rattle.rk_inv_base.proofs.Words.{session_at, IsRun, is_added, MOST_MASTERS, world_stepped, world_visited, Stepped, step, World}
+use Rattle.rk_inv_base.proofs.Words.{has_crashed, new_world, StepError}
 use Rattle.std.proofs.lemmas.List.FromFn.{get_or-map-range_with_len}
 use Rattle.std.proofs.lemmas.Nat.{mod_below}
-use Rattle.rk_inv_base.proofs.Words.{length-map-range_with_len, hash_of, get, Call, Op, LANES, MOST_BACKUPS, Visited, accept, ask, Session}
-use Rattle.rk_inv_base.proofs.Words.{call_lane, Accepts, Asks, Calls, Cluster, Happens, Joins, Occurrence, called_by_client, cluster_after}
-use Rattle.rk_inv_base.proofs.Words.{cluster_run, cluster_stepped, cluster_visited, joined_by, lane_at, new_cluster, session_at, IsRun}
-use Rattle.rk_inv_base.proofs.Words.{is_added, MOST_MASTERS, world_stepped, world_visited, Stepped, step, World, has_crashed, new_world}
-use Rattle.rk_inv_base.proofs.Words.{StepError}
 use Rattle.rk_runs.proofs.history.Clusters.{IsGood}
 use Rattle.rk_runs.proofs.history.Runs.{Lasts, good_after}
 use Rattle.rk_runs.proofs.history.Staying.{lanes_stay}

@@ -1,13 +1,10 @@
 -- The coordinator's turn: it sends a message for each row that is not owned.
 use Rattle.std.proofs.Common.{◌≡◌, ◌≤◌, ◌<◌, ℕ, Bool, true, false, List, [], ◌∷◌, length, Option, Some, None, refl, sym, ap, ◌∙◌, ⊎_elim}
 use Rattle.std.proofs.Common.{arith, All, Contains, Err, ◌≢◌, option_map, flat_map, length-append}
-use Rattle.rk_inv_base.proofs.Words.{false≢true, All-contains, option_or, Phase, Owned, Opening, Moving, Rebuilding, Row, Message, Called}
+use Rattle.rk_inv_base.proofs.Words.{Event, Node, false≢true, All-contains, option_or, Phase, Owned, Opening, Row, Message, Called}
 use Rattle.rk_inv_base.proofs.Words.{Coordinator, coordinator_turn, row_duty, worn, happened, step, stepped_by, World, has_crashed}
 use Rattle.rk_inv_base.proofs.Words.{StepError}
-use Rattle.rk_types.specs.declared.node.Node.TheVariants as nodes
 use Rattle.rk_world.specs.Quiet.{IsOwnedLive}
-use Rattle.rk_world.specs.declared.error.StepError.TheVariants as errors
-use Rattle.rk_world.specs.declared.event.Event.TheVariants as events
 use Rattle.rk_inv_wellformed.proofs.room.Rises.{sent_all}
 use Rattle.rk_inv_base.proofs.rows.Apart.{contains_cases}
 use Rattle.rk_inv_base.proofs.views.Lists.{all_by}
@@ -20,9 +17,7 @@ use Rattle.rk_runs.specs.duties.Worn.{IsWorn}
 duty_sends : (coordinator : Coordinator) (row : Row) (phase : Phase) → is_owned phase ≡ false → 1 ≤ length (row_duty coordinator row phase)
 duty_sends coordinator row (Owned master from) unowned = absurd (cc unowned)
 duty_sends coordinator row (Opening source sfrom target None) unowned = omega arith
-duty_sends coordinator row (Opening source sfrom target (Some dfrom)) unowned = omega arith
-duty_sends coordinator row (Moving source sfrom target dfrom) unowned = omega arith
-duty_sends coordinator row (Rebuilding lineage to) unowned = omega arith
+duty_sends coordinator row _ unowned = omega arith
 
 duties_send : (coordinator : Coordinator) (rows : List Row) (row : Row) → Contains rows row → is_owned row.phase ≡ false
     → 1 ≤ length (flat_map (λ (r : Row). row_duty coordinator r r.phase) rows)
@@ -44,7 +39,7 @@ turn_says coordinator row stands unowned none =
     omega (arith, turn_sends coordinator row stands unowned, ap (λ (messages : List Message). length messages) none)
 
 pub unowned_sends : (w : World) (row : Row) (called : Called) → Contains w.coordinator.rows row → is_owned row.phase ≡ false
-    → w.wire.sent < (happened w (events.Turn nodes.Coordinator) called).world.wire.sent
+    → w.wire.sent < (happened w (Event.Turn Node.Coordinator) called).world.wire.sent
 unowned_sends w row called stands unowned =
     omega (arith, turn_sends w.coordinator row stands unowned, sent_all w.wire (coordinator_turn w.coordinator))
 
@@ -62,9 +57,7 @@ module _ (w : World) (free : NoDeadOwner w.coordinator) (noticed : AllNoticed w)
   row_lives : (row : Row) (phase : Phase) → row.phase ≡ phase → coordinator_turn w.coordinator ≡ [] → Contains w.coordinator.rows row → IsNotOwnedBy w.coordinator.noticed phase
       → IsOwnedLive w.crashed phase
   row_lives row (Owned master from) is none stands heard = owner_lives master from heard
-  row_lives row (Opening source sfrom target dfrom) is none stands heard = absurd (turn_says w.coordinator row stands (ap is_owned is) none)
-  row_lives row (Moving source sfrom target dfrom) is none stands heard = absurd (turn_says w.coordinator row stands (ap is_owned is) none)
-  row_lives row (Rebuilding lineage to) is none stands heard = absurd (turn_says w.coordinator row stands (ap is_owned is) none)
+  row_lives row phase is none stands heard = absurd (turn_says w.coordinator row stands (ap is_owned is) none)
 
   pub silent_owned : coordinator_turn w.coordinator ≡ [] → All (λ row. IsOwnedLive w.crashed row.phase) w.coordinator.rows
   silent_owned none =
@@ -74,19 +67,19 @@ module _ (w : World) (free : NoDeadOwner w.coordinator) (noticed : AllNoticed w)
       (All-contains (λ (r : Row). IsNotOwnedBy w.coordinator.noticed r.phase) w.coordinator.rows row free stands))
 
   pub disowned_sends : (called : Called) → (All (λ row. IsOwnedLive w.crashed row.phase) w.coordinator.rows → ⊥)
-      → w.wire.sent < (happened w (events.Turn nodes.Coordinator) called).world.wire.sent
+      → w.wire.sent < (happened w (Event.Turn Node.Coordinator) called).world.wire.sent
   disowned_sends called disowned = go (coordinator_turn w.coordinator) refl
     where
-      go : (messages : List Message) → coordinator_turn w.coordinator ≡ messages → w.wire.sent < (happened w (events.Turn nodes.Coordinator) called).world.wire.sent
+      go : (messages : List Message) → coordinator_turn w.coordinator ≡ messages → w.wire.sent < (happened w (Event.Turn Node.Coordinator) called).world.wire.sent
       go [] none = absurd (disowned (silent_owned none))
       go (message ∷ messages) some =
           omega (arith, sent_all w.wire (coordinator_turn w.coordinator), ap (λ (list : List Message). length list) some)
 
 -- ---- a turn that is refused
 
-pub turn_refused : (w : World) (called : Called) (error : StepError) → step w (events.Turn nodes.Coordinator) called ≡ Err error → IsWorn w error
+pub turn_refused : (w : World) (called : Called) (error : StepError) → step w (Event.Turn Node.Coordinator) called ≡ Err error → IsWorn w error
 turn_refused w called error = go (worn w) refl
   where
-    go : (number : Option ℕ) → worn w ≡ number → stepped_by w (events.Turn nodes.Coordinator) called (option_or (option_map errors.Worn number) None) ≡ Err error → IsWorn w error
+    go : (number : Option ℕ) → worn w ≡ number → stepped_by w (Event.Turn Node.Coordinator) called (option_or (option_map StepError.Worn number) None) ≡ Err error → IsWorn w error
     go None is refused = absurd (cc refused)
     go (Some number) is refused = record { number = number; worn_is = is; error_is = cc refused }

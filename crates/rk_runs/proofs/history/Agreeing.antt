@@ -1,10 +1,10 @@
 -- A session and the ledgers of the lanes agree still, whatever happens to one of them.
 use Rattle.std.proofs.Common.{◌≡◌, ℕ, zero, suc, ◌+◌, ◌<◌, ◌≤◌, max, true, false, List, [], ◌∷◌, ◌++◌, Option, Some, None, length, refl}
 use Rattle.std.proofs.Common.{sym, ap, subst, ◌∙◌, ⊎_elim, arith, inl, inr, IfSome, slice_get, slice_set}
-use Rattle.std.proofs.lemmas.List.{length_push}
 use Rattle.rk_inv_base.proofs.Words.{cases_eq, false≢true, All-append, All-contains, All-push, All-weaker, Contains-append_left}
-use Rattle.rk_inv_base.proofs.Words.{Contains-push, none-some, Call, Op, Outcome, Placed, Receipt, slice_get_front, Located, Reply, Message}
-use Rattle.rk_inv_base.proofs.Words.{Session, call_lane, as_accepted, Ledger, asked_by, LastCall, IsAccepted}
+use Rattle.rk_inv_base.proofs.Words.{Contains-push, none-some, Call, Op, Outcome, Placed, Receipt, slice_get_front, Located, Reply}
+use Rattle.rk_inv_base.proofs.Words.{Message, Session, call_lane, as_accepted, Ledger, asked_by, LastCall, IsAccepted}
+use Rattle.std.proofs.lemmas.List.{length_push}
 use Rattle.rk_model.proofs.Places.{all_from_places}
 use Rattle.rk_world.specs.Client.{done, receipt_of, with_next_call}
 use Rattle.rk_inv_base.proofs.calls.SameRecords.{IsSameRecord, accepted_cases, accepted_same, record_after}

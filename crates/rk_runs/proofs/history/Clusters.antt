@@ -2,8 +2,9 @@
 -- That events keep lanes sound is an argument here.
 use Rattle.std.proofs.Common.{◌≡◌, ℕ, ◌<◌, Option, length, refl, sym, ap, subst, ⊎_elim, arith, IfSome, unwrap_or, w32, get_or-set_other}
 use Rattle.std.proofs.Common.{get_or-set_same, length-set}
-use Rattle.rk_inv_base.proofs.Words.{cases_eq, get_other, get_same, NumberMap, HasOwnKeys, no_base, Session, new_session, Cluster, lane_at}
-use Rattle.rk_inv_base.proofs.Words.{session_at, with_lane, with_session, IsWellFormed, Ledger, MayAct, HasRoom, World, new_world, IsSound}
+use Rattle.rk_inv_base.proofs.Words.{cases_eq, get_other, get_same, NumberMap, HasOwnKeys, no_base, Session, new_session, Cluster}
+use Rattle.rk_inv_base.proofs.Words.{lane_at, session_at, with_lane, with_session, IsWellFormed, Ledger, MayAct, HasRoom, World}
+use Rattle.rk_inv_base.proofs.Words.{new_world, IsSound}
 use Rattle.rk_entry.specs.Numbers.{IsNumber}
 use Rattle.rk_runs.specs.history.Agreement.{Agrees}
 use Rattle.rk_runs.proofs.history.Agreeing.{ChangesAt}

@@ -2,22 +2,20 @@
 use Rattle.std.proofs.Common.{◌≡◌, ℕ, Option, Some, None, sym, ap, subst, ◌∙◌, Err, Ok}
 use Rattle.rk_inv_base.proofs.Words.{get, Member, Node, row_of, Moving, Owned, Row, Message, Called, Gave, refusal, Stepped, delivered}
 use Rattle.rk_inv_base.proofs.Words.{delivered_to, happened, step, stepped_by, World, StepError, Event, IsSound}
-use Rattle.rk_types.specs.declared.node.Node.TheVariants as nodes
-use Rattle.rk_world.specs.declared.event.Event.TheVariants as events
 use Rattle.rk_inv_rows.proofs.finished.JoinedDelivered.{finishes}
 use Rattle.rk_inv_rows.proofs.finished.OnlyJoined.{only_joined}
 use Rattle.rk_runs.specs.history.Runs.{IsFinishedBy}
 
 -- what a replica answers changes nothing of a delivery to the coordinator
-any_answer : (w : World) (number : ℕ) (message : Message) (called : Called) → get w.wire.messages number ≡ Some message → message.to ≡ nodes.Coordinator → step w (events.Deliver number) called ≡ step w (events.Deliver number) (Gave None)
-any_answer w number message called there for_coordinator = by_refusal (refusal w (events.Deliver number))
+any_answer : (w : World) (number : ℕ) (message : Message) (called : Called) → get w.wire.messages number ≡ Some message → message.to ≡ Node.Coordinator → step w (Event.Deliver number) called ≡ step w (Event.Deliver number) (Gave None)
+any_answer w number message called there for_coordinator = by_refusal (refusal w (Event.Deliver number))
   where
-    of_message : (called : Called) → happened w (events.Deliver number) called ≡ delivered_to w message nodes.Coordinator called
+    of_message : (called : Called) → happened w (Event.Deliver number) called ≡ delivered_to w message Node.Coordinator called
     of_message called =
         ap (λ (found : Option Message). delivered w found called) there
         ∙ ap (λ (to : Node). delivered_to w message to called) for_coordinator
 
-    by_refusal : (refused : Option StepError) → stepped_by w (events.Deliver number) called refused ≡ stepped_by w (events.Deliver number) (Gave None) refused
+    by_refusal : (refused : Option StepError) → stepped_by w (Event.Deliver number) called refused ≡ stepped_by w (Event.Deliver number) (Gave None) refused
     by_refusal None = ap (λ (stepped : Stepped). Ok stepped) (of_message called ∙ sym (of_message (Gave None)))
     by_refusal (Some error) = λ i. Err error
 
@@ -27,7 +25,7 @@ pub finished_by : (w : World) (event : Event) (called : Called) (stepped : Stepp
     → IsFinishedBy w event stepped row source target
 finished_by w event called stepped row now source target owner from sound found moving is now_found owned =
     let told = only_joined w row source target sound found moving event called stepped now owner from is now_found owned in
-    let delivers : step w (events.Deliver told.number) called ≡ Ok stepped = subst (λ (e : Event). step w e called ≡ Ok stepped) told.event_is is in
+    let delivers : step w (Event.Deliver told.number) called ≡ Ok stepped = subst (λ (e : Event). step w e called ≡ Ok stepped) told.event_is is in
     record {
       number = told.number;
       event_is = told.event_is;

@@ -1,17 +1,14 @@
 -- A good cluster stays good at all that occurs in it, where events keep lanes sound.
 use Rattle.std.proofs.Common.{◌≡◌, ℕ, ◌<◌, Bool, true, false, cond, List, Option, Some, None, length, refl, sym, ap, subst, ◌∙◌, ⊎_elim}
-use Rattle.std.proofs.Common.{◌≤◌, IfSome, Ok, Result, not, unwrap_or, w32, option_map}
-use Rattle.rk_inv_base.proofs.Words.{cases_lt, get_or_past, IfSome_then, option_or, get, Call, Op, Message, Called, Visited, accept}
-use Rattle.rk_inv_base.proofs.Words.{accept_by, accepting, ask, ask_by, asking, asking_by, fits_with, is_asked_here, taking, untouched}
-use Rattle.rk_inv_base.proofs.Words.{ClientTurn, Session, call_lane, new_session, session_turn, Accepts, Asks, Calls, Cluster, Happens}
-use Rattle.rk_inv_base.proofs.Words.{Joins, Occurrence, called_by_client, cluster_after, cluster_stepped, cluster_visited, joined_by}
-use Rattle.rk_inv_base.proofs.Words.{lane_at, session_at, with_lane, with_session, IsWellFormed, asked_by, is_added, IsAfterStart, MayAct}
-use Rattle.rk_inv_base.proofs.Words.{MayHappen, accept_refusal, ask_refusal, refusal, where_true, AllTell, HasRoom, world_visited, happened}
-use Rattle.rk_inv_base.proofs.Words.{stepped_by, World, new_world, StepError, Event, LastCall, Says, IsSound}
-use Rattle.rk_types.specs.declared.node.Node.TheVariants as nodes
+use Rattle.std.proofs.Common.{◌≤◌, IfSome, Ok, unwrap_or, w32, option_map}
+use Rattle.rk_inv_base.proofs.Words.{cases_lt, get_or_past, IfSome_then, get, Call, Op, Message, Called, Visited, accept, accept_by}
+use Rattle.rk_inv_base.proofs.Words.{accepting, ask_by, asking, is_asked_here, taking, untouched, Session, call_lane, new_session}
+use Rattle.rk_inv_base.proofs.Words.{Accepts, Asks, Calls, Cluster, Happens, Joins, Occurrence, called_by_client, cluster_after}
+use Rattle.rk_inv_base.proofs.Words.{cluster_stepped, cluster_visited, joined_by, lane_at, session_at, with_lane, with_session, asked_by}
+use Rattle.rk_inv_base.proofs.Words.{MayAct, MayHappen, accept_refusal, ask_refusal, refusal, AllTell, happened, stepped_by, World}
+use Rattle.rk_inv_base.proofs.Words.{new_world, StepError, Event, LastCall}
+use Rattle.rk_world.specs.declared.event.Taken.{Taken}
 use Rattle.rk_entry.specs.Numbers.{IsNumber}
-use Rattle.rk_world.specs.declared.error.StepError.TheVariants as errors
-use Rattle.rk_world.specs.declared.event.Taken.TheVariants as takes
 use Rattle.rk_world.specs.Calls.{asked_by_session}
 use Rattle.rk_world.specs.Client.{busy, next_call, session_calling, with_next_call}
 use Rattle.rk_world.specs.Cluster.{ClusterMay, KeepsCalm}
@@ -20,49 +17,14 @@ use Rattle.rk_world.specs.Premises.{IsLawfulCall, MayCome}
 use Rattle.rk_world.specs.Refusals.{is_for}
 use Rattle.rk_world.specs.Replicas.{IsTold}
 use Rattle.rk_world.specs.Runs.{IsCalmEvent}
-use Rattle.rk_inv_wellformed.proofs.lanes.Asks.{IsFormedVisit, formed_accept, formed_ask}
 use Rattle.rk_inv_wellformed.proofs.lanes.New.{may_act_calling}
-use Rattle.rk_inv_wellformed.proofs.lanes.Whole.{formed_event}
-use Rattle.rk_inv_wellformed.proofs.room.Rooms.{room_accept, room_asking}
-use Rattle.rk_inv_events.proofs.events.Clients.{for_client, sound_accepts, sound_asks}
 use Rattle.rk_runs.specs.history.Agreement.{Agrees}
 use Rattle.rk_runs.proofs.history.Agreeing.{ChangesAt, agrees_calling, agrees_grown}
 use Rattle.rk_runs.proofs.history.Clusters.{IsGood, IsGoodLane, IsGoodSession, changes_there, each_session, lanes_there, ledgers_of}
-use Rattle.rk_runs.proofs.history.GoesOn.{GoesOn, event_goes_on, same_ledger}
+use Rattle.rk_runs.proofs.history.GoesOn.{event_goes_on, same_ledger}
+use Rattle.rk_runs.proofs.history.Lanes.{ClientsKeep, EventsKeep, asking_good, event_good, taking_good}
+use Rattle.rk_runs.proofs.history.Taking.{is_mine, says}
 use Rattle.rk_runs.proofs.history.Visits.{AgreeAfter, agree_asking, agree_taking}
-
--- what an event is to keep of a lane
-abbrev pub EventsKeep : (World → Type 0) → Type 0
-EventsKeep Steady =
-    (w : World) (event : Event) (called : Called) → IsSound w → IsWellFormed w → HasRoom w → Steady w → MayHappen w event → MayCome called → IsTold w event called
-    → IsCalmEvent w event → refusal w event ≡ None
-    → HasRoom (happened w event called).world × IsSound (happened w event called).world × Steady (happened w event called).world
-
--- and what clients are to keep of it
-pub record ClientsKeep (Steady : World → Type 0) : Type 0 where
-  pub asks : (w : World) (session : Session) → Steady w → Steady (world_visited w (ask w session))
-  pub accepts : (w : World) (number : ℕ) (session : Session) → Steady w → Steady (world_visited w (accept w number session))
-
--- a lane's number, its start and its masters
-pub record IsSameLane (before after : World) : Type 0 where
-  pub lane_is : after.lane ≡ before.lane
-  pub base_is : after.base ≡ before.base
-  pub masters_are : after.coordinator.masters ≡ before.coordinator.masters
-
-itself : (w : World) → IsSameLane w w
-itself w = record { lane_is = refl; base_is = refl; masters_are = refl }
-
--- stay as they are in a client's turn
-turn_keeps : (w : World) (session : Session) (call : Call) (turn : Option ClientTurn) → IsSameLane w (asking_by w session call turn).world
-turn_keeps w session call None = itself w
-turn_keeps w session call (Some turned) = record { lane_is = refl; base_is = refl; masters_are = refl }
-
-ask_keeps : (w : World) (session : Session) (call : Call) → IsSameLane w (asking w session (Some call)).world
-ask_keeps w session call =
-    elim (fits_with w session call) as (λ b. IsSameLane w (cond b (asking_by w session call (session_turn session)) (untouched w session None)).world) [
-      | true ↦ turn_keeps w session call (session_turn session)
-      | false ↦ itself w
-    ]
 
 module _ (Steady : World → Type 0) (masters : ℕ) (events_keep : EventsKeep Steady) (clients_keep : ClientsKeep Steady) (cluster : Cluster) (good : IsGood Steady masters cluster) where
   -- ---- an event
@@ -74,36 +36,17 @@ module _ (Steady : World → Type 0) (masters : ℕ) (events_keep : EventsKeep S
     abbrev new : World
     new = (happened w event called).world
 
-    was : IsGoodLane Steady masters lane w
-    was = good.lanes lane within
-
-    on : GoesOn w new
-    on = event_goes_on w event called
-
-    happens : refusal w event ≡ None → IsGood Steady masters (with_lane cluster lane new)
-    happens none =
-        let kept = events_keep w event called was.sound was.formed was.room was.steady may come told calm none in
-        record {
-          lanes =
-              lanes_there cluster lane new within Steady masters good.lanes
-              (record {
-                sound = kept.1;
-                formed = formed_event w event called may come calm none was.room kept.0 was.formed;
-                room = kept.0;
-                steady = kept.2;
-                lane_is = on.lane_is ∙ was.lane_is;
-                base_is = on.base_is ∙ was.base_is;
-                masters_are = on.masters_are ∙ was.masters_are;
-              });
-          agree = λ client.
-              agrees_grown (ledgers_of cluster) (ledgers_of (with_lane cluster lane new)) lane new.ledger
-              (changes_there cluster lane new within cluster.sessions) client (session_at cluster client) (good.agree client) (on.ledger client);
-          sessions = good.sessions;
-        }
-
     pub steps : (refused : Option StepError) → refusal w event ≡ refused → IsGood Steady masters (cluster_stepped cluster lane (stepped_by w event called refused))
-    steps None none = happens none
     steps (Some error) none = good
+    steps None none = record {
+      lanes = lanes_there cluster lane new within Steady masters good.lanes
+          (event_good (good.lanes lane within) events_keep event called may come told calm none);
+      agree = λ client.
+          agrees_grown (ledgers_of cluster) (ledgers_of (with_lane cluster lane new)) lane new.ledger
+          (changes_there cluster lane new within cluster.sessions) client (session_at cluster client) (good.agree client)
+          ((event_goes_on w event called).ledger client);
+      sessions = good.sessions;
+    }
 
   -- ---- sessions
 
@@ -189,18 +132,12 @@ module _ (Steady : World → Type 0) (masters : ℕ) (events_keep : EventsKeep S
         (good.sessions client).acts
         (subst (λ (o : Option Call). IfSome o (λ c. IsNumber w32 1 client)) out (good.sessions client).lawful)
 
-    acts_here : (call : Call) → mine.outstanding ≡ Some call → MayAct v.coordinator.masters mine
-    acts_here call out = subst (λ (n : ℕ). MayAct n mine) (sym stood.masters_are) (acts call out)
-
     number_of : (call : Call) → mine.outstanding ≡ Some call → IsNumber w32 1 client
     number_of call out = subst (λ (o : Option Call). IfSome o (λ c. IsNumber w32 1 client)) out (good.sessions client).lawful
 
     -- so is a session that may act after it
-    still : (call : Call) → mine.outstanding ≡ Some call → (session : Session) → MayAct v.coordinator.masters session → IsGoodSession masters client session
-    still call out session may = record {
-      acts = λ n. subst (λ (count : ℕ). MayAct count session) stood.masters_are may;
-      lawful = any session.outstanding;
-    }
+    still : (call : Call) → mine.outstanding ≡ Some call → (session : Session) → MayAct masters session → IsGoodSession masters client session
+    still call out session may = record { acts = λ n. may; lawful = any session.outstanding }
       where
         any : (o : Option Call) → IfSome o (λ c. IsNumber w32 1 client)
         any None = tt
@@ -208,31 +145,20 @@ module _ (Steady : World → Type 0) (masters : ℕ) (events_keep : EventsKeep S
 
     -- ---- a turn
 
-    asks_with : IfSome mine.outstanding (IsAfterStart v.base) → ask_refusal v mine ≡ None → (out : Option Call) → mine.outstanding ≡ out → HasRoom (asking v mine out).world
+    asks_with : ask_refusal v mine ≡ None → (out : Option Call) → mine.outstanding ≡ out
         → IsGood Steady masters (visited_cluster (asking v mine out).world (asking v mine out).session)
-    asks_with start none None out room = nothing
-    asks_with start none (Some call) out room =
-        let may = acts_here call out in
-        let is : ask v mine ≡ Ok (asking v mine (Some call)) = ap (ask_by v mine) none ∙ ap (λ (o : Option Call). Ok (asking v mine o)) out in
-        let formed : IsFormedVisit v (asking v mine (Some call)) = formed_ask v mine (asking v mine (Some call)) is may start room stood.formed in
-        let same = ask_keeps v mine call in
-        visited (asking v mine (Some call)).world (asking v mine (Some call)).session
-        (record {
-          sound = subst (λ (r : Result Visited StepError). IsSound (world_visited v r)) is (sound_asks v mine stood.sound may start);
-          formed = formed.world;
-          room = room;
-          steady = subst (λ (r : Result Visited StepError). Steady (world_visited v r)) is (clients_keep.asks v mine stood.steady);
-          lane_is = same.lane_is ∙ stood.lane_is;
-          base_is = same.base_is ∙ stood.base_is;
-          masters_are = same.masters_are ∙ stood.masters_are;
-        })
-        (agree_asking (ledgers_of cluster) (ledgers_of (visited_cluster (asking v mine (Some call)).world (asking v mine (Some call)).session)) lane client mine (good.agree client) v refl call out
-        (changes (asking v mine (Some call)).world (asking v mine (Some call)).session))
-        (still call out (asking v mine (Some call)).session formed.session)
+    asks_with none None out = nothing
+    asks_with none (Some call) out =
+        let made : Visited = asking v mine (Some call) in
+        let visit = asking_good stood clients_keep mine (acts call out) call out none in
+        visited made.world made.session visit.world
+        (agree_asking (ledgers_of cluster) (ledgers_of (visited_cluster made.world made.session)) lane client mine (good.agree client) v refl call out
+        (changes made.world made.session))
+        (still call out made.session visit.acts)
 
-    pub asks : IfSome mine.outstanding (IsAfterStart v.base) → (refused : Option StepError) → ask_refusal v mine ≡ refused → IsGood Steady masters (cluster_visited cluster lane client (ask_by v mine refused))
-    asks start None none = asks_with start none mine.outstanding refl (room_asking v mine none stood.formed stood.room)
-    asks start (Some error) none = good
+    pub asks : (refused : Option StepError) → ask_refusal v mine ≡ refused → IsGood Steady masters (cluster_visited cluster lane client (ask_by v mine refused))
+    asks None none = asks_with none mine.outstanding refl
+    asks (Some error) none = good
 
     -- ---- an answer
 
@@ -250,33 +176,20 @@ module _ (Steady : World → Type 0) (masters : ℕ) (events_keep : EventsKeep S
 
     -- what a client makes of a message of the lane
     takes_it : (number : ℕ) (message : Message) → get v.wire.messages number ≡ Some message → is_for mine.client message.to ≡ true → accept v number mine ≡ Ok (accepting v mine (Some message)) → (out : Option Call) → mine.outstanding ≡ out → (test : Bool) → asked_by_session v mine out ≡ test
-        → IsGood Steady masters (visited_cluster (cond test (taking v mine message.body) (untouched v mine (Some takes.Ignored))).world (cond test (taking v mine message.body) (untouched v mine (Some takes.Ignored))).session)
+        → IsGood Steady masters (visited_cluster (cond test (taking v mine message.body) (untouched v mine (Some Taken.Ignored))).world (cond test (taking v mine message.body) (untouched v mine (Some Taken.Ignored))).session)
     takes_it number message on to is out is_out false asked = nothing
     takes_it number message on to is None is_out true asked = absurd (cc asked)
     takes_it number message on to is (Some call) is_out true asked =
-        let may = acts_here call is_out in
         let taken : Visited = taking v mine message.body in
         let taking_is : accepting v mine (Some message) ≡ taken =
-        ap (λ (b : Bool). cond b (taking v mine message.body) (untouched v mine (Some takes.Ignored)))
+        ap (λ (b : Bool). cond b (taking v mine message.body) (untouched v mine (Some Taken.Ignored)))
         (ap (asked_by_session v mine) is_out ∙ asked) in
-        let all : accept v number mine ≡ Ok taken = is ∙ ap (λ (visit : Visited). Ok visit) taking_is in
-        let formed : IsFormedVisit v taken = formed_accept v number mine taken all may stood.formed in
-        let says : Says v.ledger.journal (nodes.Client mine.client) message.body =
-        subst (λ to. Says v.ledger.journal to message.body) (for_client v number mine stood.sound may message.to to)
-        (stood.sound.messages.others number message on) in
-        visited taken.world taken.session
-        (record {
-          sound = subst (λ (r : Result Visited StepError). IsSound (world_visited v r)) all (sound_accepts v number mine stood.sound may);
-          formed = formed.world;
-          room = room_accept v number mine taken all stood.room;
-          steady = subst (λ (r : Result Visited StepError). Steady (world_visited v r)) all (clients_keep.accepts v number mine stood.steady);
-          lane_is = stood.lane_is;
-          base_is = stood.base_is;
-          masters_are = stood.masters_are;
-        })
+        let visit = taking_good stood clients_keep mine (acts call is_out) number message.body (is ∙ ap (λ (visit : Visited). Ok visit) taking_is) in
+        let told = says v number mine message stood.sound (rw stood.masters_are (acts call is_out)) on to in
+        visited taken.world taken.session visit.world
         (agree_taking (ledgers_of cluster) (ledgers_of (visited_cluster taken.world taken.session)) lane client mine (good.agree client) v number refl stood.sound stood.lane_is lies_in call is_out
-        asked message.body says (changes taken.world taken.session))
-        (still call is_out taken.session formed.session)
+        asked message.body told (changes taken.world taken.session))
+        (still call is_out taken.session visit.acts)
 
     accepts_with : (number : ℕ) (found : Option Message) → get v.wire.messages number ≡ found → (refused : Option StepError) → accept_refusal v number mine.client found ≡ refused → IsGood Steady masters (cluster_visited cluster lane client (accept_by v number mine refused))
     accepts_with number None on None none = absurd (cc none)
@@ -284,17 +197,10 @@ module _ (Steady : World → Type 0) (masters : ℕ) (events_keep : EventsKeep S
     accepts_with number (Some message) on (Some error) none = good
     accepts_with number (Some message) on None none =
         subst (λ (found : Option Message). IsGood Steady masters (visited_cluster (accepting v mine found).world (accepting v mine found).session)) (sym on)
-        (takes_it number message on mine_is
+        (takes_it number message on (is_mine v number mine message none)
         (ap (λ (found : Option Message). accept_by v number mine (accept_refusal v number mine.client found)) on
         ∙ ap (accept_by v number mine) none ∙ ap (λ (found : Option Message). Ok (accepting v mine found)) on)
         mine.outstanding refl (is_asked_here v mine) refl)
-      where
-        mine_is : is_for mine.client message.to ≡ true
-        mine_is = go (is_for mine.client message.to) none
-          where
-            go : (b : Bool) → option_or (where_true (not b) (errors.Address number)) (where_true (not (is_added v.ledger mine.client)) (errors.Stranger mine.client)) ≡ None → b ≡ true
-            go true none = refl
-            go false none = absurd (cc none)
 
     pub accepts : (number : ℕ) → IsGood Steady masters (cluster_visited cluster lane client (accept v number mine))
     accepts number =
@@ -313,5 +219,5 @@ module _ (Steady : World → Type 0) (masters : ℕ) (events_keep : EventsKeep S
   occurs tells (Joins client) may calm told = joins client (get cluster.sessions client) refl
   occurs tells (Calls client table key op) may calm told = calls client table key op may (get cluster.sessions client) refl
   occurs tells (Asks lane client) may calm told =
-      asks lane may.0 client may.1 (ask_refusal (lane_at cluster lane) (session_at cluster client)) refl
+      asks lane may.0 client (ask_refusal (lane_at cluster lane) (session_at cluster client)) refl
   occurs tells (Accepts lane number client) may calm told = accepts lane may client number

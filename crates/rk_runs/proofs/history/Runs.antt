@@ -10,7 +10,8 @@ use Rattle.rk_world.specs.Stands.{Stands}
 use Rattle.rk_inv_lanes.specs.room.Kept.{IsKept}
 use Rattle.rk_inv_lanes.proofs.room.Events.{kept_event, room_left}
 use Rattle.rk_inv_lanes.proofs.room.Start.{kept_accepted, kept_asked, kept_new}
-use Rattle.rk_inv_tablets.proofs.steady.Lanes.{sealed_accepted, sealed_asked, sealed_event, sealed_new, tell_accepted, tell_asked, tell_event, tell_new}
+use Rattle.rk_inv_tablets.proofs.steady.Lanes.{sealed_accepted, sealed_asked, sealed_event, sealed_new, tell_accepted, tell_asked}
+use Rattle.rk_inv_tablets.proofs.steady.Lanes.{tell_event, tell_new}
 use Rattle.rk_inv_lanes.specs.stands.Backups.{AllBackupsTell}
 use Rattle.rk_inv_lanes.proofs.stands.Standing.{quiet_stands_in_room}
 use Rattle.rk_inv_lanes.proofs.stands.Telling.{all_after, all_new, own_where_all_tell}
@@ -19,7 +20,7 @@ use Rattle.rk_inv_events.proofs.steps.Stepped.{sound_event}
 use Rattle.rk_runs.specs.history.Runs.{IsKeptIn}
 use Rattle.rk_runs.proofs.history.Clusters.{IsGood, IsGoodLane}
 use Rattle.rk_runs.proofs.history.Histories.{good_run, good_start, one_history}
-use Rattle.rk_runs.proofs.history.Occurring.{ClientsKeep, EventsKeep}
+use Rattle.rk_runs.proofs.history.Lanes.{ClientsKeep, EventsKeep}
 use Rattle.rk_runs.proofs.history.Staying.{lanes_stay, records_stay}
 
 -- what is so of a lane from its start on, beside the invariant
@@ -27,7 +28,7 @@ abbrev pub Lasts : World → Type 0
 Lasts w = IsSteady w × AllBackupsTell w × IsKept w
 
 -- events leave lanes room, and keep them sound and steady
-events_keep : EventsKeep Lasts
+pub events_keep : EventsKeep Lasts
 events_keep w event called sound formed room (steady, all, kept) may come told calm none =
     let fits = room_left w event called sound formed room kept may none come calm in (
       fits,
@@ -55,7 +56,7 @@ events_keep w event called sound formed room (steady, all, kept) may come told c
     )
 
 -- and so do clients
-clients_keep : ClientsKeep Lasts
+pub clients_keep : ClientsKeep Lasts
 clients_keep = record {
   asks = λ w session lasts. (
     record { tell = tell_asked w session lasts.0.tell; sealed = sealed_asked w session lasts.0.sealed },
@@ -78,7 +79,7 @@ module _ (masters backups : ℕ) (few : masters ≤ MOST_MASTERS) (backed : 1 �
   abbrev start : Cluster
   start = new_cluster masters backups
 
-  lasts_start : (lane : ℕ) → Lasts (new_world lane masters backups)
+  pub lasts_start : (lane : ℕ) → Lasts (new_world lane masters backups)
   lasts_start lane = (
     record { tell = tell_new lane masters backups; sealed = sealed_new lane masters backups },
     all_new lane masters backups,

@@ -1,18 +1,16 @@
 -- A record of a journal stays for ever: whatever occurs in a cluster, it stands at its place, but that it may be accepted.
 use Rattle.std.proofs.Common.{◌≡◌, ℕ, ◌<◌, ◌≤◌, true, false, cond, List, [], ◌∷◌, ◌++◌, Option, Some, None, length, refl, sym, subst, ◌∙◌}
 use Rattle.std.proofs.Common.{⊎_elim, arith, slice_get, get_or-set_other, length-set}
-use Rattle.rk_inv_base.proofs.Words.{cases_eq, cases_lt, get_or_past, none-some, get, Call, Placed, slice_get_front, Body, Message, Called}
-use Rattle.rk_inv_base.proofs.Words.{accept_by, accepting, ask_by, asking, asking_by, fits_with, is_asked, is_asked_here, ledger_asked}
-use Rattle.rk_inv_base.proofs.Words.{ledger_requested, ledger_taken, taking, untouched, ClientTurn, Session, session_turn, Accepts, Asks}
-use Rattle.rk_inv_base.proofs.Words.{Calls, Cluster, Happens, Joins, Occurrence, called_by_client, cluster_after, cluster_run}
-use Rattle.rk_inv_base.proofs.Words.{cluster_stepped, cluster_visited, joined_by, lane_at, session_at, with_lane, accepted_at, Ledger}
-use Rattle.rk_inv_base.proofs.Words.{with_asked, accept_refusal, ask_refusal, refusal, happened, stepped_by, World, new_world, StepError}
-use Rattle.rk_inv_base.proofs.Words.{Event}
-use Rattle.rk_message.specs.declared.message.Body.TheVariants as bodies
+use Rattle.rk_inv_base.proofs.Words.{cases_eq, cases_lt, get_or_past, none-some, get, Call, Placed, slice_get_front, Body, Message}
+use Rattle.rk_inv_base.proofs.Words.{Called, accept_by, accepting, ask_by, asking, is_asked, ledger_asked, ledger_requested, ledger_taken}
+use Rattle.rk_inv_base.proofs.Words.{Session, Accepts, Asks, Calls, Cluster, Happens, Joins, Occurrence, called_by_client, cluster_after}
+use Rattle.rk_inv_base.proofs.Words.{cluster_run, cluster_stepped, cluster_visited, joined_by, lane_at, session_at, with_lane}
+use Rattle.rk_inv_base.proofs.Words.{accepted_at, Ledger, with_asked, accept_refusal, ask_refusal, refusal, happened, stepped_by, World}
+use Rattle.rk_inv_base.proofs.Words.{new_world, StepError, Event, NumberMap, Visited}
 use Rattle.rk_world.specs.Client.{session_accept}
 use Rattle.rk_world.specs.declared.event.Taken.{Taken}
-use Rattle.rk_world.specs.declared.event.Taken.TheVariants as takes
 use Rattle.rk_inv_base.proofs.calls.SameRecords.{accepted_same, record_after}
+use Rattle.rk_inv_lanes.proofs.lanes.Visits.{accepting_covered, asking_covered}
 use Rattle.rk_runs.specs.history.Runs.{RecordsStay, StandsStill}
 use Rattle.rk_runs.proofs.history.Clusters.{lane_here}
 use Rattle.rk_runs.proofs.history.GoesOn.{event_goes_on}
@@ -53,11 +51,11 @@ event_stays w event called =
     subst (StandsStill w.ledger.journal) (sym grows.journal_is) (still_grown w.ledger.journal grows.more)
 
 taken_stays : (ledger : Ledger) (body : Body) (taken : Taken) → StandsStill ledger.journal (ledger_taken ledger body taken).journal
-taken_stays ledger (bodies.Reply reply) takes.Done = still_accepted ledger.journal reply.place (slice_get ledger.journal reply.place) refl
+taken_stays ledger (Body.Reply reply) Taken.Done = still_accepted ledger.journal reply.place (slice_get ledger.journal reply.place) refl
 taken_stays ledger body taken = still_itself ledger.journal
 
 requested_stays : (ledger : Ledger) (client : ℕ) (message : Message) (body : Body) → StandsStill ledger.journal (ledger_requested ledger client message body).journal
-requested_stays ledger client message (bodies.Request request) = still_itself ledger.journal
+requested_stays ledger client message (Body.Request request) = still_itself ledger.journal
 requested_stays ledger client message body = still_itself ledger.journal
 
 asked_stays : (ledger : Ledger) (session : Session) (call : Call) → StandsStill ledger.journal (ledger_asked ledger session call).journal
@@ -68,29 +66,20 @@ asked_stays ledger session call =
     ]
 
 module _ (w : World) (session : Session) where
-  asking_stays : (out : Option Call) → StandsStill w.ledger.journal (asking w session out).world.ledger.journal
-  asking_stays None = still_itself w.ledger.journal
-  asking_stays (Some call) =
-      elim (fits_with w session call) as (λ b. StandsStill w.ledger.journal (cond b (asking_by w session call (session_turn session)) (untouched w session None)).world.ledger.journal) [
-        | true ↦ turned (session_turn session)
-        | false ↦ still_itself w.ledger.journal
-      ]
-    where
-      turned : (turn : Option ClientTurn) → StandsStill w.ledger.journal (asking_by w session call turn).world.ledger.journal
-      turned None = still_itself w.ledger.journal
-      turned (Some turn) =
-          still_then w.ledger.journal (ledger_asked w.ledger session call).journal
-          (ledger_requested (ledger_asked w.ledger session call) session.client turn.message turn.message.body).journal
-          (asked_stays w.ledger session call)
-          (requested_stays (ledger_asked w.ledger session call) session.client turn.message turn.message.body)
+  abbrev Still : Visited → Type 0
+  Still visited = StandsStill w.ledger.journal visited.world.ledger.journal
 
-  accepting_stays : (found : Option Message) → StandsStill w.ledger.journal (accepting w session found).world.ledger.journal
-  accepting_stays None = still_itself w.ledger.journal
-  accepting_stays (Some message) =
-      elim (is_asked_here w session) as (λ b. StandsStill w.ledger.journal (cond b (taking w session message.body) (untouched w session (Some takes.Ignored))).world.ledger.journal) [
-        | true ↦ taken_stays w.ledger message.body (session_accept session message.body).taken
-        | false ↦ still_itself w.ledger.journal
-      ]
+  asking_stays : Still (asking w session session.outstanding)
+  asking_stays = asking_covered Still w session (still_itself w.ledger.journal)
+      (λ call turn out fits is.
+      still_then w.ledger.journal (ledger_asked w.ledger session call).journal
+      (ledger_requested (ledger_asked w.ledger session call) session.client turn.message turn.message.body).journal
+      (asked_stays w.ledger session call)
+      (requested_stays (ledger_asked w.ledger session call) session.client turn.message turn.message.body))
+
+  accepting_stays : (number : ℕ) → Still (accepting w session (get w.wire.messages number))
+  accepting_stays number = accepting_covered Still w session number (λ taken. still_itself w.ledger.journal)
+      (λ message found asked. taken_stays w.ledger message.body (session_accept session message.body).taken)
 
 -- ---- clusters
 
@@ -112,39 +101,50 @@ lane_stays cluster lane w stays q =
     (sym (get_or-set_other cluster.lanes lane q w (new_world q 0 0) apart)) (still_itself (lane_at cluster q).ledger.journal))
     (cases_eq q lane)
 
-all_stay : (cluster : Cluster) → RecordsStay cluster cluster
-all_stay cluster lane = still_itself (lane_at cluster lane).ledger.journal
+-- a cluster later: its records stay, and it has as many lanes
+record Stays (before after : Cluster) : Type 0 where
+  records : RecordsStay before after
+  lanes : length after.lanes ≡ length before.lanes
 
-occurrence_stays : (cluster : Cluster) (occurrence : Occurrence) → RecordsStay cluster (cluster_after cluster occurrence)
+all_stay : (cluster : Cluster) → Stays cluster cluster
+all_stay cluster = record { records = λ lane. still_itself (lane_at cluster lane).ledger.journal; lanes = refl }
+
+with_lane_stays : (cluster : Cluster) (lane : ℕ) (w : World) → StandsStill (lane_at cluster lane).ledger.journal w.ledger.journal
+    → Stays cluster (with_lane cluster lane w)
+with_lane_stays cluster lane w stays = record { records = lane_stays cluster lane w stays; lanes = length-set cluster.lanes lane w }
+
+-- so it is, whoever has which session
+with_sessions : {cluster after : Cluster} (sessions : NumberMap Session) → Stays cluster after → Stays cluster (record after { sessions = sessions })
+with_sessions sessions stays = record { records = stays.records; lanes = stays.lanes }
+
+occurrence_stays : (cluster : Cluster) (occurrence : Occurrence) → Stays cluster (cluster_after cluster occurrence)
 occurrence_stays cluster (Happens lane event called) = go (refusal (lane_at cluster lane) event)
   where
-    go : (refused : Option StepError) → RecordsStay cluster (cluster_stepped cluster lane (stepped_by (lane_at cluster lane) event called refused))
-    go None = lane_stays cluster lane (happened (lane_at cluster lane) event called).world (event_stays (lane_at cluster lane) event called)
+    go : (refused : Option StepError) → Stays cluster (cluster_stepped cluster lane (stepped_by (lane_at cluster lane) event called refused))
+    go None = with_lane_stays cluster lane (happened (lane_at cluster lane) event called).world (event_stays (lane_at cluster lane) event called)
     go (Some error) = all_stay cluster
 occurrence_stays cluster (Joins client) = go (get cluster.sessions client)
   where
-    go : (found : Option Session) → RecordsStay cluster (joined_by cluster client found)
-    go None = all_stay cluster
+    go : (found : Option Session) → Stays cluster (joined_by cluster client found)
+    go None = with_sessions _ (all_stay cluster)
     go (Some session) = all_stay cluster
 occurrence_stays cluster (Calls client table key op) = go (get cluster.sessions client)
   where
-    go : (found : Option Session) → RecordsStay cluster (called_by_client cluster client table key op found)
+    go : (found : Option Session) → Stays cluster (called_by_client cluster client table key op found)
     go None = all_stay cluster
-    go (Some session) = all_stay cluster
+    go (Some session) = with_sessions _ (all_stay cluster)
 occurrence_stays cluster (Asks lane client) = go (ask_refusal (lane_at cluster lane) (session_at cluster client))
   where
-    go : (refused : Option StepError) → RecordsStay cluster (cluster_visited cluster lane client (ask_by (lane_at cluster lane) (session_at cluster client) refused))
-    go None =
-        lane_stays cluster lane (asking (lane_at cluster lane) (session_at cluster client) (session_at cluster client).outstanding).world
-        (asking_stays (lane_at cluster lane) (session_at cluster client) (session_at cluster client).outstanding)
+    go : (refused : Option StepError)
+        → Stays cluster (cluster_visited cluster lane client (ask_by (lane_at cluster lane) (session_at cluster client) refused))
+    go None = with_sessions _ (with_lane_stays cluster lane _ (asking_stays (lane_at cluster lane) (session_at cluster client)))
     go (Some error) = all_stay cluster
 occurrence_stays cluster (Accepts lane number client) =
     go (accept_refusal (lane_at cluster lane) number (session_at cluster client).client (get (lane_at cluster lane).wire.messages number))
   where
-    go : (refused : Option StepError) → RecordsStay cluster (cluster_visited cluster lane client (accept_by (lane_at cluster lane) number (session_at cluster client) refused))
-    go None =
-        lane_stays cluster lane (accepting (lane_at cluster lane) (session_at cluster client) (get (lane_at cluster lane).wire.messages number)).world
-        (accepting_stays (lane_at cluster lane) (session_at cluster client) (get (lane_at cluster lane).wire.messages number))
+    go : (refused : Option StepError)
+        → Stays cluster (cluster_visited cluster lane client (accept_by (lane_at cluster lane) number (session_at cluster client) refused))
+    go None = with_sessions _ (with_lane_stays cluster lane _ (accepting_stays (lane_at cluster lane) (session_at cluster client) number))
     go (Some error) = all_stay cluster
 
 pub records_stay : (cluster : Cluster) (list : List Occurrence) → RecordsStay cluster (cluster_run cluster list)
@@ -152,41 +152,9 @@ records_stay cluster [] lane = still_itself (lane_at cluster lane).ledger.journa
 records_stay cluster (occurrence ∷ later) lane =
     still_then (lane_at cluster lane).ledger.journal (lane_at (cluster_after cluster occurrence) lane).ledger.journal
     (lane_at (cluster_run (cluster_after cluster occurrence) later) lane).ledger.journal
-    (occurrence_stays cluster occurrence lane) (records_stay (cluster_after cluster occurrence) later lane)
+    ((occurrence_stays cluster occurrence).records lane) (records_stay (cluster_after cluster occurrence) later lane)
 
--- ---- how many lanes there are
-
--- a cluster has as many lanes as before
-one_stays : (cluster : Cluster) (occurrence : Occurrence) → length (cluster_after cluster occurrence).lanes ≡ length cluster.lanes
-one_stays cluster (Happens lane event called) = go (refusal (lane_at cluster lane) event)
-  where
-    go : (refused : Option StepError) → length (cluster_stepped cluster lane (stepped_by (lane_at cluster lane) event called refused)).lanes ≡ length cluster.lanes
-    go None = length-set cluster.lanes lane (happened (lane_at cluster lane) event called).world
-    go (Some error) = refl
-one_stays cluster (Joins client) = go (get cluster.sessions client)
-  where
-    go : (found : Option Session) → length (joined_by cluster client found).lanes ≡ length cluster.lanes
-    go None = refl
-    go (Some session) = refl
-one_stays cluster (Calls client table key op) = go (get cluster.sessions client)
-  where
-    go : (found : Option Session) → length (called_by_client cluster client table key op found).lanes ≡ length cluster.lanes
-    go None = refl
-    go (Some session) = refl
-one_stays cluster (Asks lane client) = go (ask_refusal (lane_at cluster lane) (session_at cluster client))
-  where
-    go : (refused : Option StepError) → length (cluster_visited cluster lane client (ask_by (lane_at cluster lane) (session_at cluster client) refused)).lanes ≡ length cluster.lanes
-    go None = length-set cluster.lanes lane (asking (lane_at cluster lane) (session_at cluster client) (session_at cluster client).outstanding).world
-    go (Some error) = refl
-one_stays cluster (Accepts lane number client) =
-    go (accept_refusal (lane_at cluster lane) number (session_at cluster client).client (get (lane_at cluster lane).wire.messages number))
-  where
-    go : (refused : Option StepError) → length (cluster_visited cluster lane client (accept_by (lane_at cluster lane) number (session_at cluster client) refused)).lanes ≡ length cluster.lanes
-    go None =
-        length-set cluster.lanes lane
-        (accepting (lane_at cluster lane) (session_at cluster client) (get (lane_at cluster lane).wire.messages number)).world
-    go (Some error) = refl
-
+-- and it has as many lanes as before
 pub lanes_stay : (cluster : Cluster) (list : List Occurrence) → length (cluster_run cluster list).lanes ≡ length cluster.lanes
 lanes_stay cluster [] = refl
-lanes_stay cluster (occurrence ∷ later) = lanes_stay (cluster_after cluster occurrence) later ∙ one_stays cluster occurrence
+lanes_stay cluster (occurrence ∷ later) = lanes_stay (cluster_after cluster occurrence) later ∙ (occurrence_stays cluster occurrence).lanes

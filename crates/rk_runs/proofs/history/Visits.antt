@@ -1,24 +1,23 @@
 -- Sessions and ledgers agree still when a client takes its turn in a lane, or an answer.
-use Rattle.std.proofs.Common.{◌≡◌, ℕ, ◌<◌, Bool, true, false, cond, List, Option, Some, None, refl, sym, ap, subst, ◌∙◌, ◌==◌, IfSome, not}
-use Rattle.std.proofs.Common.{slice_get, slice_set, eqb-true}
-use Rattle.rk_inv_base.proofs.Words.{and_parts, All-contains, Answer, Call, Outcome, Placed, Located, Reply, Body, Message, asking}
-use Rattle.rk_inv_base.proofs.Words.{asking_by, fits_with, is_asked, is_last, ledger_requested, ledger_taken, taking, untouched, ClientTurn}
-use Rattle.rk_inv_base.proofs.Words.{Session, call_lane, session_turn, turn_of, accepted_at, as_accepted, is_accepted, Ledger, asked_by}
-use Rattle.rk_inv_base.proofs.Words.{with_asked, World, LastCall, IsLastCall, MayAccept, AnswerFits, IsRecordAt, Says, IsAfterSeen, view}
+use Rattle.std.proofs.Common.{◌≡◌, ℕ, ◌<◌, Bool, true, false, cond, List, Option, Some, None, refl, sym, ap, subst, ◌∙◌, ◌==◌, IfSome}
+use Rattle.std.proofs.Common.{not, slice_get, slice_set}
+use Rattle.rk_inv_base.proofs.Words.{Node, and_parts, All-contains, Call, Outcome, Placed, Located, Reply, Body, Message, asking}
+use Rattle.rk_inv_base.proofs.Words.{asking_by, fits_with, is_asked, is_last, ledger_requested, ledger_taken, taking, untouched}
+use Rattle.rk_inv_base.proofs.Words.{ClientTurn, Session, call_lane, session_turn, turn_of, accepted_at, as_accepted, is_accepted, Ledger}
+use Rattle.rk_inv_base.proofs.Words.{asked_by, with_asked, World, LastCall, IsLastCall, MayAccept, IsRecordAt, Says, IsAfterSeen, view}
 use Rattle.rk_inv_base.proofs.Words.{IsSound}
-use Rattle.rk_types.specs.declared.call.Answer.TheVariants as answers
-use Rattle.rk_types.specs.declared.node.Node.TheVariants as nodes
-use Rattle.rk_message.specs.declared.message.Body.TheVariants as bodies
-use Rattle.rk_world.specs.Client.{MOST_REQUESTS, accepted_by, accepted_of, answer_accepted, done, has_call, ignoring, located_accepted}
-use Rattle.rk_world.specs.Client.{looking_up, range_of, requesting, turn_by, turn_to, with_range, without_range}
+use Rattle.rk_world.specs.declared.event.Taken.{Taken}
+use Rattle.rk_world.specs.Client.{MOST_REQUESTS, accepted_of, done, looking_up, range_of, requesting, turn_by, turn_to, with_range}
+use Rattle.rk_world.specs.Client.{without_range}
 use Rattle.rk_world.specs.Ledger.{with_accepted}
-use Rattle.rk_world.specs.declared.event.Taken.TheVariants as takes
 use Rattle.rk_inv_base.proofs.calls.CallAsked.{asked_put}
 use Rattle.rk_inv_base.proofs.views.Put.{put_here, put_other}
 use Rattle.rk_inv_events.proofs.events.Clients.{asked_is, is_last_there, may_accept}
 use Rattle.rk_runs.specs.history.Agreement.{Agrees}
-use Rattle.rk_runs.proofs.history.Agreeing.{ChangesAt, IsAnswer, agrees_answered, agrees_asked, agrees_beside, agrees_grown, agrees_looking}
+use Rattle.rk_runs.proofs.history.Agreeing.{ChangesAt, IsAnswer, agrees_answered, agrees_asked, agrees_beside, agrees_grown}
+use Rattle.rk_runs.proofs.history.Agreeing.{agrees_looking}
 use Rattle.rk_runs.proofs.history.GoesOn.{same_ledger}
+use Rattle.rk_runs.proofs.history.Taking.{IsTaken, taken_by}
 use Rattle.rk_runs.proofs.history.Receipts.{stands_at}
 
 -- a client's session and those of all others agree with the ledgers, once that client did something in a lane
@@ -54,11 +53,11 @@ module _ (before after : ℕ → Ledger) (lane client : ℕ) (session : Session)
   module _ (w : World) (at : before lane ≡ w.ledger) (call : Call) (is_out : session.outstanding ≡ Some call) where
     -- a request that is saved changes nothing of these
     requested_same : (ledger : Ledger) (message : Message) (body : Body) → (ledger_requested ledger session.client message body).journal ≡ ledger.journal
-    requested_same ledger message (bodies.Request request) = refl
+    requested_same ledger message (Body.Request request) = refl
     requested_same ledger message body = refl
 
     requested_asked : (ledger : Ledger) (message : Message) (body : Body) (c : ℕ) → asked_by (ledger_requested ledger session.client message body) c ≡ asked_by ledger c
-    requested_asked ledger message (bodies.Request request) c = refl
+    requested_asked ledger message (Body.Request request) c = refl
     requested_asked ledger message body c = refl
 
     abbrev asked_ledger : Bool → Ledger
@@ -208,31 +207,23 @@ module _ (before after : ℕ → Ledger) (lane client : ℕ) (session : Session)
     }
 
   -- by what was told
-  replied : (reply : Reply) (told : Answer) → reply.answer ≡ told → Says w.ledger.journal (nodes.Client session.client) (bodies.Reply reply) → (test : Bool) → (reply.seq == call.seq) ≡ test
-      → ChangesAt before after lane (ledger_taken w.ledger (bodies.Reply reply) (cond test (answer_accepted session call reply told) (ignoring session)).taken)
-      → AgreeAfter before after client (cond test (answer_accepted session call reply told) (ignoring session)).session
-  replied reply told is says false differs changes = stays changes
-  replied reply (answers.Done outcome) is says true seq_is changes =
-      done_agrees reply outcome (eqb-true reply.seq call.seq seq_is) (subst (AnswerFits w.ledger.journal session.client reply) is says) changes
-  replied reply (answers.Moved tablet) is says true seq_is changes =
-      elsewhere changes (without_range session call).ranges 0
-  replied reply (answers.NotYet key) is says true seq_is changes = stays changes
+  takes : IsTaken (λ body accepted. ChangesAt before after lane (ledger_taken w.ledger body accepted.taken)
+      → AgreeAfter before after client accepted.session)
+      w.ledger.journal session call
+  takes = record {
+    ignores = λ body. ignored body;
+    ends = λ reply outcome seq_is at. done_agrees reply outcome seq_is at;
+    moves = λ reply tablet changes. elsewhere changes (without_range session call).ranges 0;
+    waits = λ reply key. stays;
+    locates = λ place changes. elsewhere changes (with_range session (call_lane call) place).ranges 0;
+  }
+    where
+      ignored : (body : Body) → ChangesAt before after lane (ledger_taken w.ledger body Taken.Ignored) → AgreeAfter before after client session
+      ignored (Body.Reply reply) = stays
+      ignored _ = stays
 
-  located : (place : Located) → ChangesAt before after lane w.ledger → AgreeAfter before after client (located_accepted session call place).session
-  located place changes =
-      elim (has_call call place) as (λ b. AgreeAfter before after client (cond b (record { session = with_range session (call_lane call) place; taken = takes.Located }) (ignoring session)).session) [
-        | true ↦ elsewhere changes (with_range session (call_lane call) place).ranges 0
-        | false ↦ stays changes
-      ]
-
-  taken_by : (body : Body) → Says w.ledger.journal (nodes.Client session.client) body → ChangesAt before after lane (ledger_taken w.ledger body (accepted_by session call body).taken)
-      → AgreeAfter before after client (accepted_by session call body).session
-  taken_by (bodies.Reply reply) says changes = replied reply reply.answer refl says (reply.seq == call.seq) refl changes
-  taken_by (bodies.Located place) says changes = located place changes
-  taken_by body says changes = stays changes
-
-  pub agree_taking : (body : Body) → Says w.ledger.journal (nodes.Client session.client) body → ChangesAt before after lane (taking w session body).world.ledger
+  pub agree_taking : (body : Body) → Says w.ledger.journal (Node.Client session.client) body → ChangesAt before after lane (taking w session body).world.ledger
       → AgreeAfter before after client (taking w session body).session
   agree_taking body says changes =
       subst (λ (o : Option Call). AgreeAfter before after client (accepted_of session o body).session) (sym is_out)
-      (taken_by body says (subst (λ (o : Option Call). ChangesAt before after lane (ledger_taken w.ledger body (accepted_of session o body).taken)) is_out changes))
+      (taken_by takes body says (subst (λ (o : Option Call). ChangesAt before after lane (ledger_taken w.ledger body (accepted_of session o body).taken)) is_out changes))

@@ -1,15 +1,9 @@
 -- What clients say along occurrences: part by part, and as `all_acted` has it.
 use Rattle.std.proofs.Common.{◌≡◌, ℕ, List, [], ◌∷◌, ◌++◌, Option, None, Some, Result, Ok, Err, refl, sym, ap, ◌∙◌, append-nil}
-use Rattle.std.proofs.lemmas.List.{append_assoc}
-use Rattle.rk_types.specs.declared.node.Said.{Said}
-use Rattle.rk_world.specs.Calls.{Visited, accept, ask}
-use Rattle.rk_world.specs.Client.{Session}
-use Rattle.rk_world.specs.Cluster.{Accepts, Asks, Calls, Cluster, Happens, Joins, Occurrence, cluster_after, cluster_run, lane_at, session_at}
-use Rattle.rk_world.specs.Step.{step}
-use Rattle.rk_world.specs.declared.error.StepError.{StepError}
-use Rattle.rk_cluster.specs.Acted.{Acted, acted, all_acted, came_in, going_on, said_in}
-use Rattle.rk_settle.proofs.Occurred.{came_is}
-use Rattle.rk_scripts.specs.answers.Said.{said_along}
+use Rattle.std.proofs.Common.{append_assoc}
+use Rattle.rk_scripts.proofs.Words.{Said, Visited, accept, ask, Session, Accepts, Asks, Cluster, Happens, Occurrence, cluster_after}
+use Rattle.rk_scripts.proofs.Words.{cluster_run, lane_at, session_at, step, StepError, Acted, acted, all_acted, came_in, going_on, said_in}
+use Rattle.rk_scripts.proofs.Words.{came_is, said_along}
 
 -- along one list and then another, what is said is that along the first, and then that along the second in the cluster that it made
 pub said_joins : (start : Cluster) (before after : List Occurrence)
@@ -31,14 +25,13 @@ answered_said cluster occurrence (Err error) said is none = none error refl
 one_said : (cluster : Cluster) (occurrence : Occurrence) → (acted cluster occurrence).said ≡ said_along cluster (acted cluster occurrence).came
 one_said cluster (Happens lane event called) =
     answered_said cluster (Happens lane event called) (step (lane_at cluster lane) event called) [] refl (λ error is. refl)
-one_said cluster (Joins client) = refl
-one_said cluster (Calls client table key op) = refl
 one_said cluster (Asks lane client) =
     answered_said cluster (Asks lane client) (ask (lane_at cluster lane) (session_at cluster client)) [] refl (λ error is. refl)
 one_said cluster (Accepts lane number client) =
     let session : Session = session_at cluster client in
     let visited : Result Visited StepError = accept (lane_at cluster lane) number session in
     answered_said cluster (Accepts lane number client) visited (said_in session visited) refl (λ error is. ap (said_in session) is)
+one_said cluster _ = refl
 
 then_said : (cluster : Cluster) (occurrence : Occurrence) (later : List Occurrence) (worn : Option ℕ)
     → ((next : Cluster) → (all_acted next later).said ≡ said_along next (all_acted next later).came)

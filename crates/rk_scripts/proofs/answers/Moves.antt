@@ -1,13 +1,8 @@
 -- What clients said in the course of a settling command is what they said along all that occurred in it.
 use Rattle.std.proofs.Common.{◌≡◌, List, [], ◌∷◌, ◌++◌, sym, ap, ◌∙◌, arith}
-use Rattle.rk_types.specs.declared.node.Said.{Said}
-use Rattle.rk_world.specs.Cluster.{Cluster, Occurrence}
-use Rattle.rk_cluster.specs.Acted.{all_acted}
-use Rattle.rk_cluster.specs.Replicas.{Fate}
-use Rattle.rk_settle.specs.Course.{Course, moved, moved_all}
-use Rattle.rk_scripts.proofs.play.Moving.{IsCourseFrom, moved_from}
-use Rattle.rk_scripts.specs.answers.Said.{said_along}
+use Rattle.rk_scripts.proofs.Words.{Said, Cluster, Occurrence, all_acted, Fate, Course, moved, moved_all, said_along}
 use Rattle.rk_scripts.proofs.answers.Along.{came_said, said_joins}
+use Rattle.rk_scripts.proofs.play.Moving.{IsCourseFrom, moved_from}
 
 -- what clients said in a course is what they said along all that occurred in it
 abbrev pub IsCourseSaid : Cluster → Course → Type 0

@@ -1,30 +1,22 @@
 -- A script's text is made of pieces, and the replies in them are the clients' receipts at the end.
-use Rattle.std.proofs.Common.{◌≡◌, ℕ, true, false, List, [], ◌∷◌, ◌++◌, map, Option, None, Some, is_some, Result, Ok, Err, if◌then◌else◌, refl, sym, ap, subst, ◌∙◌, ◌⊎◌, inl, inr, ⊎_elim, append-nil, append_assoc}
+use Rattle.std.proofs.Common.{◌≡◌, ℕ, true, false, List, [], ◌∷◌, ◌++◌, map, Option, None, Some, is_some, Result, Ok, Err, if◌then◌else◌}
+use Rattle.std.proofs.Common.{refl, sym, ap, subst, ◌∙◌, ◌⊎◌, inl, inr, ⊎_elim, append-nil, append_assoc}
+use Rattle.rk_scripts.proofs.Words.{filter-append, Said, NoMemory, Refused, ReplicaFault, Cluster, Occurrence, cluster_run, new_cluster}
+use Rattle.rk_scripts.proofs.Words.{runs_join, Fate, number_of, TooLate, script_of, Command, Numbered, ParseError, Effect, Fails, Pauses}
+use Rattle.rk_scripts.proofs.Words.{Refuses, Stop, Wears, effect_within, Played, Setting, behind, cluster_by, continued, first_commands}
+use Rattle.rk_scripts.proofs.Words.{first_fates, how_many, opened_by, other_fates, played_from, played_in, played_of, played_part}
+use Rattle.rk_scripts.proofs.Words.{refused_at, set_once, stopped_at, unset, Piece, piece_said, piece_text, is_reply_to, replies_to}
+use Rattle.rk_scripts.proofs.Words.{said_along, told_to}
 use Rattle.std.proofs.lemmas.List.Concat.{flat_map-cons}
-use Rattle.std.proofs.lemmas.List.Elements.{filter-append}
-use Rattle.rk_types.specs.declared.node.Said.{Said}
 use Rattle.rk_types.specs.declared.status.Status.{Status}
-use Rattle.rk_types.specs.declared.status.Status.TheVariants.{Done, NoMemory, Refused, ReplicaFault, Worn}
-use Rattle.rk_world.specs.Cluster.{Cluster, Occurrence, cluster_run, new_cluster}
-use Rattle.rk_cluster.proofs.Leading.{runs_join}
-use Rattle.rk_cluster.specs.Replicas.{Fate}
-use Rattle.rk_cluster.specs.Numbers.{number_of}
-use Rattle.rk_cluster.specs.declared.code.Code.TheVariants.{TooLate}
+use Rattle.rk_types.specs.declared.status.Status.TheVariants.{Done, Worn}
 use Rattle.rk_script.specs.Codes.{code_number}
-use Rattle.rk_script.specs.Script.{script_of}
-use Rattle.rk_script.specs.declared.command.Command.{Command}
-use Rattle.rk_script.specs.declared.command.Command.TheVariants as commands
-use Rattle.rk_script.specs.declared.command.Numbered.{Numbered}
-use Rattle.rk_script.specs.declared.script.ParseError.{ParseError}
-use Rattle.rk_script.specs.declared.script.ParseError.TheVariants as faults
-use Rattle.rk_play.specs.Effects.{Effect, Fails, Pauses, Refuses, Stop, Wears, effect_within}
-use Rattle.rk_play.specs.Played.{Played, Setting, behind, cluster_by, continued, ending, first_commands, first_fates, how_many, opened_by, other_fates, played_from, played_in, played_of, played_part, refused_at, set_once, stopped_at, unset}
-use Rattle.rk_scripts.proofs.play.Made.{within_from}
-use Rattle.rk_scripts.specs.answers.Pieces.{AreAnswers, AreInOrder, IsLast, Piece, Refusal, acting, acting_in, acting_of, is_setting, piece_said, piece_text, pieces_said}
-use Rattle.rk_scripts.specs.answers.Said.{is_reply_to, replies_to, said_along, told_to}
+use Rattle.rk_play.specs.Played.{ending}
+use Rattle.rk_scripts.specs.answers.Pieces.{AreAnswers, AreInOrder, IsLast, Refusal, acting, acting_in, acting_of, is_setting, pieces_said}
 use Rattle.rk_scripts.proofs.answers.Along.{said_joins}
 use Rattle.rk_scripts.proofs.answers.Effects.{HasWritten, IsWriting, within_writes}
 use Rattle.rk_scripts.proofs.answers.Receipts.{receipts_said}
+use Rattle.rk_scripts.proofs.play.Made.{within_from}
 
 -- a run that is done or refused says all in its text
 abbrev EndsWell : Played → Type 0
@@ -71,12 +63,10 @@ behind_speaks first others start it later from written spoken = record {
   from =
       spoken.from ∙ ap (λ (cluster : Cluster). cluster_run cluster later.occurred) from ∙ sym (runs_join start it.occurred later.occurred);
   pieces = written.piece ∷ spoken.pieces;
-  text =
-      ap (λ (text : List ℕ). text ∷ later.pieces) written.text
+  text = ap (λ (text : List ℕ). text ∷ later.pieces) written.text
       ∙ ap (λ (texts : List (List ℕ)). piece_text written.piece ∷ texts) spoken.text;
   silent = spoken.silent;
-  said =
-      said_joins start it.occurred later.occurred
+  said = said_joins start it.occurred later.occurred
       ∙ ap (λ (cluster : Cluster). said_along start it.occurred ++ said_along cluster later.occurred) (sym from)
       ∙ ap (λ (said : List Said). said_along start it.occurred ++ said) spoken.said
       ∙ ap (λ (said : List Said). said ++ (pieces_said spoken.pieces ++ spoken.silent)) (sym written.said)
@@ -122,8 +112,7 @@ stopped_speaks left start line it (Refuses code) from refused = record {
 }
 stopped_speaks left start line it (Wears number) from refused =
     silent_speaks left start it Worn from (⊎_elim (λ (is : Worn ≡ Done). absurd (cc is)) (λ (is : Worn ≡ Refused). absurd (cc is)))
-stopped_speaks left start line it (Fails rounds) from refused =
-    silent_speaks left start it ReplicaFault from
+stopped_speaks left start line it (Fails rounds) from refused = silent_speaks left start it ReplicaFault from
     (⊎_elim (λ (is : ReplicaFault ≡ Done). absurd (cc is)) (λ (is : ReplicaFault ≡ Refused). absurd (cc is)))
 stopped_speaks left start line it Pauses from refused =
     silent_speaks left start it NoMemory from (⊎_elim (λ (is : NoMemory ≡ Done). absurd (cc is)) (λ (is : NoMemory ≡ Refused). absurd (cc is)))
@@ -170,10 +159,10 @@ once_anew left line before setting rest later =
 opened_anew : (behind_them all : List Numbered) (line : ℕ) (command : Command) (setting : Setting) (next : Setting → Played) (runs : Cluster → Played)
     → ((more : Setting) → IsSpokenAnew behind_them (next more)) → ((cluster : Cluster) → IsSpoken all cluster (runs cluster))
     → IsSpokenAnew (if is_setting command then behind_them else all) (opened_by line command setting next runs)
-opened_anew behind_them all line (commands.Masters masters) setting next runs goes begins =
+opened_anew behind_them all line (Command.Masters masters) setting next runs goes begins =
     let more : Setting = record setting { masters = Some masters } in
     once_anew behind_them line setting.masters setting (next more) (goes more)
-opened_anew behind_them all line (commands.Backups backups) setting next runs goes begins =
+opened_anew behind_them all line (Command.Backups backups) setting next runs goes begins =
     let more : Setting = record setting { backups = Some backups } in
     once_anew behind_them line setting.backups setting (next more) (goes more)
 opened_anew behind_them all line command setting next runs goes begins = anew_by all setting (runs (cluster_by setting)) (begins (cluster_by setting))
@@ -187,9 +176,9 @@ from_anew (first ∷ others) fates setting =
 
 of_anew : (read : Result (List Numbered) ParseError) (fates : List (List Fate)) → IsSpokenAnew (acting_of read) (played_of read fates)
 of_anew (Ok commands) fates = from_anew commands fates unset
-of_anew (Err (faults.Refused line code)) fates =
-    anew_by [] unset (played_of (Err (faults.Refused line code)) fates) (refused_speaks [] line (code_number code) (cluster_by unset))
-of_anew (Err faults.NoMemory) fates = anew_by [] unset (played_of (Err faults.NoMemory) fates) (ended_speaks [] NoMemory (cluster_by unset))
+of_anew (Err (ParseError.Refused line code)) fates =
+    anew_by [] unset (played_of (Err (ParseError.Refused line code)) fates) (refused_speaks [] line (code_number code) (cluster_by unset))
+of_anew (Err ParseError.NoMemory) fates = anew_by [] unset (played_of (Err ParseError.NoMemory) fates) (ended_speaks [] NoMemory (cluster_by unset))
 
 -- ---- the law
 

@@ -1,19 +1,11 @@
 -- The replies that clients said are their receipts.
-use Rattle.std.proofs.Common.{◌≡◌, ℕ, List, [], ◌∷◌, ◌++◌, map, Option, None, Some, refl, sym, ap, subst, ◌∙◌, ⊎_elim, append-nil, append_assoc}
-use Rattle.std.specs.Prelude.{Err, Ok, Result, unwrap_or}
-use Rattle.std.proofs.lemmas.Bool.{cases_eq}
-use Rattle.std.proofs.lemmas.List.Elements.{filter-append}
-use Rattle.rk_types.specs.NumberMap.{NumberMap, get, get_or}
-use Rattle.rk_types.proofs.NumberMaps.{get_other, get_same}
-use Rattle.rk_types.specs.declared.node.Said.{Said}
-use Rattle.rk_world.specs.declared.error.StepError.{StepError}
-use Rattle.rk_world.specs.Calls.{accept_by, accepting, ask_by, asking}
-use Rattle.rk_world.specs.Client.{Session, busy, new_session, session_calling}
-use Rattle.rk_world.specs.Cluster.{Accepts, Asks, Calls, Cluster, Happens, Joins, Occurrence, called_by_client, cluster_after, cluster_run, cluster_stepped, cluster_visited, joined_by, lane_at, new_cluster, session_at, with_lane, with_session}
-use Rattle.rk_world.specs.Refusals.{accept_refusal, ask_refusal}
-use Rattle.rk_world.specs.Step.{Stepped, step}
-use Rattle.rk_cluster.specs.Acted.{acted, said_in}
-use Rattle.rk_scripts.specs.answers.Said.{is_reply_to, replies_to, said_along, told_by, told_to}
+use Rattle.std.proofs.Common.{◌≡◌, ℕ, List, [], ◌∷◌, ◌++◌, map, Option, None, Some, refl, sym, ap, subst, ◌∙◌, ⊎_elim, append-nil}
+use Rattle.std.proofs.Common.{append_assoc, Err, Ok, Result, unwrap_or}
+use Rattle.rk_scripts.proofs.Words.{cases_eq, filter-append, NumberMap, get, get_or, get_other, get_same, Said, StepError, accept_by}
+use Rattle.rk_scripts.proofs.Words.{accepting, ask_by, asking, Session, busy, new_session, session_calling, Accepts, Asks, Calls, Cluster}
+use Rattle.rk_scripts.proofs.Words.{Happens, Joins, Occurrence, called_by_client, cluster_after, cluster_run, cluster_stepped}
+use Rattle.rk_scripts.proofs.Words.{cluster_visited, joined_by, lane_at, new_cluster, session_at, with_lane, with_session, accept_refusal}
+use Rattle.rk_scripts.proofs.Words.{ask_refusal, Stepped, step, acted, said_in, is_reply_to, replies_to, said_along, told_by, told_to}
 use Rattle.rk_scripts.proofs.answers.Telling.{IsOwn, Tells, accepting_tells, asking_tells, calling_tells}
 
 -- each client's session is its own
@@ -56,8 +48,7 @@ module _ (before now : Cluster) (client : ℕ) (after : Session) (said : List Sa
     told = λ other.
         ⊎_elim
         (λ (is : other ≡ client).
-        ap (λ (session : Session). map told_by session.receipts) (session_here other is)
-        ∙ tells.told
+        ap (λ (session : Session). map told_by session.receipts) (session_here other is) ∙ tells.told
         ∙ ap (λ (c : ℕ). told_to before c ++ replies_to c said) (sym is))
         (λ (apart : other ≡ client → ⊥).
         ap (λ (session : Session). map told_by session.receipts) (session_beside other apart)

@@ -1,30 +1,20 @@
 -- What a client's session becomes at its turn and when it takes a message: it stays the client's, and it has one receipt more just
 -- where the client says that its call was carried out.
-use Rattle.std.proofs.Common.{◌≡◌, ℕ, ◌+◌, ◌-◌, Bool, true, false, cond, eqb, List, [], ◌∷◌, ◌++◌, length, length-append, map, Option, None, Some, IfSome, slice_get, refl, sym, ap, subst, ◌∙◌, append-nil, arith}
-use Rattle.std.specs.Prelude.{◌==◌}
-use Rattle.std.proofs.lemmas.Bool.{eq-eqb, ne_eqb}
+use Rattle.std.proofs.Common.{◌≡◌, ℕ, ◌+◌, ◌-◌, Bool, true, false, cond, eqb, List, [], ◌∷◌, ◌++◌, length, length-append, map, Option, None}
+use Rattle.std.proofs.Common.{Some, IfSome, slice_get, refl, sym, ap, subst, ◌∙◌, append-nil, arith, ◌==◌, eq-eqb, ne_eqb}
+use Rattle.rk_scripts.proofs.Words.{Call, Op, Said, Body, Message, accepting, asking, asking_by, fits_with, is_asked_here, taking}
+use Rattle.rk_scripts.proofs.Words.{untouched, Session, call_lane, session_calling, World, replies_to, told_by, Taken}
+use Rattle.std.proofs.Math.Seq.{get_or-append_seam}
 use Rattle.std.proofs.lemmas.List.{map-append}
 use Rattle.std.proofs.lemmas.Option.{slice_get-get_or}
-use Rattle.std.proofs.Math.Seq.{get_or-append_seam}
 use Rattle.rk_types.specs.declared.call.Answer.{Answer}
-use Rattle.rk_types.specs.declared.call.Answer.TheVariants as answers
-use Rattle.rk_types.specs.declared.call.Call.{Call}
-use Rattle.rk_types.specs.declared.call.Op.{Op}
 use Rattle.rk_types.specs.declared.call.Outcome.{Outcome}
 use Rattle.rk_types.specs.declared.history.Receipt.{Receipt}
-use Rattle.rk_types.specs.declared.node.Said.{Said}
-use Rattle.rk_types.specs.declared.node.Said.TheVariants as says
 use Rattle.rk_message.specs.declared.calls.Located.{Located}
 use Rattle.rk_message.specs.declared.calls.Reply.{Reply}
-use Rattle.rk_message.specs.declared.message.Body.{Body}
-use Rattle.rk_message.specs.declared.message.Body.TheVariants as bodies
-use Rattle.rk_message.specs.declared.message.Message.{Message}
-use Rattle.rk_world.specs.declared.event.Taken.TheVariants as takes
-use Rattle.rk_world.specs.Calls.{accepting, asking, asking_by, fits_with, is_asked_here, taking, untouched}
-use Rattle.rk_world.specs.Client.{Accepted, MOST_REQUESTS, Session, accepted_by, accepted_of, answer_accepted, call_lane, done, has_call, ignoring, looking_up, range_of, receipt_of, session_calling, turn_by, turn_of, turn_to, with_range}
-use Rattle.rk_world.specs.World.{World}
+use Rattle.rk_world.specs.Client.{Accepted, MOST_REQUESTS, accepted_by, accepted_of, answer_accepted, done, has_call, ignoring, looking_up}
+use Rattle.rk_world.specs.Client.{range_of, receipt_of, turn_by, turn_of, turn_to, with_range}
 use Rattle.rk_cluster.specs.Acted.{last_receipt, reply_of, said_by, said_of}
-use Rattle.rk_scripts.specs.answers.Said.{replies_to, told_by}
 
 -- a session is a client's own, and so is its outstanding call
 pub record IsOwn (client : ℕ) (session : Session) : Type 0 where
@@ -51,9 +41,7 @@ tells_none client before after said own keeps none = record {
     client_is = keeps.client_is ∙ own.client_is;
     call_is = subst (λ (out : Option Call). IfSome out (λ call. call.client ≡ client)) (sym keeps.call_is) own.call_is;
   };
-  told =
-      ap (map told_by) keeps.receipts_are
-      ∙ sym (append-nil (map told_by before.receipts))
+  told = ap (map told_by) keeps.receipts_are ∙ sym (append-nil (map told_by before.receipts))
       ∙ ap (λ (more : List Said). map told_by before.receipts ++ more) (sym (none client));
   alone = λ other apart. none other;
 }
@@ -76,8 +64,7 @@ calling_tells client session table key op None own = record {
   told = sym (append-nil (map told_by session.receipts));
   alone = λ other apart. refl;
 }
-calling_tells client session table key op (Some seq) own =
-    quiet_tells client session [] own (λ other. refl)
+calling_tells client session table key op (Some seq) own = quiet_tells client session [] own (λ other. refl)
 
 -- ---- turns
 
@@ -132,13 +119,12 @@ module _ (client : ℕ) (session : Session) (call : Call) (own : IsOwn client se
 
   -- the reply that tells a receipt, as another client hears it
   heard : (other : ℕ) (receipt : Receipt) (b : Bool) → eqb call.client other ≡ b
-      → replies_to other (says.Reply call.client receipt.call.seq receipt.outcome ∷ [])
-      ≡ cond b (says.Reply call.client receipt.call.seq receipt.outcome ∷ []) []
+      → replies_to other (Said.Reply call.client receipt.call.seq receipt.outcome ∷ [])
+      ≡ cond b (Said.Reply call.client receipt.call.seq receipt.outcome ∷ []) []
   heard other receipt b is =
-      ap (λ (test : Bool). cond test (says.Reply call.client receipt.call.seq receipt.outcome ∷ []) []) is
+      ap (λ (test : Bool). cond test (Said.Reply call.client receipt.call.seq receipt.outcome ∷ []) []) is
 
-  done_tells : (reply : Reply) (outcome : Outcome)
-      → Tells client session (done session call reply outcome)
+  done_tells : (reply : Reply) (outcome : Outcome) → Tells client session (done session call reply outcome)
       (reply_of call.client (last_receipt (done session call reply outcome).receipts))
   done_tells reply outcome =
       let receipt : Receipt = receipt_of call reply outcome in
@@ -147,33 +133,31 @@ module _ (client : ℕ) (session : Session) (call : Call) (own : IsOwn client se
       (record {
         own = record { client_is = own.client_is; call_is = tt };
         told =
-            map-append told_by session.receipts (receipt ∷ [])
-            ∙ ap (λ (more : List Said). map told_by session.receipts ++ more)
+            map-append told_by session.receipts (receipt ∷ []) ∙ ap (λ (more : List Said). map told_by session.receipts ++ more)
             (sym (heard client receipt true (eq-eqb call.client client of_client)));
         alone = λ other apart. heard other receipt false (ne_eqb call.client other (λ same. apart (sym of_client ∙ same)));
       })
 
   answered_tells : (reply : Reply) (answer : Answer)
       → Tells client session (answer_accepted session call reply answer).session (Said-of (answer_accepted session call reply answer))
-  answered_tells reply (answers.Done outcome) = done_tells reply outcome
-  answered_tells reply (answers.Moved tablet) =
-      tells_none client session (answer_accepted session call reply (answers.Moved tablet)).session
-      (says.Moved call.client call.seq tablet ∷ []) own
+  answered_tells reply (Answer.Done outcome) = done_tells reply outcome
+  answered_tells reply (Answer.Moved tablet) = tells_none client session
+      (answer_accepted session call reply (Answer.Moved tablet)).session (Said.Moved call.client call.seq tablet ∷ []) own
       (record { client_is = refl; receipts_are = refl; call_is = refl }) (λ other. refl)
-  answered_tells reply (answers.NotYet key) =
-      quiet_tells client session (says.NotYet call.client call.seq key ∷ []) own (λ other. refl)
+  answered_tells reply (Answer.NotYet key) =
+      quiet_tells client session (Said.NotYet call.client call.seq key ∷ []) own (λ other. refl)
 
   by_tells : (body : Body) → Tells client session (accepted_by session call body).session (Said-of (accepted_by session call body))
-  by_tells (bodies.Located located) =
+  by_tells (Body.Located located) =
       elim (has_call call located) as
       (λ b.
-      let accepted = cond b (record { session = with_range session (call_lane call) located; taken = takes.Located }) (ignoring session) in
+      let accepted = cond b (record { session = with_range session (call_lane call) located; taken = Taken.Located }) (ignoring session) in
       Tells client session accepted.session (Said-of accepted)) [
         | true ↦ tells_none client session (with_range session (call_lane call) located) [] own
             (record { client_is = refl; receipts_are = refl; call_is = refl }) (λ other. refl)
         | false ↦ quiet_tells client session [] own (λ other. refl)
       ]
-  by_tells (bodies.Reply reply) =
+  by_tells (Body.Reply reply) =
       elim (reply.seq == call.seq) as
       (λ b.
       let accepted = cond b (answer_accepted session call reply reply.answer) (ignoring session) in
@@ -194,19 +178,18 @@ module _ (w : World) (client : ℕ) (session : Session) (own : IsOwn client sess
   nothing_tells None = quiet_tells client session [] own (λ other. refl)
   nothing_tells (Some call) = quiet_tells client session [] own (λ other. refl)
 
-  ignored_tells : (out : Option Call) → Tells client session session (said_by out session.receipts (Some takes.Ignored))
+  ignored_tells : (out : Option Call) → Tells client session session (said_by out session.receipts (Some Taken.Ignored))
   ignored_tells None = quiet_tells client session [] own (λ other. refl)
   ignored_tells (Some call) = quiet_tells client session [] own (λ other. refl)
 
   -- a client takes what is found on the wire
-  pub accepting_tells : (found : Option Message)
-      → Tells client session (accepting w session found).session
+  pub accepting_tells : (found : Option Message) → Tells client session (accepting w session found).session
       (said_by session.outstanding (accepting w session found).session.receipts (accepting w session found).seen.taken)
   accepting_tells None = nothing_tells session.outstanding
   accepting_tells (Some message) =
       elim (is_asked_here w session) as
       (λ b.
-      let visited = cond b (taking w session message.body) (untouched w session (Some takes.Ignored)) in
+      let visited = cond b (taking w session message.body) (untouched w session (Some Taken.Ignored)) in
       Tells client session visited.session (said_by session.outstanding visited.session.receipts visited.seen.taken)) [
         | true ↦ of_tells session.outstanding own.call_is message.body
         | false ↦ ignored_tells session.outstanding

@@ -1,25 +1,13 @@
 -- Occurrences that are allowed at any time go on with a run.
-use Rattle.std.proofs.Common.{◌≡◌, ℕ, ◌<◌, List, [], ◌∷◌, Option, Some, None, Result, Ok, Err, sym, subst}
-use Rattle.std.specs.Prelude.{IfSome}
-use Rattle.std.specs.List.{All}
-use Rattle.std.proofs.lemmas.List.Elements.{All-head, All-nil, All-tail}
-use Rattle.rk_types.specs.declared.call.Call.{Call}
-use Rattle.rk_types.specs.declared.call.Ended.{Ended}
-use Rattle.rk_types.specs.declared.hashing.TheConstants.{LANES}
+use Rattle.std.proofs.Common.{◌≡◌, ℕ, ◌<◌, List, [], ◌∷◌, Option, Some, None, Result, Ok, Err, sym, subst, IfSome, All}
+use Rattle.rk_scripts.proofs.Words.{All-head, All-nil, All-tail, Call, Ended, LANES, accept, ask, Accepts, Asks, Calls, Cluster, Happens}
+use Rattle.rk_scripts.proofs.Words.{Joins, Occurrence, cluster_after, lane_at, session_at, IsMaster, MayHappen, step, World, new_world}
+use Rattle.rk_scripts.proofs.Words.{StepError, Event, acted, all_acted, came_in, going_on, deliver_in_makes, Fate, IsAllowed, IsNoCrash}
+use Rattle.rk_scripts.proofs.Words.{came_is}
 use Rattle.rk_world.specs.Base.{Base, no_base}
-use Rattle.rk_world.specs.Calls.{accept, ask}
-use Rattle.rk_world.specs.Cluster.{Accepts, Asks, Calls, Cluster, Happens, Joins, Occurrence, cluster_after, lane_at, session_at}
-use Rattle.rk_world.specs.Premises.{IsAfterStart, IsMaster, MayHappen, MayTurn}
+use Rattle.rk_world.specs.Premises.{IsAfterStart, MayTurn}
 use Rattle.rk_world.specs.Runs.{IsCalmEvent}
-use Rattle.rk_world.specs.Step.{step}
-use Rattle.rk_world.specs.World.{World, new_world}
-use Rattle.rk_world.specs.declared.error.StepError.{StepError}
-use Rattle.rk_world.specs.declared.event.Event.{Event}
-use Rattle.rk_world.specs.declared.event.Event.TheVariants as events
-use Rattle.rk_cluster.specs.Acted.{acted, all_acted, came_in, going_on}
-use Rattle.rk_cluster.specs.Makes.{deliver_in_makes}
-use Rattle.rk_cluster.specs.Replicas.{Fate}
-use Rattle.rk_settle.proofs.Occurred.{AreToldFrom, IsAllowed, IsNoCrash, IsToldAt, all_come, came_is, delivered_allowed, delivered_told}
+use Rattle.rk_settle.proofs.Occurred.{AreToldFrom, IsToldAt, all_come, delivered_allowed, delivered_told}
 use Rattle.rk_scripts.proofs.play.Answering.{told_comes}
 use Rattle.rk_scripts.proofs.play.Reaching.{GoesOn, IsReached, MayBe, all_on, lane_good, lane_there, none_on, one_on}
 
@@ -29,19 +17,17 @@ IsFree masters occurrence = IsAllowed masters occurrence × ((cluster : Cluster)
 
 -- what an event may name depends on how many masters there are
 may_in : (masters : ℕ) (w : World) (event : Event) → w.coordinator.masters ≡ masters → MayHappen (new_world 0 masters 0) event → MayHappen w event
-may_in masters w (events.AddTablet tablet range master) is may = (may.0, may.1, subst (λ (count : ℕ). IsMaster count master) (sym is) may.2)
-may_in masters w (events.AddClient client) is may = may
-may_in masters w (events.Deliver number) is may = tt
-may_in masters w (events.Forget number) is may = tt
-may_in masters w (events.Turn node) is may = subst (λ (count : ℕ). MayTurn count node) (sym is) may
-may_in masters w (events.Again client) is may = tt
-may_in masters w (events.Migrate tablet to) is may = subst (λ (count : ℕ). IsMaster count to) (sym is) may
-may_in masters w (events.Split tablet at new) is may = may
-may_in masters w (events.Crash master) is may = subst (λ (count : ℕ). IsMaster count master) (sym is) may
-may_in masters w (events.Notice master) is may = subst (λ (count : ℕ). IsMaster count master) (sym is) may
+may_in masters w (Event.AddTablet tablet range master) is may = (may.0, may.1, subst (λ (count : ℕ). IsMaster count master) (sym is) may.2)
+may_in masters w (Event.AddClient client) is may = may
+may_in masters w (Event.Turn node) is may = subst (λ (count : ℕ). MayTurn count node) (sym is) may
+may_in masters w (Event.Migrate tablet to) is may = subst (λ (count : ℕ). IsMaster count to) (sym is) may
+may_in masters w (Event.Split tablet at new) is may = may
+may_in masters w (Event.Crash master) is may = subst (λ (count : ℕ). IsMaster count master) (sym is) may
+may_in masters w (Event.Notice master) is may = subst (λ (count : ℕ). IsMaster count master) (sym is) may
+may_in masters w _ is may = tt
 
 calm_in : (w : World) (event : Event) → IsNoCrash event → IsCalmEvent w event
-calm_in w (events.Crash master) calm = absurd calm
+calm_in w (Event.Crash master) calm = absurd calm
 calm_in w event calm = tt
 
 -- each call comes after a start from nothing
@@ -81,8 +67,7 @@ module _ (masters backups : ℕ) where
   -- occurrences of this kind go on with a run, where replicas answer what they store
   pub allowed_on : (cluster : Cluster) (list : List Occurrence) → All (IsAllowed masters) list → AreToldFrom cluster list → GoesOn masters backups cluster list
   allowed_on cluster [] allowed told = none_on masters backups cluster
-  allowed_on cluster (occurrence ∷ later) allowed told =
-      one_on masters backups cluster occurrence later
+  allowed_on cluster (occurrence ∷ later) allowed told = one_on masters backups cluster occurrence later
       (allowed_may cluster occurrence (All-head (IsAllowed masters) occurrence later allowed) told.0)
       (allowed_on (cluster_after cluster occurrence) later (All-tail (IsAllowed masters) occurrence later allowed) told.1)
 
@@ -94,11 +79,9 @@ module _ (masters backups : ℕ) where
 
   first_on : (cluster : Cluster) (occurrence : Occurrence) → (IsReached masters backups cluster → MayBe masters backups cluster occurrence) → GoesOn masters backups cluster (acted cluster occurrence).came
   first_on cluster (Happens lane event called) may = answered_on cluster (Happens lane event called) (step (lane_at cluster lane) event called) may
-  first_on cluster (Joins client) may = one_on masters backups cluster (Joins client) [] may (none_on masters backups (cluster_after cluster (Joins client)))
-  first_on cluster (Calls client table key op) may =
-      one_on masters backups cluster (Calls client table key op) [] may (none_on masters backups (cluster_after cluster (Calls client table key op)))
   first_on cluster (Asks lane client) may = answered_on cluster (Asks lane client) (ask (lane_at cluster lane) (session_at cluster client)) may
   first_on cluster (Accepts lane number client) may = answered_on cluster (Accepts lane number client) (accept (lane_at cluster lane) number (session_at cluster client)) may
+  first_on cluster occurrence may = one_on masters backups cluster occurrence [] may (none_on masters backups (cluster_after cluster occurrence))
 
   then_on : (cluster : Cluster) (occurrence : Occurrence) (later : List Occurrence) (worn : Option ℕ) → GoesOn masters backups cluster (acted cluster occurrence).came
       → GoesOn masters backups (acted cluster occurrence).cluster (all_acted (acted cluster occurrence).cluster later).came

@@ -1,12 +1,12 @@
 -- Where no count of a replica rose no call has failed.
-use Rattle.std.proofs.Common.{◌≡◌, ◌≤◌, ◌<◌, ◌+◌, ◌++◌, ℕ, zero, suc, Bool, true, false, List, [], ◌∷◌, All, length, map, replicate, Option, None, Some, IfSome, refl, sym, ap, subst, ◌∙◌, ⊎_elim, arith}
-use Rattle.std.specs.Prelude.{if◌then◌else◌}
-use Rattle.std.proofs.lemmas.List.Elements.{All-head}
-use Rattle.rk_cluster.specs.Faults.{Counts, GoOn, MOST_COUNT, RoseBy, times_lost}
-use Rattle.rk_cluster.specs.Replicas.{Fate, IsLost, Kept, Lost}
+use Rattle.std.proofs.Common.{◌≡◌, ◌≤◌, ◌<◌, ◌+◌, ℕ, Bool, true, List, [], ◌∷◌, All, length, map, replicate, Option, None, Some, IfSome}
+use Rattle.std.proofs.Common.{refl, sym, ap, ◌∙◌, ⊎_elim, arith, if◌then◌else◌}
+use Rattle.rk_scripts.proofs.Words.{All-head, Fate, Kept, faultless}
 use Rattle.rk_cluster.proofs.Faults.{is_of_it, times_both}
+use Rattle.rk_cluster.specs.Faults.{Counts, GoOn, MOST_COUNT, RoseBy, times_lost}
+use Rattle.rk_cluster.specs.Replicas.{IsLost, Lost}
 use Rattle.rk_settle.specs.Faults.{RoseInRounds}
-use Rattle.rk_play.specs.Played.{all_fates, faultless}
+use Rattle.rk_play.specs.Played.{all_fates}
 use Rattle.rk_scripts.specs.play.Alone.{IsFaultless, NoneRose}
 
 -- a count that stays, and is less than the greatest, rose by nothing

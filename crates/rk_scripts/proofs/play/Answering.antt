@@ -1,34 +1,23 @@
 -- What a replica answers that tells what it stores may come in a run: a segment has no more bytes than one may have.
-use Rattle.std.proofs.Common.{◌≡◌, ◌≤◌, ◌<◌, ◌+◌, ◌++◌, ◌∙◌, ℕ, Bool, true, false, List, [], ◌∷◌, All, length, Option, None, Some, ◌==◌, refl, sym, ap, subst, arith, cond, length-append}
-use Rattle.std.specs.Option.{option_map_or}
-use Rattle.std.proofs.lemmas.Bool.{and_from, eq-eqb}
-use Rattle.rk_types.specs.NumberMap.{get}
-use Rattle.rk_types.specs.declared.held.TheConstants.{SEGMENT_BYTES}
-use Rattle.rk_types.specs.declared.node.Node.{Node}
-use Rattle.rk_types.specs.declared.node.Node.TheVariants as nodes
-use Rattle.rk_outside.specs.Segments.{Segments, bytes_of as stored_bytes, with_part}
-use Rattle.rk_segment.specs.Segment.{NumberedBytes}
+use Rattle.std.proofs.Common.{◌≡◌, ◌≤◌, ◌<◌, ◌+◌, ◌++◌, ◌∙◌, ℕ, Bool, true, false, List, [], All, length, Option, None, Some, ◌==◌, refl}
+use Rattle.std.proofs.Common.{sym, ap, subst, arith, cond, length-append, eq-eqb}
+use Rattle.rk_scripts.proofs.Words.{option_map_or, and_from, get, SEGMENT_BYTES, Node, Segments, NumberedBytes, Log, bytes_of, known_of}
+use Rattle.rk_scripts.proofs.Words.{segment_of, segments, Body, Message, Called, called_by, IsWellFormed, limits_of, IsMaster, IsTold}
+use Rattle.rk_scripts.proofs.Words.{HasRoom, told_for, World, backup_at, Event, IsSound}
+use Rattle.rk_outside.specs.Segments.{bytes_of as stored_bytes, with_part}
+use Rattle.rk_log.specs.Log.{IsBackup, segment_bytes}
 use Rattle.rk_backup.specs.Accepts.{added}
-use Rattle.rk_log.specs.Log.{Log, IsBackup, bytes_of, known_of, segment_bytes, segment_of, segments}
-use Rattle.rk_message.specs.declared.message.Body.{Body}
-use Rattle.rk_message.specs.declared.message.Body.TheVariants as bodies
-use Rattle.rk_message.specs.declared.message.Message.{Message}
 use Rattle.rk_message.specs.declared.replication.Append.{Append}
-use Rattle.rk_world.specs.Backup.{Appended, Called, Failed, append_called, append_taken, called_by, calls_replica}
-use Rattle.rk_world.specs.Formed.{IsWellFormed}
-use Rattle.rk_world.specs.Limits.{IsFormedMessage, IsThere, limits_of}
-use Rattle.rk_world.specs.Premises.{IsMaster, MayCome}
-use Rattle.rk_world.specs.Replicas.{IsTold}
-use Rattle.rk_world.specs.Room.{HasRoom, MOST_BYTES}
-use Rattle.rk_world.specs.Step.{told_by_replica, told_for, told_to}
-use Rattle.rk_world.specs.World.{World, backup_at, log_in}
-use Rattle.rk_world.specs.declared.event.Event.{Event}
-use Rattle.rk_world.specs.declared.event.Event.TheVariants as events
+use Rattle.rk_world.specs.Backup.{Appended, Failed, append_called, append_taken, calls_replica}
+use Rattle.rk_world.specs.Limits.{IsFormedMessage, IsThere}
+use Rattle.rk_world.specs.Premises.{MayCome}
+use Rattle.rk_world.specs.Room.{MOST_BYTES}
+use Rattle.rk_world.specs.Step.{told_by_replica, told_to}
+use Rattle.rk_world.specs.World.{log_in}
 use Rattle.rk_sound.specs.Logs.{IsFirstPart, IsFromLog, LogSays}
-use Rattle.rk_sound.specs.Whole.{IsSound}
-use Rattle.rk_inv_wellformed.proofs.maps.Lists.{all_find}
 use Rattle.rk_inv_wellformed.proofs.bytes.Segments.{IsTold as CanBeTold, segments_told}
 use Rattle.rk_inv_wellformed.proofs.lanes.Worlds.{master_of, room_at}
+use Rattle.rk_inv_wellformed.proofs.maps.Lists.{all_find}
 use Rattle.rk_inv_base.proofs.logs.BytesStored.{part_taken}
 use Rattle.rk_inv_events.proofs.events.Storing.{added_front}
 
@@ -81,8 +70,7 @@ module _ (w : World) (sound : IsSound w) (formed : IsWellFormed w) (room : HasRo
         ∙ part_taken (Stored master append.segment) (added append.at append.bytes stored)
 
     append_comes : (fault : Option ℕ) → MayCome (append_called Stored master append fault)
-    append_comes None =
-        subst (λ (bytes : List ℕ). length bytes ≤ SEGMENT_BYTES) (sym stored_then)
+    append_comes None = subst (λ (bytes : List ℕ). length bytes ≤ SEGMENT_BYTES) (sym stored_then)
         (front_few (stored ++ added append.at append.bytes stored) (bytes_of (log_in w master) append.segment) front_then (log_few master append.segment there))
     append_comes (Some count) =
         elim (calls_replica (length stored) append) as (λ calls. MayCome (cond calls (Failed count) (Appended (length stored)))) [
@@ -91,28 +79,27 @@ module _ (w : World) (sound : IsSound w) (formed : IsWellFormed w) (room : HasRo
         ]
 
   -- what the backup that is called answers
-  called_comes : (message : Message) (backup : ℕ) (from : Node) (body : Body) (fault : Option ℕ) → message.from ≡ from → message.body ≡ body → message.to ≡ nodes.Backup backup
+  called_comes : (message : Message) (backup : ℕ) (from : Node) (body : Body) (fault : Option ℕ) → message.from ≡ from → message.body ≡ body → message.to ≡ Node.Backup backup
       → (number : ℕ) → get w.wire.messages number ≡ Some message → MayCome (called_by (backup_at w backup) from body fault)
-  called_comes message backup (nodes.Master master) (bodies.Append append) fault from_is body_is to_is number found =
+  called_comes message backup (Node.Master master) (Body.Append append) fault from_is body_is to_is number found =
       let its : IsFormedMessage (limits_of w) message = formed.wire.each number message found in
-      append_comes backup master append
-      (subst (λ (to : Node). IsThere (limits_of w) to) to_is its.to)
+      append_comes backup master append (subst (λ (to : Node). IsThere (limits_of w) to) to_is its.to)
       (subst (λ (from : Node). IsThere (limits_of w) from) from_is its.from)
       (says_of from_is body_is to_is (sound.logs.sent number message found)) fault
     where
-      says_of : message.from ≡ nodes.Master master → message.body ≡ bodies.Append append → message.to ≡ nodes.Backup backup
+      says_of : message.from ≡ Node.Master master → message.body ≡ Body.Append append → message.to ≡ Node.Backup backup
           → LogSays (log_in w) (backup_at w) message.from message.to message.body → IsFromLog (log_in w master) (known_of (log_in w master) backup) append
       says_of f b t says =
-          subst (λ (from : Node). LogSays (log_in w) (backup_at w) from (nodes.Backup backup) (bodies.Append append)) f
-          (subst (λ (to : Node). LogSays (log_in w) (backup_at w) message.from to (bodies.Append append)) t
+          subst (λ (from : Node). LogSays (log_in w) (backup_at w) from (Node.Backup backup) (Body.Append append)) f
+          (subst (λ (to : Node). LogSays (log_in w) (backup_at w) message.from to (Body.Append append)) t
           (subst (λ (body : Body). LogSays (log_in w) (backup_at w) message.from message.to body) b says))
-  called_comes message backup (nodes.Master master) (bodies.Read read) None from_is body_is to_is number found = tt
-  called_comes message backup (nodes.Master master) (bodies.Read read) (Some left) from_is body_is to_is number found = tt
-  called_comes message backup (nodes.Master master) _ fault from_is body_is to_is number found = tt
+  called_comes message backup (Node.Master master) (Body.Read read) None from_is body_is to_is number found = tt
+  called_comes message backup (Node.Master master) (Body.Read read) (Some left) from_is body_is to_is number found = tt
+  called_comes message backup (Node.Master master) _ fault from_is body_is to_is number found = tt
   called_comes message backup _ body fault from_is body_is to_is number found = tt
 
   to_comes : (message : Message) (to : Node) (fault : Option ℕ) → message.to ≡ to → (number : ℕ) → get w.wire.messages number ≡ Some message → MayCome (told_to w message to fault)
-  to_comes message (nodes.Backup backup) fault is number found = called_comes message backup message.from message.body fault refl refl is number found
+  to_comes message (Node.Backup backup) fault is number found = called_comes message backup message.from message.body fault refl refl is number found
   to_comes message _ fault is number found = tt
 
   found_comes : (number : ℕ) (found : Option Message) (fault : Option ℕ) → get w.wire.messages number ≡ found → MayCome (told_for w found fault)
@@ -120,7 +107,7 @@ module _ (w : World) (sound : IsSound w) (formed : IsWellFormed w) (room : HasRo
   found_comes number (Some message) fault is = to_comes message message.to fault refl number is
 
   by_replica : (event : Event) (fault : Option ℕ) → MayCome (told_by_replica w event fault)
-  by_replica (events.Deliver number) fault = found_comes number (get w.wire.messages number) fault refl
+  by_replica (Event.Deliver number) fault = found_comes number (get w.wire.messages number) fault refl
   by_replica _ fault = tt
 
   -- what a replica that tells what it stores answers may come

@@ -1,27 +1,19 @@
 -- A client's call goes on with a run, unless a code refuses it.
-use Rattle.std.proofs.Common.{◌≡◌, ℕ, ◌<◌, ◌≤◌, ◌-◌, ◌^◌, ◌||◌, not, nat_le, false, List, [], ◌∷◌, length, Option, Some, None, is_some, unwrap_or, refl, sym, subst, arith}
-use Rattle.std.specs.Int.{w32}
-use Rattle.std.specs.List.{sum_by}
-use Rattle.std.proofs.lemmas.Bool.{leb-false}
+use Rattle.std.proofs.Common.{◌≡◌, ℕ, ◌<◌, ◌≤◌, ◌-◌, ◌^◌, ◌||◌, not, nat_le, false, List, [], ◌∷◌, length, Option, Some, None, is_some}
+use Rattle.std.proofs.Common.{unwrap_or, refl, sym, subst, arith, w32, sum_by, leb-false}
+use Rattle.rk_scripts.proofs.Words.{get, Call, Op, IsNumber, Session, new_session, Calls, Cluster, session_at, code_where, first_code}
+use Rattle.rk_scripts.proofs.Words.{calls_asked, has_table, is_client, rows_of, Limit, Unknown, acted, all_acted, IsGood}
 use Rattle.std.proofs.lemmas.List.Sums.{get_or-le-sum_by, sum-map}
-use Rattle.rk_types.specs.NumberMap.{get}
-use Rattle.rk_types.specs.declared.call.Call.{Call}
-use Rattle.rk_types.specs.declared.call.Op.{Op}
-use Rattle.rk_types.specs.declared.call.Op.TheVariants as op
-use Rattle.rk_entry.specs.Numbers.{IsNumber}
-use Rattle.rk_message.specs.Calls.{IsLawfulOp}
-use Rattle.rk_world.specs.Client.{Session, new_session, next_call}
-use Rattle.rk_world.specs.Cluster.{Calls, Cluster, session_at}
-use Rattle.rk_world.specs.Premises.{IsLawfulCall}
-use Rattle.rk_cluster.specs.Codes.{MOST_CALLS, call_code, code_where, first_code}
-use Rattle.rk_cluster.specs.Looks.{calls_asked, calls_of, has_table, is_client, rows_of}
-use Rattle.rk_cluster.specs.Makes.{call_makes}
-use Rattle.rk_cluster.specs.declared.code.Code.TheVariants.{Busy, Limit, Unknown}
 use Rattle.rk_script.proofs.Widths.{HasVersion}
 use Rattle.rk_script.specs.Lawful.{HasLawfulValue, MayBeAsked}
-use Rattle.rk_cluster.specs.Acted.{acted, all_acted}
+use Rattle.rk_message.specs.Calls.{IsLawfulOp}
+use Rattle.rk_world.specs.Client.{next_call}
+use Rattle.rk_world.specs.Premises.{IsLawfulCall}
 use Rattle.rk_inv_wellformed.proofs.maps.Maps.{each_from_pairs}
-use Rattle.rk_runs.proofs.history.Clusters.{IsGood}
+use Rattle.rk_cluster.specs.Codes.{MOST_CALLS, call_code}
+use Rattle.rk_cluster.specs.Looks.{calls_of}
+use Rattle.rk_cluster.specs.Makes.{call_makes}
+use Rattle.rk_cluster.specs.declared.code.Code.TheVariants.{Busy}
 use Rattle.rk_runs.specs.history.Agreement.{Agrees, waiting}
 use Rattle.rk_scripts.proofs.play.Allowed.{came_first}
 use Rattle.rk_scripts.proofs.play.Reaching.{GoesOn, IsReached, none_on, reached_good}
@@ -29,10 +21,9 @@ use Rattle.rk_scripts.proofs.play.Tests.{passes}
 
 -- an operation is lawful where its value and its version are
 lawful_op : (operation : Op) → HasLawfulValue operation → HasVersion operation → IsLawfulOp operation
-lawful_op op.Get value version = tt
-lawful_op (op.Put bytes) value version = value
-lawful_op (op.CondPut expected bytes) value version = (record { least_is = omega arith; fits = omega (arith, version) }, value)
-lawful_op op.Delete value version = tt
+lawful_op (Op.Put bytes) value version = value
+lawful_op (Op.CondPut expected bytes) value version = (record { least_is = omega arith; fits = omega (arith, version) }, value)
+lawful_op _ value version = tt
 
 -- no client asked more calls than all did
 module _ (cluster : Cluster) where
@@ -67,8 +58,7 @@ module _ (masters backups : ℕ) (cluster : Cluster) (client table : ℕ) (key :
       let last = agrees.last in
       let none = none_waits mine.outstanding idle in
       record {
-        client =
-            subst (λ (number : ℕ). IsNumber w32 1 number) (sym agrees.own)
+        client = subst (λ (number : ℕ). IsNumber w32 1 number) (sym agrees.own)
             (record { least_is = asked.client_is; fits = omega (arith, client_fits) });
         seq = record { least_is = omega arith; fits = omega (arith, receipts, few, last, none) };
         table = record { least_is = asked.table_is; fits = omega (arith, table_fits) };

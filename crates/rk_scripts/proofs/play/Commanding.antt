@@ -1,34 +1,17 @@
 -- What occurs at a command of a script goes on with a run.
-use Rattle.std.proofs.Common.{◌≡◌, ℕ, ◌+◌, ◌<◌, ◌≤◌, ◌==◌, ◌||◌, nat_le, nat_lt, not, Bool, true, false, List, [], ◌∷◌, ◌++◌, length, map, Option, None, Some, if◌then◌else◌, refl, arith}
-use Rattle.std.specs.Prelude.{◌-◌, ◌^◌}
-use Rattle.std.specs.Int.{w32}
-use Rattle.std.specs.List.{All, flat_map}
-use Rattle.std.proofs.Math.Nat.{mod-lt}
-use Rattle.std.proofs.lemmas.Bool.{leb-false, or_parts}
-use Rattle.std.proofs.lemmas.List.Elements.{All-append, All-cons, All-filter, All-map, All-nil, All-weaker}
-use Rattle.rk_types.specs.Hashing.{hash_of}
-use Rattle.rk_types.specs.declared.call.Call.{Call}
-use Rattle.rk_types.specs.declared.hashing.TheConstants.{LANES}
-use Rattle.rk_types.specs.declared.node.Node.TheVariants as nodes
-use Rattle.rk_entry.specs.Numbers.{IsNumber}
-use Rattle.rk_message.specs.Wire.{number_at}
-use Rattle.rk_message.specs.declared.message.Body.{Body}
-use Rattle.rk_message.specs.declared.message.Body.TheVariants as bodies
-use Rattle.rk_tablet_map.specs.Rows.{row_of}
-use Rattle.rk_world.specs.Backup.{Gave}
-use Rattle.rk_world.specs.Client.{Session, call_lane}
-use Rattle.rk_world.specs.Cluster.{Asks, Cluster, Joins, Occurrence, lane_at, session_at}
-use Rattle.rk_world.specs.Master.{Master}
-use Rattle.rk_world.specs.Premises.{IsMaster, MayHappen}
-use Rattle.rk_world.specs.Replicas.{IsTold}
-use Rattle.rk_world.specs.World.{World, live_masters, new_world}
-use Rattle.rk_world.specs.declared.event.Event.{Event}
-use Rattle.rk_world.specs.declared.event.Event.TheVariants as events
-use Rattle.rk_cluster.specs.Codes.{MOST_TABLES, MOST_TABLETS, code_where, first_code, migrate_code, notice_code, split_code, table_code}
-use Rattle.rk_cluster.specs.Looks.{all_lanes, calls_asked, has_dead_owner, has_inside, has_table, is_dead, is_master, is_owned, is_owner, is_tablet, lanes_without, owner_at, rows_of, tables_of}
-use Rattle.rk_cluster.specs.Makes.{asks_by, asks_in, client_makes, forget_by, forget_makes, in_lane, in_lanes, migrate_makes, next_tablet, notice_makes, request_lane, split_makes, table_makes, turn_makes, whole_table}
-use Rattle.rk_cluster.specs.declared.code.Code.TheVariants.{Alive, BadSplit, Crashed, Limit, NotOwned, OwnsAll, Taken, TooLate, Unknown}
-use Rattle.rk_settle.proofs.Occurred.{IsNoCrash}
+use Rattle.std.proofs.Common.{◌≡◌, ℕ, ◌+◌, ◌<◌, ◌≤◌, ◌==◌, ◌||◌, nat_le, nat_lt, not, Bool, true, false, List, [], ◌∷◌, ◌++◌, length, map}
+use Rattle.std.proofs.Common.{Option, None, Some, if◌then◌else◌, refl, arith, ◌-◌, ◌^◌, w32, All, flat_map, leb-false}
+use Rattle.rk_scripts.proofs.Words.{mod-lt, All-append, All-cons, All-filter, All-map, All-nil, All-weaker, hash_of, Call, LANES, IsNumber}
+use Rattle.rk_scripts.proofs.Words.{number_at, Body, row_of, Gave, Session, call_lane, Asks, Cluster, Joins, Occurrence, lane_at, Master}
+use Rattle.rk_scripts.proofs.Words.{IsMaster, MayHappen, IsTold, World, live_masters, new_world, Event, code_where, first_code, all_lanes}
+use Rattle.rk_scripts.proofs.Words.{calls_asked, has_table, is_dead, is_master, is_tablet, lanes_without, rows_of, client_makes, in_lane}
+use Rattle.rk_scripts.proofs.Words.{in_lanes, request_lane, Crashed, Limit, TooLate, Unknown, IsNoCrash, Node}
+use Rattle.std.proofs.lemmas.Bool.{or_parts}
+use Rattle.rk_cluster.specs.Codes.{MOST_TABLES, MOST_TABLETS, migrate_code, notice_code, split_code, table_code}
+use Rattle.rk_cluster.specs.Looks.{has_dead_owner, has_inside, is_owned, is_owner, owner_at, tables_of}
+use Rattle.rk_cluster.specs.Makes.{asks_by, asks_in, forget_by, forget_makes, migrate_makes, next_tablet, notice_makes, split_makes}
+use Rattle.rk_cluster.specs.Makes.{table_makes, turn_makes, whole_table}
+use Rattle.rk_cluster.specs.declared.code.Code.TheVariants.{Alive, BadSplit, NotOwned, OwnsAll, Taken}
 use Rattle.rk_settle.proofs.Unfolded.{lanes_are}
 use Rattle.rk_scripts.proofs.play.Allowed.{IsFree}
 use Rattle.rk_scripts.proofs.play.Masters.{names_masters, of_map}
@@ -37,7 +20,7 @@ use Rattle.rk_scripts.proofs.play.Tests.{master_there, passes}
 
 -- the lane of a request is there
 pub request_there : (body : Body) → request_lane body < LANES
-request_there (bodies.Request request) = mod-lt (hash_of request.key) (omega arith)
+request_there (Body.Request request) = mod-lt (hash_of request.key) (omega arith)
 request_there body = omega arith
 
 module _ (masters backups : ℕ) (cluster : Cluster) (reached : IsReached masters backups cluster) where
@@ -60,8 +43,7 @@ module _ (masters backups : ℕ) (cluster : Cluster) (reached : IsReached master
   -- an event in some lanes
   event_allowed : (lanes : List ℕ) (event : Event) → All (λ lane. lane < LANES) lanes → IsNoCrash event → ((w : World) → IsTold w event (Gave None)) → MayHappen (new_world 0 masters 0) event
       → Allowed (in_lanes lanes event)
-  event_allowed lanes event there calm none may =
-      All-map (IsFree masters) (λ lane. in_lane lane event) lanes
+  event_allowed lanes event there calm none may = All-map (IsFree masters) (λ lane. in_lane lane event) lanes
       (All-weaker (λ lane. lane < LANES) (λ lane. IsFree masters (in_lane lane event)) (λ lane inside. ((inside, calm, may), λ there. none (lane_at there lane))) lanes there)
 
   -- ---- tables, clients and tablets
@@ -83,7 +65,7 @@ module _ (masters backups : ℕ) (cluster : Cluster) (reached : IsReached master
       let fourth = passes (is_dead cluster master) Crashed (first_code (full ∷ [])) third.1 in
       let fifth = passes many Limit None fourth.1 in
       let few = or_parts (nat_le MOST_TABLES (length (tables_of (rows_of cluster)))) (nat_le MOST_TABLETS (length (rows_of cluster))) fifth.0 in
-      event_allowed (all_lanes cluster) (events.AddTablet (next_tablet cluster) (whole_table table) master) lanes_there tt (λ w. record { fault = None; told = refl }) (
+      event_allowed (all_lanes cluster) (Event.AddTablet (next_tablet cluster) (whole_table table) master) lanes_there tt (λ w. record { fault = None; told = refl }) (
         next_is (leb-false MOST_TABLETS (length (rows_of cluster)) few.1),
         record {
           table = record { least_is = least; fits = omega (arith, fits) };
@@ -95,8 +77,8 @@ module _ (masters backups : ℕ) (cluster : Cluster) (reached : IsReached master
 
   pub client_allowed : (client : ℕ) → IsNumber w32 1 client → Allowed (client_makes cluster client)
   client_allowed client number =
-      both_allowed (in_lanes (all_lanes cluster) (events.AddClient client)) (Joins client ∷ [])
-      (event_allowed (all_lanes cluster) (events.AddClient client) lanes_there tt (λ w. record { fault = None; told = refl }) number) (one_allowed (Joins client) [] (number, λ there. tt) none_allowed)
+      both_allowed (in_lanes (all_lanes cluster) (Event.AddClient client)) (Joins client ∷ [])
+      (event_allowed (all_lanes cluster) (Event.AddClient client) lanes_there tt (λ w. record { fault = None; told = refl }) number) (one_allowed (Joins client) [] (number, λ there. tt) none_allowed)
 
   pub migrate_allowed : (tablet to : ℕ) → migrate_code cluster tablet to ≡ None → Allowed (migrate_makes cluster tablet to)
   migrate_allowed tablet to none =
@@ -106,7 +88,7 @@ module _ (masters backups : ℕ) (cluster : Cluster) (reached : IsReached master
       let moves = code_where (not (is_owned cluster tablet)) NotOwned in
       let first = passes (not (is_tablet cluster tablet) || not (is_master cluster to)) Unknown (first_code (moves ∷ all ∷ dead ∷ [])) none in
       let known = or_parts (not (is_tablet cluster tablet)) (not (is_master cluster to)) first.0 in
-      event_allowed concerned (events.Migrate tablet to)
+      event_allowed concerned (Event.Migrate tablet to)
       (All-filter (λ lane. not (is_owner to (owner_at cluster tablet lane))) (λ lane. lane < LANES) (all_lanes cluster) lanes_there) tt (λ w. record { fault = None; told = refl })
       (master_there masters backups cluster to reached known.1)
 
@@ -120,14 +102,14 @@ module _ (masters backups : ℕ) (cluster : Cluster) (reached : IsReached master
       let second = passes (not (is_owned cluster tablet)) NotOwned (first_code (dead ∷ many ∷ bad ∷ [])) first.1 in
       let third = passes (has_dead_owner cluster (all_lanes cluster) tablet) Crashed (first_code (many ∷ bad ∷ [])) second.1 in
       let fourth = passes (nat_le MOST_TABLETS (length (rows_of cluster))) Limit (first_code (bad ∷ [])) third.1 in
-      event_allowed (all_lanes cluster) (events.Split tablet at (next_tablet cluster)) lanes_there tt (λ w. record { fault = None; told = refl })
+      event_allowed (all_lanes cluster) (Event.Split tablet at (next_tablet cluster)) lanes_there tt (λ w. record { fault = None; told = refl })
       (next_is (leb-false MOST_TABLETS (length (rows_of cluster)) fourth.0))
 
   pub notice_allowed : (master : ℕ) → notice_code cluster master ≡ None → Allowed (notice_makes cluster master)
   notice_allowed master none =
       let alive = code_where (not (is_dead cluster master)) Alive in
       let first = passes (not (is_master cluster master)) Unknown (first_code (alive ∷ [])) none in
-      event_allowed (all_lanes cluster) (events.Notice master) lanes_there tt (λ w. record { fault = None; told = refl }) (master_there masters backups cluster master reached first.0)
+      event_allowed (all_lanes cluster) (Event.Notice master) lanes_there tt (λ w. record { fault = None; told = refl }) (master_there masters backups cluster master reached first.0)
 
   -- ---- one lane
 
@@ -149,18 +131,18 @@ module _ (masters backups : ℕ) (cluster : Cluster) (reached : IsReached master
     pub turn_allowed : Allowed (turn_makes cluster lane)
     turn_allowed =
         let live = live_masters (lane_at cluster lane) in
-        let turn = λ (entry : ℕ × Master). in_lane lane (events.Turn (nodes.Master entry.0)) in
+        let turn = λ (entry : ℕ × Master). in_lane lane (Event.Turn (Node.Master entry.0)) in
         let there : All (λ (entry : ℕ × Master). IsMaster masters entry.0) live =
         of_map (IsMaster masters) (λ (entry : ℕ × Master). entry.0) live ((names_masters masters backups cluster reached).live lane inside) in
-        both_allowed (flat_map (λ entry. asks_in lane entry.0 entry.1) cluster.sessions) (in_lane lane (events.Turn nodes.Coordinator) ∷ map turn live)
+        both_allowed (flat_map (λ entry. asks_in lane entry.0 entry.1) cluster.sessions) (in_lane lane (Event.Turn Node.Coordinator) ∷ map turn live)
         (all_asked_allowed cluster.sessions)
-        (one_allowed (in_lane lane (events.Turn nodes.Coordinator)) (map turn live) ((inside, tt, tt), λ there. record { fault = None; told = refl })
+        (one_allowed (in_lane lane (Event.Turn Node.Coordinator)) (map turn live) ((inside, tt, tt), λ there. record { fault = None; told = refl })
         (All-map (IsFree masters) turn live
         (All-weaker (λ (entry : ℕ × Master). IsMaster masters entry.0) (λ entry. IsFree masters (turn entry)) (λ entry is. ((inside, tt, is), λ there. record { fault = None; told = refl })) live there)))
 
     forget_allowed_by : (found : Option ℕ) → Allowed (forget_by lane found)
     forget_allowed_by None = none_allowed
-    forget_allowed_by (Some number) = one_allowed (in_lane lane (events.Forget number)) [] ((inside, tt, tt), λ there. record { fault = None; told = refl }) none_allowed
+    forget_allowed_by (Some number) = one_allowed (in_lane lane (Event.Forget number)) [] ((inside, tt, tt), λ there. record { fault = None; told = refl }) none_allowed
 
     pub forget_allowed : (place : ℕ) → Allowed (forget_makes cluster lane place)
     forget_allowed place = forget_allowed_by (number_at place (lane_at cluster lane).wire)

@@ -1,24 +1,15 @@
 -- A master crashes in one lane after the other, while another one lives in each: this goes on with a run.
 use Rattle.std.proofs.Common.{◌≡◌, ℕ, zero, suc, ◌+◌, ◌<◌, ◌≤◌, true, not, List, [], ◌∷◌, map, Option, None, Some, refl, sym, subst, arith}
-use Rattle.std.specs.List.{range_with_len}
-use Rattle.std.proofs.lemmas.List.{get_or-set_other}
+use Rattle.std.proofs.Common.{get_or-set_other}
+use Rattle.rk_scripts.proofs.Words.{range_with_len, LANES, Gave, Cluster, Occurrence, cluster_after, cluster_stepped, lane_at, IsMaster}
+use Rattle.rk_scripts.proofs.Words.{refusal, happened, stepped_by, World, new_world, StepError, acted, all_acted, code_where, first_code}
+use Rattle.rk_scripts.proofs.Words.{is_dead, is_master, in_lane, Crashed, Unknown, not-false, Event}
 use Rattle.std.proofs.lemmas.List.Sums.{AllPass-from_list_all}
-use Rattle.rk_types.specs.declared.hashing.TheConstants.{LANES}
-use Rattle.rk_world.specs.Backup.{Gave}
-use Rattle.rk_world.specs.Cluster.{Cluster, Occurrence, cluster_after, cluster_stepped, lane_at}
-use Rattle.rk_world.specs.Premises.{IsMaster}
-use Rattle.rk_world.specs.Refusals.{refusal}
 use Rattle.rk_world.specs.Runs.{lives_another}
-use Rattle.rk_world.specs.Step.{happened, stepped_by}
-use Rattle.rk_world.specs.World.{World, new_world}
-use Rattle.rk_world.specs.declared.error.StepError.{StepError}
-use Rattle.rk_world.specs.declared.event.Event.TheVariants as events
-use Rattle.rk_cluster.specs.Acted.{acted, all_acted}
-use Rattle.rk_cluster.specs.Codes.{code_where, crash_code, first_code}
-use Rattle.rk_cluster.specs.Looks.{is_dead, is_master, is_other_alive}
-use Rattle.rk_cluster.specs.Makes.{crash_makes, in_lane}
-use Rattle.rk_cluster.specs.declared.code.Code.TheVariants.{Crashed, LastMaster, Unknown}
-use Rattle.std.proofs.lemmas.Bool.{not-false}
+use Rattle.rk_cluster.specs.Codes.{crash_code}
+use Rattle.rk_cluster.specs.Looks.{is_other_alive}
+use Rattle.rk_cluster.specs.Makes.{crash_makes}
+use Rattle.rk_cluster.specs.declared.code.Code.TheVariants.{LastMaster}
 use Rattle.rk_scripts.proofs.play.Allowed.{came_first}
 use Rattle.rk_scripts.proofs.play.Reaching.{GoesOn, IsReached, MayBe, lane_good, lane_there, none_on, reached_eight}
 use Rattle.rk_scripts.proofs.play.Tests.{master_there, passes}
@@ -26,7 +17,7 @@ use Rattle.rk_scripts.proofs.play.Tests.{master_there, passes}
 module _ (masters backups master : ℕ) where
   -- the master crashes in a lane
   abbrev crash_in : ℕ → Occurrence
-  crash_in lane = in_lane lane (events.Crash master)
+  crash_in lane = in_lane lane (Event.Crash master)
 
   -- and in so many lanes from one on
   abbrev crashes : ℕ → ℕ → List Occurrence
@@ -38,11 +29,11 @@ module _ (masters backups master : ℕ) where
 
   -- a crash in a lane changes no other
   other_same : (cluster : Cluster) (lane other : ℕ) → (other ≡ lane → ⊥) → lane_at (cluster_after cluster (crash_in lane)) other ≡ lane_at cluster other
-  other_same cluster lane other apart = go (refusal (lane_at cluster lane) (events.Crash master))
+  other_same cluster lane other apart = go (refusal (lane_at cluster lane) (Event.Crash master))
     where
-      go : (refused : Option StepError) → lane_at (cluster_stepped cluster lane (stepped_by (lane_at cluster lane) (events.Crash master) (Gave None) refused)) other ≡ lane_at cluster other
+      go : (refused : Option StepError) → lane_at (cluster_stepped cluster lane (stepped_by (lane_at cluster lane) (Event.Crash master) (Gave None) refused)) other ≡ lane_at cluster other
       go None =
-          get_or-set_other cluster.lanes lane other (happened (lane_at cluster lane) (events.Crash master) (Gave None)).world (new_world other 0 0) apart
+          get_or-set_other cluster.lanes lane other (happened (lane_at cluster lane) (Event.Crash master) (Gave None)).world (new_world other 0 0) apart
       go (Some error) = refl
 
   module _ (there : IsMaster masters master) where
@@ -64,10 +55,9 @@ module _ (masters backups master : ℕ) where
         let inside : first < LANES = omega (arith, within) in
         let next : Cluster = (acted cluster (crash_in first)).cluster in
         came_first masters backups cluster (crash_in first) (crashes (first + 1) count) (crash_may cluster first inside lives)
-        (crashes_on (first + 1) count (omega (arith, within)) next
-        (λ lane past there.
-        subst (λ (w : World). lives_another w master ≡ true) (sym (other_same cluster first lane (λ is. absurd (omega (arith, past, is)))))
-        (lives lane (omega (arith, past)) there)))
+        (crashes_on (first + 1) count (omega (arith, within)) next (λ lane past there. subst
+        (λ (w : World). lives_another w master ≡ true)
+        (sym (other_same cluster first lane (λ is. absurd (omega (arith, past, is))))) (lives lane (omega (arith, past)) there)))
 
   -- the crash of a master, unless a code refuses it
   pub crash_on : (cluster : Cluster) → crash_code cluster master ≡ None → GoesOn masters backups cluster (all_acted cluster (crash_makes cluster master)).came

@@ -1,33 +1,16 @@
 -- Where no call of a replica fails the script alone decides a run: moves that are left once a command is over, or stops, change nothing.
-use Rattle.std.proofs.Common.{◌≡◌, ℕ, zero, suc, ◌+◌, true, false, Bool, List, [], ◌∷◌, ◌++◌, replicate, Option, None, Some, is_some, Result, Ok, Err, if◌then◌else◌, refl, sym, ap, subst, ◌∙◌, arith}
+use Rattle.std.proofs.Common.{◌≡◌, ℕ, zero, suc, ◌+◌, true, false, List, [], ◌∷◌, ◌++◌, replicate, Option, None, Some, is_some, Result, Ok}
+use Rattle.std.proofs.Common.{Err, if◌then◌else◌, refl, sym, ap, subst, ◌∙◌, arith}
+use Rattle.rk_scripts.proofs.Words.{none-some, NoMemory, Refused, Cluster, number_of, Fate, Kept, Code, Limit, TooLate, advance}
+use Rattle.rk_scripts.proofs.Words.{advance_code, priority_code, serve_code, Course, course_of, error_of, moved, moved_all, moved_by}
+use Rattle.rk_scripts.proofs.Words.{priority, serve, settle, SettleError, script_of, Command, Numbered, ParseError, Effect, Pauses, Stop}
+use Rattle.rk_scripts.proofs.Words.{carried, effect, effect_within, is_full, only_fate, reach_of, refused_by, settled, settled_by, stop_of}
+use Rattle.rk_scripts.proofs.Words.{Played, Setting, behind, cluster_by, continued, faultless, first_commands, first_fates, opened_by}
+use Rattle.rk_scripts.proofs.Words.{other_fates, part_of, played_from, played_in, played_of, played_part, refused_at, set_once, unset}
 use Rattle.std.proofs.lemmas.List.{replicate-append-replicate}
-use Rattle.std.proofs.lemmas.Option.{none-some}
-use Rattle.rk_types.specs.declared.status.Status.{Status}
-use Rattle.rk_types.specs.declared.status.Status.TheVariants.{Done, NoMemory, Refused, ReplicaFault, Worn}
-use Rattle.rk_world.specs.Cluster.{Cluster, Occurrence}
 use Rattle.rk_cluster.specs.Codes as codes
 use Rattle.rk_cluster.specs.Makes as makes
-use Rattle.rk_cluster.specs.Numbers.{number_of}
-use Rattle.rk_cluster.specs.Replicas.{Fate, Kept}
-use Rattle.rk_cluster.specs.declared.code.Code.{Code}
-use Rattle.rk_cluster.specs.declared.code.Code.TheVariants.{Limit, TooLate}
 use Rattle.rk_settle.proofs.Lossless.{stands_still}
-use Rattle.rk_settle.specs.Advance.{advance}
-use Rattle.rk_settle.specs.Codes.{advance_code, priority_code, serve_code}
-use Rattle.rk_settle.specs.Course.{Course, act_makes, course_of, error_by, error_of, is_at_limit, moved, moved_all, moved_by, occurring, occurring_by, with_tasks, worn_error}
-use Rattle.rk_settle.specs.Priority.{priority}
-use Rattle.rk_settle.specs.Serve.{serve}
-use Rattle.rk_settle.specs.Settle.{settle}
-use Rattle.rk_settle.specs.declared.error.SettleError.{SettleError}
-use Rattle.rk_settle.specs.declared.error.SettleError.TheVariants as errors
-use Rattle.rk_script.specs.Script.{script_of}
-use Rattle.rk_script.specs.declared.command.Command.{Command}
-use Rattle.rk_script.specs.declared.command.Command.TheVariants as commands
-use Rattle.rk_script.specs.declared.command.Numbered.{Numbered}
-use Rattle.rk_script.specs.declared.script.ParseError.{ParseError}
-use Rattle.rk_script.specs.declared.script.ParseError.TheVariants as faults
-use Rattle.rk_play.specs.Effects.{Effect, Fails, Pauses, Refuses, Stop, Wears, carried, effect, effect_within, is_full, only_fate, reach_of, refused_by, settled, settled_by, stop_of}
-use Rattle.rk_play.specs.Played.{Played, Setting, behind, cluster_by, continued, faultless, first_commands, first_fates, opened_by, other_fates, part_of, played_from, played_in, played_of, played_part, refused_at, set_once, stopped_at, unset}
 
 -- ---- moves that are left
 
@@ -95,12 +78,12 @@ module _ (cluster : Cluster) (first second : ℕ) where
       (both_same course first second (over_by a a.tasks (none_left a) one) (over_by b b.tasks (none_left b) two))
 
   effect_same : (command : Command) → Same (λ count. effect cluster command (replicate count Kept))
-  effect_same (commands.Serve client) one two = settled_same (serve_code cluster client) (course_of cluster (serve cluster client)) one two
-  effect_same (commands.Advance tablet reach) one two =
+  effect_same (Command.Serve client) one two = settled_same (serve_code cluster client) (course_of cluster (serve cluster client)) one two
+  effect_same (Command.Advance tablet reach) one two =
       settled_same (advance_code cluster tablet (reach_of reach)) (course_of cluster (advance cluster tablet (reach_of reach))) one two
-  effect_same (commands.Priority tablet) one two = settled_same (priority_code cluster tablet) (course_of cluster (priority cluster tablet)) one two
-  effect_same commands.Settle one two = settled_same None (course_of cluster (settle cluster)) one two
-  effect_same (commands.Deliver lane place) one two =
+  effect_same (Command.Priority tablet) one two = settled_same (priority_code cluster tablet) (course_of cluster (priority cluster tablet)) one two
+  effect_same Command.Settle one two = settled_same None (course_of cluster (settle cluster)) one two
+  effect_same (Command.Deliver lane place) one two =
       ap (λ (fate : Fate). carried cluster (codes.place_code cluster lane place) (makes.deliver_makes cluster lane place fate))
       (only_kept first ∙ sym (only_kept second))
   effect_same command one two = refl
@@ -137,10 +120,8 @@ others_are (count ∷ moves) = refl
 -- a command that pauses ends a run for want of memory
 pauses_not : (line : ℕ) (it : Effect) (stop : Option Stop) (rest : Cluster → Played) → Ended (continued line it stop rest) → stop ≡ Some Pauses → ⊥
 pauses_not line it None rest ended is = absurd (none-some Pauses is)
-pauses_not line it (Some (Refuses code)) rest ended is = absurd (cc is)
-pauses_not line it (Some (Wears number)) rest ended is = absurd (cc is)
-pauses_not line it (Some (Fails rounds)) rest ended is = absurd (cc is)
 pauses_not line it (Some Pauses) rest ended is = ended refl
+pauses_not line it _ rest ended is = absurd (cc is)
 
 continued_same : (line : ℕ) (it : Effect) (stop : Option Stop) (rest other : Cluster → Played) → Ended (continued line it stop rest) → Ended (continued line it stop other)
     → (Ended (rest it.cluster) → Ended (other it.cluster) → rest it.cluster ≡ other it.cluster) → continued line it stop rest ≡ continued line it stop other
@@ -176,8 +157,7 @@ in_same (first ∷ others) a b cluster one two =
     let over : IsOver it = pauses_not first.line it it.stop rest one in
     let over_its : IsOver its = pauses_not first.line its its.stop other two in
     let same : it ≡ its =
-    first_effect cluster first.command a
-    ∙ within_same cluster (first_moves a) (first_moves b) first.command
+    first_effect cluster first.command a ∙ within_same cluster (first_moves a) (first_moves b) first.command
     (subst IsOver (first_effect cluster first.command a) over) (subst IsOver (first_effect cluster first.command b) over_its)
     ∙ sym (first_effect cluster first.command b) in
     continued_same first.line it it.stop rest other one (subst (λ (e : Effect). Ended (continued first.line e e.stop other)) (sym same) two)
@@ -201,9 +181,9 @@ once_same line before setting it other same =
 opened_same : (line : ℕ) (command : Command) (setting : Setting) (next other : Setting → Played) (all others : Cluster → Played)
     → ((more : Setting) → AreSame (next more) (other more)) → ((cluster : Cluster) → AreSame (all cluster) (others cluster))
     → AreSame (opened_by line command setting next all) (opened_by line command setting other others)
-opened_same line (commands.Masters masters) setting next other all others goes begins =
+opened_same line (Command.Masters masters) setting next other all others goes begins =
     let more : Setting = record setting { masters = Some masters } in once_same line setting.masters setting (next more) (other more) (goes more)
-opened_same line (commands.Backups backups) setting next other all others goes begins =
+opened_same line (Command.Backups backups) setting next other all others goes begins =
     let more : Setting = record setting { backups = Some backups } in once_same line setting.backups setting (next more) (other more) (goes more)
 opened_same line command setting next other all others goes begins = begins (cluster_by setting)
 
@@ -216,8 +196,8 @@ from_same (first ∷ others) a b setting =
 
 of_same : (read : Result (List Numbered) ParseError) (a b : List ℕ) → AreSame (played_of read (faultless a)) (played_of read (faultless b))
 of_same (Ok all) a b = from_same all a b unset
-of_same (Err (faults.Refused line code)) a b = λ one two. refl
-of_same (Err faults.NoMemory) a b = λ one two. refl
+of_same (Err (ParseError.Refused line code)) a b = λ one two. refl
+of_same (Err ParseError.NoMemory) a b = λ one two. refl
 
 part_same : (read : Result (List Numbered) ParseError) (part : Option ℕ) (a b : List ℕ) → AreSame (part_of read part (faultless a)) (part_of read part (faultless b))
 part_same read (Some count) a b = of_same (first_commands count read) a b

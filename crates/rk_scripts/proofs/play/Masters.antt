@@ -1,30 +1,14 @@
 -- What a lane of a run and the session of a client name: masters that are there.
-use Rattle.std.proofs.Common.{◌≡◌, ℕ, ◌<◌, not, List, map, find, Option, None, Some, refl, sym, ap, subst, ◌∙◌, arith}
-use Rattle.std.specs.Prelude.{IfSome}
-use Rattle.std.specs.Int.{w32}
-use Rattle.std.specs.List.{All, range_with_len}
+use Rattle.std.proofs.Common.{◌≡◌, ℕ, ◌<◌, not, List, map, find, Option, None, Some, refl, sym, ap, subst, ◌∙◌, arith, IfSome, w32, All}
+use Rattle.rk_scripts.proofs.Words.{range_with_len, length-map, All-filter, All-map, get_or-range_with_len, length-range_with_len, numbers}
+use Rattle.rk_scripts.proofs.Words.{Call, LANES, IsNumber, row_of, Row, known_owner, Cluster, lane_at, session_at, limits_of, Master}
+use Rattle.rk_scripts.proofs.Words.{IsMaster, World, has_crashed, live_masters, NamesMasters, unnoticed, IsGoodLane, Lasts}
 use Rattle.std.proofs.Math.ListN.{get_or-map}
-use Rattle.std.proofs.lemmas.List.{length-map}
-use Rattle.std.proofs.lemmas.List.Elements.{All-filter, All-map}
-use Rattle.std.proofs.lemmas.List.FromFn.{get_or-range_with_len, length-range_with_len}
-use Rattle.rk_types.specs.NumberMap.{numbers}
-use Rattle.rk_types.specs.declared.call.Call.{Call}
-use Rattle.rk_types.specs.declared.hashing.TheConstants.{LANES}
-use Rattle.rk_entry.specs.Numbers.{IsNumber}
-use Rattle.rk_tablet_map.specs.Rows.{row_of}
-use Rattle.rk_tablet_map.specs.declared.row.Row.{Row}
-use Rattle.rk_session.specs.Owners.{known_owner, owner_by_call}
-use Rattle.rk_world.specs.Cluster.{Cluster, lane_at, session_at}
-use Rattle.rk_world.specs.Limits.{limits_of}
-use Rattle.rk_world.specs.Master.{Master}
-use Rattle.rk_world.specs.Premises.{IsMaster}
-use Rattle.rk_world.specs.World.{World, has_crashed, live_masters}
+use Rattle.rk_session.specs.Owners.{owner_by_call}
 use Rattle.rk_settle.proofs.Found.{first_holds, owner_there, row_names}
 use Rattle.rk_settle.specs.Lawful.{AreNamed}
-use Rattle.rk_settle.proofs.Unfolded.{NamesMasters}
-use Rattle.rk_settle.specs.Settle.{is_unnoticed, unnoticed}
-use Rattle.rk_runs.proofs.history.Clusters.{IsGoodLane, IsGoodSession}
-use Rattle.rk_runs.proofs.history.Runs.{Lasts}
+use Rattle.rk_settle.specs.Settle.{is_unnoticed}
+use Rattle.rk_runs.proofs.history.Clusters.{IsGoodSession}
 use Rattle.rk_scripts.proofs.play.Reaching.{IsReached, lane_good, reached_eight, reached_good}
 
 -- ---- masters that live

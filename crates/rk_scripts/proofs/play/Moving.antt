@@ -1,10 +1,6 @@
 -- The cluster of a settling command is what has occurred in its course made of the one at its start.
 use Rattle.std.proofs.Common.{◌≡◌, List, [], ◌∷◌, sym, ap, ◌∙◌}
-use Rattle.rk_world.specs.Cluster.{Cluster, cluster_run}
-use Rattle.rk_cluster.proofs.Leading.{runs_join}
-use Rattle.rk_cluster.specs.Replicas.{Fate}
-use Rattle.rk_settle.specs.Course.{Course, moved, moved_all}
-use Rattle.rk_settle.proofs.Occurred.{move_is}
+use Rattle.rk_scripts.proofs.Words.{Cluster, cluster_run, runs_join, Fate, Course, moved, moved_all, move_is}
 
 -- the cluster of a course is what has occurred made of the one at its start
 abbrev pub IsCourseFrom : Cluster → Course → Type 0

@@ -1,33 +1,20 @@
 -- The cluster at the end of a script played is what occurred made of a new one, with as many masters and backups as there may be; and what
 -- occurred is a run.
-use Rattle.std.proofs.Common.{◌≡◌, ◌≤◌, ℕ, true, false, List, [], ◌∷◌, Option, None, Some, is_some, Result, Ok, Err, if◌then◌else◌, refl, sym, ap, subst, ◌∙◌, arith}
-use Rattle.std.specs.Prelude.{take}
-use Rattle.std.specs.List.{All}
-use Rattle.std.proofs.lemmas.List.Elements.{All-head, All-nil, All-tail, All-take}
-use Rattle.rk_log.specs.declared.copied.TheConstants.{MOST_BACKUPS}
-use Rattle.rk_world.specs.Cluster.{Cluster, Occurrence, cluster_run, new_cluster}
-use Rattle.rk_world.specs.Premises.{MOST_MASTERS}
-use Rattle.rk_cluster.specs.Replicas.{Fate}
-use Rattle.rk_cluster.proofs.Leading.{runs_join}
-use Rattle.rk_cluster.specs.Numbers.{number_of}
-use Rattle.rk_cluster.specs.declared.code.Code.TheVariants.{TooLate}
-use Rattle.rk_script.specs.Lawful.{IsLawful, IsLawfulCommand}
-use Rattle.rk_script.specs.Script.{script_of}
-use Rattle.rk_script.specs.declared.command.Command.{Command}
-use Rattle.rk_script.specs.declared.command.Command.TheVariants as commands
-use Rattle.rk_script.specs.declared.command.Numbered.{Numbered}
-use Rattle.rk_script.specs.declared.script.ParseError.{ParseError}
-use Rattle.rk_script.specs.declared.script.ParseError.TheVariants as faults
+use Rattle.std.proofs.Common.{◌≡◌, ◌≤◌, ℕ, true, false, List, [], ◌∷◌, Option, None, Some, is_some, Result, Ok, Err, if◌then◌else◌, refl}
+use Rattle.std.proofs.Common.{sym, ap, subst, ◌∙◌, arith, take, All}
+use Rattle.rk_scripts.proofs.Words.{All-head, All-nil, All-tail, MOST_BACKUPS, Cluster, Occurrence, cluster_run, new_cluster, MOST_MASTERS}
+use Rattle.rk_scripts.proofs.Words.{Fate, runs_join, number_of, TooLate, IsLawfulCommand, script_of, Command, Numbered, ParseError, Effect}
+use Rattle.rk_scripts.proofs.Words.{Refuses, Stop, effect_within, Played, Setting, behind, cluster_by, continued, first_commands}
+use Rattle.rk_scripts.proofs.Words.{first_fates, how_many, opened_by, other_fates, played_from, played_in, played_of, played_part}
+use Rattle.rk_scripts.proofs.Words.{refused_at, set_once, stopped_at, unset, IsRun, IsHistorical}
+use Rattle.std.proofs.lemmas.List.Elements.{All-take}
 use Rattle.rk_script.proofs.LawfulLemmas.{script_of-lawful}
 use Rattle.rk_script.proofs.Widths.{HasWidthsAt, script_of-widths}
-use Rattle.rk_play.specs.Effects.{Effect, Fails, Pauses, Refuses, Stop, Wears, effect_within}
-use Rattle.rk_play.specs.Played.{Played, Setting, behind, cluster_by, continued, first_commands, first_fates, how_many, opened_by, other_fates, played_from, played_in, played_of, played_part, refused_at, set_once, stopped_at, unset}
+use Rattle.rk_script.specs.Lawful.{IsLawful}
 use Rattle.rk_play.specs.Settings.{IsSetting}
-use Rattle.rk_world.specs.ClusterRuns.{IsRun}
-use Rattle.rk_scripts.specs.play.Historical.{IsHistorical}
 use Rattle.rk_scripts.proofs.play.Going.{within_on}
-use Rattle.rk_scripts.proofs.play.Made.{within_from}
 use Rattle.rk_scripts.proofs.play.Led.{one_map}
+use Rattle.rk_scripts.proofs.play.Made.{within_from}
 use Rattle.rk_scripts.proofs.play.Reaching.{GoesOn, IsReached, all_on, new_reached, none_on}
 use Rattle.rk_scripts.proofs.play.Stepping.{all_finished, all_justified, all_sound}
 
@@ -44,16 +31,13 @@ module _ (masters backups : ℕ) where
       → GoesOn masters backups start occurred → IsPlay masters backups next later → IsPlay masters backups start (behind pieces occurred later)
   behind_play start pieces occurred next later from on it = record {
     from = it.from ∙ ap (λ (cluster : Cluster). cluster_run cluster later.occurred) from ∙ sym (runs_join start occurred later.occurred);
-    on =
-        all_on masters backups start occurred later.occurred on
+    on = all_on masters backups start occurred later.occurred on
         (subst (λ (cluster : Cluster). GoesOn masters backups cluster later.occurred) from it.on);
   }
 
   stopped_play : (line : ℕ) (stop : Stop) (cluster : Cluster) → IsPlay masters backups cluster (stopped_at line stop cluster)
   stopped_play line (Refuses code) cluster = record { from = refl; on = none_on masters backups cluster }
-  stopped_play line (Wears number) cluster = record { from = refl; on = none_on masters backups cluster }
-  stopped_play line (Fails rounds) cluster = record { from = refl; on = none_on masters backups cluster }
-  stopped_play line Pauses cluster = record { from = refl; on = none_on masters backups cluster }
+  stopped_play line _ cluster = record { from = refl; on = none_on masters backups cluster }
 
   continued_play : (start : Cluster) (line : ℕ) (it : Effect) (stop : Option Stop) (rest : Cluster → Played) → it.cluster ≡ cluster_run start it.occurred
       → GoesOn masters backups start it.occurred → IsPlay masters backups it.cluster (rest it.cluster) → IsPlay masters backups start (continued line it stop rest)
@@ -115,7 +99,7 @@ once_anew line before setting rest may later =
 opened_anew : (line : ℕ) (command : Command) (setting : Setting) (next : Setting → Played) (all : Cluster → Played) → IsSetting setting → IsLawfulCommand command
     → ((more : Setting) → IsSetting more → IsPlayedAnew (next more)) → ((masters backups : ℕ) (cluster : Cluster) → IsPlay masters backups cluster (all cluster))
     → IsPlayedAnew (opened_by line command setting next all)
-opened_anew line (commands.Masters masters) setting next all may lawful goes begins =
+opened_anew line (Command.Masters masters) setting next all may lawful goes begins =
     let more : Setting = record setting { masters = Some masters } in
     once_anew line setting.masters setting (next more) may
     (goes more
@@ -124,7 +108,7 @@ opened_anew line (commands.Masters masters) setting next all may lawful goes beg
       backed = may.backed;
       backups = may.backups;
     }))
-opened_anew line (commands.Backups backups) setting next all may lawful goes begins =
+opened_anew line (Command.Backups backups) setting next all may lawful goes begins =
     let more : Setting = record setting { backups = Some backups } in
     once_anew line setting.backups setting (next more) may
     (goes more (record { masters = may.masters; backed = lawful.0; backups = lawful.1 }))
@@ -147,8 +131,8 @@ unset_may = record { masters = record { first = omega arith; last = omega arith 
 of_anew : (read : Result (List Numbered) ParseError) (fates : List (List Fate)) → ((commands : List Numbered) → read ≡ Ok commands → All IsLawful commands)
     → ((commands : List Numbered) → read ≡ Ok commands → All HasWidthsAt commands) → IsPlayedAnew (played_of read fates)
 of_anew (Ok commands) fates lawful widths = from_anew commands fates unset (lawful commands refl) (widths commands refl) unset_may
-of_anew (Err (faults.Refused line code)) fates lawful widths = ended_anew unset (played_of (Err (faults.Refused line code)) fates) unset_may refl refl
-of_anew (Err faults.NoMemory) fates lawful widths = ended_anew unset (played_of (Err faults.NoMemory) fates) unset_may refl refl
+of_anew (Err (ParseError.Refused line code)) fates lawful widths = ended_anew unset (played_of (Err (ParseError.Refused line code)) fates) unset_may refl refl
+of_anew (Err ParseError.NoMemory) fates lawful widths = ended_anew unset (played_of (Err ParseError.NoMemory) fates) unset_may refl refl
 
 -- so is a part of a script
 first_lawful : (count : ℕ) (read : Result (List Numbered) ParseError) → ((commands : List Numbered) → read ≡ Ok commands → All IsLawful commands)
@@ -184,8 +168,7 @@ historical it anew =
       few_backups = anew.few_backups;
       cluster_is = anew.cluster_is;
       run = anew.run;
-      one_map =
-          one_map it.occurred it.cluster
+      one_map = one_map it.occurred it.cluster
           (record {
             masters = anew.masters;
             backups = anew.backups;

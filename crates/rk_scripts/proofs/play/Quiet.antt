@@ -1,22 +1,12 @@
 -- A cluster that is found to be at rest is quiet.
-use Rattle.std.proofs.Common.{◌≡◌, ◌==◌, ◌&&◌, ℕ, Bool, true, false, List, [], ◌∷◌, All, length, map, Option, None, Some, refl}
-use Rattle.std.specs.Prelude.{is_none}
-use Rattle.std.specs.List.{list_all, list_any}
-use Rattle.std.proofs.lemmas.Bool.{eqb-true, not-true}
+use Rattle.std.proofs.Common.{◌≡◌, ◌==◌, ◌&&◌, ℕ, Bool, true, false, List, [], ◌∷◌, All, length, map, Option, None, Some, refl, is_none}
+use Rattle.std.proofs.Common.{eqb-true}
+use Rattle.rk_scripts.proofs.Words.{list_all, list_any, All-cons, All-map, All-nil, NumberMap, Call, Phase, Owned, Row, Session, Cluster}
+use Rattle.rk_scripts.proofs.Words.{IsQuietCluster, Master, staged, IsOwnedLive, World, live_masters, has_applied_all, has_owners}
+use Rattle.rk_scripts.proofs.Words.{is_owned_live, is_quiet, is_quiet_lane, is_at_rest, is_silent}
+use Rattle.std.proofs.lemmas.Bool.{not-true}
 use Rattle.std.proofs.lemmas.List.{nil_from_length}
-use Rattle.std.proofs.lemmas.List.Elements.{All-cons, All-map, All-nil}
-use Rattle.rk_types.specs.NumberMap.{NumberMap}
-use Rattle.rk_types.specs.declared.call.Call.{Call}
-use Rattle.rk_tablet_map.specs.declared.phase.Phase.{Phase}
-use Rattle.rk_tablet_map.specs.declared.phase.Phase.TheVariants.{Moving, Opening, Owned, Rebuilding}
-use Rattle.rk_tablet_map.specs.declared.row.Row.{Row}
-use Rattle.rk_world.specs.Client.{Session}
-use Rattle.rk_world.specs.Cluster.{Cluster, IsQuietCluster}
-use Rattle.rk_world.specs.Master.{Master, staged}
-use Rattle.rk_world.specs.Quiet.{IsOwnedLive, IsQuiet}
-use Rattle.rk_world.specs.World.{World, live_masters}
-use Rattle.rk_cluster.specs.Quiet.{has_applied_all, has_owners, is_owned_live, is_quiet, is_quiet_lane}
-use Rattle.rk_settle.specs.Rest.{is_at_rest, is_silent}
+use Rattle.rk_world.specs.Quiet.{IsQuiet}
 
 -- both hold where they hold together
 both_hold : (a b : Bool) → (a && b) ≡ true → (a ≡ true) × (b ≡ true)
@@ -50,11 +40,9 @@ quiet_lane : (sessions : NumberMap Session) (w : World) → list_all (λ entry. 
 quiet_lane sessions w none is =
     let both = both_hold (has_owners w) (has_applied_all w) is in
     record {
-      owned =
-          all_by (λ (row : Row). is_owned_live w row.phase) (λ row. IsOwnedLive w.crashed row.phase) (λ row passes. owned_live w row.phase passes)
-          w.coordinator.rows both.0;
-      settled =
-          all_by (λ (entry : ℕ × Master). length (staged entry.1) == 0) (λ entry. staged entry.1 ≡ [])
+      owned = all_by (λ (row : Row). is_owned_live w row.phase) (λ row. IsOwnedLive w.crashed row.phase)
+          (λ row passes. owned_live w row.phase passes) w.coordinator.rows both.0;
+      settled = all_by (λ (entry : ℕ × Master). length (staged entry.1) == 0) (λ entry. staged entry.1 ≡ [])
           (λ entry passes. nil_from_length (staged entry.1) (eqb-true (length (staged entry.1)) 0 passes)) (live_masters w) both.1;
       answered = answered sessions none;
     }

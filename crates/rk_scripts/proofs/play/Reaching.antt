@@ -1,16 +1,11 @@
 -- A cluster that a run of a new one has come to, and occurrences that go on with that run.
 use Rattle.std.proofs.Common.{◌≡◌, ℕ, ◌<◌, ◌≤◌, List, [], ◌∷◌, ◌++◌, length, refl, sym, ap, subst, ◌∙◌, arith}
-use Rattle.std.proofs.lemmas.List.FromFn.{length-map-range_with_len}
-use Rattle.rk_types.specs.declared.hashing.TheConstants.{LANES}
-use Rattle.rk_log.specs.declared.copied.TheConstants.{MOST_BACKUPS}
-use Rattle.rk_world.specs.Cluster.{Cluster, ClusterMay, KeepsCalm, Occurrence, cluster_after, cluster_run, lane_at, new_cluster}
-use Rattle.rk_world.specs.Premises.{MOST_MASTERS}
-use Rattle.rk_cluster.proofs.Leading.{run_on, runs_join}
-use Rattle.rk_world.specs.World.{new_world}
-use Rattle.rk_world.specs.ClusterRuns.{IsRun, ReplicasTell}
-use Rattle.rk_runs.proofs.history.Clusters.{IsGood, IsGoodLane}
-use Rattle.rk_runs.proofs.history.Runs.{Lasts, good_after}
-use Rattle.rk_runs.proofs.history.Staying.{lanes_stay}
+use Rattle.rk_scripts.proofs.Words.{length-map-range_with_len, LANES, MOST_BACKUPS, Cluster, Occurrence, cluster_after, cluster_run}
+use Rattle.rk_scripts.proofs.Words.{lane_at, new_cluster, MOST_MASTERS, run_on, runs_join, new_world, IsRun, IsGood, IsGoodLane, Lasts}
+use Rattle.rk_scripts.proofs.Words.{lanes_stay}
+use Rattle.rk_world.specs.Cluster.{ClusterMay, KeepsCalm}
+use Rattle.rk_world.specs.ClusterRuns.{ReplicasTell}
+use Rattle.rk_runs.proofs.history.Runs.{good_after}
 
 -- a run of a new cluster has come to this one
 pub record IsReached (masters backups : ℕ) (cluster : Cluster) : Type 0 where
@@ -38,15 +33,12 @@ module _ (masters backups : ℕ) where
           few_backups = reached.few_backups;
           before = reached.before ++ list;
           run = run_on start reached.before list reached.run (subst (λ (from : Cluster). IsRun from list) reached.is run);
-          is =
-              ap (λ (from : Cluster). cluster_run from list) reached.is
-              ∙ sym (runs_join start reached.before list);
+          is = ap (λ (from : Cluster). cluster_run from list) reached.is ∙ sym (runs_join start reached.before list);
         }
 
     -- it is as a cluster between two occurrences is
     pub reached_good : IsGood Lasts masters cluster
-    reached_good =
-        subst (IsGood Lasts masters) (sym reached.is)
+    reached_good = subst (IsGood Lasts masters) (sym reached.is)
         (good_after masters backups reached.few_masters reached.backed reached.few_backups reached.before reached.run)
 
     -- it has eight lanes

@@ -1,41 +1,22 @@
 -- A client's last request is sent again and delivered: this calls no replica, since no backup stores what a client sends.
-use Rattle.std.proofs.Common.{◌≡◌, ℕ, ◌+◌, ◌<◌, List, [], ◌∷◌, length, Option, None, Some, Result, Ok, Err, refl, sym, subst, arith}
-use Rattle.std.specs.Prelude.{IfSome}
-use Rattle.std.proofs.lemmas.List.{get_or-set_same}
-use Rattle.rk_types.specs.NumberMap.{get}
-use Rattle.rk_types.proofs.NumberMaps.{get_same}
-use Rattle.rk_types.specs.declared.hashing.TheConstants.{LANES}
-use Rattle.rk_types.specs.declared.history.Placed.{Placed}
-use Rattle.rk_types.specs.declared.node.Node.{Node}
-use Rattle.rk_types.specs.declared.node.Node.TheVariants as nodes
-use Rattle.rk_outside.specs.Segments.{Segments}
-use Rattle.rk_message.specs.Wire.{HasSentNumbers}
-use Rattle.rk_message.specs.declared.message.Body.{Body}
-use Rattle.rk_message.specs.declared.message.Body.TheVariants as bodies
-use Rattle.rk_message.specs.declared.message.Message.{Message}
-use Rattle.rk_world.specs.Backup.{Gave, called_by}
-use Rattle.rk_world.specs.Cluster.{Cluster, cluster_stepped, lane_at, session_at}
-use Rattle.rk_world.specs.Refusals.{refusal}
-use Rattle.rk_world.specs.Runs.{world_stepped}
-use Rattle.rk_world.specs.Step.{Stepped, sent_again, step, stepped_by, told_for, told_to}
-use Rattle.rk_world.specs.World.{World, backup_at, new_world}
-use Rattle.rk_world.specs.declared.error.StepError.{StepError}
-use Rattle.rk_world.specs.declared.event.Event.TheVariants as events
-use Rattle.rk_world.specs.declared.ledger.LastCall.{LastCall}
+use Rattle.std.proofs.Common.{◌≡◌, ℕ, ◌+◌, ◌<◌, List, [], ◌∷◌, length, Option, None, Some, Result, Ok, Err, refl, sym, subst, arith, IfSome}
+use Rattle.std.proofs.Common.{get_or-set_same}
+use Rattle.rk_scripts.proofs.Words.{get, get_same, LANES, Placed, Node, Segments, HasSentNumbers, Body, Message, Gave, called_by, Cluster}
+use Rattle.rk_scripts.proofs.Words.{cluster_stepped, lane_at, session_at, refusal, world_stepped, Stepped, sent_again, step, stepped_by}
+use Rattle.rk_scripts.proofs.Words.{told_for, World, backup_at, new_world, StepError, LastCall, view, IsSound, acted, all_acted, in_lane}
+use Rattle.rk_scripts.proofs.Words.{request_lane, Event}
+use Rattle.rk_world.specs.Step.{told_to}
 use Rattle.rk_sound.specs.Asked.{IsRequest}
-use Rattle.rk_sound.specs.View.{view}
-use Rattle.rk_sound.specs.Whole.{IsSound}
-use Rattle.rk_cluster.specs.Acted.{acted, all_acted}
-use Rattle.rk_cluster.specs.Makes.{again_by, again_in, again_makes, in_lane, request_lane}
+use Rattle.rk_cluster.specs.Makes.{again_by, again_in, again_makes}
 use Rattle.rk_scripts.proofs.play.Allowed.{allowed_may, came_first}
 use Rattle.rk_scripts.proofs.play.Commanding.{request_there}
-use Rattle.rk_scripts.proofs.play.Reaching.{GoesOn, IsReached, lane_good, lane_there, none_on}
+use Rattle.rk_scripts.proofs.play.Reaching.{GoesOn, lane_good, lane_there, none_on}
 
 -- ---- what a client sends calls no replica
 
 -- a node is a client
 abbrev IsOfClient : Node → Type 0
-IsOfClient (nodes.Client client) = Unit {0}
+IsOfClient (Node.Client client) = Unit {0}
 IsOfClient node = ⊥
 
 -- a message, if there is one, is of a client
@@ -43,13 +24,11 @@ abbrev ByClient : Option Message → Type 0
 ByClient found = IfSome found (λ it. IsOfClient it.from)
 
 stores_none : (segments : Segments) (from : Node) (body : Body) (fault : Option ℕ) → IsOfClient from → called_by segments from body fault ≡ Gave None
-stores_none segments (nodes.Client client) body fault of = refl
-stores_none segments nodes.Coordinator body fault of = absurd of
-stores_none segments (nodes.Master master) body fault of = absurd of
-stores_none segments (nodes.Backup backup) body fault of = absurd of
+stores_none segments (Node.Client client) body fault of = refl
+stores_none segments _ body fault of = absurd of
 
 none_to : (w : World) (message : Message) (to : Node) (fault : Option ℕ) → IsOfClient message.from → told_to w message to fault ≡ Gave None
-none_to w message (nodes.Backup backup) fault of = stores_none (backup_at w backup) message.from message.body fault of
+none_to w message (Node.Backup backup) fault of = stores_none (backup_at w backup) message.from message.body fault of
 none_to w message _ fault of = refl
 
 none_for : (w : World) (found : Option Message) (fault : Option ℕ) → ByClient found → told_for w found fault ≡ Gave None
@@ -59,8 +38,8 @@ none_for w (Some message) fault of = none_to w message message.to fault of
 -- ---- what is sent again is of a client
 
 by_client : (asked : ℕ → Option LastCall) (journal : List Placed) (client : ℕ) (from : Node) (body : Body) → IsRequest asked journal client from body → IsOfClient from
-by_client asked journal client (nodes.Client sender) (bodies.Request request) is = tt
-by_client asked journal client (nodes.Client sender) body is = absurd is
+by_client asked journal client (Node.Client sender) (Body.Request request) is = tt
+by_client asked journal client (Node.Client sender) body is = absurd is
 by_client asked journal client from body is = absurd is
 
 module _ (w : World) (sound : IsSound w) (numbered : HasSentNumbers w.wire) (client : ℕ) where
@@ -76,7 +55,7 @@ module _ (w : World) (sound : IsSound w) (numbered : HasSentNumbers w.wire) (cli
       (by_client (view w).asked (view w).journal client message.from message.body (sound.asked.again client message is))
 
   sent_after : (refused : Option StepError)
-      → ByClient (get (world_stepped w (stepped_by w (events.Again client) (Gave None) refused)).wire.messages (w.wire.sent + 1))
+      → ByClient (get (world_stepped w (stepped_by w (Event.Again client) (Gave None) refused)).wire.messages (w.wire.sent + 1))
   sent_after None = sent_by (get w.ledger.requests client) refl
   sent_after (Some error) = unsent (get w.wire.messages (w.wire.sent + 1)) refl
 
@@ -93,21 +72,21 @@ module _ (masters backups : ℕ) (cluster : Cluster) (client : ℕ) where
       let w = lane_at cluster lane in
       let good = lane_good masters backups cluster reached lane inside in
       let number : ℕ = w.wire.sent + 1 in
-      let stepped = step w (events.Again client) (Gave None) in
-      let next : Cluster = (acted cluster (in_lane lane (events.Again client))).cluster in
-      let later : Cluster = (acted next (in_lane lane (events.Deliver number))).cluster in
-      let last : Cluster = (acted later (in_lane lane (events.Forget number))).cluster in
+      let stepped = step w (Event.Again client) (Gave None) in
+      let next : Cluster = (acted cluster (in_lane lane (Event.Again client))).cluster in
+      let later : Cluster = (acted next (in_lane lane (Event.Deliver number))).cluster in
+      let last : Cluster = (acted later (in_lane lane (Event.Forget number))).cluster in
       let sent : ByClient (get (lane_at next lane).wire.messages number) =
       subst (λ (after : World). ByClient (get after.wire.messages number))
       (sym (lane_after cluster lane stepped (lane_there masters backups cluster reached lane inside)))
-      (sent_after w good.sound good.formed.wire.numbered client (refusal w (events.Again client))) in
-      came_first masters backups cluster (in_lane lane (events.Again client)) (in_lane lane (events.Deliver number) ∷ in_lane lane (events.Forget number) ∷ [])
-      (allowed_may masters backups cluster (in_lane lane (events.Again client)) (inside, tt, tt) (record { fault = None; told = refl }))
-      (came_first masters backups next (in_lane lane (events.Deliver number)) (in_lane lane (events.Forget number) ∷ [])
-      (allowed_may masters backups next (in_lane lane (events.Deliver number)) (inside, tt, tt)
+      (sent_after w good.sound good.formed.wire.numbered client (refusal w (Event.Again client))) in
+      came_first masters backups cluster (in_lane lane (Event.Again client)) (in_lane lane (Event.Deliver number) ∷ in_lane lane (Event.Forget number) ∷ [])
+      (allowed_may masters backups cluster (in_lane lane (Event.Again client)) (inside, tt, tt) (record { fault = None; told = refl }))
+      (came_first masters backups next (in_lane lane (Event.Deliver number)) (in_lane lane (Event.Forget number) ∷ [])
+      (allowed_may masters backups next (in_lane lane (Event.Deliver number)) (inside, tt, tt)
       (record { fault = None; told = sym (none_for (lane_at next lane) (get (lane_at next lane).wire.messages number) None sent) }))
-      (came_first masters backups later (in_lane lane (events.Forget number)) []
-      (allowed_may masters backups later (in_lane lane (events.Forget number)) (inside, tt, tt) (record { fault = None; told = refl }))
+      (came_first masters backups later (in_lane lane (Event.Forget number)) []
+      (allowed_may masters backups later (in_lane lane (Event.Forget number)) (inside, tt, tt) (record { fault = None; told = refl }))
       (none_on masters backups last)))
       reached
 

@@ -1,13 +1,8 @@
 -- What is so at each step of a run of a new cluster.
 use Rattle.std.proofs.Common.{ℕ, List, [], ◌∷◌}
-use Rattle.rk_world.specs.Backup.{Called}
-use Rattle.rk_world.specs.Cluster.{Accepts, Asks, Calls, Cluster, Happens, Joins, Occurrence, cluster_after, lane_at}
-use Rattle.rk_world.specs.ClusterRuns.{IsRun}
-use Rattle.rk_world.specs.declared.event.Event.{Event}
-use Rattle.rk_runs.proofs.history.Clusters.{IsGoodLane}
-use Rattle.rk_runs.proofs.history.Finishing.{finished_by}
-use Rattle.rk_runs.proofs.history.Runs.{Lasts}
+use Rattle.rk_scripts.proofs.Words.{Called, Cluster, Happens, Occurrence, cluster_after, lane_at, IsRun, Event, IsGoodLane, Lasts}
 use Rattle.rk_inv_lanes.proofs.late.Sources.{each_moved, each_not_yet, sound_requests}
+use Rattle.rk_runs.proofs.history.Finishing.{finished_by}
 use Rattle.rk_scripts.specs.play.Steps.{AtEachCluster, AtEachStep, FinishesMoves, HasSoundLanes, OfEvents, RefusesJustly}
 use Rattle.rk_scripts.proofs.play.Reaching.{IsReached, lane_good, reached_after, reached_good}
 
@@ -41,10 +36,7 @@ module _ (masters backups : ℕ) where
   finishes cluster (Happens lane event called) later reached run = λ stepped row now source target owner from found moving is now_found owned.
       finished_by (lane_at cluster lane) event called stepped row now source target owner from
       (its_lane cluster lane event called later reached run).sound found moving is now_found owned
-  finishes cluster (Joins client) later reached run = tt
-  finishes cluster (Calls client table key op) later reached run = tt
-  finishes cluster (Asks lane client) later reached run = tt
-  finishes cluster (Accepts lane number client) later reached run = tt
+  finishes cluster _ later reached run = tt
 
   refuses : (cluster : Cluster) (occurrence : Occurrence) (later : List Occurrence) → IsReached masters backups cluster → IsRun cluster (occurrence ∷ later) → OfEvents RefusesJustly cluster occurrence
   refuses cluster (Happens lane event called) later reached run =
@@ -56,10 +48,7 @@ module _ (masters backups : ℕ) where
         not_yet = λ new message reply key free made replies is.
             each_not_yet w event new message reply called (sound_requests w good.sound) free made replies key good.formed is;
       }
-  refuses cluster (Joins client) later reached run = tt
-  refuses cluster (Calls client table key op) later reached run = tt
-  refuses cluster (Asks lane client) later reached run = tt
-  refuses cluster (Accepts lane number client) later reached run = tt
+  refuses cluster _ later reached run = tt
 
   pub all_finished : (cluster : Cluster) (list : List Occurrence) → IsReached masters backups cluster → IsRun cluster list → AtEachStep (OfEvents FinishesMoves) cluster list
   all_finished = each_step (OfEvents FinishesMoves) finishes

@@ -1,12 +1,7 @@
 -- What the tests of commands say, where no code refuses one.
-use Rattle.std.proofs.Common.{◌≡◌, ℕ, ◌≤◌, not, nat_le, Bool, true, false, Option, None, refl, subst, arith}
-use Rattle.std.specs.Option.{option_or}
-use Rattle.std.proofs.lemmas.Bool.{and_parts, leb-true, not-false}
-use Rattle.rk_world.specs.Cluster.{Cluster}
-use Rattle.rk_world.specs.Premises.{IsMaster}
-use Rattle.rk_cluster.specs.Codes.{code_where}
-use Rattle.rk_cluster.specs.Looks.{is_master, master_count}
-use Rattle.rk_cluster.specs.declared.code.Code.{Code}
+use Rattle.std.proofs.Common.{◌≡◌, ℕ, ◌≤◌, not, nat_le, Bool, true, false, Option, None, refl, subst, arith, leb-true}
+use Rattle.rk_scripts.proofs.Words.{option_or, and_parts, not-false, Cluster, IsMaster, code_where, is_master, Code}
+use Rattle.rk_cluster.specs.Looks.{master_count}
 use Rattle.rk_scripts.proofs.play.Reaching.{IsReached, lane_good}
 
 -- where no code applies neither this one does nor those behind it

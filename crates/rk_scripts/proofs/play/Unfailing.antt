@@ -1,35 +1,17 @@
 -- Where no call of a replica fails no command stops because replicas failed.
-use Rattle.std.proofs.Common.{◌≡◌, ℕ, ◌≤◌, ◌||◌, ◌&&◌, nat_le, true, false, Bool, List, [], ◌∷◌, replicate, zero, suc, Option, None, Some, is_some, Result, Ok, Err, if◌then◌else◌, refl, sym, ap, subst, ◌∙◌, arith}
-use Rattle.std.proofs.lemmas.Option.{none-some}
-use Rattle.rk_types.specs.declared.status.Status.{Status}
-use Rattle.rk_types.specs.declared.status.Status.TheVariants.{Done, NoMemory, Refused, ReplicaFault, Worn}
-use Rattle.rk_world.specs.Cluster.{Cluster, Occurrence}
-use Rattle.rk_cluster.specs.Acted.{Acted, all_acted}
+use Rattle.std.proofs.Common.{◌≡◌, ℕ, true, false, List, [], ◌∷◌, replicate, zero, suc, Option, None, Some, is_some, Result, Ok, Err}
+use Rattle.std.proofs.Common.{if◌then◌else◌, refl, sym, subst}
+use Rattle.rk_scripts.proofs.Words.{NoMemory, Refused, ReplicaFault, Cluster, Occurrence, Acted, all_acted, number_of, Fate, Kept, Code}
+use Rattle.rk_scripts.proofs.Words.{Limit, TooLate, IsWell, moved_well, well_other, advance, advance_code, priority_code, serve_code}
+use Rattle.rk_scripts.proofs.Words.{Course, course_of, error_of, moved, moved_all, priority, serve, settle, SettleError, script_of, Command}
+use Rattle.rk_scripts.proofs.Words.{Numbered, ParseError, Effect, Fails, Stop, carried, carried_by, effect, effect_within, is_full}
+use Rattle.rk_scripts.proofs.Words.{only_fate, reach_of, refused_by, settled, settled_by, shown, stop_of, Played, Setting, cluster_by}
+use Rattle.rk_scripts.proofs.Words.{continued, faultless, first_commands, first_fates, opened_by, other_fates, part_of, played_from}
+use Rattle.rk_scripts.proofs.Words.{played_in, played_of, played_part, refused_at, set_once, unset, dump_code, dump_text, where_code}
+use Rattle.rk_scripts.proofs.Words.{where_text}
 use Rattle.rk_cluster.specs.Codes as codes
 use Rattle.rk_cluster.specs.Makes as makes
-use Rattle.rk_cluster.specs.Numbers.{number_of}
-use Rattle.rk_cluster.specs.Replicas.{Fate, Kept}
-use Rattle.rk_cluster.specs.declared.code.Code.{Code}
-use Rattle.rk_cluster.specs.declared.code.Code.TheVariants.{Limit, TooLate}
-use Rattle.rk_settle.proofs.Lossless.{IsWell, moved_well, well_other}
-use Rattle.rk_settle.specs.Advance.{advance}
-use Rattle.rk_settle.specs.Codes.{advance_code, priority_code, serve_code}
-use Rattle.rk_settle.specs.Course.{Course, MOST_FAULTS, act_makes, course_of, error_by, error_of, is_at_limit, moved, moved_all, moved_by, occurring, occurring_by, with_tasks, worn_error}
-use Rattle.rk_settle.specs.Priority.{priority}
-use Rattle.rk_settle.specs.Serve.{serve}
-use Rattle.rk_settle.specs.Settle.{settle}
-use Rattle.rk_settle.specs.declared.error.SettleError.{SettleError}
-use Rattle.rk_settle.specs.declared.error.SettleError.TheVariants as errors
-use Rattle.rk_script.specs.Script.{script_of}
-use Rattle.rk_script.specs.declared.command.Command.{Command}
-use Rattle.rk_script.specs.declared.command.Command.TheVariants as commands
-use Rattle.rk_script.specs.declared.command.Numbered.{Numbered}
-use Rattle.rk_script.specs.declared.script.ParseError.{ParseError}
-use Rattle.rk_script.specs.declared.script.ParseError.TheVariants as faults
-use Rattle.rk_play.specs.Effects.{Effect, Fails, Pauses, Refuses, Stop, Wears, carried, carried_by, effect, effect_within, is_full, only_fate, reach_of, refused_by, settled, settled_by, shown, stop_of}
-use Rattle.rk_play.specs.Played.{Played, Setting, behind, cluster_by, continued, faultless, first_commands, first_fates, opened_by, other_fates, part_of, played_from, played_in, played_of, played_part, refused_at, set_once, stopped_at, unset}
-use Rattle.rk_play.specs.Shows.{dump_code, dump_text, where_code, where_text}
-use Rattle.rk_scripts.proofs.play.Deciding.{first_are, first_moves, only_kept, other_moves, others_are}
+use Rattle.rk_scripts.proofs.play.Deciding.{first_are, first_moves, other_moves, others_are}
 
 -- ---- courses
 
@@ -43,11 +25,8 @@ IsFailure (Some (Fails rounds)) = Unit {0}
 IsFailure stop = ⊥
 
 error_other : (course : Course) (found : Option SettleError) → error_of course ≡ found → IsWell course → IsFailure (Some (stop_of found)) → ⊥
-error_other course None is well fails = fails
-error_other course (Some (errors.Replica rounds)) is well fails = well_other course rounds well is
-error_other course (Some (errors.Worn number)) is well fails = fails
-error_other course (Some errors.NoMemory) is well fails = fails
-error_other course (Some errors.TooLong) is well fails = fails
+error_other course (Some (SettleError.Replica rounds)) is well fails = well_other course rounds well is
+error_other course _ is well fails = fails
 
 -- ---- commands
 
@@ -78,28 +57,26 @@ module _ (cluster : Cluster) where
   shown_other None text fails = fails
 
   effect_other : (command : Command) (count : ℕ) → NoFailure (effect cluster command (replicate count Kept))
-  effect_other (commands.Masters masters) count fails = fails
-  effect_other (commands.Backups backups) count fails = fails
-  effect_other (commands.Table table master) count fails = carried_other (codes.table_code cluster table master) (makes.table_makes cluster table master) fails
-  effect_other (commands.Client client) count fails = carried_other (codes.client_code cluster client) (makes.client_makes cluster client) fails
-  effect_other (commands.Call client table key op) count fails = carried_other (codes.call_code cluster client table) (makes.call_makes client table key op) fails
-  effect_other (commands.Serve client) count fails = settled_other (serve_code cluster client) (course_of cluster (serve cluster client)) count (record { none = refl; well = refl }) fails
-  effect_other (commands.Repeat client) count fails = carried_other (codes.again_code cluster client) (makes.again_makes cluster client) fails
-  effect_other (commands.Migrate tablet master) count fails = carried_other (codes.migrate_code cluster tablet master) (makes.migrate_makes cluster tablet master) fails
-  effect_other (commands.Advance tablet reach) count fails =
+  effect_other (Command.Table table master) count fails = carried_other (codes.table_code cluster table master) (makes.table_makes cluster table master) fails
+  effect_other (Command.Client client) count fails = carried_other (codes.client_code cluster client) (makes.client_makes cluster client) fails
+  effect_other (Command.Call client table key op) count fails = carried_other (codes.call_code cluster client table) (makes.call_makes client table key op) fails
+  effect_other (Command.Serve client) count fails = settled_other (serve_code cluster client) (course_of cluster (serve cluster client)) count (record { none = refl; well = refl }) fails
+  effect_other (Command.Repeat client) count fails = carried_other (codes.again_code cluster client) (makes.again_makes cluster client) fails
+  effect_other (Command.Migrate tablet master) count fails = carried_other (codes.migrate_code cluster tablet master) (makes.migrate_makes cluster tablet master) fails
+  effect_other (Command.Advance tablet reach) count fails =
       settled_other (advance_code cluster tablet (reach_of reach)) (course_of cluster (advance cluster tablet (reach_of reach))) count (record { none = refl; well = refl }) fails
-  effect_other (commands.Priority tablet) count fails = settled_other (priority_code cluster tablet) (course_of cluster (priority cluster tablet)) count (record { none = refl; well = refl }) fails
-  effect_other (commands.Split tablet hash) count fails = carried_other (codes.split_code cluster tablet hash) (makes.split_makes cluster tablet hash) fails
-  effect_other (commands.Turn lane) count fails = carried_other None (makes.turn_makes cluster lane) fails
-  effect_other (commands.Deliver lane place) count fails =
+  effect_other (Command.Priority tablet) count fails = settled_other (priority_code cluster tablet) (course_of cluster (priority cluster tablet)) count (record { none = refl; well = refl }) fails
+  effect_other (Command.Split tablet hash) count fails = carried_other (codes.split_code cluster tablet hash) (makes.split_makes cluster tablet hash) fails
+  effect_other (Command.Turn lane) count fails = carried_other None (makes.turn_makes cluster lane) fails
+  effect_other (Command.Deliver lane place) count fails =
       carried_other (codes.place_code cluster lane place) (makes.deliver_makes cluster lane place (only_fate (replicate count Kept))) fails
-  effect_other (commands.Forget lane place) count fails = carried_other (codes.place_code cluster lane place) (makes.forget_makes cluster lane place) fails
-  effect_other (commands.Crash master) count fails = carried_other (codes.crash_code cluster master) (makes.crash_makes cluster master) fails
-  effect_other (commands.Notice master) count fails = carried_other (codes.notice_code cluster master) (makes.notice_makes cluster master) fails
-  effect_other commands.Settle count fails = settled_other None (course_of cluster (settle cluster)) count (record { none = refl; well = refl }) fails
-  effect_other (commands.Where tablet) count fails = shown_other (where_code cluster tablet) (where_text cluster tablet) fails
-  effect_other (commands.Dump tablet) count fails = shown_other (dump_code cluster tablet) (dump_text cluster tablet) fails
-  effect_other commands.History count fails = fails
+  effect_other (Command.Forget lane place) count fails = carried_other (codes.place_code cluster lane place) (makes.forget_makes cluster lane place) fails
+  effect_other (Command.Crash master) count fails = carried_other (codes.crash_code cluster master) (makes.crash_makes cluster master) fails
+  effect_other (Command.Notice master) count fails = carried_other (codes.notice_code cluster master) (makes.notice_makes cluster master) fails
+  effect_other Command.Settle count fails = settled_other None (course_of cluster (settle cluster)) count (record { none = refl; well = refl }) fails
+  effect_other (Command.Where tablet) count fails = shown_other (where_code cluster tablet) (where_text cluster tablet) fails
+  effect_other (Command.Dump tablet) count fails = shown_other (dump_code cluster tablet) (dump_text cluster tablet) fails
+  effect_other _ count fails = fails
 
   within_other : (command : Command) (count : ℕ) → NoFailure (effect_within cluster command (replicate count Kept))
   within_other command count =
@@ -116,10 +93,8 @@ IsUnfailing it = it.status ≡ ReplicaFault → ⊥
 
 continued_other : (line : ℕ) (it : Effect) (stop : Option Stop) (rest : Cluster → Played) → (IsFailure stop → ⊥) → IsUnfailing (rest it.cluster) → IsUnfailing (continued line it stop rest)
 continued_other line it None rest other later is = later is
-continued_other line it (Some (Refuses code)) rest other later is = absurd (cc is)
-continued_other line it (Some (Wears number)) rest other later is = absurd (cc is)
 continued_other line it (Some (Fails rounds)) rest other later is = other tt
-continued_other line it (Some Pauses) rest other later is = absurd (cc is)
+continued_other line it _ rest other later is = absurd (cc is)
 
 in_other : (all : List Numbered) (moves : List ℕ) (cluster : Cluster) → IsUnfailing (played_in all (faultless moves) cluster)
 in_other [] moves cluster = λ is. absurd (cc is)
@@ -138,9 +113,9 @@ once_other line before setting rest other =
 
 opened_other : (line : ℕ) (command : Command) (setting : Setting) (next : Setting → Played) (all : Cluster → Played) → ((more : Setting) → IsUnfailing (next more))
     → ((cluster : Cluster) → IsUnfailing (all cluster)) → IsUnfailing (opened_by line command setting next all)
-opened_other line (commands.Masters masters) setting next all goes begins =
+opened_other line (Command.Masters masters) setting next all goes begins =
     let more : Setting = record setting { masters = Some masters } in once_other line setting.masters setting (next more) (goes more)
-opened_other line (commands.Backups backups) setting next all goes begins =
+opened_other line (Command.Backups backups) setting next all goes begins =
     let more : Setting = record setting { backups = Some backups } in once_other line setting.backups setting (next more) (goes more)
 opened_other line command setting next all goes begins = begins (cluster_by setting)
 
@@ -152,8 +127,8 @@ from_other (first ∷ others) moves setting =
 
 of_other : (read : Result (List Numbered) ParseError) (moves : List ℕ) → IsUnfailing (played_of read (faultless moves))
 of_other (Ok all) moves = from_other all moves unset
-of_other (Err (faults.Refused line code)) moves = λ is. absurd (cc is)
-of_other (Err faults.NoMemory) moves = λ is. absurd (cc is)
+of_other (Err (ParseError.Refused line code)) moves = λ is. absurd (cc is)
+of_other (Err ParseError.NoMemory) moves = λ is. absurd (cc is)
 
 part_other : (read : Result (List Numbered) ParseError) (part : Option ℕ) (moves : List ℕ) → IsUnfailing (part_of read part (faultless moves))
 part_other read (Some count) moves = of_other (first_commands count read) moves

@@ -1,41 +1,19 @@
 -- No task of a settling command adds a client, whatever it unfolds into.
-use Rattle.std.proofs.Common.{◌≡◌, ◌==◌, ℕ, zero, suc, Bool, true, false, List, [], ◌∷◌, filter, map, Option, None, Some, if◌then◌else◌, refl, subst, inr}
-use Rattle.std.specs.Prelude.{slice_index_or}
-use Rattle.std.specs.List.{flat_map}
-use Rattle.rk_types.specs.NumberMap.{numbers}
-use Rattle.rk_types.specs.declared.call.Call.{Call}
-use Rattle.rk_types.specs.declared.node.Node.{Node}
-use Rattle.rk_types.specs.declared.node.Node.TheVariants as nodes
-use Rattle.rk_message.specs.Wire.{Traffic, number_at}
-use Rattle.rk_tablet_map.specs.Rows.{row_of}
-use Rattle.rk_tablet_map.specs.declared.phase.Phase.{Phase}
-use Rattle.rk_tablet_map.specs.declared.phase.Phase.TheVariants.{Moving, Opening}
-use Rattle.rk_tablet_map.specs.declared.row.Row.{Row}
-use Rattle.rk_transfer.specs.declared.role.Role.{Role}
-use Rattle.rk_transfer.specs.declared.role.Role.TheVariants as roles
-use Rattle.rk_session.specs.Owners.{known_owner, looks_up}
-use Rattle.rk_world.specs.Client.{Session}
-use Rattle.rk_world.specs.Cluster.{Asks, Cluster, lane_at, session_at}
-use Rattle.rk_world.specs.World.{World, live_masters, tablet_in}
-use Rattle.rk_world.specs.declared.event.Event.TheVariants as events
-use Rattle.rk_cluster.specs.Delivering.{is_lost_at_backup}
-use Rattle.rk_cluster.specs.Looks.{is_client}
-use Rattle.rk_cluster.specs.Makes.{deliver_in_makes, in_lane}
-use Rattle.rk_cluster.specs.Turns.{clients_in}
-use Rattle.rk_settle.specs.Advance.{advance, advance_tasks, freeze_by, reach_between, reach_phase, reach_row, reaches_to}
-use Rattle.rk_settle.specs.Course.{is_at_limit, with_tasks}
-use Rattle.rk_settle.specs.Exchange.{hand_by, is_number_off, oldest_after, sent_after, sort_tasks}
-use Rattle.rk_settle.specs.Priority.{hasten_phase, hasten_row, priority, wants_first}
-use Rattle.rk_settle.specs.Reaches.{is_short_of}
-use Rattle.rk_settle.specs.Rest.{is_at_rest}
-use Rattle.rk_settle.specs.Serve.{MOST_TRIES, ask_exchange, commit_tasks, hear_tasks, is_staged_by, request_by, serve_by, try_tasks, was_moved}
-use Rattle.rk_settle.specs.Settle.{empty_by, lane_numbers, lane_tasks, notice_by, settle, settling_tasks, turns_of, unnoticed}
-use Rattle.rk_settle.specs.Tasks.{asks, forgets, takes_turn, turn_exchange}
-use Rattle.rk_settle.specs.Unfolding.{unfolded}
-use Rattle.rk_settle.specs.declared.reach.Reach.{Reach}
-use Rattle.rk_settle.specs.declared.reach.Reach.TheVariants.{Begun, Finished, Frozen, Granted, Joined, Pulled}
+use Rattle.std.proofs.Common.{◌≡◌, ◌==◌, ℕ, zero, suc, Bool, true, false, List, [], ◌∷◌, filter, map, Option, None, Some, if◌then◌else◌}
+use Rattle.std.proofs.Common.{refl, subst, inr, slice_index_or, flat_map}
+use Rattle.rk_scripts.proofs.Words.{numbers, Call, Node, Traffic, number_at, row_of, Phase, Moving, Opening, Row, Role, known_owner}
+use Rattle.rk_scripts.proofs.Words.{looks_up, Session, Asks, Cluster, lane_at, session_at, World, live_masters, tablet_in}
+use Rattle.rk_scripts.proofs.Words.{is_lost_at_backup, is_client, deliver_in_makes, in_lane, clients_in, advance, advance_tasks, freeze_by}
+use Rattle.rk_scripts.proofs.Words.{reach_between, reach_phase, reach_row, reaches_to, is_at_limit, with_tasks, hand_by, is_number_off}
+use Rattle.rk_scripts.proofs.Words.{oldest_after, sent_after, sort_tasks, hasten_phase, hasten_row, priority, wants_first, is_short_of}
+use Rattle.rk_scripts.proofs.Words.{is_at_rest, ask_exchange, commit_tasks, hear_tasks, is_staged_by, request_by, serve_by, try_tasks}
+use Rattle.rk_scripts.proofs.Words.{was_moved, empty_by, lane_numbers, lane_tasks, notice_by, settle, turns_of, unnoticed, asks, forgets}
+use Rattle.rk_scripts.proofs.Words.{takes_turn, turn_exchange, unfolded, Reach, Begun, Finished, Frozen, Granted, Event}
+use Rattle.rk_settle.specs.Serve.{MOST_TRIES}
+use Rattle.rk_settle.specs.Settle.{settling_tasks}
+use Rattle.rk_scripts.proofs.settle.OwnTasks.{Each, Goes, IsOwn, Topic, deliver_own, each_own, joined_own, none_left, occurs, one_of_own}
+use Rattle.rk_scripts.proofs.settle.OwnTasks.{sorts, stays, unfolds, where_of_own, where_own}
 use Rattle.rk_scripts.proofs.settle.Tasks.{Task, begins, ends}
-use Rattle.rk_scripts.proofs.settle.OwnTasks.{Each, Goes, IsOwn, Topic, deliver_own, each_own, joined_own, none_left, occurs, one_of_own, sorts, stays, unfolds, where_of_own, where_own}
 
 -- ---- what tasks unfold into
 
@@ -70,11 +48,11 @@ module _ (n : ℕ) (all : AllOwn n) where
 
   forgotten : (lane number : ℕ) → Later (forgets lane number)
   forgotten lane number course fate rest own =
-      occurs (IsOwn n) course rest own (in_lane lane (events.Forget number) ∷ []) false (one_of_own (in_lane lane (events.Forget number)) tt)
+      occurs (IsOwn n) course rest own (in_lane lane (Event.Forget number) ∷ []) false (one_of_own (in_lane lane (Event.Forget number)) tt)
 
   turned : (lane : ℕ) (node : Node) → Later (takes_turn lane node)
   turned lane node course fate rest own =
-      occurs (IsOwn n) course rest own (in_lane lane (events.Turn node) ∷ []) false (one_of_own (in_lane lane (events.Turn node)) tt)
+      occurs (IsOwn n) course rest own (in_lane lane (Event.Turn node) ∷ []) false (one_of_own (in_lane lane (Event.Turn node)) tt)
 
   asks_once : (lane client : ℕ) → Later (asks lane client)
   asks_once lane client course fate rest own =
@@ -146,7 +124,7 @@ module _ (n : ℕ) (all : AllOwn n) where
   next_noticed lane None = tt
   next_noticed lane (Some master) = (
     λ course fate rest own.
-        occurs (IsOwn n) course rest own (in_lane lane (events.Notice master) ∷ []) false (one_of_own (in_lane lane (events.Notice master)) tt),
+        occurs (IsOwn n) course rest own (in_lane lane (Event.Notice master) ∷ []) false (one_of_own (in_lane lane (Event.Notice master)) tt),
     (λ course fate rest own. unfolds (IsOwn n) course rest own _ (all.noticed lane (unnoticed (lane_at course.cluster lane))), tt),
   )
 
@@ -169,7 +147,7 @@ module _ (n : ℕ) (all : AllOwn n) where
   next_turns : (lane : ℕ) (clients live : List ℕ) → Each Later (turns_of lane clients live)
   next_turns lane clients live =
       joined_own Later (map (asks lane) clients) _ (each_own Later (asks lane) clients (asks_once lane))
-      (turned lane nodes.Coordinator, each_own Later (λ (master : ℕ). takes_turn lane (nodes.Master master)) live (λ master. turned lane (nodes.Master master)))
+      (turned lane Node.Coordinator, each_own Later (λ (master : ℕ). takes_turn lane (Node.Master master)) live (λ master. turned lane (Node.Master master)))
 
   next_emptied : (lane : ℕ) (found : Option ℕ) → Each Later (empty_by lane found)
   next_emptied lane None = tt
@@ -217,7 +195,7 @@ module _ (n : ℕ) (all : AllOwn n) where
       where_own Later (is_staged_by w client asked session.outstanding) _ [] (
         begun,
         (
-          exchanges lane _ (nodes.Master asked),
+          exchanges lane _ (Node.Master asked),
           (
             ended,
             (
@@ -234,7 +212,7 @@ module _ (n : ℕ) (all : AllOwn n) where
 
   next_hastened_by : (w : World) (lane tablet : ℕ) (phase : Phase) → Each Later (hasten_phase w lane tablet phase)
   next_hastened_by w lane tablet (Moving source sfrom target dfrom) =
-      where_own Later (wants_first (tablet_in w target tablet)) _ [] (exchanges lane _ (nodes.Master target), tt) tt
+      where_own Later (wants_first (tablet_in w target tablet)) _ [] (exchanges lane _ (Node.Master target), tt) tt
   next_hastened_by w lane tablet phase = tt
 
   next_hastened : (w : World) (lane tablet : ℕ) (found : Option Row) → Each Later (hasten_row w lane tablet found)
@@ -242,60 +220,40 @@ module _ (n : ℕ) (all : AllOwn n) where
   next_hastened w lane tablet (Some row) = next_hastened_by w lane tablet row.phase
 
   next_advanced : (w : World) (lane tablet : ℕ) (reach : Reach) → Each Later (advance_tasks w lane tablet reach)
-  next_advanced w lane tablet reach =
-      where_own Later (is_short_of w tablet reach) _ []
-      (each_own Later _ (reaches_to reach)
-      (λ (other : Reach). λ course fate rest own.
-      unfolds (IsOwn n) course rest own _
+  next_advanced w lane tablet reach = where_own Later (is_short_of w tablet reach) _ []
+      (each_own Later _ (reaches_to reach) (λ (other : Reach). λ course fate rest own. unfolds (IsOwn n) course rest own _
       (where_own (IsOwn n) (is_short_of (lane_at course.cluster lane) tablet other) _ []
       (all.reached lane tablet (row_of (lane_at course.cluster lane).coordinator.rows tablet) other) tt)))
       tt
 
   next_brought : (lane tablet : ℕ) (opening : Bool) (source target : ℕ) (reach : Reach) → Each Later (reach_between lane tablet opening source target reach)
-  next_brought lane tablet opening source target Begun = (exchanges lane _ nodes.Coordinator, tt)
+  next_brought lane tablet opening source target Begun = (exchanges lane _ Node.Coordinator, tt)
   next_brought lane tablet opening source target Frozen = (
-    exchanges lane _ nodes.Coordinator,
+    exchanges lane _ Node.Coordinator,
     (
       λ course fate rest own.
           unfolds (IsOwn n) course rest own _ (all.frozen lane tablet source (tablet_in (lane_at course.cluster lane) source tablet).handover.role),
       tt,
     ),
   )
-  next_brought lane tablet true source target Granted = (exchanges lane _ nodes.Coordinator, (exchanges lane _ nodes.Coordinator, tt))
-  next_brought lane tablet false source target Granted = (exchanges lane _ nodes.Coordinator, tt)
-  next_brought lane tablet opening source target Pulled = (
+  next_brought lane tablet true source target Granted = (exchanges lane _ Node.Coordinator, (exchanges lane _ Node.Coordinator, tt))
+  next_brought lane tablet false source target Granted = (exchanges lane _ Node.Coordinator, tt)
+  next_brought lane tablet opening source target Finished = (exchanges lane _ (Node.Master target), tt)
+  next_brought lane tablet opening source target reach = (
     begun,
     (
-      exchanges lane _ (nodes.Master target),
+      exchanges lane _ (Node.Master target),
       (
         ended,
         (
           λ course fate rest own.
-              unfolds (IsOwn n) course rest own _
-              (where_own (IsOwn n) (is_short_of (lane_at course.cluster lane) tablet Pulled) _ []
-              (all.reached lane tablet (row_of (lane_at course.cluster lane).coordinator.rows tablet) Pulled) tt),
+              unfolds (IsOwn n) course rest own _ (where_own (IsOwn n) (is_short_of (lane_at course.cluster lane) tablet reach) _
+              [] (all.reached lane tablet (row_of (lane_at course.cluster lane).coordinator.rows tablet) reach) tt),
           tt,
         ),
       ),
     ),
   )
-  next_brought lane tablet opening source target Joined = (
-    begun,
-    (
-      exchanges lane _ (nodes.Master target),
-      (
-        ended,
-        (
-          λ course fate rest own.
-              unfolds (IsOwn n) course rest own _
-              (where_own (IsOwn n) (is_short_of (lane_at course.cluster lane) tablet Joined) _ []
-              (all.reached lane tablet (row_of (lane_at course.cluster lane).coordinator.rows tablet) Joined) tt),
-          tt,
-        ),
-      ),
-    ),
-  )
-  next_brought lane tablet opening source target Finished = (exchanges lane _ (nodes.Master target), tt)
 
   next_phased : (lane tablet : ℕ) (phase : Phase) (reach : Reach) → Each Later (reach_phase lane tablet phase reach)
   next_phased lane tablet (Opening source sfrom target dfrom) reach = next_brought lane tablet true source target reach
@@ -307,10 +265,10 @@ module _ (n : ℕ) (all : AllOwn n) where
   next_reached lane tablet (Some row) reach = next_phased lane tablet row.phase reach
 
   next_frozen : (lane tablet source : ℕ) (role : Role) → Each Later (freeze_by lane tablet source role)
-  next_frozen lane tablet source roles.Closing = (
+  next_frozen lane tablet source Role.Closing = (
     begun,
     (
-      exchanges lane _ (nodes.Master source),
+      exchanges lane _ (Node.Master source),
       (
         ended,
         (
@@ -331,19 +289,16 @@ module _ (n : ℕ) (all : AllOwn n) where
       (λ course fate rest own. unfolds (IsOwn n) course rest own _ (all.tried (session_at course.cluster client) _ client 1), tt)
 
   next_advances : (cluster : Cluster) (tablet : ℕ) (reach : Reach) → Each Later (advance cluster tablet reach)
-  next_advances cluster tablet reach =
-      each_own Later _ (lane_numbers cluster)
+  next_advances cluster tablet reach = each_own Later _ (lane_numbers cluster)
       (λ (lane : ℕ). λ course fate rest own. unfolds (IsOwn n) course rest own _ (all.advanced (lane_at course.cluster lane) lane tablet reach))
 
   next_hastens : (cluster : Cluster) (tablet : ℕ) → Each Later (priority cluster tablet)
-  next_hastens cluster tablet =
-      each_own Later _ (lane_numbers cluster)
+  next_hastens cluster tablet = each_own Later _ (lane_numbers cluster)
       (λ (lane : ℕ). λ course fate rest own.
       unfolds (IsOwn n) course rest own _ (all.hastened (lane_at course.cluster lane) lane tablet (row_of (lane_at course.cluster lane).coordinator.rows tablet)))
 
   next_settles : (cluster : Cluster) → Each Later (settle cluster)
-  next_settles cluster =
-      joined_own Later _ _
+  next_settles cluster = joined_own Later _ _
       (each_own Later _ (lane_numbers cluster)
       (λ (lane : ℕ). λ course fate rest own. unfolds (IsOwn n) course rest own _ (all.noticed lane (unnoticed (lane_at course.cluster lane)))))
       (λ course fate rest own. unfolds (IsOwn n) course rest own _ (all.settled course.cluster), tt)

@@ -1,26 +1,12 @@
 -- `advance` ends where it is not refused.
-use Rattle.std.proofs.Common.{◌≡◌, ◌<◌, ◌≤◌, ◌+◌, ◌==◌, ◌||◌, ℕ, zero, suc, Bool, true, false, not, nat_le, List, [], ◌∷◌, length, map, Option, None, Some, refl, sym, ap, subst, ◌∙◌, inl, inr, arith}
-use Rattle.std.specs.List.{list_any, range_with_len}
-use Rattle.std.proofs.lemmas.Bool.{eqb-true, false≢true, true≢false}
-use Rattle.std.proofs.lemmas.Option.{none-some}
-use Rattle.rk_types.specs.declared.hashing.TheConstants.{LANES}
-use Rattle.rk_tablet_map.specs.Rows.{row_of}
-use Rattle.rk_tablet_map.specs.declared.phase.Phase.{Phase}
-use Rattle.rk_tablet_map.specs.declared.phase.Phase.TheVariants.{Owned, Opening, Moving, Rebuilding}
-use Rattle.rk_tablet_map.specs.declared.row.Row.{Row}
-use Rattle.rk_world.specs.Cluster.{Cluster, lane_at}
-use Rattle.rk_world.specs.World.{World, has_crashed}
-use Rattle.rk_cluster.specs.Codes.{code_where, first_code}
-use Rattle.rk_cluster.specs.Looks.{all_lanes, is_tablet}
-use Rattle.rk_cluster.specs.declared.code.Code.{Code}
-use Rattle.rk_cluster.specs.declared.code.Code.TheVariants.{Crashed, NotMigrating, Unknown}
-use Rattle.rk_settle.specs.Advance.{advance}
-use Rattle.rk_settle.specs.Codes.{advance_code, has_dead_migration, has_dead_party, is_dead_migration, short_lanes}
-use Rattle.rk_settle.specs.Course.{Course, course_of}
-use Rattle.rk_settle.specs.Reaches.{is_short_of}
-use Rattle.rk_settle.proofs.Unfolded.{advance_are}
+use Rattle.std.proofs.Common.{◌≡◌, ◌<◌, ◌≤◌, ◌+◌, ◌==◌, ◌||◌, ℕ, zero, suc, Bool, true, false, not, nat_le, List, [], ◌∷◌, length, map}
+use Rattle.std.proofs.Common.{Option, None, Some, refl, sym, ap, subst, ◌∙◌, inl, inr, arith, eqb-true, true≢false}
+use Rattle.rk_scripts.proofs.Words.{list_any, range_with_len, false≢true, none-some, LANES, row_of, Phase, Opening, Moving, Row, Cluster}
+use Rattle.rk_scripts.proofs.Words.{lane_at, World, has_crashed, code_where, first_code, all_lanes, is_tablet, Code, Crashed, Unknown}
+use Rattle.rk_scripts.proofs.Words.{advance, advance_code, Course, course_of, is_short_of, advance_are, EndsUnlessRefused}
+use Rattle.rk_cluster.specs.declared.code.Code.TheVariants.{NotMigrating}
+use Rattle.rk_settle.specs.Codes.{has_dead_migration, has_dead_party, is_dead_migration, short_lanes}
 use Rattle.rk_scripts.proofs.play.Reaching.{reached_eight}
-use Rattle.rk_scripts.specs.settle.Moves.{EndsUnlessRefused}
 use Rattle.rk_scripts.proofs.settle.Advancing.{advancing}
 use Rattle.rk_scripts.proofs.settle.ExchangeTasks.{Reach, advances}
 use Rattle.rk_scripts.proofs.settle.Finishing.{ends_unless}
@@ -49,8 +35,6 @@ party_lives tablet w (Some row) is alive = go row.phase refl alive
     none phase at still = inl (ap migrates_by is ∙ (ap migrates at ∙ still))
 
     go : (phase : Phase) → row.phase ≡ phase → has_dead_party w phase ≡ false → First tablet w
-    go (Owned master from) at alive = none (Owned master from) at refl
-    go (Rebuilding lineage to) at alive = none (Rebuilding lineage to) at refl
     go (Opening source sfrom target dfrom) at alive =
         let each = neither (has_crashed w source) (has_crashed w target) alive in
         inr
@@ -75,6 +59,7 @@ party_lives tablet w (Some row) is alive = go row.phase refl alive
           dfrom = dfrom;
           there = record { found = is; phase_is = at; source_lives = each.0; target_lives = each.1 };
         }))
+    go phase at alive = none phase at refl
 
 -- where no code applies, the last one does not
 last_none : (a b c : Option Code) → first_code (a ∷ b ∷ c ∷ []) ≡ None → c ≡ None
@@ -106,9 +91,8 @@ module _ (cluster : Cluster) (tablet : ℕ) (reach : Reach) (eight : length clus
       where_none (has_dead_migration cluster lanes tablet) Crashed
       (last_none (code_where (not (is_tablet cluster tablet)) Unknown) (code_where (nat_le (length lanes) 0) NotMigrating)
       (code_where (has_dead_migration cluster lanes tablet) Crashed) allowed) in
-      let there : is_in lane lanes ≡ true =
-      is_in_filtered (λ (q : ℕ). is_short_of (lane_at cluster q) tablet reach) (all_lanes cluster) lane
-      (in_range 0 (length cluster.lanes) lane (omega arith) (omega (arith, inside, eight))) short in
+      let there : is_in lane lanes ≡ true = is_in_filtered (λ (q : ℕ). is_short_of (lane_at cluster q) tablet reach)
+      (all_lanes cluster) lane (in_range 0 (length cluster.lanes) lane (omega arith) (omega (arith, inside, eight))) short in
       party_lives tablet (lane_at cluster lane) (row_of (lane_at cluster lane).coordinator.rows tablet) refl
       (any_none (λ (q : ℕ). is_dead_migration (lane_at cluster q) (row_of (lane_at cluster q).coordinator.rows tablet)) lanes lane alive there)
 
@@ -127,8 +111,7 @@ module _ (s : Setting) (tablet : ℕ) (reach : Reach) (first : (lane : ℕ) → 
       goes_on s before course (IsLaneNow from course.cluster rest (λ w. Unit {0})) Never
       (advancing s from inside course.cluster tablet reach rest before course comes are (λ q apart. refl)
       (subst (λ (w : World). is_short_of w tablet reach ≡ true → First tablet w) (sym here) (first from inside)))
-      (λ later comes_later now.
-      lanes_advance count (from + 1) (omega (arith, all)) before later comes_later now.left
+      (λ later comes_later now. lanes_advance count (from + 1) (omega (arith, all)) before later comes_later now.left
       (λ q above. now.beside q (λ is. omega (arith, above, is)) ∙ same q (omega (arith, above))))
 
   advanced : IsSane s (course_of s.start (advance s.start tablet reach)) → Goes s s.start (course_of s.start (advance s.start tablet reach)) Never

@@ -1,32 +1,24 @@
 -- `advance` ends where it is not refused: in each lane where the migration is short of the reach its source and its target live, and it is
 -- brought from reach to reach.
-use Rattle.std.proofs.Common.{◌≡◌, ◌<◌, ◌+◌, ℕ, Bool, true, false, cond, not, List, [], ◌∷◌, ◌++◌, map, Option, None, Some, refl, sym, ap, subst, ◌∙◌, inl, inr, ⊎_elim, arith}
-use Rattle.std.specs.Prelude.{◌⊎◌}
-use Rattle.rk_types.specs.declared.hashing.TheConstants.{LANES}
-use Rattle.rk_tablet_map.specs.declared.phase.Phase.{Phase}
-use Rattle.rk_tablet_map.specs.declared.phase.Phase.TheVariants.{Opening, Moving}
-use Rattle.rk_tablet_map.specs.declared.row.Row.{Row}
+use Rattle.std.proofs.Common.{◌≡◌, ◌<◌, ◌+◌, ℕ, Bool, true, false, cond, not, List, [], ◌∷◌, ◌++◌, map, Option, None, Some, refl, sym, ap}
+use Rattle.std.proofs.Common.{subst, ◌∙◌, inl, inr, ⊎_elim, arith, ◌⊎◌}
+use Rattle.rk_scripts.proofs.Words.{LANES, Phase, Opening, Moving, Row, Cluster, lane_at, World, tablet_in, reach_phase, Course, is_joining}
+use Rattle.rk_scripts.proofs.Words.{is_short_of, is_source_frozen, is_target, Begun, Frozen, Granted, Pulled, Joined, Finished}
+use Rattle.rk_scripts.proofs.Words.{advance_tasks, reaches_to, Role}
 use Rattle.rk_tablet_map.proofs.Lawful.{number_of}
-use Rattle.rk_transfer.specs.declared.role.Role.TheVariants as roles
-use Rattle.rk_world.specs.Cluster.{Cluster, lane_at}
-use Rattle.rk_world.specs.World.{World, tablet_in}
-use Rattle.rk_settle.specs.Advance.{reach_phase}
-use Rattle.rk_settle.specs.Course.{Course}
-use Rattle.rk_settle.specs.Reaches.{is_joining, is_short_of, is_source_frozen, is_target}
-use Rattle.rk_settle.specs.declared.reach.Reach.TheVariants.{Begun, Frozen, Granted, Pulled, Joined, Finished}
-use Rattle.rk_scripts.proofs.settle.ExchangeTasks.{Reach, reaches}
+use Rattle.rk_scripts.proofs.settle.ExchangeTasks.{Reach, reaches, advances}
 use Rattle.rk_scripts.proofs.settle.Going.{Comes, Goes, IsAt, goes_here, goes_on, still_move}
+use Rattle.rk_scripts.proofs.settle.Joined.{hands_it, joins_within, moving_granted, plain_exchanging, pulls_within}
 use Rattle.rk_scripts.proofs.settle.Lanes.{IsSameBeside}
+use Rattle.rk_scripts.proofs.settle.Migrated.{closes_it, moving_frozen}
+use Rattle.rk_scripts.proofs.settle.Migrating.{AfterBegun, AfterFrozen, AfterGranted, AfterPulled, First, HasGrant, HasNoMigration}
+use Rattle.rk_scripts.proofs.settle.Migrating.{HasPulled, IsBegun, IsFrozen, IsIn, IsMoving, IsOpening, makes_ready, no_tasks, skips}
+use Rattle.rk_scripts.proofs.settle.Migrating.{tasks_in, unfolds}
 use Rattle.rk_scripts.proofs.settle.Numbers.{sends_left}
 use Rattle.rk_scripts.proofs.settle.Ordering.{IsLaneNow}
 use Rattle.rk_scripts.proofs.settle.Setting.{Setting}
 use Rattle.rk_scripts.proofs.settle.Staging.{good_at}
 use Rattle.rk_scripts.proofs.settle.Tasks.{Task}
-use Rattle.rk_scripts.proofs.settle.Migrating.{AfterBegun, AfterFrozen, AfterGranted, AfterPulled, First, HasGrant, HasNoMigration, HasPulled, IsBegun, IsFrozen, IsIn, IsMoving, IsOpening, makes_ready, no_tasks, skips, tasks_in, unfolds}
-use Rattle.rk_scripts.proofs.settle.Migrated.{closes_it, moving_frozen}
-use Rattle.rk_settle.specs.Advance.{advance_tasks, reaches_to}
-use Rattle.rk_scripts.proofs.settle.ExchangeTasks.{advances}
-use Rattle.rk_scripts.proofs.settle.Joined.{hands_it, joins_within, moving_granted, plain_exchanging, pulls_within}
 
 module _ (s : Setting) (lane : ℕ) (inside : lane < LANES) (origin : Cluster) (tablet : ℕ) (rest : List Task) where
   -- a step of a migration: where this holds of its lane it comes to where that does
@@ -42,8 +34,7 @@ module _ (s : Setting) (lane : ℕ) (inside : lane < LANES) (origin : Cluster) (
   by_row : (reach : Reach) (Q : ℕ → World → Type 0) (row : Row) (phase : Phase) (source target : ℕ) (before : Cluster) (course : Course)
       → (course.tasks ≡ reaches lane row.tablet reach ∷ rest → IsIn row.tablet row phase source target (lane_at course.cluster lane) → Goes s before course (IsLaneNow lane origin rest (Q row.tablet)))
       → course.tasks ≡ reaches lane tablet reach ∷ rest → IsIn tablet row phase source target (lane_at course.cluster lane) → Goes s before course (IsLaneNow lane origin rest (Q tablet))
-  by_row reach Q row phase source target before course goes are there =
-      subst
+  by_row reach Q row phase source target before course goes are there = subst
       (λ (t : ℕ).
       course.tasks ≡ reaches lane t reach ∷ rest → IsIn t row phase source target (lane_at course.cluster lane) → Goes s before course (IsLaneNow lane origin rest (Q t)))
       (named_so row phase source target (lane_at course.cluster lane) there) goes are there
@@ -54,8 +45,7 @@ module _ (s : Setting) (lane : ℕ) (inside : lane < LANES) (origin : Cluster) (
       skips s lane inside origin rest Q tablet reach before course comes are beside (no_tasks (lane_at course.cluster lane) lane tablet reach none) holds
 
   step_begun : Step Begun (First tablet) (AfterBegun tablet)
-  step_begun before course comes are beside first =
-      ⊎_elim
+  step_begun before course comes are beside first = ⊎_elim
       (λ (none : HasNoMigration tablet w). skips_none Begun (AfterBegun tablet) before course comes are beside none (inl none))
       (λ (some : IsOpening tablet w ⊎ IsMoving tablet w).
       ⊎_elim (λ (o : IsOpening tablet w). opening o.row o.source o.sfrom o.target o.dfrom o.there)
@@ -79,8 +69,7 @@ module _ (s : Setting) (lane : ℕ) (inside : lane < LANES) (origin : Cluster) (
           (inr (inl (record { row = row; source = source; sfrom = sfrom; target = target; dfrom = dfrom; there = there })))
 
   step_frozen : Step Frozen (AfterBegun tablet) (AfterFrozen tablet)
-  step_frozen before course comes are beside begun =
-      ⊎_elim
+  step_frozen before course comes are beside begun = ⊎_elim
       (λ (none : HasNoMigration tablet w). skips_none Frozen (AfterFrozen tablet) before course comes are beside none (inl none))
       (λ (some : IsBegun tablet w ⊎ IsMoving tablet w).
       ⊎_elim
@@ -103,8 +92,7 @@ module _ (s : Setting) (lane : ℕ) (inside : lane < LANES) (origin : Cluster) (
       w = lane_at course.cluster lane
 
   step_granted : Step Granted (AfterFrozen tablet) (AfterGranted tablet)
-  step_granted before course comes are beside frozen =
-      ⊎_elim
+  step_granted before course comes are beside frozen = ⊎_elim
       (λ (none : HasNoMigration tablet w). skips_none Granted (AfterGranted tablet) before course comes are beside none (inl none))
       (λ (some : IsFrozen tablet w ⊎ IsMoving tablet w).
       ⊎_elim
@@ -113,7 +101,7 @@ module _ (s : Setting) (lane : ℕ) (inside : lane < LANES) (origin : Cluster) (
       subst
       (λ (t : ℕ).
       course.tasks ≡ reaches lane t Granted ∷ rest → IsIn t o.row (Opening o.source o.sfrom o.target (Some o.dfrom)) o.source o.target w
-      → (tablet_in w o.source t).handover.term ≡ o.row.term → (tablet_in w o.source t).handover.role ≡ roles.Frozen → Goes s before course (IsLaneNow lane origin rest (AfterGranted t)))
+      → (tablet_in w o.source t).handover.term ≡ o.row.term → (tablet_in w o.source t).handover.role ≡ Role.Frozen → Goes s before course (IsLaneNow lane origin rest (AfterGranted t)))
       (named_so o.row (Opening o.source o.sfrom o.target (Some o.dfrom)) o.source o.target w o.there)
       (λ a t term role. hands_it s lane inside origin rest o.row o.source o.sfrom o.target o.dfrom before course comes a beside t term role)
       are o.there f.closed.term f.role)
@@ -127,8 +115,7 @@ module _ (s : Setting) (lane : ℕ) (inside : lane < LANES) (origin : Cluster) (
       w = lane_at course.cluster lane
 
   step_pulled : Step Pulled (AfterGranted tablet) (AfterPulled tablet)
-  step_pulled before course comes are beside granted =
-      ⊎_elim
+  step_pulled before course comes are beside granted = ⊎_elim
       (λ (none : HasNoMigration tablet w). skips_none Pulled (AfterPulled tablet) before course comes are beside none (inl none))
       (λ (g : HasGrant tablet w).
       let m = g.moving in
@@ -146,8 +133,7 @@ module _ (s : Setting) (lane : ℕ) (inside : lane < LANES) (origin : Cluster) (
       w = lane_at course.cluster lane
 
   step_joined : Step Joined (AfterPulled tablet) (AfterPulled tablet)
-  step_joined before course comes are beside pulled =
-      ⊎_elim
+  step_joined before course comes are beside pulled = ⊎_elim
       (λ (none : HasNoMigration tablet w). skips_none Joined (AfterPulled tablet) before course comes are beside none (inl none))
       (λ (g : HasPulled tablet w).
       let m = g.moving in
@@ -170,8 +156,7 @@ module _ (s : Setting) (lane : ℕ) (inside : lane < LANES) (origin : Cluster) (
 
   step_finished : Step Finished (AfterPulled tablet) Anything
   step_finished before course comes are beside pulled =
-      ⊎_elim
-      (λ (none : HasNoMigration tablet w). skips_none Finished Anything before course comes are beside none tt)
+      ⊎_elim (λ (none : HasNoMigration tablet w). skips_none Finished Anything before course comes are beside none tt)
       (λ (g : HasPulled tablet w).
       let m = g.moving in
       let list : List Task = reach_phase lane tablet (Moving m.source m.sfrom m.target m.dfrom) Finished in

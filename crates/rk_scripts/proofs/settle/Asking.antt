@@ -1,27 +1,11 @@
 -- The first client with an outstanding call in a lane sends on its turn there.
-use Rattle.std.proofs.Common.{◌≡◌, ◌<◌, ◌≤◌, ℕ, Bool, true, false, cond, List, [], ◌∷◌, All, filter, Option, None, Some, is_some, refl, sym, ap, subst, ◌∙◌, arith}
-use Rattle.std.specs.Prelude.{Err, Ok, Result, unwrap_or}
-use Rattle.std.proofs.lemmas.Bool.{eqb-true, false≢true}
-use Rattle.std.proofs.lemmas.List.Elements.{All-filter, All-head, filter_passes}
-use Rattle.std.proofs.lemmas.Option.{none-some}
-use Rattle.rk_types.specs.NumberMap.{IsInOrder, NumberMap, get, numbers}
-use Rattle.rk_types.specs.declared.call.Call.{Call}
-use Rattle.rk_types.specs.declared.hashing.TheConstants.{LANES}
-use Rattle.rk_world.specs.declared.error.StepError.{StepError}
-use Rattle.rk_world.specs.Calls.{Visited, ask}
-use Rattle.rk_world.specs.Client.{Session, call_lane, new_session}
-use Rattle.rk_world.specs.Cluster.{Asks, Cluster, lane_at, session_at}
-use Rattle.rk_world.specs.Refusals.{worn}
-use Rattle.rk_world.specs.Runs.{world_visited}
-use Rattle.rk_world.specs.World.{World}
-use Rattle.rk_cluster.specs.Acted.{worn_by, worn_in}
-use Rattle.rk_cluster.specs.Looks.{is_client}
-use Rattle.rk_cluster.specs.Turns.{clients_in, is_call_in}
-use Rattle.rk_settle.specs.Course.{Course, occurrence_error, occurring}
-use Rattle.rk_settle.specs.Tasks.{asks}
-use Rattle.rk_inv_wellformed.proofs.maps.Maps.{All_pairs}
-use Rattle.rk_runs.proofs.history.Runs.{Lasts}
-use Rattle.rk_runs.proofs.duties.Adding.{added_after}
+use Rattle.std.proofs.Common.{◌≡◌, ◌<◌, ◌≤◌, ℕ, Bool, true, false, cond, List, [], ◌∷◌, All, filter, Option, None, Some, is_some, refl, sym}
+use Rattle.std.proofs.Common.{ap, subst, ◌∙◌, arith, Err, Ok, Result, unwrap_or, eqb-true}
+use Rattle.rk_scripts.proofs.Words.{false≢true, All-filter, All-head, filter_passes, none-some, IsInOrder, NumberMap, get, numbers, Call}
+use Rattle.rk_scripts.proofs.Words.{LANES, StepError, Visited, ask, Session, call_lane, new_session, Asks, Cluster, lane_at, session_at}
+use Rattle.rk_scripts.proofs.Words.{worn, world_visited, World, worn_in, is_client, clients_in, is_call_in, Course, occurrence_error}
+use Rattle.rk_scripts.proofs.Words.{occurring, asks, All_pairs, Lasts, added_after}
+use Rattle.rk_cluster.specs.Acted.{worn_by}
 use Rattle.rk_runs.proofs.duties.Asking.{client_sends, client_worn}
 use Rattle.rk_scripts.proofs.play.Reaching.{reached_good}
 use Rattle.rk_scripts.proofs.settle.Delivering.{has_session}
@@ -48,8 +32,7 @@ pub record HasCall (sessions : NumberMap Session) (lane client : ℕ) : Type 0 w
 -- so has each that is found to have one
 pub first_has_call : (sessions : NumberMap Session) (lane client : ℕ) (clients : List ℕ) → IsInOrder sessions → clients_in lane sessions ≡ client ∷ clients
     → HasCall sessions lane client
-first_has_call sessions lane client clients order is =
-    go (filter test sessions)
+first_has_call sessions lane client clients order is = go (filter test sessions)
     (All-filter test (λ (entry : ℕ × Session). get sessions entry.0 ≡ Some entry.1) sessions
     (All_pairs (λ (number : ℕ) (session : Session). get sessions number ≡ Some session) sessions order (λ number session found. found)))
     (filter_passes test sessions) is
@@ -69,8 +52,7 @@ first_has_call sessions lane client clients order is =
         let one : first.0 ≡ client = cc same in
         by_call first.1
         (subst (λ (number : ℕ). get sessions number ≡ Some first.1) one (All-head (λ (entry : ℕ × Session). get sessions entry.0 ≡ Some entry.1) first rest there))
-        first.1.outstanding refl
-        (All-head (λ (entry : ℕ × Session). is_call_in lane entry.1.outstanding ≡ true) first rest passes)
+        first.1.outstanding refl (All-head (λ (entry : ℕ × Session). is_call_in lane entry.1.outstanding ≡ true) first rest passes)
 
 -- ---- its turn
 
@@ -124,8 +106,7 @@ module _ (s : Setting) (lane : ℕ) (inside : lane < LANES) where
       (added_after course.cluster (Asks lane client) (has_session course.cluster client there) comes.sane.added)
       (λ next at fresh. record {
         left = at.tasks_are;
-        changes =
-            subst (ChangesLane lane (world_visited w (ask w session)) course.cluster) (sym at.cluster_is)
+        changes = subst (ChangesLane lane (world_visited w (ask w session)) course.cluster) (sym at.cluster_is)
             (visited_changes course.cluster lane (omega (arith, inside, eight s course comes.sane)) client (ask w session));
         fresh = fresh_turn w session fresh;
         more = sends_more course client comes.sane has fresh;

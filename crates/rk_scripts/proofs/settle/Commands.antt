@@ -1,37 +1,15 @@
 -- Each client with a session was added in each lane after a command of a script too; and where the run does not stop at it, the clients of
 -- each lane are those with sessions.
-use Rattle.std.proofs.Common.{◌≡◌, ◌++◌, ◌==◌, ◌+◌, ℕ, true, false, List, [], ◌∷◌, map, length, All, Option, None, Some, if◌then◌else◌, refl}
-use Rattle.std.specs.List.{flat_map}
-use Rattle.std.proofs.lemmas.List.Elements.{All-append, All-cons, All-nil}
-use Rattle.rk_types.specs.declared.call.Call.{Call}
-use Rattle.rk_types.specs.declared.node.Node.TheVariants as nodes
-use Rattle.rk_message.specs.Wire.{number_at}
-use Rattle.rk_message.specs.declared.message.Message.{Message}
-use Rattle.rk_world.specs.Client.{Session, call_lane}
-use Rattle.rk_world.specs.Cluster.{Asks, Calls, Cluster, Joins, Occurrence, lane_at, session_at}
-use Rattle.rk_world.specs.Master.{Master}
-use Rattle.rk_world.specs.World.{live_masters}
-use Rattle.rk_world.specs.declared.event.Event.{Event}
-use Rattle.rk_world.specs.declared.event.Event.TheVariants as events
-use Rattle.rk_cluster.specs.Acted.{Acted, acted, all_acted, going_on}
+use Rattle.std.proofs.Common.{◌≡◌, ◌++◌, ◌==◌, ◌+◌, ℕ, true, false, List, [], ◌∷◌, map, length, All, Option, None, Some, if◌then◌else◌}
+use Rattle.std.proofs.Common.{refl, flat_map}
+use Rattle.rk_scripts.proofs.Words.{All-append, All-cons, All-nil, Call, number_at, Message, Session, call_lane, Asks, Calls, Cluster}
+use Rattle.rk_scripts.proofs.Words.{Joins, Occurrence, lane_at, session_at, Master, live_masters, Event, Acted, acted, all_acted, going_on}
+use Rattle.rk_scripts.proofs.Words.{all_lanes, lanes_without, Fate, Code, Limit, advance, advance_code, priority_code, serve_code, Course}
+use Rattle.rk_scripts.proofs.Words.{course_of, moved_all, priority, serve, settle, Command, Effect, carried, carried_by, effect}
+use Rattle.rk_scripts.proofs.Words.{effect_within, is_full, only_fate, reach_of, refused_by, settled, settled_by, shown, dump_code}
+use Rattle.rk_scripts.proofs.Words.{dump_text, where_code, where_text, AreAdded, added_after, Node}
 use Rattle.rk_cluster.specs.Codes as codes
-use Rattle.rk_cluster.specs.Looks.{all_lanes, lanes_without}
 use Rattle.rk_cluster.specs.Makes as makes
-use Rattle.rk_cluster.specs.Replicas.{Fate}
-use Rattle.rk_cluster.specs.declared.code.Code.{Code}
-use Rattle.rk_cluster.specs.declared.code.Code.TheVariants.{Limit}
-use Rattle.rk_settle.specs.Advance.{advance}
-use Rattle.rk_settle.specs.Codes.{advance_code, priority_code, serve_code}
-use Rattle.rk_settle.specs.Course.{Course, course_of, moved_all}
-use Rattle.rk_settle.specs.Priority.{priority}
-use Rattle.rk_settle.specs.Serve.{serve}
-use Rattle.rk_settle.specs.Settle.{settle}
-use Rattle.rk_script.specs.declared.command.Command.{Command}
-use Rattle.rk_script.specs.declared.command.Command.TheVariants as commands
-use Rattle.rk_play.specs.Effects.{Effect, carried, carried_by, effect, effect_within, is_full, only_fate, reach_of, refused_by, settled, settled_by, shown}
-use Rattle.rk_play.specs.Shows.{dump_code, dump_text, where_code, where_text}
-use Rattle.rk_runs.specs.duties.Added.{AreAdded}
-use Rattle.rk_runs.proofs.duties.Adding.{added_after}
 use Rattle.rk_scripts.proofs.settle.Joining.{client_own}
 use Rattle.rk_scripts.proofs.settle.OwnClients.{AddsNobody}
 use Rattle.rk_scripts.proofs.settle.OwnCourses.{advance_own, moves_own, priority_own, serve_own, settle_own}
@@ -51,7 +29,7 @@ placed_of_own cluster lane fate (Some number) = deliver_own cluster lane number 
 
 forgotten_of_own : (lane : ℕ) (found : Option ℕ) → All IsOfOwn (makes.forget_by lane found)
 forgotten_of_own lane None = All-nil IsOfOwn
-forgotten_of_own lane (Some number) = one_of_own (makes.in_lane lane (events.Forget number)) tt
+forgotten_of_own lane (Some number) = one_of_own (makes.in_lane lane (Event.Forget number)) tt
 
 asks_of_own : (lane client : ℕ) (call : Option Call) → All IsOfOwn (makes.asks_by lane client call)
 asks_of_own lane client None = All-nil IsOfOwn
@@ -63,17 +41,16 @@ all_ask_of_own lane (entry ∷ sessions) =
     All-append IsOfOwn (makes.asks_in lane entry.0 entry.1) (flat_map (λ other. makes.asks_in lane other.0 other.1) sessions)
     (asks_of_own lane entry.0 entry.1.outstanding) (all_ask_of_own lane sessions)
 
-masters_of_own : (lane : ℕ) (masters : List (ℕ × Master)) → All IsOfOwn (map (λ entry. makes.in_lane lane (events.Turn (nodes.Master entry.0))) masters)
+masters_of_own : (lane : ℕ) (masters : List (ℕ × Master)) → All IsOfOwn (map (λ entry. makes.in_lane lane (Event.Turn (Node.Master entry.0))) masters)
 masters_of_own lane [] = All-nil IsOfOwn
-masters_of_own lane (entry ∷ masters) =
-    All-cons IsOfOwn (makes.in_lane lane (events.Turn (nodes.Master entry.0)))
-    (map (λ other. makes.in_lane lane (events.Turn (nodes.Master other.0))) masters) tt (masters_of_own lane masters)
+masters_of_own lane (entry ∷ masters) = All-cons IsOfOwn (makes.in_lane lane (Event.Turn (Node.Master entry.0)))
+    (map (λ other. makes.in_lane lane (Event.Turn (Node.Master other.0))) masters) tt (masters_of_own lane masters)
 
 turn_of_own : (cluster : Cluster) (lane : ℕ) → All IsOfOwn (makes.turn_makes cluster lane)
 turn_of_own cluster lane =
     let live = live_masters (lane_at cluster lane) in
-    let masters = map (λ (entry : ℕ × Master). makes.in_lane lane (events.Turn (nodes.Master entry.0))) live in
-    let coordinator = makes.in_lane lane (events.Turn nodes.Coordinator) in
+    let masters = map (λ (entry : ℕ × Master). makes.in_lane lane (Event.Turn (Node.Master entry.0))) live in
+    let coordinator = makes.in_lane lane (Event.Turn Node.Coordinator) in
     All-append IsOfOwn (flat_map (λ entry. makes.asks_in lane entry.0 entry.1) cluster.sessions) (coordinator ∷ masters)
     (all_ask_of_own lane cluster.sessions) (All-cons IsOfOwn coordinator masters tt (masters_of_own lane live))
 
@@ -82,9 +59,9 @@ again_of_own cluster client None = All-nil IsOfOwn
 again_of_own cluster client (Some message) =
     let lane = makes.request_lane message.body in
     let number = (lane_at cluster lane).wire.sent + 1 in
-    let again = makes.in_lane lane (events.Again client) in
-    let deliver = makes.in_lane lane (events.Deliver number) in
-    let forget = makes.in_lane lane (events.Forget number) in
+    let again = makes.in_lane lane (Event.Again client) in
+    let deliver = makes.in_lane lane (Event.Deliver number) in
+    let forget = makes.in_lane lane (Event.Forget number) in
     All-cons IsOfOwn again (deliver ∷ forget ∷ []) tt (All-cons IsOfOwn deliver (forget ∷ []) tt (one_of_own forget tt))
 
 -- ---- what commands leave
@@ -105,13 +82,13 @@ worn_by_first first later None number added rest is = rest is
 worn_by_first first later (Some other) number added rest is = added
 
 worn_added : (client : ℕ) (lanes : List ℕ) (cluster : Cluster) (number : ℕ) → AreAdded cluster
-    → (all_acted cluster (makes.in_lanes lanes (events.AddClient client) ++ Joins client ∷ [])).worn ≡ Some number
-    → AreAdded (all_acted cluster (makes.in_lanes lanes (events.AddClient client) ++ Joins client ∷ [])).cluster
+    → (all_acted cluster (makes.in_lanes lanes (Event.AddClient client) ++ Joins client ∷ [])).worn ≡ Some number
+    → AreAdded (all_acted cluster (makes.in_lanes lanes (Event.AddClient client) ++ Joins client ∷ [])).cluster
 worn_added client [] cluster number added is = absurd (cc is)
 worn_added client (lane ∷ lanes) cluster number added is =
-    let come : Occurrence = makes.in_lane lane (events.AddClient client) in
+    let come : Occurrence = makes.in_lane lane (Event.AddClient client) in
     let here : AreAdded (acted cluster come).cluster = added_after cluster come tt added in
-    worn_by_first (acted cluster come) (makes.in_lanes lanes (events.AddClient client) ++ Joins client ∷ []) (acted cluster come).worn number here
+    worn_by_first (acted cluster come) (makes.in_lanes lanes (Event.AddClient client) ++ Joins client ∷ []) (acted cluster come).worn number here
     (λ worn. worn_added client lanes (acted cluster come).cluster number here worn) is
 
 -- ---- kinds of commands
@@ -138,8 +115,7 @@ module _ (cluster : Cluster) (own : HasOwnClients cluster) where
 
   joined_own : (client : ℕ) (code : Option Code) → codes.client_code cluster client ≡ code → Leaves (carried cluster code (makes.client_makes cluster client))
   joined_own client (Some code) is = leaves (carried cluster (Some code) (makes.client_makes cluster client)) own
-  joined_own client None is =
-      joined_by_worn client (all_acted cluster (makes.client_makes cluster client)).worn refl is
+  joined_own client None is = joined_by_worn client (all_acted cluster (makes.client_makes cluster client)).worn refl is
 
   settled_by_own : {Task : Type 0} (course : Course) (left : List Task) → HasOwnClients course.cluster → HasOwnClients (settled_by course left).cluster
   settled_by_own course [] after = after
@@ -158,50 +134,46 @@ module _ (cluster : Cluster) (own : HasOwnClients cluster) where
   -- ---- each command
 
   effect_own : (command : Command) (fates : List Fate) → Leaves (effect cluster command fates)
-  effect_own (commands.Masters masters) fates = leaves (effect cluster (commands.Masters masters) fates) own
-  effect_own (commands.Backups backups) fates = leaves (effect cluster (commands.Backups backups) fates) own
-  effect_own (commands.Table table master) fates =
+  effect_own (Command.Table table master) fates =
       carried_own (codes.table_code cluster table master) (makes.table_makes cluster table master)
-      (lanes_of_own (all_lanes cluster) (events.AddTablet (makes.next_tablet cluster) (makes.whole_table table) master) tt)
-  effect_own (commands.Client client) fates = joined_own client (codes.client_code cluster client) refl
-  effect_own (commands.Call client table key op) fates =
+      (lanes_of_own (all_lanes cluster) (Event.AddTablet (makes.next_tablet cluster) (makes.whole_table table) master) tt)
+  effect_own (Command.Client client) fates = joined_own client (codes.client_code cluster client) refl
+  effect_own (Command.Call client table key op) fates =
       carried_own (codes.call_code cluster client table) (makes.call_makes client table key op) (one_of_own (Calls client table key op) tt)
-  effect_own (commands.Serve client) fates =
+  effect_own (Command.Serve client) fates =
       settled_own (serve_code cluster client) (moved_all (course_of cluster (serve cluster client)) fates)
       (moves_own fates (course_of cluster (serve cluster client))
       (record { own = own; left = serve_own (length fates) client (session_at cluster client).outstanding }))
-  effect_own (commands.Repeat client) fates =
+  effect_own (Command.Repeat client) fates =
       carried_own (codes.again_code cluster client) (makes.again_makes cluster client) (again_of_own cluster client (session_at cluster client).request)
-  effect_own (commands.Migrate tablet master) fates =
+  effect_own (Command.Migrate tablet master) fates =
       carried_own (codes.migrate_code cluster tablet master) (makes.migrate_makes cluster tablet master)
-      (lanes_of_own (lanes_without cluster tablet master) (events.Migrate tablet master) tt)
-  effect_own (commands.Advance tablet reach) fates =
+      (lanes_of_own (lanes_without cluster tablet master) (Event.Migrate tablet master) tt)
+  effect_own (Command.Advance tablet reach) fates =
       settled_own (advance_code cluster tablet (reach_of reach)) (moved_all (course_of cluster (advance cluster tablet (reach_of reach))) fates)
       (moves_own fates (course_of cluster (advance cluster tablet (reach_of reach)))
       (record { own = own; left = advance_own (length fates) cluster tablet (reach_of reach) }))
-  effect_own (commands.Priority tablet) fates =
+  effect_own (Command.Priority tablet) fates =
       settled_own (priority_code cluster tablet) (moved_all (course_of cluster (priority cluster tablet)) fates)
       (moves_own fates (course_of cluster (priority cluster tablet)) (record { own = own; left = priority_own (length fates) cluster tablet }))
-  effect_own (commands.Split tablet hash) fates =
+  effect_own (Command.Split tablet hash) fates =
       carried_own (codes.split_code cluster tablet hash) (makes.split_makes cluster tablet hash)
-      (lanes_of_own (all_lanes cluster) (events.Split tablet hash (makes.next_tablet cluster)) tt)
-  effect_own (commands.Turn lane) fates = carried_own None (makes.turn_makes cluster lane) (turn_of_own cluster lane)
-  effect_own (commands.Deliver lane place) fates =
+      (lanes_of_own (all_lanes cluster) (Event.Split tablet hash (makes.next_tablet cluster)) tt)
+  effect_own (Command.Turn lane) fates = carried_own None (makes.turn_makes cluster lane) (turn_of_own cluster lane)
+  effect_own (Command.Deliver lane place) fates =
       carried_own (codes.place_code cluster lane place) (makes.deliver_makes cluster lane place (only_fate fates))
       (placed_of_own cluster lane (only_fate fates) (number_at place (lane_at cluster lane).wire))
-  effect_own (commands.Forget lane place) fates =
-      carried_own (codes.place_code cluster lane place) (makes.forget_makes cluster lane place)
-      (forgotten_of_own lane (number_at place (lane_at cluster lane).wire))
-  effect_own (commands.Crash master) fates =
-      carried_own (codes.crash_code cluster master) (makes.crash_makes cluster master) (lanes_of_own (all_lanes cluster) (events.Crash master) tt)
-  effect_own (commands.Notice master) fates =
-      carried_own (codes.notice_code cluster master) (makes.notice_makes cluster master) (lanes_of_own (all_lanes cluster) (events.Notice master) tt)
-  effect_own commands.Settle fates =
-      settled_own None (moved_all (course_of cluster (settle cluster)) fates)
+  effect_own (Command.Forget lane place) fates = carried_own (codes.place_code cluster lane place)
+      (makes.forget_makes cluster lane place) (forgotten_of_own lane (number_at place (lane_at cluster lane).wire))
+  effect_own (Command.Crash master) fates =
+      carried_own (codes.crash_code cluster master) (makes.crash_makes cluster master) (lanes_of_own (all_lanes cluster) (Event.Crash master) tt)
+  effect_own (Command.Notice master) fates =
+      carried_own (codes.notice_code cluster master) (makes.notice_makes cluster master) (lanes_of_own (all_lanes cluster) (Event.Notice master) tt)
+  effect_own Command.Settle fates = settled_own None (moved_all (course_of cluster (settle cluster)) fates)
       (moves_own fates (course_of cluster (settle cluster)) (record { own = own; left = settle_own (length fates) cluster }))
-  effect_own (commands.Where tablet) fates = shown_own (where_code cluster tablet) (where_text cluster tablet)
-  effect_own (commands.Dump tablet) fates = shown_own (dump_code cluster tablet) (dump_text cluster tablet)
-  effect_own commands.History fates = leaves (effect cluster commands.History fates) own
+  effect_own (Command.Where tablet) fates = shown_own (where_code cluster tablet) (where_text cluster tablet)
+  effect_own (Command.Dump tablet) fates = shown_own (dump_code cluster tablet) (dump_text cluster tablet)
+  effect_own command fates = leaves (effect cluster command fates) own
 
   -- also where the cluster is full
   pub within_own : (command : Command) (fates : List Fate) → Leaves (effect_within cluster command fates)

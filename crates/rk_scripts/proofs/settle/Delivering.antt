@@ -1,31 +1,14 @@
 -- A message of a lane is delivered and forgotten: it is taken off the wire, and the other lanes are as they were.
-use Rattle.std.proofs.Common.{◌≡◌, ◌<◌, ℕ, Bool, true, false, cond, List, [], ◌∷◌, length, Option, None, Some, is_some, refl, sym, ap, subst, ◌∙◌, arith}
-use Rattle.std.specs.Option.{option_map, option_or}
-use Rattle.std.proofs.lemmas.Bool.{true≢false}
-use Rattle.rk_types.specs.NumberMap.{get}
-use Rattle.rk_types.specs.declared.hashing.TheConstants.{LANES}
-use Rattle.rk_types.specs.declared.node.Node.{Node}
-use Rattle.rk_types.specs.declared.node.Node.TheVariants as nodes
-use Rattle.rk_message.specs.declared.message.Message.{Message}
-use Rattle.rk_world.specs.declared.error.StepError.{StepError}
-use Rattle.rk_world.specs.declared.error.StepError.TheVariants as errors
-use Rattle.rk_world.specs.declared.event.Event.TheVariants as events
-use Rattle.rk_world.specs.Backup.{Called, Gave}
-use Rattle.rk_world.specs.Calls.{accept}
-use Rattle.rk_world.specs.Cluster.{Accepts, Cluster, Happens, Occurrence, lane_at, session_at}
-use Rattle.rk_world.specs.Refusals.{address_fault, delivery_fault, refusal}
-use Rattle.rk_world.specs.Step.{step, stepped_by}
-use Rattle.rk_world.specs.World.{World}
-use Rattle.rk_cluster.specs.Acted.{acted, worn_in}
-use Rattle.rk_cluster.specs.Delivering.{is_lost_at_backup}
-use Rattle.rk_cluster.specs.Looks.{is_client}
-use Rattle.rk_cluster.specs.Makes.{deliver_in_makes, delivery, delivery_of, has_receiver}
-use Rattle.rk_cluster.specs.Replicas.{Fate, Kept, answer_of}
-use Rattle.rk_settle.specs.Course.{Course, occurrence_error, occurring}
-use Rattle.rk_settle.specs.Tasks.{forgets}
-use Rattle.rk_inv_lanes.specs.wires.Emptied.{Arrival, Accepts as takes, Delivers as reaches, Loses, arrived, forgotten, taken_off}
-use Rattle.rk_runs.specs.duties.Added.{AreAdded, MayGetSession}
-use Rattle.rk_runs.proofs.duties.Adding.{added_after}
+use Rattle.std.proofs.Common.{◌≡◌, ◌<◌, ℕ, Bool, true, false, cond, List, [], ◌∷◌, length, Option, None, Some, is_some, refl, sym, ap}
+use Rattle.std.proofs.Common.{subst, ◌∙◌, arith, option_map, true≢false}
+use Rattle.rk_scripts.proofs.Words.{option_or, get, LANES, Node, Message, StepError, Called, Gave, accept, Accepts, Cluster, Happens}
+use Rattle.rk_scripts.proofs.Words.{Occurrence, lane_at, session_at, refusal, step, stepped_by, World, acted, worn_in, is_lost_at_backup}
+use Rattle.rk_scripts.proofs.Words.{is_client, deliver_in_makes, delivery, delivery_of, has_receiver, Fate, Kept, Course, occurrence_error}
+use Rattle.rk_scripts.proofs.Words.{occurring, forgets, Arrival, Loses, arrived, forgotten, taken_off, AreAdded, added_after, Event}
+use Rattle.rk_world.specs.Refusals.{address_fault, delivery_fault}
+use Rattle.rk_cluster.specs.Replicas.{answer_of}
+use Rattle.rk_inv_lanes.specs.wires.Emptied.{Accepts as takes, Delivers as reaches}
+use Rattle.rk_runs.specs.duties.Added.{MayGetSession}
 use Rattle.rk_scripts.proofs.settle.Going.{Comes, Goes, IsAt, alone_fresh, goes_on, occurs_move, still_move}
 use Rattle.rk_scripts.proofs.settle.Lanes.{ChangesLane, changes_none, stepped_changes, visited_changes}
 use Rattle.rk_scripts.proofs.settle.Setting.{Setting, eight}
@@ -34,23 +17,21 @@ use Rattle.rk_scripts.proofs.settle.Worn.{fresh_event}
 
 -- ---- what is worn does not depend on what the call of a replica comes to
 
-step_worn : (w : World) (number : ℕ) (called other : Called) → worn_in (step w (events.Deliver number) called) ≡ worn_in (step w (events.Deliver number) other)
-step_worn w number called other = go (refusal w (events.Deliver number))
+step_worn : (w : World) (number : ℕ) (called other : Called) → worn_in (step w (Event.Deliver number) called) ≡ worn_in (step w (Event.Deliver number) other)
+step_worn w number called other = go (refusal w (Event.Deliver number))
   where
-    go : (refused : Option StepError) → worn_in (stepped_by w (events.Deliver number) called refused) ≡ worn_in (stepped_by w (events.Deliver number) other refused)
+    go : (refused : Option StepError) → worn_in (stepped_by w (Event.Deliver number) called refused) ≡ worn_in (stepped_by w (Event.Deliver number) other refused)
     go None = refl
     go (Some error) = refl
 
 -- what a replica answers that a delivery calls
 abbrev answered : Cluster → ℕ → ℕ → Fate → Called
-answered cluster lane number fate = answer_of cluster lane (events.Deliver number) fate
+answered cluster lane number fate = answer_of cluster lane (Event.Deliver number) fate
 
 delivery_worn : (cluster : Cluster) (lane number : ℕ) (fate other : Fate) (to : Node)
     → (acted cluster (delivery cluster lane number fate to)).worn ≡ (acted cluster (delivery cluster lane number other to)).worn
-delivery_worn cluster lane number fate other (nodes.Client client) = refl
-delivery_worn cluster lane number fate other nodes.Coordinator = step_worn (lane_at cluster lane) number (answered cluster lane number fate) (answered cluster lane number other)
-delivery_worn cluster lane number fate other (nodes.Master master) = step_worn (lane_at cluster lane) number (answered cluster lane number fate) (answered cluster lane number other)
-delivery_worn cluster lane number fate other (nodes.Backup backup) = step_worn (lane_at cluster lane) number (answered cluster lane number fate) (answered cluster lane number other)
+delivery_worn cluster lane number fate other (Node.Client client) = refl
+delivery_worn cluster lane number fate other _ = step_worn (lane_at cluster lane) number (answered cluster lane number fate) (answered cluster lane number other)
 
 -- ---- what a delivery makes
 
@@ -62,11 +43,11 @@ has_session cluster client there none = absurd (true≢false (sym there ∙ ap i
 pub record IsDelivered (w : World) (number : ℕ) (arrival : Arrival) : Type 0 where
   pub called : Called
   pub is : arrival ≡ reaches called
-  pub fresh : refusal w (events.Deliver number) ≡ None
+  pub fresh : refusal w (Event.Deliver number) ≡ None
 
 -- how a message to a node may arrive
 abbrev pub ArrivesAt : World → ℕ → Node → Arrival → Type 0
-ArrivesAt w number (nodes.Client client) arrival = Unit {0}
+ArrivesAt w number (Node.Client client) arrival = Unit {0}
 ArrivesAt w number to arrival = IsDelivered w number arrival
 
 -- a message of a lane has arrived, and no other lane has changed
@@ -77,40 +58,22 @@ record HasArrived (lane number : ℕ) (w : World) (to : Node) (before after : Cl
 
 -- an event that is delivered in a lane that is not worn
 delivered_fresh : (w : World) (number : ℕ) (message : Message) (called : Called) → get w.wire.messages number ≡ Some message → address_fault number message.to ≡ None
-    → worn_in (step w (events.Deliver number) called) ≡ None → refusal w (events.Deliver number) ≡ None
+    → worn_in (step w (Event.Deliver number) called) ≡ None → refusal w (Event.Deliver number) ≡ None
 delivered_fresh w number message called found addressed fresh =
-    ap (λ (o : Option ℕ). option_or (option_map errors.Worn o) (delivery_fault number (get w.wire.messages number))) (fresh_event w (events.Deliver number) called refl fresh)
+    ap (λ (o : Option ℕ). option_or (option_map StepError.Worn o) (delivery_fault number (get w.wire.messages number))) (fresh_event w (Event.Deliver number) called refl fresh)
     ∙ ap (delivery_fault number) found ∙ addressed
 
 delivery_arrives : (cluster : Cluster) (lane number : ℕ) (message : Message) (fate : Fate) → lane < length cluster.lanes → (to : Node) → message.to ≡ to
     → get (lane_at cluster lane).wire.messages number ≡ Some message → (acted cluster (delivery cluster lane number fate to)).worn ≡ None
     → HasArrived lane number (lane_at cluster lane) to cluster (acted cluster (delivery cluster lane number fate to)).cluster
-delivery_arrives cluster lane number message fate within (nodes.Client client) to_is found fresh = record {
+delivery_arrives cluster lane number message fate within (Node.Client client) to_is found fresh = record {
   arrival = takes (session_at cluster client);
   changes = visited_changes cluster lane within client (accept (lane_at cluster lane) number (session_at cluster client));
   fits = tt;
 }
-delivery_arrives cluster lane number message fate within nodes.Coordinator to_is found fresh = record {
+delivery_arrives cluster lane number message fate within _ to_is found fresh = record {
   arrival = reaches (answered cluster lane number fate);
-  changes = stepped_changes cluster lane within (step (lane_at cluster lane) (events.Deliver number) (answered cluster lane number fate));
-  fits = record {
-    called = answered cluster lane number fate;
-    is = refl;
-    fresh = delivered_fresh (lane_at cluster lane) number message (answered cluster lane number fate) found (ap (address_fault number) to_is) fresh;
-  };
-}
-delivery_arrives cluster lane number message fate within (nodes.Master master) to_is found fresh = record {
-  arrival = reaches (answered cluster lane number fate);
-  changes = stepped_changes cluster lane within (step (lane_at cluster lane) (events.Deliver number) (answered cluster lane number fate));
-  fits = record {
-    called = answered cluster lane number fate;
-    is = refl;
-    fresh = delivered_fresh (lane_at cluster lane) number message (answered cluster lane number fate) found (ap (address_fault number) to_is) fresh;
-  };
-}
-delivery_arrives cluster lane number message fate within (nodes.Backup backup) to_is found fresh = record {
-  arrival = reaches (answered cluster lane number fate);
-  changes = stepped_changes cluster lane within (step (lane_at cluster lane) (events.Deliver number) (answered cluster lane number fate));
+  changes = stepped_changes cluster lane within (step (lane_at cluster lane) (Event.Deliver number) (answered cluster lane number fate));
   fits = record {
     called = answered cluster lane number fate;
     is = refl;
@@ -120,21 +83,15 @@ delivery_arrives cluster lane number message fate within (nodes.Backup backup) t
 
 -- what is lost is for a client
 lost_fits : (cluster : Cluster) (w : World) (number : ℕ) (to : Node) → has_receiver cluster to ≡ false → ArrivesAt w number to Loses
-lost_fits cluster w number (nodes.Client client) away = tt
-lost_fits cluster w number nodes.Coordinator away = absurd (true≢false away)
-lost_fits cluster w number (nodes.Master master) away = absurd (true≢false away)
-lost_fits cluster w number (nodes.Backup backup) away = absurd (true≢false away)
+lost_fits cluster w number (Node.Client client) away = tt
+lost_fits cluster w number _ away = absurd (true≢false away)
 
 delivery_adds : (cluster : Cluster) (lane number : ℕ) (fate : Fate) (to : Node) → has_receiver cluster to ≡ true → AreAdded cluster
     → AreAdded (acted cluster (delivery cluster lane number fate to)).cluster
-delivery_adds cluster lane number fate (nodes.Client client) there all =
+delivery_adds cluster lane number fate (Node.Client client) there all =
     added_after cluster (Accepts lane number client) (has_session cluster client there) all
-delivery_adds cluster lane number fate nodes.Coordinator there all =
-    added_after cluster (Happens lane (events.Deliver number) (answered cluster lane number fate)) tt all
-delivery_adds cluster lane number fate (nodes.Master master) there all =
-    added_after cluster (Happens lane (events.Deliver number) (answered cluster lane number fate)) tt all
-delivery_adds cluster lane number fate (nodes.Backup backup) there all =
-    added_after cluster (Happens lane (events.Deliver number) (answered cluster lane number fate)) tt all
+delivery_adds cluster lane number fate _ there all =
+    added_after cluster (Happens lane (Event.Deliver number) (answered cluster lane number fate)) tt all
 
 -- ---- moves
 
@@ -156,8 +113,7 @@ module _ (s : Setting) (lane : ℕ) (inside : lane < LANES) (number : ℕ) (rest
 
       makes : (it : Fate) (b : Bool) → has_receiver course.cluster message.to ≡ b
           → deliver_in_makes course.cluster lane number it ≡ cond b (delivery course.cluster lane number it message.to ∷ []) []
-      makes it b is =
-          ap (λ (o : Option Message). delivery_of course.cluster lane number it o) found
+      makes it b is = ap (λ (o : Option Message). delivery_of course.cluster lane number it o) found
           ∙ ap (λ (c : Bool). cond c (delivery course.cluster lane number it message.to ∷ []) []) is
 
       go : (b : Bool) → has_receiver course.cluster message.to ≡ b → Goes s before course (Arrives (lane_at course.cluster lane) message.to course.cluster)
@@ -202,10 +158,10 @@ module _ (s : Setting) (lane : ℕ) (inside : lane < LANES) (number : ℕ) (rest
   forgetting before w to origin course comes arrives =
       let now : World = lane_at course.cluster lane in
       let first = arrives.arrives.changes in
-      let then_changes = stepped_changes course.cluster lane (omega (arith, inside, eight s course comes.sane)) (step now (events.Forget number) (Gave None)) in
-      occurs_move s before course (forgets lane number) rest (Happens lane (events.Forget number) (Gave None)) false (IsOff w to origin) comes arrives.left refl
-      (alone_fresh course.cluster (Happens lane (events.Forget number) (Gave None)))
-      (added_after course.cluster (Happens lane (events.Forget number) (Gave None)) tt comes.sane.added)
+      let then_changes = stepped_changes course.cluster lane (omega (arith, inside, eight s course comes.sane)) (step now (Event.Forget number) (Gave None)) in
+      occurs_move s before course (forgets lane number) rest (Happens lane (Event.Forget number) (Gave None)) false (IsOff w to origin) comes arrives.left refl
+      (alone_fresh course.cluster (Happens lane (Event.Forget number) (Gave None)))
+      (added_after course.cluster (Happens lane (Event.Forget number) (Gave None)) tt comes.sane.added)
       (λ next at fresh. record {
         left = at.tasks_are;
         arrival = arrives.arrives.arrival;

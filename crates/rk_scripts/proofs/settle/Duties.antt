@@ -1,49 +1,22 @@
 -- Who has something left to do in a lane sends on its turn: where nothing is sent, each row is owned by a master that lives, and nothing is
 -- staged at one.
-use Rattle.std.proofs.Common.{◌≡◌, ◌==◌, ◌||◌, ◌<◌, ℕ, Bool, true, false, cond, not, List, [], ◌∷◌, All, filter, length, Option, None, Some, refl, sym, ap, subst, ◌∙◌, inl, inr, ⊎_elim, arith}
-use Rattle.std.specs.Prelude.{◌⊎◌, unwrap_or}
-use Rattle.std.specs.List.{list_all, list_any}
-use Rattle.std.specs.Option.{option_map, option_or}
-use Rattle.std.specs.Ordering.{eq_by_cmp, nat_cmp}
-use Rattle.std.proofs.lemmas.Bool.{and_from, eq-eqb, eqb-true, false≢true, or_left, or_right}
-use Rattle.std.proofs.lemmas.List.Elements.{All-head, All-tail}
-use Rattle.rk_types.proofs.NumberMaps.{same_number}
-use Rattle.rk_types.specs.NumberMap.{NumberMap, get, numbers}
-use Rattle.rk_types.specs.declared.node.Node.{Node}
-use Rattle.rk_types.specs.declared.node.Node.TheVariants as nodes
-use Rattle.rk_entry.specs.declared.entry.Entry.{Entry}
-use Rattle.rk_tablet_map.specs.declared.phase.Phase.{Phase}
-use Rattle.rk_tablet_map.specs.declared.phase.Phase.TheVariants.{Owned, Opening, Moving, Rebuilding}
-use Rattle.rk_tablet_map.specs.declared.row.Row.{Row}
-use Rattle.rk_message.specs.Wire.{Traffic}
-use Rattle.rk_world.specs.declared.error.StepError.{StepError}
-use Rattle.rk_world.specs.declared.error.StepError.TheVariants as errors
-use Rattle.rk_world.specs.declared.event.Event.TheVariants as events
-use Rattle.rk_world.specs.Backup.{Called}
-use Rattle.rk_world.specs.Coordinator.{Coordinator}
-use Rattle.rk_world.specs.Formed.{IsWellFormed}
-use Rattle.rk_world.specs.Master.{Master, new_master, staged}
-use Rattle.rk_world.specs.Quiet.{IsOwnedLive}
-use Rattle.rk_world.specs.Refusals.{refusal, where_true, worn}
-use Rattle.rk_world.specs.Room.{HasRoom}
-use Rattle.rk_world.specs.Runs.{world_stepped}
-use Rattle.rk_world.specs.Step.{happened, step, stepped_by}
-use Rattle.rk_world.specs.World.{World, has_crashed, live_masters, master_at}
-use Rattle.rk_cluster.specs.Quiet.{has_applied_all, has_owners, is_owned_live}
-use Rattle.rk_inv_wellformed.proofs.maps.Maps.{All_pairs}
-use Rattle.rk_inv_lanes.proofs.wires.Emptied.{masters_in_order}
-use Rattle.rk_inv_lanes.specs.applied.CaughtUp.{AllCaughtUp}
-use Rattle.rk_inv_lanes.proofs.applied.Sends.{wire_counts}
-use Rattle.rk_runs.specs.duties.Owners.{AllNoticed, NoDeadOwner}
+use Rattle.std.proofs.Common.{◌≡◌, ◌==◌, ◌||◌, ◌<◌, ℕ, Bool, true, false, cond, not, List, [], ◌∷◌, All, filter, length, Option, None, Some}
+use Rattle.std.proofs.Common.{refl, sym, ap, subst, ◌∙◌, inl, inr, ⊎_elim, arith, ◌⊎◌, unwrap_or, option_map, nat_cmp, eq-eqb, eqb-true}
+use Rattle.rk_scripts.proofs.Words.{list_all, list_any, option_or, eq_by_cmp, and_from, false≢true, or_left, or_right, All-head, All-tail}
+use Rattle.rk_scripts.proofs.Words.{same_number, NumberMap, get, numbers, Node, Entry, Phase, Owned, Row}
+use Rattle.rk_scripts.proofs.Words.{Traffic, StepError, Called, Coordinator, IsWellFormed, Master, new_master, staged, IsOwnedLive, refusal}
+use Rattle.rk_scripts.proofs.Words.{where_true, worn, HasRoom, world_stepped, happened, step, stepped_by, World, has_crashed, live_masters}
+use Rattle.rk_scripts.proofs.Words.{master_at, has_applied_all, has_owners, is_owned_live, All_pairs, masters_in_order, AllCaughtUp}
+use Rattle.rk_scripts.proofs.Words.{wire_counts, AllNoticed, NoDeadOwner, Event}
 use Rattle.rk_runs.proofs.duties.Turns.{disowned_sends}
 use Rattle.rk_scripts.proofs.settle.Noticing.{is_in}
 use Rattle.rk_scripts.proofs.settle.Turning.{IsTurned, turn_turned, turned_itself}
 
 -- a turn, if it is not refused
-pub stepped_turned : (w : World) (node : Node) (called : Called) → IsTurned w (world_stepped w (step w (events.Turn node) called))
-stepped_turned w node called = go (refusal w (events.Turn node))
+pub stepped_turned : (w : World) (node : Node) (called : Called) → IsTurned w (world_stepped w (step w (Event.Turn node) called))
+stepped_turned w node called = go (refusal w (Event.Turn node))
   where
-    go : (refused : Option StepError) → IsTurned w (world_stepped w (stepped_by w (events.Turn node) called refused))
+    go : (refused : Option StepError) → IsTurned w (world_stepped w (stepped_by w (Event.Turn node) called refused))
     go None = turn_turned w node
     go (Some error) = turned_itself w
 
@@ -62,25 +35,22 @@ owned_tested w (row ∷ rows) all =
   where
     one : (phase : Phase) → IsOwnedLive w.crashed phase → is_owned_live w phase ≡ true
     one (Owned master from) lives = ap not lives
-    one (Opening source sfrom target dfrom) never = absurd never
-    one (Moving source sfrom target dfrom) never = absurd never
-    one (Rebuilding lineage to) never = absurd never
+    one _ never = absurd never
 
 -- where the coordinator sends nothing each row is owned by a master that lives
 pub coordinator_quiet : (w : World) (called : Called) → NoDeadOwner w.coordinator → AllNoticed w → worn w ≡ None
-    → (world_stepped w (step w (events.Turn nodes.Coordinator) called)).wire ≡ w.wire → has_owners w ≡ true
+    → (world_stepped w (step w (Event.Turn Node.Coordinator) called)).wire ≡ w.wire → has_owners w ≡ true
 coordinator_quiet w called free noticed fresh same = go (has_owners w) refl
   where
-    none : refusal w (events.Turn nodes.Coordinator) ≡ None
-    none = ap (λ (number : Option ℕ). option_or (option_map errors.Worn number) None) fresh
+    none : refusal w (Event.Turn Node.Coordinator) ≡ None
+    none = ap (λ (number : Option ℕ). option_or (option_map StepError.Worn number) None) fresh
 
-    still : (happened w (events.Turn nodes.Coordinator) called).world.wire ≡ w.wire
-    still = subst (λ (refused : Option StepError). (world_stepped w (stepped_by w (events.Turn nodes.Coordinator) called refused)).wire ≡ w.wire) none same
+    still : (happened w (Event.Turn Node.Coordinator) called).world.wire ≡ w.wire
+    still = subst (λ (refused : Option StepError). (world_stepped w (stepped_by w (Event.Turn Node.Coordinator) called refused)).wire ≡ w.wire) none same
 
     go : (b : Bool) → has_owners w ≡ b → has_owners w ≡ true
     go true is = is
-    go false is =
-        absurd (no_more w.wire (happened w (events.Turn nodes.Coordinator) called).world.wire still
+    go false is = absurd (no_more w.wire (happened w (Event.Turn Node.Coordinator) called).world.wire still
         (disowned_sends w free noticed called (λ all. false≢true (sym is ∙ owned_tested w w.coordinator.rows all))))
 
 -- a turn leaves the owners as they are
@@ -136,29 +106,27 @@ waits_kept w now coming turned waits master lives =
 
 -- where a master sends nothing on its turn, nothing is staged there
 pub master_waits : (w : World) (number : ℕ) (coming : List ℕ) (called : Called) → IsWellFormed w → HasRoom w → AllCaughtUp w → worn w ≡ None
-    → (world_stepped w (step w (events.Turn (nodes.Master number)) called)).wire ≡ w.wire → Waits w (number ∷ coming)
-    → Waits (world_stepped w (step w (events.Turn (nodes.Master number)) called)) coming
+    → (world_stepped w (step w (Event.Turn (Node.Master number)) called)).wire ≡ w.wire → Waits w (number ∷ coming)
+    → Waits (world_stepped w (step w (Event.Turn (Node.Master number)) called)) coming
 master_waits w number coming called formed room caught fresh same waits =
-    waits_kept w (world_stepped w (step w (events.Turn (nodes.Master number)) called)) coming (stepped_turned w (nodes.Master number) called) now
+    waits_kept w (world_stepped w (step w (Event.Turn (Node.Master number)) called)) coming (stepped_turned w (Node.Master number) called) now
   where
-    still : has_crashed w number ≡ false → (happened w (events.Turn (nodes.Master number)) called).world.wire ≡ w.wire
+    still : has_crashed w number ≡ false → (happened w (Event.Turn (Node.Master number)) called).world.wire ≡ w.wire
     still lives =
-        subst (λ (refused : Option StepError). (world_stepped w (stepped_by w (events.Turn (nodes.Master number)) called refused)).wire ≡ w.wire)
-        (ap (λ (worn : Option ℕ). option_or (option_map errors.Worn worn) (where_true (has_crashed w number) (errors.Dead number))) fresh
-        ∙ ap (λ (b : Bool). where_true b (errors.Dead number)) lives)
+        subst (λ (refused : Option StepError). (world_stepped w (stepped_by w (Event.Turn (Node.Master number)) called refused)).wire ≡ w.wire)
+        (ap (λ (worn : Option ℕ). option_or (option_map StepError.Worn worn) (where_true (has_crashed w number) (StepError.Dead number))) fresh
+        ∙ ap (λ (b : Bool). where_true b (StepError.Dead number)) lives)
         same
 
     own : has_crashed w number ≡ false → (list : List Entry) → staged (master_at w number) ≡ list → staged (master_at w number) ≡ []
     own lives [] is = is
     own lives (entry ∷ entries) is =
-        absurd (no_more w.wire (happened w (events.Turn (nodes.Master number)) called).world.wire (still lives)
+        absurd (no_more w.wire (happened w (Event.Turn (Node.Master number)) called).world.wire (still lives)
         (wire_counts w number called formed room.bytes caught (λ none. let never : entry ∷ entries ≡ [] = sym is ∙ none in cc never)))
 
     now : Waits w coming
-    now master lives =
-        ⊎_elim (λ (none : staged (master_at w master) ≡ []). inl none)
-        (λ (there : is_in master (number ∷ coming) ≡ true). go (number == master) refl there)
-        (waits master lives)
+    now master lives = ⊎_elim (λ (none : staged (master_at w master) ≡ []). inl none)
+        (λ (there : is_in master (number ∷ coming) ≡ true). go (number == master) refl there) (waits master lives)
       where
         go : (b : Bool) → (number == master) ≡ b → (b || is_in master coming) ≡ true → (staged (master_at w master) ≡ []) ⊎ (is_in master coming ≡ true)
         go true is there =
@@ -169,8 +137,7 @@ master_waits w number coming called formed room caught fresh same waits =
 
 -- once all have taken their turns, nothing is staged at a master that lives
 pub waits_none : (w : World) → IsWellFormed w → Waits w [] → has_applied_all w ≡ true
-waits_none w formed waits =
-    all_of w.masters
+waits_none w formed waits = all_of w.masters
     (All_pairs (λ (number : ℕ) (master : Master). has_crashed w number ≡ false → staged master ≡ []) w.masters (masters_in_order w formed)
     (λ number master found lives.
     subst (λ (it : Option Master). staged (unwrap_or it (new_master number [])) ≡ []) found

@@ -1,50 +1,32 @@
 -- What the orders of the coordinator for a migration come to: its target makes ready and says so, its source closes, or tells what it hands
 -- over, and its target takes it over.
-use Rattle.std.proofs.Common.{◌≡◌, ◌≢◌, ◌<◌, ◌≤◌, ◌==◌, ◌&&◌, ℕ, Bool, true, false, cond, not, nat_lt, List, [], ◌∷◌, ◌++◌, length, map, All, Option, None, Some, refl, sym, ap, subst, ◌∙◌, append_assoc, inl, inr, ⊎_elim, arith}
-use Rattle.std.specs.Prelude.{◌⊎◌, Contains, IfSome, unwrap_or}
-use Rattle.std.specs.List.{AllByRecursion, flat_map, list_all}
-use Rattle.std.proofs.lemmas.Bool.{and_from, cases_eq, cases_lt, cond-false, cond-true, eq-eqb, eqb-true, false≢true, le-ltb, lt-ltb, ne_eqb, or_left, or_right}
-use Rattle.std.proofs.lemmas.List.Elements.{All-append, All-cons, All-contains, All-head, All-nil, All-tail}
-use Rattle.rk_types.specs.NumberMap.{IsInOrder, get, get_or}
-use Rattle.rk_types.specs.Range.{meets}
-use Rattle.rk_types.specs.declared.node.Node.TheVariants as nodes
-use Rattle.rk_types.specs.declared.history.Placed.{Placed}
-use Rattle.rk_message.specs.declared.handover.Grant.{Grant}
-use Rattle.rk_message.specs.declared.handover.Prepare.{Prepare}
+use Rattle.std.proofs.Common.{◌≡◌, ◌≢◌, ◌<◌, ◌≤◌, ◌==◌, ◌&&◌, ℕ, Bool, true, false, cond, not, nat_lt, List, [], ◌∷◌, ◌++◌, length, map}
+use Rattle.std.proofs.Common.{All, Option, None, Some, refl, sym, ap, subst, ◌∙◌, append_assoc, inl, inr, ⊎_elim, arith, ◌⊎◌, Contains}
+use Rattle.std.proofs.Common.{IfSome, unwrap_or, flat_map, eq-eqb, eqb-true, le-ltb, lt-ltb, ne_eqb}
+use Rattle.rk_scripts.proofs.Words.{list_all, and_from, cases_eq, cases_lt, cond-false, cond-true, false≢true, or_left, or_right}
+use Rattle.rk_scripts.proofs.Words.{All-append, All-cons, All-contains, All-head, All-nil, All-tail, IsInOrder, get, get_or, meets, Placed}
+use Rattle.rk_scripts.proofs.Words.{Grant, Prepare, completions_from, Message, row_of, Phase, Owned, Opening, Moving, Rebuilding, Row}
+use Rattle.rk_scripts.proofs.Words.{closed, frozen, granted, in_role, role_closed, role_frozen, role_granted, Handover, Role, Coordinator}
+use Rattle.rk_scripts.proofs.Words.{is_noticed, coordinator_step, coordinator_turn, carried_entry, close_taken, closing, grant_taken}
+use Rattle.rk_scripts.proofs.Words.{granting, prepare_taken, preparing, ready, ready_again, transfer, Master, is_settled, new_master}
+use Rattle.rk_scripts.proofs.Words.{tablet_at, with_appended, with_tablet, filled, is_frozen, is_frozen_at, Tablet, no_tablet, pulling_from}
+use Rattle.rk_scripts.proofs.Words.{with_handover, without_merged, freezing, Worked, changed, sending, World, has_crashed, lives, master_at}
+use Rattle.rk_scripts.proofs.Words.{tablet_in, Holds, MovingSource, bond_of, post_of, is_joining, is_target, is_on, All_pairs, IsGoodLane}
+use Rattle.rk_scripts.proofs.Words.{Lasts, found_stands, Node, Body}
+use Rattle.std.specs.List.{AllByRecursion}
+use Rattle.rk_done.specs.Completions.{ends_of}
+use Rattle.rk_tablet_map.specs.Rows.{IsTabletMap, Precedes, replaced, turned}
 use Rattle.rk_message.specs.declared.handover.Ready.{Ready}
 use Rattle.rk_message.specs.declared.handover.Transfer.{Transfer}
-use Rattle.rk_done.specs.Completions.{completions_from, ends_of}
-use Rattle.rk_message.specs.declared.message.Body.TheVariants as bodies
-use Rattle.rk_message.specs.declared.message.Message.{Message}
-use Rattle.rk_tablet_map.specs.Rows.{IsTabletMap, Precedes, replaced, row_of, turned}
-use Rattle.rk_tablet_map.specs.declared.phase.Phase.{Phase}
-use Rattle.rk_tablet_map.specs.declared.phase.Phase.TheVariants.{Owned, Opening, Moving, Rebuilding}
-use Rattle.rk_tablet_map.specs.declared.row.Row.{Row}
-use Rattle.rk_transfer.specs.Handover.{closed, frozen, granted, in_role, role_closed, role_frozen, role_granted}
-use Rattle.rk_transfer.specs.declared.handover.Handover.{Handover}
-use Rattle.rk_transfer.specs.declared.role.Role.{Role}
-use Rattle.rk_transfer.specs.declared.role.Role.TheVariants as roles
-use Rattle.rk_world.specs.Coordinator.{Coordinator, Handed, from_coordinator, is_noticed, row_tenure, with_phase}
-use Rattle.rk_world.specs.CoordinatorStep.{Coordinated, about, at_term, coordinator_step, place_noted, ready_in, report, row_moved, transfer_in, unanswered, coordinator_turn, row_duty, row_for}
-use Rattle.rk_world.specs.Handovers.{carried_entry, close_taken, closing, grant_taken, granting, is_above, prepare_taken, preparing, ready, ready_again, tablet_closed, transfer, transferring}
-use Rattle.rk_world.specs.Master.{Master, is_settled, new_master, tablet_at, with_appended, with_tablet}
-use Rattle.rk_world.specs.Replies.{filled}
-use Rattle.rk_world.specs.RoleTests.{is_frozen, is_frozen_at}
-use Rattle.rk_world.specs.Tablet.{Tablet, no_tablet, pulling_from, with_handover, without_merged}
-use Rattle.rk_world.specs.Waiting.{freezing}
-use Rattle.rk_world.specs.Worked.{Worked, changed, sending}
-use Rattle.rk_world.specs.World.{World, has_crashed, lives, master_at, tablet_in}
-use Rattle.rk_sound.specs.Posts.{Holds, InvitedTarget, MovingTarget, MovingSource, OpeningSource, Post, StillCounts, bond_of, post_of, target_post}
+use Rattle.rk_world.specs.Coordinator.{Handed, from_coordinator, row_tenure, with_phase}
+use Rattle.rk_world.specs.CoordinatorStep.{Coordinated, about, at_term, place_noted, ready_in, report, row_moved, transfer_in, unanswered}
+use Rattle.rk_world.specs.CoordinatorStep.{row_duty, row_for}
+use Rattle.rk_world.specs.Handovers.{is_above, tablet_closed, transferring}
+use Rattle.rk_sound.specs.Posts.{InvitedTarget, MovingTarget, OpeningSource, Post, StillCounts, target_post}
 use Rattle.rk_sound.specs.Roles.{RoleFits}
 use Rattle.rk_sound.specs.Rows.{IsFormed}
 use Rattle.rk_sound.specs.Terms.{HandoverFits}
-use Rattle.rk_settle.specs.Reaches.{is_joining, is_target}
-use Rattle.rk_settle.specs.Topics.{is_on}
-use Rattle.rk_inv_wellformed.proofs.maps.Maps.{All_pairs}
-use Rattle.rk_runs.proofs.history.Clusters.{IsGoodLane}
-use Rattle.rk_runs.proofs.history.Runs.{Lasts}
 use Rattle.rk_inv_base.proofs.rows.RowAdded.{meets_turned}
-use Rattle.rk_inv_base.proofs.rows.Serving.{found_stands}
 use Rattle.rk_scripts.proofs.settle.ExchangeTasks.{Topic, close_topic, grant_topic, hand_topic, readiness}
 use Rattle.rk_scripts.proofs.settle.Noticing.{one_of}
 use Rattle.rk_scripts.proofs.settle.Patient.{at_put}
@@ -86,8 +68,7 @@ module _ (topic : Topic) (coordinator : Coordinator) (tablet : ℕ)
             before = duty_of first ++ has.before;
             behind = has.behind;
             is = ap (λ (list : List Message). duty_of first ++ list) has.is ∙ sym (append_assoc (duty_of first) has.before (ours ∷ has.behind));
-            off_before =
-                All-append (λ (m : Message). is_on topic m.body ≡ false) (duty_of first) has.before
+            off_before = All-append (λ (m : Message). is_on topic m.body ≡ false) (duty_of first) has.before
                 (others first first.phase (λ same. false≢true (sym is ∙ eq-eqb first.tablet tablet same))) has.off_before;
             off_behind = has.off_behind;
           }
@@ -99,30 +80,23 @@ one_off topic message is = All-cons (λ (m : Message). is_on topic m.body ≡ fa
 ready_others : (coordinator : Coordinator) (tablet : ℕ) (row : Row) (phase : Phase) → (row.tablet ≡ tablet → ⊥) → AreOff (readiness tablet) (row_duty coordinator row phase)
 ready_others coordinator tablet row (Owned master from) apart = All-nil _
 ready_others coordinator tablet row (Opening source sfrom target None) apart = one_off (readiness tablet) _ (ne_eqb row.tablet tablet apart)
-ready_others coordinator tablet row (Opening source sfrom target (Some dfrom)) apart = one_off (readiness tablet) _ refl
-ready_others coordinator tablet row (Moving source sfrom target dfrom) apart = one_off (readiness tablet) _ refl
-ready_others coordinator tablet row (Rebuilding lineage to) apart = one_off (readiness tablet) _ refl
+ready_others coordinator tablet row _ apart = one_off (readiness tablet) _ refl
 
 close_others : (coordinator : Coordinator) (tablet : ℕ) (row : Row) (phase : Phase) → (row.tablet ≡ tablet → ⊥) → AreOff (close_topic tablet) (row_duty coordinator row phase)
 close_others coordinator tablet row (Owned master from) apart = All-nil _
-close_others coordinator tablet row (Opening source sfrom target None) apart = one_off (close_topic tablet) _ refl
 close_others coordinator tablet row (Opening source sfrom target (Some dfrom)) apart = one_off (close_topic tablet) _ (ne_eqb row.tablet tablet apart)
-close_others coordinator tablet row (Moving source sfrom target dfrom) apart = one_off (close_topic tablet) _ refl
-close_others coordinator tablet row (Rebuilding lineage to) apart = one_off (close_topic tablet) _ refl
+close_others coordinator tablet row _ apart = one_off (close_topic tablet) _ refl
 
 hand_others : (coordinator : Coordinator) (tablet : ℕ) (row : Row) (phase : Phase) → (row.tablet ≡ tablet → ⊥) → AreOff (hand_topic tablet) (row_duty coordinator row phase)
 hand_others coordinator tablet row (Owned master from) apart = All-nil _
-hand_others coordinator tablet row (Opening source sfrom target None) apart = one_off (hand_topic tablet) _ refl
 hand_others coordinator tablet row (Opening source sfrom target (Some dfrom)) apart = one_off (hand_topic tablet) _ (ne_eqb row.tablet tablet apart)
-hand_others coordinator tablet row (Moving source sfrom target dfrom) apart = one_off (hand_topic tablet) _ refl
-hand_others coordinator tablet row (Rebuilding lineage to) apart = one_off (hand_topic tablet) _ refl
+hand_others coordinator tablet row _ apart = one_off (hand_topic tablet) _ refl
 
 grant_others : (coordinator : Coordinator) (tablet : ℕ) (row : Row) (phase : Phase) → (row.tablet ≡ tablet → ⊥) → AreOff (grant_topic tablet) (row_duty coordinator row phase)
 grant_others coordinator tablet row (Owned master from) apart = All-nil _
 grant_others coordinator tablet row (Opening source sfrom target None) apart = one_off (grant_topic tablet) _ refl
-grant_others coordinator tablet row (Opening source sfrom target (Some dfrom)) apart = one_off (grant_topic tablet) _ refl
 grant_others coordinator tablet row (Moving source sfrom target dfrom) apart = one_off (grant_topic tablet) _ (ne_eqb row.tablet tablet apart)
-grant_others coordinator tablet row (Rebuilding lineage to) apart = one_off (grant_topic tablet) _ refl
+grant_others coordinator tablet row _ apart = one_off (grant_topic tablet) _ refl
 
 -- ---- rows
 
@@ -221,14 +195,12 @@ module _ (masters lane : ℕ) (w : World) (good : IsGoodLane Lasts masters lane 
       ap (λ (p : Phase). post_of p source) is ∙ cond-true (source == source) OpeningSource _ (eq-eqb source source refl)
 
   pub invited_post : (source sfrom target : ℕ) (dfrom : Option ℕ) → row.phase ≡ Opening source sfrom target dfrom → post_of row.phase target ≡ target_post dfrom
-  invited_post source sfrom target dfrom is =
-      ap (λ (p : Phase). post_of p target) is
+  invited_post source sfrom target dfrom is = ap (λ (p : Phase). post_of p target) is
       ∙ (cond-false (source == target) OpeningSource _ (ne_eqb source target (opening_apart source sfrom target dfrom is))
       ∙ cond-true (target == target) (target_post dfrom) _ (eq-eqb target target refl))
 
   pub moving_post : (source sfrom target dfrom : ℕ) → row.phase ≡ Moving source sfrom target dfrom → post_of row.phase target ≡ MovingTarget dfrom
-  moving_post source sfrom target dfrom is =
-      ap (λ (p : Phase). post_of p target) is
+  moving_post source sfrom target dfrom is = ap (λ (p : Phase). post_of p target) is
       ∙ (cond-false (source == target) MovingSource _ (ne_eqb source target (moving_apart source sfrom target dfrom is))
       ∙ cond-true (target == target) (MovingTarget dfrom) _ (eq-eqb target target refl))
 
@@ -259,12 +231,11 @@ module _ (masters lane : ℕ) (w : World) (good : IsGoodLane Lasts masters lane 
     prepare = record { tenure = row_tenure row; range = row.range }
 
     abbrev pub prepares : Message
-    prepares = from_coordinator (nodes.Master target) (bodies.Prepare prepare)
+    prepares = from_coordinator (Node.Master target) (Body.Prepare prepare)
 
     pub prepare_sent : HasOne (readiness row.tablet) prepares (coordinator_turn w.coordinator)
-    prepare_sent =
-        one_in (readiness row.tablet) w.coordinator row.tablet (ready_others w.coordinator row.tablet) w.coordinator.rows row prepares lies found
-        (ap (row_duty w.coordinator row) is)
+    prepare_sent = one_in (readiness row.tablet) w.coordinator row.tablet (ready_others w.coordinator row.tablet)
+        w.coordinator.rows row prepares lies found (ap (row_duty w.coordinator row) is)
 
     pub prepare_on : is_on (readiness row.tablet) prepares.body ≡ true
     prepare_on = eq-eqb row.tablet row.tablet refl
@@ -275,8 +246,7 @@ module _ (masters lane : ℕ) (w : World) (good : IsGoodLane Lasts masters lane 
       pub sends : worked.sends ≡ ready (master_at w target) (row_tenure row) place ∷ []
 
     above_each : (kept target).term < row.term → list_all (is_above row.range row.term) (master_at w target).tablets ≡ true
-    above_each below =
-        list_all_from (is_above row.range row.term) (master_at w target).tablets
+    above_each below = list_all_from (is_above row.range row.term) (master_at w target).tablets
         (All_pairs (λ (q : ℕ) (tablet : Tablet). is_above row.range row.term (q, tablet) ≡ true) (master_at w target).tablets (tablets_order target)
         (λ q tablet at. subst (λ (it : Tablet). is_above row.range row.term (q, it) ≡ true) (ap (λ (o : Option Tablet). unwrap_or o no_tablet) at) (each q)))
       where
@@ -284,8 +254,7 @@ module _ (masters lane : ℕ) (w : World) (good : IsGoodLane Lasts masters lane 
         fits q = All-contains (λ (r : Row). HandoverFits r q (kept_of target q)) w.coordinator.rows row (good.sound.terms.kept target q) stands
 
         each : (q : ℕ) → is_above row.range row.term (q, tablet_in w target q) ≡ true
-        each q =
-            ⊎_elim
+        each q = ⊎_elim
             (λ (same : q ≡ row.tablet).
             or_right (not (meets (kept_of target q).range row.range)) (nat_lt (kept_of target q).term row.term)
             (lt-ltb (kept_of target q).term row.term (subst (λ (k : ℕ). (kept_of target k).term < row.term) (sym same) below)))
@@ -301,18 +270,14 @@ module _ (masters lane : ℕ) (w : World) (good : IsGoodLane Lasts masters lane 
                 (lt-ltb (kept_of target q).term row.term ((fits q).below (λ same. other (sym same)) is))
 
     greater_ready : (kept target).term < row.term → IsReady (prepare_taken (master_at w target) prepare)
-    greater_ready below =
-        subst
-        (λ (b : Bool).
-        IsReady (cond b (preparing (master_at w target) prepare) (ready_again (master_at w target) (row_tenure row) (kept target).role (kept target).term)))
-        (sym
-        (and_from (nat_lt (kept target).term row.term) (list_all (is_above row.range row.term) (master_at w target).tablets)
+    greater_ready below = subst (λ (b : Bool). IsReady (cond b (preparing (master_at w target) prepare)
+        (ready_again (master_at w target) (row_tenure row) (kept target).role (kept target).term)))
+        (sym (and_from (nat_lt (kept target).term row.term) (list_all (is_above row.range row.term) (master_at w target).tablets)
         (lt-ltb (kept target).term row.term below) (above_each below)))
         (record { place = length (master_at w target).log.entries; sends = refl })
 
-    again_ready : (from : ℕ) → (kept target).role ≡ roles.Wanting from → (kept target).term ≡ row.term → IsReady (prepare_taken (master_at w target) prepare)
-    again_ready from role_is same =
-        subst
+    again_ready : (from : ℕ) → (kept target).role ≡ Role.Wanting from → (kept target).term ≡ row.term → IsReady (prepare_taken (master_at w target) prepare)
+    again_ready from role_is same = subst
         (λ (b : Bool).
         IsReady (cond (b && list_all (is_above row.range row.term) (master_at w target).tablets) (preparing (master_at w target) prepare) (ready_again (master_at w target) (row_tenure row) (kept target).role (kept target).term)))
         (sym (le-ltb (kept target).term row.term (omega (arith, same))))
@@ -325,16 +290,12 @@ module _ (masters lane : ℕ) (w : World) (good : IsGoodLane Lasts masters lane 
       where
         go : (role : Role) → (kept target).role ≡ role → Holds (bond_of InvitedTarget role) row.term (kept target).term (master_at w target).applied
             → IsReady (prepare_taken (master_at w target) prepare)
-        go roles.Absent at below = greater_ready below
-        go roles.Frozen at below = greater_ready below
-        go (roles.Wanting from) at within =
+        go Role.Absent at below = greater_ready below
+        go Role.Frozen at below = greater_ready below
+        go (Role.Wanting from) at within =
             ⊎_elim (λ (below : (kept target).term < row.term). greater_ready below)
             (λ (above : row.term ≤ (kept target).term). again_ready from at (omega (arith, within, above))) (cases_lt (kept target).term row.term)
-        go roles.Serving at never = absurd never
-        go roles.Closing at never = absurd never
-        go roles.Receiving at never = absurd never
-        go (roles.Joining entry) at never = absurd never
-        go (roles.Rebuilding from entry) at never = absurd never
+        go _ at never = absurd never
 
     abbrev pub readies : Message
     readies = ready (master_at w target) (row_tenure row) is_ready.place
@@ -352,13 +313,12 @@ module _ (masters lane : ℕ) (w : World) (good : IsGoodLane Lasts masters lane 
     pub ready_taken : coordinator_step w.coordinator readies ≡ unanswered (place_noted w.coordinator row source sfrom target is_ready.place)
     ready_taken =
         let message : Ready = record { tenure = row_tenure row; place = is_ready.place } in
-        ap (λ (number : ℕ). report w.coordinator number (bodies.Ready message)) (own_number target)
+        ap (λ (number : ℕ). report w.coordinator number (Body.Ready message)) (own_number target)
         ∙ (ap (about w.coordinator (λ (r : Row). ready_in w.coordinator target message r r.phase)) (row_told target living)
         ∙ (ap (ready_in w.coordinator target message row) is ∙ cond-true (target == target) _ (unanswered w.coordinator) (eq-eqb target target refl)))
 
     pub ready_row : row_of (coordinator_step w.coordinator readies).coordinator.rows row.tablet ≡ Some (record row { phase = Opening source sfrom target (Some is_ready.place) })
-    ready_row =
-        ap (λ (it : Coordinated). row_of it.coordinator.rows row.tablet) ready_taken
+    ready_row = ap (λ (it : Coordinated). row_of it.coordinator.rows row.tablet) ready_taken
         ∙ phase_found w.coordinator row (Opening source sfrom target (Some is_ready.place)) found
 
     pub ready_silent : (coordinator_step w.coordinator readies).sends ≡ []
@@ -368,12 +328,11 @@ module _ (masters lane : ℕ) (w : World) (good : IsGoodLane Lasts masters lane 
 
   module _ (source sfrom target dfrom : ℕ) (is : row.phase ≡ Opening source sfrom target (Some dfrom)) (living : has_crashed w source ≡ false) where
     abbrev pub closes : Message
-    closes = from_coordinator (nodes.Master source) (bodies.Close (row_tenure row))
+    closes = from_coordinator (Node.Master source) (Body.Close (row_tenure row))
 
     pub close_sent : HasOne (close_topic row.tablet) closes (coordinator_turn w.coordinator)
-    close_sent =
-        one_in (close_topic row.tablet) w.coordinator row.tablet (close_others w.coordinator row.tablet) w.coordinator.rows row closes lies found
-        (ap (row_duty w.coordinator row) is)
+    close_sent = one_in (close_topic row.tablet) w.coordinator row.tablet (close_others w.coordinator row.tablet)
+        w.coordinator.rows row closes lies found (ap (row_duty w.coordinator row) is)
 
     pub hand_sent : HasOne (hand_topic row.tablet) closes (coordinator_turn w.coordinator)
     hand_sent =
@@ -402,8 +361,7 @@ module _ (masters lane : ℕ) (w : World) (good : IsGoodLane Lasts masters lane 
 
     -- it has the row's term then
     pub close_term : (tablet_at taken.master row.tablet).handover.term ≡ row.term
-    close_term =
-        go (is_frozen_at (tablet_at now row.tablet) row.term)
+    close_term = go (is_frozen_at (tablet_at now row.tablet) row.term)
         (by (kept source).role refl (fitted source OpeningSource living (source_post source sfrom target (Some dfrom) is)))
       where
         now : Master
@@ -415,62 +373,51 @@ module _ (masters lane : ℕ) (w : World) (good : IsGoodLane Lasts masters lane 
         go false same = same
 
         stays : (kept source).term ≡ row.term → (tablet_at now row.tablet).handover.term ≡ row.term
-        stays same =
-            subst
+        stays same = subst
             (λ (b : Bool).
             (tablet_at (closing (master_at w source) row.tablet (cond b (in_role (record (kept source) { term = row.term }) (role_closed (kept source).role)) None)) row.tablet).handover.term ≡ row.term)
             (sym (le-ltb (kept source).term row.term (omega (arith, same)))) same
 
-        rises : (kept source).term < row.term → role_closed (kept source).role ≡ Some roles.Closing → (tablet_at now row.tablet).handover.term ≡ row.term
-        rises below role_is =
-            subst
+        rises : (kept source).term < row.term → role_closed (kept source).role ≡ Some Role.Closing → (tablet_at now row.tablet).handover.term ≡ row.term
+        rises below role_is = subst
             (λ (b : Bool).
             (tablet_at (closing (master_at w source) row.tablet (cond b (in_role (record (kept source) { term = row.term }) (role_closed (kept source).role)) None)) row.tablet).handover.term ≡ row.term)
             (sym (lt-ltb (kept source).term row.term below))
             (subst
             (λ (role : Option Role). (tablet_at (closing (master_at w source) row.tablet (in_role (record (kept source) { term = row.term }) role)) row.tablet).handover.term ≡ row.term)
             (sym role_is)
-            (closing_term (master_at w source) row.tablet row.term (record (kept source) { term = row.term; role = roles.Closing }) refl))
+            (closing_term (master_at w source) row.tablet row.term (record (kept source) { term = row.term; role = Role.Closing }) refl))
 
         by : (role : Role) → (kept source).role ≡ role → Holds (bond_of OpeningSource role) row.term (kept source).term (master_at w source).applied
             → (tablet_at now row.tablet).handover.term ≡ row.term
-        by roles.Serving at below = rises below (ap role_closed at)
-        by (roles.Joining (Some entry)) at both = rises both.0 (ap role_closed at)
-        by (roles.Rebuilding from (Some entry)) at both = rises both.0 (ap role_closed at)
-        by roles.Closing at same = stays same
-        by roles.Frozen at same = stays same
-        by (roles.Joining None) at never = absurd never
-        by (roles.Rebuilding from None) at never = absurd never
-        by roles.Absent at never = absurd never
-        by (roles.Wanting from) at never = absurd never
-        by roles.Receiving at never = absurd never
+        by Role.Serving at below = rises below (ap role_closed at)
+        by (Role.Joining (Some entry)) at both = rises both.0 (ap role_closed at)
+        by (Role.Rebuilding from (Some entry)) at both = rises both.0 (ap role_closed at)
+        by Role.Closing at same = stays same
+        by Role.Frozen at same = stays same
+        by _ at never = absurd never
 
     -- one at the row's term closes or is frozen
-    pub at_term_closes : (kept source).term ≡ row.term → ((kept source).role ≡ roles.Closing) ⊎ ((kept source).role ≡ roles.Frozen)
+    pub at_term_closes : (kept source).term ≡ row.term → ((kept source).role ≡ Role.Closing) ⊎ ((kept source).role ≡ Role.Frozen)
     at_term_closes same = by (kept source).role refl (fitted source OpeningSource living (source_post source sfrom target (Some dfrom) is))
       where
         by : (role : Role) → (kept source).role ≡ role → Holds (bond_of OpeningSource role) row.term (kept source).term (master_at w source).applied
-            → ((kept source).role ≡ roles.Closing) ⊎ ((kept source).role ≡ roles.Frozen)
-        by roles.Serving at below = absurd (omega (arith, below, same))
-        by (roles.Joining (Some entry)) at both = absurd (omega (arith, both.0, same))
-        by (roles.Rebuilding from (Some entry)) at both = absurd (omega (arith, both.0, same))
-        by roles.Closing at it = inl at
-        by roles.Frozen at it = inr at
-        by (roles.Joining None) at never = absurd never
-        by (roles.Rebuilding from None) at never = absurd never
-        by roles.Absent at never = absurd never
-        by (roles.Wanting from) at never = absurd never
-        by roles.Receiving at never = absurd never
+            → ((kept source).role ≡ Role.Closing) ⊎ ((kept source).role ≡ Role.Frozen)
+        by Role.Serving at below = absurd (omega (arith, below, same))
+        by (Role.Joining (Some entry)) at both = absurd (omega (arith, both.0, same))
+        by (Role.Rebuilding from (Some entry)) at both = absurd (omega (arith, both.0, same))
+        by Role.Closing at it = inl at
+        by Role.Frozen at it = inr at
+        by _ at never = absurd never
 
     -- ---- a frozen source tells what it hands over
 
-    module _ (at_term_is : (kept source).term ≡ row.term) (frozen_is : (kept source).role ≡ roles.Frozen) where
+    module _ (at_term_is : (kept source).term ≡ row.term) (frozen_is : (kept source).role ≡ Role.Frozen) where
       abbrev pub hands_over : Message
       hands_over = transfer (master_at w source) (row_tenure row) (tablet_in w source row.tablet)
 
       hand_made : taken ≡ sending (master_at w source) hands_over
-      hand_made =
-          ap
+      hand_made = ap
           (λ (b : Bool).
           transferring (closing (master_at w source) row.tablet (cond b (in_role (record (kept source) { term = row.term }) (role_closed (kept source).role)) None)) (row_tenure row))
           (le-ltb (kept source).term row.term (omega (arith, at_term_is)))
@@ -491,13 +438,12 @@ module _ (masters lane : ℕ) (w : World) (good : IsGoodLane Lasts masters lane 
       transfer_taken : coordinator_step w.coordinator hands_over ≡ unanswered (row_moved w.coordinator row source sfrom target dfrom handed)
       transfer_taken =
           let message : Transfer = record { tenure = row_tenure row; floor = (kept source).counter; ends = ends_of (tablet_in w source row.tablet).completions } in
-          ap (λ (number : ℕ). report w.coordinator number (bodies.Transfer message)) (own_number source)
+          ap (λ (number : ℕ). report w.coordinator number (Body.Transfer message)) (own_number source)
           ∙ (ap (about w.coordinator (λ (r : Row). transfer_in w.coordinator source message r r.phase)) (row_told source living)
           ∙ (ap (transfer_in w.coordinator source message row) is ∙ cond-true (source == source) _ (unanswered w.coordinator) (eq-eqb source source refl)))
 
       pub transfer_row : row_of (coordinator_step w.coordinator hands_over).coordinator.rows row.tablet ≡ Some (record row { phase = Moving source sfrom target dfrom })
-      transfer_row =
-          ap (λ (it : Coordinated). row_of it.coordinator.rows row.tablet) transfer_taken
+      transfer_row = ap (λ (it : Coordinated). row_of it.coordinator.rows row.tablet) transfer_taken
           ∙ phase_found w.coordinator row (Moving source sfrom target dfrom) found
 
       pub transfer_silent : (coordinator_step w.coordinator hands_over).sends ≡ []
@@ -512,12 +458,11 @@ module _ (masters lane : ℕ) (w : World) (good : IsGoodLane Lasts masters lane 
         record { tenure = row_tenure row; source = source; floor = handed.floor; ends = handed.ends }
 
     abbrev pub grants : Message
-    grants = from_coordinator (nodes.Master target) (bodies.Grant grant)
+    grants = from_coordinator (Node.Master target) (Body.Grant grant)
 
     pub grant_sent : HasOne (grant_topic row.tablet) grants (coordinator_turn w.coordinator)
-    grant_sent =
-        one_in (grant_topic row.tablet) w.coordinator row.tablet (grant_others w.coordinator row.tablet) w.coordinator.rows row grants lies found
-        (ap (row_duty w.coordinator row) is)
+    grant_sent = one_in (grant_topic row.tablet) w.coordinator row.tablet (grant_others w.coordinator row.tablet)
+        w.coordinator.rows row grants lies found (ap (row_duty w.coordinator row) is)
 
     pub grant_on : is_on (grant_topic row.tablet) grants.body ≡ true
     grant_on = eq-eqb row.tablet row.tablet refl
@@ -542,8 +487,7 @@ module _ (masters lane : ℕ) (w : World) (good : IsGoodLane Lasts masters lane 
       where
         stays : (role : Role) → (kept target).role ≡ role → role_granted role ≡ None → is_target role ≡ true → (kept target).term ≡ row.term
             → IsGranted (tablet_at granted_by.master row.tablet).handover
-        stays role at none has same =
-            subst
+        stays role at none has same = subst
             (λ (moved : Option Handover). IsGranted (tablet_at (granting (master_at w target) grant moved).master row.tablet).handover)
             (sym
             (cond-true ((kept target).term == row.term) (in_role (record (kept target) { counter = grant.floor }) (role_granted (kept target).role)) None (eq-eqb (kept target).term row.term same)
@@ -552,8 +496,8 @@ module _ (masters lane : ℕ) (w : World) (good : IsGoodLane Lasts masters lane 
 
         by : (role : Role) → (kept target).role ≡ role → Holds (bond_of (MovingTarget dfrom) role) row.term (kept target).term (master_at w target).applied
             → IsGranted (tablet_at granted_by.master row.tablet).handover
-        by (roles.Wanting from) at both =
-            let after : Handover = record (kept target) { counter = grant.floor; role = roles.Receiving } in
+        by (Role.Wanting from) at both =
+            let after : Handover = record (kept target) { counter = grant.floor; role = Role.Receiving } in
             subst
             (λ (moved : Option Handover). IsGranted (tablet_at (granting (master_at w target) grant moved).master row.tablet).handover)
             (sym
@@ -564,24 +508,15 @@ module _ (masters lane : ℕ) (w : World) (good : IsGoodLane Lasts masters lane 
             (at_put (with_appended (master_at w target) (carried_entry after grant)) row.tablet
             (record (without_merged (tablet_in w target row.tablet)) { handover = after; completions = completions_from [] grant.ends; pulling = pulling_from grant.source })))
             (record { term = both.0; role = refl }))
-        by roles.Receiving at same = stays roles.Receiving at refl refl same
-        by (roles.Joining entry) at same = stays (roles.Joining entry) at refl refl same
-        by roles.Absent at never = absurd never
-        by roles.Serving at never = absurd never
-        by roles.Closing at never = absurd never
-        by roles.Frozen at never = absurd never
-        by (roles.Rebuilding from entry) at never = absurd never
+        by Role.Receiving at same = stays Role.Receiving at refl refl same
+        by (Role.Joining entry) at same = stays (Role.Joining entry) at refl refl same
+        by _ at never = absurd never
 
     -- a target of a tablet that moves pulls or has all, or waits for its grant
-    pub at_target : is_target (kept target).role ≡ true → ((kept target).role ≡ roles.Receiving) ⊎ (is_joining (kept target).role ≡ true)
+    pub at_target : is_target (kept target).role ≡ true → ((kept target).role ≡ Role.Receiving) ⊎ (is_joining (kept target).role ≡ true)
     at_target has = by (kept target).role refl has
       where
-        by : (role : Role) → (kept target).role ≡ role → is_target role ≡ true → ((kept target).role ≡ roles.Receiving) ⊎ (is_joining (kept target).role ≡ true)
-        by roles.Receiving at it = inl at
-        by (roles.Joining entry) at it = inr (ap is_joining at)
-        by roles.Absent at never = absurd (false≢true never)
-        by roles.Serving at never = absurd (false≢true never)
-        by roles.Closing at never = absurd (false≢true never)
-        by roles.Frozen at never = absurd (false≢true never)
-        by (roles.Wanting from) at never = absurd (false≢true never)
-        by (roles.Rebuilding from entry) at never = absurd (false≢true never)
+        by : (role : Role) → (kept target).role ≡ role → is_target role ≡ true → ((kept target).role ≡ Role.Receiving) ⊎ (is_joining (kept target).role ≡ true)
+        by Role.Receiving at it = inl at
+        by (Role.Joining entry) at it = inr (ap is_joining at)
+        by _ at never = absurd (false≢true never)

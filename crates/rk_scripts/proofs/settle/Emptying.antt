@@ -1,17 +1,7 @@
 -- The wire of a lane is emptied.
 use Rattle.std.proofs.Common.{◌≡◌, ◌<◌, ◌+◌, ℕ, zero, suc, List, [], ◌∷◌, ◌++◌, Option, None, Some, refl, sym, ap, subst, ◌∙◌, arith}
-use Rattle.rk_types.specs.NumberMap.{NumberMap, get}
-use Rattle.rk_types.specs.declared.hashing.TheConstants.{LANES}
-use Rattle.rk_message.specs.Wire.{number_at}
-use Rattle.rk_message.specs.declared.message.Message.{Message}
-use Rattle.rk_world.specs.Cluster.{Cluster, lane_at}
-use Rattle.rk_world.specs.World.{World}
-use Rattle.rk_settle.specs.Course.{Course}
-use Rattle.rk_settle.specs.Settle.{empty_by}
-use Rattle.rk_settle.specs.Tasks.{forgets}
-use Rattle.rk_inv_wellformed.proofs.maps.Maps.{get_first}
-use Rattle.rk_inv_lanes.specs.wires.Emptied.{deliveries_left}
-use Rattle.rk_inv_lanes.proofs.wires.Emptied.{masters_in_order, taken_off_fewer}
+use Rattle.rk_scripts.proofs.Words.{NumberMap, get, LANES, number_at, Message, Cluster, lane_at, World, Course, empty_by, forgets}
+use Rattle.rk_scripts.proofs.Words.{get_first, deliveries_left, masters_in_order, taken_off_fewer}
 use Rattle.rk_scripts.proofs.settle.Delivering.{IsOff, taking_off}
 use Rattle.rk_scripts.proofs.settle.Going.{Comes, Goes, IsAt, goes_on, still_move}
 use Rattle.rk_scripts.proofs.settle.Lanes.{IsSameBeside}
@@ -49,8 +39,7 @@ module _ (s : Setting) (lane : ℕ) (inside : lane < LANES) (rest : List Task) (
       go : ((before : Cluster) (course : Course) → Comes s before course → course.tasks ≡ empties lane ∷ rest
           → deliveries_left (lane_at course.cluster lane) < fuel → IsSameBeside lane origin course.cluster → Goes s before course IsEmptied)
           → (oldest : Option ℕ) → number_at 1 (lane_at course.cluster lane).wire ≡ oldest → Goes s before course IsEmptied
-      go again None is =
-          still_move s before course (empties lane) rest rest IsEmptied comes are
+      go again None is = still_move s before course (empties lane) rest rest IsEmptied comes are
           (record { cluster_is = refl; tasks_are = ap (λ (o : Option ℕ). empty_by lane o ++ rest) is })
           (λ next at. record {
             left = at.tasks_are;
@@ -71,13 +60,11 @@ module _ (s : Setting) (lane : ℕ) (inside : lane < LANES) (rest : List Task) (
           (subst (λ (cluster : Cluster). get (lane_at cluster lane).wire.messages number ≡ Some there.message) (sym at.cluster_is) there.found)))
           (λ last comes_last off.
           let fewer = taken_off_fewer w number there.message off.arrival (masters_in_order w (formed_at s course comes.sane lane inside)) there.found in
-          again before last comes_last off.left
-          (omega (arith, few, fewer, ap deliveries_left off.changes.here))
+          again before last comes_last off.left (omega (arith, few, fewer, ap deliveries_left off.changes.here))
           (λ q apart. off.changes.beside q apart ∙ beside q apart)))
 
 -- the messages of a lane are delivered and forgotten, until none is left
 pub emptying : (s : Setting) (lane : ℕ) (inside : lane < LANES) (rest : List Task) (before : Cluster) (course : Course) → Comes s before course
     → course.tasks ≡ empties lane ∷ rest → Goes s before course (IsEmptied s lane inside rest course.cluster)
-emptying s lane inside rest before course comes are =
-    emptying_within s lane inside rest course.cluster (deliveries_left (lane_at course.cluster lane) + 1) before course comes are (omega arith)
-    (λ q apart. refl)
+emptying s lane inside rest before course comes are = emptying_within s lane inside rest course.cluster
+    (deliveries_left (lane_at course.cluster lane) + 1) before course comes are (omega arith) (λ q apart. refl)

@@ -1,22 +1,10 @@
 -- The tasks of exchanges, and of the commands that run them. Their type has no name here, so each is told by a list in which it stands.
-use Rattle.std.specs.Prelude.{◌≡◌, ℕ, Bool, true, [], ◌∷◌, ◌++◌, Some, map, refl, if◌then◌else◌}
-use Rattle.rk_types.specs.declared.call.Call.{Call}
-use Rattle.rk_types.specs.declared.node.Node.TheVariants as nodes
-use Rattle.rk_session.specs.Owners.{looks_up}
-use Rattle.rk_transfer.specs.declared.role.Role.TheVariants as roles
-use Rattle.rk_world.specs.Client.{Session}
-use Rattle.rk_world.specs.Cluster.{Cluster, lane_at}
-use Rattle.rk_world.specs.World.{World}
-use Rattle.rk_settle.specs.Advance.{advance, advance_tasks, coordinator_exchange, freeze_by, grant_task, log_round, reach_between, reaches_to, transfer_tasks}
-use Rattle.rk_settle.specs.declared.reach.Reach.TheVariants.{Begun, Frozen, Pulled}
-use Rattle.rk_settle.specs.Exchange.{hand_by, sort_tasks}
-use Rattle.rk_settle.specs.Priority.{priority}
-use Rattle.rk_settle.specs.Reaches.{is_short_of}
-use Rattle.rk_settle.specs.Serve.{ask_exchange, commit_tasks, hear_tasks, is_staged_by, request_by, serve_by, try_tasks, was_moved}
-use Rattle.rk_settle.specs.Settle.{lane_numbers}
-use Rattle.rk_settle.specs.Tasks.{asks, round_of, turn_exchange}
-use Rattle.rk_settle.specs.Topics.{is_on}
-use Rattle.rk_settle.specs.Unfolding.{unfolded}
+use Rattle.std.proofs.Common.{◌≡◌, ℕ, Bool, true, [], ◌∷◌, ◌++◌, Some, map, refl, if◌then◌else◌}
+use Rattle.rk_scripts.proofs.Words.{Call, looks_up, Session, Cluster, lane_at, World, advance, advance_tasks, coordinator_exchange}
+use Rattle.rk_scripts.proofs.Words.{freeze_by, grant_task, log_round, reach_between, reaches_to, Begun, Frozen, Pulled, hand_by, sort_tasks}
+use Rattle.rk_scripts.proofs.Words.{priority, is_short_of, ask_exchange, commit_tasks, hear_tasks, is_staged_by, request_by, serve_by}
+use Rattle.rk_scripts.proofs.Words.{try_tasks, was_moved, lane_numbers, asks, round_of, turn_exchange, is_on, unfolded, Node, Role}
+use Rattle.rk_settle.specs.Advance.{transfer_tasks}
 use Rattle.rk_scripts.proofs.settle.Tasks.{Task, task_at}
 
 -- what something maps from
@@ -124,7 +112,7 @@ reaching {f} same = f
 abbrev pub reaches : ℕ → ℕ → Reach → Task
 reaches = reaching (λ w lane tablet reach. refl)
 
-abbrev freezing : {f : ℕ → ℕ → ℕ → Task} → ((lane tablet source : ℕ) → freeze_by lane tablet source roles.Closing ≡ log_round lane source ++ f lane tablet source ∷ []) → ℕ → ℕ → ℕ → Task
+abbrev freezing : {f : ℕ → ℕ → ℕ → Task} → ((lane tablet source : ℕ) → freeze_by lane tablet source Role.Closing ≡ log_round lane source ++ f lane tablet source ∷ []) → ℕ → ℕ → ℕ → Task
 freezing {f} same = f
 
 -- log exchanges run while a source closes a tablet
@@ -164,7 +152,7 @@ granting {f} same = f
 abbrev pub grant_topic : ℕ → Topic
 grant_topic = granting (λ lane tablet. refl)
 
-abbrev logging : {topic : Topic} → ((lane master : ℕ) → log_round lane master ≡ round_of (turn_exchange lane topic (nodes.Master master) ∷ [])) → Topic
+abbrev logging : {topic : Topic} → ((lane master : ℕ) → log_round lane master ≡ round_of (turn_exchange lane topic (Node.Master master) ∷ [])) → Topic
 logging {topic} same = topic
 
 -- a log exchange
@@ -172,7 +160,7 @@ abbrev pub log_topic : Topic
 log_topic = logging (λ lane master. refl)
 
 abbrev pulling : {f : ℕ → Topic}
-    → ((lane tablet source target : ℕ) (opening : Bool) → reach_between lane tablet opening source target Pulled ≡ round_of (turn_exchange lane (f tablet) (nodes.Master target) ∷ []) ++ reaches lane tablet Pulled ∷ [])
+    → ((lane tablet source target : ℕ) (opening : Bool) → reach_between lane tablet opening source target Pulled ≡ round_of (turn_exchange lane (f tablet) (Node.Master target) ∷ []) ++ reaches lane tablet Pulled ∷ [])
     → ℕ → Topic
 pulling {f} same = f
 

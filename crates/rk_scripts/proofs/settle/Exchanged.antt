@@ -1,17 +1,7 @@
 -- The exchanges of commands: each ends, and where its turn sends something fewer messages may be sent afterwards.
 use Rattle.std.proofs.Common.{◌≡◌, ◌<◌, ℕ, List, [], ◌∷◌, ◌++◌, None, refl, sym, subst, arith}
-use Rattle.rk_types.specs.declared.hashing.TheConstants.{LANES}
-use Rattle.rk_types.specs.declared.node.Node.{Node}
-use Rattle.rk_world.specs.Backup.{Gave}
-use Rattle.rk_world.specs.Cluster.{Cluster, lane_at}
-use Rattle.rk_world.specs.Refusals.{worn}
-use Rattle.rk_world.specs.Runs.{world_stepped}
-use Rattle.rk_world.specs.Step.{step}
-use Rattle.rk_world.specs.World.{World}
-use Rattle.rk_world.specs.declared.event.Event.TheVariants as events
-use Rattle.rk_settle.specs.Course.{Course}
-use Rattle.rk_settle.specs.Serve.{ask_exchange}
-use Rattle.rk_settle.specs.Tasks.{asks, round_of, takes_turn, turn_exchange}
+use Rattle.rk_scripts.proofs.Words.{LANES, Node, Gave, Cluster, lane_at, worn, world_stepped, step, World, Course, ask_exchange, asks}
+use Rattle.rk_scripts.proofs.Words.{round_of, takes_turn, turn_exchange, Event}
 use Rattle.rk_scripts.proofs.settle.ExchangeTasks.{Topic, call_topic, sorts}
 use Rattle.rk_scripts.proofs.settle.Exchanging.{HasLeft, exchanging}
 use Rattle.rk_scripts.proofs.settle.Following.{follows_itself}
@@ -27,7 +17,7 @@ use Rattle.rk_scripts.proofs.settle.Worn.{sent_below}
 
 -- a node that takes its turn in a lane sends something, where the lane is not worn
 abbrev pub Sends : World → Node → Type 0
-Sends w node = worn w ≡ None → w.wire.sent < (world_stepped w (step w (events.Turn node) (Gave None))).wire.sent
+Sends w node = worn w ≡ None → w.wire.sent < (world_stepped w (step w (Event.Turn node) (Gave None))).wire.sent
 
 module _ (s : Setting) (lane : ℕ) (inside : lane < LANES) (topic : Topic) (node : Node) (rest : List Task) where
   -- a node has taken its turn in a cluster, and what it sent is to be sorted

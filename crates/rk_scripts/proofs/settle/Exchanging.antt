@@ -1,23 +1,12 @@
 -- An exchange ends: a node takes its turn, and what is sent then is delivered or forgotten. Each delivery leaves fewer to be made.
-use Rattle.std.proofs.Common.{◌≡◌, ◌<◌, ◌≤◌, ◌+◌, ℕ, zero, suc, true, false, List, [], ◌∷◌, ◌++◌, filter, map, Option, None, Some, is_some, refl, sym, ap, subst, append_assoc, arith}
-use Rattle.std.proofs.lemmas.Bool.{false≢true}
-use Rattle.rk_types.specs.NumberMap.{NumberMap, get}
-use Rattle.rk_types.specs.declared.hashing.TheConstants.{LANES}
-use Rattle.rk_message.specs.declared.message.Message.{Message}
-use Rattle.rk_world.specs.Backup.{Gave}
-use Rattle.rk_world.specs.Cluster.{Cluster, Happens, lane_at}
-use Rattle.rk_world.specs.Step.{step}
-use Rattle.rk_world.specs.World.{World}
-use Rattle.rk_world.specs.declared.event.Event.TheVariants as events
-use Rattle.rk_settle.specs.Course.{Course}
-use Rattle.rk_settle.specs.Exchange.{hand_by, is_number_off, is_there, oldest_after, sent_after}
-use Rattle.rk_settle.specs.Tasks.{forgets}
-use Rattle.rk_inv_wellformed.proofs.maps.Lists.{find_passes}
-use Rattle.rk_inv_lanes.specs.wires.Emptied.{deliveries_left, deliveries_of, forgotten}
-use Rattle.rk_inv_lanes.proofs.wires.Emptied.{masters_in_order, taken_off_fewer}
+use Rattle.std.proofs.Common.{◌≡◌, ◌<◌, ◌≤◌, ◌+◌, ℕ, zero, suc, true, false, List, [], ◌∷◌, ◌++◌, filter, map, Option, None, Some, is_some}
+use Rattle.std.proofs.Common.{refl, sym, ap, subst, append_assoc, arith}
+use Rattle.rk_scripts.proofs.Words.{false≢true, NumberMap, get, LANES, Message, Gave, Cluster, Happens, lane_at, step, World, Course}
+use Rattle.rk_scripts.proofs.Words.{hand_by, is_number_off, is_there, oldest_after, sent_after, forgets, find_passes, deliveries_left}
+use Rattle.rk_scripts.proofs.Words.{forgotten, masters_in_order, taken_off_fewer, added_after, Event}
 use Rattle.rk_inv_lanes.proofs.wires.Steps.{forgotten_leaves}
 use Rattle.rk_inv_lanes.proofs.wires.Sums.{removed_most}
-use Rattle.rk_runs.proofs.duties.Adding.{added_after}
+use Rattle.rk_inv_lanes.specs.wires.Emptied.{deliveries_of}
 use Rattle.rk_scripts.proofs.settle.Delivering.{IsOff, taking_off}
 use Rattle.rk_scripts.proofs.settle.ExchangeTasks.{Topic, hands, sorts}
 use Rattle.rk_scripts.proofs.settle.Going.{Comes, Goes, IsAt, alone_fresh, goes_here, goes_on, occurs_move, still_move}
@@ -61,13 +50,13 @@ module _ (s : Setting) (lane : ℕ) (inside : lane < LANES) where
       let w : World = lane_at course.cluster lane in
       let behind : List Task = map (forgets lane) list ++ rest in
       goes_on s before course (HasFew most behind) (HasFew most rest)
-      (occurs_move s before course (forgets lane number) behind (Happens lane (events.Forget number) (Gave None)) false (HasFew most behind) comes has.left refl
-      (alone_fresh course.cluster (Happens lane (events.Forget number) (Gave None)))
-      (added_after course.cluster (Happens lane (events.Forget number) (Gave None)) tt comes.sane.added)
+      (occurs_move s before course (forgets lane number) behind (Happens lane (Event.Forget number) (Gave None)) false (HasFew most behind) comes has.left refl
+      (alone_fresh course.cluster (Happens lane (Event.Forget number) (Gave None)))
+      (added_after course.cluster (Happens lane (Event.Forget number) (Gave None)) tt comes.sane.added)
       (λ next at fresh. record {
         left = at.tasks_are;
         few =
-            let changes = stepped_changes course.cluster lane (omega (arith, inside, eight s course comes.sane)) (step w (events.Forget number) (Gave None)) in
+            let changes = stepped_changes course.cluster lane (omega (arith, inside, eight s course comes.sane)) (step w (Event.Forget number) (Gave None)) in
             subst (λ (cluster : Cluster). deliveries_left (lane_at cluster lane) ≤ most) (sym at.cluster_is)
             (subst (λ (now : World). deliveries_left now ≤ most) (sym changes.here) (omega (arith, forgotten_no_more w number, has.few)));
       }))
@@ -97,8 +86,7 @@ module _ (s : Setting) (lane : ℕ) (inside : lane < LANES) where
         go : ((from : ℕ) (before : Cluster) (course : Course) → Comes s before course → course.tasks ≡ hands lane topic from ∷ rest
             → deliveries_left (lane_at course.cluster lane) < fuel → Goes s before course (HasLeft rest))
             → (oldest : Option ℕ) → oldest_after (lane_at course.cluster lane).wire from ≡ oldest → Goes s before course (HasLeft rest)
-        go again None is =
-            still_move s before course (hands lane topic from) rest rest (HasLeft rest) comes are
+        go again None is = still_move s before course (hands lane topic from) rest rest (HasLeft rest) comes are
             (record { cluster_is = refl; tasks_are = ap (λ (o : Option ℕ). hand_by (lane_at course.cluster lane).wire lane topic o ++ rest) is })
             (λ next at. at.tasks_are)
         go again (Some number) is =
@@ -125,8 +113,7 @@ module _ (s : Setting) (lane : ℕ) (inside : lane < LANES) where
     -- what was sent is delivered or forgotten
     pub exchanging : (from last : ℕ) (before : Cluster) (course : Course) → Comes s before course → course.tasks ≡ sorts lane topic from last ∷ rest
         → Goes s before course (HasLeft rest)
-    exchanging from last before course comes are =
-        goes_on s before course (HasFew (deliveries_left (lane_at course.cluster lane)) (hands lane topic from ∷ rest)) (HasLeft rest)
-        (sorting from last before course comes are)
-        (λ later comes_later has.
-        handing (deliveries_left (lane_at later.cluster lane) + 1) from before later comes_later has.left (omega arith))
+    exchanging from last before course comes are = goes_on s before course
+        (HasFew (deliveries_left (lane_at course.cluster lane)) (hands lane topic from ∷ rest)) (HasLeft rest)
+        (sorting from last before course comes are) (λ later comes_later has. handing
+        (deliveries_left (lane_at later.cluster lane) + 1) from before later comes_later has.left (omega arith))

@@ -1,17 +1,9 @@
 -- A command ends where its course goes on until it is done. Commands do the same in each lane, one after the other.
 use Rattle.std.proofs.Common.{◌≡◌, ◌<◌, ◌+◌, ℕ, zero, suc, List, [], ◌∷◌, map, Option, None, refl, ap, ◌∙◌, inl, ⊎_elim, arith}
-use Rattle.std.specs.List.{range_with_len}
-use Rattle.rk_types.specs.declared.hashing.TheConstants.{LANES}
-use Rattle.rk_world.specs.Cluster.{Cluster, cluster_run, new_cluster}
-use Rattle.rk_cluster.specs.declared.code.Code.{Code}
-use Rattle.rk_settle.specs.Commanded.{SettlingCommand}
-use Rattle.rk_settle.specs.Course.{Course, course_of}
-use Rattle.rk_settle.specs.Lawful.{AreTasks}
-use Rattle.rk_settle.specs.Settle.{lane_numbers}
-use Rattle.rk_settle.proofs.Unfolded.{NamesMasters}
+use Rattle.rk_scripts.proofs.Words.{range_with_len, LANES, Cluster, cluster_run, new_cluster, Code, SettlingCommand, Course, course_of}
+use Rattle.rk_scripts.proofs.Words.{AreTasks, lane_numbers, NamesMasters, AlwaysEnds, EndsUnlessRefused, after_moves}
 use Rattle.rk_scripts.proofs.play.Masters.{names_masters}
 use Rattle.rk_scripts.proofs.play.Reaching.{reached_eight}
-use Rattle.rk_scripts.specs.settle.Moves.{AlwaysEnds, EndsUnlessRefused, after_moves}
 use Rattle.rk_scripts.proofs.settle.Exchanging.{HasLeft}
 use Rattle.rk_scripts.proofs.settle.Going.{Comes, Goes, IsDone, comes_here, goes_done, goes_on}
 use Rattle.rk_scripts.proofs.settle.Rounds.{Never}
@@ -28,8 +20,7 @@ pub ends_unless : (code : Cluster → Option Code) (command : SettlingCommand) �
 ends_unless code command lawful goes masters backups before adversary few backed few_backups run added allowed =
     record {
       moves = there.moves;
-      over =
-          ⊎_elim (λ (done : IsDone (after_moves adversary there.moves (beginning s command))). done)
+      over = ⊎_elim (λ (done : IsDone (after_moves adversary there.moves (beginning s command))). done)
           (λ (never : Comes s s.start (after_moves adversary there.moves (beginning s command)) × Never (after_moves adversary there.moves (beginning s command))). absurd never.1)
           there.is;
     }
@@ -44,8 +35,7 @@ ends_unless code command lawful goes masters backups before adversary few backed
     }
 
     there : Goes s s.start (beginning s command) Never
-    there =
-        goes s allowed
+    there = goes s allowed
         (record {
           coursing = record { from = refl; run = tt; are = lawful masters s.start (names_masters masters backups s.start s.reached) };
           added = added;
@@ -75,6 +65,5 @@ module _ (s : Setting) where
 
     -- a command that has a task in each lane is done
     pub lanes_end : (course : Course) → IsSane s course → course.cluster ≡ s.start → course.tasks ≡ map task (lane_numbers s.start) → Goes s course.cluster course Never
-    lanes_end course sane same are =
-        lanes_from LANES 0 refl course.cluster course (comes_here s course sane)
+    lanes_end course sane same are = lanes_from LANES 0 refl course.cluster course (comes_here s course sane)
         (are ∙ ap (λ (count : ℕ). map task (range_with_len 0 count)) (reached_eight s.masters s.backups s.start s.reached))

@@ -1,22 +1,12 @@
 -- What follows on a cluster in the course of a command: no fewer messages were sent in each lane, and where each master that has crashed was
 -- noticed in a lane, each one still is.
 use Rattle.std.proofs.Common.{◌≡◌, ◌≤◌, ℕ, false, List, [], ◌∷◌, All, Option, None, Some, length, refl, ◌∙◌, arith}
-use Rattle.std.proofs.lemmas.List.Elements.{All-head, All-tail}
-use Rattle.rk_types.specs.NumberMap.{get}
-use Rattle.rk_types.specs.declared.hashing.TheConstants.{LANES}
-use Rattle.rk_world.specs.Calls.{accept, ask}
-use Rattle.rk_world.specs.Client.{Session}
-use Rattle.rk_world.specs.Cluster.{Accepts, Asks, Calls, Cluster, Happens, Joins, Occurrence, cluster_after, cluster_run, joined_by, lane_at, session_at}
-use Rattle.rk_world.specs.Runs.{world_stepped, world_visited}
-use Rattle.rk_world.specs.Step.{step}
-use Rattle.rk_world.specs.World.{World}
-use Rattle.rk_world.specs.declared.event.Event.{Event}
-use Rattle.rk_world.specs.declared.event.Event.TheVariants as events
-use Rattle.rk_settle.proofs.Occurred.{IsAllowed, IsNoCrash}
-use Rattle.rk_runs.proofs.history.Staying.{lanes_stay}
-use Rattle.rk_runs.specs.duties.Owners.{AllNoticed, is_crash}
+use Rattle.rk_scripts.proofs.Words.{All-head, All-tail, get, LANES, accept, ask, Session, Accepts, Asks, Calls, Cluster, Happens, Joins}
+use Rattle.rk_scripts.proofs.Words.{Occurrence, cluster_after, cluster_run, joined_by, lane_at, session_at, world_stepped, world_visited}
+use Rattle.rk_scripts.proofs.Words.{step, World, Event, IsAllowed, IsNoCrash, lanes_stay, AllNoticed}
 use Rattle.rk_runs.proofs.duties.Going.{answer_on, asked_turn_on, stepped_on}
 use Rattle.rk_runs.proofs.duties.Noticing.{accepted_noticed, asked_noticed, stepped_noticed}
+use Rattle.rk_runs.specs.duties.Owners.{is_crash}
 use Rattle.rk_scripts.proofs.settle.Lanes.{ChangesLane, each_still, stepped_changes, visited_changes}
 
 -- a lane that follows on another
@@ -45,7 +35,7 @@ changed_follows lane w before after changes follows =
 
 -- what is no crash is tested to be none
 calm : (event : Event) → IsNoCrash event → is_crash event ≡ false
-calm (events.Crash master) none = absurd none
+calm (Event.Crash master) none = absurd none
 calm event none = refl
 
 module _ (masters : ℕ) where

@@ -1,13 +1,10 @@
 -- Courses that go on until something holds, or until they are done.
-use Rattle.std.proofs.Common.{◌≡◌, ℕ, zero, suc, Bool, List, [], ◌∷◌, Option, None, Some, is_some, refl, sym, ap, subst, ◌∙◌, inl, inr, ⊎_elim}
-use Rattle.std.specs.Prelude.{◌⊎◌}
-use Rattle.std.proofs.lemmas.Option.{none-some}
-use Rattle.rk_world.specs.Cluster.{Cluster, Occurrence}
-use Rattle.rk_cluster.specs.Acted.{acted, going_on, idle}
-use Rattle.rk_settle.specs.Course.{Course, error_by, moved_by, occurrence_error, occurring, occurring_by, worn_error}
-use Rattle.rk_settle.specs.declared.error.SettleError.{SettleError}
-use Rattle.rk_runs.specs.duties.Added.{AreAdded}
-use Rattle.rk_scripts.specs.settle.Moves.{Stops, after_moves}
+use Rattle.std.proofs.Common.{◌≡◌, ℕ, zero, suc, Bool, List, [], ◌∷◌, Option, None, Some, is_some, refl, sym, ap, subst, ◌∙◌, inl, inr}
+use Rattle.std.proofs.Common.{⊎_elim, ◌⊎◌}
+use Rattle.rk_scripts.proofs.Words.{none-some, Cluster, Occurrence, acted, going_on, Course, moved_by, occurrence_error, occurring}
+use Rattle.rk_scripts.proofs.Words.{occurring_by, SettleError, AreAdded, Stops, after_moves}
+use Rattle.rk_cluster.specs.Acted.{idle}
+use Rattle.rk_settle.specs.Course.{error_by, worn_error}
 use Rattle.rk_scripts.proofs.settle.Following.{Follows, follows_itself, follows_on}
 use Rattle.rk_scripts.proofs.settle.Setting.{IsSane, Setting, next_follows, next_of, sane_next}
 use Rattle.rk_scripts.proofs.settle.Tasks.{Task}
@@ -65,8 +62,7 @@ module _ (s : Setting) where
     where
       go : (moves : ℕ) (now : Course) → IsDone (after_moves s.adversary moves now) ⊎ (Comes course.cluster (after_moves s.adversary moves now) × P (after_moves s.adversary moves now))
           → Goes before now Q
-      go zero now is =
-          ⊎_elim (λ (done : IsDone now). goes_done before now Q done)
+      go zero now is = ⊎_elim (λ (done : IsDone now). goes_done before now Q done)
           (λ (holds : Comes course.cluster now × P now).
           next now
           (record { sane = holds.0.sane; follows = follows_on before course.cluster now.cluster comes.follows holds.0.follows })
@@ -119,8 +115,7 @@ module _ (s : Setting) where
       subst (λ (next : Course). AreAdded next.cluster × P next) (sym moves)
       (subst AreAdded (sym at.cluster_is) added, holds (occurring course (occurrence ∷ []) failed rest) at fresh))
     where
-      came : (worn : Option ℕ) → worn ≡ None
-          → IsAt (acted course.cluster occurrence).cluster rest
+      came : (worn : Option ℕ) → worn ≡ None → IsAt (acted course.cluster occurrence).cluster rest
           (occurring_by course failed rest (going_on (acted course.cluster occurrence) worn (λ next. idle next)) (going_on (acted course.cluster occurrence) worn (λ next. idle next)).worn)
       came None is = record { cluster_is = refl; tasks_are = refl }
       came (Some number) is = absurd (none-some number (sym is))

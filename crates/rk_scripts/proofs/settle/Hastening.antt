@@ -1,19 +1,8 @@
 -- `priority` ends: in each lane at most one exchange is made.
 use Rattle.std.proofs.Common.{◌≡◌, ◌<◌, ℕ, Bool, true, false, cond, List, [], ◌∷◌, ◌++◌, Option, None, Some, refl}
-use Rattle.rk_tablet_map.specs.Rows.{row_of}
-use Rattle.rk_tablet_map.specs.declared.phase.Phase.{Phase}
-use Rattle.rk_tablet_map.specs.declared.phase.Phase.TheVariants.{Moving}
-use Rattle.rk_tablet_map.specs.declared.row.Row.{Row}
-use Rattle.rk_types.specs.declared.hashing.TheConstants.{LANES}
-use Rattle.rk_types.specs.declared.node.Node.{Node}
-use Rattle.rk_types.specs.declared.node.Node.TheVariants as nodes
-use Rattle.rk_world.specs.Cluster.{Cluster, lane_at}
-use Rattle.rk_world.specs.World.{World, tablet_in}
-use Rattle.rk_settle.specs.Course.{Course}
-use Rattle.rk_settle.specs.Priority.{hasten_phase, hasten_row, hasten_tasks, priority, wants_first}
-use Rattle.rk_settle.specs.Tasks.{turn_exchange}
-use Rattle.rk_settle.proofs.Unfolded.{priority_are}
-use Rattle.rk_scripts.specs.settle.Moves.{AlwaysEnds}
+use Rattle.rk_scripts.proofs.Words.{row_of, Phase, Moving, Row, LANES, Node, Cluster, lane_at, World, tablet_in, Course, hasten_phase}
+use Rattle.rk_scripts.proofs.Words.{hasten_row, priority, wants_first, turn_exchange, priority_are, AlwaysEnds}
+use Rattle.rk_settle.specs.Priority.{hasten_tasks}
 use Rattle.rk_scripts.proofs.settle.ExchangeTasks.{Topic, hastens}
 use Rattle.rk_scripts.proofs.settle.Exchanged.{turn_exchanging}
 use Rattle.rk_scripts.proofs.settle.Exchanging.{HasLeft}
@@ -32,7 +21,7 @@ module _ (s : Setting) (lane : ℕ) (inside : lane < LANES) (rest : List Task) w
   hastened_phase : (w : World) (tablet : ℕ) (phase : Phase) (before : Cluster) (course : Course) → Comes s before course
       → course.tasks ≡ hasten_phase w lane tablet phase ++ rest → Goes s before course (HasLeft rest)
   hastened_phase w tablet (Moving source sfrom target dfrom) before course comes are =
-      maybe_exchanging (wants_first (tablet_in w target tablet)) _ (nodes.Master target) before course comes are
+      maybe_exchanging (wants_first (tablet_in w target tablet)) _ (Node.Master target) before course comes are
   hastened_phase w tablet phase before course comes are = goes_here s before course (HasLeft rest) comes are
 
   hastened_row : (w : World) (tablet : ℕ) (found : Option Row) (before : Cluster) (course : Course) → Comes s before course
@@ -51,9 +40,8 @@ module _ (s : Setting) (lane : ℕ) (inside : lane < LANES) (rest : List Task) w
       (λ later comes_later at. hastened_row w tablet (row_of w.coordinator.rows tablet) before later comes_later at.tasks_are)
 
 pub priority_ends : (tablet : ℕ) → AlwaysEnds (λ cluster. priority cluster tablet)
-priority_ends tablet =
-    always_ends (λ cluster. priority cluster tablet) (λ masters cluster names. priority_are masters cluster names tablet)
-    (λ s sane.
-    lanes_end s (λ lane. hastens lane tablet)
-    (λ lane inside rest before course comes are. hastening_ends s lane inside rest tablet before course comes are)
-    _ sane refl refl)
+priority_ends tablet = always_ends (λ cluster. priority cluster tablet)
+    (λ masters cluster names. priority_are masters cluster names tablet)
+    (λ s sane. lanes_end s (λ lane. hastens lane tablet)
+    (λ lane inside rest before course comes are. hastening_ends s lane inside rest tablet before course comes are) _ sane refl
+    refl)

@@ -1,21 +1,7 @@
 -- The turns of a lane while nothing is sent in it: once all were taken the lane is quiet.
-use Rattle.std.proofs.Common.{◌≡◌, ◌<◌, ◌≤◌, ℕ, true, List, [], ◌∷◌, ◌++◌, map, None, sym, ap, subst, ◌∙◌, inl, inr, ⊎_elim, arith}
-use Rattle.std.specs.Prelude.{◌⊎◌}
-use Rattle.rk_types.specs.declared.hashing.TheConstants.{LANES}
-use Rattle.rk_types.specs.declared.node.Node.{Node}
-use Rattle.rk_types.specs.declared.node.Node.TheVariants as nodes
-use Rattle.rk_message.specs.Wire.{number_at}
-use Rattle.rk_world.specs.declared.event.Event.TheVariants as events
-use Rattle.rk_world.specs.Backup.{Gave}
-use Rattle.rk_world.specs.Cluster.{Cluster, lane_at}
-use Rattle.rk_world.specs.Room.{HasRoom}
-use Rattle.rk_world.specs.Runs.{world_stepped}
-use Rattle.rk_world.specs.Step.{step}
-use Rattle.rk_world.specs.World.{World}
-use Rattle.rk_cluster.specs.Quiet.{has_owners}
-use Rattle.rk_settle.specs.Course.{Course}
-use Rattle.rk_settle.specs.Tasks.{takes_turn}
-use Rattle.rk_runs.specs.duties.Owners.{AllNoticed}
+use Rattle.std.proofs.Common.{◌≡◌, ◌<◌, ◌≤◌, ℕ, true, List, [], ◌∷◌, ◌++◌, map, None, sym, ap, subst, ◌∙◌, inl, inr, ⊎_elim, arith, ◌⊎◌}
+use Rattle.rk_scripts.proofs.Words.{LANES, Node, number_at, Gave, Cluster, lane_at, HasRoom, world_stepped, step, World, has_owners, Course}
+use Rattle.rk_scripts.proofs.Words.{takes_turn, AllNoticed, Event}
 use Rattle.rk_scripts.proofs.play.Reaching.{lane_good}
 use Rattle.rk_scripts.proofs.settle.Duties.{Waits, coordinator_quiet, master_waits, owners_kept, stepped_turned, waits_kept}
 use Rattle.rk_scripts.proofs.settle.Emptying.{IsSilent}
@@ -49,7 +35,7 @@ module _ (s : Setting) (lane : ℕ) (inside : lane < LANES) (origin : Cluster) (
   -- a turn was taken at which something was sent: fewer messages may be sent now
   turn_risen : (node : Node) (rest : List Task) (course later : Course) → IsSane s course → Follows course.cluster later.cluster
       → HasTurned lane node rest course.cluster later → IsSameBeside lane origin course.cluster → sends_left course.cluster ≤ most
-      → (lane_at course.cluster lane).wire.sent < (world_stepped (lane_at course.cluster lane) (step (lane_at course.cluster lane) (events.Turn node) (Gave None))).wire.sent
+      → (lane_at course.cluster lane).wire.sent < (world_stepped (lane_at course.cluster lane) (step (lane_at course.cluster lane) (Event.Turn node) (Gave None))).wire.sent
       → IsWalked s lane inside origin most rest later
   turn_risen node rest course later sane follows turned beside limit more =
       let w : World = lane_at course.cluster lane in
@@ -65,8 +51,8 @@ module _ (s : Setting) (lane : ℕ) (inside : lane < LANES) (origin : Cluster) (
   -- a turn was taken at which nothing was sent
   turn_idle : (node : Node) (coming : List ℕ) (rest before_rest : List Task) (was : List ℕ) (course later : Course) → Follows course.cluster later.cluster
       → HasTurned lane node rest course.cluster later → IsIdle was before_rest course
-      → (world_stepped (lane_at course.cluster lane) (step (lane_at course.cluster lane) (events.Turn node) (Gave None))).wire ≡ (lane_at course.cluster lane).wire
-      → Waits (world_stepped (lane_at course.cluster lane) (step (lane_at course.cluster lane) (events.Turn node) (Gave None))) coming
+      → (world_stepped (lane_at course.cluster lane) (step (lane_at course.cluster lane) (Event.Turn node) (Gave None))).wire ≡ (lane_at course.cluster lane).wire
+      → Waits (world_stepped (lane_at course.cluster lane) (step (lane_at course.cluster lane) (Event.Turn node) (Gave None))) coming
       → IsIdle coming rest later
   turn_idle node coming rest before_rest was course later follows turned idle same waits =
       let no_more = left_no_more course.cluster later.cluster (λ q. (follows q).sent) in
@@ -81,62 +67,62 @@ module _ (s : Setting) (lane : ℕ) (inside : lane < LANES) (origin : Cluster) (
 
   -- the coordinator takes its turn
   coordinator_idle : (masters : List ℕ) (rest : List Task) (before : Cluster) (course : Course) → Comes s before course
-      → IsIdle masters (takes_turn lane nodes.Coordinator ∷ rest) course → AllNoticed (lane_at course.cluster lane)
+      → IsIdle masters (takes_turn lane Node.Coordinator ∷ rest) course → AllNoticed (lane_at course.cluster lane)
       → Goes s before course (λ next. IsWalked s lane inside origin most rest next ⊎ (IsIdle masters rest next × AreOwned next))
   coordinator_idle masters rest before course comes idle noticed =
       let w : World = lane_at course.cluster lane in
-      let now : World = world_stepped w (step w (events.Turn nodes.Coordinator) (Gave None)) in
-      let turns : IsTurned w now = stepped_turned w nodes.Coordinator (Gave None) in
+      let now : World = world_stepped w (step w (Event.Turn Node.Coordinator) (Gave None)) in
+      let turns : IsTurned w now = stepped_turned w Node.Coordinator (Gave None) in
       let P : Course → Type 0 = λ next. IsWalked s lane inside origin most rest next ⊎ (IsIdle masters rest next × AreOwned next) in
-      goes_then s before course (HasTurned lane nodes.Coordinator rest course.cluster) P comes
-      (turn_move s lane inside nodes.Coordinator rest course.cluster course (record { sane = comes.sane; follows = follows_itself course.cluster }) idle.left)
+      goes_then s before course (HasTurned lane Node.Coordinator rest course.cluster) P comes
+      (turn_move s lane inside Node.Coordinator rest course.cluster course (record { sane = comes.sane; follows = follows_itself course.cluster }) idle.left)
       (λ later comes_later follows turned.
       goes_here s before later P comes_later
       (⊎_elim
       (λ (same : now.wire ≡ w.wire). inr (
-        turn_idle nodes.Coordinator masters rest (takes_turn lane nodes.Coordinator ∷ rest) masters course later follows turned idle same
+        turn_idle Node.Coordinator masters rest (takes_turn lane Node.Coordinator ∷ rest) masters course later follows turned idle same
             (waits_kept w now masters turns idle.waits),
         subst (λ (it : World). has_owners it ≡ true) (sym turned.changes.here)
             (owners_kept w now turns
             (coordinator_quiet w (Gave None) (reached_free s.masters s.backups course.cluster (here s course comes.sane) lane inside) noticed turned.fresh same)),
       ))
       (λ (more : w.wire.sent < now.wire.sent).
-      inl (turn_risen nodes.Coordinator rest course later comes.sane follows turned idle.beside idle.limit more))
+      inl (turn_risen Node.Coordinator rest course later comes.sane follows turned idle.beside idle.limit more))
       turns.wire))
 
   -- a master takes its turn
   master_idle : (master : ℕ) (coming : List ℕ) (rest : List Task) (before : Cluster) (course : Course) → Comes s before course
-      → IsIdle (master ∷ coming) (takes_turn lane (nodes.Master master) ∷ rest) course → AreOwned course
+      → IsIdle (master ∷ coming) (takes_turn lane (Node.Master master) ∷ rest) course → AreOwned course
       → Goes s before course (λ next. IsWalked s lane inside origin most rest next ⊎ (IsIdle coming rest next × AreOwned next))
   master_idle master coming rest before course comes idle owned =
       let w : World = lane_at course.cluster lane in
-      let now : World = world_stepped w (step w (events.Turn (nodes.Master master)) (Gave None)) in
-      let turns : IsTurned w now = stepped_turned w (nodes.Master master) (Gave None) in
+      let now : World = world_stepped w (step w (Event.Turn (Node.Master master)) (Gave None)) in
+      let turns : IsTurned w now = stepped_turned w (Node.Master master) (Gave None) in
       let room : HasRoom w = (lane_good s.masters s.backups course.cluster (here s course comes.sane) lane inside).room in
       let P : Course → Type 0 = λ next. IsWalked s lane inside origin most rest next ⊎ (IsIdle coming rest next × AreOwned next) in
-      goes_then s before course (HasTurned lane (nodes.Master master) rest course.cluster) P comes
-      (turn_move s lane inside (nodes.Master master) rest course.cluster course (record { sane = comes.sane; follows = follows_itself course.cluster }) idle.left)
+      goes_then s before course (HasTurned lane (Node.Master master) rest course.cluster) P comes
+      (turn_move s lane inside (Node.Master master) rest course.cluster course (record { sane = comes.sane; follows = follows_itself course.cluster }) idle.left)
       (λ later comes_later follows turned.
       goes_here s before later P comes_later
       (⊎_elim
       (λ (same : now.wire ≡ w.wire). inr (
-        turn_idle (nodes.Master master) coming rest (takes_turn lane (nodes.Master master) ∷ rest) (master ∷ coming) course later follows turned idle same
+        turn_idle (Node.Master master) coming rest (takes_turn lane (Node.Master master) ∷ rest) (master ∷ coming) course later follows turned idle same
             (master_waits w master coming (Gave None) (formed_at s course comes.sane lane inside) room
             (reached_caught s.masters s.backups course.cluster (here s course comes.sane) lane inside) turned.fresh same idle.waits),
         subst (λ (it : World). has_owners it ≡ true) (sym turned.changes.here) (owners_kept w now turns owned),
       ))
       (λ (more : w.wire.sent < now.wire.sent).
-      inl (turn_risen (nodes.Master master) rest course later comes.sane follows turned idle.beside idle.limit more))
+      inl (turn_risen (Node.Master master) rest course later comes.sane follows turned idle.beside idle.limit more))
       turns.wire))
 
   -- all masters do
   masters_idle : (masters : List ℕ) (rest : List Task) (before : Cluster) (course : Course) → Comes s before course
-      → IsIdle masters (map (λ master. takes_turn lane (nodes.Master master)) masters ++ rest) course → AreOwned course
+      → IsIdle masters (map (λ master. takes_turn lane (Node.Master master)) masters ++ rest) course → AreOwned course
       → Goes s before course (λ next. IsWalked s lane inside origin most rest next ⊎ (IsIdle [] rest next × AreOwned next))
   masters_idle [] rest before course comes idle owned =
       goes_here s before course (λ next. IsWalked s lane inside origin most rest next ⊎ (IsIdle [] rest next × AreOwned next)) comes (inr (idle, owned))
   masters_idle (master ∷ masters) rest before course comes idle owned =
-      let behind : List Task = map (λ number. takes_turn lane (nodes.Master number)) masters ++ rest in
+      let behind : List Task = map (λ number. takes_turn lane (Node.Master number)) masters ++ rest in
       let P : Course → Type 0 = λ next. IsWalked s lane inside origin most rest next ⊎ (IsIdle [] rest next × AreOwned next) in
       goes_on s before course (λ next. IsWalked s lane inside origin most behind next ⊎ (IsIdle masters behind next × AreOwned next)) P
       (master_idle master masters behind before course comes idle owned)
@@ -150,11 +136,11 @@ module _ (s : Setting) (lane : ℕ) (inside : lane < LANES) (origin : Cluster) (
 
   -- the coordinator and all masters
   pub nodes_idle : (masters : List ℕ) (rest : List Task) (before : Cluster) (course : Course) → Comes s before course
-      → IsIdle masters (takes_turn lane nodes.Coordinator ∷ (map (λ master. takes_turn lane (nodes.Master master)) masters ++ rest)) course
+      → IsIdle masters (takes_turn lane Node.Coordinator ∷ (map (λ master. takes_turn lane (Node.Master master)) masters ++ rest)) course
       → AllNoticed (lane_at course.cluster lane)
       → Goes s before course (λ next. IsWalked s lane inside origin most rest next ⊎ (IsIdle [] rest next × AreOwned next))
   nodes_idle masters rest before course comes idle noticed =
-      let behind : List Task = map (λ number. takes_turn lane (nodes.Master number)) masters ++ rest in
+      let behind : List Task = map (λ number. takes_turn lane (Node.Master number)) masters ++ rest in
       let P : Course → Type 0 = λ next. IsWalked s lane inside origin most rest next ⊎ (IsIdle [] rest next × AreOwned next) in
       goes_on s before course (λ next. IsWalked s lane inside origin most behind next ⊎ (IsIdle masters behind next × AreOwned next)) P
       (coordinator_idle masters behind before course comes idle noticed)

@@ -1,49 +1,26 @@
 -- The last reaches of a migration: its target is granted the tablet, pulls it all, and waits until its closing entry is applied.
-use Rattle.std.proofs.Common.{◌≡◌, ◌<◌, ◌≤◌, ◌==◌, ◌&&◌, ℕ, zero, suc, Bool, true, false, cond, not, List, [], ◌∷◌, ◌++◌, length, All, Option, None, Some, refl, sym, ap, subst, ◌∙◌, inl, inr, arith}
-use Rattle.std.specs.Prelude.{◌⊎◌, unwrap_or}
-use Rattle.std.proofs.lemmas.Bool.{and_from, and_parts, eq-eqb, eqb-true, false≢true, ltb-false, or_right}
-use Rattle.std.proofs.lemmas.List.Elements.{All-contains, All-nil, All-weaker}
-use Rattle.rk_types.specs.NumberMap.{get}
-use Rattle.rk_types.specs.declared.hashing.TheConstants.{LANES}
-use Rattle.rk_types.specs.declared.node.Node.TheVariants as nodes
-use Rattle.rk_entry.specs.Numbers.{IsNumber}
-use Rattle.rk_entry.specs.declared.entry.Entry.{Entry}
-use Rattle.rk_entry.specs.declared.lists.TheConstants.{FIRST_SIDE_SEGMENT}
-use Rattle.rk_message.specs.declared.message.Message.{Message}
+use Rattle.std.proofs.Common.{◌≡◌, ◌<◌, ◌≤◌, ◌==◌, ◌&&◌, ℕ, zero, suc, Bool, true, false, cond, not, List, [], ◌∷◌, ◌++◌, length, All}
+use Rattle.std.proofs.Common.{Option, None, Some, refl, sym, ap, subst, ◌∙◌, inl, inr, arith, ◌⊎◌, unwrap_or, eq-eqb, eqb-true, ltb-false}
+use Rattle.std.proofs.Common.{w32}
+use Rattle.rk_scripts.proofs.Words.{and_from, and_parts, false≢true, or_right, All-contains, All-nil, All-weaker, get, LANES, IsNumber}
+use Rattle.rk_scripts.proofs.Words.{Entry, FIRST_SIDE_SEGMENT, Message, row_of, Phase, Opening, Moving, Row, Role, Cluster, lane_at}
+use Rattle.rk_scripts.proofs.Words.{Coordinator, coordinator_step, Master, new_master, tablet_at, IsMaster, Tablet, no_tablet, Range, World}
+use Rattle.rk_scripts.proofs.Words.{master_at, tablet_in, view, Holds, bond_of, coordinator_exchange, grant_task, log_round, reach_phase}
+use Rattle.rk_scripts.proofs.Words.{reach_tasks, Course, is_joining, is_target, turn_exchange, is_on, Granted, Pulled, Joined, IsGoodLane}
+use Rattle.rk_scripts.proofs.Words.{Lasts, found_stands, Node}
 use Rattle.rk_tablet_map.specs.Phase.{lineage_of}
-use Rattle.rk_tablet_map.specs.Rows.{row_of}
-use Rattle.rk_tablet_map.specs.declared.phase.Phase.{Phase}
-use Rattle.rk_tablet_map.specs.declared.phase.Phase.TheVariants.{Opening, Moving}
-use Rattle.rk_tablet_map.specs.declared.row.Row.{Row}
-use Rattle.rk_transfer.specs.declared.role.Role.{Role}
-use Rattle.rk_transfer.specs.declared.role.Role.TheVariants as roles
-use Rattle.rk_world.specs.Cluster.{Cluster, lane_at}
-use Rattle.rk_world.specs.Coordinator.{Coordinator}
-use Rattle.rk_world.specs.CoordinatorStep.{coordinator_step}
-use Rattle.rk_world.specs.Master.{Master, new_master, tablet_at}
 use Rattle.rk_world.specs.Notices.{names}
-use Rattle.rk_world.specs.Premises.{IsMaster}
-use Rattle.rk_world.specs.Tablet.{Tablet, no_tablet}
-use Rattle.std.specs.Int.{w32}
-use Rattle.rk_types.specs.declared.range.Range.{Range}
-use Rattle.rk_world.specs.World.{World, master_at, tablet_in}
+use Rattle.rk_sound.specs.Posts.{ReadyTarget}
 use Rattle.rk_sound.specs.Receives.{HasClosing, IsClosedAt, MembersFit, is_granted as has_grant, joined_place}
-use Rattle.rk_sound.specs.View.{view}
-use Rattle.rk_sound.specs.Posts.{Holds, ReadyTarget, bond_of}
-use Rattle.rk_settle.specs.Advance.{coordinator_exchange, grant_task, log_round, reach_phase, reach_tasks}
-use Rattle.rk_settle.specs.Course.{Course}
-use Rattle.rk_settle.specs.Reaches.{has_joined, is_at_term, is_joining, is_target}
-use Rattle.rk_settle.specs.Tasks.{turn_exchange}
-use Rattle.rk_settle.specs.Topics.{is_on}
-use Rattle.rk_settle.specs.declared.reach.Reach.TheVariants.{Granted, Pulled, Joined}
-use Rattle.rk_runs.proofs.history.Clusters.{IsGoodLane}
-use Rattle.rk_runs.proofs.history.Runs.{Lasts}
-use Rattle.rk_inv_base.proofs.rows.Serving.{found_stands}
-use Rattle.rk_scripts.proofs.settle.Effects.{at_target, closes, fitted, hand_on, hand_sent, hands_over, invited_post, transfer_on, transfer_row, transfer_sent, transfer_silent}
+use Rattle.rk_settle.specs.Reaches.{has_joined, is_at_term}
+use Rattle.rk_scripts.proofs.settle.Effects.{at_target, closes, fitted, hand_on, hand_sent, hands_over, invited_post, transfer_on}
+use Rattle.rk_scripts.proofs.settle.Effects.{transfer_row, transfer_sent, transfer_silent}
 use Rattle.rk_scripts.proofs.settle.ExchangeTasks.{Topic, hand_topic, log_topic, pull_topic, reaches, sorts}
 use Rattle.rk_scripts.proofs.settle.Exchanged.{Sends, turning}
 use Rattle.rk_scripts.proofs.settle.Going.{Comes, Goes, IsAt, goes_here, goes_on}
 use Rattle.rk_scripts.proofs.settle.Lanes.{IsSameBeside}
+use Rattle.rk_scripts.proofs.settle.Migrated.{grants_it, in_still, lives_on}
+use Rattle.rk_scripts.proofs.settle.Migrating.{AfterGranted, AfterPulled, IsIn, second_fails, skips, tasks_in, unfolds}
 use Rattle.rk_scripts.proofs.settle.Numbers.{sends_left}
 use Rattle.rk_scripts.proofs.settle.Ordering.{IsLaneNow, two_orders}
 use Rattle.rk_scripts.proofs.settle.Orders.{HasAnswered, made}
@@ -56,11 +33,9 @@ use Rattle.rk_scripts.proofs.settle.Staging.{good_at, master_sends, past_some}
 use Rattle.rk_scripts.proofs.settle.Tasks.{Task}
 use Rattle.rk_scripts.proofs.settle.Tracking.{IsTracked, IsTrackedTo, tracking}
 use Rattle.rk_scripts.proofs.settle.Walking.{HasTurned}
-use Rattle.rk_scripts.proofs.settle.Migrating.{AfterGranted, AfterPulled, IsIn, second_fails, skips, tasks_in, unfolds}
-use Rattle.rk_scripts.proofs.settle.Migrated.{grants_it, in_still, lives_on}
 
 -- where a role has its closing entry, that is closed
-closed_at : (role : Role) (entry : ℕ) (closing : Entry) (range : Range) (from : ℕ) (list : List Entry) → role ≡ roles.Joining (Some entry)
+closed_at : (role : Role) (entry : ℕ) (closing : Entry) (range : Range) (from : ℕ) (list : List Entry) → role ≡ Role.Joining (Some entry)
     → HasClosing (joined_place role) closing range from list → IsClosedAt closing range from list entry
 closed_at role entry closing range from list is has = subst (λ (r : Role). HasClosing (joined_place r) closing range from list) is has
 
@@ -72,26 +47,19 @@ module _ (s : Setting) (lane : ℕ) (inside : lane < LANES) (origin : Cluster) (
     -- what a target that made ready has is no grant
     not_granted : (w : World) → IsGoodLane Lasts s.masters lane w → IsIn tablet row (Opening source sfrom target (Some dfrom)) source target w
         → is_at_term (tablet_in w target tablet) row.term is_target ≡ false
-    not_granted w good there =
-        by (tablet_in w target tablet).handover.role refl
+    not_granted w good there = by (tablet_in w target tablet).handover.role refl
         (fitted s.masters lane w good row there.found target (ReadyTarget dfrom) there.target_lives
         (invited_post s.masters lane w good row there.found source sfrom target (Some dfrom) there.phase_is))
       where
         by : (role : Role) → (tablet_in w target tablet).handover.role ≡ role → Holds (bond_of (ReadyTarget dfrom) role) row.term (tablet_in w target tablet).handover.term (master_at w target).applied
             → is_at_term (tablet_in w target tablet) row.term is_target ≡ false
-        by (roles.Wanting from) at both = second_fails ((tablet_in w target tablet).handover.term == row.term) (is_target (tablet_in w target tablet).handover.role) (ap is_target at)
-        by roles.Absent at never = absurd never
-        by roles.Serving at never = absurd never
-        by roles.Closing at never = absurd never
-        by roles.Frozen at never = absurd never
-        by roles.Receiving at never = absurd never
-        by (roles.Joining entry) at never = absurd never
-        by (roles.Rebuilding from entry) at never = absurd never
+        by (Role.Wanting from) at both = second_fails ((tablet_in w target tablet).handover.term == row.term) (is_target (tablet_in w target tablet).handover.role) (ap is_target at)
+        by _ at never = absurd never
 
     -- the source tells what it hands over, and the target is granted the tablet
     pub hands_it : (before : Cluster) (course : Course) → Comes s before course → course.tasks ≡ reaches lane tablet Granted ∷ rest → IsSameBeside lane origin course.cluster
         → IsIn tablet row (Opening source sfrom target (Some dfrom)) source target (lane_at course.cluster lane)
-        → (tablet_in (lane_at course.cluster lane) source tablet).handover.term ≡ row.term → (tablet_in (lane_at course.cluster lane) source tablet).handover.role ≡ roles.Frozen
+        → (tablet_in (lane_at course.cluster lane) source tablet).handover.term ≡ row.term → (tablet_in (lane_at course.cluster lane) source tablet).handover.role ≡ Role.Frozen
         → Goes s before course (IsLaneNow lane origin rest (AfterGranted tablet))
     hands_it before course comes are beside there term role =
         goes_on s before course (IsAt course.cluster (coordinator_exchange lane topic ∷ behind)) (IsLaneNow lane origin rest (AfterGranted tablet))
@@ -109,8 +77,7 @@ module _ (s : Setting) (lane : ℕ) (inside : lane < LANES) (origin : Cluster) (
         (λ end comes_end done.
         grants_it s lane inside origin rest (record row { phase = Moving source sfrom target dfrom }) source sfrom target dfrom before end comes_end done.left done.beside
         (record {
-          found =
-              ap (λ (it : Coordinator). row_of it.rows tablet) done.now.coordinator
+          found = ap (λ (it : Coordinator). row_of it.rows tablet) done.now.coordinator
               ∙ transfer_row s.masters lane w good row there.found source sfrom target dfrom there.phase_is there.source_lives term role;
           phase_is = refl;
           source_lives = lives_on w (lane_at end.cluster lane) source done.now.crashed there.source_lives;
@@ -191,7 +158,7 @@ module _ (s : Setting) (lane : ℕ) (inside : lane < LANES) (origin : Cluster) (
             → IsIn tablet row (Moving source sfrom target dfrom) source target (lane_at course.cluster lane)
             → (tablet_in (lane_at course.cluster lane) target tablet).handover.term ≡ row.term → is_target (tablet_in (lane_at course.cluster lane) target tablet).handover.role ≡ true
             → sends_left course.cluster < fuel → Goes s before course (IsLaneNow lane origin rest (AfterPulled tablet)))
-            → ((tablet_in w target tablet).handover.role ≡ roles.Receiving) ⊎ (is_joining (tablet_in w target tablet).handover.role ≡ true)
+            → ((tablet_in w target tablet).handover.role ≡ Role.Receiving) ⊎ (is_joining (tablet_in w target tablet).handover.role ≡ true)
             → Goes s before course (IsLaneNow lane origin rest (AfterPulled tablet))
         go again (inr joining) =
             skips s lane inside origin rest (AfterPulled tablet) tablet Pulled before course comes are beside
@@ -215,7 +182,7 @@ module _ (s : Setting) (lane : ℕ) (inside : lane < LANES) (origin : Cluster) (
             (subst (λ (cluster : Cluster). Goes s before later (HasRounded lane origin tablet (lane_at cluster lane) (sends_left cluster) behind)) at.cluster_is
             (rounding s lane inside origin tablet (pull_topic tablet) target behind (pull_quiet tablet) (pull_steps tablet tablet) before later comes_later at.tasks_are
             (subst (IsSameBeside lane origin) (sym at.cluster_is) beside)
-            (subst (λ (cluster : Cluster). Sends (lane_at cluster lane) (nodes.Master target)) (sym at.cluster_is) (receiving_sends w target tablet there.target_lives receiving))))
+            (subst (λ (cluster : Cluster). Sends (lane_at cluster lane) (Node.Master target)) (sym at.cluster_is) (receiving_sends w target tablet there.target_lives receiving))))
             (λ last comes_last done.
             let on = done.lane_now.now in
             again before last comes_last done.lane_now.left done.lane_now.beside
@@ -228,7 +195,7 @@ module _ (s : Setting) (lane : ℕ) (inside : lane < LANES) (origin : Cluster) (
     joining_sends : (course : Course) (sane : IsSane s course) → IsIn tablet row (Moving source sfrom target dfrom) source target (lane_at course.cluster lane)
         → (tablet_in (lane_at course.cluster lane) target tablet).handover.term ≡ row.term → is_joining (tablet_in (lane_at course.cluster lane) target tablet).handover.role ≡ true
         → is_at_term (tablet_in (lane_at course.cluster lane) target tablet) row.term (has_joined (master_at (lane_at course.cluster lane) target).applied) ≡ false
-        → Sends (lane_at course.cluster lane) (nodes.Master target)
+        → Sends (lane_at course.cluster lane) (Node.Master target)
     joining_sends course sane there term joining short = by (tablet_in w target tablet).handover.role refl joining
       where
         w : World
@@ -250,8 +217,8 @@ module _ (s : Setting) (lane : ℕ) (inside : lane < LANES) (origin : Cluster) (
             go None is = none
             go (Some master) is = some master is
 
-        by : (role : Role) → (tablet_in w target tablet).handover.role ≡ role → is_joining role ≡ true → Sends w (nodes.Master target)
-        by (roles.Joining None) at is =
+        by : (role : Role) → (tablet_in w target tablet).handover.role ≡ role → is_joining role ≡ true → Sends w (Node.Master target)
+        by (Role.Joining None) at is =
             let patient = reached_patient s.masters s.backups course.cluster (here s course sane) lane inside target in
             let backed : 1 ≤ length (master_at w target).log.known = omega (arith, good.sound.nodes.backed, good.sound.nodes.known target is_master) in
             waiting_sends w target tablet there.target_lives backed low (good.steady.0.sealed target tablet)
@@ -273,7 +240,7 @@ module _ (s : Setting) (lane : ℕ) (inside : lane < LANES) (origin : Cluster) (
                 All-contains (λ (r : Row). names r.phase target ≡ true → IsMaster w.coordinator.masters target) w.coordinator.rows row (good.sound.nodes.named target)
                 (found_stands w.coordinator.rows tablet row there.found)
                 (ap (λ (p : Phase). names p target) there.phase_is ∙ or_right (source == target) (target == target) (eq-eqb target target refl))
-        by (roles.Joining (Some entry)) at is =
+        by (Role.Joining (Some entry)) at is =
             let v = view w in
             let fits =
             All-contains (λ (r : Row). MembersFit r v.written v.handovers v.pullings v.records v.handed (lineage_of r.phase)) w.coordinator.rows row good.sound.receives.targets
@@ -285,13 +252,7 @@ module _ (s : Setting) (lane : ℕ) (inside : lane < LANES) (origin : Cluster) (
             ltb-false entry (master_at w target).applied (ap (has_joined (master_at w target).applied) (sym at) ∙ not_joined) in
             master_sends s course sane lane inside target there.target_lives
             (past_some (master_at w target).log.entries (master_at w target).applied entry _ behind closed.stands)
-        by roles.Absent at never = absurd (false≢true never)
-        by roles.Serving at never = absurd (false≢true never)
-        by roles.Closing at never = absurd (false≢true never)
-        by roles.Frozen at never = absurd (false≢true never)
-        by roles.Receiving at never = absurd (false≢true never)
-        by (roles.Wanting from) at never = absurd (false≢true never)
-        by (roles.Rebuilding from entry) at never = absurd (false≢true never)
+        by _ at never = absurd (false≢true never)
 
     pub joins_within : (fuel : ℕ) (before : Cluster) (course : Course) → Comes s before course → course.tasks ≡ reaches lane tablet Joined ∷ rest → IsSameBeside lane origin course.cluster
         → IsIn tablet row (Moving source sfrom target dfrom) source target (lane_at course.cluster lane)
@@ -333,7 +294,7 @@ module _ (s : Setting) (lane : ℕ) (inside : lane < LANES) (origin : Cluster) (
             (subst (λ (cluster : Cluster). Goes s before later (HasRounded lane origin tablet (lane_at cluster lane) (sends_left cluster) behind)) at.cluster_is
             (rounding s lane inside origin tablet log_topic target behind log_quiet (log_steps tablet) before later comes_later at.tasks_are
             (subst (IsSameBeside lane origin) (sym at.cluster_is) beside)
-            (subst (λ (cluster : Cluster). Sends (lane_at cluster lane) (nodes.Master target)) (sym at.cluster_is) (joining_sends course comes.sane there term role is))))
+            (subst (λ (cluster : Cluster). Sends (lane_at cluster lane) (Node.Master target)) (sym at.cluster_is) (joining_sends course comes.sane there term role is))))
             (λ last comes_last done.
             let on = done.lane_now.now in
             again before last comes_last done.lane_now.left done.lane_now.beside
@@ -342,14 +303,14 @@ module _ (s : Setting) (lane : ℕ) (inside : lane < LANES) (origin : Cluster) (
 
   -- ---- an exchange of which nothing is said
 
-  pub plain_exchanging : (topic : Topic) (m : ℕ) (before : Cluster) (course : Course) → Comes s before course → course.tasks ≡ turn_exchange lane topic (nodes.Master m) ∷ rest
+  pub plain_exchanging : (topic : Topic) (m : ℕ) (before : Cluster) (course : Course) → Comes s before course → course.tasks ≡ turn_exchange lane topic (Node.Master m) ∷ rest
       → IsSameBeside lane origin course.cluster → Goes s before course (IsLaneNow lane origin rest (λ w. Unit {0}))
   plain_exchanging topic m before course comes are beside =
       let sent : ℕ = (lane_at course.cluster lane).wire.sent in
       let Holds : ℕ → World → Type 0 = λ from w. Unit {0} in
       let tracked : IsTracked topic s.masters lane Holds = record { forgets = λ from n w off it. tt; takes = λ from n w message arrival good after found on fits it. tt } in
-      goes_on s before course (HasTurned lane (nodes.Master m) (sorts lane topic sent sent ∷ rest) course.cluster) (IsLaneNow lane origin rest (λ w. Unit {0}))
-      (turning s lane inside topic (nodes.Master m) rest before course comes are)
+      goes_on s before course (HasTurned lane (Node.Master m) (sorts lane topic sent sent ∷ rest) course.cluster) (IsLaneNow lane origin rest (λ w. Unit {0}))
+      (turning s lane inside topic (Node.Master m) rest before course comes are)
       (λ later comes_later turned.
       goes_on s before later (IsTrackedTo s lane inside origin topic Holds tracked rest) (IsLaneNow lane origin rest (λ w. Unit {0}))
       (tracking s lane inside origin topic Holds tracked sent rest before later comes_later turned.left (λ q apart. turned.changes.beside q apart ∙ beside q apart) tt)

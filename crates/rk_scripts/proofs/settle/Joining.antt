@@ -1,28 +1,17 @@
 -- A client that gets a session is added in each lane first: each has room for it, since it has as many clients as there are sessions.
-use Rattle.std.proofs.Common.{◌≡◌, ◌≤◌, ◌<◌, ◌+◌, ◌&&◌, ℕ, zero, suc, Bool, true, false, nat_le, not, List, [], ◌∷◌, ◌++◌, length, Option, Some, None, refl, sym, ap, subst, ◌∙◌, ⊎_elim, arith}
-use Rattle.std.specs.Prelude.{Ok, Result, is_some}
-use Rattle.std.specs.List.{range_with_len}
-use Rattle.std.specs.Option.{option_map, option_or}
-use Rattle.std.proofs.lemmas.Bool.{cases_lt, cond-false, leb-false, leb-true}
-use Rattle.std.proofs.lemmas.List.{get_or-set_other, length-set}
-use Rattle.rk_types.specs.NumberMap.{IsInOrder, get, insert, numbers}
-use Rattle.rk_types.proofs.NumberMaps.{in_order_insert}
-use Rattle.rk_world.specs.Backup.{Gave}
-use Rattle.rk_world.specs.Client.{Session, new_session}
-use Rattle.rk_world.specs.Cluster.{Cluster, Joins, Occurrence, cluster_stepped, joined_by, lane_at, with_lane}
-use Rattle.rk_world.specs.Ledger.{is_added, with_client}
-use Rattle.rk_world.specs.Refusals.{MOST_CLIENTS, where_true, worn}
-use Rattle.rk_world.specs.Step.{Stepped, quietly, step, stepped_by}
-use Rattle.rk_world.specs.World.{World, new_world, with_ledger, with_top}
-use Rattle.rk_world.specs.declared.error.StepError.{StepError}
-use Rattle.rk_world.specs.declared.error.StepError.TheVariants as errors
-use Rattle.rk_world.specs.declared.event.Event.TheVariants as events
-use Rattle.rk_cluster.specs.Acted.{Acted, acted_by, all_acted, going_on, worn_in}
-use Rattle.rk_cluster.specs.Codes.{client_code, code_where, first_code}
-use Rattle.rk_cluster.specs.Looks.{is_client}
-use Rattle.rk_cluster.specs.Makes.{client_makes, in_lane, in_lanes}
-use Rattle.rk_cluster.specs.declared.code.Code.TheVariants.{Limit, Taken}
-use Rattle.rk_runs.proofs.history.Clusters.{lane_here}
+use Rattle.std.proofs.Common.{◌≡◌, ◌≤◌, ◌<◌, ◌+◌, ◌&&◌, ℕ, zero, suc, Bool, true, false, nat_le, not, List, [], ◌∷◌, ◌++◌, length, Option}
+use Rattle.std.proofs.Common.{Some, None, refl, sym, ap, subst, ◌∙◌, ⊎_elim, arith, Ok, Result, is_some, option_map, leb-false, leb-true}
+use Rattle.std.proofs.Common.{get_or-set_other, length-set}
+use Rattle.rk_scripts.proofs.Words.{range_with_len, option_or, cases_lt, cond-false, IsInOrder, get, insert, numbers, in_order_insert, Gave}
+use Rattle.rk_scripts.proofs.Words.{Session, new_session, Cluster, Joins, Occurrence, cluster_stepped, joined_by, lane_at, with_lane}
+use Rattle.rk_scripts.proofs.Words.{is_added, where_true, worn, Stepped, quietly, step, stepped_by, World, new_world, with_ledger, with_top}
+use Rattle.rk_scripts.proofs.Words.{StepError, Acted, all_acted, going_on, worn_in, code_where, first_code, is_client, client_makes}
+use Rattle.rk_scripts.proofs.Words.{in_lane, in_lanes, Limit, lane_here, Event}
+use Rattle.rk_world.specs.Ledger.{with_client}
+use Rattle.rk_world.specs.Refusals.{MOST_CLIENTS}
+use Rattle.rk_cluster.specs.Acted.{acted_by}
+use Rattle.rk_cluster.specs.Codes.{client_code}
+use Rattle.rk_cluster.specs.declared.code.Code.TheVariants.{Taken}
 use Rattle.rk_scripts.proofs.play.Tests.{passes}
 use Rattle.rk_scripts.proofs.settle.Owning.{HasOwnClients}
 use Rattle.rk_scripts.proofs.settle.SameNumbers.{as_many, found_alike, insert_alike}
@@ -31,22 +20,22 @@ use Rattle.rk_scripts.proofs.settle.SameNumbers.{as_many, found_alike, insert_al
 
 module _ (w : World) (client : ℕ) (strange : is_added w.ledger client ≡ false) (few : length w.ledger.clients < MOST_CLIENTS) where
   -- the lane is not too full
-  not_too_many : where_true (not (is_added w.ledger client) && nat_le MOST_CLIENTS (length w.ledger.clients)) errors.TooMany ≡ None
+  not_too_many : where_true (not (is_added w.ledger client) && nat_le MOST_CLIENTS (length w.ledger.clients)) StepError.TooMany ≡ None
   not_too_many = go (is_added w.ledger client) (nat_le MOST_CLIENTS (length w.ledger.clients)) refl
     where
-      go : (added many : Bool) → nat_le MOST_CLIENTS (length w.ledger.clients) ≡ many → where_true (not added && many) errors.TooMany ≡ None
+      go : (added many : Bool) → nat_le MOST_CLIENTS (length w.ledger.clients) ≡ many → where_true (not added && many) StepError.TooMany ≡ None
       go true many is = refl
       go false false is = refl
       go false true is = absurd (omega (arith, few, leb-true MOST_CLIENTS (length w.ledger.clients) is))
 
   -- so the client is added, unless the lane is worn
-  comes : worn_in (step w (events.AddClient client) (Gave None)) ≡ None
-      → step w (events.AddClient client) (Gave None) ≡ Ok (quietly (with_ledger w (with_client w.ledger client)))
-  comes = go (worn w) (where_true (not (is_added w.ledger client) && nat_le MOST_CLIENTS (length w.ledger.clients)) errors.TooMany) not_too_many
+  comes : worn_in (step w (Event.AddClient client) (Gave None)) ≡ None
+      → step w (Event.AddClient client) (Gave None) ≡ Ok (quietly (with_ledger w (with_client w.ledger client)))
+  comes = go (worn w) (where_true (not (is_added w.ledger client) && nat_le MOST_CLIENTS (length w.ledger.clients)) StepError.TooMany) not_too_many
     where
       go : (found : Option ℕ) (fault : Option StepError) → fault ≡ None
-          → worn_in (stepped_by w (events.AddClient client) (Gave None) (option_or (option_map errors.Worn found) fault)) ≡ None
-          → stepped_by w (events.AddClient client) (Gave None) (option_or (option_map errors.Worn found) fault)
+          → worn_in (stepped_by w (Event.AddClient client) (Gave None) (option_or (option_map StepError.Worn found) fault)) ≡ None
+          → stepped_by w (Event.AddClient client) (Gave None) (option_or (option_map StepError.Worn found) fault)
           ≡ Ok (quietly (with_ledger w (with_client w.ledger client)))
       go (Some number) fault none fresh = absurd (cc fresh)
       go None (Some error) none fresh = absurd (cc none)
@@ -62,7 +51,7 @@ first_fresh first (Some number) next is fresh = sym is ∙ fresh
 
 -- what comes of the adding of a client in a lane, by what it makes
 abbrev adding_by : ℕ → Cluster → ℕ → Result Stepped StepError → Acted
-adding_by client cluster lane result = acted_by (in_lane lane (events.AddClient client)) (cluster_stepped cluster lane result) [] result
+adding_by client cluster lane result = acted_by (in_lane lane (Event.AddClient client)) (cluster_stepped cluster lane result) [] result
 
 module _ (client : ℕ) where
   -- in the lanes before one the client was added, and in the others not
@@ -114,15 +103,15 @@ module _ (client : ℕ) where
 
   adds : (count first : ℕ) (cluster : Cluster) → first + count ≡ length cluster.lanes → IsInOrder cluster.sessions → is_client cluster client ≡ false
       → length cluster.sessions < MOST_CLIENTS → IsAddedBefore first cluster
-      → (all_acted cluster (in_lanes (range_with_len first count) (events.AddClient client) ++ Joins client ∷ [])).worn ≡ None
-      → HasOwnClients (all_acted cluster (in_lanes (range_with_len first count) (events.AddClient client) ++ Joins client ∷ [])).cluster
+      → (all_acted cluster (in_lanes (range_with_len first count) (Event.AddClient client) ++ Joins client ∷ [])).worn ≡ None
+      → HasOwnClients (all_acted cluster (in_lanes (range_with_len first count) (Event.AddClient client) ++ Joins client ∷ [])).cluster
   adds zero first cluster all order strange few added fresh =
       let last : first ≡ length cluster.lanes = omega (arith, all) in
       joins cluster (get cluster.sessions client) refl strange order (subst (λ (n : ℕ). IsAddedBefore n cluster) last added)
   adds (suc count) first cluster all order strange few added fresh =
       let w : World = lane_at cluster first in
-      let result : Result Stepped StepError = step w (events.AddClient client) (Gave None) in
-      let later : List Occurrence = in_lanes (range_with_len (first + 1) count) (events.AddClient client) ++ Joins client ∷ [] in
+      let result : Result Stepped StepError = step w (Event.AddClient client) (Gave None) in
+      let later : List Occurrence = in_lanes (range_with_len (first + 1) count) (Event.AddClient client) ++ Joins client ∷ [] in
       let inside : first < length cluster.lanes = omega (arith, all) in
       let same : numbers w.ledger.clients ≡ numbers cluster.sessions = added.after first (omega arith) inside in
       let here : worn_in result ≡ None =

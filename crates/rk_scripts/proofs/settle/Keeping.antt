@@ -1,43 +1,22 @@
 -- What a master has of a tablet, where it takes its turn, is told what backups hold, or pulls: its term stays, a target stays one, and one that
 -- has all too.
-use Rattle.std.proofs.Common.{◌≡◌, ◌%◌, ◌&&◌, ℕ, Bool, true, false, cond, not, nat_lt, List, [], ◌∷◌, length, fold, Option, None, Some, refl, sym, ap, subst, ◌∙◌, ⊎_elim}
-use Rattle.std.specs.Prelude.{unwrap_or}
-use Rattle.std.specs.FinMap.Entries.{below_all}
-use Rattle.std.specs.Option.{option_map}
-use Rattle.std.specs.Ordering.{nat_cmp}
-use Rattle.std.proofs.lemmas.Bool.{cases_eq, false≢true}
-use Rattle.rk_types.specs.NumberMap.{IsInOrder, NumberMap, changed_each, get}
-use Rattle.rk_types.specs.declared.call.Call.{Call}
-use Rattle.rk_types.specs.declared.call.Ended.{Ended}
-use Rattle.rk_types.specs.declared.held.Held.{Held}
-use Rattle.rk_entry.specs.declared.entry.Entry.{Entry}
-use Rattle.rk_entry.specs.declared.entry.Entry.TheVariants as entries
-use Rattle.rk_log.specs.declared.overreach.Overreach.{Overreach}
+use Rattle.std.proofs.Common.{◌≡◌, ◌%◌, ◌&&◌, ℕ, Bool, true, false, cond, not, nat_lt, List, [], ◌∷◌, length, fold, Option, None, Some}
+use Rattle.std.proofs.Common.{refl, sym, ap, subst, ◌∙◌, ⊎_elim, unwrap_or, option_map, nat_cmp}
+use Rattle.rk_scripts.proofs.Words.{below_all, cases_eq, false≢true, IsInOrder, NumberMap, changed_each, get, Call, Ended, Held, Entry}
+use Rattle.rk_scripts.proofs.Words.{Overreach, Stored, found, is_newer, end, frozen, in_role, joined, role_joined, Handover, Role, Reading}
+use Rattle.rk_scripts.proofs.Words.{apply_entries, apply_entry, newly_held, noting, stored_taken, with_applied, with_ended, with_entry_item}
+use Rattle.rk_scripts.proofs.Words.{items_of, next_reading, Master, is_settled, tablet_at, with_known, with_side_segment, with_tablet}
+use Rattle.rk_scripts.proofs.Words.{duties, master_turn, reading_duty, tablet_duty, with_outstanding, batch_taken, is_token, item_replayed}
+use Rattle.rk_scripts.proofs.Words.{joining_at, joining_by, pulled_all, pulled_taken, replay, replay_one, token_passed, with_pulled}
+use Rattle.rk_scripts.proofs.Words.{with_pulling, is_receiving_at, sealed_sides, Tablet, no_tablet, with_handover, all_going_on}
+use Rattle.rk_scripts.proofs.Words.{closing_entry, freezing, going_on_in, is_sealed_stored, Worked, changed, is_joining, is_target}
+use Rattle.rk_scripts.proofs.Words.{kept_by_fold, above_all, first, found_changed, get_first, get_later, order_tail}
 use Rattle.rk_done.specs.Completions.{noted}
 use Rattle.rk_message.specs.declared.pulling.Pulled.{Pulled}
-use Rattle.rk_message.specs.declared.replication.Stored.{Stored}
-use Rattle.rk_table.specs.Items.{found, is_newer}
-use Rattle.rk_table.specs.Scans.{end}
-use Rattle.rk_transfer.specs.Handover.{frozen, in_role, joined, role_joined}
-use Rattle.rk_transfer.specs.declared.handover.Handover.{Handover}
-use Rattle.rk_transfer.specs.declared.role.Role.{Role}
-use Rattle.rk_transfer.specs.declared.role.Role.TheVariants as roles
-use Rattle.rk_world.specs.declared.work.Reading.{Reading}
-use Rattle.rk_world.specs.Commits.{apply_entries, apply_entry, newly_held, noting, stored_taken, with_applied, with_ended, with_entry_item}
-use Rattle.rk_world.specs.Ends.{items_of, told_by}
-use Rattle.rk_world.specs.Gather.{next_reading}
-use Rattle.rk_world.specs.Master.{Master, is_settled, tablet_at, with_known, with_side_segment, with_tablet}
-use Rattle.rk_world.specs.MasterTurn.{duties, master_turn, reading_duty, tablet_duty, with_outstanding}
-use Rattle.rk_world.specs.Pulls.{batch_taken, is_token, item_replayed, joining_at, joining_by, pulled_all, pulled_taken, replay, replay_one, sealing, token_passed, with_pulled, with_pulling}
+use Rattle.rk_world.specs.Ends.{told_by}
+use Rattle.rk_world.specs.Pulls.{sealing}
 use Rattle.rk_world.specs.Ranges.{has_key}
-use Rattle.rk_world.specs.RoleTests.{is_absent, is_receiving_at}
-use Rattle.rk_world.specs.SideLogs.{sealed_sides}
-use Rattle.rk_world.specs.Tablet.{Tablet, no_tablet, with_handover}
-use Rattle.rk_world.specs.Waiting.{all_going_on, closing_entry, freezing, going_on_in, is_sealed_stored}
-use Rattle.rk_world.specs.Worked.{Worked, changed}
-use Rattle.rk_settle.specs.Reaches.{is_joining, is_target}
-use Rattle.rk_inv_wellformed.proofs.lanes.Ledgers.{kept_by_fold}
-use Rattle.rk_inv_wellformed.proofs.maps.Maps.{above_all, first, found_changed, get_first, get_later, order_tail}
+use Rattle.rk_world.specs.RoleTests.{is_absent}
 use Rattle.rk_scripts.proofs.settle.Patient.{at_other, at_put}
 use Rattle.rk_scripts.proofs.settle.PatientPulls.{joins}
 use Rattle.rk_scripts.proofs.settle.PatientSteps.{below_apart, entries_order, frozen_own, joined_own}
@@ -65,14 +44,11 @@ GoesOnAt number before after = Onward (tablet_at before number).handover (tablet
 module _ (number : ℕ) where
   -- one tablet is put
   put_on : (master : Master) (n : ℕ) (tablet : Tablet) → Onward (tablet_at master n).handover tablet.handover → GoesOnAt number master (with_tablet master n tablet)
-  put_on master n tablet on =
-      ⊎_elim
-      (λ (is : number ≡ n).
-      subst (λ (k : ℕ). Onward (tablet_at master k).handover (tablet_at (with_tablet master n tablet) k).handover) (sym is)
+  put_on master n tablet on = ⊎_elim (λ (is : number ≡ n). subst
+      (λ (k : ℕ). Onward (tablet_at master k).handover (tablet_at (with_tablet master n tablet) k).handover) (sym is)
       (subst (λ (it : Tablet). Onward (tablet_at master n).handover it.handover) (sym (at_put master n tablet)) on))
-      (λ (apart : number ≡ n → ⊥).
-      subst (λ (it : Tablet). Onward (tablet_at master number).handover it.handover) (sym (at_other master n tablet number apart))
-      (onward_itself (tablet_at master number).handover))
+      (λ (apart : number ≡ n → ⊥). subst (λ (it : Tablet). Onward (tablet_at master number).handover it.handover)
+      (sym (at_other master n tablet number apart)) (onward_itself (tablet_at master number).handover))
       (cases_eq number n)
 
 -- ---- turns
@@ -87,10 +63,10 @@ reading_is P now n tablet (Some reading) same = same
 
 -- a duty changes nothing, or asks for what is wanted first
 duty_is : (P : Master → Type 0) (now : Master) (n : ℕ) (tablet : Tablet) (role : Role) → P now → P (with_tablet now n (with_outstanding tablet)) → P (tablet_duty now n tablet role).master
-duty_is P now n tablet roles.Receiving same asks = asks
-duty_is P now n tablet (roles.Joining (Some entry)) same asks = either_is P (nat_lt entry now.applied) _ (changed now) same same
-duty_is P now n tablet (roles.Rebuilding from None) same asks = reading_is P now n tablet (next_reading tablet.gather) same
-duty_is P now n tablet (roles.Rebuilding from (Some entry)) same asks = either_is P (nat_lt entry now.applied) _ (changed now) same same
+duty_is P now n tablet Role.Receiving same asks = asks
+duty_is P now n tablet (Role.Joining (Some entry)) same asks = either_is P (nat_lt entry now.applied) _ (changed now) same same
+duty_is P now n tablet (Role.Rebuilding from None) same asks = reading_is P now n tablet (next_reading tablet.gather) same
+duty_is P now n tablet (Role.Rebuilding from (Some entry)) same asks = either_is P (nat_lt entry now.applied) _ (changed now) same same
 duty_is P now n tablet role same asks = same
 
 -- the tablets that are left are as they were
@@ -148,10 +124,8 @@ module _ (number : ℕ) where
           (subst (λ (h : Handover). Onward tablet.handover h) (sym (handover_same tablet)) (onward_itself tablet.handover)))
 
   item_on : (master : Master) (entry : Entry) → GoesOnAt number master (with_applied (with_entry_item master entry))
-  item_on master (entries.Held held) = onward_itself (tablet_at master number).handover
-  item_on master (entries.Refused refused) = onward_itself (tablet_at master number).handover
-  item_on master (entries.Carried carried) = onward_itself (tablet_at master number).handover
-  item_on master (entries.Joined joined) = onward_itself (tablet_at master number).handover
+  item_on master (Entry.Held held) = onward_itself (tablet_at master number).handover
+  item_on master _ = onward_itself (tablet_at master number).handover
 
   ended_on : (master : Master) (place : ℕ) (call : Option Call) (ends : List Ended) → GoesOnAt number master (with_ended master place call ends).master
   ended_on master place (Some call) (end ∷ ends) = noted_on master call end place
@@ -180,48 +154,41 @@ module _ (number : ℕ) where
   going_put now n tablet on = record { own = put_on number now n tablet on; other = λ q apart. at_other now n tablet q apart }
 
   module _ (now : Master) (n : ℕ) (tablet : Tablet) (at : tablet_at now n ≡ tablet) where
-    closing_on : tablet.handover.role ≡ roles.Closing → Going n now (freezing now n tablet (frozen tablet.handover tablet.handover.term))
+    closing_on : tablet.handover.role ≡ Role.Closing → Going n now (freezing now n tablet (frozen tablet.handover tablet.handover.term))
     closing_on is = subst (λ (moved : Option Handover). Going n now (freezing now n tablet moved)) (sym (frozen_own tablet.handover is)) (go (is_settled now tablet.handover.range))
       where
-        on : Onward tablet.handover (record tablet.handover { role = roles.Frozen })
+        on : Onward tablet.handover (record tablet.handover { role = Role.Frozen })
         on = record {
           term = refl;
           target = λ it. absurd (false≢true (ap is_target (sym is) ∙ it));
           joining = λ it. absurd (false≢true (ap is_joining (sym is) ∙ it));
         }
 
-        go : (b : Bool) → Going n now (cond b (with_tablet now n (with_handover tablet (record tablet.handover { role = roles.Frozen }))) now)
-        go true =
-            going_put now n (with_handover tablet (record tablet.handover { role = roles.Frozen }))
-            (subst (λ (it : Tablet). Onward it.handover (record tablet.handover { role = roles.Frozen })) (sym at) on)
+        go : (b : Bool) → Going n now (cond b (with_tablet now n (with_handover tablet (record tablet.handover { role = Role.Frozen }))) now)
+        go true = going_put now n (with_handover tablet (record tablet.handover { role = Role.Frozen }))
+            (subst (λ (it : Tablet). Onward it.handover (record tablet.handover { role = Role.Frozen })) (sym at) on)
         go false = going_still n now
 
-    joining_on : tablet.handover.role ≡ roles.Joining None
+    joining_on : tablet.handover.role ≡ Role.Joining None
         → Going n now (cond (is_sealed_stored now tablet) (closing_entry now n tablet (joined tablet.handover tablet.handover.term (Some (length now.log.entries)))) now)
     joining_on is =
         subst (λ (moved : Option Handover). Going n now (cond (is_sealed_stored now tablet) (closing_entry now n tablet moved) now))
         (sym (joined_own tablet.handover (length now.log.entries) is)) (go (is_sealed_stored now tablet))
       where
-        on : Onward tablet.handover (record tablet.handover { role = roles.Joining (Some (length now.log.entries)) })
+        on : Onward tablet.handover (record tablet.handover { role = Role.Joining (Some (length now.log.entries)) })
         on = record { term = refl; target = λ it. refl; joining = λ it. refl }
 
-        go : (b : Bool) → Going n now (cond b (closing_entry now n tablet (Some (record tablet.handover { role = roles.Joining (Some (length now.log.entries)) }))) now)
+        go : (b : Bool) → Going n now (cond b (closing_entry now n tablet (Some (record tablet.handover { role = Role.Joining (Some (length now.log.entries)) }))) now)
         go true =
-            let after : Handover = record tablet.handover { role = roles.Joining (Some (length now.log.entries)) } in
+            let after : Handover = record tablet.handover { role = Role.Joining (Some (length now.log.entries)) } in
             let put = going_put now n (with_handover tablet after) (subst (λ (it : Tablet). Onward it.handover after) (sym at) on) in
             record { own = put.own; other = put.other }
         go false = going_still n now
 
     going_on_one : (role : Role) → tablet.handover.role ≡ role → Going n now (going_on_in now n tablet role)
-    going_on_one roles.Closing is = closing_on is
-    going_on_one (roles.Joining None) is = joining_on is
-    going_on_one (roles.Joining (Some entry)) is = going_still n now
-    going_on_one roles.Absent is = going_still n now
-    going_on_one roles.Serving is = going_still n now
-    going_on_one roles.Frozen is = going_still n now
-    going_on_one (roles.Wanting from) is = going_still n now
-    going_on_one roles.Receiving is = going_still n now
-    going_on_one (roles.Rebuilding from entry) is = going_still n now
+    going_on_one Role.Closing is = closing_on is
+    going_on_one (Role.Joining None) is = joining_on is
+    going_on_one _ is = going_still n now
 
   all_going : (list : NumberMap Tablet) (now : Master) → IsInOrder list → AreComing list now → GoesOnAt number now (all_going_on now list)
   all_going [] now sorted coming = onward_itself (tablet_at now number).handover
@@ -248,8 +215,7 @@ module _ (number : ℕ) where
       put_on number master n tablet (subst (Onward (tablet_at master n).handover) (sym is) (onward_itself (tablet_at master n).handover))
 
   replay_on : (master : Master) (n worker : ℕ) (items : List Held) → GoesOnAt number master (replay master n worker items)
-  replay_on master n worker items =
-      kept_by_fold (GoesOnAt number master) (replay_one n worker)
+  replay_on master n worker items = kept_by_fold (GoesOnAt number master) (replay_one n worker)
       (λ now item kept. go now item kept (is_newer item (found item.table item.key now.records)))
       items master (onward_itself (tablet_at master number).handover)
     where
@@ -272,34 +238,21 @@ module _ (number : ℕ) where
     closes_on place role is =
         subst (λ (moved : Option Handover). GoesOnAt number now (closing_entry now n tablet moved)) (sym (joins tablet.handover (Some place) role is)) (go role)
       where
-        has : GoesOnAt number now (closing_entry now n tablet (Some (record tablet.handover { role = roles.Joining (Some place) })))
-        has = moved_put (roles.Joining (Some place)) (record { term = refl; target = λ it. refl; joining = λ it. refl })
+        has : GoesOnAt number now (closing_entry now n tablet (Some (record tablet.handover { role = Role.Joining (Some place) })))
+        has = moved_put (Role.Joining (Some place)) (record { term = refl; target = λ it. refl; joining = λ it. refl })
 
         go : (r : Role) → GoesOnAt number now (closing_entry now n tablet (in_role tablet.handover (role_joined (Some place) r)))
-        go roles.Receiving = has
-        go (roles.Joining None) = has
-        go (roles.Joining (Some entry)) = onward_itself (tablet_at now number).handover
-        go roles.Closing = onward_itself (tablet_at now number).handover
-        go roles.Absent = onward_itself (tablet_at now number).handover
-        go roles.Serving = onward_itself (tablet_at now number).handover
-        go roles.Frozen = onward_itself (tablet_at now number).handover
-        go (roles.Wanting from) = onward_itself (tablet_at now number).handover
-        go (roles.Rebuilding from entry) = onward_itself (tablet_at now number).handover
+        go Role.Receiving = has
+        go (Role.Joining None) = has
+        go _ = onward_itself (tablet_at now number).handover
 
     waits_on : (role : Role) → tablet.handover.role ≡ role → GoesOnAt number now (joining_at now n tablet (joined tablet.handover tablet.handover.term None))
     waits_on role is =
         subst (λ (moved : Option Handover). GoesOnAt number now (joining_at now n tablet moved)) (sym (joins tablet.handover None role is)) (go role)
       where
         go : (r : Role) → GoesOnAt number now (joining_at now n tablet (in_role tablet.handover (role_joined None r)))
-        go roles.Receiving = moved_put (roles.Joining None) (record { term = refl; target = λ it. refl; joining = λ it. refl })
-        go (roles.Joining None) = onward_itself (tablet_at now number).handover
-        go (roles.Joining (Some entry)) = onward_itself (tablet_at now number).handover
-        go roles.Closing = onward_itself (tablet_at now number).handover
-        go roles.Absent = onward_itself (tablet_at now number).handover
-        go roles.Serving = onward_itself (tablet_at now number).handover
-        go roles.Frozen = onward_itself (tablet_at now number).handover
-        go (roles.Wanting from) = onward_itself (tablet_at now number).handover
-        go (roles.Rebuilding from entry) = onward_itself (tablet_at now number).handover
+        go Role.Receiving = moved_put (Role.Joining None) (record { term = refl; target = λ it. refl; joining = λ it. refl })
+        go _ = onward_itself (tablet_at now number).handover
 
     joining_by_on : (segments : List ℕ) → GoesOnAt number now (joining_by now n tablet segments)
     joining_by_on [] = closes_on (length now.log.entries) tablet.handover.role refl
@@ -328,12 +281,10 @@ module _ (number : ℕ) where
       onward_then (tablet_at master number).handover (tablet_at replayed number).handover (tablet_at now number).handover
       (replay_on master n worker (items_of pulled.entries)) (same_handover replayed n _ refl) in
       either_is (GoesOnAt number master) (is_receiving_at tablet pulled.tenure.term && is_token pulled.token tablet.pulling.token)
-      (changed (batch_taken master n pulled)) (changed master)
-      (go now passed (is_token pulled.next end))
+      (changed (batch_taken master n pulled)) (changed master) (go now passed (is_token pulled.next end))
       (onward_itself (tablet_at master number).handover)
     where
       go : (now : Master) → GoesOnAt number master now → (b : Bool) → GoesOnAt number master (cond b (pulled_all now pulled.tenure.tablet) now)
-      go now passed true =
-          onward_then (tablet_at master number).handover (tablet_at now number).handover (tablet_at (pulled_all now pulled.tenure.tablet) number).handover passed
-          (all_on now pulled.tenure.tablet)
+      go now passed true = onward_then (tablet_at master number).handover (tablet_at now number).handover
+          (tablet_at (pulled_all now pulled.tenure.tablet) number).handover passed (all_on now pulled.tenure.tablet)
       go now passed false = passed

@@ -1,15 +1,7 @@
 -- What occurs in one lane of a cluster changes that lane alone.
-use Rattle.std.proofs.Common.{◌≡◌, ◌<◌, ℕ, length, refl, sym, subst, ⊎_elim}
-use Rattle.std.specs.Prelude.{Err, Ok, Result}
-use Rattle.std.proofs.lemmas.Bool.{cases_eq}
-use Rattle.std.proofs.lemmas.List.{get_or-set_other, length-set}
-use Rattle.rk_world.specs.Calls.{Visited}
-use Rattle.rk_world.specs.Cluster.{Cluster, cluster_stepped, cluster_visited, lane_at, with_lane}
-use Rattle.rk_world.specs.Runs.{world_stepped, world_visited}
-use Rattle.rk_world.specs.Step.{Stepped}
-use Rattle.rk_world.specs.World.{World, new_world}
-use Rattle.rk_world.specs.declared.error.StepError.{StepError}
-use Rattle.rk_runs.proofs.history.Clusters.{lane_here}
+use Rattle.std.proofs.Common.{◌≡◌, ◌<◌, ℕ, length, refl, sym, subst, ⊎_elim, Err, Ok, Result, get_or-set_other, length-set}
+use Rattle.rk_scripts.proofs.Words.{cases_eq, Visited, Cluster, cluster_stepped, cluster_visited, lane_at, with_lane, world_stepped}
+use Rattle.rk_scripts.proofs.Words.{world_visited, Stepped, World, new_world, StepError, lane_here}
 
 -- the lanes of a cluster beside one are as they were
 abbrev pub IsSameBeside : ℕ → Cluster → Cluster → Type 0
@@ -49,7 +41,5 @@ module _ (cluster : Cluster) (lane : ℕ) (within : lane < length cluster.lanes)
 pub each_still : (P : ℕ → World → Type 0) (lane : ℕ) (w : World) (before after : Cluster) → ChangesLane lane w before after → P lane w
     → ((q : ℕ) → (q ≡ lane → ⊥) → P q (lane_at before q)) → (q : ℕ) → P q (lane_at after q)
 each_still P lane w before after changes here each q =
-    ⊎_elim
-    (λ (is : q ≡ lane). subst (λ (l : ℕ). P l (lane_at after l)) (sym is) (subst (P lane) (sym changes.here) here))
-    (λ (apart : q ≡ lane → ⊥). subst (P q) (sym (changes.beside q apart)) (each q apart))
-    (cases_eq q lane)
+    ⊎_elim (λ (is : q ≡ lane). subst (λ (l : ℕ). P l (lane_at after l)) (sym is) (subst (P lane) (sym changes.here) here))
+    (λ (apart : q ≡ lane → ⊥). subst (P q) (sym (changes.beside q apart)) (each q apart)) (cases_eq q lane)

@@ -1,36 +1,18 @@
 -- The reaches of a migration after its beginning: its source freezes the tablet, its target is granted it, pulls it all, and has joined.
-use Rattle.std.proofs.Common.{◌≡◌, ◌≢◌, ◌<◌, ◌+◌, ◌==◌, ℕ, zero, suc, Bool, true, false, cond, not, List, [], ◌∷◌, ◌++◌, Some, refl, sym, ap, subst, ◌∙◌, inl, inr, arith}
-use Rattle.std.specs.Prelude.{◌⊎◌}
-use Rattle.std.specs.List.{list_any}
-use Rattle.std.proofs.lemmas.Bool.{and_from, and_parts, cond-true, eq-eqb, eqb-true, false≢true, true≢false}
-use Rattle.rk_types.specs.declared.hashing.TheConstants.{LANES}
-use Rattle.rk_types.specs.declared.node.Node.TheVariants as nodes
-use Rattle.rk_entry.specs.declared.entry.Entry.{Entry}
-use Rattle.rk_message.specs.declared.message.Message.{Message}
-use Rattle.rk_tablet_map.specs.Rows.{row_of}
-use Rattle.rk_tablet_map.specs.declared.phase.Phase.{Phase}
-use Rattle.rk_tablet_map.specs.declared.phase.Phase.TheVariants.{Opening, Moving}
-use Rattle.rk_tablet_map.specs.declared.row.Row.{Row}
-use Rattle.rk_transfer.specs.declared.role.Role.{Role}
-use Rattle.rk_transfer.specs.declared.role.Role.TheVariants as roles
-use Rattle.rk_world.specs.Cluster.{Cluster, lane_at}
-use Rattle.rk_world.specs.Coordinator.{Coordinator}
-use Rattle.rk_world.specs.Master.{Master, is_settled, staged, tablet_at, touches}
-use Rattle.rk_world.specs.RoleTests.{is_frozen}
-use Rattle.rk_world.specs.World.{World, has_crashed, master_at, tablet_in}
-use Rattle.rk_sound.specs.Posts.{Holds, MovingSource, bond_of, post_of}
-use Rattle.rk_settle.specs.Advance.{coordinator_exchange, freeze_by, grant_task, log_round, reach_phase}
-use Rattle.rk_settle.specs.Course.{Course}
-use Rattle.rk_settle.specs.Reaches.{is_source_frozen, is_target}
-use Rattle.rk_settle.specs.Topics.{is_on}
-use Rattle.rk_settle.specs.declared.reach.Reach.TheVariants.{Frozen}
-use Rattle.rk_runs.proofs.history.Clusters.{IsGoodLane}
-use Rattle.rk_runs.proofs.history.Runs.{Lasts}
-use Rattle.rk_scripts.proofs.settle.Effects.{at_term_closes, close_off, close_on, close_sent, close_term, closes, fitted, grant_off, grant_on, grant_sent, grants, is_granted}
+use Rattle.std.proofs.Common.{◌≡◌, ◌≢◌, ◌<◌, ◌+◌, ◌==◌, ℕ, zero, suc, Bool, true, false, cond, not, List, [], ◌∷◌, ◌++◌, Some, refl, sym}
+use Rattle.std.proofs.Common.{ap, subst, ◌∙◌, inl, inr, arith, ◌⊎◌, eq-eqb, eqb-true, true≢false}
+use Rattle.rk_scripts.proofs.Words.{list_any, and_from, and_parts, cond-true, false≢true, LANES, Entry, Message, row_of, Phase, Opening}
+use Rattle.rk_scripts.proofs.Words.{Moving, Row, Role, Cluster, lane_at, Coordinator, Master, is_settled, staged, tablet_at, touches}
+use Rattle.rk_scripts.proofs.Words.{is_frozen, World, has_crashed, master_at, tablet_in, Holds, MovingSource, bond_of, post_of}
+use Rattle.rk_scripts.proofs.Words.{coordinator_exchange, freeze_by, grant_task, log_round, reach_phase, Course, is_source_frozen}
+use Rattle.rk_scripts.proofs.Words.{is_target, is_on, Frozen, IsGoodLane, Lasts, Node}
+use Rattle.rk_scripts.proofs.settle.Effects.{at_term_closes, close_off, close_on, close_sent, close_term, closes, fitted, grant_off}
+use Rattle.rk_scripts.proofs.settle.Effects.{grant_on, grant_sent, grants, is_granted}
 use Rattle.rk_scripts.proofs.settle.ExchangeTasks.{close_topic, freezes, grant_topic, log_topic, reaches}
 use Rattle.rk_scripts.proofs.settle.Exchanged.{Sends}
 use Rattle.rk_scripts.proofs.settle.Going.{Comes, Goes, IsAt, goes_here, goes_on, still_move}
 use Rattle.rk_scripts.proofs.settle.Lanes.{IsSameBeside}
+use Rattle.rk_scripts.proofs.settle.Migrating.{AfterFrozen, AfterGranted, IsClosed, IsIn, skips, tasks_in, unfolds}
 use Rattle.rk_scripts.proofs.settle.Numbers.{sends_left}
 use Rattle.rk_scripts.proofs.settle.Ordering.{IsLaneNow, one_order}
 use Rattle.rk_scripts.proofs.settle.Orders.{HasChanged, made}
@@ -40,7 +22,6 @@ use Rattle.rk_scripts.proofs.settle.Rounding.{HasRounded, log_quiet, log_steps, 
 use Rattle.rk_scripts.proofs.settle.Setting.{Setting, here}
 use Rattle.rk_scripts.proofs.settle.Staging.{good_at, master_sends}
 use Rattle.rk_scripts.proofs.settle.Tasks.{Task}
-use Rattle.rk_scripts.proofs.settle.Migrating.{AfterFrozen, AfterGranted, IsClosed, IsIn, skips, tasks_in, unfolds}
 
 -- who lives lives on
 pub lives_on : (w v : World) (m : ℕ) → v.crashed ≡ w.crashed → has_crashed w m ≡ false → has_crashed v m ≡ false
@@ -56,23 +37,14 @@ in_still tablet row phase source target w v same crashed there = record {
   target_lives = lives_on w v target crashed there.target_lives;
 }
 
-is_frozen_role : (role : Role) → is_frozen role ≡ true → role ≡ roles.Frozen
-is_frozen_role roles.Frozen is = refl
-is_frozen_role roles.Absent never = absurd (false≢true never)
-is_frozen_role roles.Serving never = absurd (false≢true never)
-is_frozen_role roles.Closing never = absurd (false≢true never)
-is_frozen_role roles.Receiving never = absurd (false≢true never)
-is_frozen_role (roles.Wanting from) never = absurd (false≢true never)
-is_frozen_role (roles.Joining entry) never = absurd (false≢true never)
-is_frozen_role (roles.Rebuilding from entry) never = absurd (false≢true never)
+is_frozen_role : (role : Role) → is_frozen role ≡ true → role ≡ Role.Frozen
+is_frozen_role Role.Frozen is = refl
+is_frozen_role _ never = absurd (false≢true never)
 
 module _ (s : Setting) (lane : ℕ) (inside : lane < LANES) (origin : Cluster) (rest : List Task) where
   -- ---- log exchanges while the source closes
 
   module _ (tablet : ℕ) where
-    IsFreezing : List Task → Course → Type 0
-    IsFreezing left course = (course.tasks ≡ left) × IsSameBeside lane origin course.cluster × IsClosed tablet (lane_at course.cluster lane)
-
     freezes_within : (fuel source : ℕ) (before : Cluster) (course : Course) → Comes s before course → course.tasks ≡ freezes lane tablet source ∷ rest
         → IsSameBeside lane origin course.cluster → (closed : IsClosed tablet (lane_at course.cluster lane)) → closed.begun.source ≡ source → closed.begun.row.tablet ≡ tablet
         → sends_left course.cluster < fuel → Goes s before course (IsLaneNow lane origin rest (AfterFrozen tablet))
@@ -87,11 +59,10 @@ module _ (s : Setting) (lane : ℕ) (inside : lane < LANES) (origin : Cluster) (
         good = good_at s course comes.sane lane inside
 
         closing_or_frozen : (it : IsClosed tablet w) → it.begun.row.tablet ≡ tablet
-            → ((tablet_in w it.begun.source tablet).handover.role ≡ roles.Closing) ⊎ ((tablet_in w it.begun.source tablet).handover.role ≡ roles.Frozen)
-        closing_or_frozen it same =
-            subst
+            → ((tablet_in w it.begun.source tablet).handover.role ≡ Role.Closing) ⊎ ((tablet_in w it.begun.source tablet).handover.role ≡ Role.Frozen)
+        closing_or_frozen it same = subst
             (λ (t : ℕ). row_of w.coordinator.rows t ≡ Some it.begun.row → (tablet_in w it.begun.source t).handover.term ≡ it.begun.row.term
-            → ((tablet_in w it.begun.source t).handover.role ≡ roles.Closing) ⊎ ((tablet_in w it.begun.source t).handover.role ≡ roles.Frozen)) same
+            → ((tablet_in w it.begun.source t).handover.role ≡ Role.Closing) ⊎ ((tablet_in w it.begun.source t).handover.role ≡ Role.Frozen)) same
             (λ found term.
             at_term_closes s.masters lane w good it.begun.row found it.begun.source it.begun.sfrom it.begun.target it.begun.dfrom it.begun.there.phase_is it.begun.there.source_lives term)
             it.begun.there.found it.term
@@ -104,10 +75,10 @@ module _ (s : Setting) (lane : ℕ) (inside : lane < LANES) (origin : Cluster) (
         go : ((before : Cluster) (course : Course) → Comes s before course → course.tasks ≡ freezes lane tablet source ∷ rest
             → IsSameBeside lane origin course.cluster → (closed : IsClosed tablet (lane_at course.cluster lane)) → closed.begun.source ≡ source → closed.begun.row.tablet ≡ tablet
             → sends_left course.cluster < fuel → Goes s before course (IsLaneNow lane origin rest (AfterFrozen tablet)))
-            → ((tablet_in w closed.begun.source tablet).handover.role ≡ roles.Closing) ⊎ ((tablet_in w closed.begun.source tablet).handover.role ≡ roles.Frozen)
+            → ((tablet_in w closed.begun.source tablet).handover.role ≡ Role.Closing) ⊎ ((tablet_in w closed.begun.source tablet).handover.role ≡ Role.Frozen)
             → Goes s before course (IsLaneNow lane origin rest (AfterFrozen tablet))
         go again (inr frozen) =
-            let role_is : (tablet_in w source tablet).handover.role ≡ roles.Frozen = ap (λ (m : ℕ). (tablet_in w m tablet).handover.role) (sym source_is) ∙ frozen in
+            let role_is : (tablet_in w source tablet).handover.role ≡ Role.Frozen = ap (λ (m : ℕ). (tablet_in w m tablet).handover.role) (sym source_is) ∙ frozen in
             goes_on s before course (IsAt course.cluster rest) (IsLaneNow lane origin rest (AfterFrozen tablet)) (opens [] (ap (freeze_by lane tablet source) role_is))
             (λ later comes_later at.
             goes_here s before later (IsLaneNow lane origin rest (AfterFrozen tablet)) comes_later
@@ -117,7 +88,7 @@ module _ (s : Setting) (lane : ℕ) (inside : lane < LANES) (origin : Cluster) (
               now = subst (λ (cluster : Cluster). AfterFrozen tablet (lane_at cluster lane)) (sym at.cluster_is) (inr (inl (record { closed = closed; role = frozen })));
             }))
         go again (inl closing) =
-            let role_is : (tablet_in w source tablet).handover.role ≡ roles.Closing = ap (λ (m : ℕ). (tablet_in w m tablet).handover.role) (sym source_is) ∙ closing in
+            let role_is : (tablet_in w source tablet).handover.role ≡ Role.Closing = ap (λ (m : ℕ). (tablet_in w m tablet).handover.role) (sym source_is) ∙ closing in
             let living : has_crashed w source ≡ false = ap (has_crashed w) (sym source_is) ∙ closed.begun.there.source_lives in
             let behind : List Task = freezes lane tablet source ∷ rest in
             let patient = reached_patient s.masters s.backups course.cluster (here s course comes.sane) lane inside source in
@@ -132,7 +103,7 @@ module _ (s : Setting) (lane : ℕ) (inside : lane < LANES) (origin : Cluster) (
             (subst (λ (cluster : Cluster). Goes s before later (HasRounded lane origin tablet (lane_at cluster lane) (sends_left cluster) behind)) at.cluster_is
             (rounding s lane inside origin tablet log_topic source behind log_quiet (log_steps tablet) before later comes_later at.tasks_are
             (subst (IsSameBeside lane origin) (sym at.cluster_is) beside)
-            (subst (λ (cluster : Cluster). Sends (lane_at cluster lane) (nodes.Master source)) (sym at.cluster_is) (master_sends s course comes.sane lane inside source living some))))
+            (subst (λ (cluster : Cluster). Sends (lane_at cluster lane) (Node.Master source)) (sym at.cluster_is) (master_sends s course comes.sane lane inside source living some))))
             (λ last comes_last done.
             let on = done.lane_now.now in
             again before last comes_last done.lane_now.left done.lane_now.beside
@@ -209,31 +180,23 @@ module _ (s : Setting) (lane : ℕ) (inside : lane < LANES) (origin : Cluster) (
                 dfrom = dfrom;
                 there = in_still tablet row (Opening source sfrom target (Some dfrom)) source target w (lane_at end.cluster lane) done.now.coordinator done.now.crashed there;
               };
-              term =
-                  ap (λ (it : Master). (tablet_at it tablet).handover.term) done.now.here
+              term = ap (λ (it : Master). (tablet_at it tablet).handover.term) done.now.here
                   ∙ close_term s.masters lane w good row there.found source sfrom target dfrom there.phase_is there.source_lives;
             })
             refl refl (omega arith)))
 
     -- a source whose tablet moves is frozen
     pub moving_frozen : (w : World) → IsGoodLane Lasts s.masters lane w → IsIn tablet row (Moving source sfrom target dfrom) source target w → is_source_frozen w row source ≡ true
-    moving_frozen w good there =
-        by (tablet_in w source tablet).handover.role refl
+    moving_frozen w good there = by (tablet_in w source tablet).handover.role refl
         (fitted s.masters lane w good row there.found source MovingSource there.source_lives
         (ap (λ (p : Phase). post_of p source) there.phase_is ∙ cond-true (source == source) MovingSource _ (eq-eqb source source refl)))
       where
         by : (role : Role) → (tablet_in w source tablet).handover.role ≡ role → Holds (bond_of MovingSource role) row.term (tablet_in w source tablet).handover.term (master_at w source).applied
             → is_source_frozen w row source ≡ true
-        by roles.Frozen at same =
+        by Role.Frozen at same =
             and_from (is_frozen (tablet_in w source tablet).handover.role) ((tablet_in w source tablet).handover.term == row.term) (ap is_frozen at)
             (eq-eqb (tablet_in w source tablet).handover.term row.term same)
-        by roles.Absent at never = absurd never
-        by roles.Serving at never = absurd never
-        by roles.Closing at never = absurd never
-        by roles.Receiving at never = absurd never
-        by (roles.Wanting from) at never = absurd never
-        by (roles.Joining entry) at never = absurd never
-        by (roles.Rebuilding from entry) at never = absurd never
+        by _ at never = absurd never
 
     -- ---- granted
 

@@ -1,27 +1,13 @@
 -- A migration whose source and target live is brought from reach to reach.
-use Rattle.std.proofs.Common.{◌≡◌, ◌<◌, ◌==◌, ◌&&◌, ℕ, Bool, true, false, cond, not, List, [], ◌∷◌, ◌++◌, Option, None, Some, refl, sym, ap, subst, ◌∙◌, inl, inr}
-use Rattle.std.specs.Prelude.{◌⊎◌}
-use Rattle.std.specs.List.{list_any}
-use Rattle.std.proofs.lemmas.Bool.{false≢true}
-use Rattle.rk_types.specs.declared.hashing.TheConstants.{LANES}
-use Rattle.rk_message.specs.declared.message.Message.{Message}
-use Rattle.rk_tablet_map.specs.Rows.{row_of}
-use Rattle.rk_tablet_map.specs.declared.phase.Phase.{Phase}
-use Rattle.rk_tablet_map.specs.declared.phase.Phase.TheVariants.{Owned, Opening, Moving, Rebuilding}
-use Rattle.rk_tablet_map.specs.declared.row.Row.{Row}
-use Rattle.rk_transfer.specs.declared.role.Role.TheVariants as roles
-use Rattle.rk_world.specs.Cluster.{Cluster, lane_at}
-use Rattle.rk_world.specs.Coordinator.{Coordinator}
-use Rattle.rk_world.specs.CoordinatorStep.{coordinator_step}
-use Rattle.rk_world.specs.World.{World, has_crashed, tablet_in}
-use Rattle.rk_settle.specs.Advance.{coordinator_exchange, reach_phase, reach_row, reach_tasks}
-use Rattle.rk_settle.specs.Course.{Course}
-use Rattle.rk_settle.specs.Reaches.{is_at_reach, is_joining, is_short_by, is_target}
-use Rattle.rk_settle.specs.Topics.{is_on}
-use Rattle.rk_settle.specs.declared.reach.Reach.TheVariants.{Begun}
-use Rattle.rk_runs.proofs.history.Clusters.{IsGoodLane}
-use Rattle.rk_runs.proofs.history.Runs.{Lasts}
-use Rattle.rk_scripts.proofs.settle.Effects.{is_ready, prepare_on, prepare_sent, prepares, readies, ready_on, ready_row, ready_sent, ready_silent}
+use Rattle.std.proofs.Common.{◌≡◌, ◌<◌, ◌==◌, ◌&&◌, ℕ, Bool, true, false, cond, not, List, [], ◌∷◌, ◌++◌, Option, None, Some, refl, sym, ap}
+use Rattle.std.proofs.Common.{subst, ◌∙◌, inl, inr, ◌⊎◌}
+use Rattle.rk_scripts.proofs.Words.{list_any, false≢true, LANES, Message, row_of, Phase, Owned, Opening, Moving, Rebuilding, Row, Cluster}
+use Rattle.rk_scripts.proofs.Words.{lane_at, Coordinator, coordinator_step, World, has_crashed, tablet_in, coordinator_exchange}
+use Rattle.rk_scripts.proofs.Words.{reach_phase, reach_row, reach_tasks, Course, is_joining, is_target, is_on, Begun, IsGoodLane, Lasts}
+use Rattle.rk_scripts.proofs.Words.{Role}
+use Rattle.rk_settle.specs.Reaches.{is_at_reach, is_short_by}
+use Rattle.rk_scripts.proofs.settle.Effects.{is_ready, prepare_on, prepare_sent, prepares, readies, ready_on, ready_row, ready_sent}
+use Rattle.rk_scripts.proofs.settle.Effects.{ready_silent}
 use Rattle.rk_scripts.proofs.settle.ExchangeTasks.{Reach, Topic, readiness, reaches}
 use Rattle.rk_scripts.proofs.settle.Going.{Comes, Goes, IsAt, goes_here, goes_on, still_move}
 use Rattle.rk_scripts.proofs.settle.Lanes.{IsSameBeside}
@@ -86,7 +72,7 @@ module _ (tablet : ℕ) where
 
   pub record IsFrozen (w : World) : Type 0 where
     pub closed : IsClosed w
-    pub role : (tablet_in w closed.begun.source tablet).handover.role ≡ roles.Frozen
+    pub role : (tablet_in w closed.begun.source tablet).handover.role ≡ Role.Frozen
 
   -- the target was granted the tablet, at the row's term
   pub record HasGrant (w : World) : Type 0 where
@@ -193,8 +179,7 @@ module _ (s : Setting) (lane : ℕ) (inside : lane < LANES) (origin : Cluster) (
                 target = target;
                 dfrom = place;
                 there = record {
-                  found =
-                      ap (λ (it : Coordinator). row_of it.rows row.tablet) done.now.coordinator
+                  found = ap (λ (it : Coordinator). row_of it.rows row.tablet) done.now.coordinator
                       ∙ ready_row s.masters lane w good row there.found source sfrom target there.phase_is there.target_lives;
                   phase_is = refl;
                   source_lives = ap (λ (crashed : List ℕ). list_any (λ (c : ℕ). c == source) crashed) done.now.crashed ∙ there.source_lives;

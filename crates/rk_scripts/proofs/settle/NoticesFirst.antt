@@ -1,18 +1,8 @@
 -- The first tasks of `settle`: in each lane all crashed masters are noticed.
-use Rattle.std.proofs.Common.{◌≡◌, ◌<◌, ◌≤◌, ◌+◌, ℕ, true, false, zero, suc, List, [], ◌∷◌, ◌++◌, length, map, Option, None, Some, refl, sym, ap, subst, ◌∙◌, ⊎_elim, arith}
-use Rattle.std.specs.List.{range_with_len}
-use Rattle.std.proofs.lemmas.Bool.{cases_lt}
-use Rattle.rk_types.specs.declared.hashing.TheConstants.{LANES}
-use Rattle.rk_world.specs.Backup.{Gave}
-use Rattle.rk_world.specs.Cluster.{Cluster, Happens, lane_at}
-use Rattle.rk_world.specs.Formed.{IsWellFormed}
-use Rattle.rk_world.specs.Step.{step}
-use Rattle.rk_world.specs.World.{World, has_crashed}
-use Rattle.rk_world.specs.declared.event.Event.TheVariants as events
-use Rattle.rk_settle.specs.Course.{Course}
-use Rattle.rk_settle.specs.Settle.{notice_by, unnoticed}
-use Rattle.rk_runs.specs.duties.Owners.{AllNoticed}
-use Rattle.rk_runs.proofs.duties.Adding.{added_after}
+use Rattle.std.proofs.Common.{◌≡◌, ◌<◌, ◌≤◌, ◌+◌, ℕ, true, false, zero, suc, List, [], ◌∷◌, ◌++◌, length, map, Option, None, Some, refl}
+use Rattle.std.proofs.Common.{sym, ap, subst, ◌∙◌, ⊎_elim, arith}
+use Rattle.rk_scripts.proofs.Words.{range_with_len, cases_lt, LANES, Gave, Cluster, Happens, lane_at, IsWellFormed, step, World}
+use Rattle.rk_scripts.proofs.Words.{has_crashed, Course, notice_by, unnoticed, AllNoticed, added_after, Event}
 use Rattle.rk_scripts.proofs.play.Reaching.{lane_good}
 use Rattle.rk_scripts.proofs.settle.Following.{follows_itself}
 use Rattle.rk_scripts.proofs.settle.Going.{Comes, Goes, IsAt, alone_fresh, goes_here, goes_on, goes_then, occurs_move, still_move}
@@ -41,8 +31,7 @@ module _ (s : Setting) where
     noticed_again before course comes has = go (unnoticed (lane_at course.cluster lane)) refl
       where
         go : (found : Option ℕ) → unnoticed (lane_at course.cluster lane) ≡ found → Goes s before course (HasNoticed rest)
-        go None is =
-            still_move s before course (notices lane) rest rest (HasNoticed rest) comes has.0
+        go None is = still_move s before course (notices lane) rest rest (HasNoticed rest) comes has.0
             (record { cluster_is = refl; tasks_are = ap (λ (o : Option ℕ). notice_by lane o ++ rest) is })
             (λ next at. (at.tasks_are, subst (λ (cluster : Cluster). AllNoticed (lane_at cluster lane)) (sym at.cluster_is) has.1))
         go (Some dead) is =
@@ -54,15 +43,15 @@ module _ (s : Setting) where
     one_noticed before course dead comes are gone =
         let w : World = lane_at course.cluster lane in
         let formed = formed_at course comes.sane lane inside in
-        let changes = stepped_changes course.cluster lane (omega (arith, inside, eight s course comes.sane)) (step w (events.Notice dead) (Gave None)) in
-        occurs_move s before course (notice lane dead) (notices lane ∷ rest) (Happens lane (events.Notice dead) (Gave None)) false (HasNoticed (notices lane ∷ rest)) comes are refl
-        (alone_fresh course.cluster (Happens lane (events.Notice dead) (Gave None)))
-        (added_after course.cluster (Happens lane (events.Notice dead) (Gave None)) tt comes.sane.added)
+        let changes = stepped_changes course.cluster lane (omega (arith, inside, eight s course comes.sane)) (step w (Event.Notice dead) (Gave None)) in
+        occurs_move s before course (notice lane dead) (notices lane ∷ rest) (Happens lane (Event.Notice dead) (Gave None)) false (HasNoticed (notices lane ∷ rest)) comes are refl
+        (alone_fresh course.cluster (Happens lane (Event.Notice dead) (Gave None)))
+        (added_after course.cluster (Happens lane (Event.Notice dead) (Gave None)) tt comes.sane.added)
         (λ next at fresh. (
           at.tasks_are,
           subst (λ (cluster : Cluster). AllNoticed (lane_at cluster lane)) (sym at.cluster_is)
               (subst AllNoticed (sym changes.here)
-              (notice_notices w formed dead (Gave None) (fresh_event w (events.Notice dead) (Gave None) refl fresh) gone)),
+              (notice_notices w formed dead (Gave None) (fresh_event w (Event.Notice dead) (Gave None) refl fresh) gone)),
         ))
 
     -- the crashed masters of the lane are noticed
@@ -73,8 +62,7 @@ module _ (s : Setting) where
         formed = formed_at course comes.sane lane inside
 
         go : (found : Option ℕ) → unnoticed (lane_at course.cluster lane) ≡ found → Goes s before course (HasNoticed rest)
-        go None is =
-            still_move s before course (notices lane) rest rest (HasNoticed rest) comes are
+        go None is = still_move s before course (notices lane) rest rest (HasNoticed rest) comes are
             (record { cluster_is = refl; tasks_are = ap (λ (o : Option ℕ). notice_by lane o ++ rest) is })
             (λ next at. (
               at.tasks_are,
@@ -102,12 +90,11 @@ module _ (s : Setting) where
   all_noticing (suc count) from all before course comes are noticed =
       let rest : List Task = map notices (range_with_len (from + 1) count) ++ settles ∷ [] in
       let inside : from < LANES = omega (arith, all) in
-      goes_then s before course (HasNoticed from inside rest rest) (λ next. (next.tasks ≡ settles ∷ []) × AreNoticed LANES next.cluster) comes
+      goes_then s before course (HasNoticed from inside rest rest)
+      (λ next. (next.tasks ≡ settles ∷ []) × AreNoticed LANES next.cluster) comes
       (noticing from inside rest course.cluster course (record { sane = comes.sane; follows = follows_itself course.cluster }) are)
-      (λ later comes_later follows has.
-      all_noticing count (from + 1) (omega (arith, all)) before later comes_later has.0
-      (λ q below.
-      ⊎_elim (λ (lower : q < from). (follows q).noticed (noticed q lower))
+      (λ later comes_later follows has. all_noticing count (from + 1) (omega (arith, all)) before later comes_later has.0
+      (λ q below. ⊎_elim (λ (lower : q < from). (follows q).noticed (noticed q lower))
       (λ (last : from ≤ q). subst (λ (l : ℕ). AllNoticed (lane_at later.cluster l)) (omega (arith, last, below)) has.1)
       (cases_lt q from)))
 

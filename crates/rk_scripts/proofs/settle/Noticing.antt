@@ -1,23 +1,10 @@
 -- Whether a lane has a master that has crashed and was not noticed; once one is noticed it has none.
-use Rattle.std.proofs.Common.{◌≡◌, ◌==◌, ◌||◌, ◌&&◌, ◌≤◌, ◌<◌, ◌+◌, ℕ, zero, suc, Bool, true, false, cond, not, List, [], ◌∷◌, find, Option, Some, None, refl, sym, ap, subst, ◌∙◌, arith}
-use Rattle.std.specs.Prelude.{All}
-use Rattle.std.specs.List.{list_any, range_with_len}
-use Rattle.std.specs.Option.{option_map, option_or}
-use Rattle.std.proofs.lemmas.Bool.{eqb-false, eqb-true, or_left, or_right, true≢false}
-use Rattle.std.proofs.lemmas.List.Elements.{All-head, All-tail, All-cons, All-nil}
-use Rattle.rk_world.specs.declared.error.StepError.{StepError}
-use Rattle.rk_world.specs.declared.error.StepError.TheVariants as errors
-use Rattle.rk_world.specs.declared.event.Event.TheVariants as events
-use Rattle.rk_world.specs.Backup.{Called}
-use Rattle.rk_world.specs.Coordinator.{is_noticed}
-use Rattle.rk_world.specs.Formed.{IsWellFormed}
-use Rattle.rk_world.specs.Premises.{IsMaster}
-use Rattle.rk_world.specs.Refusals.{refusal, worn}
-use Rattle.rk_world.specs.Runs.{world_stepped}
-use Rattle.rk_world.specs.Step.{step, stepped_by}
-use Rattle.rk_world.specs.World.{World, has_crashed}
-use Rattle.rk_inv_wellformed.proofs.maps.Lists.{find_passes}
-use Rattle.rk_runs.specs.duties.Owners.{AllNoticed}
+use Rattle.std.proofs.Common.{◌≡◌, ◌==◌, ◌||◌, ◌&&◌, ◌≤◌, ◌<◌, ◌+◌, ℕ, zero, suc, Bool, true, false, cond, not, List, [], ◌∷◌, find, Option}
+use Rattle.std.proofs.Common.{Some, None, refl, sym, ap, subst, ◌∙◌, arith, All, option_map, eqb-true, true≢false}
+use Rattle.rk_scripts.proofs.Words.{list_any, range_with_len, option_or, or_left, or_right, All-head, All-tail, All-cons, All-nil}
+use Rattle.rk_scripts.proofs.Words.{StepError, Called, is_noticed, IsWellFormed, IsMaster, refusal, worn, world_stepped, step, stepped_by}
+use Rattle.rk_scripts.proofs.Words.{World, has_crashed, find_passes, AllNoticed, Event}
+use Rattle.std.proofs.lemmas.Bool.{eqb-false}
 use Rattle.rk_runs.proofs.duties.Noticing.{all_noticed}
 
 -- ---- lists of numbers
@@ -68,23 +55,22 @@ module _ (w : World) (formed : IsWellFormed w) where
       in_range 1 w.coordinator.masters master is.first (omega (arith, is.last))
 
   -- once a crash is noticed, all are
-  pub notice_notices : (dead : ℕ) (called : Called) → worn w ≡ None → has_crashed w dead ≡ true → AllNoticed (world_stepped w (step w (events.Notice dead) called))
+  pub notice_notices : (dead : ℕ) (called : Called) → worn w ≡ None → has_crashed w dead ≡ true → AllNoticed (world_stepped w (step w (Event.Notice dead) called))
   notice_notices dead called fresh gone =
-      subst (λ (refused : Option StepError). AllNoticed (world_stepped w (stepped_by w (events.Notice dead) called refused))) (sym none)
+      subst (λ (refused : Option StepError). AllNoticed (world_stepped w (stepped_by w (Event.Notice dead) called refused))) (sym none)
       (all_noticed w formed dead called)
     where
-      none : refusal w (events.Notice dead) ≡ None
+      none : refusal w (Event.Notice dead) ≡ None
       none =
-          ap (λ (number : Option ℕ). option_or (option_map errors.Worn number) (cond (not (has_crashed w dead)) (Some (errors.Alive dead)) None)) fresh
-          ∙ ap (λ (b : Bool). cond (not b) (Some (errors.Alive dead)) None) gone
+          ap (λ (number : Option ℕ). option_or (option_map StepError.Worn number) (cond (not (has_crashed w dead)) (Some (StepError.Alive dead)) None)) fresh
+          ∙ ap (λ (b : Bool). cond (not b) (Some (StepError.Alive dead)) None) gone
 
   abbrev is_unnoticed_in : ℕ → Bool
   is_unnoticed_in master = has_crashed w master && not (is_noticed w.coordinator master)
 
   -- where none is found that has crashed and was not noticed, all were
   pub none_unnoticed : find is_unnoticed_in (range_with_len 1 w.coordinator.masters) ≡ None → AllNoticed w
-  none_unnoticed none master crashed =
-      go (has_crashed w master) (is_noticed w.coordinator master) crashed
+  none_unnoticed none master crashed = go (has_crashed w master) (is_noticed w.coordinator master) crashed
       (one_of (λ (other : ℕ). is_unnoticed_in other ≡ false) (range_with_len 1 w.coordinator.masters) master
       (none_found is_unnoticed_in (range_with_len 1 w.coordinator.masters) none) (crashed_there master crashed))
     where

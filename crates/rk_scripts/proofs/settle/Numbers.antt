@@ -1,10 +1,6 @@
 -- How many messages may be sent in the lanes of a cluster before all of them are worn.
 use Rattle.std.proofs.Common.{◌≡◌, ◌≤◌, ◌<◌, ◌+◌, ◌-◌, ℕ, zero, suc, subst, ⊎_elim, arith}
-use Rattle.std.proofs.lemmas.Bool.{cases_lt}
-use Rattle.rk_types.specs.declared.hashing.TheConstants.{LANES}
-use Rattle.rk_world.specs.Cluster.{Cluster, lane_at}
-use Rattle.rk_world.specs.Refusals.{WORN_NUMBER}
-use Rattle.rk_world.specs.World.{World}
+use Rattle.rk_scripts.proofs.Words.{cases_lt, LANES, Cluster, lane_at, WORN_NUMBER, World}
 
 -- the sum of what the numbers below another one are mapped to
 sum_below : (ℕ → ℕ) → ℕ → ℕ

@@ -1,31 +1,16 @@
 -- An exchange in which the coordinator orders something: what has come of it at its end.
-use Rattle.std.proofs.Common.{◌≡◌, ◌<◌, ◌≤◌, ℕ, true, false, List, [], ◌∷◌, map, Option, None, sym, ap, subst, ◌∙◌, inl, ⊎_elim, arith}
-use Rattle.std.specs.Prelude.{◌⊎◌}
-use Rattle.std.specs.Option.{option_map, option_or}
-use Rattle.rk_types.specs.declared.history.Placed.{Placed}
-use Rattle.rk_types.specs.declared.hashing.TheConstants.{LANES}
-use Rattle.rk_types.specs.declared.node.Node.TheVariants as nodes
-use Rattle.rk_message.specs.declared.message.Message.{Message}
-use Rattle.rk_world.specs.Backup.{Gave}
-use Rattle.rk_world.specs.Cluster.{Cluster, lane_at}
-use Rattle.rk_world.specs.CoordinatorStep.{coordinator_step, coordinator_turn}
-use Rattle.rk_world.specs.Refusals.{refusal, worn}
-use Rattle.rk_world.specs.Replies.{filled}
-use Rattle.rk_world.specs.Runs.{world_stepped}
-use Rattle.rk_world.specs.Step.{step, stepped_by}
-use Rattle.rk_world.specs.World.{World, has_crashed, master_at}
-use Rattle.rk_world.specs.declared.error.StepError.{StepError}
-use Rattle.rk_world.specs.declared.error.StepError.TheVariants as errors
-use Rattle.rk_world.specs.declared.event.Event.TheVariants as events
-use Rattle.rk_settle.specs.Advance.{coordinator_exchange}
-use Rattle.rk_settle.specs.Course.{Course}
-use Rattle.rk_settle.specs.Topics.{is_on}
+use Rattle.std.proofs.Common.{◌≡◌, ◌<◌, ◌≤◌, ℕ, true, false, List, [], ◌∷◌, map, Option, None, sym, ap, subst, ◌∙◌, inl, ⊎_elim, arith, ◌⊎◌}
+use Rattle.std.proofs.Common.{option_map}
+use Rattle.rk_scripts.proofs.Words.{option_or, Placed, LANES, Message, Gave, Cluster, lane_at, coordinator_step, coordinator_turn, refusal}
+use Rattle.rk_scripts.proofs.Words.{worn, filled, world_stepped, step, stepped_by, World, has_crashed, master_at, StepError}
+use Rattle.rk_scripts.proofs.Words.{coordinator_exchange, Course, is_on, Node, Event}
 use Rattle.rk_scripts.proofs.settle.ExchangeTasks.{Topic, sorts}
 use Rattle.rk_scripts.proofs.settle.Exchanged.{turning}
 use Rattle.rk_scripts.proofs.settle.Going.{Comes, Goes, goes_here, goes_on}
 use Rattle.rk_scripts.proofs.settle.Lanes.{IsSameBeside}
 use Rattle.rk_scripts.proofs.settle.NoticesFirst.{formed_at}
-use Rattle.rk_scripts.proofs.settle.Orders.{HasAnswered, HasChanged, IsAnswering, IsOrdered, IsOver, IsTaken, answering_tracked, made, off_sent, ordered_tracked, over_tracked, pending_sent}
+use Rattle.rk_scripts.proofs.settle.Orders.{HasAnswered, HasChanged, IsAnswering, IsOrdered, IsOver, IsTaken, answering_tracked, made}
+use Rattle.rk_scripts.proofs.settle.Orders.{off_sent, ordered_tracked, over_tracked, pending_sent}
 use Rattle.rk_scripts.proofs.settle.Pending.{AreOff, HasOne, OnlyOff, nothing_after, sent_pending}
 use Rattle.rk_scripts.proofs.settle.Setting.{Setting}
 use Rattle.rk_scripts.proofs.settle.Tasks.{Task}
@@ -38,7 +23,7 @@ pub record IsLaneNow (lane : ℕ) (origin : Cluster) (rest : List Task) (P : Wor
   pub beside : IsSameBeside lane origin course.cluster
   pub now : P (lane_at course.cluster lane)
 
-module _ (s : Setting) (lane : ℕ) (inside : lane < LANES) (origin : Cluster) (topic : Topic) (rest : List Task) (w : World) (m : ℕ) (ours : Message) (to_is : ours.to ≡ nodes.Master m)
+module _ (s : Setting) (lane : ℕ) (inside : lane < LANES) (origin : Cluster) (topic : Topic) (rest : List Task) (w : World) (m : ℕ) (ours : Message) (to_is : ours.to ≡ Node.Master m)
     (on : is_on topic ours.body ≡ true) (living : has_crashed w m ≡ false) (has : HasOne topic ours (coordinator_turn w.coordinator)) where
   module _ (Next : ℕ → World → Type 0) (next : IsTracked topic s.masters lane Next)
       (enter : (n : ℕ) (v u : World) → OnlyOff topic n v.wire → n ≤ v.wire.sent → IsTaken topic w m ours to_is on living n v u → Next n u) where
@@ -57,8 +42,8 @@ module _ (s : Setting) (lane : ℕ) (inside : lane < LANES) (origin : Cluster) (
     ordering : (before : Cluster) (course : Course) → Comes s before course → course.tasks ≡ coordinator_exchange lane topic ∷ rest → IsSameBeside lane origin course.cluster
         → lane_at course.cluster lane ≡ w → Goes s before course (IsLaneNow lane origin rest HasEnded)
     ordering before course comes are beside here =
-        goes_on s before course (HasTurned lane nodes.Coordinator (sorts lane topic sent sent ∷ rest) course.cluster) (IsLaneNow lane origin rest HasEnded)
-        (turning s lane inside topic nodes.Coordinator rest before course comes are)
+        goes_on s before course (HasTurned lane Node.Coordinator (sorts lane topic sent sent ∷ rest) course.cluster) (IsLaneNow lane origin rest HasEnded)
+        (turning s lane inside topic Node.Coordinator rest before course comes are)
         (λ later comes_later turned.
         goes_on s before later (IsTrackedTo s lane inside origin topic Holds tracked rest) (IsLaneNow lane origin rest HasEnded)
         (tracking s lane inside origin topic Holds tracked sent rest before later comes_later turned.left
@@ -82,14 +67,13 @@ module _ (s : Setting) (lane : ℕ) (inside : lane < LANES) (origin : Cluster) (
         sent : ℕ
         sent = v.wire.sent
 
-        at_turn : worn v ≡ None → IsOrdered topic w m ours to_is on living sent (world_stepped v (step v (events.Turn nodes.Coordinator) (Gave None)))
+        at_turn : worn v ≡ None → IsOrdered topic w m ours to_is on living sent (world_stepped v (step v (Event.Turn Node.Coordinator) (Gave None)))
         at_turn fresh =
-            let none : refusal v (events.Turn nodes.Coordinator) ≡ None = ap (λ (number : Option ℕ). option_or (option_map errors.Worn number) None) fresh in
-            subst (λ (refused : Option StepError). IsOrdered topic w m ours to_is on living sent (world_stepped v (stepped_by v (events.Turn nodes.Coordinator) (Gave None) refused))) (sym none)
+            let none : refusal v (Event.Turn Node.Coordinator) ≡ None = ap (λ (number : Option ℕ). option_or (option_map StepError.Worn number) None) fresh in
+            subst (λ (refused : Option StepError). IsOrdered topic w m ours to_is on living sent (world_stepped v (stepped_by v (Event.Turn Node.Coordinator) (Gave None) refused))) (sym none)
             (record {
               same = record { coordinator = ap (λ (it : World). it.coordinator) here; each = λ q. ap (λ (it : World). master_at it q) here; crashed = ap (λ (it : World). it.crashed) here };
-              pending =
-                  sent_pending topic sent ours (coordinator_turn v.coordinator) v.wire
+              pending = sent_pending topic sent ours (coordinator_turn v.coordinator) v.wire
                   (subst (λ (it : World). HasOne topic ours (coordinator_turn it.coordinator)) (sym here) has) (omega arith)
                   (nothing_after topic v.wire (formed_at s course comes.sane lane inside).wire.numbered);
             })
@@ -117,7 +101,7 @@ module _ (s : Setting) (lane : ℕ) (inside : lane < LANES) (origin : Cluster) (
       goes_here s before end (IsLaneNow lane origin rest Changed) comes_end (record { left = done.left; beside = done.beside; now = done.now.holds.nodes_are }))
 
   -- one that is answered to the coordinator has been taken, and its answer too
-  pub two_orders : (reply : Message) (answers : reply.to ≡ nodes.Coordinator) (on_it : is_on topic reply.body ≡ true) (silent : (coordinator_step w.coordinator reply).sends ≡ [])
+  pub two_orders : (reply : Message) (answers : reply.to ≡ Node.Coordinator) (on_it : is_on topic reply.body ≡ true) (silent : (coordinator_step w.coordinator reply).sends ≡ [])
       → ((journal : List Placed) → HasOne topic reply (map (filled journal (made topic w m ours to_is on living).served) (made topic w m ours to_is on living).sends))
       → (before : Cluster) (course : Course) → Comes s before course → course.tasks ≡ coordinator_exchange lane topic ∷ rest → IsSameBeside lane origin course.cluster
       → lane_at course.cluster lane ≡ w
@@ -129,8 +113,7 @@ module _ (s : Setting) (lane : ℕ) (inside : lane < LANES) (origin : Cluster) (
       let Next : ℕ → World → Type 0 = λ from v. Answering from v ⊎ Over from v in
       let next : IsTracked topic s.masters lane Next = answering_tracked topic w m ours to_is on living reply answers on_it silent s.masters lane in
       let enter : (n : ℕ) (v u : World) → OnlyOff topic n v.wire → n ≤ v.wire.sent → IsTaken topic w m ours to_is on living n v u → Next n u =
-      λ n v u only within taken.
-      inl
+      λ n v u only within taken. inl
       (record {
         changed = taken.changed;
         pending =
@@ -144,8 +127,7 @@ module _ (s : Setting) (lane : ℕ) (inside : lane < LANES) (origin : Cluster) (
       (record {
         left = done.left;
         beside = done.beside;
-        now = ⊎_elim
-            (λ (answering : Answering done.now.from (lane_at end.cluster lane)).
-            absurd (done.now.none answering.pending.number reply answering.pending.after answering.pending.found))
+        now = ⊎_elim (λ (answering : Answering done.now.from (lane_at end.cluster lane)). absurd
+            (done.now.none answering.pending.number reply answering.pending.after answering.pending.found))
             (λ (over : Over done.now.from (lane_at end.cluster lane)). over.nodes_are) done.now.holds;
       }))

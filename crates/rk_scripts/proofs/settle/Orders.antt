@@ -1,32 +1,15 @@
 -- An order of the coordinator in an exchange: it is delivered to its master, and what that answers on the topic to the coordinator.
-use Rattle.std.proofs.Common.{◌≡◌, ◌<◌, ◌≤◌, ℕ, Bool, true, false, cond, List, [], fold, map, Option, None, Some, refl, sym, ap, subst, ◌∙◌, inl, inr, ⊎_elim, arith}
-use Rattle.std.specs.Prelude.{◌⊎◌}
-use Rattle.std.proofs.lemmas.Bool.{false≢true}
-use Rattle.rk_types.specs.NumberMap.{get}
-use Rattle.rk_types.specs.declared.node.Node.{Node}
-use Rattle.rk_types.specs.declared.node.Node.TheVariants as nodes
-use Rattle.rk_message.specs.Wire.{Traffic, with_message, without_message}
-use Rattle.rk_message.specs.declared.message.Message.{Message}
-use Rattle.rk_world.specs.Backup.{Called}
-use Rattle.rk_world.specs.Coordinator.{Coordinator}
-use Rattle.rk_world.specs.CoordinatorStep.{coordinator_step}
-use Rattle.rk_world.specs.Master.{Master}
-use Rattle.rk_world.specs.MasterStep.{master_step}
-use Rattle.rk_world.specs.Refusals.{refusal}
-use Rattle.rk_world.specs.Replies.{filled}
-use Rattle.rk_world.specs.Runs.{world_stepped}
-use Rattle.rk_world.specs.Step.{delivered, delivered_to, ledger_after, losing, seen_in, stepped_by, worked_at}
-use Rattle.rk_world.specs.Worked.{Worked}
-use Rattle.rk_world.specs.World.{World, has_crashed, master_at, with_top, with_wire}
-use Rattle.rk_world.specs.declared.error.StepError.{StepError}
-use Rattle.rk_world.specs.declared.event.Event.TheVariants as events
-use Rattle.rk_types.specs.declared.history.Placed.{Placed}
-use Rattle.rk_settle.specs.Topics.{is_on}
-use Rattle.rk_inv_base.proofs.views.Masters.{master_other, master_same}
-use Rattle.rk_inv_lanes.specs.wires.Emptied.{Arrival, Delivers, forgotten, taken_off}
+use Rattle.std.proofs.Common.{◌≡◌, ◌<◌, ◌≤◌, ℕ, Bool, true, false, cond, List, [], fold, map, Option, None, Some, refl, sym, ap, subst, ◌∙◌}
+use Rattle.std.proofs.Common.{inl, inr, ⊎_elim, arith, ◌⊎◌}
+use Rattle.rk_scripts.proofs.Words.{false≢true, get, Node, Traffic, with_message, without_message, Message, Called, Coordinator}
+use Rattle.rk_scripts.proofs.Words.{coordinator_step, Master, master_step, refusal, filled, world_stepped, delivered, delivered_to}
+use Rattle.rk_scripts.proofs.Words.{ledger_after, losing, seen_in, stepped_by, worked_at, Worked, World, has_crashed, master_at, with_top}
+use Rattle.rk_scripts.proofs.Words.{with_wire, StepError, Placed, is_on, master_other, master_same, Arrival, Delivers, forgotten, taken_off}
+use Rattle.rk_scripts.proofs.Words.{Event}
 use Rattle.rk_scripts.proofs.settle.Delivering.{ArrivesAt}
 use Rattle.rk_scripts.proofs.settle.ExchangeTasks.{Topic}
-use Rattle.rk_scripts.proofs.settle.Pending.{AreOff, HasOne, IsPending, OnlyAt, OnlyOff, forgotten_cases, off_without, pending_without, sent_off, sent_pending}
+use Rattle.rk_scripts.proofs.settle.Pending.{AreOff, HasOne, IsPending, OnlyAt, OnlyOff, forgotten_cases, off_without, pending_without}
+use Rattle.rk_scripts.proofs.settle.Pending.{sent_off, sent_pending}
 use Rattle.rk_scripts.proofs.settle.Tracking.{IsOffAt, IsTracked}
 
 -- the messages are sent on a wire
@@ -68,8 +51,7 @@ module _ (topic : Topic) where
 
   pub off_sent : (n : ℕ) (wire now : Traffic) (list : List Message) → AreOff topic list → OnlyOff topic n wire → IsSentOn n wire list now → OnlyOff topic n now
   off_sent n wire now list all off is =
-      ⊎_elim
-      (λ (same : now ≡ sent_on wire list). subst (OnlyOff topic n) (sym same) (sent_off topic n list wire all off))
+      ⊎_elim (λ (same : now ≡ sent_on wire list). subst (OnlyOff topic n) (sym same) (sent_off topic n list wire all off))
       (λ (without : now ≡ without_message n (sent_on wire list)).
       subst (OnlyOff topic n) (sym without) (off_without topic n n (sent_on wire list) (sent_off topic n list wire all off)))
       is
@@ -78,10 +60,8 @@ module _ (topic : Topic) where
       → IsPending topic n ours now
   pending_sent n wire now ours list has within off is =
       let pending = sent_pending topic n ours list wire has within off in
-      ⊎_elim
-      (λ (same : now ≡ sent_on wire list). subst (IsPending topic n ours) (sym same) pending)
-      (λ (without : now ≡ without_message n (sent_on wire list)).
-      subst (IsPending topic n ours) (sym without)
+      ⊎_elim (λ (same : now ≡ sent_on wire list). subst (IsPending topic n ours) (sym same) pending)
+      (λ (without : now ≡ without_message n (sent_on wire list)). subst (IsPending topic n ours) (sym without)
       (pending_without topic n n ours (sent_on wire list) pending (λ same. omega (arith, same, pending.after))))
       is
 
@@ -92,7 +72,7 @@ module _ (topic : Topic) where
 
   -- ---- the order is delivered
 
-  module _ (w : World) (m : ℕ) (ours : Message) (to_is : ours.to ≡ nodes.Master m) (on : is_on topic ours.body ≡ true) (living : has_crashed w m ≡ false) where
+  module _ (w : World) (m : ℕ) (ours : Message) (to_is : ours.to ≡ Node.Master m) (on : is_on topic ours.body ≡ true) (living : has_crashed w m ≡ false) where
     -- what the master makes of it
     abbrev pub made : Worked
     made = master_step (master_at w m) ours
@@ -103,8 +83,7 @@ module _ (topic : Topic) where
       pub pending : IsPending topic from ours v.wire
 
     ordered_forgets : (from n : ℕ) (v : World) → IsOffAt topic v n → IsOrdered from v → IsOrdered from (forgotten v n)
-    ordered_forgets from n v off ordered =
-        forgotten_cases (IsOrdered from) v n ordered
+    ordered_forgets from n v off ordered = forgotten_cases (IsOrdered from) v n ordered
         (record {
           same = record { coordinator = ordered.same.coordinator; each = ordered.same.each; crashed = ordered.same.crashed };
           pending = pending_without topic from n ours v.wire ordered.pending (off_apart v from n ours on ordered.pending off);
@@ -122,7 +101,7 @@ module _ (topic : Topic) where
         let at : n ≡ ordered.pending.number = ordered.pending.only n message after found on_topic in
         let one : Some message ≡ Some ours = sym found ∙ (ap (λ (k : ℕ). get v.wire.messages k) at ∙ ordered.pending.found) in
         let is : message ≡ ours = cc one in
-        let arrives : ArrivesAt v n (nodes.Master m) arrival = subst (λ (to : Node). ArrivesAt v n to arrival) (ap (λ (it : Message). it.to) is ∙ to_is) fits in
+        let arrives : ArrivesAt v n (Node.Master m) arrival = subst (λ (to : Node). ArrivesAt v n to arrival) (ap (λ (it : Message). it.to) is ∙ to_is) fits in
         subst (λ (a : Arrival). IsTaken n v (taken_off v n a)) (sym arrives.is) (by arrives.called arrives.fresh (found ∙ ap Some is))
       where
         living_now : has_crashed v m ≡ false
@@ -151,9 +130,9 @@ module _ (topic : Topic) where
               wire = inr refl;
             })
 
-        by : (called : Called) → refusal v (events.Deliver n) ≡ None → get v.wire.messages n ≡ Some ours → IsTaken n v (taken_off v n (Delivers called))
+        by : (called : Called) → refusal v (Event.Deliver n) ≡ None → get v.wire.messages n ≡ Some ours → IsTaken n v (taken_off v n (Delivers called))
         by called fresh there =
-            subst (λ (refused : Option StepError). IsTaken n v (forgotten (world_stepped v (stepped_by v (events.Deliver n) called refused)) n)) (sym fresh)
+            subst (λ (refused : Option StepError). IsTaken n v (forgotten (world_stepped v (stepped_by v (Event.Deliver n) called refused)) n)) (sym fresh)
             (subst (λ (o : Option Message). IsTaken n v (forgotten (delivered v o called).world n)) (sym there)
             (subst (λ (to : Node). IsTaken n v (forgotten (delivered_to v ours to called).world n)) (sym to_is)
             (subst (λ (b : Bool). IsTaken n v (forgotten (cond b (losing v) (worked_at v m (seen_in ours.body) made_now)).world n)) (sym living_now)
@@ -173,8 +152,7 @@ module _ (topic : Topic) where
           let off : OnlyOff topic n v.wire =
           subst (λ (k : ℕ). OnlyOff topic k v.wire) (sym at) (off_beyond from ordered.pending.number v.wire ordered.pending.after ordered.pending.only) in
           inr (enter n v (taken_off v n arrival) off (omega (arith, at, ordered.pending.within)) (taken_at from n v message arrival after found on_topic fits ordered)))
-          (λ (later : Next from v). inr (next.takes from n v message arrival good after found on_topic fits later))
-          either;
+          (λ (later : Next from v). inr (next.takes from n v message arrival good after found on_topic fits later)) either;
     }
 
     -- ---- nothing more comes
@@ -193,7 +171,7 @@ module _ (topic : Topic) where
 
     -- ---- the answer is delivered
 
-    module _ (reply : Message) (answers : reply.to ≡ nodes.Coordinator) (on_it : is_on topic reply.body ≡ true) (silent : (coordinator_step w.coordinator reply).sends ≡ []) where
+    module _ (reply : Message) (answers : reply.to ≡ Node.Coordinator) (on_it : is_on topic reply.body ≡ true) (silent : (coordinator_step w.coordinator reply).sends ≡ []) where
       -- the answer is on its way
       pub record IsAnswering (from : ℕ) (v : World) : Type 0 where
         pub changed : HasChanged w m made.master v
@@ -209,7 +187,7 @@ module _ (topic : Topic) where
           let at : n ≡ answering.pending.number = answering.pending.only n message after found on_topic in
           let one : Some message ≡ Some reply = sym found ∙ (ap (λ (k : ℕ). get v.wire.messages k) at ∙ answering.pending.found) in
           let is : message ≡ reply = cc one in
-          let arrives : ArrivesAt v n nodes.Coordinator arrival = subst (λ (to : Node). ArrivesAt v n to arrival) (ap (λ (it : Message). it.to) is ∙ answers) fits in
+          let arrives : ArrivesAt v n Node.Coordinator arrival = subst (λ (to : Node). ArrivesAt v n to arrival) (ap (λ (it : Message). it.to) is ∙ answers) fits in
           let off : OnlyOff topic n v.wire =
           subst (λ (k : ℕ). OnlyOff topic k v.wire) (sym at) (off_beyond from answering.pending.number v.wire answering.pending.after answering.pending.only) in
           subst (λ (a : Arrival). IsOver Answered n (taken_off v n a)) (sym arrives.is) (by off arrives.called arrives.fresh (found ∙ ap Some is))
@@ -225,12 +203,12 @@ module _ (topic : Topic) where
             crashed = answering.changed.crashed;
           }
 
-          by : OnlyOff topic n v.wire → (called : Called) → refusal v (events.Deliver n) ≡ None → get v.wire.messages n ≡ Some reply → IsOver Answered n (taken_off v n (Delivers called))
+          by : OnlyOff topic n v.wire → (called : Called) → refusal v (Event.Deliver n) ≡ None → get v.wire.messages n ≡ Some reply → IsOver Answered n (taken_off v n (Delivers called))
           by off called fresh there =
-              subst (λ (refused : Option StepError). IsOver Answered n (forgotten (world_stepped v (stepped_by v (events.Deliver n) called refused)) n)) (sym fresh)
+              subst (λ (refused : Option StepError). IsOver Answered n (forgotten (world_stepped v (stepped_by v (Event.Deliver n) called refused)) n)) (sym fresh)
               (subst (λ (o : Option Message). IsOver Answered n (forgotten (delivered v o called).world n)) (sym there)
               (subst (λ (to : Node). IsOver Answered n (forgotten (delivered_to v reply to called).world n)) (sym answers)
-              (forgotten_cases (IsOver Answered n) (delivered_to v reply nodes.Coordinator called).world n
+              (forgotten_cases (IsOver Answered n) (delivered_to v reply Node.Coordinator called).world n
               (record { nodes_are = record { coordinator = answered_now.coordinator; here = answered_now.here; others = answered_now.others; crashed = answered_now.crashed }; off = subst (λ (list : List Message). OnlyOff topic n (sent_on v.wire list)) (sym quiet) off })
               (record {
                 nodes_are = record { coordinator = answered_now.coordinator; here = answered_now.here; others = answered_now.others; crashed = answered_now.crashed };

@@ -1,18 +1,10 @@
 -- The clients of each lane stay those with sessions at all moves of a settling command.
 use Rattle.std.proofs.Common.{◌≡◌, ℕ, zero, suc, List, [], ◌∷◌, length, Option, refl, sym, subst, ◌∙◌, inl, inr, ⊎_elim}
-use Rattle.rk_types.specs.declared.call.Call.{Call}
-use Rattle.rk_world.specs.Cluster.{Cluster}
-use Rattle.rk_cluster.specs.Replicas.{Fate}
-use Rattle.rk_settle.specs.Advance.{advance}
-use Rattle.rk_settle.specs.Course.{Course, moved, moved_all, moved_by}
-use Rattle.rk_settle.specs.Priority.{priority}
-use Rattle.rk_settle.specs.Serve.{serve_by}
-use Rattle.rk_settle.specs.Settle.{settle}
-use Rattle.rk_settle.specs.declared.reach.Reach.{Reach}
-use Rattle.rk_scripts.proofs.settle.Owning.{HasOwnClients}
-use Rattle.rk_scripts.proofs.settle.Tasks.{Task}
+use Rattle.rk_scripts.proofs.Words.{Call, Cluster, Fate, advance, Course, moved, moved_all, moved_by, priority, serve_by, settle, Reach}
 use Rattle.rk_scripts.proofs.settle.AddingNobody.{all_own}
 use Rattle.rk_scripts.proofs.settle.OwnTasks.{Each, Goes, IsOwn, Precedes, joined_own, weaker_own}
+use Rattle.rk_scripts.proofs.settle.Owning.{HasOwnClients}
+use Rattle.rk_scripts.proofs.settle.Tasks.{Task}
 
 -- fewer moves from a task on nobody is added either
 fewer_moves : (n : ℕ) (task : Task) → IsOwn (suc n) task → IsOwn n task
@@ -21,8 +13,7 @@ fewer_moves (suc n) task own = λ course fate rest clients.
     let goes : Goes (IsOwn (suc n)) course rest (moved_by course fate (task ∷ rest)) = own course fate rest clients in
     record {
       own = goes.own;
-      left =
-          ⊎_elim (λ (same : (moved_by course fate (task ∷ rest)).tasks ≡ course.tasks). inl same)
+      left = ⊎_elim (λ (same : (moved_by course fate (task ∷ rest)).tasks ≡ course.tasks). inl same)
           (λ (behind : Precedes (IsOwn (suc n)) rest (moved_by course fate (task ∷ rest)).tasks).
           inr (record { more = behind.more; are = weaker_own (IsOwn (suc n)) (IsOwn n) (fewer_moves n) behind.more behind.are; is = behind.is }))
           goes.left;
@@ -40,12 +31,9 @@ moved_own n course fate (task ∷ rest) is own each =
     let goes : Goes (IsOwn n) course rest (moved_by course fate (task ∷ rest)) = each.0 course fate rest own in
     record {
       own = goes.own;
-      left =
-          ⊎_elim
-          (λ (same : (moved_by course fate (task ∷ rest)).tasks ≡ course.tasks).
-          subst (Each (IsOwn n)) (sym (same ∙ is)) (weaker_own (IsOwn (suc n)) (IsOwn n) (fewer_moves n) (task ∷ rest) each))
-          (λ (behind : Precedes (IsOwn n) rest (moved_by course fate (task ∷ rest)).tasks).
-          subst (Each (IsOwn n)) (sym behind.is)
+      left = ⊎_elim (λ (same : (moved_by course fate (task ∷ rest)).tasks ≡ course.tasks). subst (Each (IsOwn n))
+          (sym (same ∙ is)) (weaker_own (IsOwn (suc n)) (IsOwn n) (fewer_moves n) (task ∷ rest) each))
+          (λ (behind : Precedes (IsOwn n) rest (moved_by course fate (task ∷ rest)).tasks). subst (Each (IsOwn n)) (sym behind.is)
           (joined_own (IsOwn n) behind.more rest behind.are (weaker_own (IsOwn (suc n)) (IsOwn n) (fewer_moves n) rest each.1)))
           goes.left;
     }

@@ -1,19 +1,10 @@
 -- A task is known by what its moves make, since the type of tasks has no name here: however few more moves are looked at, none adds a
 -- client, and so it is of the tasks that are then left.
-use Rattle.std.proofs.Common.{◌≡◌, ◌++◌, ℕ, zero, suc, Bool, true, false, List, [], ◌∷◌, map, All, Option, None, Some, if◌then◌else◌, refl, inl, inr}
-use Rattle.std.specs.Prelude.{◌⊎◌, slice_index_or}
-use Rattle.std.proofs.lemmas.List.Elements.{All-cons, All-nil}
-use Rattle.rk_types.specs.NumberMap.{get}
-use Rattle.rk_types.specs.declared.node.Node.{Node}
-use Rattle.rk_types.specs.declared.node.Node.TheVariants as nodes
-use Rattle.rk_message.specs.declared.message.Message.{Message}
-use Rattle.rk_world.specs.Cluster.{Cluster, Occurrence, lane_at}
-use Rattle.rk_cluster.specs.Acted.{all_acted}
-use Rattle.rk_cluster.specs.Makes.{deliver_in_makes, delivery, delivery_of, has_receiver}
-use Rattle.rk_cluster.specs.Replicas.{Fate}
-use Rattle.rk_settle.specs.Course.{Course, moved_by, occurring, occurring_by, with_tasks}
-use Rattle.rk_settle.specs.Exchange.{hand_by}
-use Rattle.rk_settle.specs.Tasks.{turn_exchange}
+use Rattle.std.proofs.Common.{◌≡◌, ◌++◌, ℕ, zero, suc, Bool, true, false, List, [], ◌∷◌, map, All, Option, None, Some, if◌then◌else◌, refl}
+use Rattle.std.proofs.Common.{inl, inr, ◌⊎◌, slice_index_or}
+use Rattle.rk_scripts.proofs.Words.{All-cons, All-nil, get, Node, Message, Cluster, Occurrence, lane_at, all_acted, deliver_in_makes}
+use Rattle.rk_scripts.proofs.Words.{delivery, delivery_of, has_receiver, Fate, Course, moved_by, occurring, occurring_by, with_tasks}
+use Rattle.rk_scripts.proofs.Words.{hand_by, turn_exchange}
 use Rattle.rk_scripts.proofs.settle.Owning.{HasOwnClients, IsOfOwn, own_all}
 use Rattle.rk_scripts.proofs.settle.Tasks.{Task, begins}
 
@@ -85,10 +76,8 @@ where_of_own true occurrence own = one_of_own occurrence own
 where_of_own false occurrence own = All-nil IsOfOwn
 
 delivery_own : (cluster : Cluster) (lane number : ℕ) (fate : Fate) (to : Node) → IsOfOwn (delivery cluster lane number fate to)
-delivery_own cluster lane number fate (nodes.Client client) = tt
-delivery_own cluster lane number fate nodes.Coordinator = tt
-delivery_own cluster lane number fate (nodes.Master master) = tt
-delivery_own cluster lane number fate (nodes.Backup backup) = tt
+delivery_own cluster lane number fate (Node.Client client) = tt
+delivery_own cluster lane number fate _ = tt
 
 delivered_own : (cluster : Cluster) (lane number : ℕ) (fate : Fate) (found : Option Message) → All IsOfOwn (delivery_of cluster lane number fate found)
 delivered_own cluster lane number fate None = All-nil IsOfOwn

@@ -1,26 +1,14 @@
 -- The clients that were added in each lane of a cluster are those that have a session. It stays so whatever occurs, unless a client is added
 -- or joins.
-use Rattle.std.proofs.Common.{◌≡◌, ◌≤◌, ◌<◌, ℕ, true, false, List, [], ◌∷◌, length, All, Option, None, Some, refl, sym, ap, subst, ◌∙◌, ⊎_elim}
-use Rattle.std.specs.Prelude.{Err, Ok, Result, is_some, unwrap_or}
-use Rattle.std.proofs.lemmas.Bool.{cases_lt}
+use Rattle.std.proofs.Common.{◌≡◌, ◌≤◌, ◌<◌, ℕ, true, false, List, [], ◌∷◌, length, All, Option, None, Some, refl, sym, ap, subst, ◌∙◌}
+use Rattle.std.proofs.Common.{⊎_elim, Err, Ok, Result, is_some, unwrap_or}
+use Rattle.rk_scripts.proofs.Words.{cases_lt, All-head, All-tail, IsInOrder, get, numbers, Op, in_order_insert, Visited, accept, ask}
+use Rattle.rk_scripts.proofs.Words.{Session, busy, new_session, session_calling, Accepts, Asks, Calls, Cluster, Happens, Joins, Occurrence}
+use Rattle.rk_scripts.proofs.Words.{called_by_client, cluster_after, cluster_stepped, cluster_visited, lane_at, session_at, with_lane}
+use Rattle.rk_scripts.proofs.Words.{with_session, is_added, world_stepped, world_visited, Stepped, step, World, new_world, StepError, Acted}
+use Rattle.rk_scripts.proofs.Words.{acted, all_acted, going_on, is_client, AreAdded, EachLane, each_lane}
 use Rattle.std.proofs.lemmas.List.{get_or_past}
-use Rattle.std.proofs.lemmas.List.Elements.{All-head, All-tail}
-use Rattle.rk_types.specs.NumberMap.{IsInOrder, get, numbers}
-use Rattle.rk_types.specs.declared.call.Op.{Op}
-use Rattle.rk_types.proofs.NumberMaps.{in_order_insert}
-use Rattle.rk_world.specs.Calls.{Visited, accept, ask}
-use Rattle.rk_world.specs.Client.{Session, busy, new_session, session_calling}
-use Rattle.rk_world.specs.Cluster.{Accepts, Asks, Calls, Cluster, Happens, Joins, Occurrence, called_by_client, cluster_after, cluster_stepped, cluster_visited, lane_at, session_at, with_lane, with_session}
-use Rattle.rk_world.specs.Ledger.{is_added}
-use Rattle.rk_world.specs.Runs.{world_stepped, world_visited}
-use Rattle.rk_world.specs.Step.{Stepped, step}
-use Rattle.rk_world.specs.World.{World, new_world}
-use Rattle.rk_world.specs.declared.error.StepError.{StepError}
-use Rattle.rk_cluster.specs.Acted.{Acted, acted, all_acted, going_on}
-use Rattle.rk_cluster.specs.Looks.{is_client}
 use Rattle.rk_settle.proofs.Occurred.{acted_is}
-use Rattle.rk_runs.specs.duties.Added.{AreAdded}
-use Rattle.rk_runs.proofs.duties.Lanes.{EachLane, each_lane}
 use Rattle.rk_scripts.proofs.settle.OwnClients.{AddsNobody, HasSameClients, asker_added, same_answer, same_stepped, same_turn, taker_added}
 use Rattle.rk_scripts.proofs.settle.SameNumbers.{found_alike, in_order_alike, numbers_kept}
 
@@ -43,8 +31,7 @@ module _ (cluster : Cluster) (own : HasOwnClients cluster) where
 
   -- and who was added in some lane has a session
   added_known : (lane client : ℕ) → is_added (lane_at cluster lane).ledger client ≡ true → is_client cluster client ≡ true
-  added_known lane client added =
-      ⊎_elim
+  added_known lane client added = ⊎_elim
       (λ (inside : lane < length cluster.lanes).
       sym (found_alike (lane_at cluster lane).ledger.clients cluster.sessions (own.lanes lane inside) client) ∙ added)
       (λ (away : length cluster.lanes ≤ lane).
@@ -58,17 +45,15 @@ module _ (cluster : Cluster) (own : HasOwnClients cluster) where
     where
       go : (found : Option Session) → get cluster.sessions client ≡ found → is_client cluster client ≡ true
       go (Some session) is = ap is_some is
-      go None is =
-          added_known lane client
+      go None is = added_known lane client
           (subst (λ (found : Option Session). is_added (lane_at cluster lane).ledger (unwrap_or found (new_session client)).client ≡ true) is added)
 
   -- a lane has the same clients as before
   lane_own : (lane : ℕ) (now : World) → (lane < length cluster.lanes → HasSameClients (lane_at cluster lane) now) → HasOwnClients (with_lane cluster lane now)
   lane_own lane now same = record {
     order = own.order;
-    lanes =
-        each_lane (λ (w : World). numbers w.ledger.clients ≡ numbers cluster.sessions) cluster lane now (λ there. same there ∙ own.lanes lane there)
-        own.lanes;
+    lanes = each_lane (λ (w : World). numbers w.ledger.clients ≡ numbers cluster.sessions) cluster lane now
+        (λ there. same there ∙ own.lanes lane there) own.lanes;
   }
 
   -- a session is another

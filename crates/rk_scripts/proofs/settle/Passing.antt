@@ -1,16 +1,7 @@
 -- A lane is passed in a round: its nodes take their turns and its wire is emptied. Something was sent there, or it is quiet.
-use Rattle.std.proofs.Common.{◌≡◌, ◌<◌, ◌≤◌, ℕ, true, List, [], ◌∷◌, ◌++◌, Option, refl, sym, ap, subst, ◌∙◌, inl, inr, ⊎_elim, arith}
-use Rattle.std.specs.Prelude.{◌⊎◌}
-use Rattle.std.proofs.lemmas.Bool.{and_from}
-use Rattle.rk_types.specs.NumberMap.{numbers}
-use Rattle.rk_types.specs.declared.hashing.TheConstants.{LANES}
-use Rattle.rk_world.specs.Cluster.{Cluster, lane_at}
-use Rattle.rk_world.specs.World.{live_masters}
-use Rattle.rk_cluster.specs.Quiet.{has_applied_all, has_owners, is_quiet_lane}
-use Rattle.rk_cluster.specs.Turns.{clients_in}
-use Rattle.rk_settle.specs.Course.{Course}
-use Rattle.rk_settle.specs.Settle.{empty_by, turns_of}
-use Rattle.rk_runs.specs.duties.Owners.{AllNoticed}
+use Rattle.std.proofs.Common.{◌≡◌, ◌<◌, ◌≤◌, ℕ, true, List, [], ◌∷◌, ◌++◌, Option, refl, sym, ap, subst, ◌∙◌, inl, inr, ⊎_elim, arith, ◌⊎◌}
+use Rattle.rk_scripts.proofs.Words.{and_from, numbers, LANES, Cluster, lane_at, live_masters, has_applied_all, has_owners, is_quiet_lane}
+use Rattle.rk_scripts.proofs.Words.{clients_in, Course, empty_by, turns_of, AllNoticed}
 use Rattle.rk_scripts.proofs.settle.Asking.{asking_walks, first_has_call}
 use Rattle.rk_scripts.proofs.settle.Duties.{Waits, waits_first, waits_none}
 use Rattle.rk_scripts.proofs.settle.Emptying.{IsEmptied, IsSilent, emptying}
@@ -126,8 +117,7 @@ module _ (s : Setting) (lane : ℕ) (inside : lane < LANES) (most : ℕ) (rest :
       go : (clients : List ℕ) → clients_in lane course.cluster.sessions ≡ clients → (later : Course) → Comes s before later
           → IsAt course.cluster (turns_of lane (clients_in lane course.cluster.sessions) (numbers (live_masters (lane_at course.cluster lane))) ++ empties lane ∷ rest) later
           → Goes s before later (IsPassed course.cluster)
-      go [] none later comes_later at =
-          goes_on s before later
+      go [] none later comes_later at = goes_on s before later
           (λ next. IsWalked s lane inside course.cluster most (empties lane ∷ rest) next
           ⊎ (IsIdle s lane inside course.cluster most [] (empties lane ∷ rest) next × AreOwned s lane inside course.cluster most next)) (IsPassed course.cluster)
           (nodes_idle s lane inside course.cluster most masters (empties lane ∷ rest) before later comes_later

@@ -1,32 +1,19 @@
 -- What tablets of a master wait for has not come yet: where one closes something of it is staged, and where a target has all but its closing
 -- entry not every side segment of it is stored. Here so it stays at the small changes of a master.
-use Rattle.std.proofs.Common.{◌≡◌, ◌≤◌, ◌+◌, ◌==◌, ◌||◌, ◌&&◌, ℕ, zero, suc, Bool, true, false, cond, not, List, [], ◌∷◌, ◌++◌, length, Option, None, Some, refl, sym, ap, subst, ⊎_elim, arith}
-use Rattle.std.specs.Prelude.{drop, get_or, unwrap_or}
-use Rattle.std.specs.List.{list_all, list_any}
-use Rattle.std.specs.Option.{option_map, option_map_or}
-use Rattle.std.proofs.lemmas.Bool.{cases_eq, eqb-true, false≢true, lt-leb}
-use Rattle.rk_types.proofs.NumberMaps.{get_other, get_same, in_order_changed, in_order_insert}
-use Rattle.rk_types.specs.NumberMap.{IsInOrder, NumberMap, changed_each, get}
-use Rattle.rk_types.specs.declared.held.Held.{Held}
+use Rattle.std.proofs.Common.{◌≡◌, ◌≤◌, ◌+◌, ◌==◌, ◌||◌, ◌&&◌, ℕ, zero, suc, Bool, true, false, cond, not, List, [], ◌∷◌, ◌++◌, length}
+use Rattle.std.proofs.Common.{Option, None, Some, refl, sym, ap, subst, ⊎_elim, arith, drop, get_or, unwrap_or, option_map, eqb-true}
+use Rattle.rk_scripts.proofs.Words.{list_all, list_any, option_map_or, cases_eq, false≢true, get_other, get_same, in_order_changed}
+use Rattle.rk_scripts.proofs.Words.{in_order_insert, IsInOrder, NumberMap, changed_each, get, Held, Entry, FIRST_SIDE_SEGMENT, Known}
+use Rattle.rk_scripts.proofs.Words.{is_whole, known_length, Log, is_side_stored, numbered, segment_of, NumberedBytes, Role, Master}
+use Rattle.rk_scripts.proofs.Words.{is_settled, staged, tablet_at, touches, with_all, with_appended, with_side_segment, with_tablet}
+use Rattle.rk_scripts.proofs.Words.{as_entries, Tablet, no_tablet, is_sealed_stored, kept_by_fold, found_changed}
+use Rattle.std.proofs.lemmas.Bool.{lt-leb}
 use Rattle.rk_entry.specs.Entries.{spelled_all}
-use Rattle.rk_entry.specs.declared.entry.Entry.{Entry}
-use Rattle.rk_entry.specs.declared.lists.TheConstants.{FIRST_SIDE_SEGMENT}
-use Rattle.rk_log.specs.Known.{Known, is_whole, known_length}
-use Rattle.rk_log.specs.Log.{Log, is_side_stored, numbered, segment_of}
-use Rattle.rk_segment.specs.Segment.{NumberedBytes}
-use Rattle.rk_transfer.specs.declared.role.Role.{Role}
-use Rattle.rk_transfer.specs.declared.role.Role.TheVariants as roles
-use Rattle.rk_world.specs.Master.{Master, is_settled, staged, tablet_at, touches, with_all, with_appended, with_side_segment, with_tablet}
-use Rattle.rk_world.specs.Material.{as_entries}
-use Rattle.rk_world.specs.Tablet.{Tablet, no_tablet}
-use Rattle.rk_world.specs.Waiting.{is_sealed_stored}
-use Rattle.rk_inv_wellformed.proofs.lanes.Ledgers.{kept_by_fold}
-use Rattle.rk_inv_wellformed.proofs.maps.Maps.{found_changed}
 
 -- what a tablet in a role waits for has not come
 abbrev pub WaitsIn : Master → Tablet → Role → Type 0
-WaitsIn master tablet roles.Closing = is_settled master tablet.handover.range ≡ false
-WaitsIn master tablet (roles.Joining None) = 1 ≤ length master.log.known → is_sealed_stored master tablet ≡ false
+WaitsIn master tablet Role.Closing = is_settled master tablet.handover.range ≡ false
+WaitsIn master tablet (Role.Joining None) = 1 ≤ length master.log.known → is_sealed_stored master tablet ≡ false
 WaitsIn master tablet role = Unit {0}
 
 -- what a tablet waits for has not come
@@ -35,13 +22,13 @@ Waits master tablet = WaitsIn master tablet tablet.handover.role
 
 -- a role in which nothing is waited for
 abbrev pub IsCalmRole : Role → Type 0
-IsCalmRole roles.Closing = ⊥
-IsCalmRole (roles.Joining None) = ⊥
+IsCalmRole Role.Closing = ⊥
+IsCalmRole (Role.Joining None) = ⊥
 IsCalmRole role = Unit {0}
 
 pub calm_waits : (master : Master) (tablet : Tablet) (role : Role) → IsCalmRole role → WaitsIn master tablet role
-calm_waits master tablet roles.Closing calm = absurd calm
-calm_waits master tablet (roles.Joining None) calm = absurd calm
+calm_waits master tablet Role.Closing calm = absurd calm
+calm_waits master tablet (Role.Joining None) calm = absurd calm
 calm_waits master tablet role calm = calm
 
 -- nothing that the tablets of a master wait for has come, but for one of them perhaps
@@ -81,9 +68,8 @@ put_beside number master tablet patient = record {
 
 -- one tablet is so
 pub put_whole : (number : ℕ) (master : Master) (tablet : Tablet) → ArePatientBeside number master → Waits master tablet → ArePatient (with_tablet master number tablet)
-put_whole number master tablet patient own =
-    patient_whole number (with_tablet master number tablet) (put_beside number master tablet patient)
-    (subst (Waits master) (sym (at_put master number tablet)) own)
+put_whole number master tablet patient own = patient_whole number (with_tablet master number tablet)
+    (put_beside number master tablet patient) (subst (Waits master) (sym (at_put master number tablet)) own)
 
 pub put_patient : (master : Master) (number : ℕ) (tablet : Tablet) → ArePatient master → Waits master tablet → ArePatient (with_tablet master number tablet)
 put_patient master number tablet patient own = put_whole number master tablet (patient_beside number master patient) own
@@ -123,17 +109,11 @@ some_fails test other (n ∷ list) each fails = go (test n) refl fails (some_fai
     go false is fails later = ap (λ (b : Bool). b && list_all other list) (each n is)
 
 pub waits_on : (before after : Master) → WaitsOn before after → (tablet : Tablet) (role : Role) → WaitsIn before tablet role → WaitsIn after tablet role
-waits_on before after on tablet roles.Closing waits = on.staged tablet.handover.range waits
-waits_on before after on tablet (roles.Joining None) waits = λ backed.
+waits_on before after on tablet Role.Closing waits = on.staged tablet.handover.range waits
+waits_on before after on tablet (Role.Joining None) waits = λ backed.
     let some : 1 ≤ length before.log.known = omega (arith, backed, on.known) in
     some_fails (is_side_stored before.log) (is_side_stored after.log) tablet.pulling.sealed (on.stored some) (waits some)
-waits_on before after on tablet (roles.Joining (Some entry)) waits = waits
-waits_on before after on tablet roles.Absent waits = waits
-waits_on before after on tablet roles.Serving waits = waits
-waits_on before after on tablet roles.Frozen waits = waits
-waits_on before after on tablet (roles.Wanting from) waits = waits
-waits_on before after on tablet roles.Receiving waits = waits
-waits_on before after on tablet (roles.Rebuilding from entry) waits = waits
+waits_on before after on tablet _ waits = waits
 
 pub beside_on : (number : ℕ) (before after : Master) → WaitsOn before after → after.tablets ≡ before.tablets → ArePatientBeside number before → ArePatientBeside number after
 beside_on number before after on same patient = record {

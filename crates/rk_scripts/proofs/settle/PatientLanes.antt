@@ -1,41 +1,19 @@
 -- Nothing that the tablets of a master wait for has come: in each lane of a cluster to which a run of a new one has led.
-use Rattle.std.proofs.Common.{◌≡◌, ◌<◌, ◌≤◌, ◌+◌, ◌==◌, ℕ, zero, suc, Bool, true, false, cond, List, [], ◌∷◌, ◌++◌, length, Option, None, Some, refl, sym, ap, subst, ◌∙◌, ⊎_elim, arith, length-append}
-use Rattle.std.specs.Prelude.{get_or, unwrap_or}
-use Rattle.std.specs.Option.{option_map_or}
-use Rattle.std.proofs.lemmas.Bool.{cases_eq, eqb-true}
-use Rattle.std.proofs.lemmas.List.FromFn.{get_or-map-range_with_len, length-map-range_with_len}
-use Rattle.rk_types.specs.NumberMap.{get}
-use Rattle.rk_types.specs.declared.hashing.TheConstants.{LANES}
-use Rattle.rk_entry.specs.declared.lists.TheConstants.{FIRST_SIDE_SEGMENT}
-use Rattle.rk_segment.specs.Segment.{NumberedBytes}
-use Rattle.rk_log.specs.Cut.{cut}
-use Rattle.rk_log.specs.Known.{Known, known_length}
-use Rattle.rk_log.specs.Log.{Log, bytes_of, numbered, segment_of, side_segments}
-use Rattle.rk_world.specs.Backup.{Called}
-use Rattle.rk_world.specs.Calls.{accept, ask}
-use Rattle.rk_world.specs.Cluster.{Accepts, Asks, Calls, Cluster, Happens, Joins, Occurrence, cluster_after, cluster_run, lane_at, new_cluster, session_at}
-use Rattle.rk_world.specs.ClusterRuns.{IsRun}
-use Rattle.rk_world.specs.Formed.{IsWellFormed}
-use Rattle.rk_world.specs.Master.{Master, new_master, tablet_at}
-use Rattle.rk_world.specs.MasterStep.{master_step}
-use Rattle.rk_world.specs.MasterTurn.{master_turn}
-use Rattle.rk_world.specs.Refusals.{refusal}
-use Rattle.rk_world.specs.Room.{HasRoom}
-use Rattle.rk_world.specs.Runs.{world_stepped}
-use Rattle.rk_world.specs.Splits.{has_parts, with_halves, with_split}
-use Rattle.rk_world.specs.Step.{step, stepped_by}
-use Rattle.rk_world.specs.World.{World, master_at, new_world, with_master}
-use Rattle.rk_world.specs.declared.error.StepError.{StepError}
-use Rattle.rk_world.specs.declared.event.Event.{Event}
+use Rattle.std.proofs.Common.{◌≡◌, ◌<◌, ◌≤◌, ◌+◌, ◌==◌, ℕ, zero, suc, Bool, true, false, cond, List, [], ◌∷◌, ◌++◌, length, Option, None}
+use Rattle.std.proofs.Common.{Some, refl, sym, ap, subst, ◌∙◌, ⊎_elim, arith, length-append, get_or, unwrap_or, eqb-true}
+use Rattle.rk_scripts.proofs.Words.{option_map_or, cases_eq, get_or-map-range_with_len, length-map-range_with_len, get, LANES}
+use Rattle.rk_scripts.proofs.Words.{FIRST_SIDE_SEGMENT, NumberedBytes, cut, Known, known_length, Log, bytes_of, numbered, segment_of}
+use Rattle.rk_scripts.proofs.Words.{side_segments, Called, accept, ask, Accepts, Asks, Calls, Cluster, Happens, Joins, Occurrence}
+use Rattle.rk_scripts.proofs.Words.{cluster_after, cluster_run, lane_at, new_cluster, session_at, IsRun, IsWellFormed, Master, new_master}
+use Rattle.rk_scripts.proofs.Words.{tablet_at, master_step, master_turn, refusal, HasRoom, world_stepped, with_split, step, stepped_by}
+use Rattle.rk_scripts.proofs.Words.{World, master_at, new_world, with_master, StepError, Event, view, IsSound, EachLane, master_other}
+use Rattle.rk_scripts.proofs.Words.{master_same}
+use Rattle.rk_world.specs.Splits.{has_parts, with_halves}
 use Rattle.rk_sound.specs.Logs.{stored_of}
-use Rattle.rk_sound.specs.View.{view}
-use Rattle.rk_sound.specs.Whole.{IsSound}
-use Rattle.rk_inv_lanes.proofs.applied.Lanes.{few_of}
-use Rattle.rk_runs.proofs.duties.Lanes.{EachLane}
 use Rattle.rk_inv_base.proofs.views.Fresh.{each_fresh}
-use Rattle.rk_inv_base.proofs.views.Masters.{master_other, master_same}
-use Rattle.rk_scripts.proofs.play.Reaching.{IsReached, lane_good, lane_there, new_reached, reached_after, reached_eight}
 use Rattle.rk_inv_tablets.proofs.steady.Walks.{IsKept, Part, accept_keeps, ask_keeps, event_keeps}
+use Rattle.rk_inv_lanes.proofs.applied.Lanes.{few_of}
+use Rattle.rk_scripts.proofs.play.Reaching.{IsReached, lane_good, lane_there, new_reached, reached_after, reached_eight}
 use Rattle.rk_scripts.proofs.settle.Patient.{ArePatient, IsFresh, put_patient}
 use Rattle.rk_scripts.proofs.settle.PatientPulls.{pulled_patient}
 use Rattle.rk_scripts.proofs.settle.PatientSteps.{either_patient, step_patient, turn_patient}
@@ -110,10 +88,8 @@ Patience masters count backups = (master : ℕ) → ArePatient (unwrap_or (get m
 module _ (w : World) (patient : AllPatient w) where
   put_master : (number : ℕ) (master : Master) → ArePatient master → AllPatient (with_master w number master)
   put_master number master now q =
-      ⊎_elim
-      (λ (is : q ≡ number). subst ArePatient (sym (master_same w number master q is)) now)
-      (λ (apart : q ≡ number → ⊥). subst ArePatient (sym (master_other w number master q apart)) (patient q))
-      (cases_eq q number)
+      ⊎_elim (λ (is : q ≡ number). subst ArePatient (sym (master_same w number master q is)) now)
+      (λ (apart : q ≡ number → ⊥). subst ArePatient (sym (master_other w number master q apart)) (patient q)) (cases_eq q number)
 
   patient_kept : ((number : ℕ) → IsFresh (master_at w number).log) → IsKept Patience w
   patient_kept fresh = record {
@@ -167,15 +143,13 @@ module _ (masters backups : ℕ) where
   patient_run : (cluster : Cluster) (list : List Occurrence) → IsReached masters backups cluster → IsRun cluster list → EachLane AllPatient cluster
       → EachLane AllPatient (cluster_run cluster list)
   patient_run cluster [] reached run each = each
-  patient_run cluster (occurrence ∷ later) reached run each =
-      patient_run (cluster_after cluster occurrence) later
+  patient_run cluster (occurrence ∷ later) reached run each = patient_run (cluster_after cluster occurrence) later
       (reached_after masters backups cluster reached (occurrence ∷ []) (run.0, run.1, run.2, tt)) run.3
       (patient_after cluster occurrence reached each)
 
   -- in a cluster to which a run of a new one has led
   pub reached_patient : (cluster : Cluster) → IsReached masters backups cluster → (lane : ℕ) → lane < LANES → AllPatient (lane_at cluster lane)
-  reached_patient cluster reached lane inside =
-      subst (EachLane AllPatient) (sym reached.is)
+  reached_patient cluster reached lane inside = subst (EachLane AllPatient) (sym reached.is)
       (patient_run (new_cluster masters backups) reached.before
       (new_reached masters backups reached.few_masters reached.backed reached.few_backups) reached.run first)
       lane (lane_there masters backups cluster reached lane inside)
@@ -183,8 +157,6 @@ module _ (masters backups : ℕ) where
       first : EachLane AllPatient (new_cluster masters backups)
       first at there =
           let long = length-map-range_with_len (λ (number : ℕ). new_world number masters backups) 0 LANES in
-          subst AllPatient
-          (sym
-          (get_or-map-range_with_len (λ (number : ℕ). new_world number masters backups) 0 LANES at at (new_world at 0 0)
-          (omega (arith, there, long)) (omega arith)))
+          subst AllPatient (sym (get_or-map-range_with_len (λ (number : ℕ). new_world number masters backups) 0 LANES at at
+          (new_world at 0 0) (omega (arith, there, long)) (omega arith)))
           (patient_new at masters backups)

@@ -1,37 +1,23 @@
 -- Nothing that the tablets of a master wait for has come, still after a target took a batch that it pulled: where it has all by then, it waits for its
 -- side segments, which no backup is known to hold.
-use Rattle.std.proofs.Common.{◌≡◌, ◌≤◌, ◌+◌, ◌%◌, ◌==◌, ◌&&◌, ℕ, zero, suc, Bool, true, false, cond, nat_le, List, [], ◌∷◌, ◌++◌, length, fold, map, sum, All, Option, None, Some, refl, sym, ap, subst, ◌∙◌, arith, length-append}
-use Rattle.std.specs.List.{list_all, range_with_len}
-use Rattle.std.proofs.lemmas.Bool.{cond-true, eq-eqb}
-use Rattle.std.proofs.lemmas.List.Elements.{All-append, All-cons, All-head, All-nil, All-tail}
+use Rattle.std.proofs.Common.{◌≡◌, ◌≤◌, ◌+◌, ◌%◌, ◌==◌, ◌&&◌, ℕ, zero, suc, Bool, true, false, cond, nat_le, List, [], ◌∷◌, ◌++◌, length}
+use Rattle.std.proofs.Common.{fold, map, sum, All, Option, None, Some, refl, sym, ap, subst, ◌∙◌, arith, length-append, eq-eqb}
+use Rattle.rk_scripts.proofs.Words.{list_all, range_with_len, cond-true, All-append, All-cons, All-head, All-nil, All-tail, Held}
+use Rattle.rk_scripts.proofs.Words.{SEGMENT_BYTES, FIRST_SIDE_SEGMENT, is_side_stored, found, is_newer, end, in_role, joined, role_joined}
+use Rattle.rk_scripts.proofs.Words.{Handover, Role, items_of, Master, tablet_at, with_appended, with_side_segment, with_tablet, as_entries}
+use Rattle.rk_scripts.proofs.Words.{batch_taken, is_token, item_replayed, joining_at, joining_by, pulled_all, pulled_taken, replay}
+use Rattle.rk_scripts.proofs.Words.{replay_one, token_passed, with_pulling, is_receiving_at, sealed_sides, Tablet, with_handover}
+use Rattle.rk_scripts.proofs.Words.{closing_entry, joined_entry, changed, kept_by_fold, Entry}
 use Rattle.rk_types.specs.Held.{spelled_of}
-use Rattle.rk_types.specs.declared.held.Held.{Held}
-use Rattle.rk_types.specs.declared.held.TheConstants.{SEGMENT_BYTES}
 use Rattle.rk_entry.specs.Entries.{spelled_all}
 use Rattle.rk_entry.specs.Spelling.{spelled}
-use Rattle.rk_entry.specs.declared.entry.Entry.TheVariants as entries
-use Rattle.rk_entry.specs.declared.lists.TheConstants.{FIRST_SIDE_SEGMENT}
-use Rattle.rk_log.specs.Log.{is_side_stored}
+use Rattle.rk_priority.specs.Hashes.{no_hashes}
 use Rattle.rk_log.proofs.Cuts.{spelled_some}
 use Rattle.rk_message.specs.declared.pulling.Pulled.{Pulled}
-use Rattle.rk_priority.specs.Hashes.{no_hashes}
-use Rattle.rk_table.specs.Items.{found, is_newer}
-use Rattle.rk_table.specs.Scans.{end}
-use Rattle.rk_transfer.specs.Handover.{in_role, joined, role_joined}
-use Rattle.rk_transfer.specs.declared.handover.Handover.{Handover}
-use Rattle.rk_transfer.specs.declared.role.Role.{Role}
-use Rattle.rk_transfer.specs.declared.role.Role.TheVariants as roles
-use Rattle.rk_world.specs.Ends.{items_of}
-use Rattle.rk_world.specs.Master.{Master, tablet_at, with_appended, with_side_segment, with_tablet}
-use Rattle.rk_world.specs.Material.{as_entries}
-use Rattle.rk_world.specs.Pulls.{batch_taken, is_token, item_replayed, joining_at, joining_by, pulled_all, pulled_taken, replay, replay_one, token_passed, with_pulling}
-use Rattle.rk_world.specs.RoleTests.{is_receiving_at}
-use Rattle.rk_world.specs.SideLogs.{cut_items, sealed_sides, with_side_item}
-use Rattle.rk_world.specs.Tablet.{Tablet, with_handover}
-use Rattle.rk_world.specs.Waiting.{closing_entry, joined_entry}
-use Rattle.rk_world.specs.Worked.{changed}
-use Rattle.rk_inv_wellformed.proofs.lanes.Ledgers.{kept_by_fold}
-use Rattle.rk_scripts.proofs.settle.Patient.{ArePatient, ArePatientBeside, IsCalmRole, IsFresh, Waits, WaitsIn, WaitsOn, appended_beside, at_put, calm_waits, patient_beside, patient_on, patient_whole, put_beside, put_patient, put_whole, side_missing, side_on}
+use Rattle.rk_world.specs.SideLogs.{cut_items, with_side_item}
+use Rattle.rk_scripts.proofs.settle.Patient.{ArePatient, ArePatientBeside, IsCalmRole, IsFresh, Waits, WaitsIn, WaitsOn, appended_beside}
+use Rattle.rk_scripts.proofs.settle.Patient.{at_put, calm_waits, patient_beside, patient_on, patient_whole, put_beside, put_patient}
+use Rattle.rk_scripts.proofs.settle.Patient.{put_whole, side_missing, side_on}
 use Rattle.rk_scripts.proofs.settle.PatientSteps.{either_patient, either_work, replay_patient}
 
 -- ---- the items of side segments
@@ -53,14 +39,12 @@ pieces_more (items ∷ []) item all = go (nat_le (sum (map spelled_of items) + s
     go true = All-cons AreSome (items ++ item ∷ []) [] (pushed_some items item) (All-nil _)
     go false =
         All-cons AreSome items ((item ∷ []) ∷ []) (All-head AreSome items [] all) (All-cons AreSome (item ∷ []) [] tt (All-nil _))
-pieces_more (items ∷ next ∷ more) item all =
-    All-cons AreSome items (with_side_item (next ∷ more) item) (All-head AreSome items (next ∷ more) all)
-    (pieces_more (next ∷ more) item (All-tail AreSome items (next ∷ more) all))
+pieces_more (items ∷ next ∷ more) item all = All-cons AreSome items (with_side_item (next ∷ more) item)
+    (All-head AreSome items (next ∷ more) all) (pieces_more (next ∷ more) item (All-tail AreSome items (next ∷ more) all))
 
 pieces_some : (sides : List (List Held)) → All AreSome (sealed_sides sides)
 pieces_some [] = All-nil _
-pieces_some (side ∷ sides) =
-    All-append AreSome (cut_items side) (sealed_sides sides)
+pieces_some (side ∷ sides) = All-append AreSome (cut_items side) (sealed_sides sides)
     (kept_by_fold (All AreSome) with_side_item (λ pieces item all. pieces_more pieces item all) side [] (All-nil _)) (pieces_some sides)
 
 -- so they have bytes
@@ -68,7 +52,7 @@ some_long : (items : List Held) → AreSome items → 1 ≤ length (spelled_all 
 unfolding spelled_all
 some_long [] none = absurd none
 some_long (item ∷ items) some =
-    omega (arith, spelled_some (entries.Held item), length-append (spelled (entries.Held item)) (spelled_all (as_entries items)))
+    omega (arith, spelled_some (Entry.Held item), length-append (spelled (Entry.Held item)) (spelled_all (as_entries items)))
 
 -- ---- side segments
 
@@ -89,9 +73,8 @@ sides_on [] master all fresh =
     record { on = record { staged = λ range is. is; known = refl; stored = λ some number is. is }; tablets = refl }
 sides_on (items ∷ sides) master all fresh =
     let now : Master = with_side_segment master items in
-    let rest =
-    sides_on sides now (All-tail AreSome items sides all)
-    (λ segment past. fresh segment (omega (arith, past, length-append master.log.sides (spelled_all (as_entries items) ∷ [])))) in
+    let rest = sides_on sides now (All-tail AreSome items sides all) (λ segment past. fresh segment
+    (omega (arith, past, length-append master.log.sides (spelled_all (as_entries items) ∷ [])))) in
     record {
       on = on_then master now (fold with_side_segment now sides) (side_on master items fresh (some_long items (All-head AreSome items sides all))) rest.on;
       tablets = rest.tablets;
@@ -112,51 +95,45 @@ module _ (now : Master) (number : ℕ) (tablet : Tablet) (beside : ArePatientBes
   stays_calm role is calm = stays (calm_waits now tablet tablet.handover.role (subst IsCalmRole (sym is) calm))
 
   -- with its closing entry
-  closes : (place : ℕ) → (tablet.handover.role ≡ roles.Closing → WaitsIn now tablet roles.Closing) → (role : Role) → tablet.handover.role ≡ role
+  closes : (place : ℕ) → (tablet.handover.role ≡ Role.Closing → WaitsIn now tablet Role.Closing) → (role : Role) → tablet.handover.role ≡ role
       → ArePatient (closing_entry now number tablet (joined tablet.handover tablet.handover.term (Some place)))
   closes place waits role is =
       subst (λ (moved : Option Handover). ArePatient (closing_entry now number tablet moved)) (sym (joins tablet.handover (Some place) role is)) (go role is)
     where
-      has_joined : ArePatient (closing_entry now number tablet (Some (record tablet.handover { role = roles.Joining (Some place) })))
+      has_joined : ArePatient (closing_entry now number tablet (Some (record tablet.handover { role = Role.Joining (Some place) })))
       has_joined =
-          let after : Tablet = with_handover tablet (record tablet.handover { role = roles.Joining (Some place) }) in
+          let after : Tablet = with_handover tablet (record tablet.handover { role = Role.Joining (Some place) }) in
           let put = put_whole number (with_appended now (joined_entry tablet)) after (appended_beside number now (joined_entry tablet) beside) tt in
           record { order = put.order; each = put.each }
 
       go : (r : Role) → tablet.handover.role ≡ r → ArePatient (closing_entry now number tablet (in_role tablet.handover (role_joined (Some place) r)))
-      go roles.Receiving is = has_joined
-      go (roles.Joining None) is = has_joined
-      go (roles.Joining (Some entry)) is = stays_calm (roles.Joining (Some entry)) is tt
-      go roles.Closing is = stays (subst (WaitsIn now tablet) (sym is) (waits is))
-      go roles.Absent is = stays_calm roles.Absent is tt
-      go roles.Serving is = stays_calm roles.Serving is tt
-      go roles.Frozen is = stays_calm roles.Frozen is tt
-      go (roles.Wanting from) is = stays_calm (roles.Wanting from) is tt
-      go (roles.Rebuilding from entry) is = stays_calm (roles.Rebuilding from entry) is tt
+      go Role.Receiving is = has_joined
+      go (Role.Joining None) is = has_joined
+      go Role.Closing is = stays (subst (WaitsIn now tablet) (sym is) (waits is))
+      go r is = stays_calm r is tt
 
   -- without it
-  waits_for : (tablet.handover.role ≡ roles.Closing → WaitsIn now tablet roles.Closing) → WaitsIn now tablet (roles.Joining None) → (role : Role) → tablet.handover.role ≡ role
+  waits_for : (tablet.handover.role ≡ Role.Closing → WaitsIn now tablet Role.Closing) → WaitsIn now tablet (Role.Joining None) → (role : Role) → tablet.handover.role ≡ role
       → ArePatient (joining_at now number tablet (joined tablet.handover tablet.handover.term None))
   waits_for waits sides role is =
       subst (λ (moved : Option Handover). ArePatient (joining_at now number tablet moved)) (sym (joins tablet.handover None role is)) (go role is)
     where
       go : (r : Role) → tablet.handover.role ≡ r → ArePatient (joining_at now number tablet (in_role tablet.handover (role_joined None r)))
-      go roles.Receiving is = put_whole number now (with_handover tablet (record tablet.handover { role = roles.Joining None })) beside sides
-      go (roles.Joining None) is = stays (subst (WaitsIn now tablet) (sym is) sides)
-      go (roles.Joining (Some entry)) is = stays_calm (roles.Joining (Some entry)) is tt
-      go roles.Closing is = stays (subst (WaitsIn now tablet) (sym is) (waits is))
-      go roles.Absent is = stays_calm roles.Absent is tt
-      go roles.Serving is = stays_calm roles.Serving is tt
-      go roles.Frozen is = stays_calm roles.Frozen is tt
-      go (roles.Wanting from) is = stays_calm (roles.Wanting from) is tt
-      go (roles.Rebuilding from entry) is = stays_calm (roles.Rebuilding from entry) is tt
+      go Role.Receiving is = put_whole number now (with_handover tablet (record tablet.handover { role = Role.Joining None })) beside sides
+      go (Role.Joining None) is = stays (subst (WaitsIn now tablet) (sym is) sides)
+      go (Role.Joining (Some entry)) is = stays_calm (Role.Joining (Some entry)) is tt
+      go Role.Closing is = stays (subst (WaitsIn now tablet) (sym is) (waits is))
+      go Role.Absent is = stays_calm Role.Absent is tt
+      go Role.Serving is = stays_calm Role.Serving is tt
+      go Role.Frozen is = stays_calm Role.Frozen is tt
+      go (Role.Wanting from) is = stays_calm (Role.Wanting from) is tt
+      go (Role.Rebuilding from entry) is = stays_calm (Role.Rebuilding from entry) is tt
 
 module _ (master : Master) (number : ℕ) (patient : ArePatient master) (fresh : IsFresh master.log) where
   all_patient : ArePatient (pulled_all master number)
   all_patient =
       subst (λ (it : Tablet). ArePatient (joining_by (with_tablet after number (with_sealed (range_with_len start (length sides)))) number it it.pulling.sealed))
-      (sym (at_put after number (with_sealed (range_with_len start (length sides)))))
-      (go (length sides))
+      (sym (at_put after number (with_sealed (range_with_len start (length sides))))) (go (length sides))
     where
       tablet : Tablet
       tablet = tablet_at master number
@@ -179,7 +156,7 @@ module _ (master : Master) (number : ℕ) (patient : ArePatient master) (fresh :
       whole : ArePatient after
       whole = patient_on master after has.on has.tablets patient
 
-      closing_waits : (sealed : List ℕ) → (with_sealed sealed).handover.role ≡ roles.Closing → WaitsIn after (with_sealed sealed) roles.Closing
+      closing_waits : (sealed : List ℕ) → (with_sealed sealed).handover.role ≡ Role.Closing → WaitsIn after (with_sealed sealed) Role.Closing
       closing_waits sealed is = has.on.staged tablet.handover.range (subst (WaitsIn master tablet) is (patient.each number))
 
       go : (count : ℕ) → ArePatient (joining_by (with_tablet after number (with_sealed (range_with_len start count))) number (with_sealed (range_with_len start count)) (range_with_len start count))
@@ -219,5 +196,4 @@ pulled_patient master patient fresh pulled =
     let still : IsFresh now.log = subst IsFresh (sym (replayed_log master number worker (items_of pulled.entries))) fresh in
     either_work (is_receiving_at tablet pulled.tenure.term && is_token pulled.token tablet.pulling.token)
     (changed (batch_taken master number pulled)) (changed master)
-    (either_patient (is_token pulled.next end) (pulled_all now number) now (all_patient now number then_is still) then_is)
-    patient
+    (either_patient (is_token pulled.next end) (pulled_all now number) now (all_patient now number then_is still) then_is) patient

@@ -1,70 +1,51 @@
 -- Nothing that the tablets of a master wait for has come, still after each message that it takes and after its turn.
-use Rattle.std.proofs.Common.{◌≡◌, ◌<◌, ◌==◌, ◌&&◌, ℕ, Bool, true, false, cond, not, nat_lt, List, [], ◌∷◌, length, All, Option, None, Some, refl, sym, ap, subst, ◌∙◌, arith}
-use Rattle.std.specs.Prelude.{IfSome, unwrap_or}
+use Rattle.std.proofs.Common.{◌≡◌, ◌<◌, ◌==◌, ◌&&◌, ℕ, Bool, true, false, cond, not, nat_lt, List, [], ◌∷◌, length, All, Option, None, Some}
+use Rattle.std.proofs.Common.{refl, sym, ap, subst, ◌∙◌, arith, IfSome, unwrap_or, nat_cmp, eq-eqb}
+use Rattle.rk_scripts.proofs.Words.{below_all, eq_by_cmp, All-head, All-tail, All-weaker, cond-true, false≢true, in_order_changed}
+use Rattle.rk_scripts.proofs.Words.{in_order_insert, same_number, IsInOrder, NumberMap, get, meets, Call, Ended, Held, Node, Range, Entry}
+use Rattle.rk_scripts.proofs.Words.{overreach, Overreach, completions_from, Grant, Prepare, Body, Message, Stored, found, is_newer, closed}
+use Rattle.rk_scripts.proofs.Words.{frozen, granted, in_role, joined, role_closed, role_frozen, role_granted, role_joined, Handover, Role}
+use Rattle.rk_scripts.proofs.Words.{Reading, apply_entries, apply_entry, newly_held, noting, stored_taken, with_applied, with_ended}
+use Rattle.rk_scripts.proofs.Words.{with_entry_item, items_of, next_reading, carried_entry, close_taken, closing, grant_taken, granting}
+use Rattle.rk_scripts.proofs.Words.{prepare_taken, preparing, ready, ready_again, transfer, Master, is_settled, tablet_at, with_all}
+use Rattle.rk_scripts.proofs.Words.{with_appended, with_known, with_tablet, master_step, told_master, duties, master_turn, reading_duty}
+use Rattle.rk_scripts.proofs.Words.{tablet_duty, with_outstanding, as_entries, item_replayed, pulled_taken, replay, replay_one, with_pulled}
+use Rattle.rk_scripts.proofs.Words.{with_pulling, is_frozen_at, is_receiving_at, Tablet, no_tablet, pulling_from, with_handover}
+use Rattle.rk_scripts.proofs.Words.{without_merged, all_going_on, closing_entry, freezing, going_on_in, is_sealed_stored, joined_entry}
+use Rattle.rk_scripts.proofs.Words.{Worked, changed, sending, kept_by_fold, All_pairs, above_all, first, get_first, get_later, order_tail}
 use Rattle.std.specs.Cmp.{unsigned_tied}
-use Rattle.std.specs.FinMap.Entries.{below_all}
-use Rattle.std.specs.Ordering.{eq_by_cmp, nat_cmp}
-use Rattle.std.proofs.lemmas.List.Elements.{All-head, All-tail, All-weaker}
-use Rattle.std.proofs.lemmas.Bool.{cond-true, eq-eqb, false≢true}
-use Rattle.rk_types.proofs.NumberMaps.{in_order_changed, in_order_insert, same_number}
-use Rattle.rk_types.specs.NumberMap.{IsInOrder, NumberMap, get}
-use Rattle.rk_types.specs.Range.{meets}
-use Rattle.rk_types.specs.declared.call.Call.{Call}
-use Rattle.rk_types.specs.declared.call.Ended.{Ended}
-use Rattle.rk_types.specs.declared.held.Held.{Held}
 use Rattle.rk_types.specs.declared.lineage.Member.{Member}
-use Rattle.rk_types.specs.declared.node.Node.{Node}
-use Rattle.rk_types.specs.declared.node.Node.TheVariants as nodes
-use Rattle.rk_types.specs.declared.range.Range.{Range}
-use Rattle.rk_entry.specs.declared.entry.Entry.{Entry}
-use Rattle.rk_entry.specs.declared.entry.Entry.TheVariants as entries
-use Rattle.rk_log.specs.Log.{overreach}
-use Rattle.rk_log.specs.declared.overreach.Overreach.{Overreach}
-use Rattle.rk_done.specs.Completions.{completions_from}
+use Rattle.rk_transfer.specs.Handover.{carried, owned, prepared, rebuilt, released, role_carried, role_owned, role_released}
+use Rattle.rk_priority.specs.Hashes.{is_batch}
 use Rattle.rk_message.specs.declared.calls.Request.{Request}
-use Rattle.rk_message.specs.declared.handover.Grant.{Grant}
-use Rattle.rk_message.specs.declared.handover.Prepare.{Prepare}
 use Rattle.rk_message.specs.declared.handover.Tenure.{Tenure}
-use Rattle.rk_message.specs.declared.message.Body.{Body}
-use Rattle.rk_message.specs.declared.message.Body.TheVariants as bodies
-use Rattle.rk_message.specs.declared.message.Message.{Message}
 use Rattle.rk_message.specs.declared.pulling.Got.{Got}
 use Rattle.rk_message.specs.declared.pulling.Pull.{Pull}
 use Rattle.rk_message.specs.declared.pulling.Pulled.{Pulled}
 use Rattle.rk_message.specs.declared.pulling.Want.{Want}
 use Rattle.rk_message.specs.declared.rebuilding.CopySegment.{CopySegment}
 use Rattle.rk_message.specs.declared.rebuilding.Rebuild.{Rebuild}
-use Rattle.rk_message.specs.declared.replication.Stored.{Stored}
-use Rattle.rk_table.specs.Items.{found, is_newer}
-use Rattle.rk_priority.specs.Hashes.{is_batch}
-use Rattle.rk_transfer.specs.Handover.{carried, closed, frozen, granted, in_role, joined, owned, prepared, rebuilt, released, role_carried, role_closed, role_frozen, role_granted, role_joined, role_owned, role_released}
-use Rattle.rk_transfer.specs.declared.handover.Handover.{Handover}
-use Rattle.rk_transfer.specs.declared.role.Role.{Role}
-use Rattle.rk_transfer.specs.declared.role.Role.TheVariants as roles
-use Rattle.rk_world.specs.declared.choice.Choice.{Choice}
-use Rattle.rk_world.specs.declared.choice.Choice.TheVariants.{Redirects, Repeats, Ignores, Wants, Reads, Writes, Refuses}
-use Rattle.rk_world.specs.declared.work.Merged.{Merged}
-use Rattle.rk_world.specs.declared.work.Reading.{Reading}
-use Rattle.rk_world.specs.Commits.{apply_entries, apply_entry, newly_held, noting, stored_taken, with_applied, with_ended, with_entry_item}
-use Rattle.rk_world.specs.Ends.{items_of, told_by}
-use Rattle.rk_world.specs.Gather.{by_member, gather_begun, is_awaited, next_reading}
-use Rattle.rk_world.specs.Handovers.{carried_entry, close_taken, closing, given_up, grant_taken, granting, is_greater, own_taken, owning, prepare_taken, preparing, ready, ready_again, release_taken, releasing, transfer, with_move, with_others_given_up}
+use Rattle.rk_world.specs.Ends.{told_by}
+use Rattle.rk_world.specs.Gather.{by_member, gather_begun, is_awaited}
+use Rattle.rk_world.specs.Handovers.{given_up, is_greater, own_taken, owning, release_taken, releasing, with_move, with_others_given_up}
 use Rattle.rk_world.specs.Lineage.{own_member}
-use Rattle.rk_world.specs.Master.{Master, is_settled, tablet_at, with_all, with_appended, with_known, with_tablet, without_items}
-use Rattle.rk_world.specs.MasterStep.{backup_message, client_message, master_step, order, peer_message, told_master}
-use Rattle.rk_world.specs.MasterTurn.{duties, master_turn, reading_duty, tablet_duty, tenure_at, with_outstanding}
-use Rattle.rk_world.specs.Material.{as_entries}
+use Rattle.rk_world.specs.Master.{without_items}
+use Rattle.rk_world.specs.MasterStep.{backup_message, client_message, order, peer_message}
+use Rattle.rk_world.specs.MasterTurn.{tenure_at}
 use Rattle.rk_world.specs.Merge.{merge}
-use Rattle.rk_world.specs.Pulls.{got_taken, hashes_resolved, item_replayed, pull_taken, pulled_taken, replay, replay_one, want_taken, with_pulled, with_pulling}
-use Rattle.rk_world.specs.Rebuilds.{begun_from, beginning, copy_taken, merging, own_material, rebuild_begun, rebuild_goes_on, rebuild_taken, rebuilding_on, rebuilt_entry, segment_gathered, with_begun, with_merged, without_foreign}
+use Rattle.rk_world.specs.Pulls.{got_taken, hashes_resolved, pull_taken, want_taken}
+use Rattle.rk_world.specs.Rebuilds.{begun_from, beginning, copy_taken, merging, own_material, rebuild_begun, rebuild_goes_on, rebuild_taken}
+use Rattle.rk_world.specs.Rebuilds.{rebuilding_on, rebuilt_entry, segment_gathered, with_begun, with_merged, without_foreign}
 use Rattle.rk_world.specs.Requests.{call_of, choice_of, chosen, counted_up, item_of, refusal_of, request_taken}
-use Rattle.rk_world.specs.RoleTests.{is_frozen_at, is_gathering, is_receiving_at}
-use Rattle.rk_world.specs.Tablet.{Tablet, no_tablet, pulling_from, with_handover, without_merged}
-use Rattle.rk_world.specs.Waiting.{all_going_on, closing_entry, freezing, going_on_in, is_sealed_stored, joined_entry, tablet_frozen}
-use Rattle.rk_world.specs.Worked.{Worked, changed, from_master, sending}
-use Rattle.rk_inv_wellformed.proofs.lanes.Ledgers.{kept_by_fold}
-use Rattle.rk_inv_wellformed.proofs.maps.Maps.{All_pairs, above_all, first, get_first, get_later, order_tail}
-use Rattle.rk_scripts.proofs.settle.Patient.{ArePatient, IsCalmRole, Waits, WaitsIn, WaitsOn, all_patient, appended_on, appended_patient, at_other, at_put, calm_waits, changed_patient, patient_beside, put_beside, put_patient, put_whole, waits_on}
+use Rattle.rk_world.specs.RoleTests.{is_gathering}
+use Rattle.rk_world.specs.Waiting.{tablet_frozen}
+use Rattle.rk_world.specs.Worked.{from_master}
+use Rattle.rk_world.specs.declared.choice.Choice.{Choice}
+use Rattle.rk_world.specs.declared.choice.Choice.TheVariants.{Wants, Writes, Refuses}
+use Rattle.rk_world.specs.declared.work.Merged.{Merged}
+use Rattle.rk_scripts.proofs.settle.Patient.{ArePatient, IsCalmRole, Waits, WaitsIn, WaitsOn, all_patient, appended_on, appended_patient}
+use Rattle.rk_scripts.proofs.settle.Patient.{at_other, at_put, calm_waits, changed_patient, patient_beside, put_beside, put_patient}
+use Rattle.rk_scripts.proofs.settle.Patient.{put_whole, waits_on}
 
 -- ---- tests
 
@@ -83,54 +64,50 @@ abbrev pub MovesCalm : Option Handover → Type 0
 MovesCalm moved = IfSome moved (λ handover. IsCalmRole handover.role)
 
 granted_calm : (b : Bool) (handover : Handover) (role : Role) → MovesCalm (cond b (in_role handover (role_granted role)) None)
-granted_calm true handover (roles.Wanting from) = tt
-granted_calm true handover role = tt
-granted_calm false handover role = tt
+granted_calm true handover (Role.Wanting from) = tt
+granted_calm _ handover role = tt
 
 owned_calm : (b : Bool) (handover : Handover) (applied : ℕ) (role : Role) → MovesCalm (cond b (in_role handover (role_owned applied role)) None)
-owned_calm true handover applied (roles.Joining (Some entry)) = go (nat_lt entry applied)
+owned_calm true handover applied (Role.Joining (Some entry)) = go (nat_lt entry applied)
   where
-    go : (b : Bool) → MovesCalm (in_role handover (cond b (Some roles.Serving) None))
+    go : (b : Bool) → MovesCalm (in_role handover (cond b (Some Role.Serving) None))
     go true = tt
     go false = tt
-owned_calm true handover applied (roles.Rebuilding from (Some entry)) = go (nat_lt entry applied)
+owned_calm true handover applied (Role.Rebuilding from (Some entry)) = go (nat_lt entry applied)
   where
-    go : (b : Bool) → MovesCalm (in_role handover (cond b (Some roles.Serving) None))
+    go : (b : Bool) → MovesCalm (in_role handover (cond b (Some Role.Serving) None))
     go true = tt
     go false = tt
 owned_calm true handover applied role = tt
 owned_calm false handover applied role = tt
 
 released_calm : (b : Bool) (handover : Handover) (role : Role) → MovesCalm (cond b (in_role handover (role_released role)) None)
-released_calm true handover roles.Frozen = tt
-released_calm true handover role = tt
-released_calm false handover role = tt
+released_calm true handover Role.Frozen = tt
+released_calm _ handover role = tt
 
 carried_calm : (b : Bool) (handover : Handover) (entry : ℕ) (role : Role) → MovesCalm (cond b (in_role handover (role_carried entry role)) None)
-carried_calm true handover entry (roles.Rebuilding from None) = tt
-carried_calm true handover entry role = tt
-carried_calm false handover entry role = tt
+carried_calm true handover entry (Role.Rebuilding from None) = tt
+carried_calm _ handover entry role = tt
 
-closed_closes : (b : Bool) (handover : Handover) (role : Role) → IfSome (cond b (in_role handover (role_closed role)) None) (λ now. now.role ≡ roles.Closing)
-closed_closes true handover roles.Serving = refl
-closed_closes true handover (roles.Joining entry) = refl
-closed_closes true handover (roles.Rebuilding from entry) = refl
-closed_closes true handover role = tt
-closed_closes false handover role = tt
+closed_closes : (b : Bool) (handover : Handover) (role : Role) → IfSome (cond b (in_role handover (role_closed role)) None) (λ now. now.role ≡ Role.Closing)
+closed_closes true handover Role.Serving = refl
+closed_closes true handover (Role.Joining entry) = refl
+closed_closes true handover (Role.Rebuilding from entry) = refl
+closed_closes _ handover role = tt
 
 begun_calm : (b : Bool) (handover : Handover) → IsCalmRole handover.role → MovesCalm (cond b (Some handover) None)
 begun_calm true handover calm = calm
 begun_calm false handover calm = tt
 
 -- a tablet that closes may freeze
-pub frozen_own : (handover : Handover) → handover.role ≡ roles.Closing → frozen handover handover.term ≡ Some (record handover { role = roles.Frozen })
+pub frozen_own : (handover : Handover) → handover.role ≡ Role.Closing → frozen handover handover.term ≡ Some (record handover { role = Role.Frozen })
 frozen_own handover is =
     cond-true (handover.term == handover.term) (in_role handover (role_frozen handover.role)) None (eq-eqb handover.term handover.term refl)
     ∙ ap (λ (role : Role). in_role handover (role_frozen role)) is
 
 -- and one that has all but its closing entry may join with it
-pub joined_own : (handover : Handover) (place : ℕ) → handover.role ≡ roles.Joining None
-    → joined handover handover.term (Some place) ≡ Some (record handover { role = roles.Joining (Some place) })
+pub joined_own : (handover : Handover) (place : ℕ) → handover.role ≡ Role.Joining None
+    → joined handover handover.term (Some place) ≡ Some (record handover { role = Role.Joining (Some place) })
 joined_own handover place is =
     cond-true (handover.term == handover.term) (in_role handover (role_joined (Some place) handover.role)) None (eq-eqb handover.term handover.term refl)
     ∙ ap (λ (role : Role). in_role handover (role_joined (Some place) role)) is
@@ -159,15 +136,14 @@ module _ (now : Master) (number : ℕ) (tablet : Tablet) (at : tablet_at now num
   gone_calm : (role : Role) → tablet.handover.role ≡ role → IsCalmRole role → HasGone number now now
   gone_calm role is calm = gone_still (calm_waits now tablet tablet.handover.role (subst IsCalmRole (sym is) calm))
 
-  gone_closing : tablet.handover.role ≡ roles.Closing → HasGone number now (freezing now number tablet (frozen tablet.handover tablet.handover.term))
-  gone_closing is =
-      subst (λ (moved : Option Handover). HasGone number now (freezing now number tablet moved)) (sym (frozen_own tablet.handover is))
-      (go (is_settled now tablet.handover.range) refl)
+  gone_closing : tablet.handover.role ≡ Role.Closing → HasGone number now (freezing now number tablet (frozen tablet.handover tablet.handover.term))
+  gone_closing is = subst (λ (moved : Option Handover). HasGone number now (freezing now number tablet moved))
+      (sym (frozen_own tablet.handover is)) (go (is_settled now tablet.handover.range) refl)
     where
       go : (b : Bool) → is_settled now tablet.handover.range ≡ b
-          → HasGone number now (cond b (with_tablet now number (with_handover tablet (record tablet.handover { role = roles.Frozen }))) now)
+          → HasGone number now (cond b (with_tablet now number (with_handover tablet (record tablet.handover { role = Role.Frozen }))) now)
       go true settled =
-          let after : Tablet = with_handover tablet (record tablet.handover { role = roles.Frozen }) in
+          let after : Tablet = with_handover tablet (record tablet.handover { role = Role.Frozen }) in
           record {
             order = λ order. in_order_insert now.tablets number after order;
             other = λ q apart. at_other now number after q apart;
@@ -176,17 +152,16 @@ module _ (now : Master) (number : ℕ) (tablet : Tablet) (at : tablet_at now num
           }
       go false waits = gone_still (subst (WaitsIn now tablet) (sym is) waits)
 
-  gone_joining : tablet.handover.role ≡ roles.Joining None
+  gone_joining : tablet.handover.role ≡ Role.Joining None
       → HasGone number now (cond (is_sealed_stored now tablet) (closing_entry now number tablet (joined tablet.handover tablet.handover.term (Some (length now.log.entries)))) now)
   gone_joining is =
       subst (λ (moved : Option Handover). HasGone number now (cond (is_sealed_stored now tablet) (closing_entry now number tablet moved) now))
-      (sym (joined_own tablet.handover (length now.log.entries) is))
-      (go (is_sealed_stored now tablet) refl)
+      (sym (joined_own tablet.handover (length now.log.entries) is)) (go (is_sealed_stored now tablet) refl)
     where
       go : (b : Bool) → is_sealed_stored now tablet ≡ b
-          → HasGone number now (cond b (closing_entry now number tablet (Some (record tablet.handover { role = roles.Joining (Some (length now.log.entries)) }))) now)
+          → HasGone number now (cond b (closing_entry now number tablet (Some (record tablet.handover { role = Role.Joining (Some (length now.log.entries)) }))) now)
       go true stored =
-          let after : Tablet = with_handover tablet (record tablet.handover { role = roles.Joining (Some (length now.log.entries)) }) in
+          let after : Tablet = with_handover tablet (record tablet.handover { role = Role.Joining (Some (length now.log.entries)) }) in
           let appended = appended_on now (joined_entry tablet) in
           record {
             order = λ order. in_order_insert now.tablets number after order;
@@ -197,15 +172,9 @@ module _ (now : Master) (number : ℕ) (tablet : Tablet) (at : tablet_at now num
       go false waits = gone_still (subst (WaitsIn now tablet) (sym is) (λ some. waits))
 
   gone_on : (role : Role) → tablet.handover.role ≡ role → HasGone number now (going_on_in now number tablet role)
-  gone_on roles.Closing is = gone_closing is
-  gone_on (roles.Joining None) is = gone_joining is
-  gone_on (roles.Joining (Some entry)) is = gone_calm (roles.Joining (Some entry)) is tt
-  gone_on roles.Absent is = gone_calm roles.Absent is tt
-  gone_on roles.Serving is = gone_calm roles.Serving is tt
-  gone_on roles.Frozen is = gone_calm roles.Frozen is tt
-  gone_on (roles.Wanting from) is = gone_calm (roles.Wanting from) is tt
-  gone_on roles.Receiving is = gone_calm roles.Receiving is tt
-  gone_on (roles.Rebuilding from entry) is = gone_calm (roles.Rebuilding from entry) is tt
+  gone_on Role.Closing is = gone_closing is
+  gone_on (Role.Joining None) is = gone_joining is
+  gone_on role is = gone_calm role is tt
 
 -- a number below that of another is another one
 pub below_apart : (low high : ℕ) → low < high → high ≡ low → ⊥
@@ -241,17 +210,14 @@ all_gone_on (entry ∷ rest) now sorted order coming gone =
 -- whatever was waited for before: once what every backup holds is applied, all that waited goes on
 pub going_on_patient : (master : Master) → IsInOrder master.tablets → ArePatient (all_going_on master master.tablets)
 going_on_patient master order =
-    all_gone_on master.tablets master order order
-    (λ q tablet is. ap (λ (o : Option Tablet). unwrap_or o no_tablet) is)
+    all_gone_on master.tablets master order order (λ q tablet is. ap (λ (o : Option Tablet). unwrap_or o no_tablet) is)
     (λ q none. subst (λ (o : Option Tablet). Waits master (unwrap_or o no_tablet)) (sym none) tt)
 
 -- ---- what a backup tells
 
 item_order : (master : Master) (entry : Entry) → IsInOrder master.tablets → IsInOrder (with_entry_item master entry).tablets
-item_order master (entries.Held held) order = order
-item_order master (entries.Refused refused) order = order
-item_order master (entries.Carried carried) order = order
-item_order master (entries.Joined joined) order = order
+item_order master (Entry.Held held) order = order
+item_order master _ order = order
 
 ended_order : (master : Master) (place : ℕ) (call : Option Call) (ends : List Ended) → IsInOrder master.tablets → IsInOrder (with_ended master place call ends).master.tablets
 ended_order master place (Some call) (end ∷ ends) order = in_order_changed (λ number tablet. noting call end tablet) master.tablets order
@@ -260,8 +226,7 @@ ended_order master place None ends order = order
 
 pub entries_order : (list : List Entry) (master : Master) → IsInOrder master.tablets → IsInOrder (apply_entries master list).master.tablets
 entries_order [] master order = order
-entries_order (entry ∷ list) master order =
-    entries_order list (apply_entry master entry).master
+entries_order (entry ∷ list) master order = entries_order list (apply_entry master entry).master
     (ended_order (with_applied (with_entry_item master entry)) master.applied (get master.calls master.applied) (told_by entry) (item_order master entry order))
 
 stored_patient : (master : Master) (backup : ℕ) (stored : Stored) (over : Option Overreach) → ArePatient master → ArePatient (stored_taken master backup stored over).master
@@ -275,19 +240,16 @@ stored_patient master backup stored None patient =
 
 module _ (master : Master) (patient : ArePatient master) where
   chosen_patient : (asked : ℕ) (call : Call) (choice : Choice) → ArePatient (chosen master asked call choice).master
-  chosen_patient asked call Redirects = patient
-  chosen_patient asked call (Repeats end) = patient
-  chosen_patient asked call Ignores = patient
   chosen_patient asked call (Wants number) = put_patient master number _ patient (patient.each number)
-  chosen_patient asked call (Reads outcome) = patient
   chosen_patient asked call (Writes number value) =
-      let entry : Entry = entries.Held (item_of call (tablet_at master number).handover.counter value) in
+      let entry : Entry = Entry.Held (item_of call (tablet_at master number).handover.counter value) in
       let appended : ArePatient (with_appended master entry) = appended_patient master entry patient in
       let put = put_patient (with_appended master entry) number (counted_up (tablet_at master number)) appended (appended.each number) in
       record { order = put.order; each = put.each }
   chosen_patient asked call (Refuses found absent) =
       let appended = appended_patient master (refusal_of call found absent) patient in
       record { order = appended.order; each = appended.each }
+  chosen_patient asked call _ = patient
 
   request_patient : (client : ℕ) (request : Request) → ArePatient (request_taken master client request).master
   request_patient client request = chosen_patient request.tablet (call_of client request) (choice_of master (call_of client request))
@@ -303,8 +265,7 @@ move_patient master number (Some handover) patient calm =
 others_patient : (master : Master) (number : ℕ) (range : Range) → ArePatient master → ArePatient (with_others_given_up master number range)
 others_patient master number range patient =
     changed_patient master (λ q tablet. cond (not (q == number) && meets tablet.handover.range range) (given_up tablet) tablet)
-    (λ q tablet waits. go tablet waits (not (q == number) && meets tablet.handover.range range))
-    patient
+    (λ q tablet waits. go tablet waits (not (q == number) && meets tablet.handover.range range)) patient
   where
     go : (tablet : Tablet) → Waits master tablet → (b : Bool) → Waits master (cond b (given_up tablet) tablet)
     go tablet waits true = tt
@@ -314,7 +275,7 @@ dropped_patient : (master : Master) (range : Range) → ArePatient master → Ar
 dropped_patient master range patient = record { order = patient.order; each = patient.each }
 
 again_patient : (master : Master) (tenure : Tenure) (role : Role) (term : ℕ) → ArePatient master → ArePatient (ready_again master tenure role term).master
-again_patient master tenure (roles.Wanting from) term patient =
+again_patient master tenure (Role.Wanting from) term patient =
     either_work (term == tenure.term) (sending master (ready master tenure from)) (changed master) patient patient
 again_patient master tenure role term patient = patient
 
@@ -329,15 +290,15 @@ prepare_patient master prepare patient =
     (move_patient now number (prepared old prepare.tenure.term prepare.range (length master.log.entries))
     (others_patient (without_items master prepare.range) number prepare.range (dropped_patient master prepare.range patient))
     (begun_calm (nat_lt old.term prepare.tenure.term)
-    (record old { role = roles.Wanting (length master.log.entries); term = prepare.tenure.term; range = prepare.range }) tt))
+    (record old { role = Role.Wanting (length master.log.entries); term = prepare.tenure.term; range = prepare.range }) tt))
     (again_patient master prepare.tenure handover.role handover.term patient)
 
-closing_patient : (master : Master) (number : ℕ) (moved : Option Handover) → ArePatient master → IfSome moved (λ handover. handover.role ≡ roles.Closing)
+closing_patient : (master : Master) (number : ℕ) (moved : Option Handover) → ArePatient master → IfSome moved (λ handover. handover.role ≡ Role.Closing)
     → ArePatient (closing master number moved)
 closing_patient master number None patient is = patient
 closing_patient master number (Some handover) patient is =
     subst (λ (o : Option Handover). ArePatient (freezing now number (tablet_at now number) o)) (sym (frozen_own handover is))
-    (subst (λ (it : Tablet). ArePatient (freezing now number it (Some (record handover { role = roles.Frozen })))) (sym (at_put master number tablet))
+    (subst (λ (it : Tablet). ArePatient (freezing now number it (Some (record handover { role = Role.Frozen })))) (sym (at_put master number tablet))
     (go (is_settled now handover.range) refl))
   where
     tablet : Tablet
@@ -346,9 +307,8 @@ closing_patient master number (Some handover) patient is =
     now : Master
     now = with_tablet master number tablet
 
-    go : (b : Bool) → is_settled now handover.range ≡ b → ArePatient (cond b (tablet_frozen now number tablet (record handover { role = roles.Frozen })) now)
-    go true settled =
-        put_whole number now (with_handover tablet (record handover { role = roles.Frozen }))
+    go : (b : Bool) → is_settled now handover.range ≡ b → ArePatient (cond b (tablet_frozen now number tablet (record handover { role = Role.Frozen })) now)
+    go true settled = put_whole number now (with_handover tablet (record handover { role = Role.Frozen }))
         (put_beside number master tablet (patient_beside number master patient)) tt
     go false waits =
         put_whole number master tablet (patient_beside number master patient) (subst (WaitsIn master tablet) (sym is) waits)
@@ -357,8 +317,7 @@ close_patient : (master : Master) (tenure : Tenure) → ArePatient master → Ar
 close_patient master tenure patient =
     let old = (tablet_at master tenure.tablet).handover in
     let now = closing master tenure.tablet (closed old tenure.term) in
-    let done : ArePatient now =
-    closing_patient master tenure.tablet (closed old tenure.term) patient
+    let done : ArePatient now = closing_patient master tenure.tablet (closed old tenure.term) patient
     (closed_closes (nat_lt old.term tenure.term) (record old { term = tenure.term }) old.role) in
     let tablet = tablet_at now tenure.tablet in
     either_work (is_frozen_at tablet tenure.term) (sending now (transfer now tenure tablet)) (changed now) done done
@@ -451,7 +410,7 @@ rebuild_patient master rebuild patient =
     (with_begun_patient now rebuild (rebuilt old rebuild.tenure.term rebuild.range (begun_from master own))
     (others_patient (without_foreign master rebuild.range own) number rebuild.range (foreign_patient master rebuild.range own patient))
     (begun_calm (nat_lt old.term rebuild.tenure.term)
-    (record old { role = roles.Rebuilding (begun_from master own) None; term = rebuild.tenure.term; range = rebuild.range }) tt)))
+    (record old { role = Role.Rebuilding (begun_from master own) None; term = rebuild.tenure.term; range = rebuild.range }) tt)))
     patient
 
 copy_patient : (master : Master) (copy : CopySegment) → ArePatient master → ArePatient (copy_taken master copy).master
@@ -480,11 +439,9 @@ replayed_patient number worker master item patient =
     record { order = put.order; each = put.each }
 
 pub replay_patient : (master : Master) (number worker : ℕ) (items : List Held) → ArePatient master → ArePatient (replay master number worker items)
-replay_patient master number worker items patient =
-    kept_by_fold ArePatient (replay_one number worker)
-    (λ now item kept.
-    either_patient (is_newer item (found item.table item.key now.records)) (item_replayed number worker now item) now
-    (replayed_patient number worker now item kept) kept)
+replay_patient master number worker items patient = kept_by_fold ArePatient (replay_one number worker)
+    (λ now item kept. either_patient (is_newer item (found item.table item.key now.records))
+    (item_replayed number worker now item) now (replayed_patient number worker now item kept) kept)
     items master patient
 
 got_patient : (master : Master) (message : Got) → ArePatient master → ArePatient (got_taken master message).master
@@ -504,30 +461,29 @@ reading_patient master number tablet None patient = patient
 reading_patient master number tablet (Some reading) patient = patient
 
 duty_patient : (master : Master) (number : ℕ) (tablet : Tablet) (role : Role) → Waits master tablet → ArePatient master → ArePatient (tablet_duty master number tablet role).master
-duty_patient master number tablet roles.Receiving waits patient = put_patient master number (with_outstanding tablet) patient waits
-duty_patient master number tablet (roles.Joining (Some entry)) waits patient = either_work (nat_lt entry master.applied) _ (changed master) patient patient
-duty_patient master number tablet (roles.Rebuilding from None) waits patient = reading_patient master number tablet (next_reading tablet.gather) patient
-duty_patient master number tablet (roles.Rebuilding from (Some entry)) waits patient = either_work (nat_lt entry master.applied) _ (changed master) patient patient
+duty_patient master number tablet Role.Receiving waits patient = put_patient master number (with_outstanding tablet) patient waits
+duty_patient master number tablet (Role.Joining (Some entry)) waits patient = either_work (nat_lt entry master.applied) _ (changed master) patient patient
+duty_patient master number tablet (Role.Rebuilding from None) waits patient = reading_patient master number tablet (next_reading tablet.gather) patient
+duty_patient master number tablet (Role.Rebuilding from (Some entry)) waits patient = either_work (nat_lt entry master.applied) _ (changed master) patient patient
 duty_patient master number tablet role waits patient = patient
 
 -- a duty changes neither the log nor what is applied
 duty_on : (master : Master) (number : ℕ) (tablet : Tablet) (role : Role) → WaitsOn master (tablet_duty master number tablet role).master
-duty_on master number tablet roles.Receiving = record { staged = λ range is. is; known = refl; stored = λ some number is. is }
-duty_on master number tablet (roles.Joining (Some entry)) = go (nat_lt entry master.applied)
+duty_on master number tablet Role.Receiving = record { staged = λ range is. is; known = refl; stored = λ some number is. is }
+duty_on master number tablet (Role.Joining (Some entry)) = go (nat_lt entry master.applied)
   where
-    go : (b : Bool) → WaitsOn master (cond b (sending master (from_master master nodes.Coordinator (bodies.Joined (tenure_at number tablet)))) (changed master)).master
+    go : (b : Bool) → WaitsOn master (cond b (sending master (from_master master Node.Coordinator (Body.Joined (tenure_at number tablet)))) (changed master)).master
     go true = same_on master
     go false = same_on master
-duty_on master number tablet (roles.Rebuilding from None) = go (next_reading tablet.gather)
+duty_on master number tablet (Role.Rebuilding from None) = go (next_reading tablet.gather)
   where
     go : (reading : Option Reading) → WaitsOn master (reading_duty master number tablet reading).master
     go None = same_on master
     go (Some reading) = same_on master
-duty_on master number tablet (roles.Rebuilding from (Some entry)) = go (nat_lt entry master.applied)
+duty_on master number tablet (Role.Rebuilding from (Some entry)) = go (nat_lt entry master.applied)
   where
-    go : (b : Bool)
-        → WaitsOn master
-        (cond b (sending master (from_master master nodes.Coordinator (bodies.Rebuilt (record { tenure = tenure_at number tablet; place = from; ends = tablet.merged_ends })))) (changed master)).master
+    go : (b : Bool) → WaitsOn master
+        (cond b (sending master (from_master master Node.Coordinator (Body.Rebuilt (record { tenure = tenure_at number tablet; place = from; ends = tablet.merged_ends })))) (changed master)).master
     go true = same_on master
     go false = same_on master
 duty_on master number tablet role = same_on master
@@ -552,8 +508,7 @@ duties_patient (entry ∷ rest) master all patient =
 
 -- at its turn
 pub turn_patient : (master : Master) → ArePatient master → ArePatient (master_turn master).master
-turn_patient master patient =
-    duties_patient master.tablets master
+turn_patient master patient = duties_patient master.tablets master
     (All_pairs (λ (q : ℕ) (tablet : Tablet). Waits master tablet) master.tablets patient.order
     (λ q tablet found. subst (λ (o : Option Tablet). Waits master (unwrap_or o no_tablet)) found (patient.each q)))
     patient
@@ -562,36 +517,36 @@ turn_patient master patient =
 
 module _ (master : Master) (patient : ArePatient master) (pulled_patient : (pulled : Pulled) → ArePatient (pulled_taken master pulled).master) where
   client_patient : (client : ℕ) (body : Body) → ArePatient (client_message master client body).master
-  client_patient client (bodies.Request request) = request_patient master patient client request
+  client_patient client (Body.Request request) = request_patient master patient client request
   client_patient client _ = patient
 
   order_patient : (body : Body) → ArePatient (order master body).master
-  order_patient (bodies.Prepare prepare) = prepare_patient master prepare patient
-  order_patient (bodies.Close tenure) = close_patient master tenure patient
-  order_patient (bodies.Grant grant) = grant_patient master grant patient
-  order_patient (bodies.Own tenure) = own_patient master tenure patient
-  order_patient (bodies.Release tenure) = release_patient master tenure patient
-  order_patient (bodies.Rebuild rebuild) = rebuild_patient master rebuild patient
+  order_patient (Body.Prepare prepare) = prepare_patient master prepare patient
+  order_patient (Body.Close tenure) = close_patient master tenure patient
+  order_patient (Body.Grant grant) = grant_patient master grant patient
+  order_patient (Body.Own tenure) = own_patient master tenure patient
+  order_patient (Body.Release tenure) = release_patient master tenure patient
+  order_patient (Body.Rebuild rebuild) = rebuild_patient master rebuild patient
   order_patient _ = patient
 
   peer_patient : (sender : Node) (body : Body) → ArePatient (peer_message master sender body).master
-  peer_patient sender (bodies.Pull pull) = pull_patient master sender pull patient
-  peer_patient sender (bodies.Pulled pulled) = pulled_patient pulled
-  peer_patient sender (bodies.Want want) = want_patient master sender want patient
-  peer_patient sender (bodies.Got message) = got_patient master message patient
+  peer_patient sender (Body.Pull pull) = pull_patient master sender pull patient
+  peer_patient sender (Body.Pulled pulled) = pulled_patient pulled
+  peer_patient sender (Body.Want want) = want_patient master sender want patient
+  peer_patient sender (Body.Got message) = got_patient master message patient
   peer_patient sender _ = patient
 
   backup_patient : (backup : ℕ) (body : Body) → ArePatient (backup_message master backup body).master
-  backup_patient backup (bodies.Stored stored) =
+  backup_patient backup (Body.Stored stored) =
       stored_patient master backup stored (overreach master.log stored.segment stored.length) patient
-  backup_patient backup (bodies.Copy copy) = copy_patient master copy patient
+  backup_patient backup (Body.Copy copy) = copy_patient master copy patient
   backup_patient backup _ = patient
 
   told_patient : (sender : Node) (body : Body) → ArePatient (told_master master sender body).master
-  told_patient (nodes.Client client) body = client_patient client body
-  told_patient nodes.Coordinator body = order_patient body
-  told_patient (nodes.Master other) body = peer_patient (nodes.Master other) body
-  told_patient (nodes.Backup backup) body = backup_patient backup body
+  told_patient (Node.Client client) body = client_patient client body
+  told_patient Node.Coordinator body = order_patient body
+  told_patient (Node.Master other) body = peer_patient (Node.Master other) body
+  told_patient (Node.Backup backup) body = backup_patient backup body
 
   -- at a message
   pub step_patient : (message : Message) → ArePatient (master_step master message).master

@@ -1,29 +1,17 @@
 -- What lies on a wire beyond a number: nothing that is on a topic, or one message alone. And what an arrival leaves of what lay there.
-use Rattle.std.proofs.Common.{◌≡◌, ◌<◌, ◌≤◌, ◌+◌, ℕ, Bool, true, false, cond, List, [], ◌∷◌, ◌++◌, eqb, fold, map, All, Option, None, Some, refl, sym, ap, subst, ◌∙◌, ⊎_elim, arith}
-use Rattle.std.proofs.lemmas.Bool.{cases_eq, cond-false, false≢true, ne_eqb}
-use Rattle.std.proofs.lemmas.List.Elements.{All-head, All-tail}
-use Rattle.rk_types.proofs.NumberMaps.{get_other, get_remove, get_removed, get_same, remove_less}
-use Rattle.rk_types.specs.NumberMap.{NumberMap, get, remove}
-use Rattle.rk_types.specs.declared.node.Node.{Node}
-use Rattle.rk_types.specs.declared.node.Node.TheVariants as nodes
-use Rattle.rk_outside.specs.Segments.{Segments}
-use Rattle.rk_message.specs.Wire.{HasSentNumbers, Traffic, with_message, without_message}
-use Rattle.rk_message.specs.declared.message.Message.{Message}
-use Rattle.rk_world.specs.Backup.{Backed, Called, Gave, backup_step, stored_after}
-use Rattle.rk_world.specs.Calls.{accept, accept_by, accepting, is_asked_here, taking, untouched}
-use Rattle.rk_world.specs.Client.{Session}
-use Rattle.rk_world.specs.CoordinatorStep.{coordinator_step}
-use Rattle.rk_world.specs.MasterStep.{master_step}
-use Rattle.rk_world.specs.Replies.{filled}
-use Rattle.rk_world.specs.Refusals.{accept_refusal, refusal, wire_fault}
-use Rattle.rk_world.specs.Runs.{world_stepped, world_visited}
-use Rattle.rk_world.specs.Step.{backed_at, delivered, delivered_to, ledger_after, log_bytes_of, losing, quietly, seen_in, step, stepped_by, with_sends, worked_at}
-use Rattle.rk_world.specs.World.{World, has_crashed, is_backup, master_at, with_stored_by, with_top, with_wire}
-use Rattle.rk_world.specs.declared.error.StepError.{StepError}
-use Rattle.rk_world.specs.declared.event.Event.TheVariants as events
-use Rattle.rk_world.specs.declared.event.Taken.TheVariants as takes_of
-use Rattle.rk_settle.specs.Topics.{is_on}
-use Rattle.rk_inv_lanes.specs.wires.Emptied.{Accepts, Arrival, Delivers, Loses, arrived, forgotten}
+use Rattle.std.proofs.Common.{◌≡◌, ◌<◌, ◌≤◌, ◌+◌, ℕ, Bool, true, false, cond, List, [], ◌∷◌, ◌++◌, eqb, fold, map, All, Option, None, Some}
+use Rattle.std.proofs.Common.{refl, sym, ap, subst, ◌∙◌, ⊎_elim, arith, ne_eqb}
+use Rattle.rk_scripts.proofs.Words.{cases_eq, cond-false, false≢true, All-head, All-tail, get_other, get_same, NumberMap, get, Node}
+use Rattle.rk_scripts.proofs.Words.{Segments, HasSentNumbers, Traffic, with_message, without_message, Message, Backed, Called, Gave}
+use Rattle.rk_scripts.proofs.Words.{backup_step, stored_after, accept, accept_by, accepting, is_asked_here, taking, untouched, Session}
+use Rattle.rk_scripts.proofs.Words.{coordinator_step, master_step, filled, accept_refusal, refusal, world_stepped, world_visited, backed_at}
+use Rattle.rk_scripts.proofs.Words.{delivered, delivered_to, ledger_after, log_bytes_of, losing, quietly, seen_in, step, stepped_by}
+use Rattle.rk_scripts.proofs.Words.{with_sends, worked_at, World, has_crashed, is_backup, master_at, with_stored_by, with_top, with_wire}
+use Rattle.rk_scripts.proofs.Words.{StepError, is_on, Arrival, Delivers, Loses, arrived, forgotten, Event, Taken}
+use Rattle.rk_types.proofs.NumberMaps.{get_remove, get_removed, remove_less}
+use Rattle.rk_types.specs.NumberMap.{remove}
+use Rattle.rk_world.specs.Refusals.{wire_fault}
+use Rattle.rk_inv_lanes.specs.wires.Emptied.{Accepts}
 use Rattle.rk_scripts.proofs.settle.ExchangeTasks.{Topic}
 
 -- ---- beyond a number
@@ -48,15 +36,10 @@ module _ (topic : Topic) where
   pub nothing_after : (wire : Traffic) → HasSentNumbers wire → OnlyOff wire.sent wire
   nothing_after wire sent n message after found = absurd (omega (arith, (sent n message found).1, after))
 
-  -- from further on
-  pub off_further : (from later : ℕ) (wire : Traffic) → from ≤ later → OnlyOff from wire → OnlyOff later wire
-  off_further from later wire more off n message after found = off n message (omega (arith, more, after)) found
-
   -- one more message
   newer : (P : ℕ → Message → Type 0) (wire : Traffic) (message : Message) → P (wire.sent + 1) message
       → ((n : ℕ) (it : Message) → get wire.messages n ≡ Some it → P n it) → (n : ℕ) (it : Message) → get (with_message message wire).messages n ≡ Some it → P n it
-  newer P wire message new old n it found =
-      ⊎_elim
+  newer P wire message new old n it found = ⊎_elim
       (λ (is : n ≡ wire.sent + 1).
       let same : Some message ≡ Some it = sym (get_same wire.messages (wire.sent + 1) message n is) ∙ found in
       let one : message ≡ it = cc same in
@@ -164,7 +147,7 @@ module _ (topic : Topic) where
 pub forgotten_cases : (P : World → Type 0) (w : World) (number : ℕ) → P w → P (with_top (with_wire w (without_message number w.wire))) → P (forgotten w number)
 forgotten_cases P w number same without = go (get w.wire.messages number)
   where
-    go : (found : Option Message) → P (world_stepped w (stepped_by w (events.Forget number) (Gave None) (wire_fault number found)))
+    go : (found : Option Message) → P (world_stepped w (stepped_by w (Event.Forget number) (Gave None) (wire_fault number found)))
     go None = same
     go (Some message) = without
 
@@ -179,7 +162,7 @@ pub forgotten_gone : (w : World) (number : ℕ) → get (forgotten w number).wir
 forgotten_gone w number = go (get w.wire.messages number) refl
   where
     go : (found : Option Message) → get w.wire.messages number ≡ found
-        → get (world_stepped w (stepped_by w (events.Forget number) (Gave None) (wire_fault number found))).wire.messages number ≡ None
+        → get (world_stepped w (stepped_by w (Event.Forget number) (Gave None) (wire_fault number found))).wire.messages number ≡ None
     go None is = is
     go (Some message) is = get_removed w.wire.messages number
 
@@ -191,8 +174,7 @@ KeepsOld w now = (n : ℕ) → n ≤ w.wire.sent → get now.wire.messages n ≡
 
 sent_old : (wire : Traffic) (list : List Message) (n : ℕ) → n ≤ wire.sent → get (fold (λ it message. with_message message it) wire list).messages n ≡ get wire.messages n
 sent_old wire [] n within = refl
-sent_old wire (message ∷ list) n within =
-    sent_old (with_message message wire) list n (omega (arith, within))
+sent_old wire (message ∷ list) n within = sent_old (with_message message wire) list n (omega (arith, within))
     ∙ get_other wire.messages (wire.sent + 1) message n (λ is. omega (arith, within, is))
 
 module _ (w : World) where
@@ -210,16 +192,16 @@ module _ (w : World) where
   stored_same number store (Some segments) = refl
 
   delivered_old : (message : Message) (to : Node) (called : Called) → KeepsOld w (delivered_to w message to called).world
-  delivered_old message (nodes.Client client) called n within = refl
-  delivered_old message nodes.Coordinator called n within = sent_old w.wire (coordinator_step w.coordinator message).sends n within
-  delivered_old message (nodes.Master master) called n within = go (has_crashed w master)
+  delivered_old message (Node.Client client) called n within = refl
+  delivered_old message Node.Coordinator called n within = sent_old w.wire (coordinator_step w.coordinator message).sends n within
+  delivered_old message (Node.Master master) called n within = go (has_crashed w master)
     where
       go : (b : Bool) → get (cond b (losing w) (worked_at w master (seen_in message.body) (master_step (master_at w master) message))).world.wire.messages n ≡ get w.wire.messages n
       go true = refl
       go false =
           let worked = master_step (master_at w master) message in
           sent_old w.wire (map (filled (ledger_after w.ledger master (seen_in message.body) worked).journal worked.served) worked.sends) n within
-  delivered_old message (nodes.Backup backup) called n within = go (is_backup w backup)
+  delivered_old message (Node.Backup backup) called n within = go (is_backup w backup)
     where
       v : World
       v = with_stored_by w backup (λ segments. stored_after segments message.from message.body called) (get w.backups backup)
@@ -229,8 +211,7 @@ module _ (w : World) where
 
       go : (b : Bool)
           → get (cond b (backed_at v (backup_step backup message.from message.body (log_bytes_of w) called)) (quietly w)).world.wire.messages n ≡ get w.wire.messages n
-      go true =
-          backed_old v (backup_step backup message.from message.body (log_bytes_of w) called)
+      go true = backed_old v (backup_step backup message.from message.body (log_bytes_of w) called)
           (λ k inside. ap (λ (wire : Traffic). get wire.messages k) same) same n within
       go false = refl
 
@@ -238,10 +219,10 @@ module _ (w : World) where
   all_old None called n within = refl
   all_old (Some message) called n within = delivered_old message message.to called n within
 
-  stepped_old : (number : ℕ) (called : Called) → KeepsOld w (world_stepped w (step w (events.Deliver number) called))
-  stepped_old number called n within = go (refusal w (events.Deliver number))
+  stepped_old : (number : ℕ) (called : Called) → KeepsOld w (world_stepped w (step w (Event.Deliver number) called))
+  stepped_old number called n within = go (refusal w (Event.Deliver number))
     where
-      go : (refused : Option StepError) → get (world_stepped w (stepped_by w (events.Deliver number) called refused)).wire.messages n ≡ get w.wire.messages n
+      go : (refused : Option StepError) → get (world_stepped w (stepped_by w (Event.Deliver number) called refused)).wire.messages n ≡ get w.wire.messages n
       go None = all_old (get w.wire.messages number) called n within
       go (Some error) = refl
 
@@ -253,7 +234,7 @@ module _ (w : World) where
       by None = refl
       by (Some message) = asked_here (is_asked_here w session)
         where
-          asked_here : (b : Bool) → (cond b (taking w session message.body) (untouched w session (Some takes_of.Ignored))).world.wire ≡ w.wire
+          asked_here : (b : Bool) → (cond b (taking w session message.body) (untouched w session (Some Taken.Ignored))).world.wire ≡ w.wire
           asked_here true = refl
           asked_here false = refl
 

@@ -1,26 +1,13 @@
 -- What holds of each cluster to which a run of a new one has led: its masters are caught up, no row is owned by a master that was noticed
 -- dead, and its sessions stand in order.
-use Rattle.std.proofs.Common.{◌<◌, ℕ, List, [], ◌∷◌, length, sym, subst, arith}
-use Rattle.std.specs.Prelude.{Err, Ok, Option, None, Some, Result}
-use Rattle.std.proofs.lemmas.List.FromFn.{get_or-map-range_with_len, length-map-range_with_len}
-use Rattle.rk_types.proofs.NumberMaps.{in_order_insert}
-use Rattle.rk_types.specs.NumberMap.{IsInOrder, get, insert}
-use Rattle.rk_types.specs.declared.call.Op.{Op}
-use Rattle.rk_types.specs.declared.hashing.TheConstants.{LANES}
-use Rattle.rk_world.specs.Backup.{Called}
-use Rattle.rk_world.specs.Calls.{Visited, accept, ask}
-use Rattle.rk_world.specs.Client.{Session, busy, new_session, session_calling}
-use Rattle.rk_world.specs.Cluster.{Accepts, Asks, Calls, Cluster, Happens, Joins, Occurrence, called_by_client, cluster_after, cluster_run, cluster_stepped, cluster_visited, joined_by, lane_at, new_cluster, session_at}
-use Rattle.rk_world.specs.Refusals.{refusal}
-use Rattle.rk_world.specs.Runs.{world_stepped, world_visited}
-use Rattle.rk_world.specs.Step.{Stepped, step, stepped_by}
-use Rattle.rk_world.specs.World.{World, new_world}
-use Rattle.rk_world.specs.declared.error.StepError.{StepError}
-use Rattle.rk_world.specs.declared.event.Event.{Event}
-use Rattle.rk_inv_lanes.specs.applied.CaughtUp.{AllCaughtUp}
+use Rattle.std.proofs.Common.{◌<◌, ℕ, List, [], ◌∷◌, length, sym, subst, arith, Err, Ok, Option, None, Some, Result}
+use Rattle.rk_scripts.proofs.Words.{get_or-map-range_with_len, length-map-range_with_len, in_order_insert, IsInOrder, get, insert, Op}
+use Rattle.rk_scripts.proofs.Words.{LANES, Called, Visited, accept, ask, Session, busy, new_session, session_calling, Accepts, Asks, Calls}
+use Rattle.rk_scripts.proofs.Words.{Cluster, Happens, Joins, Occurrence, called_by_client, cluster_after, cluster_run, cluster_stepped}
+use Rattle.rk_scripts.proofs.Words.{cluster_visited, joined_by, lane_at, new_cluster, session_at, refusal, world_stepped, world_visited}
+use Rattle.rk_scripts.proofs.Words.{Stepped, step, stepped_by, World, new_world, StepError, Event, AllCaughtUp, NoDeadOwner, EachLane}
+use Rattle.rk_scripts.proofs.Words.{each_lane}
 use Rattle.rk_inv_lanes.proofs.applied.Lanes.{caught_accepted, caught_asked, caught_event, caught_new}
-use Rattle.rk_runs.specs.duties.Owners.{NoDeadOwner}
-use Rattle.rk_runs.proofs.duties.Lanes.{EachLane, each_lane}
 use Rattle.rk_runs.proofs.duties.Runs.{free_in_run}
 use Rattle.rk_scripts.proofs.play.Reaching.{IsReached, lane_there}
 
@@ -84,9 +71,8 @@ visited_ordered cluster lane client (Err error) order = order
 
 ordered_after : (cluster : Cluster) (occurrence : Occurrence) → IsInOrder cluster.sessions → IsInOrder (cluster_after cluster occurrence).sessions
 ordered_after cluster (Happens lane event called) order = stepped_ordered cluster lane (step (lane_at cluster lane) event called) order
-ordered_after cluster (Joins client) order =
-    joined_all (λ (it : Cluster). IsInOrder it.sessions) cluster client (get cluster.sessions client) order
-    (λ session. in_order_insert cluster.sessions client session order)
+ordered_after cluster (Joins client) order = joined_all (λ (it : Cluster). IsInOrder it.sessions) cluster client
+    (get cluster.sessions client) order (λ session. in_order_insert cluster.sessions client session order)
 ordered_after cluster (Calls client table key op) order =
     called_all (λ (it : Cluster). IsInOrder it.sessions) cluster client table key op (get cluster.sessions client) order
     (λ session. in_order_insert cluster.sessions client session order)
@@ -104,10 +90,8 @@ module _ (masters backups : ℕ) (cluster : Cluster) (reached : IsReached master
   first_caught : EachLane AllCaughtUp first
   first_caught lane inside =
       let long = length-map-range_with_len (λ (number : ℕ). new_world number masters backups) 0 LANES in
-      subst AllCaughtUp
-      (sym
-      (get_or-map-range_with_len (λ (number : ℕ). new_world number masters backups) 0 LANES lane lane (new_world lane 0 0)
-      (omega (arith, inside, long)) (omega arith)))
+      subst AllCaughtUp (sym (get_or-map-range_with_len (λ (number : ℕ). new_world number masters backups) 0 LANES lane lane
+      (new_world lane 0 0) (omega (arith, inside, long)) (omega arith)))
       (caught_new lane masters backups)
 
   -- its masters are caught up
@@ -118,12 +102,10 @@ module _ (masters backups : ℕ) (cluster : Cluster) (reached : IsReached master
 
   -- no dead master owns a row
   pub reached_free : (lane : ℕ) → lane < LANES → NoDeadOwner (lane_at cluster lane).coordinator
-  reached_free lane inside =
-      subst (λ (it : Cluster). NoDeadOwner (lane_at it lane).coordinator) (sym reached.is)
+  reached_free lane inside = subst (λ (it : Cluster). NoDeadOwner (lane_at it lane).coordinator) (sym reached.is)
       (free_in_run masters backups reached.few_masters reached.backed reached.few_backups reached.before lane reached.run inside)
 
   -- its sessions stand in order
   pub reached_ordered : IsInOrder cluster.sessions
-  reached_ordered =
-      subst (λ (it : Cluster). IsInOrder it.sessions) (sym reached.is)
+  reached_ordered = subst (λ (it : Cluster). IsInOrder it.sessions) (sym reached.is)
       (run_keeps (λ (it : Cluster). IsInOrder it.sessions) ordered_after first reached.before tt)

@@ -1,36 +1,24 @@
 -- A cluster whose lanes are quiet and silent, and where no lane has an outstanding call, is at rest.
-use Rattle.std.proofs.Common.{◌≡◌, ◌<◌, ℕ, zero, suc, Bool, true, false, cond, List, [], ◌∷◌, filter, length, Option, None, Some, refl, ap, subst, ◌∙◌, arith}
-use Rattle.std.specs.Prelude.{is_none, slice_index_or}
-use Rattle.std.specs.List.{list_all}
-use Rattle.std.proofs.lemmas.Bool.{and_from, eq-eqb}
+use Rattle.std.proofs.Common.{◌≡◌, ◌<◌, ℕ, zero, suc, Bool, true, false, cond, List, [], ◌∷◌, filter, length, Option, None, Some, refl, ap}
+use Rattle.std.proofs.Common.{subst, ◌∙◌, arith, is_none, slice_index_or, eq-eqb}
+use Rattle.rk_scripts.proofs.Words.{list_all, and_from, hash_of, NumberMap, numbers, Call, LANES, Session, call_lane, Cluster, lane_at}
+use Rattle.rk_scripts.proofs.Words.{World, new_world, is_quiet, is_quiet_lane, clients_in, is_call_in, is_at_rest, is_silent}
 use Rattle.std.proofs.lemmas.Nat.{mod_below}
-use Rattle.rk_types.specs.Hashing.{hash_of}
-use Rattle.rk_types.specs.NumberMap.{NumberMap, numbers}
-use Rattle.rk_types.specs.declared.call.Call.{Call}
-use Rattle.rk_types.specs.declared.hashing.TheConstants.{LANES}
-use Rattle.rk_world.specs.Client.{Session, call_lane}
-use Rattle.rk_world.specs.Cluster.{Cluster, lane_at}
-use Rattle.rk_world.specs.World.{World, new_world}
-use Rattle.rk_cluster.specs.Quiet.{is_quiet, is_quiet_lane}
-use Rattle.rk_cluster.specs.Turns.{clients_in, is_call_in}
-use Rattle.rk_settle.specs.Rest.{is_at_rest, is_silent}
 use Rattle.rk_scripts.proofs.settle.Emptying.{IsSilent}
 
 -- what each world of a list passes, by its place, all pass
 all_pass : (test : World → Bool) (worlds : List World) (other : ℕ → World) → ((place : ℕ) → place < length worlds → test (slice_index_or worlds place (other place)) ≡ true)
     → list_all test worlds ≡ true
 all_pass test [] other each = refl
-all_pass test (w ∷ worlds) other each =
-    and_from (test w) (list_all test worlds) (each zero (omega arith))
+all_pass test (w ∷ worlds) other each = and_from (test w) (list_all test worlds) (each zero (omega arith))
     (all_pass test worlds (λ place. other (suc place)) (λ place inside. each (suc place) (omega (arith, inside))))
 
 -- where no lane has an outstanding call, there is none
 no_calls : (sessions : NumberMap Session) → ((lane : ℕ) → lane < LANES → clients_in lane sessions ≡ [])
     → list_all (λ (entry : ℕ × Session). is_none entry.1.outstanding) sessions ≡ true
 no_calls [] none = refl
-no_calls (first ∷ sessions) none =
-    and_from (is_none first.1.outstanding) (list_all (λ (entry : ℕ × Session). is_none entry.1.outstanding) sessions)
-    (own first.1.outstanding refl)
+no_calls (first ∷ sessions) none = and_from (is_none first.1.outstanding)
+    (list_all (λ (entry : ℕ × Session). is_none entry.1.outstanding) sessions) (own first.1.outstanding refl)
     (no_calls sessions (λ lane inside. behind lane (is_call_in lane first.1.outstanding) (none lane inside)))
   where
     others : ℕ → NumberMap Session
@@ -52,8 +40,7 @@ no_calls (first ∷ sessions) none =
 -- such a cluster is at rest
 pub rests : (cluster : Cluster) → length cluster.lanes ≡ LANES → ((q : ℕ) → q < LANES → is_quiet_lane (lane_at cluster q) ≡ true)
     → ((q : ℕ) → q < LANES → IsSilent (lane_at cluster q)) → ((q : ℕ) → q < LANES → clients_in q cluster.sessions ≡ []) → is_at_rest cluster ≡ true
-rests cluster eight quiet silent calls =
-    and_from (is_quiet cluster) (list_all is_silent cluster.lanes)
+rests cluster eight quiet silent calls = and_from (is_quiet cluster) (list_all is_silent cluster.lanes)
     (and_from (list_all is_quiet_lane cluster.lanes) (list_all (λ (entry : ℕ × Session). is_none entry.1.outstanding) cluster.sessions)
     (all_pass is_quiet_lane cluster.lanes (λ place. new_world place 0 0) (λ place inside. quiet place (omega (arith, inside, eight))))
     (no_calls cluster.sessions calls))

@@ -1,40 +1,16 @@
 -- A round in which a master takes its turn, and a log exchange or a batch of a pull follows: what each master has of a tablet goes on.
-use Rattle.std.proofs.Common.{◌≡◌, ◌<◌, ℕ, Bool, true, false, cond, List, [], ◌∷◌, ◌++◌, Option, None, Some, refl, sym, subst, ◌∙◌, ⊎_elim, arith}
-use Rattle.std.specs.Prelude.{unwrap_or}
-use Rattle.std.proofs.lemmas.Bool.{cases_eq, false≢true}
-use Rattle.rk_types.specs.NumberMap.{IsInOrder, get}
-use Rattle.rk_types.specs.declared.hashing.TheConstants.{LANES}
-use Rattle.rk_types.specs.declared.node.Node.{Node}
-use Rattle.rk_types.specs.declared.node.Node.TheVariants as nodes
-use Rattle.rk_log.specs.Log.{overreach}
-use Rattle.rk_outside.specs.Segments.{Segments}
-use Rattle.rk_message.specs.declared.message.Body.{Body}
-use Rattle.rk_message.specs.declared.message.Body.TheVariants as bodies
-use Rattle.rk_message.specs.declared.message.Message.{Message}
-use Rattle.rk_world.specs.Backup.{Backed, Called, Gave, backup_step, stored_after}
-use Rattle.rk_world.specs.Calls.{accept, accept_by, accepting, is_asked_here, taking, untouched}
-use Rattle.rk_world.specs.Client.{Session}
-use Rattle.rk_world.specs.Cluster.{Cluster, lane_at}
-use Rattle.rk_world.specs.Coordinator.{Coordinator}
+use Rattle.std.proofs.Common.{◌≡◌, ◌<◌, ℕ, Bool, true, false, cond, List, [], ◌∷◌, ◌++◌, Option, None, Some, refl, sym, subst, ◌∙◌, ⊎_elim}
+use Rattle.std.proofs.Common.{arith, unwrap_or}
+use Rattle.rk_scripts.proofs.Words.{cases_eq, false≢true, IsInOrder, get, LANES, Node, overreach, Segments, Body, Message, Backed, Called}
+use Rattle.rk_scripts.proofs.Words.{Gave, backup_step, stored_after, accept, accept_by, accepting, is_asked_here, taking, untouched}
+use Rattle.rk_scripts.proofs.Words.{Session, Cluster, lane_at, Coordinator, IsWellFormed, Master, new_master, tablet_at, master_step}
+use Rattle.rk_scripts.proofs.Words.{told_master, master_turn, accept_refusal, refusal, is_frozen_at, world_stepped, world_visited}
+use Rattle.rk_scripts.proofs.Words.{backed_at, delivered, delivered_to, log_bytes_of, losing, quietly, seen_in, step, stepped_by}
+use Rattle.rk_scripts.proofs.Words.{with_sends, worked_at, Worked, changed, World, has_crashed, is_backup, master_at, tablet_in}
+use Rattle.rk_scripts.proofs.Words.{with_stored_by, StepError, Course, round_of, turn_exchange, is_on, master_other, master_same, Arrival}
+use Rattle.rk_scripts.proofs.Words.{Delivers, Loses, arrived, forgotten, Event, Taken}
 use Rattle.rk_world.specs.CoordinatorStep.{told_coordinator}
-use Rattle.rk_world.specs.Formed.{IsWellFormed}
-use Rattle.rk_world.specs.Master.{Master, new_master, tablet_at}
-use Rattle.rk_world.specs.MasterStep.{master_step, told_master}
-use Rattle.rk_world.specs.MasterTurn.{master_turn}
-use Rattle.rk_world.specs.Refusals.{accept_refusal, refusal}
-use Rattle.rk_world.specs.RoleTests.{is_frozen_at}
-use Rattle.rk_world.specs.Runs.{world_stepped, world_visited}
-use Rattle.rk_world.specs.Step.{backed_at, delivered, delivered_to, log_bytes_of, losing, quietly, seen_in, step, stepped_by, with_sends, worked_at}
-use Rattle.rk_world.specs.Worked.{Worked, changed}
-use Rattle.rk_world.specs.World.{World, has_crashed, is_backup, master_at, tablet_in, with_stored_by}
-use Rattle.rk_world.specs.declared.error.StepError.{StepError}
-use Rattle.rk_world.specs.declared.event.Event.TheVariants as events
-use Rattle.rk_world.specs.declared.event.Taken.TheVariants as takes_of
-use Rattle.rk_settle.specs.Course.{Course}
-use Rattle.rk_settle.specs.Tasks.{round_of, turn_exchange}
-use Rattle.rk_settle.specs.Topics.{is_on}
-use Rattle.rk_inv_base.proofs.views.Masters.{master_other, master_same}
-use Rattle.rk_inv_lanes.specs.wires.Emptied.{Accepts, Arrival, Delivers, Loses, arrived, forgotten}
+use Rattle.rk_inv_lanes.specs.wires.Emptied.{Accepts}
 use Rattle.rk_scripts.proofs.settle.Delivering.{ArrivesAt}
 use Rattle.rk_scripts.proofs.settle.ExchangeTasks.{Topic, log_topic, pull_topic, sorts}
 use Rattle.rk_scripts.proofs.settle.Exchanged.{Sends, turning}
@@ -67,7 +43,7 @@ module _ (v : World) where
       by None = same_itself v
       by (Some message) = asked_here (is_asked_here v session)
         where
-          asked_here : (b : Bool) → IsSameAs v (cond b (taking v session message.body) (untouched v session (Some takes_of.Ignored))).world
+          asked_here : (b : Bool) → IsSameAs v (cond b (taking v session message.body) (untouched v session (Some Taken.Ignored))).world
           asked_here true = record { coordinator = refl; each = λ q. refl; crashed = refl }
           asked_here false = same_itself v
 
@@ -79,7 +55,7 @@ module _ (v : World) where
   stored_nodes number store None = same_itself v
   stored_nodes number store (Some segments) = record { coordinator = refl; each = λ q. refl; crashed = refl }
 
-  backup_same : (message : Message) (backup : ℕ) (called : Called) → IsSameAs v (delivered_to v message (nodes.Backup backup) called).world
+  backup_same : (message : Message) (backup : ℕ) (called : Called) → IsSameAs v (delivered_to v message (Node.Backup backup) called).world
   backup_same message backup called = go (is_backup v backup)
     where
       u : World
@@ -96,12 +72,11 @@ module _ (v : World) where
       go true = by (backup_step backup message.from message.body (log_bytes_of v) called) (backup_step backup message.from message.body (log_bytes_of v) called).lost
       go false = record { coordinator = refl; each = λ q. refl; crashed = refl }
 
-  client_same : (n client : ℕ) (message : Message) (arrival : Arrival) → get v.wire.messages n ≡ Some message → message.to ≡ nodes.Client client → IsSameAs v (arrived v n arrival)
-  client_same n client message (Delivers called) found to_is = go (refusal v (events.Deliver n))
+  client_same : (n client : ℕ) (message : Message) (arrival : Arrival) → get v.wire.messages n ≡ Some message → message.to ≡ Node.Client client → IsSameAs v (arrived v n arrival)
+  client_same n client message (Delivers called) found to_is = go (refusal v (Event.Deliver n))
     where
-      go : (refused : Option StepError) → IsSameAs v (world_stepped v (stepped_by v (events.Deliver n) called refused))
-      go None =
-          subst (λ (o : Option Message). IsSameAs v (delivered v o called).world) (sym found)
+      go : (refused : Option StepError) → IsSameAs v (world_stepped v (stepped_by v (Event.Deliver n) called refused))
+      go None = subst (λ (o : Option Message). IsSameAs v (delivered v o called).world) (sym found)
           (subst (λ (to : Node). IsSameAs v (delivered_to v message to called).world) (sym to_is) (record { coordinator = refl; each = λ q. refl; crashed = refl }))
       go (Some error) = same_itself v
   client_same n client message (Accepts session) found to_is = accepted_same n session
@@ -153,30 +128,29 @@ module _ (number : ℕ) (w : World) where
 
     taken_on : (v : World) (n : ℕ) (message : Message) (arrival : Arrival) → IsWellFormed v → get v.wire.messages n ≡ Some message → is_on topic message.body ≡ true
         → (to : Node) → message.to ≡ to → ArrivesAt v n to arrival → IsOn v → IsOn (arrived v n arrival)
-    taken_on v n message arrival formed found on_topic (nodes.Client client) to_is fits on = on_same v (arrived v n arrival) (client_same v n client message arrival found to_is) on
-    taken_on v n message arrival formed found on_topic nodes.Coordinator to_is fits on =
+    taken_on v n message arrival formed found on_topic (Node.Client client) to_is fits on = on_same v (arrived v n arrival) (client_same v n client message arrival found to_is) on
+    taken_on v n message arrival formed found on_topic Node.Coordinator to_is fits on =
         subst (λ (a : Arrival). IsOn (arrived v n a)) (sym fits.is)
-        (subst (λ (refused : Option StepError). IsOn (world_stepped v (stepped_by v (events.Deliver n) fits.called refused))) (sym fits.fresh)
+        (subst (λ (refused : Option StepError). IsOn (world_stepped v (stepped_by v (Event.Deliver n) fits.called refused))) (sym fits.fresh)
         (subst (λ (o : Option Message). IsOn (delivered v o fits.called).world) (sym found)
         (subst (λ (to : Node). IsOn (delivered_to v message to fits.called).world) (sym to_is)
         (record { coordinator = quiet v.coordinator message.from message.body on_topic ∙ on.coordinator; crashed = on.crashed; each = on.each }))))
-    taken_on v n message arrival formed found on_topic (nodes.Master m) to_is fits on =
+    taken_on v n message arrival formed found on_topic (Node.Master m) to_is fits on =
         subst (λ (a : Arrival). IsOn (arrived v n a)) (sym fits.is)
-        (subst (λ (refused : Option StepError). IsOn (world_stepped v (stepped_by v (events.Deliver n) fits.called refused))) (sym fits.fresh)
+        (subst (λ (refused : Option StepError). IsOn (world_stepped v (stepped_by v (Event.Deliver n) fits.called refused))) (sym fits.fresh)
         (subst (λ (o : Option Message). IsOn (delivered v o fits.called).world) (sym found)
         (subst (λ (to : Node). IsOn (delivered_to v message to fits.called).world) (sym to_is) (go (has_crashed v m)))))
       where
         go : (b : Bool) → IsOn (cond b (losing v) (worked_at v m (seen_in message.body) (master_step (master_at v m) message))).world
         go true = record { coordinator = on.coordinator; crashed = on.crashed; each = on.each }
-        go false =
-            on_worked v m (seen_in message.body) (master_step (master_at v m) message)
+        go false = on_worked v m (seen_in message.body) (master_step (master_at v m) message)
             (steps (master_at v m) message.from message.body (order_at v formed m) on_topic) on
-    taken_on v n message arrival formed found on_topic (nodes.Backup backup) to_is fits on =
+    taken_on v n message arrival formed found on_topic (Node.Backup backup) to_is fits on =
         subst (λ (a : Arrival). IsOn (arrived v n a)) (sym fits.is)
-        (subst (λ (refused : Option StepError). IsOn (world_stepped v (stepped_by v (events.Deliver n) fits.called refused))) (sym fits.fresh)
+        (subst (λ (refused : Option StepError). IsOn (world_stepped v (stepped_by v (Event.Deliver n) fits.called refused))) (sym fits.fresh)
         (subst (λ (o : Option Message). IsOn (delivered v o fits.called).world) (sym found)
         (subst (λ (to : Node). IsOn (delivered_to v message to fits.called).world) (sym to_is)
-        (on_same v (delivered_to v message (nodes.Backup backup) fits.called).world (backup_same v message backup fits.called) on))))
+        (on_same v (delivered_to v message (Node.Backup backup) fits.called).world (backup_same v message backup fits.called) on))))
 
     on_tracked : IsTracked topic masters lane (λ from v. IsOn v)
     on_tracked = record {
@@ -186,13 +160,13 @@ module _ (number : ℕ) (w : World) where
     }
 
     -- a master's turn
-    on_turn : (m : ℕ) → IsWellFormed w → IsOn (world_stepped w (step w (events.Turn (nodes.Master m)) (Gave None)))
-    on_turn m formed = go (refusal w (events.Turn (nodes.Master m)))
+    on_turn : (m : ℕ) → IsWellFormed w → IsOn (world_stepped w (step w (Event.Turn (Node.Master m)) (Gave None)))
+    on_turn m formed = go (refusal w (Event.Turn (Node.Master m)))
       where
         still : IsOn w
         still = record { coordinator = refl; crashed = refl; each = λ q. onward_itself (tablet_in w q number).handover }
 
-        go : (refused : Option StepError) → IsOn (world_stepped w (stepped_by w (events.Turn (nodes.Master m)) (Gave None) refused))
+        go : (refused : Option StepError) → IsOn (world_stepped w (stepped_by w (Event.Turn (Node.Master m)) (Gave None) refused))
         go None = on_worked w m 0 (master_turn (master_at w m)) (turn_on number (master_at w m) (order_at w formed m)) still
         go (Some error) = still
 
@@ -206,16 +180,16 @@ pub record HasRounded (lane : ℕ) (origin : Cluster) (number : ℕ) (w : World)
 module _ (s : Setting) (lane : ℕ) (inside : lane < LANES) (origin : Cluster) (number : ℕ) (topic : Topic) (m : ℕ) (rest : List Task)
     (quiet : (c : Coordinator) (sender : Node) (body : Body) → is_on topic body ≡ true → (told_coordinator c sender body).coordinator ≡ c)
     (steps : (master : Master) (sender : Node) (body : Body) → IsInOrder master.tablets → is_on topic body ≡ true → GoesOnAt number master (told_master master sender body).master) where
-  rounded : (behind : List Task) (before : Cluster) (course : Course) → Comes s before course → course.tasks ≡ turn_exchange lane topic (nodes.Master m) ∷ behind
-      → IsSameBeside lane origin course.cluster → Sends (lane_at course.cluster lane) (nodes.Master m)
+  rounded : (behind : List Task) (before : Cluster) (course : Course) → Comes s before course → course.tasks ≡ turn_exchange lane topic (Node.Master m) ∷ behind
+      → IsSameBeside lane origin course.cluster → Sends (lane_at course.cluster lane) (Node.Master m)
       → Goes s before course (HasRounded lane origin number (lane_at course.cluster lane) (sends_left course.cluster) behind)
   rounded behind before course comes are beside sends =
       let w : World = lane_at course.cluster lane in
       let sent : ℕ = w.wire.sent in
       let Q : Course → Type 0 = HasRounded lane origin number w (sends_left course.cluster) behind in
       let tracked : IsTracked topic s.masters lane (λ from v. IsOn number w v) = on_tracked number w topic s.masters lane quiet steps in
-      goes_then s before course (HasTurned lane (nodes.Master m) (sorts lane topic sent sent ∷ behind) course.cluster) Q comes
-      (turning s lane inside topic (nodes.Master m) behind course.cluster course (record { sane = comes.sane; follows = follows_itself course.cluster }) are)
+      goes_then s before course (HasTurned lane (Node.Master m) (sorts lane topic sent sent ∷ behind) course.cluster) Q comes
+      (turning s lane inside topic (Node.Master m) behind course.cluster course (record { sane = comes.sane; follows = follows_itself course.cluster }) are)
       (λ later comes_later follows turned.
       let fewer =
       left_fewer course.cluster later.cluster lane (λ q. (follows q).sent) inside (sent_below w (formed_at s course comes.sane lane inside) turned.fresh)
@@ -229,19 +203,19 @@ module _ (s : Setting) (lane : ℕ) (inside : lane < LANES) (origin : Cluster) (
       goes_here s before end Q comes_end
       (record { lane_now = record { left = done.left; beside = done.beside; now = done.holds }; fewer = omega (arith, fewer, no_more) })))
 
-  pub rounding : (before : Cluster) (course : Course) → Comes s before course → course.tasks ≡ round_of (turn_exchange lane topic (nodes.Master m) ∷ []) ++ rest
-      → IsSameBeside lane origin course.cluster → Sends (lane_at course.cluster lane) (nodes.Master m)
+  pub rounding : (before : Cluster) (course : Course) → Comes s before course → course.tasks ≡ round_of (turn_exchange lane topic (Node.Master m) ∷ []) ++ rest
+      → IsSameBeside lane origin course.cluster → Sends (lane_at course.cluster lane) (Node.Master m)
       → Goes s before course (HasRounded lane origin number (lane_at course.cluster lane) (sends_left course.cluster) rest)
   rounding before course comes are beside sends =
       let w : World = lane_at course.cluster lane in
       let Q : Course → Type 0 = HasRounded lane origin number w (sends_left course.cluster) rest in
-      goes_on s before course (IsAt course.cluster (turn_exchange lane topic (nodes.Master m) ∷ ends ∷ rest)) Q
-      (begin s (turn_exchange lane topic (nodes.Master m) ∷ ends ∷ rest) before course comes are)
+      goes_on s before course (IsAt course.cluster (turn_exchange lane topic (Node.Master m) ∷ ends ∷ rest)) Q
+      (begin s (turn_exchange lane topic (Node.Master m) ∷ ends ∷ rest) before course comes are)
       (λ later comes_later at.
       goes_on s before later (HasRounded lane origin number w (sends_left course.cluster) (ends ∷ rest)) Q
       (subst (λ (cluster : Cluster). Goes s before later (HasRounded lane origin number (lane_at cluster lane) (sends_left cluster) (ends ∷ rest))) at.cluster_is
       (rounded (ends ∷ rest) before later comes_later at.tasks_are (subst (IsSameBeside lane origin) (sym at.cluster_is) beside)
-      (subst (λ (cluster : Cluster). Sends (lane_at cluster lane) (nodes.Master m)) (sym at.cluster_is) sends)))
+      (subst (λ (cluster : Cluster). Sends (lane_at cluster lane) (Node.Master m)) (sym at.cluster_is) sends)))
       (λ last comes_last done.
       still_move s before last ends rest rest Q comes_last done.lane_now.left (record { cluster_is = refl; tasks_are = refl })
       (λ next at_end. record {
@@ -256,67 +230,55 @@ module _ (s : Setting) (lane : ℕ) (inside : lane < LANES) (origin : Cluster) (
 -- ---- log exchanges
 
 pub log_quiet : (c : Coordinator) (sender : Node) (body : Body) → is_on log_topic body ≡ true → (told_coordinator c sender body).coordinator ≡ c
-log_quiet c (nodes.Client client) (bodies.Lookup lookup) on = absurd (false≢true on)
-log_quiet c (nodes.Client client) body on = refl
-log_quiet c (nodes.Master m) (bodies.Ready it) on = absurd (false≢true on)
-log_quiet c (nodes.Master m) (bodies.Transfer it) on = absurd (false≢true on)
-log_quiet c (nodes.Master m) (bodies.Joined it) on = absurd (false≢true on)
-log_quiet c (nodes.Master m) (bodies.Rebuilt it) on = absurd (false≢true on)
-log_quiet c (nodes.Master m) body on = refl
-log_quiet c nodes.Coordinator body on = refl
-log_quiet c (nodes.Backup backup) body on = refl
+log_quiet c (Node.Client client) (Body.Lookup lookup) on = absurd (false≢true on)
+log_quiet c (Node.Master m) (Body.Ready it) on = absurd (false≢true on)
+log_quiet c (Node.Master m) (Body.Transfer it) on = absurd (false≢true on)
+log_quiet c (Node.Master m) (Body.Joined it) on = absurd (false≢true on)
+log_quiet c (Node.Master m) (Body.Rebuilt it) on = absurd (false≢true on)
+log_quiet c _ body on = refl
 
 pub log_steps : (number : ℕ) (master : Master) (sender : Node) (body : Body) → IsInOrder master.tablets → is_on log_topic body ≡ true → GoesOnAt number master (told_master master sender body).master
-log_steps number master (nodes.Client client) (bodies.Request it) order on = absurd (false≢true on)
-log_steps number master (nodes.Client client) body order on = onward_itself (tablet_at master number).handover
-log_steps number master nodes.Coordinator (bodies.Prepare it) order on = absurd (false≢true on)
-log_steps number master nodes.Coordinator (bodies.Close it) order on = absurd (false≢true on)
-log_steps number master nodes.Coordinator (bodies.Grant it) order on = absurd (false≢true on)
-log_steps number master nodes.Coordinator (bodies.Own it) order on = absurd (false≢true on)
-log_steps number master nodes.Coordinator (bodies.Release it) order on = absurd (false≢true on)
-log_steps number master nodes.Coordinator (bodies.Rebuild it) order on = absurd (false≢true on)
-log_steps number master nodes.Coordinator body order on = onward_itself (tablet_at master number).handover
-log_steps number master (nodes.Master m) (bodies.Pull it) order on = absurd (false≢true on)
-log_steps number master (nodes.Master m) (bodies.Pulled it) order on = absurd (false≢true on)
-log_steps number master (nodes.Master m) (bodies.Want it) order on = absurd (false≢true on)
-log_steps number master (nodes.Master m) (bodies.Got it) order on = absurd (false≢true on)
-log_steps number master (nodes.Master m) body order on = onward_itself (tablet_at master number).handover
-log_steps number master (nodes.Backup backup) (bodies.Stored stored) order on =
+log_steps number master (Node.Client client) (Body.Request it) order on = absurd (false≢true on)
+log_steps number master Node.Coordinator (Body.Prepare it) order on = absurd (false≢true on)
+log_steps number master Node.Coordinator (Body.Close it) order on = absurd (false≢true on)
+log_steps number master Node.Coordinator (Body.Grant it) order on = absurd (false≢true on)
+log_steps number master Node.Coordinator (Body.Own it) order on = absurd (false≢true on)
+log_steps number master Node.Coordinator (Body.Release it) order on = absurd (false≢true on)
+log_steps number master Node.Coordinator (Body.Rebuild it) order on = absurd (false≢true on)
+log_steps number master (Node.Master m) (Body.Pull it) order on = absurd (false≢true on)
+log_steps number master (Node.Master m) (Body.Pulled it) order on = absurd (false≢true on)
+log_steps number master (Node.Master m) (Body.Want it) order on = absurd (false≢true on)
+log_steps number master (Node.Master m) (Body.Got it) order on = absurd (false≢true on)
+log_steps number master (Node.Backup backup) (Body.Stored stored) order on =
     stored_on number master backup stored (overreach master.log stored.segment stored.length) order
-log_steps number master (nodes.Backup backup) (bodies.Copy it) order on = absurd (false≢true on)
-log_steps number master (nodes.Backup backup) body order on = onward_itself (tablet_at master number).handover
+log_steps number master (Node.Backup backup) (Body.Copy it) order on = absurd (false≢true on)
+log_steps number master _ body order on = onward_itself (tablet_at master number).handover
 
 -- ---- pulls
 
 pub pull_quiet : (tablet : ℕ) (c : Coordinator) (sender : Node) (body : Body) → is_on (pull_topic tablet) body ≡ true → (told_coordinator c sender body).coordinator ≡ c
-pull_quiet tablet c (nodes.Client client) (bodies.Lookup lookup) on = absurd (false≢true on)
-pull_quiet tablet c (nodes.Client client) body on = refl
-pull_quiet tablet c (nodes.Master m) (bodies.Ready it) on = absurd (false≢true on)
-pull_quiet tablet c (nodes.Master m) (bodies.Transfer it) on = absurd (false≢true on)
-pull_quiet tablet c (nodes.Master m) (bodies.Joined it) on = absurd (false≢true on)
-pull_quiet tablet c (nodes.Master m) (bodies.Rebuilt it) on = absurd (false≢true on)
-pull_quiet tablet c (nodes.Master m) body on = refl
-pull_quiet tablet c nodes.Coordinator body on = refl
-pull_quiet tablet c (nodes.Backup backup) body on = refl
+pull_quiet tablet c (Node.Client client) (Body.Lookup lookup) on = absurd (false≢true on)
+pull_quiet tablet c (Node.Master m) (Body.Ready it) on = absurd (false≢true on)
+pull_quiet tablet c (Node.Master m) (Body.Transfer it) on = absurd (false≢true on)
+pull_quiet tablet c (Node.Master m) (Body.Joined it) on = absurd (false≢true on)
+pull_quiet tablet c (Node.Master m) (Body.Rebuilt it) on = absurd (false≢true on)
+pull_quiet tablet c _ body on = refl
 
 pub pull_steps : (tablet number : ℕ) (master : Master) (sender : Node) (body : Body) → IsInOrder master.tablets → is_on (pull_topic tablet) body ≡ true
     → GoesOnAt number master (told_master master sender body).master
-pull_steps tablet number master (nodes.Client client) (bodies.Request it) order on = absurd (false≢true on)
-pull_steps tablet number master (nodes.Client client) body order on = onward_itself (tablet_at master number).handover
-pull_steps tablet number master nodes.Coordinator (bodies.Prepare it) order on = absurd (false≢true on)
-pull_steps tablet number master nodes.Coordinator (bodies.Close it) order on = absurd (false≢true on)
-pull_steps tablet number master nodes.Coordinator (bodies.Grant it) order on = absurd (false≢true on)
-pull_steps tablet number master nodes.Coordinator (bodies.Own it) order on = absurd (false≢true on)
-pull_steps tablet number master nodes.Coordinator (bodies.Release it) order on = absurd (false≢true on)
-pull_steps tablet number master nodes.Coordinator (bodies.Rebuild it) order on = absurd (false≢true on)
-pull_steps tablet number master nodes.Coordinator body order on = onward_itself (tablet_at master number).handover
-pull_steps tablet number master (nodes.Master m) (bodies.Pull pull) order on =
+pull_steps tablet number master (Node.Client client) (Body.Request it) order on = absurd (false≢true on)
+pull_steps tablet number master Node.Coordinator (Body.Prepare it) order on = absurd (false≢true on)
+pull_steps tablet number master Node.Coordinator (Body.Close it) order on = absurd (false≢true on)
+pull_steps tablet number master Node.Coordinator (Body.Grant it) order on = absurd (false≢true on)
+pull_steps tablet number master Node.Coordinator (Body.Own it) order on = absurd (false≢true on)
+pull_steps tablet number master Node.Coordinator (Body.Release it) order on = absurd (false≢true on)
+pull_steps tablet number master Node.Coordinator (Body.Rebuild it) order on = absurd (false≢true on)
+pull_steps tablet number master (Node.Master m) (Body.Pull pull) order on =
     either_is (GoesOnAt number master) (is_frozen_at (tablet_at master pull.tenure.tablet) pull.tenure.term) _ (changed master)
     (onward_itself (tablet_at master number).handover) (onward_itself (tablet_at master number).handover)
-pull_steps tablet number master (nodes.Master m) (bodies.Pulled pulled) order on = pulled_on number master pulled
-pull_steps tablet number master (nodes.Master m) (bodies.Want it) order on = absurd (false≢true on)
-pull_steps tablet number master (nodes.Master m) (bodies.Got it) order on = absurd (false≢true on)
-pull_steps tablet number master (nodes.Master m) body order on = onward_itself (tablet_at master number).handover
-pull_steps tablet number master (nodes.Backup backup) (bodies.Stored stored) order on = absurd (false≢true on)
-pull_steps tablet number master (nodes.Backup backup) (bodies.Copy it) order on = absurd (false≢true on)
-pull_steps tablet number master (nodes.Backup backup) body order on = onward_itself (tablet_at master number).handover
+pull_steps tablet number master (Node.Master m) (Body.Pulled pulled) order on = pulled_on number master pulled
+pull_steps tablet number master (Node.Master m) (Body.Want it) order on = absurd (false≢true on)
+pull_steps tablet number master (Node.Master m) (Body.Got it) order on = absurd (false≢true on)
+pull_steps tablet number master (Node.Backup backup) (Body.Stored stored) order on = absurd (false≢true on)
+pull_steps tablet number master (Node.Backup backup) (Body.Copy it) order on = absurd (false≢true on)
+pull_steps tablet number master _ body order on = onward_itself (tablet_at master number).handover

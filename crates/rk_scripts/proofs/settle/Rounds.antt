@@ -1,20 +1,8 @@
 -- The rounds of `settle`: each one leaves all wires empty, and each that begins so leaves fewer messages to be sent, or the cluster at rest.
-use Rattle.std.proofs.Common.{◌≡◌, ◌<◌, ◌≤◌, ◌+◌, ℕ, zero, suc, Bool, true, false, cond, List, [], ◌∷◌, ◌++◌, length, None, Some, refl, sym, ap, subst, ◌∙◌, append-nil, append_assoc, inl, inr, ⊎_elim, arith}
-use Rattle.std.specs.Prelude.{◌⊎◌}
-use Rattle.std.specs.List.{flat_map, range_with_len}
-use Rattle.std.proofs.lemmas.Bool.{cases_eq, cases_lt}
-use Rattle.std.proofs.lemmas.Option.{none-some}
-use Rattle.rk_types.specs.declared.hashing.TheConstants.{LANES}
-use Rattle.rk_world.specs.Cluster.{Cluster, lane_at}
-use Rattle.rk_world.specs.World.{World}
-use Rattle.rk_cluster.specs.Quiet.{is_quiet_lane}
-use Rattle.rk_cluster.specs.Turns.{clients_in}
-use Rattle.rk_settle.specs.Course.{Course, is_at_limit, with_tasks}
-use Rattle.rk_settle.specs.Rest.{is_at_rest}
-use Rattle.rk_settle.specs.Settle.{lane_tasks}
-use Rattle.rk_settle.specs.Tasks.{round_of}
-use Rattle.rk_settle.specs.declared.error.SettleError.TheVariants as errors
-use Rattle.rk_runs.specs.duties.Added.{AreAdded}
+use Rattle.std.proofs.Common.{◌≡◌, ◌<◌, ◌≤◌, ◌+◌, ℕ, zero, suc, Bool, true, false, cond, List, [], ◌∷◌, ◌++◌, length, None, Some, refl, sym}
+use Rattle.std.proofs.Common.{ap, subst, ◌∙◌, append-nil, append_assoc, inl, inr, ⊎_elim, arith, ◌⊎◌, flat_map}
+use Rattle.rk_scripts.proofs.Words.{range_with_len, cases_eq, cases_lt, none-some, LANES, Cluster, lane_at, World, is_quiet_lane}
+use Rattle.rk_scripts.proofs.Words.{clients_in, Course, is_at_limit, with_tasks, is_at_rest, lane_tasks, round_of, AreAdded, SettleError}
 use Rattle.rk_scripts.proofs.settle.Emptying.{IsSilent}
 use Rattle.rk_scripts.proofs.settle.Following.{Follows, follows_itself}
 use Rattle.rk_scripts.proofs.settle.Going.{Comes, Goes, IsAt, goes_done, goes_here, goes_on, goes_then, one_move, still_move}
@@ -49,8 +37,7 @@ record IsRound (most passed : ℕ) (rest : List Task) (course : Course) : Type 0
 
 -- what holds below a number, and there, holds below the next one
 below_next : (P : ℕ → Type 0) (n : ℕ) → ((q : ℕ) → q < n → P q) → P n → (q : ℕ) → q < n + 1 → P q
-below_next P n each last q inside =
-    ⊎_elim (λ (before : q < n). each q before)
+below_next P n each last q inside = ⊎_elim (λ (before : q < n). each q before)
     (λ (at : n ≤ q). let same : n ≡ q = omega (arith, at, inside) in subst P same last) (cases_lt q n)
 
 -- nothing holds of a course, so that it goes on until it is done
@@ -64,11 +51,9 @@ module _ (s : Setting) where
   passed_one lane inside most rest before_rest course later follows round passed = record {
     left = passed.left;
     noticed = λ q within. (follows q).noticed (round.noticed q within);
-    silent =
-        below_next (λ q. IsSilent (lane_at later.cluster q)) lane
+    silent = below_next (λ q. IsSilent (lane_at later.cluster q)) lane
         (λ q below. subst IsSilent (sym (passed.beside q (λ is. omega (arith, below, is)))) (round.silent q below)) passed.silent;
-    mode =
-        ⊎_elim
+    mode = ⊎_elim
         (λ (risen : sends_left course.cluster < most).
         let no_more = left_no_more course.cluster later.cluster (λ q. (follows q).sent) in inl (omega (arith, no_more, risen)))
         (λ (calm : IsCalm most lane course.cluster).
@@ -81,15 +66,11 @@ module _ (s : Setting) where
       still calm left_quiet = record {
         limit = left_quiet.limit;
         silent = λ q within.
-            ⊎_elim
-            (λ (is : q ≡ lane). subst (λ (l : ℕ). IsSilent (lane_at later.cluster l)) (sym is) passed.silent)
-            (λ (apart : q ≡ lane → ⊥). subst IsSilent (sym (passed.beside q apart)) (calm.silent q within))
-            (cases_eq q lane);
-        quiet =
-            below_next (λ q. is_quiet_lane (lane_at later.cluster q) ≡ true) lane
+            ⊎_elim (λ (is : q ≡ lane). subst (λ (l : ℕ). IsSilent (lane_at later.cluster l)) (sym is) passed.silent)
+            (λ (apart : q ≡ lane → ⊥). subst IsSilent (sym (passed.beside q apart)) (calm.silent q within)) (cases_eq q lane);
+        quiet = below_next (λ q. is_quiet_lane (lane_at later.cluster q) ≡ true) lane
             (λ q below. subst (λ (w : World). is_quiet_lane w ≡ true) (sym (passed.beside q (λ is. omega (arith, below, is)))) (calm.quiet q below)) left_quiet.quiet;
-        calls =
-            below_next (λ q. clients_in q later.cluster.sessions ≡ []) lane
+        calls = below_next (λ q. clients_in q later.cluster.sessions ≡ []) lane
             (λ q below. ap (clients_in q) left_quiet.sessions ∙ calm.calls q below) left_quiet.calls;
       }
 
@@ -120,16 +101,15 @@ module _ (s : Setting) where
   begin rest before course comes are =
       one_move s before course (begins ∷ rest) (IsAt course.cluster rest) comes are (λ none. go (is_at_limit course) none)
     where
-      go : (b : Bool) → cond b (Some (errors.Replica course.faults)) None ≡ None
+      go : (b : Bool) → cond b (Some (SettleError.Replica course.faults)) None ≡ None
           → AreAdded (cond b course (with_tasks course rest)).cluster × IsAt course.cluster rest (cond b course (with_tasks course rest))
-      go true none = absurd (none-some (errors.Replica course.faults) (sym none))
+      go true none = absurd (none-some (SettleError.Replica course.faults) (sym none))
       go false none = (comes.sane.added, record { cluster_is = refl; tasks_are = refl })
 
   -- a cluster that is found to be at rest is the end
   rest_ends : (before : Cluster) (course : Course) (P : Course → Type 0) → Comes s before course → course.tasks ≡ settles ∷ [] → is_at_rest course.cluster ≡ true
       → Goes s before course P
-  rest_ends before course P comes are at_rest =
-      goes_on s before course (IsAt course.cluster []) P
+  rest_ends before course P comes are at_rest = goes_on s before course (IsAt course.cluster []) P
       (still_move s before course settles [] [] (IsAt course.cluster []) comes are
       (record {
         cluster_is = refl;
@@ -214,8 +194,7 @@ module _ (s : Setting) where
     where
       go : (b : Bool) → is_at_rest course.cluster ≡ b → Goes s before course Never
       go true at_rest = rest_ends before course Never comes are at_rest
-      go false busy =
-          goes_on s before course (IsRound (sends_left course.cluster + 1) LANES (settles ∷ [])) Never
+      go false busy = goes_on s before course (IsRound (sends_left course.cluster + 1) LANES (settles ∷ [])) Never
           (round (sends_left course.cluster + 1) before course comes are busy noticed (inl (omega arith)))
-          (λ later comes_later done.
-          rounds_end (sends_left later.cluster + 1) before later comes_later done.left done.noticed done.silent (omega arith))
+          (λ later comes_later done. rounds_end (sends_left later.cluster + 1) before later comes_later done.left done.noticed
+          done.silent (omega arith))

@@ -1,14 +1,10 @@
 -- Maps by number that have the same numbers, whatever stands under these.
 use Rattle.std.proofs.Common.{◌≡◌, ◌&&◌, ℕ, Bool, true, List, [], ◌∷◌, T, length, Option, None, Some, refl, sym, ap, subst, ◌∙◌, ⊎_elim}
-use Rattle.std.specs.Prelude.{is_some}
-use Rattle.std.specs.List.{list_any}
-use Rattle.std.specs.Ordering.{eq_by_cmp, is_lt, nat_cmp}
-use Rattle.std.specs.FinMap.Entries.{below_all, by_order, is_some-find, is_sorted}
-use Rattle.std.specs.declared.cmp.Ordering.TheVariants.{Equal, Greater, Less}
-use Rattle.std.proofs.lemmas.Bool.{cases_eq}
-use Rattle.std.proofs.lemmas.List.{length-map}
-use Rattle.rk_types.specs.NumberMap.{IsInOrder, NumberMap, get, insert, numbers}
-use Rattle.rk_types.proofs.NumberMaps.{get_other, get_same, in_order_insert, same_map}
+use Rattle.std.proofs.Common.{is_some, is_lt, nat_cmp, Equal, Greater, Less}
+use Rattle.rk_scripts.proofs.Words.{list_any, eq_by_cmp, below_all, cases_eq, length-map, IsInOrder, NumberMap, get, insert, numbers}
+use Rattle.rk_scripts.proofs.Words.{get_other, get_same, in_order_insert}
+use Rattle.std.specs.FinMap.Entries.{by_order, is_some-find, is_sorted}
+use Rattle.rk_types.proofs.NumberMaps.{same_map}
 
 -- a number in its place among rising ones, once
 abbrev with_number : ℕ → List ℕ → List ℕ
@@ -51,8 +47,7 @@ module _ {X : Type 0} where
       go : (found : Option X) → get things number ≡ found → is_some found ≡ true → numbers (insert things number thing) ≡ numbers things
       go None is some = absurd (cc some)
       go (Some known) is some =
-          numbers_insert things number thing ∙ sym (numbers_insert things number known)
-          ∙ ap (λ (all : NumberMap X). numbers all)
+          numbers_insert things number thing ∙ sym (numbers_insert things number known) ∙ ap (λ (all : NumberMap X). numbers all)
           (same_map (insert things number known) things (in_order_insert things number known order) order
           (λ q. ⊎_elim (λ (same : q ≡ number). get_same things number known q same ∙ sym (ap (get things) same ∙ is))
           (λ (apart : q ≡ number → ⊥). get_other things number known q apart) (cases_eq q number)))
@@ -64,8 +59,7 @@ module _ {X Y : Type 0} (things : NumberMap X) (others : NumberMap Y) (same : nu
       is_some-find nat_cmp number things ∙ ap (list_any (eq_by_cmp nat_cmp number)) same ∙ sym (is_some-find nat_cmp number others)
 
   pub as_many : length things ≡ length others
-  as_many =
-      sym (length-map things (λ (entry : ℕ × X). entry.0)) ∙ ap (λ (list : List ℕ). length list) same
+  as_many = sym (length-map things (λ (entry : ℕ × X). entry.0)) ∙ ap (λ (list : List ℕ). length list) same
       ∙ length-map others (λ (entry : ℕ × Y). entry.0)
 
   pub in_order_alike : IsInOrder others → IsInOrder things

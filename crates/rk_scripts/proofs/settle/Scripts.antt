@@ -1,28 +1,15 @@
 -- Where a script, or a part of it, has been played each client with a session was added in each lane; so `settle` ends there.
-use Rattle.std.proofs.Common.{◌≡◌, ◌<◌, ℕ, true, false, List, [], ◌∷◌, Option, None, Some, is_some, Result, Ok, Err, if◌then◌else◌, refl, sym, subst, arith}
-use Rattle.std.proofs.lemmas.List.FromFn.{get_or-map-range_with_len, length-map-range_with_len}
-use Rattle.rk_types.specs.NumberMap.{numbers}
-use Rattle.rk_types.specs.declared.hashing.TheConstants.{LANES}
-use Rattle.rk_world.specs.Cluster.{Cluster, new_cluster}
-use Rattle.rk_world.specs.World.{World, new_world}
-use Rattle.rk_cluster.specs.Numbers.{number_of}
-use Rattle.rk_cluster.specs.Replicas.{Fate}
-use Rattle.rk_cluster.specs.declared.code.Code.{Code}
-use Rattle.rk_cluster.specs.declared.code.Code.TheVariants.{TooLate}
-use Rattle.rk_settle.specs.Commanded.{SettlingCommand}
-use Rattle.rk_script.specs.Script.{script_of}
-use Rattle.rk_script.specs.declared.command.Command.{Command}
-use Rattle.rk_script.specs.declared.command.Command.TheVariants as commands
-use Rattle.rk_script.specs.declared.command.Numbered.{Numbered}
-use Rattle.rk_script.specs.declared.script.ParseError.{ParseError}
-use Rattle.rk_script.specs.declared.script.ParseError.TheVariants as faults
-use Rattle.rk_play.specs.Effects.{Effect, Fails, Pauses, Refuses, Stop, Wears, effect_within}
-use Rattle.rk_play.specs.Played.{Played, Setting, cluster_by, continued, first_commands, first_fates, how_many, opened_by, other_fates, part_of, played_from, played_in, played_of, played_part, refused_at, set_once, stopped_at, unset}
-use Rattle.rk_runs.specs.duties.Added.{AreAdded}
-use Rattle.rk_scripts.specs.play.Historical.{IsHistorical}
+use Rattle.std.proofs.Common.{◌≡◌, ◌<◌, ℕ, true, false, List, [], ◌∷◌, Option, None, Some, is_some, Result, Ok, Err, if◌then◌else◌, refl}
+use Rattle.std.proofs.Common.{sym, subst, arith}
+use Rattle.rk_scripts.proofs.Words.{get_or-map-range_with_len, length-map-range_with_len, numbers, LANES, Cluster, new_cluster, World}
+use Rattle.rk_scripts.proofs.Words.{new_world, number_of, Fate, Code, TooLate, SettlingCommand, script_of, Command, Numbered, ParseError}
+use Rattle.rk_scripts.proofs.Words.{Effect, Refuses, Stop, effect_within, Played, Setting, cluster_by, continued, first_commands}
+use Rattle.rk_scripts.proofs.Words.{first_fates, how_many, opened_by, other_fates, part_of, played_from, played_in, played_of, played_part}
+use Rattle.rk_scripts.proofs.Words.{refused_at, set_once, stopped_at, unset, AreAdded, IsHistorical, Adversary, Ends, EndsUnlessRefused}
+use Rattle.rk_scripts.proofs.Words.{Rests, settling}
+use Rattle.rk_scripts.specs.settle.Moves.{FinishesIn}
 use Rattle.rk_scripts.proofs.play.Playing.{scripts_historical}
 use Rattle.rk_scripts.proofs.play.Reaching.{IsReached}
-use Rattle.rk_scripts.specs.settle.Moves.{Adversary, Ends, EndsUnlessRefused, FinishesIn, Rests, settling}
 use Rattle.rk_scripts.proofs.settle.Commands.{Leaves, within_own}
 use Rattle.rk_scripts.proofs.settle.Owning.{HasOwnClients, own_added}
 use Rattle.rk_scripts.proofs.settle.Settled.{reached_ends, reached_rests}
@@ -47,9 +34,7 @@ EndsAdded it = AreAdded it.cluster
 
 stopped_added : (line : ℕ) (stop : Stop) (cluster : Cluster) → AreAdded cluster → EndsAdded (stopped_at line stop cluster)
 stopped_added line (Refuses code) cluster added = added
-stopped_added line (Wears number) cluster added = added
-stopped_added line (Fails rounds) cluster added = added
-stopped_added line Pauses cluster added = added
+stopped_added line _ cluster added = added
 
 continued_added : (line : ℕ) (it : Effect) (stop : Option Stop) (rest : Cluster → Played) → it.stop ≡ stop → Leaves it
     → (HasOwnClients it.cluster → EndsAdded (rest it.cluster)) → EndsAdded (continued line it stop rest)
@@ -74,9 +59,9 @@ once_added line before setting rest later =
 
 opened_added : (line : ℕ) (command : Command) (setting : Setting) (next : Setting → Played) (all : Cluster → Played) → ((more : Setting) → EndsAdded (next more))
     → EndsAdded (all (cluster_by setting)) → EndsAdded (opened_by line command setting next all)
-opened_added line (commands.Masters masters) setting next all goes begins =
+opened_added line (Command.Masters masters) setting next all goes begins =
     let more : Setting = record setting { masters = Some masters } in once_added line setting.masters setting (next more) (goes more)
-opened_added line (commands.Backups backups) setting next all goes begins =
+opened_added line (Command.Backups backups) setting next all goes begins =
     let more : Setting = record setting { backups = Some backups } in once_added line setting.backups setting (next more) (goes more)
 opened_added line command setting next all goes begins = begins
 
@@ -89,8 +74,8 @@ from_added (first ∷ others) fates setting =
 
 of_added : (read : Result (List Numbered) ParseError) (fates : List (List Fate)) → EndsAdded (played_of read fates)
 of_added (Ok left) fates = from_added left fates unset
-of_added (Err (faults.Refused line code)) fates = new_added unset
-of_added (Err faults.NoMemory) fates = new_added unset
+of_added (Err (ParseError.Refused line code)) fates = new_added unset
+of_added (Err ParseError.NoMemory) fates = new_added unset
 
 part_added : (read : Result (List Numbered) ParseError) (part : Option ℕ) (fates : List (List Fate)) → EndsAdded (part_of read part fates)
 part_added read (Some count) fates = of_added (first_commands count read) fates

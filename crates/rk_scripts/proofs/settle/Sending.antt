@@ -1,63 +1,41 @@
 -- Who sends on its turn in a migration: a target that pulls, and one that has all but is not done with its closing entry.
-use Rattle.std.proofs.Common.{◌≡◌, ◌<◌, ◌≤◌, ◌+◌, ◌-◌, ◌==◌, ◌&&◌, ◌++◌, ℕ, zero, suc, Bool, true, false, cond, not, List, [], ◌∷◌, length, get_or, find, map, All, Option, None, Some, is_some, refl, sym, ap, subst, ◌∙◌, ⊎_elim, arith, length-append}
-use Rattle.std.specs.Prelude.{unwrap_or}
-use Rattle.std.specs.List.{list_all, range_with_len}
-use Rattle.std.specs.Option.{option_map, option_map_or, option_or}
-use Rattle.std.specs.Ordering.{eq_by_cmp, nat_cmp}
-use Rattle.std.proofs.lemmas.Bool.{cases_lt, eq-eqb, false≢true}
-use Rattle.std.proofs.lemmas.List.{length-map}
-use Rattle.std.proofs.lemmas.List.Elements.{All-head, All-tail}
+use Rattle.std.proofs.Common.{◌≡◌, ◌<◌, ◌≤◌, ◌+◌, ◌-◌, ◌==◌, ◌&&◌, ◌++◌, ℕ, zero, suc, Bool, true, false, cond, not, List, [], ◌∷◌, length}
+use Rattle.std.proofs.Common.{get_or, find, map, All, Option, None, Some, is_some, refl, sym, ap, subst, ◌∙◌, ⊎_elim, arith, length-append}
+use Rattle.std.proofs.Common.{unwrap_or, option_map, nat_cmp, eq-eqb}
+use Rattle.rk_scripts.proofs.Words.{list_all, range_with_len, option_map_or, option_or, eq_by_cmp, cases_lt, false≢true, length-map}
+use Rattle.rk_scripts.proofs.Words.{All-head, All-tail, get_or-range_with_len, length-range_with_len, none-some, NumberMap, get}
+use Rattle.rk_scripts.proofs.Words.{FIRST_SIDE_SEGMENT, NumberedBytes, Known, is_whole, is_side_stored, known_of, numbered, segment_of}
+use Rattle.rk_scripts.proofs.Words.{segments, side_segments, cut, Message, Role, Gave, Master, duties, master_turn, tablet_duty}
+use Rattle.rk_scripts.proofs.Words.{with_outstanding, refusal, where_true, filled, world_stepped, happened, ledger_after, stepped_by}
+use Rattle.rk_scripts.proofs.Words.{Tablet, no_tablet, is_sealed_stored, World, has_crashed, master_at, tablet_in, StepError, sent_all}
+use Rattle.rk_scripts.proofs.Words.{Node, Event}
 use Rattle.std.proofs.lemmas.List.Folds.{length-flat_map-take}
-use Rattle.std.proofs.lemmas.List.FromFn.{get_or-range_with_len, length-range_with_len}
-use Rattle.std.proofs.lemmas.Option.{none-some}
-use Rattle.rk_types.specs.NumberMap.{NumberMap, get}
-use Rattle.rk_types.specs.declared.node.Node.TheVariants as nodes
-use Rattle.rk_entry.specs.declared.lists.TheConstants.{FIRST_SIDE_SEGMENT}
-use Rattle.rk_segment.specs.Segment.{NumberedBytes}
-use Rattle.rk_log.specs.Known.{Known, is_whole}
-use Rattle.rk_log.specs.Log.{is_side_stored, known_of, missing, numbered, pending, segment_of, segments, side_segments}
-use Rattle.rk_log.specs.Cut.{cut}
+use Rattle.rk_log.specs.Log.{missing, pending}
 use Rattle.rk_log.specs.Piece.{PlacedBytes}
-use Rattle.rk_message.specs.declared.message.Message.{Message}
-use Rattle.rk_transfer.specs.declared.role.Role.{Role}
-use Rattle.rk_transfer.specs.declared.role.Role.TheVariants as roles
-use Rattle.rk_world.specs.Backup.{Gave}
-use Rattle.rk_world.specs.Master.{Master}
-use Rattle.rk_world.specs.MasterTurn.{append_of, appends, duties, master_turn, pull_of, tablet_duty, want_of, with_outstanding}
-use Rattle.rk_world.specs.Refusals.{refusal, where_true}
-use Rattle.rk_world.specs.Replies.{filled}
+use Rattle.rk_world.specs.MasterTurn.{append_of, appends, pull_of, want_of}
 use Rattle.rk_world.specs.RoleTests.{is_receiving}
-use Rattle.rk_world.specs.Runs.{world_stepped}
-use Rattle.rk_world.specs.Step.{happened, ledger_after, stepped_by}
-use Rattle.rk_world.specs.Tablet.{Tablet, no_tablet}
-use Rattle.rk_world.specs.Waiting.{is_sealed_stored}
-use Rattle.rk_world.specs.World.{World, has_crashed, master_at, tablet_in}
-use Rattle.rk_world.specs.declared.error.StepError.{StepError}
-use Rattle.rk_world.specs.declared.error.StepError.TheVariants as errors
-use Rattle.rk_world.specs.declared.event.Event.TheVariants as events
-use Rattle.rk_inv_wellformed.proofs.room.Rises.{sent_all}
 use Rattle.rk_scripts.proofs.settle.Exchanged.{Sends}
 
 -- ---- a turn that sends
 
 module _ (w : World) (m : ℕ) (living : has_crashed w m ≡ false) where
   -- a master that has something to send on its turn sends it
-  pub turn_sends : 1 ≤ length (master_turn (master_at w m)).sends → Sends w (nodes.Master m)
+  pub turn_sends : 1 ≤ length (master_turn (master_at w m)).sends → Sends w (Node.Master m)
   turn_sends some fresh =
       let worked = master_turn (master_at w m) in
       let ledger = ledger_after w.ledger m 0 worked in
       let list = map (filled ledger.journal worked.served) worked.sends in
-      let none : refusal w (events.Turn (nodes.Master m)) ≡ None =
-      ap (λ (worn : Option ℕ). option_or (option_map errors.Worn worn) (where_true (has_crashed w m) (errors.Dead m))) fresh
-      ∙ ap (λ (b : Bool). where_true b (errors.Dead m)) living in
-      let counted : w.wire.sent < (happened w (events.Turn (nodes.Master m)) (Gave None)).world.wire.sent =
+      let none : refusal w (Event.Turn (Node.Master m)) ≡ None =
+      ap (λ (worn : Option ℕ). option_or (option_map StepError.Worn worn) (where_true (has_crashed w m) (StepError.Dead m))) fresh
+      ∙ ap (λ (b : Bool). where_true b (StepError.Dead m)) living in
+      let counted : w.wire.sent < (happened w (Event.Turn (Node.Master m)) (Gave None)).world.wire.sent =
       omega (arith, some, sent_all w.wire list, length-map worked.sends (filled ledger.journal worked.served)) in
-      subst (λ (refused : Option StepError). w.wire.sent < (world_stepped w (stepped_by w (events.Turn (nodes.Master m)) (Gave None) refused)).wire.sent) (sym none)
+      subst (λ (refused : Option StepError). w.wire.sent < (world_stepped w (stepped_by w (Event.Turn (Node.Master m)) (Gave None) refused)).wire.sent) (sym none)
       counted
 
 -- ---- a target that pulls
 
-duties_send : (list : NumberMap Tablet) (now : Master) (number : ℕ) (tablet : Tablet) → get list number ≡ Some tablet → tablet.handover.role ≡ roles.Receiving
+duties_send : (list : NumberMap Tablet) (now : Master) (number : ℕ) (tablet : Tablet) → get list number ≡ Some tablet → tablet.handover.role ≡ Role.Receiving
     → 1 ≤ length (duties now list).sends
 duties_send [] now number tablet found is = absurd (none-some tablet found)
 duties_send (entry ∷ rest) now number tablet found is =
@@ -69,7 +47,7 @@ duties_send (entry ∷ rest) now number tablet found is =
       go (eq_by_cmp nat_cmp number entry.0) found (λ behind. duties_send rest worked.master number tablet behind is),
     )
   where
-    pulls : 1 ≤ length (tablet_duty now entry.0 entry.1 roles.Receiving).sends
+    pulls : 1 ≤ length (tablet_duty now entry.0 entry.1 Role.Receiving).sends
     pulls =
         let it = with_outstanding entry.1 in
         omega (arith, length-append (want_of now entry.0 it it.pulling.hashes.outstanding) (pull_of now entry.0 it ∷ []))
@@ -83,16 +61,15 @@ duties_send (entry ∷ rest) now number tablet found is =
         omega (arith, subst (λ (role : Role). 1 ≤ length (tablet_duty now entry.0 entry.1 role).sends) (sym role_is) pulls)
     go false there later = omega (arith, later there)
 
-pub receiving_sends : (w : World) (m number : ℕ) → has_crashed w m ≡ false → (tablet_in w m number).handover.role ≡ roles.Receiving → Sends w (nodes.Master m)
-receiving_sends w m number living is =
-    turn_sends w m living
+pub receiving_sends : (w : World) (m number : ℕ) → has_crashed w m ≡ false → (tablet_in w m number).handover.role ≡ Role.Receiving → Sends w (Node.Master m)
+receiving_sends w m number living is = turn_sends w m living
     (omega (
       arith,
       length-append (appends (master_at w m)) (duties (master_at w m) (master_at w m).tablets).sends,
       go (get (master_at w m).tablets number) refl is,
     ))
   where
-    go : (it : Option Tablet) → get (master_at w m).tablets number ≡ it → (unwrap_or it no_tablet).handover.role ≡ roles.Receiving
+    go : (it : Option Tablet) → get (master_at w m).tablets number ≡ it → (unwrap_or it no_tablet).handover.role ≡ Role.Receiving
         → 1 ≤ length (duties (master_at w m) (master_at w m).tablets).sends
     go None at never = absurd (false≢true (ap is_receiving never))
     go (Some tablet) at role_is = duties_send (master_at w m).tablets (master_at w m) number tablet at role_is
@@ -149,8 +126,7 @@ there_found (bytes ∷ sides) first number low high = go (first == number) refl 
     go : (b : Bool) → (first == number) ≡ b → (suc first ≤ number → is_some (segment_of number (numbered (suc first) sides)) ≡ true)
         → is_some (cond b (Some (record { number = first; bytes = bytes })) (segment_of number (numbered (suc first) sides))) ≡ true
     go true here later = refl
-    go false apart later =
-        later
+    go false apart later = later
         (⊎_elim (λ (more : first < number). omega (arith, more))
         (λ (less : number ≤ first). let same : first ≡ number = omega (arith, low, less) in absurd (false≢true (sym apart ∙ eq-eqb first number same)))
         (cases_lt first number))
@@ -205,8 +181,7 @@ module _ (master : Master) (number : ℕ) (backed : 1 ≤ length master.log.know
 sealed_sent : (master : Master) (sealed : List ℕ) → 1 ≤ length master.log.known → All (λ n. FIRST_SIDE_SEGMENT ≤ n) sealed
     → All (λ n. n < FIRST_SIDE_SEGMENT + length master.log.sides) sealed → list_all (is_side_stored master.log) sealed ≡ false → 1 ≤ length (appends master)
 sealed_sent master [] backed low high never = absurd (false≢true (sym never))
-sealed_sent master (number ∷ sealed) backed low high fails =
-    go (is_side_stored master.log number) refl fails
+sealed_sent master (number ∷ sealed) backed low high fails = go (is_side_stored master.log number) refl fails
     (sealed_sent master sealed backed (All-tail (λ n. FIRST_SIDE_SEGMENT ≤ n) number sealed low) (All-tail (λ n. n < FIRST_SIDE_SEGMENT + length master.log.sides) number sealed high))
   where
     go : (b : Bool) → is_side_stored master.log number ≡ b → (b && list_all (is_side_stored master.log) sealed) ≡ false
@@ -219,9 +194,8 @@ sealed_sent master (number ∷ sealed) backed low high fails =
 pub waiting_sends : (w : World) (m number : ℕ) → has_crashed w m ≡ false → 1 ≤ length (master_at w m).log.known
     → All (λ n. FIRST_SIDE_SEGMENT ≤ n) (tablet_in w m number).pulling.sealed
     → All (λ n. n < FIRST_SIDE_SEGMENT + length (master_at w m).log.sides) (tablet_in w m number).pulling.sealed
-    → is_sealed_stored (master_at w m) (tablet_in w m number) ≡ false → Sends w (nodes.Master m)
-waiting_sends w m number living backed low high fails =
-    turn_sends w m living
+    → is_sealed_stored (master_at w m) (tablet_in w m number) ≡ false → Sends w (Node.Master m)
+waiting_sends w m number living backed low high fails = turn_sends w m living
     (omega (
       arith,
       length-append (appends (master_at w m)) (duties (master_at w m) (master_at w m).tablets).sends,

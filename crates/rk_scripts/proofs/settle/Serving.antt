@@ -1,21 +1,10 @@
 -- `serve` ends: a call is tried twice at most, and while it is staged each log exchange sends something.
-use Rattle.std.proofs.Common.{◌≡◌, ◌<◌, ◌&&◌, ◌+◌, ℕ, zero, suc, Bool, true, false, cond, not, List, [], ◌∷◌, ◌++◌, Option, None, Some, refl, sym, ap, subst, arith}
-use Rattle.std.proofs.Math.Nat.{mod-lt}
-use Rattle.std.proofs.lemmas.Bool.{false≢true}
-use Rattle.rk_types.specs.Hashing.{hash_of}
-use Rattle.rk_types.specs.declared.call.Call.{Call}
-use Rattle.rk_types.specs.declared.hashing.TheConstants.{LANES}
-use Rattle.rk_types.specs.declared.node.Node.TheVariants as nodes
-use Rattle.rk_session.specs.Owners.{known_owner, looks_up}
-use Rattle.rk_world.specs.Client.{Session, call_lane}
-use Rattle.rk_world.specs.Cluster.{Cluster, lane_at, session_at}
-use Rattle.rk_world.specs.Master.{is_staged}
-use Rattle.rk_world.specs.World.{World, has_crashed, lives, master_at}
-use Rattle.rk_settle.specs.Advance.{log_round}
-use Rattle.rk_settle.specs.Course.{Course}
-use Rattle.rk_settle.specs.Serve.{ask_exchange, hear_tasks, is_staged_by, request_by, serve, serve_by, try_tasks, was_moved}
-use Rattle.rk_settle.proofs.Unfolded.{serve_are}
-use Rattle.rk_scripts.specs.settle.Moves.{AlwaysEnds}
+use Rattle.std.proofs.Common.{◌≡◌, ◌<◌, ◌&&◌, ◌+◌, ℕ, zero, suc, Bool, true, false, cond, not, List, [], ◌∷◌, ◌++◌, Option, None, Some}
+use Rattle.std.proofs.Common.{refl, sym, ap, subst, arith}
+use Rattle.rk_scripts.proofs.Words.{mod-lt, false≢true, hash_of, Call, LANES, known_owner, looks_up, Session, call_lane, Cluster, lane_at}
+use Rattle.rk_scripts.proofs.Words.{session_at, is_staged, World, has_crashed, lives, master_at, log_round, Course, ask_exchange}
+use Rattle.rk_scripts.proofs.Words.{hear_tasks, is_staged_by, request_by, serve, serve_by, try_tasks, was_moved, serve_are, AlwaysEnds}
+use Rattle.rk_scripts.proofs.Words.{Node}
 use Rattle.rk_scripts.proofs.settle.ExchangeTasks.{commits, hears, requests, tries, tries_again}
 use Rattle.rk_scripts.proofs.settle.Exchanged.{HasSent, Sends, ask_exchanging, round_sending}
 use Rattle.rk_scripts.proofs.settle.Exchanging.{HasLeft}
@@ -39,7 +28,7 @@ not_true true is = absurd (false≢true is)
 module _ (s : Setting) (lane : ℕ) (inside : lane < LANES) (client : ℕ) where
   -- a master at which a call is staged sends on its turn
   asked_sends : (course : Course) → IsSane s course → (asked : ℕ) (out : Option Call) → is_staged_by (lane_at course.cluster lane) client asked out ≡ true
-      → Sends (lane_at course.cluster lane) (nodes.Master asked)
+      → Sends (lane_at course.cluster lane) (Node.Master asked)
   asked_sends course sane asked None never = absurd (false≢true never)
   asked_sends course sane asked (Some call) are =
       let w : World = lane_at course.cluster lane in
@@ -76,9 +65,9 @@ module _ (s : Setting) (lane : ℕ) (inside : lane < LANES) (client : ℕ) where
             (still_move s before course (commits lane client asked) rest left (IsAt course.cluster left) comes are
             (record { cluster_is = refl; tasks_are = ap (λ (b : Bool). cond b (log_round lane asked ++ commits lane client asked ∷ []) [] ++ rest) is }) (λ next at. at))
             (λ later comes_later at.
-            goes_on s before later (HasSent s lane inside _ (nodes.Master asked) behind (sends_left later.cluster)) (HasLeft rest)
-            (round_sending s lane inside _ (nodes.Master asked) behind before later comes_later at.tasks_are
-            (subst (λ (cluster : Cluster). Sends (lane_at cluster lane) (nodes.Master asked)) (sym at.cluster_is)
+            goes_on s before later (HasSent s lane inside _ (Node.Master asked) behind (sends_left later.cluster)) (HasLeft rest)
+            (round_sending s lane inside _ (Node.Master asked) behind before later comes_later at.tasks_are
+            (subst (λ (cluster : Cluster). Sends (lane_at cluster lane) (Node.Master asked)) (sym at.cluster_is)
             (asked_sends course comes.sane asked session.outstanding is)))
             (λ last comes_last sent.
             again before last comes_last sent.left (omega (arith, few, sent.fewer, ap sends_left at.cluster_is))))
@@ -127,8 +116,7 @@ module _ (s : Setting) (lane : ℕ) (inside : lane < LANES) (client : ℕ) where
 
         go : (b : Bool) → course.tasks ≡ (cond b (ask_exchange lane client ∷ []) [] ++ requests lane client times ∷ []) ++ rest → Goes s before course (HasLeft rest)
         go false are = requested before course comes are
-        go true are =
-            goes_on s before course (HasLeft (requests lane client times ∷ rest)) (HasLeft rest)
+        go true are = goes_on s before course (HasLeft (requests lane client times ∷ rest)) (HasLeft rest)
             (ask_exchanging s lane inside (requests lane client times ∷ rest) client before course comes are)
             (λ later comes_later left. requested before later comes_later left)
 
@@ -169,5 +157,4 @@ module _ (s : Setting) (client : ℕ) where
 pub serve_ends : (client : ℕ) → AlwaysEnds (λ cluster. serve cluster client)
 serve_ends client =
     always_ends (λ cluster. serve cluster client) (λ masters cluster names. serve_are masters cluster names client)
-    (λ s sane.
-    left_none s s.start _ (served s client (session_at s.start client).outstanding s.start _ (comes_here s _ sane) refl))
+    (λ s sane. left_none s s.start _ (served s client (session_at s.start client).outstanding s.start _ (comes_here s _ sane) refl))

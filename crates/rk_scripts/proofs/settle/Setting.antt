@@ -1,14 +1,9 @@
 -- Courses that go on with a run of a new cluster: what holds of them at each move.
 use Rattle.std.proofs.Common.{◌≡◌, ℕ, [], ◌∷◌, length, sym, subst}
-use Rattle.rk_types.specs.declared.hashing.TheConstants.{LANES}
-use Rattle.rk_world.specs.Cluster.{Cluster}
-use Rattle.rk_settle.proofs.Occurred.{move_is}
-use Rattle.rk_settle.specs.Course.{Course, moved}
-use Rattle.rk_runs.specs.duties.Added.{AreAdded}
+use Rattle.rk_scripts.proofs.Words.{LANES, Cluster, move_is, Course, moved, AreAdded, Adversary}
 use Rattle.rk_scripts.proofs.play.Coursing.{IsCoursing, all_moved_on}
 use Rattle.rk_scripts.proofs.play.Masters.{names_masters}
 use Rattle.rk_scripts.proofs.play.Reaching.{IsReached, reached_after, reached_eight}
-use Rattle.rk_scripts.specs.settle.Moves.{Adversary}
 use Rattle.rk_scripts.proofs.settle.Following.{Follows, run_follows}
 
 -- what a command begins with: a cluster to which a run of a new one has led, and an adversary by which replicas fail
@@ -32,8 +27,7 @@ module _ (s : Setting) where
   module _ (course : Course) (sane : IsSane course) where
     -- a run of a new cluster has led to its cluster
     pub here : IsReached s.masters s.backups course.cluster
-    here =
-        subst (IsReached s.masters s.backups) (sym sane.coursing.from)
+    here = subst (IsReached s.masters s.backups) (sym sane.coursing.from)
         (reached_after s.masters s.backups s.start s.reached course.occurred sane.coursing.run)
 
     -- it has eight lanes

@@ -1,20 +1,11 @@
 -- `settle` ends.
 use Rattle.std.proofs.Common.{◌≡◌, ◌≤◌, ℕ, zero, suc, true, List, [], ◌∷◌, refl, sym, subst, inl, inr, ⊎_elim}
-use Rattle.rk_types.specs.declared.hashing.TheConstants.{LANES}
-use Rattle.rk_log.specs.declared.copied.TheConstants.{MOST_BACKUPS}
-use Rattle.rk_world.specs.Cluster.{Cluster, Occurrence, cluster_run, new_cluster}
-use Rattle.rk_world.specs.ClusterRuns.{IsRun}
-use Rattle.rk_world.specs.Premises.{MOST_MASTERS}
-use Rattle.rk_cluster.specs.Replicas.{Fate, Kept}
-use Rattle.rk_settle.specs.Course.{Course, moved, moved_all}
-use Rattle.rk_settle.specs.Rest.{is_at_rest}
-use Rattle.rk_settle.proofs.AtRest.{settled_rests}
-use Rattle.rk_settle.proofs.Lossless.{IsWell, moved_well, well_other}
-use Rattle.rk_settle.proofs.Unfolded.{settle_are}
-use Rattle.rk_runs.specs.duties.Added.{AreAdded}
+use Rattle.rk_scripts.proofs.Words.{LANES, MOST_BACKUPS, Cluster, Occurrence, cluster_run, new_cluster, IsRun, MOST_MASTERS, Fate, Kept}
+use Rattle.rk_scripts.proofs.Words.{Course, moved, moved_all, is_at_rest, settled_rests, IsWell, moved_well, well_other, settle_are}
+use Rattle.rk_scripts.proofs.Words.{AreAdded, Adversary, Ends, Rests, Stops, after_moves, settling}
+use Rattle.rk_scripts.specs.settle.Moves.{HasSettled, faultless}
 use Rattle.rk_scripts.proofs.play.Masters.{names_masters}
 use Rattle.rk_scripts.proofs.play.Reaching.{IsReached}
-use Rattle.rk_scripts.specs.settle.Moves.{Adversary, Ends, HasSettled, Rests, Stops, after_moves, faultless, settling}
 use Rattle.rk_scripts.proofs.settle.Going.{Comes, Goes, IsDone, comes_here, goes_then}
 use Rattle.rk_scripts.proofs.settle.NoticesFirst.{AreNoticed, notices_first}
 use Rattle.rk_scripts.proofs.settle.Rounds.{Never, rounds}
@@ -63,8 +54,7 @@ module _ (adversary : Adversary) (masters backups : ℕ) (cluster : Cluster) (re
   pub reached_ends : Ends adversary (settling cluster)
   reached_ends = record {
     moves = goes.moves;
-    over =
-        ⊎_elim
+    over = ⊎_elim
         (λ (done : IsDone (after_moves adversary goes.moves (settling cluster))).
         ⊎_elim (λ (none : (after_moves adversary goes.moves (settling cluster)).tasks ≡ []). inl (settled_at_end adversary goes.moves cluster none))
         (λ (stops : Stops (after_moves adversary goes.moves (settling cluster))). inr stops) done)
@@ -94,8 +84,7 @@ reached_rests masters backups cluster reached added =
     let well : IsWell last = all_well ends.moves (settling cluster) (record { none = refl; well = refl }) in
     record {
       moves = ends.moves;
-      over =
-          ⊎_elim (λ (settled : HasSettled last). inl settled)
+      over = ⊎_elim (λ (settled : HasSettled last). inl settled)
           (λ (stops : Stops last). inr (record { stops = stops; no_fault = λ rounds is. well_other last rounds well is })) ends.over;
     }
 

@@ -1,34 +1,10 @@
 -- A master that lives, where something is staged, sends on its turn. So it is where a call waits.
-use Rattle.std.proofs.Common.{◌≡◌, ◌≢◌, ◌<◌, ◌≤◌, ◌==◌, ◌&&◌, ℕ, Bool, true, false, not, List, [], ◌∷◌, length, Option, None, Some, refl, sym, ap, subst, ◌∙◌, arith}
-use Rattle.std.specs.Prelude.{drop, slice_get}
-use Rattle.std.specs.List.{list_any}
-use Rattle.std.specs.Option.{option_map, option_or}
-use Rattle.std.proofs.lemmas.Bool.{false≢true}
-use Rattle.std.proofs.lemmas.List.{length-drop}
+use Rattle.std.proofs.Common.{◌≡◌, ◌≢◌, ◌<◌, ◌≤◌, ◌==◌, ◌&&◌, ℕ, Bool, true, false, not, List, [], ◌∷◌, length, Option, None, Some, refl}
+use Rattle.std.proofs.Common.{sym, ap, subst, ◌∙◌, arith, drop, slice_get, option_map, length-drop}
+use Rattle.rk_scripts.proofs.Words.{list_any, option_or, false≢true, NumberMap, get, Call, LANES, Entry, Gave, lane_at, IsWellFormed}
+use Rattle.rk_scripts.proofs.Words.{is_staged, staged, refusal, where_true, HasRoom, world_stepped, stepped_by, World, has_crashed}
+use Rattle.rk_scripts.proofs.Words.{master_at, StepError, Course, AllCaughtUp, wire_counts, get_first, IsGoodLane, Lasts, Node, Event}
 use Rattle.std.proofs.lemmas.Option.{slice_get_within}
-use Rattle.rk_types.specs.NumberMap.{NumberMap, get}
-use Rattle.rk_types.specs.declared.call.Call.{Call}
-use Rattle.rk_types.specs.declared.hashing.TheConstants.{LANES}
-use Rattle.rk_types.specs.declared.node.Node.TheVariants as nodes
-use Rattle.rk_entry.specs.declared.entry.Entry.{Entry}
-use Rattle.rk_world.specs.Backup.{Gave}
-use Rattle.rk_world.specs.Cluster.{lane_at}
-use Rattle.rk_world.specs.Formed.{IsWellFormed}
-use Rattle.rk_world.specs.Master.{is_staged, staged}
-use Rattle.rk_world.specs.Refusals.{refusal, where_true}
-use Rattle.rk_world.specs.Room.{HasRoom}
-use Rattle.rk_world.specs.Runs.{world_stepped}
-use Rattle.rk_world.specs.Step.{stepped_by}
-use Rattle.rk_world.specs.World.{World, has_crashed, master_at}
-use Rattle.rk_world.specs.declared.error.StepError.{StepError}
-use Rattle.rk_world.specs.declared.error.StepError.TheVariants as errors
-use Rattle.rk_world.specs.declared.event.Event.TheVariants as events
-use Rattle.rk_settle.specs.Course.{Course}
-use Rattle.rk_inv_lanes.specs.applied.CaughtUp.{AllCaughtUp}
-use Rattle.rk_inv_lanes.proofs.applied.Sends.{wire_counts}
-use Rattle.rk_inv_wellformed.proofs.maps.Maps.{get_first}
-use Rattle.rk_runs.proofs.history.Clusters.{IsGoodLane}
-use Rattle.rk_runs.proofs.history.Runs.{Lasts}
 use Rattle.rk_scripts.proofs.play.Reaching.{lane_good}
 use Rattle.rk_scripts.proofs.settle.Exchanged.{Sends}
 use Rattle.rk_scripts.proofs.settle.Reached.{reached_caught}
@@ -41,12 +17,12 @@ past_some list count place entry behind stands none =
 
 module _ (w : World) (master : ℕ) (lives_there : has_crashed w master ≡ false) where
   -- something staged is sent
-  pub staged_sends : IsWellFormed w → HasRoom w → AllCaughtUp w → staged (master_at w master) ≢ [] → Sends w (nodes.Master master)
+  pub staged_sends : IsWellFormed w → HasRoom w → AllCaughtUp w → staged (master_at w master) ≢ [] → Sends w (Node.Master master)
   staged_sends formed room caught some fresh =
-      let none : refusal w (events.Turn (nodes.Master master)) ≡ None =
-      ap (λ (worn : Option ℕ). option_or (option_map errors.Worn worn) (where_true (has_crashed w master) (errors.Dead master))) fresh
-      ∙ ap (λ (b : Bool). where_true b (errors.Dead master)) lives_there in
-      subst (λ (refused : Option StepError). w.wire.sent < (world_stepped w (stepped_by w (events.Turn (nodes.Master master)) (Gave None) refused)).wire.sent) (sym none)
+      let none : refusal w (Event.Turn (Node.Master master)) ≡ None =
+      ap (λ (worn : Option ℕ). option_or (option_map StepError.Worn worn) (where_true (has_crashed w master) (StepError.Dead master))) fresh
+      ∙ ap (λ (b : Bool). where_true b (StepError.Dead master)) lives_there in
+      subst (λ (refused : Option StepError). w.wire.sent < (world_stepped w (stepped_by w (Event.Turn (Node.Master master)) (Gave None) refused)).wire.sent) (sym none)
       (wire_counts w master (Gave None) formed room.bytes caught some)
 
   -- where a call waits something is staged
@@ -66,7 +42,7 @@ module _ (s : Setting) (course : Course) (sane : IsSane s course) (lane : ℕ) (
 
   -- a master of it sends what is staged
   pub master_sends : (master : ℕ) → has_crashed (lane_at course.cluster lane) master ≡ false → staged (master_at (lane_at course.cluster lane) master) ≢ []
-      → Sends (lane_at course.cluster lane) (nodes.Master master)
+      → Sends (lane_at course.cluster lane) (Node.Master master)
   master_sends master living some =
       staged_sends (lane_at course.cluster lane) master living good_at.formed good_at.room
       (reached_caught s.masters s.backups course.cluster (here s course sane) lane inside) some

@@ -1,7 +1,6 @@
 -- The tasks of `settle`. Their type has no name outside of the crate of settling commands, so each is told by the list in which it stands.
-use Rattle.std.specs.Prelude.{ℕ, List, [], slice_index_or, Some}
-use Rattle.rk_settle.specs.Settle.{empty_by, lane_tasks, notice_by, settle}
-use Rattle.rk_settle.specs.Tasks.{forgets, round_of}
+use Rattle.std.proofs.Common.{ℕ, List, [], slice_index_or, Some}
+use Rattle.rk_scripts.proofs.Words.{empty_by, lane_tasks, notice_by, settle, forgets, round_of}
 
 -- the type of something
 abbrev TypeOf : {A : Type 0} → A → Type 0

@@ -1,27 +1,13 @@
 -- What holds of a lane all through an exchange, where each message on its topic that is delivered keeps it.
-use Rattle.std.proofs.Common.{◌≡◌, ◌<◌, ◌≤◌, ◌+◌, ◌-◌, ◌==◌, ◌||◌, ℕ, zero, suc, Bool, true, false, cond, not, List, [], ◌∷◌, ◌++◌, All, filter, find, map, Option, None, Some, is_some, refl, sym, ap, subst, ◌∙◌, append_assoc, ⊎_elim, arith}
-use Rattle.std.specs.List.{range_with_len}
-use Rattle.std.proofs.lemmas.Bool.{cases_lt, eqb-true, false≢true, or_right}
-use Rattle.std.proofs.lemmas.List.Elements.{All-head, All-tail, All-weaker, filter_passes}
-use Rattle.std.proofs.lemmas.Option.{none-some}
-use Rattle.rk_types.specs.NumberMap.{get}
-use Rattle.rk_types.specs.declared.hashing.TheConstants.{LANES}
-use Rattle.rk_message.specs.declared.message.Message.{Message}
-use Rattle.rk_world.specs.Backup.{Gave}
-use Rattle.rk_world.specs.Cluster.{Cluster, Happens, lane_at}
-use Rattle.rk_world.specs.Step.{step}
-use Rattle.rk_world.specs.World.{World}
-use Rattle.rk_world.specs.declared.event.Event.TheVariants as events
-use Rattle.rk_settle.specs.Course.{Course}
-use Rattle.rk_settle.specs.Exchange.{hand_by, is_message_off, is_number_off, is_there, oldest_after, sent_after}
-use Rattle.rk_settle.specs.Tasks.{forgets}
-use Rattle.rk_settle.specs.Topics.{is_on}
-use Rattle.rk_inv_wellformed.proofs.maps.Lists.{find_passes}
-use Rattle.rk_runs.proofs.history.Clusters.{IsGoodLane}
-use Rattle.rk_runs.proofs.history.Runs.{Lasts}
-use Rattle.rk_inv_lanes.specs.wires.Emptied.{Arrival, arrived, deliveries_left, forgotten, taken_off}
-use Rattle.rk_inv_lanes.proofs.wires.Emptied.{masters_in_order, taken_off_fewer}
-use Rattle.rk_runs.proofs.duties.Adding.{added_after}
+use Rattle.std.proofs.Common.{◌≡◌, ◌<◌, ◌≤◌, ◌+◌, ◌-◌, ◌==◌, ◌||◌, ℕ, zero, suc, Bool, true, false, cond, not, List, [], ◌∷◌, ◌++◌, All}
+use Rattle.std.proofs.Common.{filter, find, map, Option, None, Some, is_some, refl, sym, ap, subst, ◌∙◌, append_assoc, ⊎_elim, arith}
+use Rattle.std.proofs.Common.{eqb-true}
+use Rattle.rk_scripts.proofs.Words.{range_with_len, cases_lt, false≢true, or_right, All-head, All-tail, All-weaker, filter_passes}
+use Rattle.rk_scripts.proofs.Words.{none-some, get, LANES, Message, Gave, Cluster, Happens, lane_at, step, World, Course, hand_by}
+use Rattle.rk_scripts.proofs.Words.{is_number_off, is_there, oldest_after, sent_after, forgets, is_on, find_passes, IsGoodLane, Lasts}
+use Rattle.rk_scripts.proofs.Words.{Arrival, arrived, deliveries_left, forgotten, taken_off, masters_in_order, taken_off_fewer, added_after}
+use Rattle.rk_scripts.proofs.Words.{Event}
+use Rattle.rk_settle.specs.Exchange.{is_message_off}
 use Rattle.rk_scripts.proofs.settle.Delivering.{ArrivesAt, IsOff, taking_off}
 use Rattle.rk_scripts.proofs.settle.ExchangeTasks.{Topic, hands, sorts}
 use Rattle.rk_scripts.proofs.settle.Exchanging.{forgotten_no_more, tested_there}
@@ -137,12 +123,12 @@ module _ (s : Setting) (lane : ℕ) (inside : lane < LANES) (origin : Cluster) (
       let w : World = lane_at course.cluster lane in
       let behind : List Task = map (forgets lane) list ++ rest in
       let Q : Course → Type 0 = IsSorting first off list from behind in
-      let changes = stepped_changes course.cluster lane (omega (arith, inside, eight s course comes.sane)) (step w (events.Forget number) (Gave None)) in
+      let changes = stepped_changes course.cluster lane (omega (arith, inside, eight s course comes.sane)) (step w (Event.Forget number) (Gave None)) in
       let is_off : IsOffAt topic w number = λ message found. All-head (λ n. IsOffAt topic first n) number list all message (sorting.each number message found).0 in
       goes_on s before course Q (IsSorting first off [] from rest)
-      (occurs_move s before course (forgets lane number) behind (Happens lane (events.Forget number) (Gave None)) false Q comes sorting.left refl
-      (alone_fresh course.cluster (Happens lane (events.Forget number) (Gave None)))
-      (added_after course.cluster (Happens lane (events.Forget number) (Gave None)) tt comes.sane.added)
+      (occurs_move s before course (forgets lane number) behind (Happens lane (Event.Forget number) (Gave None)) false Q comes sorting.left refl
+      (alone_fresh course.cluster (Happens lane (Event.Forget number) (Gave None)))
+      (added_after course.cluster (Happens lane (Event.Forget number) (Gave None)) tt comes.sane.added)
       (λ next at fresh.
       let here : lane_at next.cluster lane ≡ forgotten w number = ap (λ (cluster : Cluster). lane_at cluster lane) at.cluster_is ∙ changes.here in
       record {
@@ -150,8 +136,7 @@ module _ (s : Setting) (lane : ℕ) (inside : lane < LANES) (origin : Cluster) (
         beside = subst (IsSameBeside lane origin) (sym at.cluster_is) (λ q apart. changes.beside q apart ∙ sorting.beside q apart);
         few = subst (λ (now : World). deliveries_left now ≤ deliveries_left first) (sym here) (omega (arith, forgotten_no_more w number, sorting.few));
         holds = subst (Holds from) (sym here) (tracked.forgets from number w is_off sorting.holds);
-        each =
-            subst
+        each = subst
             (λ (now : World). (n : ℕ) (message : Message) → get now.wire.messages n ≡ Some message
             → (get first.wire.messages n ≡ Some message) × (is_in n off ≡ true → is_in n list ≡ true)) (sym here)
             (λ n message found.
@@ -213,10 +198,8 @@ module _ (s : Setting) (lane : ℕ) (inside : lane < LANES) (origin : Cluster) (
           go false is later =
               let within : n ≤ w.wire.sent = ((formed_at s course comes.sane lane inside).wire.numbered n message found).1 in
               let there = between last w.wire.sent n later within in
-              absurd
-              (kept
-              (is_in_filtered (is_number_off w.wire topic) (sent_after w.wire last) n (in_range (last + 1) (w.wire.sent - last) n there.0 there.1)
-              (off_tested topic w n message found is)))
+              absurd (kept (is_in_filtered (is_number_off w.wire topic) (sent_after w.wire last) n
+              (in_range (last + 1) (w.wire.sent - last) n there.0 there.1) (off_tested topic w n message found is)))
 
   -- messages are handed out
   hands_track : (fuel from most : ℕ) (rest : List Task) (before : Cluster) (course : Course) → Comes s before course → IsHanding most from (hands lane topic from ∷ rest) course
@@ -241,8 +224,7 @@ module _ (s : Setting) (lane : ℕ) (inside : lane < LANES) (origin : Cluster) (
             beside = subst (IsSameBeside lane origin) (sym at.cluster_is) handing.beside;
             from = from;
             holds = subst (λ (cluster : Cluster). Holds from (lane_at cluster lane)) (sym at.cluster_is) handing.holds;
-            none =
-                subst (λ (cluster : Cluster). HasNone topic from (lane_at cluster lane)) (sym at.cluster_is)
+            none = subst (λ (cluster : Cluster). HasNone topic from (lane_at cluster lane)) (sym at.cluster_is)
                 (λ n message after found.
                 let there = between from w.wire.sent n after (within n message found) in
                 let missing : is_there w.wire n ≡ false =

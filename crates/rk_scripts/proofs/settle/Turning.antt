@@ -1,28 +1,11 @@
 -- What the turns of the coordinator and of masters leave as it was: the rows, who has crashed, and what is staged at each master. A turn
 -- sends something, or leaves the wire as it was.
-use Rattle.std.proofs.Common.{◌≡◌, ◌<◌, ℕ, Bool, true, false, cond, nat_lt, List, [], ◌∷◌, Option, Some, None, refl, sym, ap, ◌∙◌, inl, inr, ⊎_elim, arith}
-use Rattle.std.specs.Prelude.{◌⊎◌, drop, map, unwrap_or}
-use Rattle.std.proofs.lemmas.Bool.{cases_eq}
-use Rattle.rk_types.specs.NumberMap.{NumberMap}
-use Rattle.rk_types.proofs.NumberMaps.{get_other, get_same}
-use Rattle.rk_types.specs.declared.node.Node.{Node}
-use Rattle.rk_types.specs.declared.node.Node.TheVariants as nodes
-use Rattle.rk_log.specs.Log.{Log}
-use Rattle.rk_transfer.specs.declared.role.Role.{Role}
-use Rattle.rk_transfer.specs.declared.role.Role.TheVariants as roles
-use Rattle.rk_message.specs.Wire.{Traffic}
-use Rattle.rk_message.specs.declared.message.Message.{Message}
-use Rattle.rk_world.specs.declared.work.Reading.{Reading}
-use Rattle.rk_world.specs.CoordinatorStep.{coordinator_turn}
-use Rattle.rk_world.specs.Gather.{next_reading}
-use Rattle.rk_world.specs.Master.{Master, new_master, staged}
-use Rattle.rk_world.specs.MasterTurn.{duties, master_turn, reading_duty, tablet_duty}
-use Rattle.rk_world.specs.Replies.{filled}
-use Rattle.rk_world.specs.Step.{ledger_after, turned, with_sends, worked_at}
-use Rattle.rk_world.specs.Tablet.{Tablet}
-use Rattle.rk_world.specs.Worked.{Worked, changed}
-use Rattle.rk_world.specs.World.{World, master_at, with_ledger, with_master}
-use Rattle.rk_inv_wellformed.proofs.room.Rises.{sent_all}
+use Rattle.std.proofs.Common.{◌≡◌, ◌<◌, ℕ, Bool, true, false, cond, nat_lt, List, [], ◌∷◌, Option, Some, None, refl, sym, ap, ◌∙◌, inl, inr}
+use Rattle.std.proofs.Common.{⊎_elim, arith, ◌⊎◌, drop, map, unwrap_or}
+use Rattle.rk_scripts.proofs.Words.{cases_eq, NumberMap, get_other, get_same, Node, Log, Role, Traffic, Message, Reading, coordinator_turn}
+use Rattle.rk_scripts.proofs.Words.{next_reading, Master, new_master, staged, duties, master_turn, reading_duty, tablet_duty, filled}
+use Rattle.rk_scripts.proofs.Words.{ledger_after, turned, with_sends, worked_at, Tablet, Worked, changed, World, master_at, with_ledger}
+use Rattle.rk_scripts.proofs.Words.{with_master, sent_all}
 
 -- ---- a master's turn
 
@@ -46,18 +29,13 @@ reading_keeps master number tablet None = keeps_itself master
 reading_keeps master number tablet (Some reading) = keeps_itself master
 
 duty_keeps : (master : Master) (number : ℕ) (tablet : Tablet) (role : Role) → KeepsLog master (tablet_duty master number tablet role).master
-duty_keeps master number tablet roles.Receiving = record { log = refl; applied = refl }
-duty_keeps master number tablet (roles.Joining (Some entry)) =
+duty_keeps master number tablet Role.Receiving = record { log = refl; applied = refl }
+duty_keeps master number tablet (Role.Joining (Some entry)) =
     either_keeps (nat_lt entry master.applied) master _ (changed master) (keeps_itself master) (keeps_itself master)
-duty_keeps master number tablet (roles.Joining None) = keeps_itself master
-duty_keeps master number tablet (roles.Rebuilding from None) = reading_keeps master number tablet (next_reading tablet.gather)
-duty_keeps master number tablet (roles.Rebuilding from (Some entry)) =
+duty_keeps master number tablet (Role.Rebuilding from None) = reading_keeps master number tablet (next_reading tablet.gather)
+duty_keeps master number tablet (Role.Rebuilding from (Some entry)) =
     either_keeps (nat_lt entry master.applied) master _ (changed master) (keeps_itself master) (keeps_itself master)
-duty_keeps master number tablet roles.Absent = keeps_itself master
-duty_keeps master number tablet roles.Serving = keeps_itself master
-duty_keeps master number tablet roles.Closing = keeps_itself master
-duty_keeps master number tablet roles.Frozen = keeps_itself master
-duty_keeps master number tablet (roles.Wanting from) = keeps_itself master
+duty_keeps master number tablet _ = keeps_itself master
 
 duties_keep : (tablets : NumberMap Tablet) (master : Master) → KeepsLog master (duties master tablets).master
 duties_keep [] master = keeps_itself master
@@ -98,8 +76,7 @@ module _ (w : World) where
   -- one master is another, where the same is staged
   staged_there : (number : ℕ) (now : Master) → staged now ≡ staged (master_at w number) → (master : ℕ)
       → staged (master_at (with_master w number now) master) ≡ staged (master_at w master)
-  staged_there number now same master =
-      ⊎_elim
+  staged_there number now same master = ⊎_elim
       (λ (is : master ≡ number).
       ap (λ (o : Option Master). staged (unwrap_or o (new_master master []))) (get_same w.masters number now master is)
       ∙ same ∙ ap (λ (n : ℕ). staged (master_at w n)) (sym is))
@@ -118,8 +95,7 @@ module _ (w : World) where
       }
 
   pub turn_turned : (node : Node) → IsTurned w (turned w node).world
-  turn_turned (nodes.Client client) = record { coordinator = refl; crashed = refl; staged_is = λ master. refl; wire = inl refl }
-  turn_turned nodes.Coordinator =
+  turn_turned Node.Coordinator =
       record { coordinator = refl; crashed = refl; staged_is = λ master. refl; wire = sends_or_not w (coordinator_turn w.coordinator) }
-  turn_turned (nodes.Master master) = worked_turned master (master_turn (master_at w master)) (turn_stages (master_at w master))
-  turn_turned (nodes.Backup backup) = record { coordinator = refl; crashed = refl; staged_is = λ master. refl; wire = inl refl }
+  turn_turned (Node.Master master) = worked_turned master (master_turn (master_at w master)) (turn_stages (master_at w master))
+  turn_turned _ = record { coordinator = refl; crashed = refl; staged_is = λ master. refl; wire = inl refl }

@@ -1,23 +1,9 @@
 -- The nodes of a lane take their turns: no other lane changes.
-use Rattle.std.proofs.Common.{◌≡◌, ◌<◌, ℕ, Bool, true, false, cond, List, [], ◌∷◌, ◌++◌, map, None, refl, sym, ap, subst, ◌∙◌, append_assoc, arith}
-use Rattle.std.specs.Prelude.{Err, Ok, Result}
-use Rattle.rk_types.specs.declared.hashing.TheConstants.{LANES}
-use Rattle.rk_types.specs.declared.node.Node.{Node}
-use Rattle.rk_types.specs.declared.node.Node.TheVariants as nodes
-use Rattle.rk_world.specs.declared.event.Event.TheVariants as events
-use Rattle.rk_world.specs.Backup.{Gave}
-use Rattle.rk_world.specs.Calls.{ask}
-use Rattle.rk_world.specs.Cluster.{Asks, Cluster, Happens, cluster_stepped, lane_at, session_at}
-use Rattle.rk_world.specs.Refusals.{worn}
-use Rattle.rk_world.specs.Runs.{world_stepped}
-use Rattle.rk_world.specs.Step.{Stepped, step}
-use Rattle.rk_world.specs.World.{World}
-use Rattle.rk_world.specs.declared.error.StepError.{StepError}
-use Rattle.rk_cluster.specs.Looks.{is_client}
-use Rattle.rk_settle.specs.Course.{Course, occurrence_error, occurring}
-use Rattle.rk_settle.specs.Settle.{turns_of}
-use Rattle.rk_settle.specs.Tasks.{asks, takes_turn}
-use Rattle.rk_runs.proofs.duties.Adding.{added_after}
+use Rattle.std.proofs.Common.{◌≡◌, ◌<◌, ℕ, Bool, true, false, cond, List, [], ◌∷◌, ◌++◌, map, None, refl, sym, ap, subst, ◌∙◌, append_assoc}
+use Rattle.std.proofs.Common.{arith, Err, Ok, Result}
+use Rattle.rk_scripts.proofs.Words.{LANES, Node, Gave, ask, Asks, Cluster, Happens, cluster_stepped, lane_at, session_at, worn}
+use Rattle.rk_scripts.proofs.Words.{world_stepped, Stepped, step, World, StepError, is_client, Course, occurrence_error, occurring}
+use Rattle.rk_scripts.proofs.Words.{turns_of, asks, takes_turn, added_after, Event}
 use Rattle.rk_scripts.proofs.settle.Delivering.{has_session}
 use Rattle.rk_scripts.proofs.settle.Following.{Follows, follows_itself}
 use Rattle.rk_scripts.proofs.settle.Going.{Comes, Goes, IsAt, alone_fresh, goes_here, goes_then, occurs_move, still_move}
@@ -35,7 +21,7 @@ stepped_sessions cluster lane (Err error) = refl
 -- a node has taken its turn in a lane, and these tasks are left
 pub record HasTurned (lane : ℕ) (node : Node) (rest : List Task) (before : Cluster) (course : Course) : Type 0 where
   pub left : course.tasks ≡ rest
-  pub changes : ChangesLane lane (world_stepped (lane_at before lane) (step (lane_at before lane) (events.Turn node) (Gave None))) before course.cluster
+  pub changes : ChangesLane lane (world_stepped (lane_at before lane) (step (lane_at before lane) (Event.Turn node) (Gave None))) before course.cluster
   pub fresh : worn (lane_at before lane) ≡ None
   pub sessions : course.cluster.sessions ≡ before.sessions
 
@@ -45,16 +31,15 @@ module _ (s : Setting) (lane : ℕ) (inside : lane < LANES) where
       → Goes s before course (HasTurned lane node rest course.cluster)
   turn_move node rest before course comes are =
       let w : World = lane_at course.cluster lane in
-      let answer = step w (events.Turn node) (Gave None) in
-      occurs_move s before course (takes_turn lane node) rest (Happens lane (events.Turn node) (Gave None)) false (HasTurned lane node rest course.cluster) comes are refl
-      (alone_fresh course.cluster (Happens lane (events.Turn node) (Gave None)))
-      (added_after course.cluster (Happens lane (events.Turn node) (Gave None)) tt comes.sane.added)
+      let answer = step w (Event.Turn node) (Gave None) in
+      occurs_move s before course (takes_turn lane node) rest (Happens lane (Event.Turn node) (Gave None)) false (HasTurned lane node rest course.cluster) comes are refl
+      (alone_fresh course.cluster (Happens lane (Event.Turn node) (Gave None)))
+      (added_after course.cluster (Happens lane (Event.Turn node) (Gave None)) tt comes.sane.added)
       (λ next at fresh. record {
         left = at.tasks_are;
-        changes =
-            subst (ChangesLane lane (world_stepped w answer) course.cluster) (sym at.cluster_is)
+        changes = subst (ChangesLane lane (world_stepped w answer) course.cluster) (sym at.cluster_is)
             (stepped_changes course.cluster lane (omega (arith, inside, eight s course comes.sane)) answer);
-        fresh = fresh_event w (events.Turn node) (Gave None) refl fresh;
+        fresh = fresh_event w (Event.Turn node) (Gave None) refl fresh;
         sessions = ap (λ (cluster : Cluster). cluster.sessions) at.cluster_is ∙ stepped_sessions course.cluster lane answer;
       })
 
@@ -119,30 +104,29 @@ module _ (s : Setting) (lane : ℕ) (inside : lane < LANES) where
 
     -- masters take their turns
     pub masters_walk : (masters : List ℕ) (rest : List Task) (before : Cluster) (course : Course) → Comes s before course
-        → IsWalked (map (λ master. takes_turn lane (nodes.Master master)) masters ++ rest) course → Goes s before course (IsWalked rest)
+        → IsWalked (map (λ master. takes_turn lane (Node.Master master)) masters ++ rest) course → Goes s before course (IsWalked rest)
     masters_walk [] rest before course comes walked = goes_here s before course (IsWalked rest) comes walked
     masters_walk (master ∷ masters) rest before course comes walked =
-        let behind : List Task = map (λ number. takes_turn lane (nodes.Master number)) masters ++ rest in
+        let behind : List Task = map (λ number. takes_turn lane (Node.Master number)) masters ++ rest in
         goes_then s before course (IsWalked behind) (IsWalked rest) comes
-        (turn_walk (nodes.Master master) behind course.cluster course (record { sane = comes.sane; follows = follows_itself course.cluster }) walked)
+        (turn_walk (Node.Master master) behind course.cluster course (record { sane = comes.sane; follows = follows_itself course.cluster }) walked)
         (λ later comes_later follows on. masters_walk masters rest before later comes_later on)
 
     -- the clients that are left, the coordinator and the masters take their turns
     pub turns_walk : (clients masters : List ℕ) (rest : List Task) (before : Cluster) (course : Course) → Comes s before course
         → IsWalked (turns_of lane clients masters ++ rest) course → Goes s before course (IsWalked rest)
     turns_walk clients masters rest before course comes walked =
-        let last : List Task = map (λ number. takes_turn lane (nodes.Master number)) masters ++ rest in
-        let behind : List Task = takes_turn lane nodes.Coordinator ∷ last in
+        let last : List Task = map (λ number. takes_turn lane (Node.Master number)) masters ++ rest in
+        let behind : List Task = takes_turn lane Node.Coordinator ∷ last in
         goes_then s before course (IsWalked behind) (IsWalked rest) comes
         (asks_walk clients behind course.cluster course (record { sane = comes.sane; follows = follows_itself course.cluster })
         (record {
-          left =
-              walked.left
-              ∙ append_assoc (map (asks lane) clients) (takes_turn lane nodes.Coordinator ∷ map (λ number. takes_turn lane (nodes.Master number)) masters) rest;
+          left = walked.left
+              ∙ append_assoc (map (asks lane) clients) (takes_turn lane Node.Coordinator ∷ map (λ number. takes_turn lane (Node.Master number)) masters) rest;
           beside = walked.beside;
           risen = walked.risen;
         }))
         (λ later comes_later follows on.
         goes_then s before later (IsWalked last) (IsWalked rest) comes_later
-        (turn_walk nodes.Coordinator last later.cluster later (record { sane = comes_later.sane; follows = follows_itself later.cluster }) on)
+        (turn_walk Node.Coordinator last later.cluster later (record { sane = comes_later.sane; follows = follows_itself later.cluster }) on)
         (λ end comes_end follows_end done. masters_walk masters rest before end comes_end done))

@@ -1,31 +1,21 @@
 -- What is known of a lane that is not worn.
 use Rattle.std.proofs.Common.{◌≡◌, ◌<◌, ◌≤◌, ℕ, Bool, true, false, cond, nat_le, not, Option, None, Some, refl, sym, ap, ◌∙◌, arith}
-use Rattle.std.specs.Option.{option_map, option_or}
-use Rattle.std.proofs.lemmas.Bool.{leb-false}
-use Rattle.std.proofs.lemmas.Option.{none-some}
-use Rattle.rk_world.specs.declared.error.StepError.{StepError}
-use Rattle.rk_world.specs.declared.error.StepError.TheVariants as errors
-use Rattle.rk_world.specs.declared.event.Event.{Event}
-use Rattle.rk_world.specs.Backup.{Called}
-use Rattle.rk_world.specs.Calls.{ask, ask_by}
-use Rattle.rk_world.specs.Client.{Session}
-use Rattle.rk_world.specs.Formed.{IsWellFormed}
-use Rattle.rk_world.specs.Ledger.{is_added}
-use Rattle.rk_world.specs.Refusals.{WORN_BYTES, WORN_NUMBER, ask_refusal, fault_of, refusal, too_great, where_true, worn, worn_session}
-use Rattle.rk_world.specs.Step.{step, stepped_by}
-use Rattle.rk_world.specs.World.{World, bytes_of_logs}
-use Rattle.rk_cluster.specs.Acted.{worn_in}
+use Rattle.std.proofs.Common.{option_map, leb-false}
+use Rattle.rk_scripts.proofs.Words.{option_or, none-some, StepError, Event, Called, ask, ask_by, Session, IsWellFormed, is_added}
+use Rattle.rk_scripts.proofs.Words.{WORN_NUMBER, ask_refusal, refusal, where_true, worn, step, stepped_by, World, worn_in}
+use Rattle.rk_world.specs.Refusals.{WORN_BYTES, fault_of, too_great, worn_session}
+use Rattle.rk_world.specs.World.{bytes_of_logs}
 use Rattle.rk_inv_wellformed.proofs.room.Rises.{keeps_to_top}
 
 -- an event that finds its lane not worn, where it may not come anyway
-pub fresh_event : (w : World) (event : Event) (called : Called) → refusal w event ≡ option_or (option_map errors.Worn (worn w)) (fault_of w event)
+pub fresh_event : (w : World) (event : Event) (called : Called) → refusal w event ≡ option_or (option_map StepError.Worn (worn w)) (fault_of w event)
     → worn_in (step w event called) ≡ None → worn w ≡ None
 fresh_event w event called is none = go (worn w) refl
   where
     go : (number : Option ℕ) → worn w ≡ number → worn w ≡ None
     go None same = same
     go (Some number) same =
-        let refused : refusal w event ≡ Some (errors.Worn number) = is ∙ ap (λ (o : Option ℕ). option_or (option_map errors.Worn o) (fault_of w event)) same in
+        let refused : refusal w event ≡ Some (StepError.Worn number) = is ∙ ap (λ (o : Option ℕ). option_or (option_map StepError.Worn o) (fault_of w event)) same in
         absurd (none-some number (sym none ∙ ap (λ (o : Option StepError). worn_in (stepped_by w event called o)) refused))
 
 -- so does a client's turn
@@ -35,9 +25,9 @@ fresh_turn w session none = go (worn w) refl
     go : (number : Option ℕ) → worn w ≡ number → worn w ≡ None
     go None same = same
     go (Some number) same =
-        let refused : ask_refusal w session ≡ Some (errors.Worn number) =
-        ap (λ (o : Option ℕ). option_or (option_map errors.Worn (option_or o (worn_session session session.outstanding)))
-        (where_true (not (is_added w.ledger session.client)) (errors.Stranger session.client))) same in
+        let refused : ask_refusal w session ≡ Some (StepError.Worn number) =
+        ap (λ (o : Option ℕ). option_or (option_map StepError.Worn (option_or o (worn_session session session.outstanding)))
+        (where_true (not (is_added w.ledger session.client)) (StepError.Stranger session.client))) same in
         absurd (none-some number (sym none ∙ ap (λ (o : Option StepError). worn_in (ask_by w session o)) refused))
 
 -- a number that is not too great

@@ -1,6 +1,10 @@
-use Rattle.std.proofs.Common.{refl, sym, subst, ◌∙◌}
+use Rattle.std.proofs.Common.{List, [], refl, sym, subst, ◌∙◌}
+use Rattle.rk_lane.specs.LaneState.{LaneState}
+use Rattle.rk_cluster.specs.Faults.{LanesGoOn, counts_in}
 use Rattle.rk_cluster.specs.State.{ClusterState, IsOf}
 use Rattle.rk_cluster.specs.Steps.{state_of}
+use Rattle.rk_settle.specs.Course.{MOST_FAULTS}
+use Rattle.rk_settle.specs.Faults.{RoseInRounds}
 use Rattle.rk_conclude.specs.Results.{by_client}
 use Rattle.rk_types.specs.declared.status.Status.TheVariants as statuses
 use Rattle.rk_conclude.proofs.Causes.{idle_cause}
@@ -43,3 +47,25 @@ returns-in_default-clause-count g c = λ apart. absurd (apart refl)
 
 pub returns-clause-count : goal.returns-clause-count
 returns-clause-count g c = λ _. c.give_back.ensures.count
+
+-- no replica came back yet
+pub returns-in_default-clause-counts : goal.returns-in_default-clause-counts
+returns-in_default-clause-counts g c = λ there. absurd (there c.requires.room.room_is.nothing)
+
+pub returns-clause-counts : goal.returns-clause-counts
+returns-clause-counts g c = λ _. record {
+  rested = c.end-cluster.result.cluster.lanes;
+  counts =
+      subst (λ (lanes : List (LaneState g.row.R.Denot)). LanesGoOn g.R.Replica.faults [] lanes c.end-cluster.result.cluster.lanes) c.from_parts-cluster.ensures.lanes
+      c.end-cluster.ensures.counts;
+  back = c.give_back.ensures;
+}
+
+pub returns-clause-replica_cause : goal.returns-clause-replica_cause
+returns-clause-replica_cause g c = λ fault. record {
+  rested = c.end-cluster.result.cluster.lanes;
+  counts =
+      subst (λ (lanes : List (LaneState g.row.R.Denot)). RoseInRounds MOST_FAULTS (counts_in g.R.Replica.faults lanes) (counts_in g.R.Replica.faults c.end-cluster.result.cluster.lanes))
+      c.from_parts-cluster.ensures.lanes (c.end-cluster.ensures.replica_cause fault);
+  back = c.give_back.ensures;
+}

@@ -1,5 +1,6 @@
-use Rattle.std.proofs.Common.{◌≡◌, ℕ, List, Option, sym, ap, subst, ◌∙◌}
+use Rattle.std.proofs.Common.{◌≡◌, ℕ, List, [], Option, sym, ap, subst, ◌∙◌}
 use Rattle.rk_types.specs.declared.status.Status.{Status}
+use Rattle.rk_cluster.specs.Faults.{CountsGoOn}
 use Rattle.rk_cluster.specs.Masters.{backups_of}
 use Rattle.rk_cluster.specs.State.{ClusterState}
 use Rattle.rk_conclude.specs.Concluded.{EndsSo}
@@ -27,3 +28,13 @@ returns-clause-ends g c = λ start is.
 
 pub returns-clause-cause : goal.returns-clause-cause
 returns-clause-cause g c = idle_cause c.stop_status.result (g.K.Sink.faults c.args.sink.now) c.stop_status.ensures.other
+
+pub returns-in-Ok-clause-counts : goal.returns-in-Ok-clause-counts
+returns-in-Ok-clause-counts g c =
+    subst (λ (state : ClusterState g.row.R.Denot). CountsGoOn g.R.Replica.faults [] c.args.cluster state) (sym c.close.ensures.same) c.settle.ensures.counts
+
+pub returns-in-Ok-clause-replica_cause : goal.returns-in-Ok-clause-replica_cause
+returns-in-Ok-clause-replica_cause g c = λ fault. absurd (c.close.ensures.other fault)
+
+pub returns-clause-replica_cause : goal.returns-clause-replica_cause
+returns-clause-replica_cause g c = λ fault. c.in-Err.ensures.cause (c.stop_status.ensures.replicas fault)

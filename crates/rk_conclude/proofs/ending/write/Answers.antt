@@ -2,7 +2,7 @@ use Rattle.std.proofs.Common.{refl, List, ℕ, subst}
 use Rattle.std.specs.Io.KnownBytes.{Appends}
 use Rattle.rk_outside.specs.Parts.{AppendsPart}
 use Rattle.rk_types.specs.declared.status.Status.TheVariants as statuses
-use Rattle.rk_conclude.proofs.Causes.{audited_cause, audited_may, failed_cause, idle_cause}
+use Rattle.rk_conclude.proofs.Causes.{audited_cause, audited_may, audited_other, failed_cause, idle_cause}
 use Rattle.rk_conclude.proofs.Reported.{part_written, whole_written}
 use Rattle.rk_conclude.proofs.ending.write.Goals as goal
 
@@ -39,3 +39,6 @@ returns-in-Ok-put_all-clause-cause g c =
 pub returns-clause-cause : goal.returns-clause-cause
 returns-clause-cause g c =
     failed_cause (g.K.Sink.faults c.args.sink.now) (g.K.Sink.faults c.put_all.new.sink) c.put_all.ensures.cause.later c.in-Err.ensures.cause.failed
+
+pub returns-in-Ok-put_all-clause-other : goal.returns-in-Ok-put_all-clause-other
+returns-in-Ok-put_all-clause-other g c = audited_other c.in-Ok.report.status c.in-Ok.ensures.audited

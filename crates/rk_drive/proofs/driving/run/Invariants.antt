@@ -1,4 +1,5 @@
 use Rattle.std.specs.List.{range_with_len}
+use Rattle.rk_cluster.specs.Faults.{counts_in}
 use Rattle.rk_shared_lanes.specs.Together.{AllSoundOrSpent}
 use Rattle.rk_drive.specs.Driven.{IsOfWorkload}
 use Rattle.rk_drive.specs.declared.start.TheConstants.{BACKUPS, MASTERS}
@@ -25,5 +26,6 @@ ghosts-run_with-N-Roster g a = record {
   backups = BACKUPS;
   clients = range_with_len 1 a.plan.now.clients;
   makes = IsOfWorkload a.plan.now.keys;
+  counts = counts_in g.R.Replica.faults a.lanes.items;
   tells = AllSoundOrSpent g.R.Replica.segments a.lanes.items;
 }

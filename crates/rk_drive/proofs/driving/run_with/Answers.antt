@@ -16,8 +16,8 @@ gather-gathered-requires-clause-clients g c =
     clients_back c.in_ok-shared.passes.items c.run_all-passes.result.items c.args.sessions.items c.in_ok-shared.ensures.sessions c.run_all-passes.ensures.clients
     ∙ c.requires.clients
 
-pub returns-then-has_come_through : goal.returns-then-has_come_through
-returns-then-has_come_through g c =
+pub returns-then-has_come_through-clause-driven : goal.returns-then-has_come_through-clause-driven
+returns-then-has_come_through-clause-driven g c =
     let all = c.gather-gathered.ensures in
     let lanes = c.gather-gathered.result.lanes.items in
     let sessions = c.gather-gathered.result.sessions.items in

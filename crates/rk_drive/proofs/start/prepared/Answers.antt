@@ -1,5 +1,6 @@
-use Rattle.std.proofs.Common.{[]}
+use Rattle.std.proofs.Common.{[], ◌∷◌}
 use Rattle.std.specs.List.{range_with_len}
+use Rattle.rk_cluster.proofs.Faults.{lanes_then}
 use Rattle.rk_shared_lanes.proofs.Turned.{same_then}
 use Rattle.rk_drive.specs.declared.start.TheConstants.{BACKUPS, MASTERS}
 use Rattle.rk_drive.proofs.Beginnings.{fresh_is, of_roster, same_roster, still_unasked}
@@ -21,3 +22,8 @@ returns-clause-roster g c =
 
 pub returns-clause-unasked : goal.returns-clause-unasked
 returns-clause-unasked g c = still_unasked c.add_clients.new.lane c.take-2.new.lane c.in_ok-take-2.ensures.ledger c.in_ok-add_clients.ensures.unasked
+
+pub returns-clause-counts : goal.returns-clause-counts
+returns-clause-counts g c =
+    let first = lanes_then g.R.Replica.faults (c.args.lane ∷ []) (c.take.new.lane ∷ []) (c.add_clients.new.lane ∷ []) c.take.ensures.counts c.in_ok-add_clients.ensures.counts in
+    lanes_then g.R.Replica.faults (c.args.lane ∷ []) (c.add_clients.new.lane ∷ []) (c.take-2.new.lane ∷ []) first c.take-2.ensures.counts

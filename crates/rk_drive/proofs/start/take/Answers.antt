@@ -1,4 +1,4 @@
-use Rattle.rk_shared_lanes.proofs.Stepping.{sound_stepped}
+use Rattle.rk_shared_lanes.proofs.Stepping.{none_falls, sound_stepped}
 use Rattle.std.proofs.Common.{refl}
 use Rattle.rk_drive.proofs.Beginnings.{took, took_clients}
 use Rattle.rk_drive.proofs.start.take.Goals as goal
@@ -22,3 +22,13 @@ pub returns-in_default-clause-sound : goal.returns-in_default-clause-sound
 returns-in_default-clause-sound g c =
     sound_stepped g.R.Replica.segments g.R.Replica.faults c.args.lane.now c.step.new.self c.args.event c.step.ensures.lane c.args.lane.now.running refl c.step.result
     c.step.ensures.ok c.step.ensures.refused c.step.ensures.spent
+
+pub returns-clause-counts : goal.returns-clause-counts
+returns-clause-counts g c =
+    none_falls g.R.Replica.segments g.R.Replica.faults c.args.lane.now c.step.new.self c.args.event c.step.ensures.lane c.step.result c.step.ensures.ok
+    c.step.ensures.refused c.step.ensures.spent
+
+pub returns-in_default-clause-counts : goal.returns-in_default-clause-counts
+returns-in_default-clause-counts g c =
+    none_falls g.R.Replica.segments g.R.Replica.faults c.args.lane.now c.step.new.self c.args.event c.step.ensures.lane c.step.result c.step.ensures.ok
+    c.step.ensures.refused c.step.ensures.spent

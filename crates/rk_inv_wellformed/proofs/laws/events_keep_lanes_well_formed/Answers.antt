@@ -1,7 +1,7 @@
-use Rattle.rk_inv_wellformed.proofs.bytes.ByteEvents.{bytes_event, bytes_rise}
-use Rattle.rk_inv_wellformed.proofs.room.RoomEvents.{room_event}
-use Rattle.rk_inv_wellformed.proofs.lanes.Whole.{formed_event}
 use Rattle.rk_inv_wellformed.proofs.laws.events_keep_lanes_well_formed.Goals as goal
+use Rattle.rk_inv_wellformed.proofs.bytes.ByteEvents.{bytes_event, bytes_rise}
+use Rattle.rk_inv_wellformed.proofs.lanes.Whole.{formed_event}
+use Rattle.rk_inv_wellformed.proofs.room.RoomEvents.{room_event}
 
 pub returns : goal.returns
 returns c = record {

@@ -1,6 +1,6 @@
+use Rattle.rk_inv_wellformed.proofs.laws.sessions_may_go_on.Goals as goal
 use Rattle.rk_inv_wellformed.proofs.lanes.Asks.{formed_accept, formed_ask}
 use Rattle.rk_inv_wellformed.proofs.lanes.New.{may_act_calling, new_may_act}
-use Rattle.rk_inv_wellformed.proofs.laws.sessions_may_go_on.Goals as goal
 
 pub returns-clause-new : goal.returns-clause-new
 returns-clause-new c = new_may_act

@@ -1,5 +1,5 @@
-use Rattle.std.specs.Prelude.{map}
-use Rattle.rk_world.specs.World.{new_world}
+use Rattle.std.proofs.Common.{map}
+use Rattle.rk_inv_base.proofs.Words.{new_world}
 use Rattle.rk_laws_gathered.proofs.Answered.{all_answered}
 use Rattle.rk_laws_gathered.proofs.History.{apart, history, just_the_answers}
 use Rattle.rk_laws_gathered.proofs.Stored.{stored}

@@ -1,5 +1,5 @@
 use Rattle.std.proofs.Common.{ℕ, sym, subst}
-use Rattle.rk_world.specs.Premises.{MayAct}
+use Rattle.rk_inv_base.proofs.Words.{MayAct}
 use Rattle.rk_laws_gathered.proofs.Counting.{accept_counted, ask_counted, event_counted}
 use Rattle.rk_laws_gathered.proofs.OpenCalls.{new_counted}
 use Rattle.rk_laws_gathered.proofs.laws.lanes_count_their_calls.Goals as goal

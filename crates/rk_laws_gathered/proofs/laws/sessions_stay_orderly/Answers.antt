@@ -1,5 +1,5 @@
 use Rattle.std.proofs.Common.{ℕ, sym, subst}
-use Rattle.rk_world.specs.Premises.{MayAct}
+use Rattle.rk_inv_base.proofs.Words.{MayAct}
 use Rattle.rk_laws_gathered.proofs.Orderly.{accepting_orderly, asking_orderly, calling_orderly, new_orderly}
 use Rattle.rk_laws_gathered.proofs.laws.sessions_stay_orderly.Goals as goal
 

@@ -4,11 +4,11 @@ use Rattle.std.specs.Prelude.{Ok}
 use Rattle.std.proofs.KnownBytes.{Keeps-refl}
 use Rattle.rk_script.specs.declared.command.Numbered.{Numbered}
 use Rattle.rk_play.specs.Concluded.{PlaysBy, part_in}
-use Rattle.rk_play.specs.Played.{cluster_by, part_of, refused_at, unset}
+use Rattle.rk_play.specs.Played.{cluster_by, part_of, refused_at}
 use Rattle.rk_cluster.proofs.Faults.{go_on_same}
 use Rattle.rk_play.specs.Runs.{replica_counts}
 use Rattle.rk_play.specs.Settings.{IsOpened, IsRefusedEarly, setting_of}
-use Rattle.rk_play.proofs.Concluding.{concluded_comes}
+use Rattle.rk_play.proofs.Concluding.{refused_comes}
 use Rattle.rk_play.proofs.Failing.{refused_fault}
 use Rattle.rk_play.proofs.Openings.{opened_plays}
 use Rattle.rk_play.proofs.Telling.{refused_plays, wanting_plays}
@@ -26,9 +26,7 @@ returns-in-Err-clause-plays g c = λ empty.
 
 pub returns-in-Err-clause-status : goal.returns-in-Err-clause-status
 returns-in-Err-clause-status g c =
-    let cluster = cluster_by unset in
-    concluded_comes (refused_at c.in-Err.line c.number.result cluster) [] c.refuse.result (g.K.Sink.written c.args.sink.now) (g.K.Sink.written c.refuse.new.sink)
-    (c.refuse.ensures.concludes cluster) tt
+    refused_comes c.in-Err.line c.number.result c.refuse.result (g.K.Sink.written c.args.sink.now) (g.K.Sink.written c.refuse.new.sink) c.refuse.ensures.concludes
 
 pub returns-in-Err-clause-replica_cause : goal.returns-in-Err-clause-replica_cause
 returns-in-Err-clause-replica_cause g c = λ fault.

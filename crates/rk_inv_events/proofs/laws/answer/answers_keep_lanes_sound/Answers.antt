@@ -1,5 +1,5 @@
-use Rattle.rk_inv_events.proofs.answer.Answered.{sound_answered, sound_got, sound_told}
 use Rattle.rk_inv_events.proofs.laws.answer.answers_keep_lanes_sound.Goals as goal
+use Rattle.rk_inv_events.proofs.write.Taken.{sound_answered, sound_got, sound_told}
 
 pub returns : goal.returns
 returns c = record {

@@ -1,6 +1,5 @@
-use Rattle.rk_inv_events.proofs.events.Coordinating.{sound_noticed, sound_tablet_added, sound_tablet_migrated}
+use Rattle.rk_inv_events.proofs.events.Coordinating.{sound_event_split, sound_noticed, sound_tablet_added, sound_tablet_migrated}
 use Rattle.rk_inv_events.proofs.events.Crashing.{sound_crash}
-use Rattle.rk_inv_events.proofs.events.Splitting.{sound_event_split}
 use Rattle.rk_inv_events.proofs.laws.events.administration_keeps_lanes_sound.Goals as goal
 
 pub returns : goal.returns

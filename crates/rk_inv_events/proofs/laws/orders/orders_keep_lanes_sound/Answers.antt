@@ -1,10 +1,8 @@
-use Rattle.rk_inv_events.proofs.orders.Closing.{sound_close}
+use Rattle.rk_inv_events.proofs.laws.orders.orders_keep_lanes_sound.Goals as goal
 use Rattle.rk_inv_events.proofs.orders.Granting.{sound_grant}
-use Rattle.rk_inv_events.proofs.orders.Owning.{sound_own}
+use Rattle.rk_inv_events.proofs.orders.Owning.{sound_close, sound_own, sound_release}
 use Rattle.rk_inv_events.proofs.orders.Preparing.{sound_prepare}
 use Rattle.rk_inv_events.proofs.orders.Rebuilding.{sound_rebuild}
-use Rattle.rk_inv_events.proofs.orders.Releasing.{sound_release}
-use Rattle.rk_inv_events.proofs.laws.orders.orders_keep_lanes_sound.Goals as goal
 
 pub returns : goal.returns
 returns c = record {

@@ -1,7 +1,7 @@
-use Rattle.rk_inv_events.proofs.pulls.Answered.{sound_got}
-use Rattle.rk_inv_events.proofs.pulls.Asked.{sound_pull, sound_want}
-use Rattle.rk_inv_events.proofs.pulls.Batches.{sound_pulled}
 use Rattle.rk_inv_events.proofs.laws.pulls.pulls_keep_lanes_sound.Goals as goal
+use Rattle.rk_inv_events.proofs.pulls.Answered.{sound_got}
+use Rattle.rk_inv_events.proofs.pulls.Batches.{sound_pulled}
+use Rattle.rk_inv_events.proofs.pulls.Sources.{sound_pull, sound_want}
 
 pub returns : goal.returns
 returns c = record {

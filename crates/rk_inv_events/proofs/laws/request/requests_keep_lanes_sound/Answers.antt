@@ -1,7 +1,6 @@
-use Rattle.rk_inv_base.proofs.Words.{Redirects, Ignores, Wants}
-use Rattle.rk_inv_events.proofs.request.Choosing.{sound_chosen}
-use Rattle.rk_inv_events.proofs.request.Answering.{sound_ignored, sound_put_off, sound_redirected}
+use Rattle.rk_inv_base.proofs.Words.{Ignores, Redirects, Wants}
 use Rattle.rk_inv_events.proofs.laws.request.requests_keep_lanes_sound.Goals as goal
+use Rattle.rk_inv_events.proofs.request.Answering.{sound_chosen, sound_ignored, sound_put_off, sound_redirected}
 
 pub returns : goal.returns
 returns c = record {

@@ -1,6 +1,5 @@
-use Rattle.rk_inv_events.proofs.stored.StoredDelivered.{sound_delivered}
-use Rattle.rk_inv_events.proofs.stored.StoredTaken.{sound_stored}
 use Rattle.rk_inv_events.proofs.laws.stored.stored_keeps_lanes_sound.Goals as goal
+use Rattle.rk_inv_events.proofs.stored.StoredTaken.{sound_delivered, sound_stored}
 
 pub returns : goal.returns
 returns c = record {

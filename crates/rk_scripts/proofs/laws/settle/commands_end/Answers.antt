@@ -1,7 +1,7 @@
+use Rattle.rk_scripts.proofs.laws.settle.commands_end.Goals as goal
 use Rattle.rk_scripts.proofs.settle.Advanced.{advance_ends}
 use Rattle.rk_scripts.proofs.settle.Hastening.{priority_ends}
 use Rattle.rk_scripts.proofs.settle.Serving.{serve_ends}
-use Rattle.rk_scripts.proofs.laws.settle.commands_end.Goals as goal
 
 pub returns-clause-priority : goal.returns-clause-priority
 returns-clause-priority c = priority_ends

@@ -1,5 +1,5 @@
-use Rattle.rk_scripts.proofs.settle.Scripts.{scripts_added, scripts_end_commands, scripts_settle}
 use Rattle.rk_scripts.proofs.laws.settle.scripts_settle.Goals as goal
+use Rattle.rk_scripts.proofs.settle.Scripts.{scripts_added, scripts_end_commands, scripts_settle}
 
 pub returns-clause-added : goal.returns-clause-added
 returns-clause-added c = scripts_added

@@ -1,6 +1,6 @@
+use Rattle.rk_scripts.proofs.laws.settle.settle_rests.Goals as goal
 use Rattle.rk_scripts.proofs.settle.Scripts.{scripts_rest}
 use Rattle.rk_scripts.proofs.settle.Settled.{settle_rests}
-use Rattle.rk_scripts.proofs.laws.settle.settle_rests.Goals as goal
 
 pub returns-clause-runs : goal.returns-clause-runs
 returns-clause-runs c = settle_rests

@@ -1,8 +1,12 @@
 use Rattle.std.proofs.Common.{subst}
 use Rattle.rk_lane.specs.LaneState.{LaneState}
 use Rattle.rk_laws_gathered.specs.OpenCalls.{HasCountedCalls}
+use Rattle.rk_shared_lanes.specs.Kept.{IsNoneBelow}
 use Rattle.rk_shared_lanes.proofs.gathering.Taken.take.Goals as goal
 
 pub returns-clause-counted : goal.returns-clause-counted
 returns-clause-counted g c =
     λ told. subst (λ (lane : LaneState g.row.R.Denot). HasCountedCalls lane.ledger) c.kept.view_is (c.kept.invariant.1.counted told)
+
+pub returns-clause-counts : goal.returns-clause-counts
+returns-clause-counts g c = subst (IsNoneBelow g.R.Replica.faults g.N.Roster.counts) c.kept.view_is c.kept.invariant.1.none_below

@@ -3,7 +3,7 @@ use Rattle.std.proofs.lemmas.Result.{err_from_is_err_and}
 use Rattle.rk_lane.specs.LaneState.{Running, world_with}
 use Rattle.rk_attempts.specs.Turns.{next_message}
 use Rattle.rk_attempts.proofs.Works.{all_handed_out, none_handed_out, one_handed_out}
-use Rattle.rk_shared_lanes.proofs.Turned.{handing_stopped, never_stops, running_there, same_lane, same_then}
+use Rattle.rk_shared_lanes.proofs.Turned.{handing_stopped, running_there, same_lane, same_then}
 use Rattle.rk_shared_lanes.proofs.kept.KeptLane.hand_out.Goals as goal
 
 pub messages-init : goal.messages-init
@@ -17,7 +17,7 @@ messages-init g c =
 
 pub messages-preserved : goal.messages-preserved
 messages-preserved g c =
-    let next = rw c.in-Some.is at c.in_ok-number.ensures.number in
+    let next = rw c.in-Some.is at c.next_message.ensures.number in
     record {
       out =
           one_handed_out g.R.Replica.segments c.args.self.now c.messages.self c.hand.new.self c.in-Some.number None c.messages.invariant.out next
@@ -26,18 +26,10 @@ messages-preserved g c =
       lane = same_then c.args.self.now c.messages.self c.hand.new.self c.messages.invariant.lane c.hand.ensures.lane;
     }
 
-pub returns-in_err-number-clause-came : goal.returns-in_err-number-clause-came
-returns-in_err-number-clause-came g c =
-    let lost = err_from_is_err_and c.from_residual.result c.from_residual.ensures.1 in
-    rw (lost.1, lost.2) (λ worn stops. absurd (never_stops c.in_err-number.field-0.0 worn c.in_err-number.ensures.err stops))
-
-pub returns-in_err-number-clause-lane : goal.returns-in_err-number-clause-lane
-returns-in_err-number-clause-lane g c = c.messages.invariant.lane
-
 pub returns-in_err-hand-clause-came : goal.returns-in_err-hand-clause-came
 returns-in_err-hand-clause-came g c =
-    let lost = err_from_is_err_and c.from_residual-in_err-hand.result c.from_residual-in_err-hand.ensures.1 in
-    let next = rw c.in-Some.is at c.in_ok-number.ensures.number in
+    let lost = err_from_is_err_and c.from_residual.result c.from_residual.ensures.1 in
+    let next = rw c.in-Some.is at c.next_message.ensures.number in
     rw (lost.1, lost.2)
     (handing_stopped g.R.Replica.segments c.args.self.now c.messages.self c.hand.new.self c.in-Some.number c.in_err-hand.field-0.0 c.messages.invariant.out next
     c.in_err-hand.ensures.came)

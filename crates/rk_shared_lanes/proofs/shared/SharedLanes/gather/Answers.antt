@@ -1,8 +1,9 @@
 use Rattle.std.proofs.lemmas.List.Sorted.{All-permutation}
 use Rattle.rk_lane.specs.LaneState.{LaneState}
 use Rattle.rk_laws_gathered.specs.OpenCalls.{HasCountedCalls}
-use Rattle.rk_shared_lanes.specs.Kept.{IsSoundOrSpent}
+use Rattle.rk_shared_lanes.specs.Kept.{IsNoneBelow, IsSoundOrSpent}
 use Rattle.rk_shared_lanes.specs.Together.{IsOfRoster}
+use Rattle.rk_shared_lanes.proofs.Below.{all_above}
 use Rattle.rk_shared_lanes.proofs.shared.SharedLanes.gather.Goals as goal
 
 pub returns-clause-counted : goal.returns-clause-counted
@@ -13,6 +14,11 @@ returns-clause-counted g c =
 pub returns-clause-roster : goal.returns-clause-roster
 returns-clause-roster g c =
     All-permutation (IsOfRoster g.N.Roster.masters g.N.Roster.backups g.N.Roster.clients) _ _ c.in_order.ensures.permutation c.take_all.ensures.roster
+
+pub returns-clause-counts : goal.returns-clause-counts
+returns-clause-counts g c =
+    all_above g.R.Replica.faults g.N.Roster.counts c.in_order.result.items c.in_order.ensures.numbers c.args.self.further
+    (All-permutation (IsNoneBelow g.R.Replica.faults g.N.Roster.counts) _ _ c.in_order.ensures.permutation c.take_all.ensures.counts)
 
 pub returns-clause-sound : goal.returns-clause-sound
 returns-clause-sound g c =

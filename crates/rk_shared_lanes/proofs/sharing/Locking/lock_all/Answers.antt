@@ -4,7 +4,7 @@ use Rattle.std.proofs.lemmas.List.Elements.{All-pop}
 use Rattle.std.proofs.lemmas.List.Sums.{sum_by_push}
 use Rattle.rk_types.specs.declared.hashing.TheConstants.{LANES}
 use Rattle.rk_lane.specs.LaneState.{LaneState}
-use Rattle.rk_shared_lanes.specs.Kept.{IsSoundOrSpent}
+use Rattle.rk_shared_lanes.specs.Kept.{IsNoneBelow, IsSoundOrSpent}
 use Rattle.rk_shared_lanes.specs.Together.{IsOfRoster, IsUnasked, powers_of}
 use Rattle.rk_shared_lanes.proofs.sharing.Locking.lock_all.Goals as goal
 
@@ -19,6 +19,10 @@ pub lock-requires-clause-roster : goal.lock-requires-clause-roster
 lock-requires-clause-roster g c =
     (All-pop (IsOfRoster g.N.Roster.masters g.N.Roster.backups g.N.Roster.clients) _ _ (Some c.in-Some.lane) c.in-Some.ensures.items c.loop-lane.invariant.roster).1
 
+pub lock-requires-clause-counts : goal.lock-requires-clause-counts
+lock-requires-clause-counts g c =
+    (All-pop (IsNoneBelow g.R.Replica.faults g.N.Roster.counts) _ _ (Some c.in-Some.lane) c.in-Some.ensures.items c.loop-lane.invariant.counts).1
+
 pub lock-requires-clause-sound : goal.lock-requires-clause-sound
 lock-requires-clause-sound g c =
     λ told. (All-pop (IsSoundOrSpent g.R.Replica.segments) _ _ (Some c.in-Some.lane) c.in-Some.ensures.items (c.loop-lane.invariant.sound told)).1
@@ -28,6 +32,7 @@ loop-lane-preserved g c = record {
   unasked = (All-pop IsUnasked _ _ _ c.pop.ensures.items c.loop-lane.invariant.unasked).0;
   few = (All-pop (λ (lane : LaneState g.row.R.Denot). lane.number < LANES) _ _ _ c.pop.ensures.items c.loop-lane.invariant.few).0;
   roster = (All-pop (IsOfRoster g.N.Roster.masters g.N.Roster.backups g.N.Roster.clients) _ _ _ c.pop.ensures.items c.loop-lane.invariant.roster).0;
+  counts = (All-pop (IsNoneBelow g.R.Replica.faults g.N.Roster.counts) _ _ _ c.pop.ensures.items c.loop-lane.invariant.counts).0;
   sound = λ told. (All-pop (IsSoundOrSpent g.R.Replica.segments) _ _ _ c.pop.ensures.items (c.loop-lane.invariant.sound told)).0;
   capacity = grind (arith, common_steps);
   count = grind (arith, common_steps);

@@ -1,6 +1,7 @@
 use Rattle.std.proofs.Common.{◌≡◌, ◌+◌, ◌<◌, ◌≤◌, vec_len, vec_capacity}
 use Rattle.std.specs.List.{All}
 use Rattle.rk_types.specs.declared.hashing.TheConstants.{LANES}
+use Rattle.rk_shared_lanes.specs.Kept.{IsNoneBelow}
 use Rattle.rk_shared_lanes.specs.Together.{AllSoundOrSpent, IsOfRoster, IsUnasked, powers_of}
 use Rattle.rk_shared_lanes.proofs.sharing.Locking.lock_all.Given as goal
 
@@ -9,6 +10,7 @@ invariant-loop-lane g l = record {
   unasked : All IsUnasked l.lanes.items;
   few : All (λ lane. lane.number < LANES) l.lanes.items;
   roster : All (IsOfRoster g.N.Roster.masters g.N.Roster.backups g.N.Roster.clients) l.lanes.items;
+  counts : All (IsNoneBelow g.R.Replica.faults g.N.Roster.counts) l.lanes.items;
   sound : g.N.Roster.tells → AllSoundOrSpent g.R.Replica.segments l.lanes.items;
   capacity : vec_capacity l.lanes ≡ vec_capacity l.fn.lanes;
   count : vec_len l.self.locks + vec_len l.lanes ≡ vec_len l.fn.lanes;

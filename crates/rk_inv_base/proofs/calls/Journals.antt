@@ -1,0 +1,156 @@
+-- The law of the journal: a view stays sound with another journal that leaves the same and loses no record.
+use Rattle.std.proofs.Common.{◌≡◌, ℕ, false, true, List, ◌++◌, Some, sym, subst, ap, ◌∙◌, ⊎_elim, inl, inr, All, slice_get}
+use Rattle.std.proofs.Common.{slice_index_or}
+use Rattle.rk_inv_base.proofs.Words.{All-weaker, IfSome_then, hash_of, Ended, Placed, Range, IsLegal, Map, map_after, IsRisingAbove}
+use Rattle.rk_inv_base.proofs.Words.{AreOneMutation, Entry, ends_of, is_covered, Row, Node, Body, base_map, told, has_record, AreHandedOver}
+use Rattle.rk_inv_base.proofs.Words.{IsKnown, IsStagedEnd, ReachAll, TellAll, AreAboveMap, handed_by, handed_for_grant, target_truth, Says}
+use Rattle.rk_inv_base.proofs.Words.{IsLastAsked, IsRest, IsStaged, call_ends, records_of, IsAfterSeen, View, truths, rests, SoundView}
+use Rattle.rk_inv_base.proofs.Words.{CallsOf, AskedOf}
+use Rattle.rk_entry.specs.declared.entry.Entry.TheVariants as entries
+use Rattle.rk_model.specs.History.{record_of}
+
+-- a journal may be replaced by one that is lawful, leaves the same map, and has a record of each mutation and each end that the first one
+-- had; no call gets a record that is staged
+pub record MayReplaceJournal (v : View) (after : List Placed) : Type 0 where
+  pub covered : All (λ placed. is_covered v.rows placed.call.table (hash_of placed.call.key) ≡ true) after
+  pub legal : IsLegal (base_map v.base) after
+  pub rising : IsRisingAbove 0 after
+  pub seen : All (λ placed. IsAfterSeen (v.asked placed.call.client) placed) after
+  pub leaves : ◌≡◌ {A = Map} (map_after (base_map v.base) after) (map_after (base_map v.base) v.journal)
+  pub known : (end : Ended) → IsKnown v.base v.journal end → IsKnown v.base after end
+  pub reach_all : (range : Range) (ends : List Ended) → ReachAll range v.journal ends → ReachAll range after ends
+  pub tell_all : (range : Range) (list : List Entry) → TellAll range v.journal list → TellAll range after list
+  pub once :
+      (i j : ℕ) (a b : Placed) → slice_get after i ≡ Some a → slice_get after j ≡ Some b → AreOneMutation a.call b.call → i ≡ j
+  pub legal_behind : (more : List Placed) → IsLegal (base_map v.base) (v.journal ++ more) → IsLegal (base_map v.base) (after ++ more)
+  pub leaves_behind :
+      (more : List Placed)
+      → ◌≡◌ {A = Map} (map_after (base_map v.base) (after ++ more)) (map_after (base_map v.base) (v.journal ++ more))
+  pub unrecorded : (client seq : ℕ) → has_record v.journal client seq ≡ false → has_record after client seq ≡ false
+  pub says : (to : Node) (body : Body) → Says v.journal to body → Says after to body
+  pub asked : AskedOf (record v { journal = after })
+
+module _ (v : View) (after : List Placed) (sound : SoundView v) (may : MayReplaceJournal v after) where
+  abbrev now : View
+  now = record v { journal = after }
+
+  handed_over : (range : Range) (list : List Ended) → AreHandedOver v.base range v.journal list → AreHandedOver v.base range after list
+  handed_over range list old = record {
+    reached = may.reach_all range list old.reached;
+    known = All-weaker (IsKnown v.base v.journal) (IsKnown v.base after) may.known list old.known;
+  }
+
+  calls : CallsOf now (truths v) (rests v)
+  calls = record {
+    once = may.once;
+    reached = λ k d within.
+        let row : Row = slice_index_or v.rows k d in may.tell_all row.range (truths v row) (sound.calls.reached k d within);
+    recorded = λ k d within.
+        let row : Row = slice_index_or v.rows k d in
+        All-weaker (IsKnown v.base v.journal) (IsKnown v.base after) may.known (told (truths v row)) (sound.calls.recorded k d within);
+    moving = λ k d within.
+        let row : Row = slice_index_or v.rows k d in
+        IfSome_then (target_truth v.written v.handed row row.phase) (sound.calls.moving k d within) (may.tell_all row.range);
+    answering = λ q k d within counts says.
+        let row : Row = slice_index_or v.rows k d in
+        may.reach_all row.range (ends_of (v.completions q row.tablet)) (sound.calls.answering q k d within counts says);
+    handed_on = λ k d within.
+        let row : Row = slice_index_or v.rows k d in
+        IfSome_then (handed_for_grant row v.handovers v.handed) (sound.calls.handed_on k d within) (λ h. handed_over row.range h.ends);
+    sent = λ n m found k d within.
+        let row : Row = slice_index_or v.rows k d in
+        IfSome_then (handed_by row v.handovers m.body) (sound.calls.sent n m found k d within) (λ h. handed_over row.range h.ends);
+    known = λ q r lives.
+        All-weaker _ _
+        (λ end. ⊎_elim (λ (k : IsKnown v.base v.journal end). inl (may.known end k))
+        (λ (s : IsStagedEnd v.rows (rests v) q r (v.handovers q r).term end). inr s))
+        (ends_of (v.completions q r)) (sound.calls.known q r lives);
+  }
+
+  -- what is staged has no record as before
+  still_last : (client seq table : ℕ) (key : List ℕ) → IsLastAsked v.asked v.journal client seq table key → IsLastAsked v.asked after client seq table key
+  still_last client seq table key last = record {
+    last = last.last;
+    asked_is = last.asked_is;
+    seq_is = last.seq_is;
+    table_is = last.table_is;
+    key_is = last.key_is;
+    mutation = last.mutation;
+    unrecorded = may.unrecorded client seq last.unrecorded;
+  }
+
+  still_staged : (entry : Entry) → IsStaged v.base v.asked v.journal entry → IsStaged v.base v.asked after entry
+  unfolding still_last
+  still_staged (entries.Held held) = λ staged. record {
+    last = still_last held.client held.seq held.table held.key staged.last;
+    leaves = staged.leaves;
+  }
+  still_staged (entries.Refused refused) = still_last refused.client refused.seq refused.table refused.key
+  still_staged (entries.Carried carried) = All-weaker (IsKnown v.base v.journal) (IsKnown v.base after) may.known carried.ends
+  still_staged (entries.Joined joined) = λ staged. staged
+
+  goes_on : (range : Range) (sure left : List Entry) → IsRest v.base range sure left v.journal v.asked → IsRest v.base range sure left after v.asked
+  goes_on range sure left old =
+      let more : List Placed = records_of v.asked (call_ends left) in
+      record {
+        legal = may.legal_behind more old.legal;
+        live = λ table key inside. old.live table key inside ∙ ap (λ (m : Map). record_of (m table key)) (sym (may.leaves_behind more));
+        staged = All-weaker (IsStaged v.base v.asked v.journal) (IsStaged v.base v.asked after) still_staged left old.staged;
+        one = old.one;
+      }
+
+  pub view_with_journal : SoundView now
+  view_with_journal = record {
+    nodes = sound.nodes;
+    rows = record {
+      apart = sound.rows.apart;
+      begun = sound.rows.begun;
+      formed = sound.rows.formed;
+      placed = sound.rows.placed;
+      covered = may.covered;
+    };
+    terms = sound.terms;
+    cover = sound.cover;
+    roles = sound.roles;
+    logs = sound.logs;
+    truth = record {
+      legal = may.legal;
+      rising = may.rising;
+      seen = may.seen;
+      true = λ k d within.
+          let tells = sound.truth.true k d within in record {
+            plain = tells.plain;
+            live = λ table key inside. tells.live table key inside ∙ ap (λ (m : Map). record_of (m table key)) (sym may.leaves);
+          };
+    };
+    order = sound.order;
+    calls = calls;
+    counters = record {
+      low = λ k d within.
+          let row : Row = slice_index_or v.rows k d in
+          subst (λ (m : Map). AreAboveMap row.range m (truths v row)) (sym may.leaves) (sound.counters.low k d within);
+      moving = λ k d within.
+          let row : Row = slice_index_or v.rows k d in
+          IfSome_then (target_truth v.written v.handed row row.phase) (sound.counters.moving k d within)
+          (λ list. subst (λ (m : Map). AreAboveMap row.range m list) (sym may.leaves));
+      counted = sound.counters.counted;
+      handed_on = sound.counters.handed_on;
+      sent = sound.counters.sent;
+    };
+    rest = record {
+      goes_on = λ k d within.
+          let row : Row = slice_index_or v.rows k d in
+          goes_on row.range (truths v row) (rests v row) (sound.rest.goes_on k d within);
+      done = sound.rest.done;
+      unnamed = sound.rest.unnamed;
+      idle = sound.rest.idle;
+      waiting = sound.rest.waiting;
+      are_last = sound.rest.are_last;
+      found = sound.rest.found;
+    };
+    records = sound.records;
+    receives = sound.receives;
+    rebuilds = sound.rebuilds;
+    messages = record { of_rows = sound.messages.of_rows; others = λ n m found. may.says m.to m.body (sound.messages.others n m found) };
+    asked = may.asked;
+  }

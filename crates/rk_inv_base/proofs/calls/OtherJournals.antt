@@ -1,0 +1,45 @@
+-- What is said of calls by a journal is said by another one that has an accepted record of each accepted call, and each record at its place.
+use Rattle.std.proofs.Common.{◌≡◌, ℕ, ◌<◌, List, Option, Some, None, ⊎_elim, inl, inr}
+use Rattle.rk_inv_base.proofs.Words.{Answer, Call, Outcome, Placed, Node, Reply, Request, Body, call_of, LastCall, IsAccepted, IsRequest}
+use Rattle.rk_inv_base.proofs.Words.{RequestFits, RequestSays, WasAsked, AnswerFits, IsRecordAt, Says}
+use Rattle.rk_types.specs.declared.call.Answer.TheVariants as answers
+use Rattle.rk_types.specs.declared.node.Node.TheVariants as nodes
+use Rattle.rk_message.specs.declared.message.Body.TheVariants as bodies
+use Rattle.rk_sound.specs.Messages.{ReplyFits}
+
+-- what Requests say, where each that fitted fits
+module _ (asked asked' : ℕ → Option LastCall) (journal after : List Placed) (fits : (client : ℕ) (request : Request) → RequestFits asked journal client request → RequestFits asked' after client request) where
+  pub request_says_by : (from : Node) (body : Body) → RequestSays asked journal from body → RequestSays asked' after from body
+  request_says_by (nodes.Client client) (bodies.Request request) says = fits client request says
+  request_says_by _ body says = says
+
+  pub is_request_by : (client : ℕ) (from : Node) (body : Body) → IsRequest asked journal client from body → IsRequest asked' after client from body
+  is_request_by client (nodes.Client sender) (bodies.Request request) says = (says.0, fits client request says.1)
+  is_request_by client _ body says = says
+
+module _ (journal after : List Placed) (accepted : (call : Call) → IsAccepted journal call → IsAccepted after call) where
+  pub asked_by_other : (last : Option LastCall) (call : Call) → WasAsked last journal call → WasAsked last after call
+  asked_by_other None call was = was
+  asked_by_other (Some last) call was =
+      ⊎_elim (λ (is : last.call ≡ call). inl is)
+      (λ (before : (call.seq < last.call.seq) × IsAccepted journal call). inr (before.0, accepted call before.1)) was
+
+  pub request_by_other : (asked : ℕ → Option LastCall) (client : ℕ) (request : Request) → RequestFits asked journal client request → RequestFits asked after client request
+  request_by_other asked client request fits = record {
+    was_asked = asked_by_other (asked client) (call_of client request) fits.was_asked;
+    seen = fits.seen;
+  }
+
+-- what Replies say
+module _ (journal after : List Placed) (told : (client : ℕ) (reply : Reply) (outcome : Outcome) → IsRecordAt journal client reply outcome → IsRecordAt after client reply outcome) where
+  answer_by : (client : ℕ) (reply : Reply) (answer : Answer) → AnswerFits journal client reply answer → AnswerFits after client reply answer
+  answer_by client reply (answers.Done outcome) fits = told client reply outcome fits
+  answer_by client reply answer fits = fits
+
+  reply_by : (to : Node) (reply : Reply) → ReplyFits journal to reply → ReplyFits after to reply
+  reply_by (nodes.Client client) reply fits = answer_by client reply reply.answer fits
+  reply_by node reply fits = fits
+
+  pub says_by : (to : Node) (body : Body) → Says journal to body → Says after to body
+  says_by to (bodies.Reply reply) says = reply_by to reply says
+  says_by to body says = says

@@ -1,0 +1,269 @@
+-- The law of rows: what the invariant says of a row, row by row, and what it says beside that. A view whose rows all have the one and
+-- which has the other is sound; so a change of one row is shown by what is to hold of that row.
+use Rattle.std.proofs.Common.{Bool, ◌&&◌, None, cond, eqb, refl, List, Contains, ◌≡◌, ◌≢◌, ℕ, ◌≤◌, true, false, ◌++◌, ◌⊎◌, Some, All}
+use Rattle.std.proofs.Common.{IfSome, drop, is_some, length, slice_get}
+use Rattle.rk_inv_base.proofs.Words.{Range, Owned, Handed, All-contains, Handover, Written, Call, has_key, last_of, may_have_staged}
+use Rattle.rk_inv_base.proofs.Words.{list_any, hash_of, EachIn, meets, map_after, IsLegal, IsRisingAbove, Placed, AreOneMutation, ends_of}
+use Rattle.rk_inv_base.proofs.Words.{lineage_of, IsTabletMap, is_covered, row_of, Row, Node, Body, base_map, items_of, told, is_member}
+use Rattle.rk_inv_base.proofs.Words.{touches, names, IsMaster, is_absent, is_idle, AreHandedOver, IsKnown, IsStagedEnd, ReachAll, TellAll}
+use Rattle.rk_inv_base.proofs.Words.{AreAboveMap, IsNext, handed_by, handed_for_grant, target_truth, SaysOf, Says, AreAbove, post_of}
+use Rattle.rk_inv_base.proofs.Words.{speaks, StillCounts, HasOwnRange, MarkFits, RowIsRebuilt, HandedFits, IsBare, MembersFit, NamedFit}
+use Rattle.rk_inv_base.proofs.Words.{wanted_place, FirstIsDone, IsLast, IsRest, EachHasCall, OnlyIsUnnamed, Waits, RoleFits, KeepTerm}
+use Rattle.rk_inv_base.proofs.Words.{IsFormed, IsPlaced, HasItems, has_all_items, IsInScanOrder, HandoverFits, SentFits, IsAfterSeen}
+use Rattle.rk_inv_base.proofs.Words.{IsTruth, View, truths, rests, SoundView, CoverOf, LogsOf, AskedOf}
+use Rattle.rk_message.specs.declared.message.Body.TheVariants as bodies
+use Rattle.rk_sound.specs.Nodes.{SomeLives}
+
+-- what a master has of a row's tablet counts
+abbrev pub CountsFor : View → Row → ℕ → Type 0
+CountsFor v row q = StillCounts (v.live q) (v.handovers q row.tablet).term row.term
+
+-- a master speaks for a row: it answers calls or will
+abbrev pub SpeaksFor : View → Row → ℕ → Type 0
+SpeaksFor v row q = speaks (post_of row.phase q) (v.handovers q row.tablet) row.term ≡ true
+
+-- a number is next behind all that counts for a row
+abbrev pub IsNextOf : View → Row → ℕ → Type 0
+IsNextOf v row = IsNext (truths v row ++ rests v row)
+
+-- what a message says of a row
+abbrev pub SaysIn : View → Row → Node → Node → Body → Type 0
+SaysIn v row = SaysOf row v.logs v.written v.stored v.handovers v.completions v.merged v.live v.handed
+
+-- what the invariant says of a row, in the order of its parts
+pub record SoundRow (v : View) (row : Row) : Type 0 where
+  pub named : (q : ℕ) → names row.phase q ≡ true → IsMaster v.masters q
+  pub begun : 1 ≤ row.term
+  pub formed : IsFormed row.phase
+  pub placed : All (IsPlaced v.written) (lineage_of row.phase)
+  pub sent : EachIn (λ n m. SentFits row m.body) v.wire
+  pub fitting : (q : ℕ) → CountsFor v row q → RoleFits row q (v.handovers q row.tablet) (v.written q).applied
+  pub ranged : (q : ℕ) → CountsFor v row q → is_member (lineage_of row.phase) q ≡ true → (v.handovers q row.tablet).range ≡ row.range
+  pub at_term : KeepTerm row.phase (λ q. (v.handovers q row.tablet).term) row.term
+  pub truth : IsTruth v.base row.range (truths v row) v.journal
+  pub above : AreAbove (items_of (truths v row)) (items_of (rests v row))
+  pub reached : TellAll row.range v.journal (truths v row)
+  pub recorded : All (IsKnown v.base v.journal) (told (truths v row))
+  pub moving : IfSome (target_truth v.written v.handed row row.phase) (TellAll row.range v.journal)
+  pub answering : (q : ℕ) → CountsFor v row q → SpeaksFor v row q → ReachAll row.range v.journal (ends_of (v.completions q row.tablet))
+  pub ends_granted : IfSome (handed_for_grant row v.handovers v.handed) (λ h. AreHandedOver v.base row.range v.journal h.ends)
+  pub ends_sent : EachIn (λ n m. IfSome (handed_by row v.handovers m.body) (λ h. AreHandedOver v.base row.range v.journal h.ends)) v.wire
+  pub low : AreAboveMap row.range (map_after (base_map v.base) v.journal) (truths v row)
+  pub low_moving :
+      IfSome (target_truth v.written v.handed row row.phase) (AreAboveMap row.range (map_after (base_map v.base) v.journal))
+  pub counted : (q : ℕ) → CountsFor v row q → SpeaksFor v row q → IsNextOf v row (v.handovers q row.tablet).counter
+  pub floor_granted : IfSome (handed_for_grant row v.handovers v.handed) (λ h. IsNextOf v row h.floor)
+  pub floor_sent : EachIn (λ n m. IfSome (handed_by row v.handovers m.body) (λ h. IsNextOf v row h.floor)) v.wire
+  pub goes_on : IsRest v.base row.range (truths v row) (rests v row) v.journal v.asked
+  pub done : FirstIsDone v.written row.range (lineage_of row.phase)
+  pub unnamed : OnlyIsUnnamed v.written row.range (lineage_of row.phase)
+  pub idle :
+      (q : ℕ) → CountsFor v row q → is_idle (v.handovers q row.tablet).role ≡ true
+      → list_any (touches row.range) (drop (v.written q).applied (v.written q).entries) ≡ false
+  pub items :
+      (q : ℕ) → v.live q ≡ true → has_all_items (post_of row.phase q) (v.handovers q row.tablet) row.term ≡ true
+      → HasItems row v.written (v.records q)
+  pub target : MembersFit row v.written v.handovers v.pullings v.records v.handed (lineage_of row.phase)
+  pub handed_on : HandedFits row v.handovers v.completions v.handed (lineage_of row.phase)
+  pub named_items : NamedFit v.written row.range (lineage_of row.phase)
+  pub rebuilt :
+      RowIsRebuilt row row.phase (truths v row) v.logs v.written v.stored v.handovers v.completions v.gathers v.merged v.records v.live
+  pub marks :
+      (q : ℕ)
+      → All (λ mark. mark.tablet ≡ row.tablet → MarkFits row q (v.handovers q row.tablet) (v.live q) (v.written q) mark)
+      (v.written q).marks
+  pub pieces :
+      (q : ℕ) → All (λ mark. mark.tablet ≡ row.tablet → HasOwnRange row.range (v.written q).entries mark) (v.written q).marks
+  pub says : EachIn (λ n m. SaysIn v row m.from m.to m.body) v.wire
+
+-- what the invariant says beside it
+pub record SoundBeside (v : View) : Type 0 where
+  pub numbered : (q : ℕ) → v.numbers q ≡ q
+  pub backed : 1 ≤ v.backups
+  pub known_backups : (q : ℕ) → IsMaster v.masters q → length (v.logs q).known ≡ v.backups
+  pub crashed : All (λ q. v.live q ≡ false) v.noticed
+  pub left : (q : ℕ) → v.live q ≡ false → SomeLives v.masters v.live
+  pub rows_apart : IsTabletMap v.rows
+  pub covered : All (λ entry. is_covered v.rows entry.call.table (hash_of entry.call.key) ≡ true) v.journal
+  pub kept : (q number : ℕ) → All (λ row. HandoverFits row number (v.handovers q number)) v.rows
+  pub begun : (q number : ℕ) → is_absent (v.handovers q number).role ≡ false → 1 ≤ (v.handovers q number).term
+  pub apart :
+      (q a b : ℕ) → a ≢ b → is_absent (v.handovers q a).role ≡ false → is_absent (v.handovers q b).role ≡ false
+      → meets (v.handovers q a).range (v.handovers q b).range ≡ false
+  pub cover : CoverOf v
+  pub has_row : (q number : ℕ) → v.live q ≡ true → is_absent (v.handovers q number).role ≡ false → is_some (row_of v.rows number) ≡ true
+  pub logs : LogsOf v
+  pub legal : IsLegal (base_map v.base) v.journal
+  pub rising : IsRisingAbove 0 v.journal
+  pub seen : All (λ placed. IsAfterSeen (v.asked placed.call.client) placed) v.journal
+  pub once :
+      (i j : ℕ) (a b : Placed) → slice_get v.journal i ≡ Some a → slice_get v.journal j ≡ Some b → AreOneMutation a.call b.call → i ≡ j
+  pub known :
+      (q number : ℕ) → v.live q ≡ true
+      → All (λ end. IsKnown v.base v.journal end ⊎ IsStagedEnd v.rows (rests v) q number (v.handovers q number).term end)
+      (ends_of (v.completions q number))
+  pub waiting :
+      (q : ℕ) → v.live q ≡ true → EachIn (λ place call. Waits v.rows (v.handovers q) (v.written q) q place call) (v.calls q)
+  pub are_last : (q : ℕ) → v.live q ≡ true → EachIn (λ place call. IsLast (v.asked call.client) call) (v.calls q)
+  pub found : (q : ℕ) → v.live q ≡ true → EachHasCall (v.calls q) (v.written q)
+  pub ordered : (q : ℕ) → IsInScanOrder (v.records q)
+  pub bare :
+      (q number : ℕ)
+      → IfSome (wanted_place (v.handovers q number).role)
+      (λ from. IsBare (v.handovers q number).range from (v.written q) (v.records q))
+  pub others : EachIn (λ n m. Says v.journal m.to m.body) v.wire
+  pub asked : AskedOf v
+
+-- each row of a sound view
+pub each_row : (v : View) → SoundView v → All (SoundRow v) v.rows
+each_row v sound k d within = record {
+  named = λ q. sound.nodes.named q k d within;
+  begun = sound.rows.begun k d within;
+  formed = sound.rows.formed k d within;
+  placed = sound.rows.placed k d within;
+  sent = λ n m there. sound.terms.sent n m there k d within;
+  fitting = λ q. sound.roles.fitting q k d within;
+  ranged = λ q. sound.roles.ranged q k d within;
+  at_term = sound.roles.at_term k d within;
+  truth = sound.truth.true k d within;
+  above = sound.order.above k d within;
+  reached = sound.calls.reached k d within;
+  recorded = sound.calls.recorded k d within;
+  moving = sound.calls.moving k d within;
+  answering = λ q. sound.calls.answering q k d within;
+  ends_granted = sound.calls.handed_on k d within;
+  ends_sent = λ n m there. sound.calls.sent n m there k d within;
+  low = sound.counters.low k d within;
+  low_moving = sound.counters.moving k d within;
+  counted = λ q. sound.counters.counted q k d within;
+  floor_granted = sound.counters.handed_on k d within;
+  floor_sent = λ n m there. sound.counters.sent n m there k d within;
+  goes_on = sound.rest.goes_on k d within;
+  done = sound.rest.done k d within;
+  unnamed = sound.rest.unnamed k d within;
+  idle = λ q. sound.rest.idle q k d within;
+  items = λ q lives. sound.records.items q lives k d within;
+  target = sound.receives.targets k d within;
+  handed_on = sound.receives.handed_on k d within;
+  named_items = sound.receives.named k d within;
+  rebuilt = sound.rebuilds.rebuilt k d within;
+  marks = λ q. sound.rebuilds.marks q k d within;
+  pieces = λ q. sound.rebuilds.pieces q k d within;
+  says = λ n m there. sound.messages.of_rows n m there k d within;
+}
+
+-- and a row that stands there
+pub row_in : (v : View) → SoundView v → (row : Row) → Contains v.rows row → SoundRow v row
+row_in v sound row has = All-contains (SoundRow v) v.rows row (each_row v sound) has
+
+-- a call that waited waits for a row that covers its key and whose lineage ends with the same member
+pub waits_for : (rows now : List Row) (old new : ℕ → Handover) (written : Written) (q place : ℕ) (call : Call) (wait : Waits rows old written q place call) (row : Row) → Contains now row → has_key row.range call.table call.key ≡ true → last_of (lineage_of row.phase) ≡ Some wait.last → may_have_staged (new row.tablet).role ≡ true → Waits now new written q place call
+waits_for rows now old new written q place call wait row stands inside is stages = record {
+  behind = wait.behind;
+  entry = wait.entry;
+  stands = wait.stands;
+  own = wait.own;
+  unmarked = wait.unmarked;
+  row = row;
+  has_row = stands;
+  in_row = inside;
+  last = wait.last;
+  is_last = is;
+  here = wait.here;
+  from = wait.from;
+  may_stage = stages;
+}
+
+-- a view is sound by its rows, and by what is beside them
+pub view_by_rows : (v : View) → SoundBeside v → All (SoundRow v) v.rows → SoundView v
+view_by_rows v beside each = record {
+  nodes = record {
+    numbered = beside.numbered;
+    backed = beside.backed;
+    known = beside.known_backups;
+    named = λ q k d within. (each k d within).named q;
+    crashed = beside.crashed;
+    left = beside.left;
+  };
+  rows = record {
+    apart = beside.rows_apart;
+    begun = λ k d within. (each k d within).begun;
+    formed = λ k d within. (each k d within).formed;
+    placed = λ k d within. (each k d within).placed;
+    covered = beside.covered;
+  };
+  terms = record {
+    kept = beside.kept;
+    begun = beside.begun;
+    apart = beside.apart;
+    sent = λ n m there k d within. (each k d within).sent n m there;
+  };
+  cover = beside.cover;
+  roles = record {
+    fitting = λ q k d within. (each k d within).fitting q;
+    ranged = λ q k d within. (each k d within).ranged q;
+    at_term = λ k d within. (each k d within).at_term;
+    known = beside.has_row;
+  };
+  logs = beside.logs;
+  truth = record {
+    legal = beside.legal;
+    rising = beside.rising;
+    seen = beside.seen;
+    true = λ k d within. (each k d within).truth;
+  };
+  order = record { above = λ k d within. (each k d within).above };
+  calls = record {
+    once = beside.once;
+    reached = λ k d within. (each k d within).reached;
+    recorded = λ k d within. (each k d within).recorded;
+    moving = λ k d within. (each k d within).moving;
+    answering = λ q k d within. (each k d within).answering q;
+    handed_on = λ k d within. (each k d within).ends_granted;
+    sent = λ n m there k d within. (each k d within).ends_sent n m there;
+    known = beside.known;
+  };
+  counters = record {
+    low = λ k d within. (each k d within).low;
+    moving = λ k d within. (each k d within).low_moving;
+    counted = λ q k d within. (each k d within).counted q;
+    handed_on = λ k d within. (each k d within).floor_granted;
+    sent = λ n m there k d within. (each k d within).floor_sent n m there;
+  };
+  rest = record {
+    goes_on = λ k d within. (each k d within).goes_on;
+    done = λ k d within. (each k d within).done;
+    unnamed = λ k d within. (each k d within).unnamed;
+    idle = λ q k d within. (each k d within).idle q;
+    waiting = beside.waiting;
+    are_last = beside.are_last;
+    found = beside.found;
+  };
+  records = record { ordered = beside.ordered; items = λ q lives k d within. (each k d within).items q lives };
+  receives = record {
+    targets = λ k d within. (each k d within).target;
+    handed_on = λ k d within. (each k d within).handed_on;
+    bare = beside.bare;
+    named = λ k d within. (each k d within).named_items;
+  };
+  rebuilds = record {
+    rebuilt = λ k d within. (each k d within).rebuilt;
+    marks = λ q k d within. (each k d within).marks q;
+    pieces = λ q k d within. (each k d within).pieces q;
+  };
+  messages = record { of_rows = λ n m there k d within. (each k d within).says n m there; others = beside.others };
+  asked = beside.asked;
+}
+
+-- no message hands over for a row that is owned
+pub none_for_owned : (number term : ℕ) (range : Range) (owner from : ℕ) (handovers : ℕ → ℕ → Handover) (body : Body) → handed_by (record { tablet = number; range = range; term = term; phase = Owned owner from }) handovers body ≡ None
+none_for_owned number term range owner from handovers (bodies.Transfer transfer) = refl
+none_for_owned number term range owner from handovers (bodies.Grant grant) = go (eqb grant.tenure.tablet number)
+  where
+    handed : Handed
+    handed = record { floor = grant.floor; ends = grant.ends }
+
+    go : (b : Bool) → cond (b && false) (Some handed) None ≡ None
+    go true = refl
+    go false = refl
+none_for_owned number term range owner from handovers _ = refl

@@ -1,0 +1,4 @@
+pub mod Reports
+pub mod Events
+pub mod Masters
+pub mod Visits

@@ -1,0 +1,4 @@
+pub mod Changes
+pub mod Steps
+pub mod Items
+pub mod Sends

@@ -1,0 +1,4 @@
+pub mod Targets
+pub mod MoreLog
+pub mod Grown
+pub mod Turned
