@@ -16,6 +16,8 @@ use Rattle.rk_log.specs.Cut.{last_of, has_room, with_bytes, cut, end_of}
 use Rattle.rk_log.specs.Parts.{Parts, bytes_in, lengths_in, none_known, bytes_among, is_whole_at, is_held_at, AreWithin, AreKnown, IsCursor, cursor_at, IsConsistent}
 use Rattle.rk_log.proofs.Prefixes.{pass_then, prefix_len_same, prefix_len_push_no, list_all_greater, list_all_small}
 use Rattle.rk_log.proofs.Cuts.{spelled_some, cut_push, ends_push, ends_within, room_some}
+use Rattle.rk_entry.specs.Lawful.{IsLawfulEntry}
+use Rattle.rk_log.proofs.CutLaws.{lawful_push}
 use Rattle.rk_log.proofs.Grown.{Grew, grew, known_push, Rose, Raised, rose_in, known_told_lists, among_main_is, among_sides_is}
 
 -- ---- what the parts tell
@@ -81,8 +83,8 @@ cursor_grew main main' sides backup cursor grown old =
 pub consistent_entry : (parts : Parts) (main' : List Copied) (entry : Entry)
     → IsConsistent parts → bytes_in main' ≡ with_bytes (bytes_in parts.main) (spelled entry)
     → lengths_in main' ≡ cond (has_room (bytes_in parts.main) (spelled entry)) (lengths_in parts.main) (lengths_in parts.main ++ none_known ∷ []) → length parts.main + 1 < FIRST_SIDE_SEGMENT
-    → length (spelled entry) ≤ SEGMENT_BYTES → IsConsistent (with_entry_in parts main' entry)
-consistent_entry parts main' entry consistent put put_lengths few fits =
+    → length (spelled entry) ≤ SEGMENT_BYTES → IsLawfulEntry entry → IsConsistent (with_entry_in parts main' entry)
+consistent_entry parts main' entry consistent put put_lengths few fits lawful =
     let counts : length (bytes_in parts.main) ≡ length (lengths_in parts.main) = length-map parts.main (λ (c : Copied). c.segment.bytes) ∙ sym (length-map parts.main (λ (c : Copied). c.known)) in
     let grown = grew (bytes_in parts.main) (lengths_in parts.main) (spelled entry) (bytes_in main') (lengths_in main') counts consistent.main_known (spelled_some entry) put put_lengths (room_some (bytes_in parts.main) (spelled entry)) in
     let segments : bytes_in main' ≡ with_bytes (cut parts.entries) (spelled entry) = put ∙ ap (λ (s : List (List ℕ)). with_bytes s (spelled entry)) consistent.cut_is in
@@ -90,6 +92,7 @@ consistent_entry parts main' entry consistent put put_lengths few fits =
       cut_is = segments ∙ sym (cut_push [] parts.entries entry);
       places_are = (λ i. consistent.places_are i ++ end_of (segments i) ∷ []) ∙ sym (ends_push [] parts.entries entry);
       fits = All-push (λ (it : Entry). length (spelled it) ≤ SEGMENT_BYTES) parts.entries entry consistent.fits fits;
+      lawful = lawful_push parts.entries entry consistent.lawful lawful;
       count_is = consistent.count_is ∙ stays grown ∙ sym (prefix_len_push_no (is_held_at (length parts.cursors) (lengths_in main')) parts.ends (end_of (bytes_in main')) (unheld grown));
       first_backup = consistent.first_backup;
       last_backup = consistent.last_backup;
@@ -125,6 +128,7 @@ consistent_side parts side consistent unknown few =
       cut_is = consistent.cut_is;
       places_are = consistent.places_are;
       fits = consistent.fits;
+      lawful = consistent.lawful;
       count_is = consistent.count_is;
       first_backup = consistent.first_backup;
       last_backup = consistent.last_backup;
@@ -196,6 +200,7 @@ consistent_told parts main' sides' number backup size cursor consistent within r
       cut_is = raised.bytes ∙ consistent.cut_is;
       places_are = consistent.places_are;
       fits = consistent.fits;
+      lawful = consistent.lawful;
       count_is =
           sym (pass_then (is_held_at (length parts.cursors) (lengths_in main')) parts.ends parts.committed (count_within parts consistent) (λ k d h.
           list_all_greater (get_or parts.ends k d).offset (length parts.cursors) (get_or (lengths_in parts.main) ((get_or parts.ends k d).segment - 1) []) (get_or (lengths_in main') ((get_or parts.ends k d).segment - 1) [])

@@ -51,7 +51,7 @@ spelled_first : (entry : Entry) (entries : List Entry) → spelled_all (entry �
 unfolding spelled_all
 spelled_first entry entries = refl
 
-spelled_none : spelled_all [] ≡ []
+pub spelled_none : spelled_all [] ≡ []
 unfolding spelled_all
 spelled_none = refl
 
@@ -78,17 +78,17 @@ record Spelled (bytes : List ℕ) : Type 0 where
 abbrev AreSpelled : List (List ℕ) → Type 0
 AreSpelled segments = (k : ℕ) → k < length segments → Spelled (get_or segments k [])
 
-spelled_one : (entry : Entry) → spelled_all (entry ∷ []) ≡ spelled entry
+pub spelled_one : (entry : Entry) → spelled_all (entry ∷ []) ≡ spelled entry
 spelled_one entry = spelled_first entry [] ∙ ap (λ (l : List ℕ). spelled entry ++ l) spelled_none ∙ append-nil (spelled entry)
 
-spelled_push : (entries : List Entry) (entry : Entry) → spelled_all (entries ++ entry ∷ []) ≡ spelled_all entries ++ spelled entry
+pub spelled_push : (entries : List Entry) (entry : Entry) → spelled_all (entries ++ entry ∷ []) ≡ spelled_all entries ++ spelled entry
 spelled_push [] entry = spelled_one entry ∙ ap (λ (l : List ℕ). l ++ spelled entry) (sym spelled_none)
 spelled_push (x ∷ entries) entry =
     spelled_first x (entries ++ entry ∷ []) ∙ ap (λ (l : List ℕ). spelled x ++ l) (spelled_push entries entry)
     ∙ sym (append_assoc (spelled x) (spelled_all entries) (spelled entry))
     ∙ ap (λ (l : List ℕ). l ++ spelled entry) (sym (spelled_first x entries))
 
-lawful_push : (entries : List Entry) (entry : Entry) → AllByRecursion IsLawfulEntry entries → IsLawfulEntry entry → AllByRecursion IsLawfulEntry (entries ++ entry ∷ [])
+pub lawful_push : (entries : List Entry) (entry : Entry) → AllByRecursion IsLawfulEntry entries → IsLawfulEntry entry → AllByRecursion IsLawfulEntry (entries ++ entry ∷ [])
 lawful_push [] entry each last = (last, tt)
 lawful_push (x ∷ entries) entry each last = (each.0, lawful_push entries entry each.1 last)
 
@@ -98,7 +98,7 @@ unfolding entries_of entries_within
 read_none = refl
 
 -- entries are read from their spelling alone
-read_again : (entries : List Entry) → AllByRecursion IsLawfulEntry entries → entries_of (spelled_all entries) ≡ entries
+pub read_again : (entries : List Entry) → AllByRecursion IsLawfulEntry entries → entries_of (spelled_all entries) ≡ entries
 read_again entries lawful =
     ap entries_of (sym (append-nil (spelled_all entries))) ∙ all_again entries [] lawful ∙ ap (λ (l : List Entry). entries ++ l) read_none ∙ append-nil entries
 

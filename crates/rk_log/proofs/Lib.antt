@@ -8,4 +8,5 @@ pub mod Views
 pub mod Changes
 pub mod LogLaws
 pub mod CutLaws
+pub mod Behind
 pub mod Examples

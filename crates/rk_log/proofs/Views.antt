@@ -74,6 +74,11 @@ committed_of_is parts consistent =
     within : AreWithin (length (lengths_in parts.main)) parts.ends
     within = subst (λ (n : ℕ). AreWithin n parts.ends) (sym counts) (places_within parts consistent)
 
+-- each entry has an end
+pub entries_count : (parts : Parts) (log : Log) → IsConsistent parts → log_of parts ≡ log → length parts.ends ≡ length log.entries
+entries_count parts log consistent is =
+    ap length consistent.places_are ∙ length-ends [] parts.entries ∙ ap (λ (l : Log). length l.entries) is
+
 -- no more than there are
 pub committed_within : (parts : Parts) → IsConsistent parts → parts.committed ≤ length parts.entries
 committed_within parts consistent =

@@ -1,5 +1,5 @@
 -- How the spellings of entries fill the main segments of a log, and where each entry ends.
-use Rattle.std.specs.Prelude.{ℕ, ◌+◌, ◌-◌, ◌≤◌, Bool, ◌&&◌, nat_lt, nat_le, if◌then◌else◌, List, [], ◌∷◌, ◌++◌, length, slice_index_or, slice_set}
+use Rattle.std.specs.Prelude.{ℕ, zero, suc, ◌+◌, ◌-◌, ◌≤◌, Bool, ◌&&◌, nat_lt, nat_le, if◌then◌else◌, List, [], ◌∷◌, ◌++◌, length, slice_index_or, slice_set}
 use Rattle.std.specs.List.{All}
 use Rattle.rk_types.specs.declared.held.TheConstants.{SEGMENT_BYTES}
 use Rattle.rk_entry.specs.declared.entry.Entry.{Entry}
@@ -48,3 +48,8 @@ ends_after segments (entry ∷ entries) =
 -- where each entry of a log ends
 abbrev pub ends : List Entry → List EntryEnd
 ends entries = ends_after [] entries
+
+-- where the entry before a place ends, and else the front of the first segment
+abbrev pub start_of : List Entry → ℕ → EntryEnd
+start_of entries zero = record { segment = 1; offset = 0 }
+start_of entries (suc place) = slice_index_or (ends entries) place (record { segment = 1; offset = 0 })

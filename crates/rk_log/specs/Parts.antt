@@ -1,6 +1,6 @@
 -- How the parts of a log's struct stand for it.
 use Rattle.std.specs.Prelude.{◌≡◌, ℕ, suc, ◌+◌, ◌-◌, ◌<◌, ◌≤◌, ◌^◌, Bool, true, nat_lt, nat_le, max, min, if◌then◌else◌, List, [], ◌∷◌, length, map, take, drop, replicate, slice_get, slice_index, slice_index_or, slice_set, Option, None}
-use Rattle.std.specs.List.{list_all, prefix_len, range_with_len}
+use Rattle.std.specs.List.{AllByRecursion, list_all, prefix_len, range_with_len}
 use Rattle.std.specs.Option.{option_map, option_map_or, option_or}
 use Rattle.rk_entry.specs.declared.entry.Entry.{Entry}
 use Rattle.rk_entry.specs.declared.lists.TheConstants.{FIRST_SIDE_SEGMENT}
@@ -10,7 +10,9 @@ use Rattle.rk_log.specs.declared.cursor.Cursor.{Cursor}
 use Rattle.rk_log.specs.declared.ends.EntryEnd.{EntryEnd}
 use Rattle.rk_log.specs.declared.log.MasterLog.TheInside.{Inside}
 use Rattle.rk_log.specs.Piece.{PlacedBytes}
+use Rattle.rk_entry.specs.Lawful.{IsLawfulEntry}
 use Rattle.rk_log.specs.Cut.{EachFits, cut, ends}
+use Rattle.rk_log.specs.Stored.{spelled_in}
 use Rattle.rk_log.specs.Log.{Log, segment_bytes}
 use Rattle.rk_log.specs.Known.{Known, nothing, told}
 
@@ -68,11 +70,11 @@ pub record Parts : Type 0 where
   pub sides : List Copied
   pub cursors : List Cursor
 
--- the parts of a log's struct
+-- the parts of a log's struct, whose entries are those that its main segments spell
 abbrev pub parts_of : Inside → Parts
 parts_of log =
     record {
-      entries = log.entries.items;
+      entries = spelled_in (bytes_in log.main.items);
       ends = log.ends.items;
       committed = log.committed;
       main = log.main.items;
@@ -141,6 +143,7 @@ pub record IsConsistent (parts : Parts) : Type 0 where
   pub cut_is : bytes_in parts.main ≡ cut parts.entries
   pub places_are : parts.ends ≡ ends parts.entries
   pub fits : EachFits parts.entries
+  pub lawful : AllByRecursion IsLawfulEntry parts.entries
   pub count_is : parts.committed ≡ prefix_len (is_held_at (length parts.cursors) (lengths_in parts.main)) parts.ends
   pub first_backup : 1 ≤ length parts.cursors
   pub last_backup : length parts.cursors ≤ MOST_BACKUPS

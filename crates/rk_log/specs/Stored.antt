@@ -1,5 +1,5 @@
 -- The entries that segments spell, and those that are read back from where segments are stored.
-use Rattle.std.specs.Prelude.{ℕ, zero, suc, List, [], ◌∷◌, Option, Some, None}
+use Rattle.std.specs.Prelude.{ℕ, zero, suc, List, [], ◌∷◌, ◌++◌, drop, Option, Some, None}
 use Rattle.std.specs.List.{flat_map}
 use Rattle.rk_entry.specs.declared.entry.Entry.{Entry}
 use Rattle.rk_entry.specs.Entries.{entries_of}
@@ -8,6 +8,11 @@ use Rattle.rk_log.specs.declared.copied.TheConstants.{FIRST_SEGMENT}
 -- the entries that these segments spell, each up to the first place where no whole entry stands
 abbrev pub spelled_in : List (List ℕ) → List Entry
 spelled_in segments = flat_map entries_of segments
+
+-- the entries that these segments spell, those of the first one from this byte on
+abbrev pub spelled_behind : ℕ → List (List ℕ) → List Entry
+spelled_behind offset [] = []
+spelled_behind offset (bytes ∷ more) = entries_of (drop offset bytes) ++ spelled_in more
 
 -- a segment, where it was written, and those behind it
 abbrev pub written_then : Option (List ℕ) → List (List ℕ) → List (List ℕ)

@@ -22,3 +22,4 @@ mod laws;
 mod log;
 mod overreach;
 mod piece;
+mod reading;

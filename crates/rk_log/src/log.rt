@@ -1,5 +1,5 @@
-ghost use Rattle.std.specs.Prelude.{◌≡◌, ◌+◌, ◌<◌, ◌≤◌, ◌^◌, length, drop, replicate, slice_get, Some, None, IfOk, OnOk, OnErr, MatchResult};
-ghost use Rattle.rk_log.specs.Cut.{EachFits};
+ghost use Rattle.std.specs.Prelude.{◌≡◌, ◌+◌, ◌<◌, ◌≤◌, ◌^◌, length, drop, replicate, None, Some, IfOk, OnOk, OnErr, MatchResult};
+ghost use Rattle.rk_log.specs.Cut.{EachFits, start_of};
 ghost use Rattle.rk_log.specs.Known.{nothing};
 ghost use Rattle.rk_entry.specs.Spelling.{spelled};
 ghost use Rattle.rk_entry.specs.Lawful.{IsLawfulEntry};
@@ -10,6 +10,7 @@ use crate::cursor::{Cursor, advanced};
 use crate::ends::{EntryEnd, end_of, held_from};
 use crate::overreach::Overreach;
 use crate::piece::{Piece, pending_in};
+use crate::reading::read_behind;
 use rk_entry::{Entry, FIRST_SIDE_SEGMENT, encode};
 use rk_segment::Segment;
 use rk_types::{NoMemory, SEGMENT_BYTES};
@@ -19,8 +20,7 @@ use std::marker::Model;
 /// The log of one master in one lane, with its side segments and the lengths that its backups are known to hold.
 #[derive(Debug, Drop)]
 pub struct MasterLog {
-    entries: Vec<Entry>,
-    // Where each entry ends.
+    // Where each entry ends in the main segments, which alone hold the entries.
     ends: Vec<EntryEnd>,
     // Every backup is known to hold so many entries, counted from the first.
     committed: usize,
@@ -57,7 +57,6 @@ impl MasterLog {
     {
         let start = Cursor { main: 0, sides: 0 };
         Ok(MasterLog {
-            entries: Vec::new(alloc),
             ends: Vec::new(alloc),
             committed: 0,
             main: Vec::new(alloc),
@@ -71,23 +70,21 @@ impl MasterLog {
     /// Puts an entry at the end, and answers its place, which counts from 0. It goes into the last main segment where
     /// it fits, and else begins the next one, which takes the memory of a whole segment. After `NoMemory` nothing has
     /// changed. It takes the time to spell the entry, and a constant time besides, on average.
-    pub fn append(&mut self, entry: Entry) -> Result<u64, NoMemory>
-        requires lawful { IsLawfulEntry entry }
-        requires fits { length (spelled entry) ≤ SEGMENT_BYTES }
+    pub fn append(&mut self, entry: &Entry) -> Result<u64, NoMemory>
+        requires lawful { IsLawfulEntry entry.now }
+        requires fits { length (spelled entry.now) ≤ SEGMENT_BYTES }
         requires room { segment_bytes self.old < 2 ^ 31 }
         ensures place { IfOk result (λ place. place ≡ length self.old.entries) }
-        ensures ok { OnOk result (self.new ≡ with_entry self.old entry) }
+        ensures ok { OnOk result (self.new ≡ with_entry self.old entry.now) }
         ensures err { OnErr result (self.new ≡ self.old) }
     {
         self.spelling.clear();
-        encode(&entry, &mut self.spelling)?;
+        encode(entry, &mut self.spelling)?;
         let count = self.spelling.len() as u64;
-        self.entries.reserve(1)?;
         self.ends.reserve(1)?;
         put_bytes(&mut self.main, self.spelling.as_slice())?;
-        let place = self.entries.len();
+        let place = self.ends.len();
         self.ends.push(end_of(self.main.as_slice())).unwrap();
-        self.entries.push(entry).unwrap();
         self.size += count;
         Ok(place as u64)
     }
@@ -117,7 +114,7 @@ impl MasterLog {
         requires { IsBackup self.now backup }
         ensures { IfOk result (λ piece. piece ≡ pending self.now backup) }
     {
-        let alloc = *self.entries.allocator();
+        let alloc = *self.ends.allocator();
         let backup = backup as usize - 1;
         let cursor = self.cursors[backup];
         let main = self.main.as_slice();
@@ -178,7 +175,7 @@ impl MasterLog {
     pub fn length(&self) -> u64
         ensures { result ≡ length self.now.entries }
     {
-        self.entries.len() as u64
+        self.ends.len() as u64
     }
 
     /// How many bytes all segments have together, in constant time: [`MasterLog::append`] and [`MasterLog::add_side`]
@@ -209,20 +206,28 @@ impl MasterLog {
         }
     }
 
-    /// The entry at a place, in constant time.
-    pub fn entry(&self, place: u64) -> &Entry
-        requires { place < length self.now.entries }
-        ensures { slice_get self.now.entries place ≡ Some result.now }
+    /// The entries from a place on, read from the segments that spell them. It takes the time to read these.
+    pub fn entries_from(&self, place: u64) -> Result<Vec<Entry>, NoMemory>
+        requires { place ≤ length self.now.entries }
+        ensures { IfOk result (λ entries. entries.items ≡ drop place self.now.entries) }
     {
-        &self.entries[place as usize]
+        let start = self.start_of(place as usize);
+        let segments = self.main.split_at(start.segment as usize - 1).1;
+        read_behind(*self.ends.allocator(), start.offset, segments)
     }
 
-    /// The entries from a place on, lent in constant time.
-    pub fn entries_from(&self, place: u64) -> &[Entry]
+    // Where the entry before a place ends; before the first segment's bytes where there is none.
+    fn start_of(&self, place: usize) -> EntryEnd
         requires { place ≤ length self.now.entries }
-        ensures { result.now ≡ drop place self.now.entries }
+        ensures { result ≡ start_of self.now.entries place }
     {
-        self.entries.split_at(place as usize).1
+        if place == 0 {
+            return EntryEnd {
+                segment: 1,
+                offset: 0,
+            };
+        }
+        self.ends[place - 1]
     }
 
     /// The bytes of a main or side segment, lent in constant time; none where there is no segment of this number.

@@ -17,7 +17,7 @@ use Rattle.rk_overlay.specs.Newest.{is_of, Found, none_found, newer_of, with_new
 use Rattle.rk_overlay.proofs.Folds.{newest_from-append, newest_from-same, with_newer_here, with_newer_other, newer_item, newer_old, newer_cases, none_in}
 use Rattle.rk_overlay.proofs.Members.{first_stands, behind_stands}
 use Rattle.rk_overlay.proofs.Names.{is_of_parts, is_of_from}
-use Rattle.rk_master.specs.declared.staged_items.Kept.{Kept}
+use Rattle.rk_master.specs.declared.staged_entries.Kept.{Kept}
 use Rattle.rk_master.specs.Kept.{Name, name_cmp, many_of, kept_of, kept, kept_with, IsKept, newer_in}
 
 -- two names are one where their tables are, and their keys
@@ -230,13 +230,13 @@ newest_in_next found (entries.Refused refused) items table key was = was ∙ ap 
 newest_in_next found (entries.Carried carried) items table key was = was ∙ ap (λ (xs : List Held). newest xs table key) (sym (append-nil items))
 newest_in_next found (entries.Joined joined) items table key was = was ∙ ap (λ (xs : List Held). newest xs table key) (sym (append-nil items))
 
--- what is found among so many first entries, and one more
-pub newest_taken : (all : List Entry) (place : ℕ) (entry : Entry) (found : Option Held) (table : ℕ) (key : List ℕ) → take (place + 1) all ≡ take place all ++ entry ∷ []
-    → found ≡ newest (items_of (take place all)) table key → newer_in found entry table key ≡ newest (items_of (take (place + 1) all)) table key
-newest_taken all place entry found table key more was =
-    newest_in_next found entry (items_of (take place all)) table key was
-    ∙ ap (λ (xs : List Held). newest (items_of (take place all) ++ xs) table key) (sym (append-nil (items_in entry)))
-    ∙ ap (λ (xs : List Held). newest xs table key) (sym (flat_map-append items_in (take place all) (entry ∷ [])) ∙ ap items_of (sym more))
+-- what is found among entries, and one more
+pub newest_pushed : (entries : List Entry) (entry : Entry) (found : Option Held) (table : ℕ) (key : List ℕ)
+    → found ≡ newest (items_of entries) table key → newer_in found entry table key ≡ newest (items_of (entries ++ entry ∷ [])) table key
+newest_pushed entries entry found table key was =
+    newest_in_next found entry (items_of entries) table key was
+    ∙ ap (λ (xs : List Held). newest (items_of entries ++ xs) table key) (sym (append-nil (items_in entry)))
+    ∙ ap (λ (xs : List Held). newest xs table key) (sym (flat_map-append items_in entries (entry ∷ [])))
 
 -- something is kept of a record that has an item
 pub kept_some : (item : Held) (items : List Held) (table : ℕ) (key : List ℕ) → is_of table key item ≡ true → None ≡ kept (item ∷ items) table key → ⊥

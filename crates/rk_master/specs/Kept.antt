@@ -1,5 +1,5 @@
--- What is kept of the staged items of each record: of the newest one its version and whether it has a value, and how many
--- there are.
+-- The entries that are staged, and what is kept of the staged items of each record: of the newest one its version and whether
+-- it has a value, and how many there are.
 use Rattle.std.specs.Prelude.{◌≡◌, ℕ, ◌+◌, nat_lt, if◌then◌else◌, List, [], ◌∷◌, drop, Option, Some, None, is_some}
 use Rattle.std.specs.declared.cmp.Ordering.{Ordering}
 use Rattle.std.specs.Ordering.{nat_cmp, ordering_then}
@@ -10,7 +10,8 @@ use Rattle.rk_entry.specs.declared.entry.Entry.{Entry}
 use Rattle.rk_entry.specs.declared.entry.Entry.TheVariants as entries
 use Rattle.rk_overlay.specs.Newest.{is_of, newer_of, newest}
 use Rattle.rk_world.specs.Ends.{items_of}
-use Rattle.rk_master.specs.declared.staged_items.Kept.{Kept}
+use Rattle.rk_master.specs.declared.staged_entries.Kept.{Kept}
+use Rattle.rk_master.specs.declared.staged_entries.StagedEntries.{StagedEntries}
 
 -- a table and a key of it
 abbrev pub Name : Type 0
@@ -51,6 +52,11 @@ abbrev pub newer_in : Option Held → Entry → ℕ → List ℕ → Option Held
 newer_in found (entries.Held item) table key = if is_of table key item then Some (newer_of found item) else found
 newer_in found _ table key = found
 
--- a tree keeps just what is kept of the items among the entries from a place on
-abbrev pub IsKeptFrom : ℕ → BTreeMap Name Kept → List Entry → Type 0
-IsKeptFrom place tree entries = IsKept tree (items_of (drop place entries))
+-- just these entries are staged, and what is kept is what is to be kept of their items
+pub record AreStaged (staged : StagedEntries) (entries : List Entry) : Type 0 where
+  pub entries_are : staged.entries.items ≡ entries
+  pub kept : IsKept staged.newest (items_of entries)
+
+-- just the entries from a place on are staged
+abbrev pub AreStagedFrom : ℕ → StagedEntries → List Entry → Type 0
+AreStagedFrom place staged entries = AreStaged staged (drop place entries)

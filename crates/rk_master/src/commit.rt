@@ -1,17 +1,15 @@
 // Commits: entries that every backup holds are applied, one after the other.
-ghost use Rattle.std.specs.Prelude.{◌≡◌, ◌<◌, ◌+◌, ◌∷◌, List, Some, length, map, drop, slice_get, IfOk, OnOk, OnErr};
+ghost use Rattle.std.specs.Prelude.{◌≡◌, ◌<◌, ◌+◌, ◌∷◌, List, Some, length, map, slice_get, IfOk, OnOk};
 ghost use Rattle.rk_types.specs.NumberMap.{get};
 ghost use Rattle.rk_types.specs.declared.call.Ended.{Ended as Ending};
 ghost use Rattle.rk_bucket_table.specs.Tables.{items_of as records_of};
 ghost use Rattle.rk_world.specs.Commits.{apply_entries, apply_entry, newly_held, noting, with_applied, with_ended, with_entry_item};
-ghost use Rattle.rk_world.specs.Ends.{end_of_item as item_end_lem, end_of_refusal as refusal_end_lem, items_of, told_by};
-ghost use Rattle.rk_master.specs.Kept.{IsKept};
+ghost use Rattle.rk_world.specs.Ends.{end_of_item as item_end_lem, end_of_refusal as refusal_end_lem, told_by};
 ghost use Rattle.rk_master.specs.Parts.{AreTablets, behind, tablet_of, tablets_of, with_items_of, worked_of};
 ghost use Rattle.rk_master.specs.State.{IsState, master_of};
 
 use crate::choice::outcome_of;
 use crate::effects::answering;
-use crate::staged_items::StagedItems;
 use crate::state::MasterState;
 use crate::tablet_lane::TabletLane;
 use crate::work::Worked;
@@ -87,32 +85,6 @@ fn note_in_each(tablets: &mut [(u32, TabletLane)], call: &Call, end: Ended) -> R
     Ok(())
 }
 
-// The entry at a place is applied: an item is staged no more. After `NoMemory` nothing has changed.
-fn pass(items: &mut StagedItems, log: &MasterLog, place: u64) -> Result<(), NoMemory>
-    requires { place < length log.now.entries }
-    ensures ok { OnOk result (IsKept items.old.newest (items_of (drop place log.now.entries))
-        → IsKept items.new.newest (items_of (drop (place + 1) log.now.entries))) }
-    ensures err { OnErr result (items.new ≡ items.old) }
-{
-    let Entry::Held(held) = log.entry(place) else {
-        return Ok(());
-    };
-    let name = (held.table, held.key.duplicate()?);
-    let rest = log.entries_from(next_place(log, place));
-    items.subtract(&name, held.version, rest);
-    Ok(())
-}
-
-// The place after this one, where an entry stands.
-fn next_place(log: &MasterLog, place: u64) -> u64
-    requires { place < length log.now.entries }
-    ensures { result ≡ place + 1 }
-{
-    let length = log.length();
-    prove!(place < length);
-    place + 1
-}
-
 /// Applies the entries that every backup holds and that are not applied. For each of them a few searches, what it takes
 /// to put an item into the records, and where a call ends a look at each tablet.
 pub(crate) fn apply_held(state: &mut MasterState, work: &mut Worked) -> Result<(), NoMemory>
@@ -158,24 +130,31 @@ fn apply_item(state: &mut MasterState) -> Result<Option<Ended>, NoMemory>
     ensures ok { OnOk result ((entry : Entry) → slice_get state.old.log.entries state.old.applied ≡ Some entry
         → master_of state.new ≡ with_applied (with_entry_item (master_of state.old) entry)) }
 {
-    let place = state.applied;
-    let entry = state.log.entry(place);
+    let entry = state.staged.pop().unwrap();
+    let end = first_end(&entry);
     put_item(&mut state.records, entry)?;
-    let end = first_end(entry);
-    pass(&mut state.items, &state.log, place)?;
-    state.applied = next_place(&state.log, place);
+    state.applied = next_place(&state.log, state.applied);
     Ok(end)
+}
+
+// The place after this one, where an entry stands.
+fn next_place(log: &MasterLog, place: u64) -> u64
+    requires { place < length log.now.entries }
+    ensures { result ≡ place + 1 }
+{
+    let length = log.length();
+    prove!(place < length);
+    place + 1
 }
 
 // Puts the item that an entry is into the records, where it is newer than what is there. Two searches, and what an
 // insertion takes.
-fn put_item(records: &mut BucketTable, entry: &Entry) -> Result<(), NoMemory>
-    ensures { OnOk result (records_of records.new ≡ with_items_of entry.now (records_of records.old)) }
+fn put_item(records: &mut BucketTable, entry: Entry) -> Result<(), NoMemory>
+    ensures { OnOk result (records_of records.new ≡ with_items_of entry (records_of records.old)) }
 {
-    let Entry::Held(held) = entry else {
+    let Entry::Held(item) = entry else {
         return Ok(());
     };
-    let item = held.duplicate()?;
     records.reserve(1)?;
     let _ = records.put_if_newer(item);
     Ok(())

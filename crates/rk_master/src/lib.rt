@@ -12,7 +12,7 @@
 pub use choice::Seen;
 pub use master_lane::MasterLane;
 pub use staged_calls::StagedCalls;
-pub use staged_items::Kept;
+pub use staged_entries::Kept;
 pub use staging::MOST_LOG_BYTES;
 pub use tablet_lane::{MOST_VERSIONS, TabletLane};
 pub use work::Worked;
@@ -34,7 +34,7 @@ mod rebuilds;
 mod requests;
 mod splits;
 mod staged_calls;
-mod staged_items;
+mod staged_entries;
 mod staging;
 mod state;
 mod stored;

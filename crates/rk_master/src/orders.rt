@@ -196,7 +196,7 @@ fn receive(state: &mut MasterState, at: usize, grant: &Grant) -> Result<(), NoMe
     tablet.completions = completions_of(alloc, grant.ends.as_slice())?;
     tablet.pull_from(grant.source);
     let entry = carried_entry(handover, grant)?;
-    append(&mut state.log, &mut state.items, entry)?;
+    append(&mut state.log, &mut state.staged, entry)?;
     Ok(())
 }
 

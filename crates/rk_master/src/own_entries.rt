@@ -15,8 +15,8 @@ use rk_world::Merged;
 use std::alloc::Global;
 
 /// What a rebuild makes of what its tablet has gathered, and of the master's own entries of the range from a place on.
-/// `NoMemory` also where the log is full, since nothing could be appended to it. A step for each own entry and each byte
-/// of the side segments that they name, and what [`rk_rebuild::Gather::merge`] takes.
+/// `NoMemory` also where the log is full, since nothing could be appended to it. The time to read the own
+/// entries and the side segments that they name, and what [`rk_rebuild::Gather::merge`] takes.
 pub(crate) fn merged(
     alloc: Global,
     log: &MasterLog,
@@ -31,16 +31,17 @@ pub(crate) fn merged(
         return Err(NoMemory);
     }
     let range = tablet.handover.range;
-    let own = lend_each(alloc, entries_behind(log, from))?;
+    let entries = entries_behind(log, from)?;
+    let own = lend_each(alloc, entries.as_slice())?;
     let numbers = named(alloc, &range, own.as_slice())?;
     let sides = sides_read(alloc, log, numbers.as_slice())?;
     let counted = counted_entries(alloc, &range, own.as_slice(), &sides)?;
     tablet.merge(alloc, counted.as_slice())
 }
 
-// The entries of a log from a place on; none where it has fewer.
-fn entries_behind(log: &MasterLog, from: u64) -> &[Entry]
-    ensures { result.now ≡ drop from log.now.entries }
+// The entries of a log from a place on; none where it has fewer. It takes the time to read them.
+fn entries_behind(log: &MasterLog, from: u64) -> Result<Vec<Entry>, NoMemory>
+    ensures { IfOk result (λ entries. entries.items ≡ drop from log.now.entries) }
 {
     log.entries_from(from.min(log.length()))
 }

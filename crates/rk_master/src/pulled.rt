@@ -185,7 +185,7 @@ fn end_at(state: &mut MasterState, at: usize) -> Result<(), NoMemory>
     }
     let entry = tablet.joined_entry()?;
     tablet.end_pull(Some(state.log.length()));
-    append(&mut state.log, &mut state.items, entry)?;
+    append(&mut state.log, &mut state.staged, entry)?;
     Ok(())
 }
 

@@ -167,12 +167,12 @@ fn close(
 {
     let alloc = *state.tablets.allocator();
     let first = state.log.length();
-    append_items(&mut state.log, &mut state.items, merged.copies.into_vec())?;
+    append_items(&mut state.log, &mut state.staged, merged.copies.into_vec())?;
     let place = state.log.length();
     let lane = &mut state.tablets[at].1;
     let term = lane.handover.term;
     let closing = lane.close_rebuild(alloc, place, merged.floor, merged.ends)?;
-    append(&mut state.log, &mut state.items, closing)?;
+    append(&mut state.log, &mut state.staged, closing)?;
     let past = state.log.length();
     let mut work = state.nothing();
     work.marked = Some(Mark {

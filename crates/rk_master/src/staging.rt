@@ -7,12 +7,12 @@ ghost use Rattle.rk_entry.specs.Lawful.{IsLawfulEntry, IsLawfulHeld};
 ghost use Rattle.rk_log.specs.Log.{with_entry};
 ghost use Rattle.rk_world.specs.Premises.{IsLawfulCall};
 ghost use Rattle.rk_world.specs.Requests as requests;
-ghost use Rattle.rk_master.specs.Kept.{IsKeptFrom};
+ghost use Rattle.rk_master.specs.Kept.{AreStagedFrom};
 ghost use Rattle.rk_master.specs.Rebuilding.{with_items};
 ghost use Rattle.rk_master.specs.State.{IsState, master_of};
 
 use crate::effects::{item_of, refusal_of};
-use crate::staged_items::StagedItems;
+use crate::staged_entries::StagedEntries;
 use crate::state::MasterState;
 use crate::tablets::next_version;
 use rk_entry::{Entry, entry_len};
@@ -22,40 +22,39 @@ use rk_types::{Call, Held, NoMemory, SEGMENT_BYTES, Value};
 /// A log with so many bytes takes no more entries.
 pub const MOST_LOG_BYTES: u64 = 1 << 31;
 
-/// Puts an entry at the end of the log, and takes its item in where it is one. `NoMemory` also where the log has
+/// Puts an entry at the end of the log, where it is staged. `NoMemory` also where the log has
 /// [`MOST_LOG_BYTES`], or the entry has no room in a segment. The time to spell the entry, and two searches.
 pub(crate) fn append(
     log: &mut MasterLog,
-    items: &mut StagedItems,
+    staged: &mut StagedEntries,
     entry: Entry,
 ) -> Result<(), NoMemory>
     requires { IsLawfulEntry entry }
     ensures log { OnOk result (log.new ≡ with_entry log.old entry) }
-    ensures kept { OnOk result ((applied : ℕ) → applied ≤ length log.old.entries
-        → IsKeptFrom applied items.old.newest log.old.entries → IsKeptFrom applied items.new.newest log.new.entries) }
+    ensures staged { OnOk result ((applied : ℕ) → applied ≤ length log.old.entries
+        → AreStagedFrom applied staged.old log.old.entries → AreStagedFrom applied staged.new log.new.entries) }
 {
     if entry_len(&entry) > SEGMENT_BYTES || log.size() >= MOST_LOG_BYTES {
         return Err(NoMemory);
     }
-    items.take_in(&entry)?;
-    log.append(entry)?;
-    Ok(())
+    log.append(&entry)?;
+    staged.push(entry)
 }
 
 /// Puts items at the end of the log, one after the other, as [`append`] does. For each the time to spell its entry, and
 /// two searches.
 pub(crate) fn append_items(
     log: &mut MasterLog,
-    items: &mut StagedItems,
+    staged: &mut StagedEntries,
     copies: Vec<Held>,
 ) -> Result<(), NoMemory>
     requires { All IsLawfulHeld copies.items }
     ensures log { OnOk result (log.new ≡ with_items log.old copies.items) }
-    ensures kept { OnOk result ((applied : ℕ) → applied ≤ length log.old.entries
-        → IsKeptFrom applied items.old.newest log.old.entries → IsKeptFrom applied items.new.newest log.new.entries) }
+    ensures staged { OnOk result ((applied : ℕ) → applied ≤ length log.old.entries
+        → AreStagedFrom applied staged.old log.old.entries → AreStagedFrom applied staged.new log.new.entries) }
 {
     for copy in copies {
-        append(log, items, Entry::Held(copy))?;
+        append(log, staged, Entry::Held(copy))?;
     }
     Ok(())
 }
@@ -68,7 +67,7 @@ fn stage(state: &mut MasterState, call: Call, entry: Entry) -> Result<(), NoMemo
     ensures ok { OnOk result (master_of state.new ≡ requests.with_staged (master_of state.old) call entry) }
 {
     let place = state.log.length();
-    append(&mut state.log, &mut state.items, entry)?;
+    append(&mut state.log, &mut state.staged, entry)?;
     state.calls.insert(place, call)?;
     Ok(())
 }

@@ -16,7 +16,7 @@ ghost use Rattle.rk_master.specs.State.{IsState, master_of};
 
 use crate::choice::{Seen, fresh_mutation, fresh_read, is_mutation};
 use crate::staged_calls::StagedCalls;
-use crate::staged_items::StagedItems;
+use crate::staged_entries::StagedEntries;
 use crate::tablet_lane::TabletLane;
 use crate::work::Worked;
 use rk_bucket_table::BucketTable;
@@ -36,7 +36,7 @@ pub(crate) struct MasterState {
     pub(crate) log: MasterLog,
     pub(crate) applied: u64,
     pub(crate) calls: StagedCalls,
-    pub(crate) items: StagedItems,
+    pub(crate) staged: StagedEntries,
     pub(crate) records: BucketTable,
     pub(crate) tablets: Vec<(u32, TabletLane)>,
 }
@@ -56,7 +56,7 @@ impl MasterState {
             log: MasterLog::new(alloc, backups)?,
             applied: 0,
             calls: StagedCalls::new(alloc),
-            items: StagedItems::new(alloc),
+            staged: StagedEntries::new(alloc),
             records,
             tablets: Vec::new(alloc),
         })
@@ -121,7 +121,7 @@ impl MasterState {
             return Ok(Choice::Ignores);
         }
         let name = (call.table, call.key.duplicate()?);
-        let seen = seen(&self.items, &self.records, &name);
+        let seen = seen(&self.staged, &self.records, &name);
         fresh_mutation(number, tablet, call, seen)
     }
 }
@@ -144,11 +144,11 @@ fn serving<'a>(
 }
 
 // What a mutation sees of a record: the newest staged item, else that of the records.
-fn seen(items: &StagedItems, records: &BucketTable, name: &(u64, Key)) -> Option<Seen>
-    ensures { (staged : List Item) → IsKept items.now.newest staged
-        → result ≡ seen_of (option_or (newest staged name.now.0 name.now.1) (found name.now.0 name.now.1 (records_of records.now))) }
+fn seen(staged: &StagedEntries, records: &BucketTable, name: &(u64, Key)) -> Option<Seen>
+    ensures { (items : List Item) → IsKept staged.now.newest items
+        → result ≡ seen_of (option_or (newest items name.now.0 name.now.1) (found name.now.0 name.now.1 (records_of records.now))) }
 {
-    if let Some(kept) = items.look(name) {
+    if let Some(kept) = staged.look(name) {
         return Some(Seen {
             version: kept.version,
             is_live: kept.is_live,

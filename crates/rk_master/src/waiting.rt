@@ -12,6 +12,7 @@ ghost use Rattle.rk_types.specs.Places.{IsAt};
 ghost use Rattle.rk_master.specs.Places.{Row};
 ghost use Rattle.rk_master.specs.State.{IsState, master_of};
 
+use crate::staged_entries::StagedEntries;
 use crate::staging::append;
 use crate::state::MasterState;
 use crate::tablet_lane::TabletLane;
@@ -73,7 +74,7 @@ pub(crate) fn freeze_at(state: &mut MasterState, at: usize)
     ensures place { (number : ℕ) → IsAt number state.old.tablets.items at → IsAt number state.new.tablets.items at }
 {
     let range = state.tablets[at].1.handover.range;
-    if !is_settled(&state.log, state.applied, &range) {
+    if !is_settled(&state.staged, &range) {
         return;
     }
     let tablet = &mut state.tablets[at].1;
@@ -100,7 +101,7 @@ fn close_at(state: &mut MasterState, at: usize) -> Result<(), NoMemory>
     let place = state.log.length();
     let tablet = &mut state.tablets[at].1;
     tablet.join(place);
-    append(&mut state.log, &mut state.items, entry)?;
+    append(&mut state.log, &mut state.staged, entry)?;
     Ok(())
 }
 
@@ -116,13 +117,19 @@ fn is_sealed_stored(log: &MasterLog, tablet: &TabletLane) -> bool
     true
 }
 
-// Whether nothing of a range is staged, where so many entries are applied. A step for each staged entry.
-fn is_settled(log: &MasterLog, applied: u64, range: &Range) -> bool
-    requires { applied ≤ length log.now.entries }
-    ensures { result ≡ not (list_any (touches_lem range.now) (drop applied log.now.entries)) }
+// Whether nothing of a range is staged. A step for each staged entry.
+fn is_settled(staged: &StagedEntries, range: &Range) -> bool
+    ensures { result ≡ not (list_any (touches_lem range.now) staged.now.entries.items) }
 {
-    let staged = log.entries_from(applied);
-    for entry in staged {
+    let (front, back) = staged.entries().as_slices();
+    none_touches(front, range) && none_touches(back, range)
+}
+
+// Whether none of these entries is of a range.
+fn none_touches(entries: &[Entry], range: &Range) -> bool
+    ensures { result ≡ not (list_any (touches_lem range.now) entries.now) }
+{
+    for entry in entries {
         if touches(range, entry) {
             return false;
         }

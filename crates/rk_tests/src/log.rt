@@ -35,7 +35,7 @@ fn append<R: Abort + AllocGlobal>(
 {
     let entry = put(rt.alloc(), key, count)?;
     assert!(rt; log.size() < 1 << 31);
-    log.append(entry)?;
+    log.append(&entry)?;
     Ok(())
 }
 
@@ -90,10 +90,12 @@ fn commits_what_both_hold(rt: HostRuntime) -> Result<(), Fail> {
 }
 
 #[test]
-fn lends_its_entries(rt: HostRuntime) -> Result<(), Fail> {
+fn reads_its_entries(rt: HostRuntime) -> Result<(), Fail> {
     let log = log_of_one(&rt)?;
-    assert!(rt; log.length() > 0);
-    same(&rt, log.entry(0), &put(rt.alloc(), b'a', 1)?);
+    let entries = log.entries_from(0)?;
+    same(&rt, &entries.first(), &Some(&put(rt.alloc(), b'a', 1)?));
+    let none = log.entries_from(log.length())?;
+    same(&rt, &none.first(), &None);
     Ok(())
 }
 
@@ -134,6 +136,18 @@ fn begins_a_segment_where_an_entry_has_no_room(rt: HostRuntime) -> Result<(), Fa
     same(&rt, &(log.length(), log.bytes(1).len()), &(16, 123_465));
     same(&rt, &log.bytes(2), &last.as_slice());
     same(&rt, &pending(&log), &Ok(Some((1, 0, 123_465))));
+    Ok(())
+}
+
+// The last two entries end in different segments.
+#[test]
+fn reads_entries_of_two_segments(rt: HostRuntime) -> Result<(), Fail> {
+    let log = log_of_sixteen(&rt)?;
+    assert!(rt; log.length() == 16);
+    let entries = log.entries_from(14)?;
+    same(&rt, &entries.first(), &Some(&put(rt.alloc(), b'o', 8_192)?));
+    same(&rt, &entries.get(1), &Some(&put(rt.alloc(), b'p', 8_192)?));
+    same(&rt, &entries.len(), &2);
     Ok(())
 }
 

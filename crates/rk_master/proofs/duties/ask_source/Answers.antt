@@ -22,7 +22,7 @@ returns-clause-state c =
     subst (λ (r : Row). IsClosable (tablet_of r.1)) (sym c.index_mut-row.ensures.value) (closable_at rows c.args.at read c.requires.within c.requires.state.tablets.closable) in
     record {
       within = c.requires.state.within;
-      kept = c.requires.state.kept;
+      staged = c.requires.state.staged;
       backups = c.requires.state.backups;
       sides = c.requires.state.sides;
       tablets = lawful_read rows c.args.at read c.next_batch.new.self c.requires.within c.index_mut-row.ensures.value c.requires.state.tablets

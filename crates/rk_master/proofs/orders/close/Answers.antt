@@ -35,7 +35,7 @@ freeze_at-requires-clause-state c =
     let role = ap (λ (t : Tablet). t.handover.role) c.forget_merged.ensures ∙ closed_role read.1.handover c.close.new.self c.args.tenure.term moved in
     record {
       within = c.requires.state.within;
-      kept = c.requires.state.kept;
+      staged = c.requires.state.staged;
       backups = c.requires.state.backups;
       sides = c.requires.state.sides;
       tablets = lawful_read c.args.state.now.tablets.items c.args.at read lane c.requires.place.within c.index_mut.ensures.value c.requires.state.tablets

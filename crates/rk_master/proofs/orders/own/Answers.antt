@@ -32,7 +32,7 @@ returns-clause-state c =
     let role : c.pull_from.new.self.handover.role ≡ roles.Serving = ap (λ (t : Tablet). t.handover.role) c.pull_from.ensures ∙ owned_role read.1.handover handover c.args.tenure.term c.args.state.now.applied moved in
     record {
       within = c.requires.state.within;
-      kept = c.requires.state.kept;
+      staged = c.requires.state.staged;
       backups = c.requires.state.backups;
       tablets = lawful_read c.args.state.now.tablets.items c.args.at read c.pull_from.new.self c.requires.place.within c.index_mut.ensures.value c.requires.state.tablets
           (closable_in (tablet_of c.pull_from.new.self) roles.Serving role (λ it. tt));

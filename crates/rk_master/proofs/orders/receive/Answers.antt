@@ -50,7 +50,7 @@ returns-clause-state c =
     let longer : c.args.state.now.applied ≤ length (entries ++ entry ∷ []) = omega (arith, before, length-append entries (entry ∷ [])) in
     record {
       within = subst (λ (log : Log). c.args.state.now.applied ≤ length log.entries) (sym c.in_ok-append.ensures.log) longer;
-      kept = c.in_ok-append.ensures.kept c.args.state.now.applied before c.requires.state.kept;
+      staged = c.in_ok-append.ensures.staged c.args.state.now.applied before c.requires.state.staged;
       backups = ap (λ (log : Log). length log.known) c.in_ok-append.ensures.log ∙ c.requires.state.backups;
       tablets = lawful_read c.args.state.now.tablets.items c.args.at read c.pull_from.new.self c.requires.place.within c.index_mut.ensures.value c.requires.state.tablets closable;
       sides = subst (λ (log : Log). AreSpelled log.sides) (sym c.in_ok-append.ensures.log) c.requires.state.sides;

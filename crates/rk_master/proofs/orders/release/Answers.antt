@@ -36,7 +36,7 @@ returns-clause-state c =
     let role = ap (λ (t : Tablet). t.handover.role) c.forget_merged.ensures ∙ released_role read.1.handover handover c.args.tenure.term moved in
     record {
       within = c.requires.state.within;
-      kept = c.requires.state.kept;
+      staged = c.requires.state.staged;
       backups = c.requires.state.backups;
       tablets = lawful_read c.args.state.now.tablets.items c.args.at read lane c.requires.place.within c.index_mut.ensures.value c.requires.state.tablets
           (closable_in (tablet_of lane) roles.Absent role (λ it. tt));

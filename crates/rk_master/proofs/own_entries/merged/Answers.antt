@@ -18,12 +18,12 @@ returns c =
     let log : Log = c.args.log.now in
     let tablet : Tablet = tablet_of c.args.tablet.now in
     let range : Range = tablet.handover.range in
-    let own : List Entry = lent c.as_slice-3.result.now in
+    let own : List Entry = lent c.as_slice-4.result.now in
     let sides : NumberMap (List Entry) = c.in_ok-sides.sides in
-    let entries : own ≡ drop c.args.from log.entries = ap lent c.as_slice-3.ensures.value ∙ c.in_ok-own.ensures ∙ c.entries_behind.ensures in
-    let numbers = c.as_slice-2.ensures ∙ c.in_ok-numbers.ensures
-    ∙ ap (λ (es : List (Bor Entry)). named range (lent es)) (c.as_slice.ensures.value ∙ sym c.as_slice-3.ensures.value) in
+    let entries : own ≡ drop c.args.from log.entries = ap lent c.as_slice-4.ensures.value ∙ c.in_ok-own.ensures ∙ c.as_slice.ensures.value ∙ c.in_ok-entries.ensures in
+    let numbers = c.as_slice-3.ensures ∙ c.in_ok-numbers.ensures
+    ∙ ap (λ (es : List (Bor Entry)). named range (lent es)) (c.as_slice-2.ensures.value ∙ sym c.as_slice-4.ensures.value) in
     let are : AreRead sides log.sides (named range own) = subst (AreRead sides log.sides) numbers c.in_ok-sides.ensures in
-    let counted = ap lent c.as_slice-4.ensures.value ∙ c.in_ok-counted.ensures ∙ own_counts range sides log c.args.from own c.requires entries are in
+    let counted = ap lent c.as_slice-5.ensures.value ∙ c.in_ok-counted.ensures ∙ own_counts range sides log c.args.from own c.requires entries are in
     IfOk-weaker c.merge.result _ (λ merged. merged ≡ merged_with tablet (own_counted log range c.args.from))
     (λ merged is. is ∙ ap (merged_with tablet) counted) c.merge.ensures

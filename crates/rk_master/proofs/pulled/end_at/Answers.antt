@@ -31,7 +31,7 @@ returns-then-not-is_empty-clause-state c =
     c.end_pull.ensures.tablet ∙ ap (with_handover (tablet_of read.1)) c.end_pull.ensures.handover in
     record {
       within = c.requires.state.within;
-      kept = c.requires.state.kept;
+      staged = c.requires.state.staged;
       backups = c.requires.state.backups;
       sides = c.requires.state.sides;
       tablets = lawful_read rows c.args.at read lane c.requires.within c.index_mut.ensures.value c.requires.state.tablets (subst IsClosable (sym same) closable);
@@ -66,7 +66,7 @@ returns-clause-state c =
     let longer : c.args.state.now.applied ≤ length (entries ++ c.in_ok-entry.entry ∷ []) = omega (arith, before, length-append entries (c.in_ok-entry.entry ∷ [])) in
     record {
       within = subst (λ (log : Log). c.args.state.now.applied ≤ length log.entries) (sym c.in_ok-append.ensures.log) longer;
-      kept = c.in_ok-append.ensures.kept c.args.state.now.applied before c.requires.state.kept;
+      staged = c.in_ok-append.ensures.staged c.args.state.now.applied before c.requires.state.staged;
       backups = ap (λ (log : Log). length log.known) c.in_ok-append.ensures.log ∙ c.requires.state.backups;
       sides = subst (λ (log : Log). AreSpelled log.sides) (sym c.in_ok-append.ensures.log) c.requires.state.sides;
       tablets = lawful_read rows c.args.at read lane c.requires.within c.index_mut.ensures.value c.requires.state.tablets

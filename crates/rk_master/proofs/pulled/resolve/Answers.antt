@@ -33,7 +33,7 @@ returns-then-not-resolve-clause-state c =
     let closable : IsClosable (tablet_of c.resolve.new.self) = subst IsClosable (sym c.resolve.ensures.tablet) (closable_read rows c.args.at read within c.index_mut.ensures.value c.requires.state.tablets) in
     record {
       within = c.requires.state.within;
-      kept = c.requires.state.kept;
+      staged = c.requires.state.staged;
       backups = c.requires.state.backups;
       sides = c.requires.state.sides;
       tablets = lawful_read rows c.args.at read c.resolve.new.self within c.index_mut.ensures.value c.requires.state.tablets closable;
@@ -66,7 +66,7 @@ returns-clause-state c =
     let closable : IsClosable (tablet_of lane) = subst IsClosable (sym c.in_ok-replay.ensures.tablet) before in
     record {
       within = c.requires.state.within;
-      kept = c.requires.state.kept;
+      staged = c.requires.state.staged;
       backups = c.requires.state.backups;
       sides = c.requires.state.sides;
       tablets = lawful_read rows c.args.at read lane within c.index_mut.ensures.value c.requires.state.tablets closable;

@@ -13,7 +13,7 @@ use Rattle.rk_world.specs.SideLogs.{sealed_sides}
 use Rattle.rk_world.specs.Tablet.{Tablet}
 use Rattle.rk_world.specs.Waiting.{joined_entry}
 use Rattle.rk_master.specs.declared.tablet_lane.TabletLane.{TabletLane}
-use Rattle.rk_master.specs.Kept.{IsKeptFrom}
+use Rattle.rk_master.specs.Kept.{AreStagedFrom}
 use Rattle.rk_master.specs.Parts.{tablet_of}
 use Rattle.rk_master.specs.Places.{Row}
 use Rattle.rk_master.specs.Pulls.{with_sealed, with_sides}
@@ -33,12 +33,12 @@ returns-clause-state c =
     let role = ap (λ (t : Tablet). t.handover.role) c.note_sealed.ensures ∙ c.requires.pulls read (read_there rows c.args.at read c.requires.within c.index_mut.ensures.value) in
     let named = names_itself (tablet_of read.1) (c.requires.pulls read (read_there rows c.args.at read c.requires.within c.index_mut.ensures.value))
     (closable_read rows c.args.at read c.requires.within c.index_mut.ensures.value c.requires.state.tablets) in
-    let kept_log = subst (λ (l : Log). IsKeptFrom c.args.state.now.applied c.args.state.now.items.newest l.entries) (sym c.in_ok-sealed.ensures.log) c.requires.state.kept in
+    let staged_log = subst (λ (l : Log). AreStagedFrom c.args.state.now.applied c.args.state.now.staged l.entries) (sym c.in_ok-sealed.ensures.log) c.requires.state.staged in
     let lists : List (List Held) = sealed_sides read.1.sides in
     let log_is : c.add_sides.new.log ≡ with_sides log (map spelled_items lists) = c.in_ok-sealed.ensures.log ∙ ap (with_sides log) c.seal-segments.ensures.bytes in
     record {
       within = subst (λ (l : Log). c.args.state.now.applied ≤ length l.entries) (sym c.in_ok-sealed.ensures.log) c.requires.state.within;
-      kept = kept_log;
+      staged = staged_log;
       backups = ap (λ (l : Log). length l.known) c.in_ok-sealed.ensures.log ∙ c.requires.state.backups;
       sides = subst (λ (l : Log). AreSpelled l.sides) (sym log_is) (spelled_added log lists (sealed_lawful read.1.sides c.seal-segments.ensures.lawful) c.requires.state.sides);
       tablets = lawful_read rows c.args.at read lane c.requires.within c.index_mut.ensures.value c.requires.state.tablets

@@ -25,7 +25,7 @@ returns-clause-state c =
     let closable : IsClosable (tablet_of lane) = subst IsClosable (sym is) (closable_read rows c.args.at read c.requires.within c.index_mut.ensures.value c.requires.state.tablets) in
     record {
       within = c.requires.state.within;
-      kept = c.requires.state.kept;
+      staged = c.requires.state.staged;
       backups = c.requires.state.backups;
       sides = c.requires.state.sides;
       tablets = lawful_read rows c.args.at read lane c.requires.within c.index_mut.ensures.value c.requires.state.tablets closable;

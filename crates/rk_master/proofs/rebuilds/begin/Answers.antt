@@ -60,7 +60,7 @@ returns-clause-state c =
     let gathered_rows = with_items_is c.hand.new.tablets c.begin_gather.new.tablets (c.begin_gather.auto.tablets ∙ c.as_mut_slice-2.ensures.len) in
     record {
       within = state.within;
-      kept = state.kept;
+      staged = state.staged;
       backups = state.backups;
       sides = state.sides;
       tablets = subst AreTablets (sym gathered_rows) c.begin_gather.ensures.tablets;

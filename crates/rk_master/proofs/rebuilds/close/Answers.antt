@@ -56,7 +56,7 @@ returns-clause-state c =
     let closed = log_closes log c.append_items.new.log c.append.new.log merged.copies c.in_ok-closing.closing items c.in_ok-append.ensures.log in
     record {
       within = omega (arith, longer, one_longer c.append.new.log c.append_items.new.log c.in_ok-closing.closing c.in_ok-append.ensures.log);
-      kept = c.in_ok-append.ensures.kept applied longer (c.in_ok-append_items.ensures.kept applied within c.requires.state.kept);
+      staged = c.in_ok-append.ensures.staged applied longer (c.in_ok-append_items.ensures.staged applied within c.requires.state.staged);
       backups = ap (λ (l : Log). length l.known) closed ∙ c.requires.state.backups;
       sides = subst (λ (l : Log). AreSpelled l.sides) (sym closed) c.requires.state.sides;
       tablets = lawful_read c.args.state.now.tablets.items c.args.at read lane c.requires.place.within c.index_mut.ensures.value c.requires.state.tablets

@@ -24,7 +24,7 @@ returns-clause-state c =
     let found = subst (λ (xs : List Row). IsAt c.args.copy.now.tenure.tablet xs c.in-Ok.at) c.as_slice.ensures.value c.in-Ok.ensures.found in
     record {
       within = c.requires.within;
-      kept = c.requires.kept;
+      staged = c.requires.staged;
       backups = c.requires.backups;
       sides = c.requires.sides;
       tablets = lawful_read rows c.in-Ok.at read lane found.within c.index_mut.ensures.value c.requires.tablets

@@ -13,7 +13,7 @@ returns-clause-state c =
     let log = c.in_ok-append.ensures.log in
     record {
       within = subst (λ (log : Log). applied ≤ length log.entries) (sym log) longer;
-      kept = c.in_ok-append.ensures.kept applied before c.requires.state.kept;
+      staged = c.in_ok-append.ensures.staged applied before c.requires.state.staged;
       tablets = c.requires.state.tablets;
       sides = subst (λ (log : Log). AreSpelled log.sides) (sym log) c.requires.state.sides;
       backups = ap (λ (log : Log). length log.known) log ∙ c.requires.state.backups;

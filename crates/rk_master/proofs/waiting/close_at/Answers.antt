@@ -45,7 +45,7 @@ returns-clause-state c =
     let longer : c.args.state.now.applied ≤ length (entries ++ c.in_ok-entry.entry ∷ []) = omega (arith, before, length-append entries (c.in_ok-entry.entry ∷ [])) in
     record {
       within = subst (λ (log : Log). c.args.state.now.applied ≤ length log.entries) (sym c.in_ok-append.ensures.log) longer;
-      kept = c.in_ok-append.ensures.kept c.args.state.now.applied before c.requires.state.kept;
+      staged = c.in_ok-append.ensures.staged c.args.state.now.applied before c.requires.state.staged;
       tablets = lawful_read c.args.state.now.tablets.items c.args.at c.index_mut.result.now c.join.new.self c.requires.within c.index_mut.ensures.value c.requires.state.tablets
           (closable_in (tablet_of c.join.new.self) (roles.Joining (Some c.length-place.result)) c.join.ensures.role (λ it. tt));
       sides = subst (λ (log : Log). AreSpelled log.sides) (sym c.in_ok-append.ensures.log) c.requires.state.sides;

@@ -2,7 +2,8 @@ use Rattle.std.proofs.Common.{◌≡◌, ◌+◌, ◌<◌, ◌≤◌, ◌^◌, �
 use Rattle.std.specs.Option.{SomeIff}
 use Rattle.rk_entry.specs.declared.lists.TheConstants.{FIRST_SIDE_SEGMENT}
 use Rattle.rk_segment.specs.Segment.{NumberedBytes}
-use Rattle.rk_log.specs.Parts.{Parts, parts_of, log_of, IsCounted}
+use Rattle.rk_log.specs.Stored.{spelled_in}
+use Rattle.rk_log.specs.Parts.{Parts, bytes_in, parts_of, log_of, IsCounted}
 use Rattle.rk_log.proofs.Consistency.{with_side_in, consistent_side}
 use Rattle.rk_log.proofs.Changes.{size_side, side_shown}
 use Rattle.rk_log.proofs.log.MasterLog.add_side.Goals as goal
@@ -18,7 +19,7 @@ few c =
 parts_now : (c : goal.After-self-1)
     → with_side_in (parts_of c.self.inside) c.new.result
     ≡ record {
-      entries = c.self.inside.entries.items;
+      entries = spelled_in (bytes_in c.self.inside.main.items);
       ends = c.self.inside.ends.items;
       committed = c.self.inside.committed;
       main = c.self.inside.main.items;

@@ -19,6 +19,10 @@ pub pending_in-requires-clause-backup : goal.pending_in-requires-clause-backup
 pending_in-requires-clause-backup c =
     omega (arith, backup_at (parts_of c.self.inside) c.args.self.now c.args.backup c.self.view_is c.requires, c.self.invariant.consistent.last_backup)
 
+pub pending_in-requires-clause-within : goal.pending_in-requires-clause-within
+pending_in-requires-clause-within c =
+    subst (λ (m : List Copied). AreKnown (bytes_in m) (lengths_in m)) (sym c.as_slice-main.ensures.value) c.self.invariant.consistent.main_known
+
 pub pending_in-requires-2-clause-backup : goal.pending_in-requires-2-clause-backup
 pending_in-requires-2-clause-backup c =
     omega (arith, backup_at (parts_of c.self.inside) c.args.self.now c.args.backup c.self.view_is c.requires, c.self.invariant.consistent.last_backup)

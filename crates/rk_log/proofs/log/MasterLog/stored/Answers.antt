@@ -4,7 +4,8 @@ use Rattle.std.specs.Vec.{with_items}
 use Rattle.rk_entry.specs.declared.lists.TheConstants.{FIRST_SIDE_SEGMENT}
 use Rattle.rk_log.specs.declared.copied.Copied.{Copied}
 use Rattle.rk_log.specs.declared.copied.TheConstants.{FIRST_SEGMENT}
-use Rattle.rk_log.specs.Parts.{Parts, parts_of, log_of, lengths_in, bytes_among, is_held_at, AreWithin, IsCursor, cursor_at, IsCounted}
+use Rattle.rk_log.specs.Stored.{spelled_in}
+use Rattle.rk_log.specs.Parts.{Parts, bytes_in, parts_of, log_of, lengths_in, bytes_among, is_held_at, AreWithin, IsCursor, cursor_at, IsCounted}
 use Rattle.rk_log.proofs.Grown.{Raised, raised, raised_count}
 use Rattle.rk_log.proofs.Consistency.{places_within, count_within, told_in, cursor_raised, consistent_told}
 use Rattle.rk_log.proofs.Views.{backup_at}
@@ -79,23 +80,23 @@ enough c le =
     c.args.self.now c.args.segment c.args.length c.self.invariant.consistent c.self.view_is (omega (arith, le, ap length c.bytes.ensures.bytes))
 
 -- the parts once the length is told
-parts_now : (c : After-held_from-self-inside)
+parts_now : (c : After-held_from-self-inside) → bytes_in (with_items c.self.inside.main c.raise.new.segments).items ≡ bytes_in c.self.inside.main.items
     → told_in (parts_of c.self.inside) (with_items c.self.inside.main c.raise.new.segments).items (with_items c.self.inside.sides c.raise-2.new.segments).items (c.args.backup - 1) c.advanced.result
     ≡ record {
-      entries = c.self.inside.entries.items;
+      entries = spelled_in (bytes_in (with_items c.self.inside.main c.raise.new.segments).items);
       ends = c.self.inside.ends.items;
       committed = c.held_from-self-inside.result;
       main = (with_items c.self.inside.main c.raise.new.segments).items;
       sides = (with_items c.self.inside.sides c.raise-2.new.segments).items;
       cursors = set c.self.inside.cursors.items (c.args.backup - 1) c.advanced.result;
     }
-parts_now c =
+parts_now c same =
     let held : c.held_from-self-inside.result
     ≡ c.self.inside.committed + prefix_len (is_held_at (length c.self.inside.cursors.items) (lengths_in (with_items c.self.inside.main c.raise.new.segments).items)) (drop c.self.inside.committed c.self.inside.ends.items) =
     c.held_from-self-inside.ensures
     ∙ (λ i. c.self.inside.committed + prefix_len (is_held_at ((c.len-backups.ensures ∙ c.self.inside.cursors.ok.0) i) (lengths_in (c.as_slice-4.ensures.value i))) (drop c.self.inside.committed (c.as_slice-3.ensures.value i))) in
     λ i. record {
-      entries = c.self.inside.entries.items;
+      entries = spelled_in (sym same i);
       ends = c.self.inside.ends.items;
       committed = sym held i;
       main = (with_items c.self.inside.main c.raise.new.segments).items;
@@ -108,7 +109,7 @@ invariant_of-self c =
     let furthest : c.advanced.result ≡ cursor_at (c.args.backup - 1) (with_items c.self.inside.main c.raise.new.segments).items (with_items c.self.inside.sides c.raise-2.new.segments).items =
     c.advanced.ensures ∙ (λ i. cursor_at (c.args.backup - 1) (c.as_slice.ensures.value i) (c.as_slice-2.ensures.value i)) in
     let sides = sides_raised (goal.at.invariant_of-self c).After-raise-2 in
-    subst (λ (parts : Parts). IsCounted parts c.self.inside.size) (parts_now (goal.at.invariant_of-self c).After-held_from-self-inside) (record {
+    subst (λ (parts : Parts). IsCounted parts c.self.inside.size) (parts_now (goal.at.invariant_of-self c).After-held_from-self-inside (main_raised (goal.at.invariant_of-self c).After-raise).bytes) (record {
       consistent =
           consistent_told (parts_of c.self.inside) (with_items c.self.inside.main c.raise.new.segments).items (with_items c.self.inside.sides c.raise-2.new.segments).items
           c.args.segment (c.args.backup - 1) c.args.length c.advanced.result c.self.invariant.consistent (within (goal.at.invariant_of-self c).After-bytes)
@@ -120,7 +121,7 @@ invariant_of-self c =
 
 pub returns-clause-ok : goal.returns-clause-ok
 returns-clause-ok c =
-    sym (ap log_of (parts_now (goal.at.returns-clause-ok c).After-held_from-self-inside))
+    sym (ap log_of (parts_now (goal.at.returns-clause-ok c).After-held_from-self-inside (main_raised (goal.at.returns-clause-ok c).After-raise).bytes))
     ∙ told_shown (parts_of c.self.inside) (with_items c.self.inside.main c.raise.new.segments).items (with_items c.self.inside.sides c.raise-2.new.segments).items
     c.args.self.now c.args.segment c.args.backup c.args.length c.advanced.result c.self.invariant.consistent c.self.view_is (within (goal.at.returns-clause-ok c).After-bytes)
     (main_raised (goal.at.returns-clause-ok c).After-raise) (sides_raised (goal.at.returns-clause-ok c).After-raise-2) (enough (goal.at.returns-clause-ok c).After-bytes (omega arith))

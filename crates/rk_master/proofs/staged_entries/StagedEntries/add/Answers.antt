@@ -1,8 +1,8 @@
 use Rattle.std.proofs.Common.{ap, ◌∙◌, Option}
-use Rattle.rk_master.specs.declared.staged_items.Kept.{Kept}
+use Rattle.rk_master.specs.declared.staged_entries.Kept.{Kept}
 use Rattle.rk_master.specs.Kept.{kept_with}
 use Rattle.rk_master.proofs.Keeping.{kept_added}
-use Rattle.rk_master.proofs.staged_items.StagedItems.add.Goals as goal
+use Rattle.rk_master.proofs.staged_entries.StagedEntries.add.Goals as goal
 
 pub returns-clause-ok : goal.returns-clause-ok
 returns-clause-ok c = λ items was.

@@ -1,0 +1,10 @@
+use Rattle.std.proofs.Common.{◌≡◌, List, ◌++◌, take}
+use Rattle.std.specs.Option.{option_copied}
+use Rattle.rk_entry.specs.declared.entry.Entry.{Entry}
+use Rattle.rk_overlay.specs.Newest.{newest}
+use Rattle.rk_world.specs.Ends.{items_of}
+use Rattle.rk_master.proofs.staged_entries.newest_of.Given as goal
+
+abbrev pub invariant-loop-entry : goal.invariant-loop-entry
+invariant-loop-entry l = (before : List Entry) → option_copied l.fn.best ≡ newest (items_of before) l.name.0 l.name.1
+    → option_copied l.best ≡ newest (items_of (before ++ take l.entry-index l.entries)) l.name.0 l.name.1
