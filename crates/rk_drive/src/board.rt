@@ -2,10 +2,13 @@
 use crate::signal::Signal;
 use crossbeam_utils::CachePadded;
 use std::array;
-use std::sync::atomic::{AtomicBool, AtomicU64, Ordering};
+use std::sync::atomic::{AtomicBool, AtomicU8, AtomicU64, Ordering};
 
 /// How many lanes there are, and the most clients.
 const LANES: usize = rk_types::LANES as usize;
+
+/// By so many lanes each worker for clients begins behind the one before it.
+const FURTHER: u8 = 2;
 
 const CLIENTS: usize = crate::words::MOST_CLIENTS as usize;
 
@@ -39,6 +42,8 @@ impl LaneBoard {
 pub(crate) struct Board {
     /// How many workers for clients have not ended.
     callers: AtomicU64,
+    /// How many of them have begun.
+    begun: AtomicU8,
     /// Whether memory was wanting.
     short: AtomicBool,
     /// How many calls are answered.
@@ -62,6 +67,7 @@ impl Board {
     pub(crate) fn new(callers: u64) -> Board {
         Board {
             callers: AtomicU64::new(callers),
+            begun: AtomicU8::new(0),
             short: AtomicBool::new(false),
             answered: CachePadded::new(AtomicU64::new(0)),
             lanes: array::from_fn(|_| CachePadded::new(LaneBoard::new())),
@@ -87,6 +93,11 @@ impl Board {
     pub(crate) fn stop(&self) {
         self.short.store(true, Ordering::SeqCst);
         self.wake();
+    }
+
+    /// A worker for clients begins: the lane at which it begins.
+    pub(crate) fn begin_caller(&self) -> u8 {
+        self.begun.fetch_add(FURTHER, Ordering::SeqCst)
     }
 
     /// A worker for clients has ended.
