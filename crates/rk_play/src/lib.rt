@@ -8,6 +8,7 @@
 pub use error::PlayError;
 pub use playing::play;
 
+mod coming;
 mod commands;
 mod end;
 mod error;

@@ -13,6 +13,7 @@ ghost use Rattle.rk_play.specs.Runs.{HasStatusCause, IsRead, NoneFell, Plays, re
 ghost use Rattle.rk_play.specs.Settings.{IsSetting, setting_of};
 ghost use Rattle.rk_play.specs.Stops.{stop_by};
 
+use crate::coming::Coming;
 use crate::end::End;
 use crate::error::PlayError;
 use crate::reading::{ScriptError, read_script};
@@ -84,14 +85,11 @@ fn play_commands<K: Sink, R: Replica + Drop>(
     ensures replica_cause { result ≡ Status.ReplicaFault
         → RoseInRounds MOST_FAULTS (replica_counts R.faults replicas.old.items) (replica_counts R.faults replicas.new.items) }
 {
-    let mut commands = commands;
     let opening = match read_opening(commands.as_slice()) {
         Ok(opening) => opening,
         Err(line) => return refuse(alloc, line, rk_cluster::Code::TooLate.number(), sink),
     };
-    let Ok(others) = commands.split_off(opening.count) else {
-        return Status::NoMemory;
-    };
+    let others = Coming::behind(commands, opening.count);
     play_opened(alloc, opening, others, sink, replicas)
 }
 
@@ -99,15 +97,15 @@ fn play_commands<K: Sink, R: Replica + Drop>(
 fn play_opened<K: Sink, R: Replica + Drop>(
     alloc: Global,
     opening: Opening,
-    commands: Vec<Numbered>,
+    commands: Coming,
     sink: &mut K,
     replicas: &mut Vec<R>,
 ) -> Status
-    requires lawful { All IsLawful commands.items }
+    requires lawful { All IsLawful commands }
     requires setting { IsSetting (setting_of opening) }
     requires count { length replicas.old.items ≡ 32 }
     ensures plays { AreEmpty R.segments replicas.old.items
-        → PlaysBy R.segments R.faults (part_in commands.items (cluster_by (setting_of opening))) (length commands.items) result
+        → PlaysBy R.segments R.faults (part_in commands (cluster_by (setting_of opening))) (length commands) result
         (K.written sink.old) (K.written sink.new) replicas.old.items replicas.new.items }
     ensures count { (result ≡ Status.NoMemory → ⊥) → length replicas.new.items ≡ 32 }
     ensures counts { NoneFell R.faults replicas.old.items replicas.new.items }

@@ -11,12 +11,12 @@ ghost use Rattle.rk_play.specs.Reached.{Spills};
 ghost use Rattle.rk_play.specs.Ended.{EndsBy, HasEndCause, end_by};
 ghost use Rattle.rk_play.specs.Faults.{EndsByReplicas};
 
+use crate::coming::Coming;
 use crate::commands::run_within;
 use crate::end::End;
 use crate::error::PlayError;
 use rk_cluster::Cluster;
 use rk_outside::{Failed, PIECE, Replica, Sink, put_all};
-use rk_script::Numbered;
 use std::alloc::Global;
 
 /// Runs commands one after the other, up to the first that stops the run. What they write is put into the sink in pieces,
@@ -24,19 +24,20 @@ use std::alloc::Global;
 pub(crate) fn run_all<R: Replica + Drop, K: Sink>(
     alloc: Global,
     cluster: &mut Cluster<R>,
-    commands: Vec<Numbered>,
+    commands: Coming,
     held: &mut Vec<u8>,
     sink: &mut K,
 ) -> End
-    requires lawful { All IsLawful commands.items }
+    requires lawful { All IsLawful commands }
     requires empty { held.old.items ≡ [] }
-    ensures ends { EndsBy R.segments R.faults cluster.old cluster.new commands.items (K.written sink.old) (K.written sink.new) held.new.items result }
+    ensures ends { EndsBy R.segments R.faults cluster.old cluster.new commands (K.written sink.old) (K.written sink.new) held.new.items result }
     ensures cause { HasEndCause result (K.faults sink.old) (K.faults sink.new) }
     ensures backups { backups_of cluster.new ≡ backups_of cluster.old }
     ensures counts { CountsGoOn R.faults [] cluster.old cluster.new }
     ensures replica_cause { EndsByReplicas result → FailsInRounds R.faults MOST_FAULTS cluster.old cluster.new }
 {
-    'commands: for numbered in commands {
+    let mut coming = commands;
+    'commands: while let Some(numbered) = coming.next() {
         if spill(held, sink).is_err() {
             return End::WriteFault;
         }

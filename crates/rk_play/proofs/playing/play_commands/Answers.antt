@@ -1,7 +1,6 @@
 -- A number that is set twice refuses the script before anything runs.
 use Rattle.std.proofs.Common.{ℕ, List, [], length, refl, ap, sym, subst, ◌∙◌}
 use Rattle.std.specs.Prelude.{Ok}
-use Rattle.std.proofs.KnownBytes.{Keeps-refl}
 use Rattle.rk_script.specs.declared.command.Numbered.{Numbered}
 use Rattle.rk_play.specs.Concluded.{PlaysBy, part_in}
 use Rattle.rk_play.specs.Played.{cluster_by, part_of, refused_at}
@@ -11,7 +10,7 @@ use Rattle.rk_play.specs.Settings.{IsOpened, IsRefusedEarly, setting_of}
 use Rattle.rk_play.proofs.Concluding.{refused_comes}
 use Rattle.rk_play.proofs.Failing.{refused_fault}
 use Rattle.rk_play.proofs.Openings.{opened_plays}
-use Rattle.rk_play.proofs.Telling.{refused_plays, wanting_plays}
+use Rattle.rk_play.proofs.Telling.{refused_plays}
 use Rattle.rk_play.proofs.playing.play_commands.Goals as goal
 
 pub returns-in-Err-clause-plays : goal.returns-in-Err-clause-plays
@@ -33,9 +32,6 @@ returns-in-Err-clause-replica_cause g c = λ fault.
     absurd
     (refused_fault c.in-Err.line c.number.result c.refuse.result (g.K.Sink.written c.args.sink.now) (g.K.Sink.written c.refuse.new.sink) c.refuse.ensures.concludes fault)
 
-pub returns-in_default-clause-plays : goal.returns-in_default-clause-plays
-returns-in_default-clause-plays g c = λ _. wanting_plays _ _ _ _ _ _ _ _ refl (Keeps-refl (g.K.Sink.written c.args.sink.now))
-
 pub returns-in-Err-clause-counts : goal.returns-in-Err-clause-counts
 returns-in-Err-clause-counts g c = λ _. go_on_same (replica_counts g.R.Replica.faults c.args.replicas.now.items)
 
@@ -51,4 +47,4 @@ returns-clause-plays g c = λ empty.
     (λ (others : List Numbered).
     PlaysBy g.R.Replica.segments g.R.Replica.faults (part_in others (cluster_by (setting_of c.in-Ok.opening))) (length others) c.play_opened.result
     (g.K.Sink.written c.args.sink.now) (g.K.Sink.written c.play_opened.new.sink) c.args.replicas.now.items c.play_opened.new.replicas.items)
-    c.in-Ok-split_off.ensures.tail (c.play_opened.ensures.plays empty))
+    c.behind-others.ensures (c.play_opened.ensures.plays empty))

@@ -34,7 +34,7 @@ returns-in-NoMemory-clause-plays g c = λ empty.
     in
     out_wanting segments g.R.Replica.faults old c.run_all-end.new.cluster _ _ (g.K.Sink.written c.args.sink.now) (g.K.Sink.written c.run_all-end.new.sink)
     c.args.replicas.now.items c.lend.new.replicas.items
-    (halted_out segments g.R.Replica.faults old c.run_all-end.new.cluster c.args.commands.items (g.K.Sink.written c.args.sink.now) (cluster_by setting) is
+    (halted_out segments g.R.Replica.faults old c.run_all-end.new.cluster c.args.commands (g.K.Sink.written c.args.sink.now) (cluster_by setting) is
     (g.K.Sink.written c.run_all-end.new.sink) (g.K.Sink.written c.run_all-end.new.sink) c.in-NoMemory.ensures.ends (Keeps-refl (g.K.Sink.written c.run_all-end.new.sink)))
 
 -- where memory was wanting with the cluster there, or before it was, the replicas went with it
@@ -65,7 +65,7 @@ returns g c = record {
       c.in-Ok.ensures.ok.its_are c.unwrap_or-masters.ensures c.unwrap_or-backups.ensures c.in-Ok-with_replicas.ensures.new empty
       in
       let out =
-      played_out segments faults old now c.args.commands.items (g.K.Sink.written c.args.sink.now) (cluster_by setting) is (g.K.Sink.written c.run_all-end.new.sink)
+      played_out segments faults old now c.args.commands (g.K.Sink.written c.args.sink.now) (cluster_by setting) is (g.K.Sink.written c.run_all-end.new.sink)
       (g.K.Sink.written c.conclude.new.sink) c.run_all-end.new.held.items c.run_all-end.result c.conclude.result c.in_default-end.not-NoMemory c.run_all-end.ensures.ends
       c.conclude.ensures.concludes
       in

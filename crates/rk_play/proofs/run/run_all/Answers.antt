@@ -1,7 +1,6 @@
 -- The run goes on by one command a turn.
 use Rattle.std.proofs.Common.{[], length, nat_lt, refl, sym, subst, ◌∙◌, arith}
 use Rattle.std.proofs.lemmas.List.Elements.{All-tail}
-use Rattle.std.specs.Vec.Iter.{into_iter_items}
 use Rattle.rk_outside.specs.declared.reading.TheConstants.{PIECE}
 use Rattle.rk_cluster.proofs.Faults.{counts_same, counts_then}
 use Rattle.rk_script.specs.Lawful.{IsLawful}
@@ -14,10 +13,8 @@ use Rattle.rk_play.proofs.run.run_all.Goals as goal
 
 pub commands-init : goal.commands-init
 commands-init g c = record {
-  lawful = rw c.into_iter-numbered-iterator.ensures.into_iter_gives.0 c.requires.lawful;
-  on =
-      rw c.into_iter-numbered-iterator.ensures.into_iter_gives.0
-      (on_start g.R.Replica.segments g.R.Replica.faults c.args.cluster.now c.args.commands.items (g.K.Sink.written c.args.sink.now) c.args.held.now.items c.requires.empty);
+  lawful = c.requires.lawful;
+  on = on_start g.R.Replica.segments g.R.Replica.faults c.args.cluster.now c.args.commands (g.K.Sink.written c.args.sink.now) c.args.held.now.items c.requires.empty;
   kept = refl;
   backups = refl;
   counts = counts_same g.R.Replica.faults c.args.cluster.now;
@@ -25,7 +22,7 @@ commands-init g c = record {
 
 pub returns-then-is_err-clause-ends : goal.returns-then-is_err-clause-ends
 returns-then-is_err-clause-ends g c =
-    on_failed g.R.Replica.segments g.R.Replica.faults c.args.cluster.now c.commands.cluster c.args.commands.items (into_iter_items c.commands.numbered-iterator) (g.K.Sink.written c.args.sink.now)
+    on_failed g.R.Replica.segments g.R.Replica.faults c.args.cluster.now c.commands.cluster c.args.commands c.commands.coming (g.K.Sink.written c.args.sink.now)
     (g.K.Sink.written c.commands.sink) (g.K.Sink.written c.spill.new.sink) c.commands.held.items c.commands.invariant.on
     (where_err c.spill.result _ c.spill.ensures.err (sym c.is_err.ensures.value ∙ c.if-is_err.true))
 
@@ -33,13 +30,13 @@ pub commands-preserved : goal.commands-preserved
 commands-preserved g c =
     let fine = sym c.is_err.ensures.value ∙ c.if-is_err.false in
     record {
-      lawful = All-tail IsLawful c.in-Some.numbered (into_iter_items c.next.new.self) (rw c.in-Some.ensures.steps.0 at c.commands.invariant.lawful);
+      lawful = All-tail IsLawful c.in-Some.numbered c.next.new.self (rw c.in-Some.ensures.some at c.commands.invariant.lawful);
       on =
-          on_step g.R.Replica.segments g.R.Replica.faults c.args.cluster.now c.commands.cluster c.run_within.new.cluster c.args.commands.items (into_iter_items c.next.new.self) c.in-Some.numbered
+          on_step g.R.Replica.segments g.R.Replica.faults c.args.cluster.now c.commands.cluster c.run_within.new.cluster c.args.commands c.next.new.self c.in-Some.numbered
           (g.K.Sink.written c.args.sink.now) (g.K.Sink.written c.spill.new.sink) c.spill.new.held.items
-          (on_spilled g.R.Replica.segments g.R.Replica.faults c.args.cluster.now c.commands.cluster c.args.commands.items _ (g.K.Sink.written c.args.sink.now) (g.K.Sink.written c.commands.sink)
+          (on_spilled g.R.Replica.segments g.R.Replica.faults c.args.cluster.now c.commands.cluster c.args.commands _ (g.K.Sink.written c.args.sink.now) (g.K.Sink.written c.commands.sink)
           (g.K.Sink.written c.spill.new.sink) c.commands.held.items c.spill.new.held.items (nat_lt (length c.commands.held.items) PIECE)
-          (rw c.in-Some.ensures.steps.0 at c.commands.invariant.on) (where_ok c.spill.result _ c.spill.ensures.ok fine))
+          (rw c.in-Some.ensures.some at c.commands.invariant.on) (where_ok c.spill.result _ c.spill.ensures.ok fine))
           c.run_within.new.text.items c.in-Ok.ensures.ok;
       kept = where_ok c.spill.result _ c.spill.ensures.cause.kept fine ∙ c.commands.invariant.kept;
       backups = c.run_within.ensures.backups ∙ c.commands.invariant.backups;
@@ -50,14 +47,14 @@ pub returns-in-Err-clause-ends : goal.returns-in-Err-clause-ends
 returns-in-Err-clause-ends g c =
     let fine = sym c.is_err.ensures.value ∙ c.if-is_err.false in
     subst
-    (λ (end : End). EndsBy g.R.Replica.segments g.R.Replica.faults c.args.cluster.now c.run_within.new.cluster c.args.commands.items (g.K.Sink.written c.args.sink.now) (g.K.Sink.written c.spill.new.sink)
+    (λ (end : End). EndsBy g.R.Replica.segments g.R.Replica.faults c.args.cluster.now c.run_within.new.cluster c.args.commands (g.K.Sink.written c.args.sink.now) (g.K.Sink.written c.spill.new.sink)
     c.run_within.new.text.items end)
     (sym c.end_at.ensures)
-    (on_ended g.R.Replica.segments g.R.Replica.faults c.args.cluster.now c.commands.cluster c.run_within.new.cluster c.args.commands.items (into_iter_items c.next.new.self) c.in-Some.numbered
+    (on_ended g.R.Replica.segments g.R.Replica.faults c.args.cluster.now c.commands.cluster c.run_within.new.cluster c.args.commands c.next.new.self c.in-Some.numbered
     (g.K.Sink.written c.args.sink.now) (g.K.Sink.written c.spill.new.sink) c.spill.new.held.items
-    (on_spilled g.R.Replica.segments g.R.Replica.faults c.args.cluster.now c.commands.cluster c.args.commands.items _ (g.K.Sink.written c.args.sink.now) (g.K.Sink.written c.commands.sink)
+    (on_spilled g.R.Replica.segments g.R.Replica.faults c.args.cluster.now c.commands.cluster c.args.commands _ (g.K.Sink.written c.args.sink.now) (g.K.Sink.written c.commands.sink)
     (g.K.Sink.written c.spill.new.sink) c.commands.held.items c.spill.new.held.items (nat_lt (length c.commands.held.items) PIECE)
-    (rw c.in-Some.ensures.steps.0 at c.commands.invariant.on) (where_ok c.spill.result _ c.spill.ensures.ok fine))
+    (rw c.in-Some.ensures.some at c.commands.invariant.on) (where_ok c.spill.result _ c.spill.ensures.ok fine))
     c.in-Err.error c.run_within.new.text.items c.in-Err.ensures.kept c.in-Err.ensures.err)
 
 pub returns-in-Err-clause-cause : goal.returns-in-Err-clause-cause

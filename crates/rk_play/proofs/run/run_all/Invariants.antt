@@ -1,6 +1,5 @@
 -- The commands that have run have written their pieces, and the others are left.
-use Rattle.std.proofs.Common.{◌≡◌, [], All}
-use Rattle.std.specs.Vec.Iter.{into_iter_items}
+use Rattle.std.proofs.Common.{◌≡◌, [], All, length}
 use Rattle.rk_cluster.specs.Faults.{CountsGoOn}
 use Rattle.rk_cluster.specs.Masters.{backups_of}
 use Rattle.rk_script.specs.Lawful.{IsLawful}
@@ -9,9 +8,12 @@ use Rattle.rk_play.proofs.run.run_all.Given as goal
 
 abbrev pub invariant-commands : goal.invariant-commands
 invariant-commands g l = record {
-  lawful : All IsLawful (into_iter_items l.numbered-iterator);
-  on : IsOn g.R.Replica.segments g.R.Replica.faults l.fn.cluster l.cluster l.fn.commands.items (into_iter_items l.numbered-iterator) (g.K.Sink.written l.fn.sink) (g.K.Sink.written l.sink) l.held.items;
+  lawful : All IsLawful l.coming;
+  on : IsOn g.R.Replica.segments g.R.Replica.faults l.fn.cluster l.cluster l.fn.commands l.coming (g.K.Sink.written l.fn.sink) (g.K.Sink.written l.sink) l.held.items;
   kept : g.K.Sink.faults l.sink ≡ g.K.Sink.faults l.fn.sink;
   backups : backups_of l.cluster ≡ backups_of l.fn.cluster;
   counts : CountsGoOn g.R.Replica.faults [] l.fn.cluster l.cluster;
 }
+
+abbrev pub decreases-commands : goal.decreases-commands
+decreases-commands g l = length l.coming
