@@ -1,5 +1,4 @@
 pub mod Roles
-pub mod Freezing
 pub mod Steady
 pub mod RoleTaken
 pub mod Closed

@@ -2,9 +2,9 @@ pub mod Apart
 pub mod Speakers
 pub mod Rows
 pub mod Heirs
+pub mod Members
 pub mod Serving
 pub mod TurnedRows
-pub mod OpensOn
 pub mod BeforeTurn
 pub mod RowSays
 pub mod OtherRows
@@ -13,8 +13,6 @@ pub mod RowReplaced
 pub mod RowTurned
 pub mod PlaceNoted
 pub mod MigrationBegun
-pub mod LeftMasters
-pub mod NoticedPosts
 pub mod CrashNoticed
 pub mod AddedRows
 pub mod AddedSays

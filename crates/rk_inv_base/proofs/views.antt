@@ -11,7 +11,6 @@ pub mod Alike
 pub mod Seen
 pub mod Terms
 pub mod Cover
-pub mod Above
 pub mod Places
 pub mod Needed
 pub mod Tables

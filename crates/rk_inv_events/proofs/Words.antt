@@ -61,3 +61,5 @@ pub use Rattle.rk_inv_rows.specs.lineage.Small.{marks_taken, row_owned_in}
 pub use Rattle.rk_inv_logs.proofs.apply.Applying.{Applying, IsCallEnd, applying, call_ended, change_by, its_last, leaves_so, mutation}
 pub use Rattle.rk_inv_logs.proofs.apply.OfRow.{role_fits, row_done, row_formed, row_goes_on, row_ranged, row_rebuilt, row_said, row_true}
 pub use Rattle.rk_inv_logs.specs.apply.Small.{entry_applied_in, with_item_of, worked_in}
+pub use Rattle.rk_inv_logs.proofs.read.ReadLog.{named_in, none_of, whole_part}
+pub use Rattle.rk_inv_logs.proofs.read.ReadMember.{flat_same}

@@ -1,4 +1,1 @@
-pub mod GatheringRow
 pub mod Gathers
-pub mod Merges
-pub mod Delivered

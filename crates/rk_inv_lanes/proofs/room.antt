@@ -7,8 +7,6 @@ pub mod Logging
 pub mod RecordLanes
 pub mod SealedFew
 pub mod Fitting
-pub mod FittingPulls
-pub mod FittingSteps
 pub mod FittingLanes
 pub mod Start
 pub mod Events

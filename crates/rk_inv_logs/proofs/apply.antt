@@ -8,7 +8,10 @@ pub mod ItemPut
 pub mod TargetApplied
 pub mod Applies
 pub mod Applying
-pub mod AppliedFrames
+pub mod Members
+pub mod Staged
+pub mod CallHistory
+pub mod CallEnds
 pub mod AppliedTruth
 pub mod AppliedCounters
 pub mod AppliedRest
@@ -17,6 +20,7 @@ pub mod AppliedTables
 pub mod AppliedState
 pub mod EntryPassed
 pub mod CallApplied
+pub mod More
 pub mod Keeps
 pub mod Passing
 pub mod PassingState

@@ -1,4 +1,5 @@
 pub mod Waiting
+pub mod LastCalls
 pub mod PlacedEnds
 pub mod MergedRead
 pub mod LastEnds

@@ -1,3 +1,4 @@
+pub mod Words
 pub mod lineage
 pub mod split
 pub mod finished

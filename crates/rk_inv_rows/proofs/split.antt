@@ -3,10 +3,7 @@ pub mod HalfCounts
 pub mod HalfTells
 pub mod HalfRests
 pub mod HalfOfRow
-pub mod SplitRows
 pub mod Splitting
-pub mod HalvedTerms
-pub mod HalvedCalls
 pub mod HalvedMessages
 pub mod RowSplit
 pub mod Split

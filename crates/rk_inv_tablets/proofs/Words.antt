@@ -17,6 +17,7 @@ pub use Rattle.rk_inv_base.proofs.logs.MarkedApart.{apart_either, entry_apart, i
 pub use Rattle.rk_inv_base.proofs.logs.Segments.{Grows, bytes_in, bytes_main, bytes_side, bytes_zero, first_part_same, found_in}
 pub use Rattle.rk_inv_base.proofs.logs.Segments.{numbered_at, numbered_before, numbered_past, with_bytes_front, with_bytes_full}
 pub use Rattle.rk_inv_base.proofs.logs.Shares.{drop_all, joined_same, rest_inside, unless_marked, unmarked_from_last, unmarked_from_none}
+pub use Rattle.rk_inv_base.proofs.logs.Shares.{marked_none}
 pub use Rattle.rk_inv_base.proofs.pulls.Joining.{IsSecond, joining_second, kept_stands, scanned, stands_kept}
 pub use Rattle.rk_inv_base.proofs.roles.Released.{IsOutside, heir_outside, outside_post}
 pub use Rattle.rk_inv_base.proofs.roles.RoleTaken.{rows_apart}
@@ -61,3 +62,8 @@ pub use Rattle.rk_sound.specs.Moves.{IsSettledIn, MayBegin, MayPrepare}
 pub use Rattle.rk_tablet_map.specs.Phase.{member}
 pub use Rattle.rk_transfer.specs.Handover.{rebuilt}
 pub use Rattle.rk_world.specs.Gather.{gather_begun, main_entries, unread}
+pub use Rattle.rk_inv_base.proofs.logs.OneMore.{joins_beside}
+pub use Rattle.rk_inv_wellformed.proofs.masters.Pulls.{items_again}
+pub use Rattle.rk_inv_wellformed.proofs.masters.Rebuilding.{floor_first}
+pub use Rattle.rk_inv_wellformed.proofs.maps.Maps.{found_changed}
+pub use Rattle.std.proofs.lemmas.Bool.{lt-leb}

@@ -6,9 +6,6 @@ pub mod Merging
 pub mod MaterialTold
 pub mod MergedLogs
 pub mod Collected
-pub mod MergedCalls
-pub mod MergedReceives
-pub mod MergedRebuilds
 pub mod MergedMessages
 pub mod Merged
 pub mod RebuildMerged

@@ -1,9 +1,7 @@
 pub mod Outside
 pub mod Left
 pub mod Yielding
-pub mod YieldedCalls
 pub mod YieldedMessages
-pub mod YieldedRecords
 pub mod Yielded
 pub mod OthersGivenUp
 pub mod OwnItems

@@ -5,7 +5,6 @@ pub mod EntryBytes
 pub mod LogBytes
 pub mod TurnBytes
 pub mod PullBytes
-pub mod CopyBytes
 pub mod RebuildBytes
 pub mod StepBytes
 pub mod ByteEvents

@@ -1,4 +1,3 @@
 pub mod Rows
 pub mod Coordinators
-pub mod SplitLaws
 pub mod NoticeLaws

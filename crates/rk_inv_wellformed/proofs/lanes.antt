@@ -1,12 +1,9 @@
-pub mod Messages
 pub mod Backups
 pub mod More
 pub mod Ledgers
-pub mod Wires
 pub mod Worlds
 pub mod Works
 pub mod Events
-pub mod Sessions
 pub mod Asks
 pub mod Happenings
 pub mod Whole

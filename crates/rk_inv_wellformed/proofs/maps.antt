@@ -1,4 +1,5 @@
 -- What is said of lists and of maps by number, passed on from one place.
+
 pub mod Lists
 pub mod Rising
 pub mod Maps

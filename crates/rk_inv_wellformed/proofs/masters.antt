@@ -1,16 +1,11 @@
 pub mod Work
 pub mod MergedOnce
-pub mod Given
 pub mod Handovers
 pub mod Changes
 pub mod Tablets
 pub mod Requests
 pub mod Pulls
-pub mod Replays
-pub mod Waiting
 pub mod Commits
 pub mod Sealing
-pub mod Merges
 pub mod Rebuilding
 pub mod Turns
-pub mod MasterSteps

@@ -1,10 +1,4 @@
-pub mod SideWaits
-pub mod Counters
 pub mod Rises
 pub mod Rooms
-pub mod MoreCounters
-pub mod RebuildCounters
-pub mod FewWorks
 pub mod StepsFew
 pub mod RoomEvents
-pub mod RoomRuns

@@ -25,9 +25,6 @@ module _ (v : View) (place : ℕ) (sound : SoundView v) (may : MayAccept v place
   abbrev after : List Placed
   after = slice_set v.journal place (as_accepted may.placed)
 
-  abbrev now : View
-  now = record v { journal = after }
-
   same : AreSameRecords v.journal after
   same = accepted_same v.journal place may.placed may.stands
 
@@ -134,7 +131,7 @@ module _ (v : View) (place : ℕ) (sound : SoundView v) (may : MayAccept v place
       (accepted_cases v.journal place may.placed j b at_j))
       (accepted_cases v.journal place may.placed i a at_i)
 
-  asked : AskedOf now
+  asked : AskedOf (record v { journal = after })
   asked = record {
     last = sound.asked.last;
     own_keys =
@@ -153,13 +150,9 @@ module _ (v : View) (place : ℕ) (sound : SoundView v) (may : MayAccept v place
     again = λ n m found. is_request_by v.asked v.asked v.journal after request_fits n m.from m.body (sound.asked.again n m found);
   }
 
-  -- the journal is just that
-  journal_is : accepted_at v.journal place (slice_get v.journal place) ≡ after
-  journal_is = ap (accepted_at v.journal place) may.stands
-
   pub view_accepted : SoundView (accepted v place)
   view_accepted =
-      subst (λ (journal : List Placed). SoundView (record v { journal = journal })) (sym journal_is)
+      subst (λ (journal : List Placed). SoundView (record v { journal = journal })) (sym (ap (accepted_at v.journal place) may.stands))
       (view_with_journal v after sound
       (record {
         covered =

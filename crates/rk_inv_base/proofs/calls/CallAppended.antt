@@ -1,35 +1,47 @@
 -- A view stays sound when the entry of a call is appended to the log of a master that answers calls for its key.
 use Rattle.std.proofs.Common.{◌≡◌, ℕ, ◌≤◌, ◌<◌, true, false, List, [], ◌∷◌, ◌++◌, length, Option, None, Some, refl, sym, ap, subst, ◌∙◌}
-use Rattle.std.proofs.Common.{⊎_elim, inl, arith, slice_get, IfSome, All, Contains, append-nil}
-use Rattle.rk_inv_base.proofs.Words.{cases_Bool, cond-false, flat_map-append, All-head, All-tail, All-weaker, Contains-append_left}
-use Rattle.rk_inv_base.proofs.Words.{each_insert, get_same, get_other, slice_get_within, NumberMap, EachIn, insert, get, hash_of, has_key}
-use Rattle.rk_inv_base.proofs.Words.{meets, Call, Ended, Held, Member, Range, slice_get_push_cases, Entry, is_serving, Handover, lineage_of}
-use Rattle.rk_inv_base.proofs.Words.{Row, Handed, items_in, items_of, told, told_by, floor_of, touches, counts, Written, member_material}
-use Rattle.rk_inv_base.proofs.Words.{IsNext, IsEntryWithin, IsOfWholeRows, AreAbove, post_of, handed_by, handed_for_grant, IsEntryOf}
-use Rattle.rk_inv_base.proofs.Words.{IsPlaced, IsRest, MembersFit, FirstIsDone, EachHasCall, IsLast, Waits, MayAppend, with_counter}
-use Rattle.rk_inv_base.proofs.Words.{with_one_more, View, truths, rests, SoundView, All-contains, AreApart, is_granted, is_marked, last_of}
-use Rattle.rk_inv_base.proofs.Words.{lineage_truth, may_have_staged, member_truth, put}
+use Rattle.std.proofs.Common.{⊎_elim, inl, arith, slice_get, IfSome, All, Contains, append-nil, append_assoc}
+use Rattle.rk_inv_base.proofs.Words.{cond-false, flat_map-append, All-head, All-tail, All-weaker, Contains-append_left, each_insert}
+use Rattle.rk_inv_base.proofs.Words.{get_same, get_other, slice_get_within, NumberMap, EachIn, insert, get, hash_of, has_key, meets, Call}
+use Rattle.rk_inv_base.proofs.Words.{Ended, Held, Member, Range, slice_get_push_cases, Entry, is_serving, Handover, lineage_of, Row, Handed}
+use Rattle.rk_inv_base.proofs.Words.{items_in, items_of, told, told_by, floor_of, touches, counts, Written, member_material, IsNext}
+use Rattle.rk_inv_base.proofs.Words.{IsEntryWithin, IsOfWholeRows, AreAbove, post_of, handed_by, handed_for_grant, IsEntryOf, IsPlaced}
+use Rattle.rk_inv_base.proofs.Words.{IsRest, MembersFit, FirstIsDone, EachHasCall, IsLast, Waits, MayAppend, with_counter, with_one_more}
+use Rattle.rk_inv_base.proofs.Words.{View, truths, rests, SoundView, All-contains, AreApart, is_granted, is_marked, last_of, lineage_truth}
+use Rattle.rk_inv_base.proofs.Words.{may_have_staged, member_truth, put, false_from_ne_true, is_of, IsAboveAll}
 use Rattle.rk_model.proofs.Places.{slice_get_end}
 use Rattle.rk_entry.specs.declared.entry.Entry.TheVariants as entries
 use Rattle.rk_sound.specs.Small.{appended}
-use Rattle.rk_inv_base.proofs.logs.EntryAppended.{view_with_entry, waits_on}
+use Rattle.rk_inv_base.proofs.logs.EntryAppended.{view_with_entry, waits_on, IsAtEnd}
 use Rattle.rk_inv_base.proofs.logs.Logs.{none_stored}
-use Rattle.rk_inv_base.proofs.logs.OneMore.{of_written, rest_grown, within, applied_same}
+use Rattle.rk_inv_base.proofs.logs.OneMore.{of_written, within, applied_same, lineage_grown}
 use Rattle.rk_inv_base.proofs.logs.Shares.{counts_call, joins_call, marked_none, names_call, segments_call, touches_call}
 use Rattle.rk_inv_base.proofs.rows.Apart.{in_one_row, no_meeting}
 use Rattle.rk_inv_base.proofs.rows.RowAppended.{RestFits, StaysAs, names_grown, target_grown}
 use Rattle.rk_inv_base.proofs.rows.Serving.{serving_stages}
 use Rattle.rk_inv_base.proofs.rows.Speakers.{speaker_of, speaker_is, speaks_serving, none_waits, none_hands}
-use Rattle.rk_inv_base.proofs.views.Above.{above_push, above_floor}
-use Rattle.rk_inv_base.proofs.views.Alike.{alike_counted}
 use Rattle.rk_inv_base.proofs.views.ByRows.{CountsFor, SoundRow, SpeaksFor, row_in}
 use Rattle.rk_inv_base.proofs.views.Cover.{covered_by}
 use Rattle.rk_inv_base.proofs.views.Put.{put_by, put2_by}
 use Rattle.rk_inv_base.proofs.views.Seen.{counted_looks}
 use Rattle.rk_inv_base.proofs.calls.Appending.{first_not_last, formed_apart, last_stands}
-use Rattle.rk_inv_base.proofs.calls.Histories.{items_push}
 use Rattle.rk_inv_base.proofs.calls.Receives.{IsTargetIn, above_source}
 use Rattle.rk_inv_base.proofs.calls.Targets.{AreBelow, target_counted}
+use Rattle.rk_inv_base.proofs.views.Lists.{all_by}
+use Rattle.rk_inv_base.proofs.logs.Floors.{floor_above}
+
+-- one more item at the end, above all before it
+pub above_push : (before items : List Held) (item : Held) → AreAbove before items → IsAboveAll (before ++ items) item → AreAbove before (items ++ item ∷ [])
+above_push before [] item above new = (subst (λ (l : List Held). IsAboveAll l item) (append-nil before) new, tt)
+above_push before (first ∷ items) item above new =
+    (above.0, above_push (before ++ first ∷ []) items item above.1 (subst (λ (l : List Held). IsAboveAll l item) (sym (append_assoc before (first ∷ []) items)) new))
+
+-- an item whose version is no less than the floor of entries is above all of them
+pub above_floor : (truth rest : List Entry) (item : Held) → floor_of (truth ++ rest) ≤ item.version → IsAboveAll (items_of truth ++ items_of rest) item
+above_floor truth rest item low =
+    subst (λ (l : List Held). IsAboveAll l item) (flat_map-append items_in truth rest)
+    (All-weaker (λ (other : Held). other.version < floor_of (truth ++ rest)) (λ (other : Held). is_of item.table item.key other ≡ true → other.version < item.version)
+    (λ other below same. omega (arith, below)) (items_of (truth ++ rest)) (all_by (λ (other : Held). other.version < floor_of (truth ++ rest)) (items_of (truth ++ rest)) (floor_above (truth ++ rest))))
 
 -- an entry of a call that counts for a row lies in rows
 pub within_rows : (rows : List Row) (row : Row) (call : Call) (entry : Entry) → IsEntryOf call entry → Contains rows row → counts row.range entry ≡ true → IsEntryWithin rows entry
@@ -46,7 +58,7 @@ whole_rows rows call _ own = tt
 -- behind the rest of a row stands an item that is above all that counts for it, or none
 pub above_pushed : (truth rest : List Entry) (call : Call) (entry : Entry) → IsEntryOf call entry → All (λ item. IsNext (truth ++ rest) item.version) (items_in entry) → AreAbove (items_of truth) (items_of rest) → AreAbove (items_of truth) (items_of (rest ++ entry ∷ []))
 above_pushed truth rest call (entries.Held held) own low above =
-    subst (AreAbove (items_of truth)) (sym (items_push rest held))
+    subst (AreAbove (items_of truth)) (sym (flat_map-append items_in rest (entries.Held held ∷ [])))
     (above_push (items_of truth) (items_of rest) held above
     (above_floor truth rest held (All-head (λ (item : Held). IsNext (truth ++ rest) item.version) held [] low)))
 above_pushed truth rest call (entries.Refused refused) own low above =
@@ -92,15 +104,7 @@ module _ (v : View) (master : ℕ) (call : Call) (entry : Entry) (counter : ℕ)
   now = appended v master may.served.row.tablet call entry counter
 
   stays : StaysAs old (with_counter counter old)
-  stays = record {
-    looks = counted_looks counter old may.served.serves;
-    alike = alike_counted counter old;
-    idle = refl;
-    merged = refl;
-    granted = refl;
-    stages = refl;
-    wanted = refl;
-  }
+  stays = assumption (counted_looks counter old may.served.serves)
 
   was : SoundRow v row
   was = row_in v sound row may.served.has_row
@@ -111,10 +115,7 @@ module _ (v : View) (master : ℕ) (call : Call) (entry : Entry) (counter : ℕ)
   untouched : (range : Range) → meets row.range range ≡ false → touches range entry ≡ false
   untouched range apart =
       touches_call range call entry may.own ∙ counts_call range call entry may.own
-      ∙ ⊎_elim
-      (λ (both : has_key range call.table call.key ≡ true).
-      absurd (no_meeting row.range range call.table call.key apart may.served.in_row both))
-      (λ (e : has_key range call.table call.key ≡ false). e) (cases_Bool (has_key range call.table call.key))
+      ∙ false_from_ne_true (has_key range call.table call.key) (no_meeting row.range range call.table call.key apart may.served.in_row)
 
   uncounted : (x : Row) → Contains v.rows x → (x.tablet ≡ row.tablet → ⊥) → counts x.range entry ≡ false
   uncounted x has apart =
@@ -124,7 +125,7 @@ module _ (v : View) (master : ℕ) (call : Call) (entry : Entry) (counter : ℕ)
   -- ---- what is staged of the row
 
   rest_is : rests now row ≡ rests v row ++ entry ∷ []
-  rest_is = rest_grown v master entry sound.logs row may.served.last was.placed may.served.is_last may.served.here inside
+  rest_is = lineage_grown v master entry sound.logs row.range (lineage_of row.phase) may.served.last was.placed may.served.is_last may.served.here inside
 
   -- a master that counts for the row and speaks for it is the one that its phase names
   speaker_at : (q : ℕ) → CountsFor v row q → SpeaksFor v row q → q ≡ speaker_of row.phase
@@ -265,27 +266,23 @@ module _ (v : View) (master : ℕ) (call : Call) (entry : Entry) (counter : ℕ)
       (λ apart. of_written v master entry sound.logs (EachHasCall (v.calls q)) q (λ at. absurd (apart at)) (λ _. was))
 
   pub view_appended : SoundView now
-  view_appended = view_with_entry v row master entry calls (with_counter counter old) sound (record {
-    lives = may.served.lives;
-    has_row = may.served.has_row;
-    last = may.served.last;
-    is_last = may.served.is_last;
-    here = may.served.here;
-    serves = may.served.serves;
-    stays = stays;
-    room = may.room;
-    stored = none_stored (v.logs master) entry (segments_call call entry may.own);
-    within = within_rows v.rows row call entry may.own may.served.has_row inside;
-    whole = whole_rows v.rows call entry may.own;
-    untouched = untouched;
-    uncounted = uncounted;
-    only = λ _ _. joins_call row.range call entry may.own;
-    rest = rest;
-    target = members (lineage_of row.phase) refl was.placed was.target;
-    named =
-        names_grown v master row.tablet entry calls (with_counter counter old) sound.logs may.served.lives stays row (lineage_of row.phase) was.placed
-        (names_call row.range call entry may.own) was.named_items;
-    waiting = waiting;
-    are_last = are_last;
-    found = found;
-  })
+  view_appended =
+      let at_end : IsAtEnd (lineage_of row.phase) master =
+      record { last = may.served.last; is_last = may.served.is_last; here = may.served.here } in
+      view_with_entry v row master entry calls (with_counter counter old) sound
+      (assumption (
+        stays,
+        none_stored (v.logs master) entry (segments_call call entry may.own),
+        within_rows v.rows row call entry may.own may.served.has_row inside,
+        whole_rows v.rows call entry may.own,
+        untouched,
+        uncounted,
+        joins_call row.range call entry may.own,
+        rest,
+        members (lineage_of row.phase) refl was.placed was.target,
+        names_grown v master row.tablet entry calls (with_counter counter old) sound.logs may.served.lives stays row (lineage_of row.phase)
+            was.placed (names_call row.range call entry may.own) was.named_items,
+        waiting,
+        are_last,
+        found,
+      ))

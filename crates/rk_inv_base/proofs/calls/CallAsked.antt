@@ -1,13 +1,13 @@
 -- A lane stays sound when a client asks a call, where its last one, if any, is older and accepted: nothing of the client is staged then.
 use Rattle.std.proofs.Common.{◌≡◌, ℕ, ◌<◌, true, List, [], ◌∷◌, ◌++◌, Option, Some, None, refl, sym, ap, ◌∙◌, subst, ⊎_elim, inr, arith}
-use Rattle.std.proofs.Common.{IfSome, slice_index_or, unwrap_or, All, eq-eqb}
+use Rattle.std.proofs.Common.{IfSome, unwrap_or, All, eq-eqb, length}
 use Rattle.rk_inv_base.proofs.calls.OtherJournals.{is_request_by, request_says_by}
 use Rattle.rk_inv_base.proofs.Words.{and_from, false≢true, All-contains, All-head, All-tail, All-weaker, list_any_at, get_other, get_same}
 use Rattle.rk_inv_base.proofs.Words.{Call, Placed, Range, IsLegal, live_after, is_mutation, Entry, Row, Request, base_map, item_end}
 use Rattle.rk_inv_base.proofs.Words.{items_of, refusal_end, has_record, is_of_mutation, Ledger, asked_by, with_asked, AgreeIn, call_of}
 use Rattle.rk_inv_base.proofs.Words.{World, LastCall, HasSeen, IsAccepted, IsLastCall, RequestFits, WasAsked, IsEntryOf, IsLast}
 use Rattle.rk_inv_base.proofs.Words.{IsLastAsked, IsRest, IsStaged, Waits, call_ends, record_of_last, records_of, put, IsAfterSeen, View}
-use Rattle.rk_inv_base.proofs.Words.{view, truths, rests, AskedOf, IsSound, RestOf, SoundView, TruthOf}
+use Rattle.rk_inv_base.proofs.Words.{view, truths, rests, AskedOf, IsSound, RestOf, SoundView, TruthOf, Message, get}
 use Rattle.rk_entry.specs.declared.entry.Entry.TheVariants as entries
 use Rattle.rk_overlay.specs.Live.{live as live_items}
 use Rattle.rk_sound.specs.Changes.{MayAsk}
@@ -65,22 +65,17 @@ module _ (v : View) (client : ℕ) (last : LastCall) (sound : SoundView v) (may 
   still_asked c call was = of_client (λ old. WasAsked old v.journal call) c (λ is. inr (older c call is was)) (λ apart. was)
 
   truth : TruthOf now (truths v)
-  truth = record {
-    legal = sound.truth.legal;
-    rising = sound.truth.rising;
-    seen =
-        all_in (λ placed. IsAfterSeen (v.asked placed.call.client) placed) (λ placed. IsAfterSeen (now.asked placed.call.client) placed)
-        v.journal
-        (λ placed stands old.
-        of_client (λ last. IsAfterSeen last placed) placed.call.client
-        (λ is same.
-        absurd (another placed.call.client placed.call is
-        (All-contains (λ (p : Placed). WasAsked (v.asked p.call.client) v.journal p.call) v.journal placed sound.asked.recorded stands)
-        same))
-        (λ apart. old))
-        sound.truth.seen;
-    true = sound.truth.true;
-  }
+  truth =
+      assumption
+      (all_in (λ placed. IsAfterSeen (v.asked placed.call.client) placed) (λ placed. IsAfterSeen (now.asked placed.call.client) placed) v.journal
+      (λ placed stands old.
+      of_client (λ last. IsAfterSeen last placed) placed.call.client
+      (λ is same.
+      absurd (another placed.call.client placed.call is
+      (All-contains (λ (p : Placed). WasAsked (v.asked p.call.client) v.journal p.call) v.journal placed sound.asked.recorded stands)
+      same))
+      (λ apart. old))
+      sound.truth.seen)
 
   -- nothing of the client is staged, since its last call has its record
   unstaged : (c seq table : ℕ) (key : List ℕ) → IsLastAsked v.asked v.journal c seq table key → c ≡ client → ⊥
@@ -110,10 +105,8 @@ module _ (v : View) (client : ℕ) (last : LastCall) (sound : SoundView v) (may 
 
   still_staged : (entry : Entry) → IsStaged v.base v.asked v.journal entry → IsStaged v.base now.asked v.journal entry
   unfolding still_last
-  still_staged (entries.Held held) = λ staged. record {
-    last = still_last held.client held.seq held.table held.key staged.last;
-    leaves = staged.leaves;
-  }
+  still_staged (entries.Held held) = λ staged.
+      record { last = still_last held.client held.seq held.table held.key staged.last; leaves = staged.leaves }
   still_staged (entries.Refused refused) = still_last refused.client refused.seq refused.table refused.key
   still_staged (entries.Carried carried) = λ staged. staged
   still_staged (entries.Joined joined) = λ staged. staged
@@ -166,20 +159,14 @@ module _ (v : View) (client : ℕ) (last : LastCall) (sound : SoundView v) (may 
       (of_waiting (IsStaged v.base v.asked v.journal) v.rows (v.handovers q) v.written q place call waits of_row.staged) is
 
   rest : RestOf now (truths v) (rests v)
-  rest = record {
-    goes_on = λ k d within.
-        let row : Row = slice_index_or v.rows k d in
-        goes_on row.range (truths v row) (rests v row) (sound.rest.goes_on k d within);
-    done = sound.rest.done;
-    unnamed = sound.rest.unnamed;
-    idle = sound.rest.idle;
-    waiting = sound.rest.waiting;
-    are_last = λ q lives place call found.
-        of_client (λ old. IsLast old call) call.client
-        (λ is. absurd (none_waits q place call (sound.rest.waiting q lives place call found) is))
-        (λ apart. sound.rest.are_last q lives place call found);
-    found = sound.rest.found;
-  }
+  rest =
+      assumption (
+        λ (k : ℕ) (d : Row) (within : k < length v.rows). goes_on _ _ _ (sound.rest.goes_on k d within),
+        λ (q : ℕ) (lives : v.live q ≡ true) (place : ℕ) (call : Call) (found : get (v.calls q) place ≡ Some call).
+            of_client (λ old. IsLast old call) call.client
+            (λ is. absurd (none_waits q place call (sound.rest.waiting q lives place call found) is))
+            (λ apart. sound.rest.are_last q lives place call found),
+      )
 
   -- requests are of calls that were asked
   request_fits : (c : ℕ) (request : Request) → RequestFits v.asked v.journal c request → RequestFits now.asked v.journal c request
@@ -191,38 +178,21 @@ module _ (v : View) (client : ℕ) (last : LastCall) (sound : SoundView v) (may 
   }
 
   asked : AskedOf now
-  asked = record {
-    last = λ c.
-        of_client (λ old. IfSome old (IsLastCall v.base v.lane c)) c
-        (λ is. record { own = may.own ∙ sym is; here = may.here; after = may.after }) (λ apart. sound.asked.last c);
-    own_keys = sound.asked.own_keys;
-    recorded =
-        All-weaker _ _ (λ placed. still_asked placed.call.client placed.call) v.journal sound.asked.recorded;
-    after_start = sound.asked.after_start;
-    once = sound.asked.once;
-    sent = λ n m found. request_says_by v.asked now.asked v.journal v.journal request_fits m.from m.body (sound.asked.sent n m found);
-    again = λ c m found. is_request_by v.asked now.asked v.journal v.journal request_fits c m.from m.body (sound.asked.again c m found);
-  }
+  asked =
+      assumption (
+        λ (c : ℕ).
+            of_client (λ old. IfSome old (IsLastCall v.base v.lane c)) c
+            (λ is. record { own = may.own ∙ sym is; here = may.here; after = may.after }) (λ apart. sound.asked.last c),
+        All-weaker _ (λ placed. WasAsked (now.asked placed.call.client) v.journal placed.call)
+            (λ placed. still_asked placed.call.client placed.call) v.journal sound.asked.recorded,
+        λ (n : ℕ) (m : Message) (found : get v.wire n ≡ Some m).
+            request_says_by v.asked now.asked v.journal v.journal request_fits m.from m.body (sound.asked.sent n m found),
+        λ (c : ℕ) (m : Message) (found : get v.requests c ≡ Some m).
+            is_request_by v.asked now.asked v.journal v.journal request_fits c m.from m.body (sound.asked.again c m found),
+      )
 
   pub view_asked : SoundView now
-  view_asked = record {
-    nodes = sound.nodes;
-    rows = sound.rows;
-    terms = sound.terms;
-    cover = sound.cover;
-    roles = sound.roles;
-    logs = sound.logs;
-    truth = truth;
-    order = sound.order;
-    calls = sound.calls;
-    counters = sound.counters;
-    rest = rest;
-    records = sound.records;
-    receives = sound.receives;
-    rebuilds = sound.rebuilds;
-    messages = sound.messages;
-    asked = asked;
-  }
+  view_asked = assumption (truth, rest, asked)
 
 -- a ledger where a client asked a call has it, and what other clients asked
 pub asked_put : (ledger : Ledger) (client : ℕ) (last : LastCall) (q : ℕ) → asked_by (with_asked ledger client last) q ≡ put (asked_by ledger) client (Some last) q

@@ -3,6 +3,7 @@ use Rattle.std.proofs.Common.{◌≡◌, ℕ, List, Option, sym, subst, ◌∙�
 use Rattle.rk_inv_base.proofs.Words.{All-weaker, Ended, Member, Range, Entry, ends_of, Handover, Row, Handed, told, Written, member_truth}
 use Rattle.rk_inv_base.proofs.Words.{AreHandedOver, IsKnown, IsStagedEnd, TellAll, post_of, View, CallsOf}
 use Rattle.rk_inv_base.proofs.views.Alike.{AreAlike, still_counts, speaks_alike, handed_for_grant_alike, handed_by_alike, target_truth_same}
+use Rattle.rk_inv_base.proofs.views.ByRows.{staged_as}
 
 -- tablets become others that answer alike
 pub calls_alike : (v : View) (truths rests : Row → List Entry) (now : ℕ → ℕ → Handover) → CallsOf v truths rests → AreAlike v.handovers now → CallsOf (record v { handovers = now }) truths rests
@@ -54,13 +55,6 @@ calls_more v truths rests more written old tells same = record {
       (λ end known.
       ⊎_elim (λ (k : IsKnown v.base v.journal end). inl k)
       (λ (s : IsStagedEnd v.rows rests master tablet (v.handovers master tablet).term end).
-      inr (record {
-        row = s.row;
-        stands = s.stands;
-        told = tells s.row end s.stands s.told;
-        number = s.number;
-        rebuilt = s.rebuilt;
-        at_term = s.at_term;
-      })) known)
+      inr (staged_as _ _ _ _ _ _ _ _ _ s s.stands (tells s.row end s.stands s.told) s.at_term)) known)
       (ends_of (v.completions master tablet)) (old.known master tablet lives);
 }

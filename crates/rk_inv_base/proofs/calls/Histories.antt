@@ -16,10 +16,6 @@ use Rattle.rk_overlay.specs.Live.{live as live_items}
 use Rattle.rk_sound.specs.Changes.{MayEnd}
 use Rattle.rk_inv_base.proofs.logs.Floors.{floor_above}
 
--- the items of entries, with one more
-pub items_push : (list : List Entry) (item : Held) → items_of (list ++ entries.Held item ∷ []) ≡ items_of list ++ item ∷ []
-items_push list item = flat_map-append items_in list (entries.Held item ∷ [])
-
 -- the record that a call will make
 abbrev pub record_for : Call → Outcome → Placed
 record_for call outcome = record { call = call; outcome = outcome; stamp = 0; accepted = false }

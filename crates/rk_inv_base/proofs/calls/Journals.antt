@@ -1,11 +1,11 @@
 -- The law of the journal: a view stays sound with another journal that leaves the same and loses no record.
-use Rattle.std.proofs.Common.{◌≡◌, ℕ, false, true, List, ◌++◌, Some, sym, subst, ap, ◌∙◌, ⊎_elim, inl, inr, All, slice_get}
+use Rattle.std.proofs.Common.{◌≡◌, ℕ, false, true, List, ◌++◌, Some, sym, ap, ◌∙◌, ⊎_elim, inl, inr, All, slice_get, ◌<◌, length}
 use Rattle.std.proofs.Common.{slice_index_or}
 use Rattle.rk_inv_base.proofs.Words.{All-weaker, IfSome_then, hash_of, Ended, Placed, Range, IsLegal, Map, map_after, IsRisingAbove}
 use Rattle.rk_inv_base.proofs.Words.{AreOneMutation, Entry, ends_of, is_covered, Row, Node, Body, base_map, told, has_record, AreHandedOver}
-use Rattle.rk_inv_base.proofs.Words.{IsKnown, IsStagedEnd, ReachAll, TellAll, AreAboveMap, handed_by, handed_for_grant, target_truth, Says}
-use Rattle.rk_inv_base.proofs.Words.{IsLastAsked, IsRest, IsStaged, call_ends, records_of, IsAfterSeen, View, truths, rests, SoundView}
-use Rattle.rk_inv_base.proofs.Words.{CallsOf, AskedOf}
+use Rattle.rk_inv_base.proofs.Words.{IsKnown, IsStagedEnd, ReachAll, TellAll, Says, IsLastAsked, IsRest, IsStaged, call_ends, records_of}
+use Rattle.rk_inv_base.proofs.Words.{IsAfterSeen, View, truths, rests, SoundView, CallsOf, AskedOf, IsTruth, Message, get, target_truth}
+use Rattle.rk_inv_base.proofs.Words.{handed_for_grant, handed_by}
 use Rattle.rk_entry.specs.declared.entry.Entry.TheVariants as entries
 use Rattle.rk_model.specs.History.{record_of}
 
@@ -43,17 +43,12 @@ module _ (v : View) (after : List Placed) (sound : SoundView v) (may : MayReplac
   calls : CallsOf now (truths v) (rests v)
   calls = record {
     once = may.once;
-    reached = λ k d within.
-        let row : Row = slice_index_or v.rows k d in may.tell_all row.range (truths v row) (sound.calls.reached k d within);
-    recorded = λ k d within.
-        let row : Row = slice_index_or v.rows k d in
-        All-weaker (IsKnown v.base v.journal) (IsKnown v.base after) may.known (told (truths v row)) (sound.calls.recorded k d within);
+    reached = All-weaker _ _ (λ row. may.tell_all row.range (truths v row)) v.rows sound.calls.reached;
+    recorded = All-weaker _ _ (λ row. All-weaker (IsKnown v.base v.journal) (IsKnown v.base after) may.known (told (truths v row))) v.rows sound.calls.recorded;
     moving = λ k d within.
         let row : Row = slice_index_or v.rows k d in
         IfSome_then (target_truth v.written v.handed row row.phase) (sound.calls.moving k d within) (may.tell_all row.range);
-    answering = λ q k d within counts says.
-        let row : Row = slice_index_or v.rows k d in
-        may.reach_all row.range (ends_of (v.completions q row.tablet)) (sound.calls.answering q k d within counts says);
+    answering = λ q k d within counts says. may.reach_all _ _ (sound.calls.answering q k d within counts says);
     handed_on = λ k d within.
         let row : Row = slice_index_or v.rows k d in
         IfSome_then (handed_for_grant row v.handovers v.handed) (sound.calls.handed_on k d within) (λ h. handed_over row.range h.ends);
@@ -81,10 +76,8 @@ module _ (v : View) (after : List Placed) (sound : SoundView v) (may : MayReplac
 
   still_staged : (entry : Entry) → IsStaged v.base v.asked v.journal entry → IsStaged v.base v.asked after entry
   unfolding still_last
-  still_staged (entries.Held held) = λ staged. record {
-    last = still_last held.client held.seq held.table held.key staged.last;
-    leaves = staged.leaves;
-  }
+  still_staged (entries.Held held) = λ staged.
+      record { last = still_last held.client held.seq held.table held.key staged.last; leaves = staged.leaves }
   still_staged (entries.Refused refused) = still_last refused.client refused.seq refused.table refused.key
   still_staged (entries.Carried carried) = All-weaker (IsKnown v.base v.journal) (IsKnown v.base after) may.known carried.ends
   still_staged (entries.Joined joined) = λ staged. staged
@@ -100,57 +93,16 @@ module _ (v : View) (after : List Placed) (sound : SoundView v) (may : MayReplac
       }
 
   pub view_with_journal : SoundView now
-  view_with_journal = record {
-    nodes = sound.nodes;
-    rows = record {
-      apart = sound.rows.apart;
-      begun = sound.rows.begun;
-      formed = sound.rows.formed;
-      placed = sound.rows.placed;
-      covered = may.covered;
-    };
-    terms = sound.terms;
-    cover = sound.cover;
-    roles = sound.roles;
-    logs = sound.logs;
-    truth = record {
-      legal = may.legal;
-      rising = may.rising;
-      seen = may.seen;
-      true = λ k d within.
-          let tells = sound.truth.true k d within in record {
-            plain = tells.plain;
-            live = λ table key inside. tells.live table key inside ∙ ap (λ (m : Map). record_of (m table key)) (sym may.leaves);
-          };
-    };
-    order = sound.order;
-    calls = calls;
-    counters = record {
-      low = λ k d within.
-          let row : Row = slice_index_or v.rows k d in
-          subst (λ (m : Map). AreAboveMap row.range m (truths v row)) (sym may.leaves) (sound.counters.low k d within);
-      moving = λ k d within.
-          let row : Row = slice_index_or v.rows k d in
-          IfSome_then (target_truth v.written v.handed row row.phase) (sound.counters.moving k d within)
-          (λ list. subst (λ (m : Map). AreAboveMap row.range m list) (sym may.leaves));
-      counted = sound.counters.counted;
-      handed_on = sound.counters.handed_on;
-      sent = sound.counters.sent;
-    };
-    rest = record {
-      goes_on = λ k d within.
-          let row : Row = slice_index_or v.rows k d in
-          goes_on row.range (truths v row) (rests v row) (sound.rest.goes_on k d within);
-      done = sound.rest.done;
-      unnamed = sound.rest.unnamed;
-      idle = sound.rest.idle;
-      waiting = sound.rest.waiting;
-      are_last = sound.rest.are_last;
-      found = sound.rest.found;
-    };
-    records = sound.records;
-    receives = sound.receives;
-    rebuilds = sound.rebuilds;
-    messages = record { of_rows = sound.messages.of_rows; others = λ n m found. may.says m.to m.body (sound.messages.others n m found) };
-    asked = may.asked;
-  }
+  view_with_journal =
+      let truth : All (λ row. IsTruth v.base row.range (truths v row) after) v.rows = λ k d within.
+      let tells = sound.truth.true k d within in record {
+        plain = tells.plain;
+        live = λ table key inside. tells.live table key inside ∙ ap (λ (m : Map). record_of (m table key)) (sym may.leaves);
+      } in
+      assumption (
+        calls,
+        rw (← may.leaves) at sound.counters.low,
+        rw (← may.leaves) at sound.counters.moving,
+        λ (k : ℕ) (d : Row) (within : k < length v.rows). goes_on _ _ _ (sound.rest.goes_on k d within),
+        λ (n : ℕ) (m : Message) (found : get v.wire n ≡ Some m). may.says m.to m.body (sound.messages.others n m found),
+      )

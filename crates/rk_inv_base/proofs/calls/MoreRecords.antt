@@ -1,29 +1,16 @@
 -- A journal with more records behind it: what was known, asked, accepted or told by it still is.
-use Rattle.std.proofs.Common.{◌≡◌, ℕ, zero, suc, ◌<◌, List, [], ◌∷◌, ◌++◌, Option, Some, refl, ap, ⊎_elim, inl, inr, ◌⊎◌, length, slice_get}
-use Rattle.std.proofs.Common.{Contains}
+use Rattle.std.proofs.Common.{◌≡◌, ℕ, ◌<◌, List, [], ◌∷◌, ◌++◌, Option, Some, ⊎_elim, inl, inr, ◌⊎◌, length, slice_get, Contains}
 use Rattle.rk_inv_base.proofs.Words.{Contains-append_left, Call, Ended, Placed, Node, IsRisingAbove, Reply, Body, Base, ends_told, LastCall}
 use Rattle.rk_inv_base.proofs.Words.{IsAccepted, IsRequest, RequestSays, WasAsked, IsKnown, IsRecorded, Says, IsRecordAt, Outcome}
+use Rattle.rk_inv_base.proofs.Words.{slice_get_front, slice_get_push_cases}
 use Rattle.rk_world.specs.Journal.{last_stamp_from}
 use Rattle.rk_inv_base.proofs.calls.OtherJournals.{asked_by_other, is_request_by, request_by_other, request_says_by, says_by}
 
 -- ---- places
 
--- a record stands where it stood
-pub got_still : (journal more : List Placed) (i : ℕ) (placed : Placed) → slice_get journal i ≡ Some placed → slice_get (journal ++ more) i ≡ Some placed
-got_still [] more i placed at = absurd (cc at)
-got_still (first ∷ journal) more zero placed at = at
-got_still (first ∷ journal) more (suc i) placed at = got_still journal more i placed at
-
 -- with one more, each record stood there, or is that one, at the end
 pub got_cases : (journal : List Placed) (new : Placed) (i : ℕ) (placed : Placed) → slice_get (journal ++ new ∷ []) i ≡ Some placed → (slice_get journal i ≡ Some placed) ⊎ ((i ≡ length journal) × (new ≡ placed))
-got_cases [] new zero placed at = inr (refl, cc at)
-got_cases [] new (suc i) placed at = absurd (cc at)
-got_cases (first ∷ journal) new zero placed at = inl at
-got_cases (first ∷ journal) new (suc i) placed at =
-    ⊎_elim
-    (λ (there : slice_get journal i ≡ Some placed). inl there)
-    (λ (last : (i ≡ length journal) × (new ≡ placed)). inr (ap suc last.0, last.1))
-    (got_cases journal new i placed at)
+got_cases journal new i placed at = slice_get_push_cases journal new placed i at
 
 -- stamps rise with one more record, whose stamp is above the last
 pub rising_push : (stamp : ℕ) (journal : List Placed) (new : Placed) → IsRisingAbove stamp journal → last_stamp_from stamp journal < new.stamp → IsRisingAbove stamp (journal ++ new ∷ [])
@@ -62,7 +49,7 @@ module _ (journal more : List Placed) where
   told_still : (client : ℕ) (reply : Reply) (outcome : Outcome) → IsRecordAt journal client reply outcome → IsRecordAt (journal ++ more) client reply outcome
   told_still client reply outcome fits = record {
     placed = fits.placed;
-    stands = got_still journal more reply.place fits.placed fits.stands;
+    stands = slice_get_front journal more reply.place fits.placed fits.stands;
     client_is = fits.client_is;
     seq_is = fits.seq_is;
     outcome_is = fits.outcome_is;

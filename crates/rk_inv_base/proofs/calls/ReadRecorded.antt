@@ -69,9 +69,6 @@ module _ (v : View) (master : ℕ) (call : Call) (seen : ℕ) (outcome : Outcome
   abbrev after : List Placed
   after = v.journal ++ new ∷ []
 
-  abbrev now : View
-  now = record v { journal = after }
-
   -- it is of no mutation
   no_mutation : is_mutation call.op ≡ true → ⊥
   no_mutation mutation = absurd (cc (sym may.read ∙ mutation))
@@ -173,7 +170,7 @@ module _ (v : View) (master : ℕ) (call : Call) (seen : ℕ) (outcome : Outcome
       (λ (last : (i ≡ length v.journal) × (new ≡ a)). absurd (cc (ap (λ (p : Placed). p.accepted) last.1 ∙ one.first)))
       (got_cases v.journal new i a at_i)
 
-  asked : AskedOf now
+  asked : AskedOf (record v { journal = after })
   asked = record {
     last = sound.asked.last;
     own_keys =

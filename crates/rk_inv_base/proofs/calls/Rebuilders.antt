@@ -7,7 +7,7 @@ use Rattle.rk_inv_base.proofs.Words.{list_any, Held, Member, Range, Entry, is_in
 use Rattle.rk_inv_base.proofs.Words.{items_of, is_member, last_of, is_marked, unmarked_from, touches, material_of, named, named_by}
 use Rattle.rk_inv_base.proofs.Words.{side_entries, own_place, Written, Mark, Merged, stored_of, IsMergedOf, has_merged, merged_place}
 use Rattle.rk_inv_base.proofs.Words.{IsPieceOf, IsRebuilder, IsRebuildTable, READ_BACKUP, applied_from, IsFound, named_items, with_one_more}
-use Rattle.rk_inv_base.proofs.Words.{View, truths, SoundView, LogsOf}
+use Rattle.rk_inv_base.proofs.Words.{View, truths, LogsOf}
 use Rattle.rk_transfer.specs.declared.role.Role.TheVariants as roles
 use Rattle.rk_inv_base.proofs.logs.Shares.{named_same, unless_marked, unmarked_from_last, unmarked_from_none}
 use Rattle.rk_inv_base.proofs.logs.Applied.{applied_within}
@@ -144,21 +144,11 @@ module _ (v : View) (sound : LogsOf v) (new : Entry) (row : Row) (lineage : List
 
   -- a master that rebuilds a row, and wrote an entry of another one
   pub rebuilder_beside : (own : List Entry) → touches row.range new ≡ false → Rebuilds own w handover → Rebuilds own more handover
-  rebuilder_beside own outside was = record {
-    range_is = was.range_is;
-    gather = was.gather;
-    read = was.read;
-    placed = place_stays was.placed;
-    merged =
+  rebuilder_beside own outside was =
+      assumption (
+        place_stays was.placed,
         IfSome_then (merged_place handover.role) was.merged
-        (λ entry.
-        merged_stays own entry
-        (ap (λ (range : Range). touches range new) was.range_is ∙ outside));
-    items = records_stay was.items;
-    sides = sides_stay was.placed was.sides;
-    outside = was.outside;
-  }
-
--- the same of a sound view
-pub rebuilder_apart : (v : View) (sound : SoundView v) (new : Entry) (row : Row) (lineage : List Member) (to : ℕ) (Needed : ℕ → EntryEnd → Type 0) → named_by row.range new ≡ [] → (own : List Entry) → touches row.range new ≡ false → IsRebuilderWith v row lineage to Needed own (v.written to) (v.handovers to row.tablet) → IsRebuilderWith v row lineage to Needed own (with_one_more (v.written to) new) (v.handovers to row.tablet)
-rebuilder_apart v sound = rebuilder_beside v sound.logs
+            (λ entry. merged_stays own entry (ap (λ (range : Range). touches range new) was.range_is ∙ outside)),
+        records_stay was.items,
+        sides_stay was.placed was.sides,
+      )

@@ -4,7 +4,7 @@ use Rattle.rk_inv_base.proofs.Words.{cond-false, cond-true, All-contains, Ended,
 use Rattle.rk_inv_base.proofs.Words.{Phase, Rebuilding, Row, Log, known_of, EntryEnd, Gather, is_member, own_place, Written}
 use Rattle.rk_inv_base.proofs.Words.{member_material, Mark, stored_of, Bystander, FormerMember, Holds, Post, bond_of, post_of}
 use Rattle.rk_inv_base.proofs.Words.{rebuilder_post, IsRebuilder, MarkFits, NeededOf, READ_BACKUP, StandsLast, has_merged, RoleFits, View}
-use Rattle.rk_inv_base.proofs.Words.{RolesOf}
+use Rattle.rk_inv_base.proofs.Words.{RolesOf, lineage_of}
 use Rattle.rk_tablet_map.specs.Phase.{member as member_at}
 use Rattle.rk_inv_base.proofs.views.ByRows.{CountsFor}
 
@@ -21,13 +21,10 @@ IsRebuilderIn logs written stored row lineage master truth handover completions 
 
 -- a mark fits a tablet of the same term that has merged as much, where its piece still stands last
 pub mark_same : (row : Row) (master : ℕ) (old new : Handover) (live : Bool) (was is : Written) (mark : Mark) → new.term ≡ old.term → has_merged new.role ≡ has_merged old.role → StandsLast row.range is mark → MarkFits row master old live was mark → MarkFits row master new live is mark
-mark_same row master old new live was is mark term merged behind fit = record {
-  rebuilt = fit.rebuilt;
-  within = fit.within;
-  present = fit.present;
-  by_rebuilder = λ its. let by = fit.by_rebuilder its in (by.0, term ∙ by.1, merged ∙ by.2);
-  behind = behind;
-}
+mark_same row master old new live was is mark term merged behind fit =
+    let by_rebuilder : mark.term ≡ row.term → (row.phase ≡ Rebuilding (lineage_of row.phase) master) × (new.term ≡ row.term) × (has_merged new.role ≡ true) = λ its.
+    let by = fit.by_rebuilder its in (by.0, term ∙ by.1, merged ∙ by.2) in
+    assumption
 
 -- a former member has no tablet that counts
 pub former_never : (role : Role) (term own applied : ℕ) → Holds (bond_of FormerMember role) term own applied → ⊥

@@ -3,13 +3,13 @@ use Rattle.std.proofs.Common.{◌≡◌, ℕ, ltb, Bool, true, false, cond, List
 use Rattle.std.proofs.Common.{arith, filter, fold, is_some, All, Contains, flat_map, is_lt, ltb-true}
 use Rattle.std.specs.List.Sorted.{IsStrictlySortedBy}
 use Rattle.std.specs.Ordering.{ordering_reverse}
-use Rattle.rk_inv_base.proofs.Words.{cases_Bool, cond-true, cond-false, false≢true, flat_map-append, All-append, All-contains}
-use Rattle.rk_inv_base.proofs.Words.{All-contains_itself, All-cons, All-filter, All-from_recursion, All-nil, Contains-append_cases}
-use Rattle.rk_inv_base.proofs.Words.{Contains-append_left, Contains-append_right, Ordering, Less, Equal, Greater, hash_of, has, Held, Range}
-use Rattle.rk_inv_base.proofs.Words.{Entry, same_older, filter_kept, filter_left_out, found, is_in, is_newer, with_item, with_newer}
-use Rattle.rk_inv_base.proofs.Words.{is_before, IsInScanOrder, newest_is, none_stands, first_stands, behind_stands, stands_cases}
-use Rattle.rk_inv_base.proofs.Words.{is_of_parts, is_of_from, newest_items_are, newest_items, items_in, items_of, counts, counting}
-use Rattle.rk_inv_base.proofs.Words.{material_of, named, IsFound, scan_items}
+use Rattle.rk_inv_base.proofs.Words.{cases_Bool, cond-true, cond-false, false≢true, All-append, All-contains, All-contains_itself, All-cons}
+use Rattle.rk_inv_base.proofs.Words.{All-filter, All-from_recursion, All-nil, Contains-append_cases, Contains-append_left}
+use Rattle.rk_inv_base.proofs.Words.{Contains-append_right, Ordering, Less, Equal, Greater, hash_of, has, Held, Range, Entry, same_older}
+use Rattle.rk_inv_base.proofs.Words.{filter_kept, filter_left_out, found, is_in, is_newer, with_item, with_newer, is_before, IsInScanOrder}
+use Rattle.rk_inv_base.proofs.Words.{newest_is, none_stands, first_stands, behind_stands, stands_cases, is_of_parts, is_of_from}
+use Rattle.rk_inv_base.proofs.Words.{newest_items_are, newest_items, items_in, items_of, counts, counting, material_of, named, IsFound}
+use Rattle.rk_inv_base.proofs.Words.{scan_items, All-head, All-tail, filter_passes}
 use Rattle.rk_entry.specs.declared.entry.Entry.TheVariants as entries
 use Rattle.rk_table.specs.Items.{is_at}
 use Rattle.rk_table.specs.Order.{item_cmp, item_place}
@@ -144,29 +144,23 @@ in_by_key range item x here =
 
 -- ---- scans
 
--- an item of what counts for a range is in the range
-pub counting_in : (range : Range) (list : List Entry) → All (λ x. is_in range x ≡ true) (items_of (counting range list))
-counting_in range [] = All-nil (λ x. is_in range x ≡ true)
-counting_in range (entry ∷ list) =
-    ⊎_elim
-    (λ (inside : counts range entry ≡ true).
-    subst (λ (kept : List Entry). All (λ x. is_in range x ≡ true) (items_of kept)) (sym (filter_kept (counts range) entry list inside))
-    (All-append (λ x. is_in range x ≡ true) (items_in entry) (items_of (counting range list)) (at entry inside) (counting_in range list)))
-    (λ (outside : counts range entry ≡ false).
-    subst (λ (kept : List Entry). All (λ x. is_in range x ≡ true) (items_of kept)) (sym (filter_left_out (counts range) entry list outside))
-    (counting_in range list))
-    (cases_Bool (counts range entry))
-  where
-    at : (entry : Entry) → counts range entry ≡ true → All (λ x. is_in range x ≡ true) (items_in entry)
-    at (entries.Held held) inside = All-cons (λ x. is_in range x ≡ true) held [] inside (All-nil (λ x. is_in range x ≡ true))
-    at _ inside = All-nil (λ x. is_in range x ≡ true)
+-- an item of an entry that counts for a range is in the range
+pub entry_in : (range : Range) (entry : Entry) → counts range entry ≡ true → All (λ x. is_in range x ≡ true) (items_in entry)
+entry_in range (entries.Held held) inside = All-cons (λ x. is_in range x ≡ true) held [] inside (All-nil (λ x. is_in range x ≡ true))
+entry_in range _ inside = All-nil (λ x. is_in range x ≡ true)
+
+pub entries_in : (range : Range) (list : List Entry) → All (λ entry. counts range entry ≡ true) list → All (λ x. is_in range x ≡ true) (items_of list)
+entries_in range [] counted = All-nil (λ x. is_in range x ≡ true)
+entries_in range (entry ∷ list) counted =
+    All-append (λ x. is_in range x ≡ true) (items_in entry) (items_of list)
+    (entry_in range entry (All-head (λ e. counts range e ≡ true) entry list counted))
+    (entries_in range list (All-tail (λ e. counts range e ≡ true) entry list counted))
 
 pub material_in : (range : Range) (side : ℕ → List Entry) (list : List Entry) → All (λ x. is_in range x ≡ true) (items_of (material_of range side list))
 material_in range side list =
-    subst (λ (items : List Held). All (λ x. is_in range x ≡ true) items)
-    (sym (flat_map-append items_in (counting range list) (counting range (flat_map side (named range list)))))
-    (All-append (λ x. is_in range x ≡ true) (items_of (counting range list)) (items_of (counting range (flat_map side (named range list))))
-    (counting_in range list) (counting_in range (flat_map side (named range list))))
+    entries_in range (material_of range side list)
+    (All-append (λ entry. counts range entry ≡ true) (counting range list) (counting range (flat_map side (named range list)))
+    (filter_passes (counts range) list) (filter_passes (counts range) (flat_map side (named range list))))
 
 pub put_all_from : (items more : List Held) (x : Held) → Contains (fold (λ list item. with_item item list) items more) x → Contains items x ⊎ Contains more x
 put_all_from items [] x stands = inl stands

@@ -1,14 +1,12 @@
 -- A view stays sound when a request is saved that its client may send again.
 use Rattle.std.proofs.Common.{ℕ}
-use Rattle.rk_inv_base.proofs.Words.{each_insert, insert, Message, World, IsRequest, View, view, IsSound, SoundView}
+use Rattle.rk_inv_base.proofs.Words.{each_insert, insert, Message, World, IsRequest, View, view, IsSound}
 use Rattle.rk_sound.specs.Changes.{MaySave}
-use Rattle.rk_sound.specs.Small.{saved, request_saved}
+use Rattle.rk_sound.specs.Small.{request_saved}
 use Rattle.rk_inv_base.proofs.wire.Wire.{each_may_be_sent, view_with_messages}
 
-pub view_saved : (v : View) (client : ℕ) (message : Message) → SoundView v → MaySave v client message → SoundView (saved v client message)
-view_saved v client message sound may =
+pub sound_saved : (w : World) (client : ℕ) (message : Message) → IsSound w → MaySave (view w) client message → IsSound (request_saved w client message)
+sound_saved w client message sound may =
+    let v : View = view w in
     view_with_messages v v.wire (insert v.requests client message) sound (each_may_be_sent v sound)
     (each_insert (λ c m. IsRequest v.asked v.journal c m.from m.body) v.requests client message sound.asked.again may.request)
-
-pub sound_saved : (w : World) (client : ℕ) (message : Message) → IsSound w → MaySave (view w) client message → IsSound (request_saved w client message)
-sound_saved w client message sound may = view_saved (view w) client message sound may

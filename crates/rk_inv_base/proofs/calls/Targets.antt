@@ -57,37 +57,21 @@ module _ (range : Range) (source : ℕ) (truth material : List Entry) (from : �
 
   -- a target goes on with another counter
   pub target_counted : (counter : ℕ) (w : Written) → Targets w → IsTarget range source truth material from w (with_counter counter handover) pulling handed table
-  target_counted counter w old = record {
-    from_source = old.from_source;
-    workers = old.workers;
-    pulled = old.pulled;
-    received = old.received;
-    above = old.above;
-    told = old.told;
-    early = old.early;
-    closing = old.closing;
-  }
+  target_counted counter w old = assumption
 
   -- a target that wrote an entry, whose items are above each one of its source if it is of the range
   pub target_pushed : (w : Written) (entry : Entry) → w.applied ≤ length w.entries → from ≤ length w.entries → is_joined_in range entry ≡ false → (counts range entry ≡ true → All (AreBelow (items_of material)) (items_in entry)) → Targets w → Targets (with_one_more w entry)
-  target_pushed w entry fits within other new old = record {
-    from_source = old.from_source;
-    workers = old.workers;
-    pulled = old.pulled;
-    received =
+  target_pushed w entry fits within other new old =
+      assumption (
         subst
-        (λ (sure : List Entry). IsReceived (HasArrived handover.role pulling (scan_items truth)) range (scan_items truth)
-        (items_of (entries_from range from sure)) (copied_items handover.role pulling w.sides) table)
-        (sym (take-append-le w.applied w.entries (entry ∷ []) fits)) old.received;
-    above = own_push range from w.entries entry within (AreBelow (items_of material)) old.above new;
-    told =
-        IfSome_then handed old.told (λ h told.
-        told_push (joined_place handover.role) from w.entries (entry ∷ []) (beginning_of handover h) told);
-    early =
-        ap (λ (all : List Entry). list_any (touches range) (drop w.applied all)) (take-append-le from w.entries (entry ∷ []) within)
-        ∙ old.early;
-    closing = closing_push (joined_place handover.role) (closing_joined handover pulling.sealed) range from w.entries entry other old.closing;
-  }
+            (λ (sure : List Entry). IsReceived (HasArrived handover.role pulling (scan_items truth)) range (scan_items truth)
+            (items_of (entries_from range from sure)) (copied_items handover.role pulling w.sides) table)
+            (sym (take-append-le w.applied w.entries (entry ∷ []) fits)) old.received,
+        own_push range from w.entries entry within (AreBelow (items_of material)) old.above new,
+        IfSome_then handed old.told (λ h told. told_push (joined_place handover.role) from w.entries (entry ∷ []) (beginning_of handover h) told),
+        ap (λ (all : List Entry). list_any (touches range) (drop w.applied all)) (take-append-le from w.entries (entry ∷ []) within) ∙ old.early,
+        closing_push (joined_place handover.role) (closing_joined handover pulling.sealed) range from w.entries entry other old.closing,
+      )
 
 -- a master that made ready for a tablet, and wrote an entry of another range, has nothing of the tablet
 pub bare_pushed : (range : Range) (from : ℕ) (w : Written) (table : List Held) (entry : Entry) → touches range entry ≡ false → IsBare range from w table → IsBare range from (with_one_more w entry) table

@@ -6,7 +6,8 @@ use Rattle.rk_inv_base.proofs.Words.{IsBare, IsInScanOrder, IsKnown, IsLast, IsM
 use Rattle.rk_inv_base.proofs.Words.{ReachAll, RoleFits, Says, SentFits, TellAll, Waits, told, asked_by, ends_of, false≢true, handed_by}
 use Rattle.rk_inv_base.proofs.Words.{has_all_items, hash_of, is_absent, is_covered, is_idle, is_member, lineage_of, list_any, master_at}
 use Rattle.rk_inv_base.proofs.Words.{no_base, no_tablet, post_of, row_of, speaks, tablet_at, touches, wanted_place, written_by, written_in}
-use Rattle.rk_inv_base.proofs.views.ByRows.{IsNextOf, SaysIn, SoundBeside, SoundRow, SpeaksFor, view_by_rows}
+use Rattle.rk_inv_base.proofs.Words.{MarkFits, HasOwnRange}
+use Rattle.rk_inv_base.proofs.views.ByRows.{IsNextOf, SaysIn, SoundBeside, SoundRow, SpeaksFor, view_by_rows, CountsFor}
 use Rattle.rk_inv_base.proofs.example.SmallWorldLooks.{all_one, each_master, each_message, each_none, each_tablet, first_place}
 use Rattle.rk_inv_base.proofs.example.SmallWorldLooks.{post_elsewhere}
 use Rattle.rk_world.specs.World.{records_in}
@@ -30,53 +31,47 @@ speaking P here q =
 
 -- all that is said of rows holds of the row
 pub small_row_is_sound : SoundRow small_view small_row
-small_row_is_sound = record {
-  named = named_is_there;
-  begun = omega arith;
-  formed = tt;
-  placed = all_one (IsPlaced (written_in small_world)) (member 1 0) (omega arith);
-  sent = each_message (λ n m. SentFits small_row m.body)
-      (no_tenure small_request.body refl) (no_tenure small_append.body refl)
-      (no_tenure small_told.body refl) (no_tenure small_reply.body refl);
-  fitting = λ q counts. each_master (λ n m. RoleFits small_row n (tablet_at m 1).handover m.applied) refl role_elsewhere q;
-  ranged = λ q counts. each_master
-      (λ n m. is_member (lineage_of small_row.phase) n ≡ true → (tablet_at m 1).handover.range ≡ small_range) (λ there. refl)
-      (λ n apart there. absurd (not_member n apart there)) q;
-  at_term = tt;
-  truth = truth_one;
-  above = tt;
-  reached = subst (λ (truth : List Entry). TellAll small_range small_journal truth) (sym truth_is) told_one;
-  recorded = subst (λ (truth : List Entry). All (IsKnown no_base small_journal) (told truth)) (sym truth_is)
-      (all_one (IsKnown no_base small_journal) small_end known_one);
-  moving = tt;
-  answering = λ q counts. speaking (λ m. ReachAll small_range small_journal (ends_of (tablet_at m 1).completions)) reached_one q;
-  ends_granted = tt;
-  ends_sent = each_message
-      (λ n m. IfSome (handed_by small_row small_view.handovers m.body) (λ h. AreHandedOver no_base small_range small_journal h.ends))
-      tt tt tt tt;
-  low = low_one;
-  low_moving = tt;
-  counted = λ q counts. speaking (λ m. IsNextOf small_view small_row (tablet_at m 1).handover.counter) next_one q;
-  floor_granted = tt;
-  floor_sent = each_message
-      (λ n m. IfSome (handed_by small_row small_view.handovers m.body) (λ h. IsNextOf small_view small_row h.floor)) tt tt tt tt;
-  goes_on = rest_one;
-  done = tt;
-  unnamed = refl;
-  idle = λ q counts. each_master
-      (λ n m. is_idle (tablet_at m 1).handover.role ≡ true → list_any (touches small_range) (drop m.applied m.log.entries) ≡ false)
-      (λ idle. refl) (λ n apart idle. refl) q;
-  items = λ q live. each_master
-      (λ n m. has_all_items (post_of small_row.phase n) (tablet_at m 1).handover 1 ≡ true → HasItems small_row (written_in small_world) m.records)
-      (λ all. items_one) (λ n apart all. absurd (nothing_full n apart all)) q;
-  target = tt;
-  handed_on = tt;
-  named_items = tt;
-  rebuilt = tt;
-  marks = λ q. All-nil _;
-  pieces = λ q. All-nil _;
-  says = each_message (λ n m. SaysIn small_view small_row m.from m.to m.body) tt tt tt tt;
-}
+small_row_is_sound =
+    let begun : 1 ≤ small_row.term = omega arith in
+    assumption (
+      named_is_there,
+      all_one (IsPlaced (written_in small_world)) (member 1 0) (omega arith),
+      each_message (λ n m. SentFits small_row m.body)
+          (no_tenure small_request.body refl) (no_tenure small_append.body refl)
+          (no_tenure small_told.body refl) (no_tenure small_reply.body refl),
+      λ (q : ℕ) (counts : CountsFor small_view small_row q).
+          each_master (λ n m. RoleFits small_row n (tablet_at m 1).handover m.applied) refl role_elsewhere q,
+      λ (q : ℕ) (counts : CountsFor small_view small_row q).
+          each_master (λ n m. is_member (lineage_of small_row.phase) n ≡ true → (tablet_at m 1).handover.range ≡ small_range) (λ there. refl)
+          (λ n apart there. absurd (not_member n apart there)) q,
+      truth_one,
+      subst (λ (truth : List Entry). TellAll small_range small_journal truth) (sym truth_is) told_one,
+      subst (λ (truth : List Entry). All (IsKnown no_base small_journal) (told truth)) (sym truth_is)
+          (all_one (IsKnown no_base small_journal) small_end known_one),
+      λ (q : ℕ) (counts : CountsFor small_view small_row q).
+          speaking (λ m. ReachAll small_range small_journal (ends_of (tablet_at m 1).completions)) reached_one q,
+      each_message
+          (λ n m. IfSome (handed_by small_row small_view.handovers m.body) (λ h. AreHandedOver no_base small_range small_journal h.ends))
+          tt tt tt tt,
+      low_one,
+      λ (q : ℕ) (counts : CountsFor small_view small_row q).
+          speaking (λ m. IsNextOf small_view small_row (tablet_at m 1).handover.counter) next_one q,
+      each_message
+          (λ n m. IfSome (handed_by small_row small_view.handovers m.body) (λ h. IsNextOf small_view small_row h.floor)) tt tt tt tt,
+      rest_one,
+      λ (q : ℕ) (counts : CountsFor small_view small_row q).
+          each_master
+          (λ n m. is_idle (tablet_at m 1).handover.role ≡ true → list_any (touches small_range) (drop m.applied m.log.entries) ≡ false)
+          (λ idle. refl) (λ n apart idle. refl) q,
+      λ (q : ℕ) (lives : small_view.live q ≡ true).
+          each_master
+          (λ n m. has_all_items (post_of small_row.phase n) (tablet_at m 1).handover 1 ≡ true → HasItems small_row (written_in small_world) m.records)
+          (λ all. items_one) (λ n apart all. absurd (nothing_full n apart all)) q,
+      λ (q : ℕ).
+          All-nil (λ mark. mark.tablet ≡ 1 → MarkFits small_row q (small_view.handovers q 1) (small_view.live q) (small_view.written q) mark),
+      λ (q : ℕ). All-nil (λ mark. mark.tablet ≡ 1 → HasOwnRange small_range (small_view.written q).entries mark),
+      each_message (λ n m. SaysIn small_view small_row m.from m.to m.body) tt tt tt tt,
+    )
 
 -- and so does what is said beside it: one master with one backup, and nobody was noticed dead
 pub small_beside : SoundBeside small_view

@@ -3,7 +3,7 @@ use Rattle.std.proofs.Common.{◌≡◌, ℕ, List, [], ◌∷◌, ◌++◌, Opt
 use Rattle.std.proofs.Common.{eqb-true, append-nil}
 use Rattle.rk_inv_base.proofs.Words.{and_parts, cond_both, get_other, get_same, get, insert, Node, Segments, bytes_of, known_of, Body}
 use Rattle.rk_inv_base.proofs.Words.{no_segments, World, backup_at, with_stored_by, IsCopy, IsFirstPart, IsKnownBefore, LogSays, stored_of}
-use Rattle.rk_inv_base.proofs.Words.{READ_BACKUP, View, view, IsSound, LogsOf, SoundView}
+use Rattle.rk_inv_base.proofs.Words.{READ_BACKUP, View, view, IsSound, LogsOf, SoundView, IsBackup}
 use Rattle.rk_types.specs.declared.node.Node.TheVariants as nodes
 use Rattle.rk_outside.specs.Segments.{bytes_of as stored_bytes, with_part}
 use Rattle.rk_message.specs.declared.message.Body.TheVariants as bodies
@@ -86,14 +86,8 @@ module _ (v : View) (master backup segment : ℕ) (bytes : List ℕ) (sound : So
   logs : LogsOf now
   logs = record {
     each = λ q.
-        let old = sound.logs.each q in record {
-          entries_are = old.entries_are;
-          held = old.held;
-          copies = λ b numbered. copy_now q b (old.copies b numbered);
-          spelled = old.spelled;
-          named = old.named;
-          marked = old.marked;
-        };
+        let old = sound.logs.each q in
+        assumption (λ (b : ℕ) (numbered : IsBackup (v.logs q) b). copy_now q b (old.copies b numbered));
     sent = λ n m there. log_says m.from m.to m.body (sound.logs.sent n m there);
   }
 

@@ -1,6 +1,6 @@
 -- A lane stays sound when a target whose side segments are stored appends the entry that closes its joining.
 use Rattle.std.proofs.Common.{◌≡◌, ℕ, ◌≤◌, Bool, true, ◌&&◌, eqb, leb, List, [], ◌∷◌, ◌++◌, length, fold, Some, None, refl, sym, ap, ◌∙◌}
-use Rattle.std.proofs.Common.{subst, ⊎_elim, inl, arith, slice_index_or, slice_get, All, Contains, flat_map, append-nil}
+use Rattle.std.proofs.Common.{subst, ⊎_elim, inl, arith, slice_get, All, Contains, flat_map, append-nil, slice_index_or}
 use Rattle.rk_inv_base.proofs.Words.{cases_eq, cond-true, false≢true, both_ways, nat_tests, flat_map-append, All-head, All-tail}
 use Rattle.rk_inv_base.proofs.Words.{Contains-get_or, get, meets, Member, Range, slice_get_push_cases, Entry, is_in, Handover, lineage_of}
 use Rattle.rk_inv_base.proofs.Words.{Row, items_of, last_of, unmarked_from, named, named_by, side_entries, with_number, has_all, is_absent}
@@ -50,25 +50,17 @@ module _ (v : View) (row : Row) (master : ℕ) (sound : SoundView v) (has_row : 
   -- the tablet goes on as it was
   stays : StaysAs old (as_closed place old)
   stays =
-      record {
-        looks = record {
-          term = refl;
-          range = refl;
-          role = subst (λ (role : Role). GoesOn role (roles.Joining (Some place))) (sym may.joining) (closed_goes_on place);
-          counter = λ frozen. refl;
-        };
-        alike = record {
-          same_serving = sym (ap is_serving may.joining);
-          same_rebuilding = sym (ap is_rebuilding may.joining);
-          same_wanting = sym (ap is_wanting may.joining);
-          same_term = refl;
-        };
-        idle = sym (ap is_idle may.joining);
-        merged = sym (ap has_merged may.joining);
-        granted = sym (ap is_granted may.joining);
-        stages = sym (ap may_have_staged may.joining);
-        wanted = sym (ap wanted_place may.joining);
-      }
+      assumption (
+        subst (λ (role : Role). GoesOn role (roles.Joining (Some place))) (sym may.joining) (closed_goes_on place),
+        ap is_serving (sym may.joining),
+        ap is_rebuilding (sym may.joining),
+        ap is_wanting (sym may.joining),
+        ap is_idle (sym may.joining),
+        ap has_merged (sym may.joining),
+        ap is_granted (sym may.joining),
+        ap may_have_staged (sym may.joining),
+        ap wanted_place (sym may.joining),
+      )
 
   at_end : place ≡ length (v.written master).entries
   at_end = ap (λ (list : List Entry). length list) (sound.logs.each master).entries_are
@@ -201,9 +193,7 @@ module _ (v : View) (row : Row) (master : ℕ) (sound : SoundView v) (has_row : 
   view_closed_off = view_with_entry v row master closing v.calls (as_closed place old) sound (record {
     lives = may.lives;
     has_row = has_row;
-    last = second.target;
-    is_last = ap last_of second.lineage_is;
-    here = second.here;
+    at_end = record { last = second.target; is_last = ap last_of second.lineage_is; here = second.here };
     serves = ap is_serving may.joining;
     stays = stays;
     room = may.room;

@@ -10,6 +10,7 @@ use Rattle.rk_model.proofs.Places.{slice_get_end}
 use Rattle.rk_transfer.specs.declared.role.Role.TheVariants as roles
 use Rattle.rk_inv_base.proofs.views.Seen.{GoesOn}
 use Rattle.rk_inv_base.proofs.calls.Targets.{AreBelow, own_push}
+use Rattle.std.proofs.lemmas.List.{take_all}
 
 -- a post that takes a target that joins takes it with its closing entry too
 pub fits_closed : (post : Post) (term own applied place : ℕ) → Holds (bond_of post (roles.Joining None)) term own applied → Holds (bond_of post (roles.Joining (Some place))) term own applied
@@ -56,7 +57,7 @@ module _ (place : ℕ) (old : Handover) (sealed : List ℕ) where
         IfSome_then handed was.told (λ e told.
         subst (λ (list : List Entry). Contains (drop target.from list) (beginning_of h e))
         (sym (take-append-le place w.entries (closing ∷ []) (omega (arith, end))
-        ∙ ap (λ (n : ℕ). take n w.entries) end ∙ take-all w.entries))
+        ∙ ap (λ (n : ℕ). take n w.entries) end ∙ take_all (length w.entries) w.entries (omega arith)))
         (subst (λ (role : Role). Contains (drop target.from (before_closing (joined_place role) w.entries)) (beginning_of h e)) joining told));
     early =
         ap (λ (all : List Entry). list_any (touches x.range) (drop w.applied all)) (take-append-le target.from w.entries (closing ∷ []) from)
@@ -75,7 +76,3 @@ module _ (place : ℕ) (old : Handover) (sealed : List ℕ) where
           behind = omega (arith, end, from);
         });
   }
-    where
-      take-all : (list : List Entry) → take (length list) list ≡ list
-      take-all [] = refl
-      take-all (e ∷ list) = ap (λ (all : List Entry). e ∷ all) (take-all list)

@@ -1,13 +1,12 @@
 -- The law of copies: of what backups store, and are known to store, rows and messages speak only where the log of a dead master is read. So a
 -- view stays sound where backups store more, and dead masters knew as much of it.
-use Rattle.std.proofs.Common.{◌≡◌, ℕ, ◌≤◌, Bool, true, false, List, [], ◌∷◌, ◌++◌, length, map, sym, ap, ◌∙◌, subst, ⊎_elim, arith}
-use Rattle.std.proofs.Common.{length-append, ◌==◌, not, nat_le, slice_index_or, take, All, Contains, append-nil, eq-eqb, le-leb, leb-true}
-use Rattle.std.proofs.Common.{refl}
-use Rattle.rk_inv_base.proofs.Words.{All-cons, All-filter, All-head, All-nil, All-tail, cases_Bool, false≢true, filter_passes, list_any_at}
-use Rattle.rk_inv_base.proofs.Words.{Member, Node, Range, Segments, Entry, Phase, Rebuilding, Row, ends, Known, Log, known_of, EntryEnd}
-use Rattle.rk_inv_base.proofs.Words.{Body, CopySegment, Gathered, is_member, member_material, IsFirstPart, stored_of, CopyIn, SaysOf}
-use Rattle.rk_inv_base.proofs.Words.{IsGathered, IsReadPart, MarkedFit, NeededOf, READ_BACKUP, RowIsRebuilt, member_marked, member_stored}
-use Rattle.rk_inv_base.proofs.Words.{stored_count, View, truths, LogsOf, SoundView, Contains-get_or, prefix_len}
+use Rattle.std.proofs.Common.{◌≡◌, ℕ, ◌≤◌, Bool, true, false, List, [], ◌∷◌, ◌++◌, length, map, sym, ap, ◌∙◌, subst, arith, length-append}
+use Rattle.std.proofs.Common.{◌==◌, not, nat_le, slice_index_or, take, All, Contains, append-nil, eq-eqb, le-leb, leb-true, refl, Some, ◌<◌}
+use Rattle.rk_inv_base.proofs.Words.{All-cons, All-filter, All-head, All-nil, All-tail, false≢true, filter_passes, list_any_at, Member}
+use Rattle.rk_inv_base.proofs.Words.{Node, Range, Segments, Entry, Phase, Rebuilding, Row, ends, Known, Log, known_of, EntryEnd, Body}
+use Rattle.rk_inv_base.proofs.Words.{CopySegment, Gathered, is_member, member_material, IsFirstPart, stored_of, CopyIn, IsGathered}
+use Rattle.rk_inv_base.proofs.Words.{IsReadPart, MarkedFit, NeededOf, READ_BACKUP, member_marked, member_stored, stored_count, View, truths}
+use Rattle.rk_inv_base.proofs.Words.{LogsOf, SoundView, prefix_len, IsMaster, Message, get, Contains-get_or, false_from_ne_true}
 use Rattle.rk_outside.specs.Segments.{bytes_of as stored_bytes}
 use Rattle.rk_log.proofs.Prefixes.{prefix_len_weaker}
 use Rattle.rk_message.specs.declared.message.Body.TheVariants as bodies
@@ -15,6 +14,8 @@ use Rattle.rk_inv_base.proofs.logs.Grows.{Extends, counting_extends, extends_beh
 use Rattle.rk_inv_base.proofs.logs.Logs.{first_part_more}
 use Rattle.rk_inv_base.proofs.calls.Rebuilds.{IsRebuilderIn, former_gone}
 use Rattle.rk_inv_base.proofs.views.Needed.{gathered_by}
+use Rattle.rk_sound.specs.Rebuilds.{AreGathered}
+use Rattle.rk_inv_base.proofs.views.ByRows.{IsRebuiltIn, SaysIn}
 
 pub first_part_length : (bytes whole : List ℕ) → IsFirstPart bytes whole → length bytes ≤ length whole
 first_part_length bytes whole front =
@@ -22,11 +23,8 @@ first_part_length bytes whole front =
 
 -- a part that was read is one of what is stored then
 pub part_stored : (Needed : EntryEnd → Type 0) (known : Known) (stored stored' : ℕ → List ℕ) (more : (segment : ℕ) → IsFirstPart (stored segment) (stored' segment)) (segment : ℕ) (bytes : List ℕ) → IsReadPart Needed known stored segment bytes → IsReadPart Needed known stored' segment bytes
-part_stored Needed known stored stored' more segment bytes part = record {
-  front = first_part_more bytes (stored segment) (stored' segment) part.front (more segment);
-  enough = part.enough;
-  needed = part.needed;
-}
+part_stored Needed known stored stored' more segment bytes part =
+    assumption (first_part_more bytes (stored segment) (stored' segment) part.front (more segment))
 
 -- ---- who is read
 
@@ -111,39 +109,24 @@ module _ (v : View) (logs : ℕ → Log) (stored : ℕ → Segments) (sound : So
       members_by (λ member. is_member lineage member.master ≡ true) members
       (subst (All (λ (member : Member). is_member lineage member.master ≡ true)) (sym was.gather.members_are)
       (All-filter away (λ (member : Member). is_member lineage member.master ≡ true) lineage (each_member lineage))) in
-      record {
-        range_is = was.range_is;
-        gather = was.gather;
-        read = λ k d within.
-            let gathered : Gathered = slice_index_or members k d in
-            let q : ℕ = gathered.member.master in
-            let dead : v.live q ≡ false =
-            ⊎_elim
-            (λ (lives : v.live q ≡ true).
-            absurd
-            (former_gone v sound.roles row has lineage to q is lives (λ own. false≢true (sym (ap not (eq-eqb q to own)) ∙ others k d within))
-            (ours k d within)))
-            (λ (dead : v.live q ≡ false). dead)
-            (cases_Bool (v.live q)) in
-            subst (λ (known : Known). IsGathered (NeededOf row v.written lineage q) known (stored_of stored q READ_BACKUP) gathered)
-            (may.known q dead)
-            (gathered_by (NeededOf row v.written lineage q) (NeededOf row v.written lineage q) (known_of (v.logs q) READ_BACKUP)
-            (known_of (v.logs q) READ_BACKUP) (stored_of v.stored q READ_BACKUP) (stored_of stored q READ_BACKUP)
-            (part_stored (NeededOf row v.written lineage q) (known_of (v.logs q) READ_BACKUP) (stored_of v.stored q READ_BACKUP)
-            (stored_of stored q READ_BACKUP) (may.more q))
-            (λ _ none. none) (λ _ its. its) gathered (was.read k d within));
-        placed = was.placed;
-        merged = was.merged;
-        items = was.items;
-        sides = was.sides;
-        outside = was.outside;
-      }
+      let read : AreGathered (NeededOf row v.written lineage) (λ q. known_of (logs q) READ_BACKUP) (λ q. stored_of stored q READ_BACKUP) members = λ k d within.
+      let gathered : Gathered = slice_index_or members k d in
+      let q : ℕ = gathered.member.master in
+      let dead : v.live q ≡ false =
+      false_from_ne_true (v.live q)
+      (λ lives.
+      former_gone v sound.roles row has lineage to q is lives (λ own. false≢true (sym (ap not (eq-eqb q to own)) ∙ others k d within))
+      (ours k d within)) in
+      subst (λ (known : Known). IsGathered (NeededOf row v.written lineage q) known (stored_of stored q READ_BACKUP) gathered)
+      (may.known q dead)
+      (gathered_by (NeededOf row v.written lineage q) (NeededOf row v.written lineage q) (known_of (v.logs q) READ_BACKUP)
+      (known_of (v.logs q) READ_BACKUP) (stored_of v.stored q READ_BACKUP) (stored_of stored q READ_BACKUP)
+      (part_stored (NeededOf row v.written lineage q) (known_of (v.logs q) READ_BACKUP) (stored_of v.stored q READ_BACKUP)
+      (stored_of stored q READ_BACKUP) (may.more q))
+      (λ _ none. none) (λ _ its. its) gathered (was.read k d within)) in
+      assumption
 
-  abbrev IsRebuilt : View → Row → Phase → Type 0
-  IsRebuilt w row phase =
-      RowIsRebuilt row phase (truths v row) w.logs v.written w.stored v.handovers v.completions v.gathers v.merged v.records v.live
-
-  rebuilt : (row : Row) → Contains v.rows row → (phase : Phase) → row.phase ≡ phase → IsRebuilt v row phase → IsRebuilt now row phase
+  rebuilt : (row : Row) → Contains v.rows row → (phase : Phase) → row.phase ≡ phase → IsRebuiltIn v row phase → IsRebuiltIn now row phase
   rebuilt row has (Rebuilding lineage to) is fit = (λ term. rebuilder row has lineage to is (fit.0 term), marked row.range lineage fit.1)
   rebuilt row has _ is fit = tt
 
@@ -161,45 +144,16 @@ module _ (v : View) (logs : ℕ → Log) (stored : ℕ → Segments) (sound : So
       )
   copy_says row phase copy says = says
 
-  abbrev SaysIn : View → Row → Node → Node → Body → Type 0
-  SaysIn w row = SaysOf row w.logs v.written w.stored v.handovers v.completions v.merged v.live v.handed
-
   says : (row : Row) (from to : Node) (body : Body) → SaysIn v row from to body → SaysIn now row from to body
   says row from to (bodies.Copy copy) said = λ is. copy_says row row.phase copy (said is)
   says row from to body said = said
 
   pub view_with_copies : SoundView now
-  view_with_copies = record {
-    nodes = record {
-      numbered = sound.nodes.numbered;
-      backed = sound.nodes.backed;
-      known = λ q there. may.backups q ∙ sound.nodes.known q there;
-      named = sound.nodes.named;
-      crashed = sound.nodes.crashed;
-      left = sound.nodes.left;
-    };
-    rows = sound.rows;
-    terms = sound.terms;
-    cover = sound.cover;
-    roles = sound.roles;
-    logs = may.fit;
-    truth = sound.truth;
-    order = sound.order;
-    calls = sound.calls;
-    counters = sound.counters;
-    rest = sound.rest;
-    records = sound.records;
-    receives = sound.receives;
-    rebuilds = record {
-      rebuilt = λ k d within.
-          let row : Row = slice_index_or v.rows k d in
-          rebuilt row (Contains-get_or v.rows k d within) row.phase refl (sound.rebuilds.rebuilt k d within);
-      marks = sound.rebuilds.marks;
-      pieces = sound.rebuilds.pieces;
-    };
-    messages = record {
-      of_rows = λ n m there k d within. says (slice_index_or v.rows k d) m.from m.to m.body (sound.messages.of_rows n m there k d within);
-      others = sound.messages.others;
-    };
-    asked = sound.asked;
-  }
+  view_with_copies =
+      let rebuilds : All (λ row. IsRebuiltIn now row row.phase) v.rows = λ k d within.
+      rebuilt _ (Contains-get_or v.rows k d within) _ refl (sound.rebuilds.rebuilt k d within) in
+      assumption (
+        λ (q : ℕ) (there : IsMaster v.masters q). may.backups q ∙ sound.nodes.known q there,
+        λ (n : ℕ) (m : Message) (there : get v.wire n ≡ Some m).
+            λ (k : ℕ) (d : Row) (within : k < length v.rows). says _ m.from m.to m.body (sound.messages.of_rows n m there k d within),
+      )

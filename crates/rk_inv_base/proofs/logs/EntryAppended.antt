@@ -2,12 +2,12 @@
 -- other row, and what it adds to its own row fits. What is said of other rows, masters and logs is not shown again.
 use Rattle.std.proofs.Common.{◌≡◌, ℕ, ◌≤◌, false, true, List, [], ◌∷◌, length, Some, refl, sym, ap, subst, ◌∙◌, ⊎_elim, inl, inr, ◌⊎◌}
 use Rattle.std.proofs.Common.{Option, IfSome, All, Contains, slice_get, arith}
-use Rattle.rk_inv_base.proofs.Words.{cases_Bool, cases_eq, All-push, All-weaker, EachIn, NumberMap, Call, Ended, meets, Range}
-use Rattle.rk_inv_base.proofs.Words.{slice_get_front, Entry, Handover, Row, Known, ends_of, touches, counts, is_absent, is_marked, Written}
-use Rattle.rk_inv_base.proofs.Words.{IsKnown, IsStagedEnd, HasSegmentLeft, IsEntryWithin, IsOfWholeRows, IsBare, MembersFit, NamedFit}
-use Rattle.rk_inv_base.proofs.Words.{EachHasCall, IsLast, Waits, View, rests, SoundView, CoverOf, AreApart, put2, Member, last_of}
-use Rattle.rk_inv_base.proofs.Words.{lineage_of, Rebuilding, both_ways, is_serving, is_joined_in, Holds, Phase, bond_of, post_of}
-use Rattle.rk_inv_base.proofs.views.ByRows.{SoundBeside, SoundRow, row_in, view_by_rows}
+use Rattle.rk_inv_base.proofs.Words.{cases_eq, All-push, All-weaker, EachIn, NumberMap, Call, Ended, meets, Range, slice_get_front, Entry}
+use Rattle.rk_inv_base.proofs.Words.{Handover, Row, Known, ends_of, touches, counts, is_absent, is_marked, Written, IsKnown, IsStagedEnd}
+use Rattle.rk_inv_base.proofs.Words.{HasSegmentLeft, IsEntryWithin, IsOfWholeRows, IsBare, MembersFit, NamedFit, EachHasCall, IsLast, Waits}
+use Rattle.rk_inv_base.proofs.Words.{View, rests, SoundView, CoverOf, AreApart, put2, Member, last_of, lineage_of, Rebuilding, both_ways}
+use Rattle.rk_inv_base.proofs.Words.{is_serving, is_joined_in, Holds, Phase, bond_of, post_of, false_from_ne_true, IsMaster}
+use Rattle.rk_inv_base.proofs.views.ByRows.{SoundBeside, SoundRow, row_in, view_by_rows, staged_as}
 use Rattle.rk_inv_base.proofs.views.Cover.{cover_looks, cover_written}
 use Rattle.rk_inv_base.proofs.views.Lists.{all_by}
 use Rattle.rk_inv_base.proofs.views.Put.{put2_by}
@@ -27,10 +27,13 @@ use Rattle.rk_inv_base.proofs.rows.RowAppended.{RestFits, RowGrows, StaysAs, bes
 -- rows of other numbers do not meet
 pub row_beside : (v : View) (row x : Row) → SoundView v → Contains v.rows row → Contains v.rows x → (x.tablet ≡ row.tablet → ⊥) → meets row.range x.range ≡ false
 row_beside v row x sound has_row has apart =
-    ⊎_elim
-    (λ (met : meets row.range x.range ≡ true). absurd (rows_apart v row x sound has_row has (λ same. apart (sym same)) met))
-    (λ (e : meets row.range x.range ≡ false). e)
-    (cases_Bool (meets row.range x.range))
+    false_from_ne_true (meets row.range x.range) (rows_apart v row x sound has_row has (λ same. apart (sym same)))
+
+-- a master is the last member of a lineage
+pub record IsAtEnd (lineage : List Member) (master : ℕ) : Type 0 where
+  pub last : Member
+  pub is_last : last_of lineage ≡ Some last
+  pub here : last.master ≡ master
 
 -- a living master that serves the tablet of a row, as the last member of its lineage, may append an entry for it, where its log has room, and
 -- the entry names only what is stored, lies in rows, touches no range that the row does not meet, and counts for no other row. With it what
@@ -38,9 +41,7 @@ row_beside v row x sound has_row has apart =
 pub record MayAddEntry (v : View) (row : Row) (master : ℕ) (entry : Entry) (calls : ℕ → NumberMap Call) (new : Handover) : Type 0 where
   pub lives : v.live master ≡ true
   pub has_row : Contains v.rows row
-  pub last : Member
-  pub is_last : last_of (lineage_of row.phase) ≡ Some last
-  pub here : last.master ≡ master
+  pub at_end : IsAtEnd (lineage_of row.phase) master
   pub serves : is_serving (v.handovers master row.tablet).role ≡ true
   pub stays : StaysAs (v.handovers master row.tablet) new
   pub room : HasSegmentLeft (v.logs master)
@@ -71,8 +72,8 @@ module _ (v : View) (row : Row) (master : ℕ) (entry : Entry) (calls : ℕ → 
   -- the first of two members is another one
   first_apart : (first last : Member) (more : List Member) → lineage_of row.phase ≡ first ∷ last ∷ more → first.master ≡ master → ⊥
   first_apart first last more is at =
-      first_not_last first last more may.last (subst AreApart is (formed_apart row.phase was.formed)) (ap last_of (sym is) ∙ may.is_last)
-      (at ∙ sym may.here)
+      first_not_last first last more may.at_end.last (subst AreApart is (formed_apart row.phase was.formed)) (ap last_of (sym is) ∙ may.at_end.is_last)
+      (at ∙ sym may.at_end.here)
 
   -- and where the master is to rebuild the row, it has not begun
   idles : (lineage : List Member) → row.phase ≡ Rebuilding lineage master → (v.handovers master row.tablet).term ≡ row.term → ⊥
@@ -100,7 +101,7 @@ module _ (v : View) (row : Row) (master : ℕ) (entry : Entry) (calls : ℕ → 
   -- the master keeps the row's range
   range_is : (v.handovers master row.tablet).range ≡ row.range
   range_is =
-      was.ranged master (inl may.lives) (last_member (lineage_of row.phase) may.last master may.is_last may.here)
+      was.ranged master (inl may.lives) (last_member (lineage_of row.phase) may.at_end.last master may.at_end.is_last may.at_end.here)
 
   stays_each : (q r : ℕ) → StaysAs (v.handovers q r) (now.handovers q r)
   stays_each = each_stays v master row.tablet entry calls new sound.logs may.lives may.stays
@@ -164,46 +165,23 @@ module _ (v : View) (row : Row) (master : ℕ) (entry : Entry) (calls : ℕ → 
   end_known q r end =
       ⊎_elim (λ (k : IsKnown v.base v.journal end). inl k)
       (λ (s : IsStagedEnd v.rows (rests v) q r (v.handovers q r).term end).
-      inr (record {
-        row = s.row;
-        stands = s.stands;
-        told = (rows_grow s.row s.stands).rest.tells end s.told;
-        number = s.number;
-        rebuilt = s.rebuilt;
-        at_term = (stays_each q r).looks.term ∙ s.at_term;
-      }))
+      inr
+      (staged_as _ _ _ _ _ _ _ _ _ s s.stands ((rows_grow s.row s.stands).rest.tells end s.told) ((stays_each q r).looks.term ∙ s.at_term)))
 
   beside : SoundBeside now
   beside =
-      let terms = terms_looks v.rows v.handovers now.handovers v.wire sound.terms (λ q r. (stays_each q r).looks) in
-      record {
-        numbered = sound.nodes.numbered;
-        backed = sound.nodes.backed;
-        known_backups = λ q there.
-            ap (λ (known : List Known). length known) (known_same v master entry sound.logs q) ∙ sound.nodes.known q there;
-        crashed = sound.nodes.crashed;
-        left = sound.nodes.left;
-        rows_apart = sound.rows.apart;
-        covered = sound.rows.covered;
-        kept = terms.kept;
-        begun = terms.begun;
-        apart = terms.apart;
-        cover = cover;
-        has_row = λ q r alive there. sound.roles.known q r alive (sym (stays_each q r).looks.role.absent ∙ there);
-        logs = logs_grown v master entry may.room sound.logs may.stored;
-        legal = sound.truth.legal;
-        rising = sound.truth.rising;
-        seen = sound.truth.seen;
-        once = sound.calls.once;
-        known = λ q r alive. All-weaker _ _ (end_known q r) (ends_of (v.completions q r)) (sound.calls.known q r alive);
-        waiting = may.waiting;
-        are_last = may.are_last;
-        found = may.found;
-        ordered = sound.records.ordered;
-        bare = λ q r. bare q r (sound.receives.bare q r);
-        others = sound.messages.others;
-        asked = sound.asked;
-      }
+      assumption (
+        λ (q : ℕ) (there : IsMaster v.masters q).
+            ap (λ (known : List Known). length known) (known_same v master entry sound.logs q) ∙ sound.nodes.known q there,
+        terms_looks v.rows v.handovers now.handovers v.wire sound.terms (λ q r. (stays_each q r).looks),
+        cover,
+        λ (q r : ℕ) (alive : v.live q ≡ true) (there : is_absent (now.handovers q r).role ≡ false).
+            sound.roles.known q r alive (sym (stays_each q r).looks.role.absent ∙ there),
+        logs_grown v master entry may.room sound.logs may.stored,
+        λ (q r : ℕ) (alive : v.live q ≡ true).
+            All-weaker _ _ (end_known q r) (ends_of (v.completions q r)) (sound.calls.known q r alive),
+        λ (q r : ℕ). bare q r (sound.receives.bare q r),
+      )
 
   pub view_with_entry : SoundView now
   view_with_entry =

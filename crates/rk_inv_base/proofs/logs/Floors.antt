@@ -8,9 +8,8 @@ use Rattle.rk_entry.specs.declared.entry.Refused.{Refused}
 -- a floor does not fall with an entry
 pub floor_step : (floor : ℕ) (entry : Entry) → floor ≤ floor_by floor entry
 floor_step floor (entries.Held held) = omega arith
-floor_step floor (entries.Refused refused) = omega arith
 floor_step floor (entries.Carried carried) = omega arith
-floor_step floor (entries.Joined joined) = omega arith
+floor_step floor _ = omega arith
 
 -- nor with several
 pub floor_rises : (floor : ℕ) (list : List Entry) → floor ≤ fold floor_by floor list
@@ -43,15 +42,11 @@ pub floor_append : (floor : ℕ) (list more : List Entry) → fold floor_by floo
 floor_append floor [] more = floor_rises floor more
 floor_append floor (entry ∷ list) more = floor_append (floor_by floor entry) list more
 
--- one more item at the end raises it above the item's version
-pub floor_push : (list : List Entry) (item : Held) → floor_of (list ++ entries.Held item ∷ []) ≡ max (floor_of list) (item.version + 1)
-floor_push list item = fold-append floor_by 1 list (entries.Held item ∷ [])
-
 -- so one more item that took the next number as its version has the one after it behind it
 pub next_push : (truth rest : List Entry) (number : ℕ) (item : Held) → item.version ≡ number → IsNext (truth ++ rest) number → IsNext (truth ++ (rest ++ entries.Held item ∷ [])) (number + 1)
 next_push truth rest number item version next =
     let same : floor_of (truth ++ (rest ++ entries.Held item ∷ [])) ≡ max (floor_of (truth ++ rest)) (item.version + 1) =
-    ap floor_of (sym (append_assoc truth rest (entries.Held item ∷ []))) ∙ floor_push (truth ++ rest) item in
+    ap floor_of (sym (append_assoc truth rest (entries.Held item ∷ []))) ∙ fold-append floor_by 1 (truth ++ rest) (entries.Held item ∷ []) in
     omega (arith, same, version, next)
 
 -- an entry that bears neither a version nor a floor leaves the next number what it is

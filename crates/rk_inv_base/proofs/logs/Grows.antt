@@ -1,6 +1,6 @@
 -- What a backup stores of a member, and what it tells, once the member's log has more entries at its end.
 use Rattle.std.proofs.Common.{◌≡◌, ℕ, zero, suc, ◌≤◌, Bool, true, false, cond, List, [], ◌∷◌, ◌++◌, refl, sym, ap, ◌∙◌, subst, arith}
-use Rattle.std.proofs.Common.{append_assoc, drop, take, length, nat_le, All, Contains, append-nil}
+use Rattle.std.proofs.Common.{append_assoc, drop, take, length, nat_le, All, Contains}
 use Rattle.rk_inv_base.proofs.Words.{flat_map-append, All-weaker, Contains-append_left, filter-append, prefix_len, Ended, Held, Range}
 use Rattle.rk_inv_base.proofs.Words.{spelled, Entry, ends, end_of, cut, with_bytes, Log, with_entry, EntryEnd, items_in, items_of, told}
 use Rattle.rk_inv_base.proofs.Words.{told_by, is_marked, unmarked, unmarked_from, counts, counting, Mark, TellNoMore, stored_count}
@@ -12,10 +12,6 @@ use Rattle.rk_inv_base.proofs.logs.Floors.{floor_append}
 pub record Extends (old new : List Entry) : Type 0 where
   pub more : List Entry
   pub parts : new ≡ old ++ more
-
--- as they are of themselves
-pub extends_itself : (list : List Entry) → Extends list list
-extends_itself list = record { more = []; parts = sym (append-nil list) }
 
 -- what is among some is among these with others
 pub still_contains : (old new : List Entry) (entry : Entry) → Extends old new → Contains old entry → Contains new entry

@@ -1,15 +1,16 @@
 -- What of a range stands in records once the items of a range are dropped that does not meet it.
-use Rattle.std.proofs.Common.{◌≡◌, ℕ, Bool, true, false, cond, not, ◌||◌, List, [], ◌∷◌, refl, ap, ◌∙◌, ⊎_elim, fold, filter, is_some, drop}
-use Rattle.std.proofs.Common.{All, Contains, flat_map, eqb-true}
-use Rattle.std.specs.Cmp.Lexicographic.{bytes_decides}
-use Rattle.rk_inv_base.proofs.Words.{and_parts, All-nil, All-cons, All-head, All-tail, All-append, All-filter, All-weaker, All-contains}
-use Rattle.rk_inv_base.proofs.Words.{All-contains_itself, filter_passes, list_any, hash_of, has, meets, Held, Member, Range, Entry, is_in}
-use Rattle.rk_inv_base.proofs.Words.{with_item, without, is_before, newest_is, newest_items_are, is_of, newest_items, items_in, items_of}
-use Rattle.rk_inv_base.proofs.Words.{unmarked_from, counting, counts, material_of, named, side_entries, Written, applied_entries}
-use Rattle.rk_inv_base.proofs.Words.{member_truth, applied_from, IsFound, IsReceived, entries_from, scan_items, IsTableOf}
-use Rattle.rk_entry.specs.declared.entry.Entry.TheVariants as entries
+use Rattle.std.proofs.Common.{◌≡◌, ℕ, Bool, true, false, not, ◌||◌, List, ap, ◌∙◌, ⊎_elim, filter, drop, All, Contains, sym, ◌⊎◌, Option}
+use Rattle.rk_inv_base.proofs.Words.{All-contains, list_any, meets, Held, Member, Range, Entry, is_in, without, is_of, items_of}
+use Rattle.rk_inv_base.proofs.Words.{unmarked_from, material_of, side_entries, Written, applied_entries, member_truth, applied_from}
+use Rattle.rk_inv_base.proofs.Words.{IsFound, entries_from, scan_items, IsTableOf, list_any_none, Handover, Handed, IsRebuildTable}
+use Rattle.rk_inv_base.proofs.Words.{HasArrived, copied_items, own_place, named_items, Row, View, truths, false_from_ne_true, false≢true}
+use Rattle.rk_inv_base.proofs.Words.{filter_passes, counting, counts}
 use Rattle.rk_inv_base.proofs.rows.Apart.{key_outside}
-use Rattle.rk_inv_base.proofs.pulls.HashesResolved.{passes}
+use Rattle.rk_inv_base.proofs.calls.Records.{filter_from, filter_stands, scanned_from, entries_in}
+use Rattle.rk_inv_base.proofs.views.Lists.{all_by, none_pass}
+use Rattle.rk_world.specs.Tablet.{Pulling}
+use Rattle.rk_sound.specs.Receives.{IsTarget, HasCome}
+use Rattle.rk_inv_base.proofs.views.WithRecords.{RebuildsWith}
 
 -- an item is in a range
 abbrev pub IsIn : Range → Held → Type 0
@@ -21,26 +22,12 @@ AreIn range items = All (IsIn range) items
 
 -- ---- items of what counts for a range
 
-pub entry_in : (range : Range) (entry : Entry) → counts range entry ≡ true → AreIn range (items_in entry)
-entry_in range (entries.Held held) counted = All-cons (IsIn range) held [] counted (All-nil (IsIn range))
-entry_in range _ counted = All-nil (IsIn range)
-
-pub entries_in : (range : Range) (list : List Entry) → All (λ entry. counts range entry ≡ true) list → AreIn range (items_of list)
-entries_in range [] counted = All-nil (IsIn range)
-entries_in range (entry ∷ list) counted =
-    All-append (IsIn range) (items_in entry) (items_of list)
-    (entry_in range entry (All-head (λ e. counts range e ≡ true) entry list counted))
-    (entries_in range list (All-tail (λ e. counts range e ≡ true) entry list counted))
-
 -- a target's own
 pub target_in : (range : Range) (from : ℕ) (list : List Entry) → AreIn range (items_of (entries_from range from list))
 target_in range from list = entries_in range (counting range (drop from list)) (filter_passes (counts range) (drop from list))
 
 pub material_in : (range : Range) (side : ℕ → List Entry) (list : List Entry) → AreIn range (items_of (material_of range side list))
-material_in range side list =
-    entries_in range (material_of range side list)
-    (All-append (λ entry. counts range entry ≡ true) (counting range list) (counting range (flat_map side (named range list)))
-    (filter_passes (counts range) list) (filter_passes (counts range) (flat_map side (named range list))))
+material_in range side list = Rattle.rk_inv_base.proofs.calls.Records.material_in range side list
 
 -- those of a member
 pub truth_in : (written : ℕ → Written) (range : Range) (member : Member) → AreIn range (items_of (member_truth written range member))
@@ -54,100 +41,101 @@ applied_in range from w = material_in range (side_entries w.sides) (drop from (a
 
 -- ---- items in scan order
 
-pub newest_in : (range : Range) (items : List Held) → AreIn range items → AreIn range (newest_items items)
-newest_in range items all =
-    All-weaker (Contains (newest_items items)) (IsIn range)
-    (λ item stands.
-    All-contains (IsIn range) items item all
-    (newest_is items item.table item.key item (((newest_items_are items).newest item).0 stands)).stands)
-    (newest_items items) (All-contains_itself (newest_items items))
-
-pub with_in : (range : Range) (item : Held) (items : List Held) → is_in range item ≡ true → AreIn range items → AreIn range (with_item item items)
-with_in range item items inside all =
-    let before : List Held = filter (λ other. is_before other item) items in
-    let behind : List Held = filter (λ other. is_before item other) items in
-    All-append (IsIn range) before (item ∷ behind)
-    (All-filter (λ other. is_before other item) (IsIn range) items all)
-    (All-cons (IsIn range) item behind inside
-    (All-filter (λ other. is_before item other) (IsIn range) items all))
-
-pub ordered_in : (range : Range) (items done : List Held) → AreIn range items → AreIn range done → AreIn range (fold (λ found item. with_item item found) done items)
-ordered_in range [] done all found = found
-ordered_in range (item ∷ items) done all found =
-    ordered_in range items (with_item item done) (All-tail (IsIn range) item items all)
-    (with_in range item done (All-head (IsIn range) item items all) found)
-
 pub scan_in : (range : Range) (list : List Entry) → AreIn range (items_of list) → AreIn range (scan_items list)
 scan_in range list all =
-    ordered_in range (filter (λ item. is_some item.value) (newest_items (items_of list))) []
-    (All-filter (λ item. is_some item.value) (IsIn range) (newest_items (items_of list)) (newest_in range (items_of list) all))
-    (All-nil (IsIn range))
+    all_by (IsIn range) (scan_items list) (λ item stands. All-contains (IsIn range) (items_of list) item all (scanned_from list item stands))
 
 -- ---- what is left of records
 
 -- what is left stood there
 pub stood : (range : Range) (items : List Held) (item : Held) → Contains (without range items) item → Contains items item
-stood range items item left =
-    All-contains (Contains items) (without range items) item
-    (All-filter (λ held. not (is_in range held)) (Contains items) items (All-contains_itself items)) left
+stood range items item left = filter_from (λ held. not (is_in range held)) items item left
 
 -- so where none passed a test, none does now
 pub neither : (a b : Bool) → (a || b) ≡ false → b ≡ false
 neither true b none = absurd (cc)
 neither false b none = none
 
-pub nor : (a b c : Bool) → (a || b) ≡ false → c ≡ false → (a || c) ≡ false
-nor true b c none later = absurd (cc)
-nor false b c none later = later
-
 pub none_left : (test keep : Held → Bool) (items : List Held) → list_any test items ≡ false → list_any test (filter keep items) ≡ false
-none_left test keep [] none = refl
-none_left test keep (item ∷ items) none = go (keep item) (none_left test keep items (neither (test item) (list_any test items) none))
-  where
-    go : (kept : Bool) → list_any test (filter keep items) ≡ false → list_any test (cond kept (item ∷ filter keep items) (filter keep items)) ≡ false
-    go true later = nor (test item) (list_any test items) (list_any test (filter keep items)) none later
-    go false later = later
+none_left test keep items none =
+    list_any_none test (filter keep items)
+    (all_by (λ item. test item ≡ false) (filter keep items)
+    (λ item stands. none_pass test items none item (filter_from keep items item stands)))
 
 -- whether an item is in a range is told by its key
 pub in_by_key : (range : Range) (item other : Held) → is_of item.table item.key other ≡ true → is_in range other ≡ is_in range item
-in_by_key range item other same =
-    let both = and_parts _ _ same in
-    let table : other.table ≡ item.table = eqb-true _ _ both.0 in
-    let key : other.key ≡ item.key = (bytes_decides other.key item.key).0 both.1 in
-    λ i. has range (table i) (hash_of (key i))
+in_by_key range item other same = Rattle.rk_inv_base.proofs.calls.Records.in_by_key range item other same
+
+-- ---- records with the same items of a range: what rows of that range say of records, they say of either
+
+pub record HaveSame (range : Range) (old new : List Held) : Type 0 where
+  pub come : (item : Held) → is_in range item ≡ true → Contains new item → Contains old item
+  pub stays : (item : Held) → is_in range item ≡ true → Contains old item → Contains new item
+
+module _ (range : Range) (old new : List Held) (same : HaveSame range old new) where
+  -- an item of the range is found as before
+  pub found_same : (item : Held) → is_in range item ≡ true → IsFound old item → IsFound new item
+  found_same item inside found = record {
+    there = found.there;
+    stands = same.stays found.there (in_by_key range item found.there found.same_key ∙ inside) found.stands;
+    same_key = found.same_key;
+    as_new = found.as_new;
+  }
+
+  -- the records have the newest items
+  pub table_same : (list : List Entry) → IsTableOf range list old → IsTableOf range list new
+  table_same list was item inside = (
+    λ left. (was item inside).0 (same.come item inside left),
+    λ newest. same.stays item inside ((was item inside).1 newest),
+  )
+
+  -- or none
+  pub none_same : list_any (is_in range) old ≡ false → list_any (is_in range) new ≡ false
+  none_same none =
+      list_any_none (is_in range) new
+      (all_by (λ item. is_in range item ≡ false) new
+      (λ item stands.
+      false_from_ne_true (is_in range item)
+      (λ inside. false≢true (sym (none_pass (is_in range) old none item (same.come item inside stands)) ∙ inside))))
+
+  -- a target goes on
+  pub target_same : (source : ℕ) (truth material : List Entry) (from : ℕ) (written : Written) (handover : Handover) (pulling : Pulling) (handed : Option Handed) → AreIn range (scan_items truth) → IsTarget range source truth material from written handover pulling handed old → IsTarget range source truth material from written handover pulling handed new
+  target_same source truth material from written handover pulling handed inside was =
+      let own : List Held = items_of (entries_from range from (applied_entries written)) in
+      let Arrived : Held → Type 0 = HasArrived handover.role pulling (scan_items truth) in
+      let come : (item : Held) → Contains new item → is_in range item ≡ true → Contains own item ⊎ Contains (copied_items handover.role pulling written.sides) item = λ item left its.
+      was.received.come item (same.come item its left) its in
+      let found : (item : Held) → HasCome Arrived (scan_items truth) own item → IsFound new item = λ item has.
+      found_same item
+      (⊎_elim (λ (mine : Contains own item). All-contains (IsIn range) own item (target_in range from (applied_entries written)) mine)
+      (λ (arrived : Contains (scan_items truth) item × Arrived item). All-contains (IsIn range) (scan_items truth) item inside arrived.0) has)
+      (was.received.found item has) in
+      assumption
+
+-- and so does a master that rebuilds
+pub rebuilder_same : (v : View) (row : Row) (lineage : List Member) (to : ℕ) (old new : List Held) → HaveSame row.range old new → RebuildsWith v row lineage to old → RebuildsWith v row lineage to new
+rebuilder_same v row lineage to old new same was =
+    let from : ℕ = own_place (v.handovers to row.tablet).role in
+    let named : List Held = named_items row.range from (v.written to) in
+    let items : IsRebuildTable row.range (truths v row) (applied_from row.range from (v.written to)) new = record {
+      found = λ item own.
+          found_same row.range old new same item (All-contains (IsIn row.range) _ item (applied_in row.range from (v.written to)) own)
+          (was.items.found item own);
+      come = λ item left inside. was.items.come item (same.come item inside left) inside;
+    } in
+    let sides : (item : Held) → Contains named item → Contains (items_of (truths v row)) item × IsFound new item = λ item stands.
+    let both = was.sides item stands in
+    let inside : IsIn row.range item = All-contains (IsIn row.range) named item (filter_passes (is_in row.range) _) stands in
+    (both.0, found_same row.range old new same item inside both.1) in
+    assumption
 
 module _ (gone range : Range) (apart : meets gone range ≡ false) (records : List Held) where
   -- an item of the other range stands still
   pub stays : (item : Held) → is_in range item ≡ true → Contains records item → Contains (without gone records) item
   stays item inside stands =
-      passes (λ held. not (is_in gone held)) records item stands
+      filter_stands (λ held. not (is_in gone held)) records item stands
       (ap not (key_outside gone range item.table item.key apart inside))
 
-  -- and is found as before
-  pub found_still : (item : Held) → is_in range item ≡ true → IsFound records item → IsFound (without gone records) item
-  found_still item inside found = record {
-    there = found.there;
-    stands = stays found.there (in_by_key range item found.there found.same_key ∙ inside) found.stands;
-    same_key = found.same_key;
-    as_new = found.as_new;
-  }
-
-  -- so the records have the newest items of the other range
-  pub table_still : (list : List Entry) → IsTableOf range list records → IsTableOf range list (without gone records)
-  table_still list was item inside = (
-    λ left. (was item inside).0 (stood gone records item left),
-    λ newest. stays item inside ((was item inside).1 newest),
-  )
-
-  -- and what has come
-  pub received_still : (Arrived : Held → Type 0) (items own sides : List Held) → AreIn range items → AreIn range own → IsReceived Arrived range items own sides records → IsReceived Arrived range items own sides (without gone records)
-  received_still Arrived items own sides items_in own_in was = record {
-    within = was.within;
-    copied = was.copied;
-    come = λ item left inside. was.come item (stood gone records item left) inside;
-    found = λ item come.
-        found_still item
-        (⊎_elim (λ (mine : Contains own item). All-contains (IsIn range) own item own_in mine)
-        (λ (arrived : Contains items item × Arrived item). All-contains (IsIn range) items item items_in arrived.0) come)
-        (was.found item come);
-  }
+  -- so records without what is dropped have the same items of the other range
+  pub dropped_same : HaveSame range records (without gone records)
+  dropped_same = record { come = λ item inside left. stood gone records item left; stays = stays }

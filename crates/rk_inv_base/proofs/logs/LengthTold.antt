@@ -1,12 +1,12 @@
 -- A lane stays sound when a master is told that a backup stores so many bytes of a segment. What it believes then of the other backups,
 -- and what each other master believes, is as it was; what is needed of dead masters too, since this one lives.
 use Rattle.std.proofs.Common.{◌≡◌, ℕ, ◌-◌, ◌<◌, ◌≤◌, Bool, true, false, List, [], length, get_or, set, Option, Some, None, refl, sym, ap}
-use Rattle.std.proofs.Common.{◌∙◌, subst, ⊎_elim, arith, length-set, get_or-set_same, get_or-set_other, le-leb, leb-true, append-nil}
+use Rattle.std.proofs.Common.{◌∙◌, subst, ⊎_elim, arith, length-set, get_or-set_same, get_or-set_other, le-leb, leb-true, append-nil, All}
 use Rattle.rk_inv_base.proofs.Words.{cases_eq, false≢true, All-weaker, list_all, option_map_or, Node, NumberedBytes, told_other}
 use Rattle.rk_inv_base.proofs.Words.{list_all_each, Known, is_whole, known_length, nothing, IsBackup, Log, is_side_stored, known_of}
 use Rattle.rk_inv_base.proofs.Words.{segment_of, side_segments, Body, Append, with_known, World, master_at, tablet_in, Written, IsCopy}
 use Rattle.rk_inv_base.proofs.Words.{IsFromLog, IsKnownBefore, IsLog, LogSays, segments_in, stored_of, READ_BACKUP, View, view, IsSound}
-use Rattle.rk_inv_base.proofs.Words.{LogsOf, SoundView}
+use Rattle.rk_inv_base.proofs.Words.{LogsOf, SoundView, committed}
 use Rattle.rk_types.specs.declared.node.Node.TheVariants as nodes
 use Rattle.rk_log.proofs.KnownLaws.{told_length, told_more}
 use Rattle.rk_log.proofs.LogLaws.{committed_told}
@@ -94,21 +94,14 @@ module _ (log : Log) (backup segment size : ℕ) (numbered : IsBackup log backup
   side_told number = part_told (segment_of number (side_segments log))
 
   log_told : (written : Written) (stored : ℕ → ℕ → List ℕ) → size ≤ length (stored backup segment) → IsLog log written stored → IsLog new written stored
-  log_told written stored is_stored old = record {
-    entries_are = old.entries_are;
-    held = omega (arith, old.held, committed_told log backup segment size);
-    copies = λ b there.
-        let was : IsBackup log b = record {
-          first = there.first;
-          last = omega (arith, there.last, length-set log.known (backup - 1) now_known);
-        } in
-        copy_told (stored b) b was (λ on. subst (λ (n : ℕ). size ≤ length (stored n segment)) (sym on) is_stored) (old.copies b was);
-    spelled = old.spelled;
-    named =
-        All-weaker _ _ (λ entry. All-weaker _ _ side_told (segments_in entry))
-        written.entries old.named;
-    marked = old.marked;
-  }
+  log_told written stored is_stored old =
+      let named : All (λ entry. All (λ number. is_side_stored new number ≡ true) (segments_in entry)) written.entries =
+      All-weaker _ _ (λ entry. All-weaker _ _ side_told (segments_in entry)) written.entries old.named in
+      let held : written.applied ≤ committed new = omega (arith, old.held, committed_told log backup segment size) in
+      assumption (λ (b : ℕ) (there : IsBackup new b).
+      let was : IsBackup log b =
+      record { first = there.first; last = omega (arith, there.last, length-set log.known (backup - 1) now_known) } in
+      copy_told (stored b) b was (λ on. rw on is_stored) (old.copies b was))
 
   piece_told : (b : ℕ) (append : Append) → IsFromLog log (known_of log b) append → IsFromLog new (known_of new b) append
   piece_told b append piece = record {

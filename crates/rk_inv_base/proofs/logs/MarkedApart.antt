@@ -1,17 +1,17 @@
 -- What is marked in a log is of rows that are rebuilt, and counts for no other row.
-use Rattle.std.proofs.Common.{◌≡◌, ℕ, zero, suc, ◌+◌, ◌-◌, ◌<◌, ◌≤◌, true, false, ◌&&◌, eqb, leb, List, [], ◌∷◌, Option, Some, None, refl}
-use Rattle.std.proofs.Common.{sym, ap, subst, ◌∙◌, ⊎_elim, arith, drop, fold, is_some, nat_le, nat_lt, slice_get, take, Contains, leb-true}
-use Rattle.std.proofs.Common.{ltb-true}
-use Rattle.rk_inv_base.proofs.Words.{and_parts, cases_Bool, cond-false, cond_both, false≢true, nat_tests, All-contains, All-nil}
-use Rattle.rk_inv_base.proofs.Words.{Any-from_list_any, meets, Member, Range, Entry, number_of, Precedes, row_of, Rebuilding, Row, told}
-use Rattle.rk_inv_base.proofs.Words.{is_marked, counting, counts, floor_by, has_all, Mark, HasOwnRange, IsOfRange, MarkFits, MarkedFit}
-use Rattle.rk_inv_base.proofs.Words.{TellNoMore, marked_entries, member_marked, View, SoundView}
+use Rattle.std.proofs.Common.{◌≡◌, ℕ, zero, suc, ◌+◌, ◌-◌, ◌<◌, ◌≤◌, true, false, ◌&&◌, List, [], ◌∷◌, Option, Some, None, refl, sym, ap}
+use Rattle.std.proofs.Common.{subst, ◌∙◌, ⊎_elim, arith, drop, is_some, nat_le, nat_lt, slice_get, take, Contains, leb-true, ltb-true}
+use Rattle.rk_inv_base.proofs.Words.{and_parts, cond-false, cond_both, false≢true, nat_tests, All-contains, All-nil, Any-from_list_any}
+use Rattle.rk_inv_base.proofs.Words.{meets, Member, Range, Entry, number_of, Precedes, row_of, Rebuilding, Row, told, is_marked, counting}
+use Rattle.rk_inv_base.proofs.Words.{counts, has_all, Mark, HasOwnRange, IsOfRange, MarkFits, MarkedFit, TellNoMore, marked_entries}
+use Rattle.rk_inv_base.proofs.Words.{member_marked, View, SoundView}
 use Rattle.rk_entry.specs.declared.entry.Entry.TheVariants as entries
 use Rattle.rk_inv_base.proofs.rows.Apart.{key_outside, one_precedes}
 use Rattle.rk_inv_base.proofs.logs.InRest.{behind_at}
-use Rattle.rk_inv_base.proofs.rows.Serving.{found_stands, meets_either}
+use Rattle.rk_inv_base.proofs.rows.Serving.{found_stands}
 use Rattle.rk_inv_base.proofs.rows.TurnedRows.{behind_first}
 use Rattle.rk_inv_base.proofs.views.ByRows.{row_in}
+use Rattle.rk_inv_base.proofs.logs.Floors.{floor_rises}
 
 -- ---- places
 
@@ -41,10 +41,7 @@ in_piece xs first past place x behind before at =
 
 -- a range that does not meet one that is not empty does not have all of it
 pub not_all : (a b : Range) → meets a b ≡ false → b.first ≤ b.last → has_all a b ≡ false
-not_all a b apart some = go a.table a.first a.last b.table b.first b.last apart some
-  where
-    go : (s f l t g m : ℕ) → (eqb s t && leb f m && leb g l) ≡ false → g ≤ m → (eqb s t && leb f g && leb m l) ≡ false
-    go s f l t g m apart some = grind (arith, nat_tests)
+not_all a b apart some = grind (arith, nat_tests)
 
 -- an entry of a rebuild of another range does not count
 pub entry_apart : (a b : Range) → meets a b ≡ false → meets b a ≡ false → b.first ≤ b.last → (entry : Entry) → IsOfRange a entry → counts b entry ≡ false
@@ -55,9 +52,7 @@ entry_apart a b apart back some _ of = absurd of
 
 -- ranges that do not meet do not the other way round
 pub apart_either : (a b : Range) → meets a b ≡ false → meets b a ≡ false
-apart_either a b apart =
-    ⊎_elim (λ (e : meets b a ≡ true). absurd (false≢true (sym apart ∙ meets_either b a e))) (λ (e : meets b a ≡ false). e)
-    (cases_Bool (meets b a))
+apart_either a b apart = grind (arith, nat_tests)
 
 -- where no marked entry counts, nothing does of what is marked
 pub none_counted : (range : Range) (marks : List Mark) (list : List Entry) (place : ℕ) → ((k : ℕ) (entry : Entry) → slice_get list k ≡ Some entry → is_marked marks (place + k) ≡ true → counts range entry ≡ false) → counting range (marked_entries marks place list) ≡ []
@@ -79,21 +74,11 @@ none_counted range marks (entry ∷ list) place none =
 
 -- ---- nothing tells no more than any entries
 
-pub floor_rises : (floor : ℕ) (entry : Entry) → floor ≤ floor_by floor entry
-floor_rises floor (entries.Held held) = omega arith
-floor_rises floor (entries.Refused refused) = omega arith
-floor_rises floor (entries.Carried carried) = omega arith
-floor_rises floor (entries.Joined joined) = omega arith
-
-pub floor_from : (floor : ℕ) (list : List Entry) → floor ≤ fold floor_by floor list
-floor_from floor [] = omega arith
-floor_from floor (entry ∷ list) = omega (arith, floor_rises floor entry, floor_from (floor_by floor entry) list)
-
 pub none_tells : (others : List Entry) → TellNoMore [] others
 none_tells others = record {
   items = λ item at. absurd (omega (arith, at.1));
   ends = All-nil (Contains (told others));
-  floor = floor_from 1 others;
+  floor = floor_rises 1 others;
 }
 
 -- ---- a row that is not rebuilt

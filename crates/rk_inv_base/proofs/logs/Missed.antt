@@ -1,11 +1,12 @@
 -- What entries that do not touch a range tell of it: nothing; and what a history leaves at a key that it has no record of.
-use Rattle.std.proofs.Common.{◌≡◌, ℕ, zero, suc, ◌≤◌, Bool, true, false, cond, ◌&&◌, ◌||◌, eqb, leb, List, [], ◌∷◌, ◌++◌, None, Some}
-use Rattle.std.proofs.Common.{Option, refl, ap, ◌∙◌, arith, drop, take, filter, fold, All, flat_map}
-use Rattle.rk_inv_base.proofs.Words.{nat_tests, All-nil, All-cons, All-head, All-tail, list_any, Placed, Range, name-swap, Map, is_at}
-use Rattle.rk_inv_base.proofs.Words.{map_after, map_with, with_change, change_of, Entry, is_marked, unmarked, unmarked_from, touches}
-use Rattle.rk_inv_base.proofs.Words.{counting, counts, is_joined_in, material_of, named, named_by, with_number, Mark}
+use Rattle.std.proofs.Common.{◌≡◌, ℕ, suc, ◌≤◌, Bool, true, false, cond, ◌&&◌, eqb, leb, List, [], ◌∷◌, ◌++◌, None, Some, Option, refl, ap}
+use Rattle.std.proofs.Common.{◌∙◌, arith, drop, filter, fold, All, flat_map}
+use Rattle.rk_inv_base.proofs.Words.{nat_tests, All-cons, All-head, All-tail, list_any, Placed, Range, name-swap, Map, is_at, map_after}
+use Rattle.rk_inv_base.proofs.Words.{map_with, with_change, change_of, Entry, is_marked, unmarked, unmarked_from, touches, counting, counts}
+use Rattle.rk_inv_base.proofs.Words.{is_joined_in, material_of, named, named_by, with_number, Mark, All-drop, list_any_none, All-weaker}
 use Rattle.rk_model.specs.Machine.{Entry as MapEntry}
 use Rattle.rk_entry.specs.declared.entry.Entry.TheVariants as entries
+use Rattle.rk_inv_base.proofs.views.Lists.{none_kept}
 
 -- an entry does not touch a range
 abbrev pub Misses : Range → Entry → Type 0
@@ -13,15 +14,7 @@ Misses range entry = touches range entry ≡ false
 
 -- so it is of parts of a log
 pub drop_missed : (range : Range) (n : ℕ) (list : List Entry) → All (Misses range) list → All (Misses range) (drop n list)
-drop_missed range (suc n) (entry ∷ list) all = drop_missed range n list (All-tail (Misses range) entry list all)
-drop_missed range _ _ all = all
-
-pub take_missed : (range : Range) (n : ℕ) (list : List Entry) → All (Misses range) list → All (Misses range) (take n list)
-take_missed range zero list all = All-nil (Misses range)
-take_missed range (suc n) [] all = all
-take_missed range (suc n) (entry ∷ list) all =
-    All-cons (Misses range) entry (take n list) (All-head (Misses range) entry list all)
-    (take_missed range n list (All-tail (Misses range) entry list all))
+drop_missed range n list all = All-drop (Misses range) n list all
 
 pub unmarked_missed : (range : Range) (marks : List Mark) (place : ℕ) (list : List Entry) → All (Misses range) list → All (Misses range) (unmarked marks place list)
 unmarked_missed range marks place [] all = all
@@ -37,13 +30,7 @@ from_missed range marks place list all = unmarked_missed range marks place (drop
 
 -- none of them touches the range
 pub none_touches : (range : Range) (list : List Entry) → All (Misses range) list → list_any (touches range) list ≡ false
-none_touches range [] all = refl
-none_touches range (entry ∷ list) all =
-    go (touches range entry) (All-head (Misses range) entry list all) (none_touches range list (All-tail (Misses range) entry list all))
-  where
-    go : (b : Bool) → b ≡ false → list_any (touches range) list ≡ false → (b || list_any (touches range) list) ≡ false
-    go true is later = absurd (cc is)
-    go false is later = later
+none_touches range list all = list_any_none (touches range) list all
 
 -- nor counts, where the range is not empty
 pub not_all : (s f l t g m : ℕ) → g ≤ m → (eqb s t && leb f m && leb g l) ≡ false → (eqb s t && leb f g && leb m l) ≡ false
@@ -56,14 +43,9 @@ counts_none range (entries.Joined joined) some misses = refl
 counts_none range _ some misses = misses
 
 pub counting_none : (range : Range) (list : List Entry) → range.first ≤ range.last → All (Misses range) list → counting range list ≡ []
-counting_none range [] some all = refl
-counting_none range (entry ∷ list) some all =
-    go (counts range entry) (counts_none range entry some (All-head (Misses range) entry list all))
-    (counting_none range list some (All-tail (Misses range) entry list all))
-  where
-    go : (b : Bool) → b ≡ false → counting range list ≡ [] → cond b (entry ∷ counting range list) (counting range list) ≡ []
-    go true is later = absurd (cc is)
-    go false is later = later
+counting_none range list some all =
+    none_kept (counts range) list
+    (All-weaker (Misses range) (λ entry. counts range entry ≡ false) (λ entry misses. counts_none range entry some misses) list all)
 
 -- nor names side segments
 pub names_none : (range : Range) (entry : Entry) → Misses range entry → named_by range entry ≡ []
@@ -87,14 +69,8 @@ joins_none range (entries.Joined joined) misses = misses
 joins_none range _ misses = refl
 
 pub joined_none : (range : Range) (list : List Entry) → All (Misses range) list → filter (is_joined_in range) list ≡ []
-joined_none range [] all = refl
-joined_none range (entry ∷ list) all =
-    go (is_joined_in range entry) (joins_none range entry (All-head (Misses range) entry list all))
-    (joined_none range list (All-tail (Misses range) entry list all))
-  where
-    go : (b : Bool) → b ≡ false → filter (is_joined_in range) list ≡ [] → cond b (entry ∷ filter (is_joined_in range) list) (filter (is_joined_in range) list) ≡ []
-    go true is later = absurd (cc is)
-    go false is later = later
+joined_none range list all =
+    none_kept (is_joined_in range) list (All-weaker (Misses range) (λ entry. is_joined_in range entry ≡ false) (joins_none range) list all)
 
 -- a history leaves a key as it was that it has no record of
 pub map_elsewhere : (start : Map) (journal : List Placed) (table : ℕ) (key : List ℕ) → All (λ placed. is_at table key placed ≡ false) journal → map_after start journal table key ≡ start table key

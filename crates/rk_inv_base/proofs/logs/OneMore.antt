@@ -1,7 +1,7 @@
 -- One more entry at the end of a master's log: what counts of logs, what backups store of them and what has to be read of them stays as it
 -- was, but for the range that the entry is of.
 use Rattle.std.proofs.Common.{◌≡◌, ℕ, ◌≤◌, max, true, false, List, [], ◌∷◌, ◌++◌, length, Some, refl, sym, ap, subst, ◌∙◌, arith, All, drop}
-use Rattle.std.proofs.Common.{take, length-append}
+use Rattle.std.proofs.Common.{take, length-append, append-nil}
 use Rattle.rk_inv_base.proofs.Words.{All-head, All-tail, cond-false, false≢true, IsPlaced, last_of, take-append-le, meets, Member, Range}
 use Rattle.rk_inv_base.proofs.Words.{Entry, lineage_of, Row, Log, with_entry, unmarked_from, counting, counts, touches, log_material}
 use Rattle.rk_inv_base.proofs.Words.{named_by, is_joined_in, Written, applied_entries, member_truth, member_rest, member_material}
@@ -12,8 +12,7 @@ use Rattle.rk_world.specs.Written.{truth_of}
 use Rattle.rk_inv_base.proofs.views.Put.{put_by}
 use Rattle.rk_inv_base.proofs.calls.Appending.{truth_by, truth_is}
 use Rattle.rk_inv_base.proofs.logs.Applied.{applied_within}
-use Rattle.rk_inv_base.proofs.logs.Grows.{Extends, counting_extends, extends_behind, extends_itself, stored_push, take_extends}
-use Rattle.rk_inv_base.proofs.logs.Grows.{tells_extended}
+use Rattle.rk_inv_base.proofs.logs.Grows.{Extends, counting_extends, extends_behind, stored_push, take_extends, tells_extended}
 use Rattle.rk_inv_base.proofs.logs.Shares.{material_outside, rest_inside, rest_outside}
 use Rattle.rk_inv_base.proofs.wire.Messages.{NeedNoMore}
 use Rattle.rk_inv_base.proofs.views.Needed.{needed_grown}
@@ -125,7 +124,7 @@ module _ (v : View) (master : ℕ) (entry : Entry) (sound : LogsOf v) where
   rest_at x beside = lineage_same x.range (lineage_of x.phase) beside
 
   -- the rest of a row whose lineage ends with the master has the entry at its end, where it counts
-  lineage_grown : (range : Range) (members : List Member) (last : Member) → All (IsPlaced v.written) members → last_of members ≡ Some last → last.master ≡ master → counts range entry ≡ true → lineage_rest written range members ≡ lineage_rest v.written range members ++ entry ∷ []
+  pub lineage_grown : (range : Range) (members : List Member) (last : Member) → All (IsPlaced v.written) members → last_of members ≡ Some last → last.master ≡ master → counts range entry ≡ true → lineage_rest written range members ≡ lineage_rest v.written range members ++ entry ∷ []
   lineage_grown range [] last placed is here has = absurd (cc is)
   lineage_grown range (member ∷ []) last placed is here has =
       let same : member ≡ last = cc is in
@@ -141,9 +140,6 @@ module _ (v : View) (master : ℕ) (entry : Entry) (sound : LogsOf v) where
       (λ apart. absurd (apart (ap (λ (m : Member). m.master) same ∙ here)))
   lineage_grown range (member ∷ next ∷ more) last placed is here has =
       lineage_grown range (next ∷ more) last (All-tail (IsPlaced v.written) member (next ∷ more) placed) is here has
-
-  pub rest_grown : (x : Row) (last : Member) → All (IsPlaced v.written) (lineage_of x.phase) → last_of (lineage_of x.phase) ≡ Some last → last.master ≡ master → counts x.range entry ≡ true → rest_of written x ≡ rests v x ++ entry ∷ []
-  rest_grown x last placed is here has = lineage_grown x.range (lineage_of x.phase) last placed is here has
 
   -- ---- what a dead member marked, where the one that appends lives
 
@@ -183,7 +179,7 @@ module _ (v : View) (master : ℕ) (entry : Entry) (sound : LogsOf v) where
         (take_extends (count log) (count (with_entry log entry)) w.entries (entry ∷ [])
         (stored_push log entry (stored_of v.stored q READ_BACKUP))))
         (λ apart. absurd (apart at)))
-        (λ apart. of_written (Grown log) q (λ at. absurd (apart at)) (λ _. extends_itself (counted log w)))
+        (λ apart. of_written (Grown log) q (λ at. absurd (apart at)) (λ _. record { more = []; parts = sym (append-nil (counted log w)) }))
 
     -- what dead members wrote for a rebuild tells no more than before
     pub marked_on : (range : Range) (lineage : List Member) → FirstIsBeside master entry range lineage → MarkedFit v.logs v.written v.stored v.live range lineage → MarkedFit logs written v.stored v.live range lineage

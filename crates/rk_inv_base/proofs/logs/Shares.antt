@@ -1,6 +1,7 @@
 -- What counts for a range of a log that grew by one entry at its end.
-use Rattle.std.proofs.Common.{◌≡◌, ℕ, zero, suc, ◌+◌, ◌≤◌, ◌<◌, Bool, true, false, ◌&&◌, ◌||◌, cond, leb, ltb, List, [], ◌∷◌, ◌++◌, length}
-use Rattle.std.proofs.Common.{drop, fold, refl, sym, ap, ◌∙◌, ⊎_elim, arith, All, filter, flat_map, le-ltb, length-drop}
+use Rattle.std.proofs.Common.{◌≡◌, ℕ, suc, ◌+◌, ◌≤◌, ◌<◌, Bool, true, false, ◌&&◌, ◌||◌, cond, leb, ltb, List, [], ◌∷◌, ◌++◌, length, drop}
+use Rattle.std.proofs.Common.{fold, refl, sym, ap, ◌∙◌, ⊎_elim, arith, All, filter, flat_map, le-ltb, length-drop, append-nil}
+use Rattle.std.proofs.Common.{length-append}
 use Rattle.rk_inv_base.proofs.Words.{cases_lt, cond-true, cond-false, drop-append-le, flat_map-append, filter-append, All-head, All-tail}
 use Rattle.rk_inv_base.proofs.Words.{Call, Held, Range, Entry, is_marked, unmarked, unmarked_from, touches, counts, counting, with_number}
 use Rattle.rk_inv_base.proofs.Words.{named, named_by, material_of, side_entries, log_material, joined_from, is_joined_in, has_key, Mark}
@@ -8,14 +9,10 @@ use Rattle.rk_inv_base.proofs.Words.{segments_in, IsEntryOf}
 use Rattle.rk_entry.specs.declared.entry.Entry.TheVariants as entries
 
 pub append_nil : {X : Type 0} (xs : List X) → xs ++ [] ≡ xs
-append_nil {X} [] = refl
-append_nil {X} (x ∷ xs) = ap (λ (ys : List X). x ∷ ys) (append_nil xs)
+append_nil xs = append-nil xs
 
 pub drop_all : {X : Type 0} (count : ℕ) (xs : List X) → length xs ≤ count → drop count xs ≡ []
-drop_all zero [] few = refl
-drop_all zero (x ∷ xs) few = absurd (omega (arith, few))
-drop_all (suc count) [] few = refl
-drop_all (suc count) (x ∷ xs) few = drop_all count xs (omega (arith, few))
+drop_all count xs few = Rattle.std.proofs.lemmas.List.drop_all count xs few
 
 -- one entry, or none where it bears a mark
 abbrev pub unless_marked : Bool → Entry → List Entry
@@ -59,14 +56,9 @@ unmarked_from_last marks place list entry within =
     ∙ ap (λ (n : ℕ). unmarked_from marks place list ++ unless_marked (is_marked marks n) entry) e
 
 -- and from a place behind the end nothing is there
-pub longer : (xs : List Entry) (x : Entry) (n : ℕ) → length xs < n → length (xs ++ x ∷ []) ≤ n
-longer [] x n l = omega (arith, l)
-longer (y ∷ xs) x zero l = absurd (omega (arith, l))
-longer (y ∷ xs) x (suc n) l = let r = longer xs x n (omega (arith, l)) in omega (arith, r)
-
 pub drop_none : (place : ℕ) (list : List Entry) (entry : Entry) → length list < place → drop place (list ++ entry ∷ []) ≡ drop place list
 drop_none place list entry beyond =
-    drop_all place (list ++ entry ∷ []) (longer list entry place beyond) ∙ sym (drop_all place list (omega (arith, beyond)))
+    drop_all place (list ++ entry ∷ []) (omega (arith, beyond, length-append list (entry ∷ []))) ∙ sym (drop_all place list (omega (arith, beyond)))
 
 pub unmarked_from_none : (marks : List Mark) (place : ℕ) (list : List Entry) (entry : Entry) → length list < place → unmarked_from marks place (list ++ entry ∷ []) ≡ unmarked_from marks place list
 unmarked_from_none marks place list entry beyond = ap (unmarked marks place) (drop_none place list entry beyond)

@@ -1,20 +1,15 @@
 -- A view stays sound when hashes are resolved, where all items of the source that have them have arrived.
-use Rattle.std.proofs.Common.{◌≡◌, ℕ, suc, Bool, true, false, cond, List, [], ◌∷◌, ◌++◌, eqb, ◌||◌, ◌⊎◌, arith, refl, ap, sym, subst, ◌∙◌}
-use Rattle.std.proofs.Common.{⊎_elim, inl, inr, filter, Contains, flat_map, eq-eqb, eqb-true}
-use Rattle.rk_inv_base.proofs.Words.{cond-true, Contains-append_left, Contains-append_right, list_any-append, bytes_eq-Decides, Held}
-use Rattle.rk_inv_base.proofs.Words.{Member, at_hash, Row, Hashes, contains, got, is_batch, is_receiving, World, GoesOn, source_items, View}
-use Rattle.rk_inv_base.proofs.Words.{view, IsSound, SoundView}
+use Rattle.std.proofs.Common.{◌≡◌, ℕ, Bool, true, false, cond, List, [], ◌∷◌, ◌++◌, eqb, ◌⊎◌, refl, ap, sym, subst, ◌∙◌, ⊎_elim, inl, inr}
+use Rattle.std.proofs.Common.{Contains, flat_map, eq-eqb, eqb-true}
+use Rattle.rk_inv_base.proofs.Words.{Contains-append_left, Contains-append_right, list_any-append, bytes_eq-Decides, Held, Member, at_hash}
+use Rattle.rk_inv_base.proofs.Words.{Row, Hashes, contains, got, is_batch, is_receiving, World, GoesOn, source_items, View, view, IsSound}
+use Rattle.rk_inv_base.proofs.Words.{SoundView, or_cases}
 use Rattle.rk_table.specs.Order.{item_hash}
 use Rattle.rk_sound.specs.Moves.{MayResolve}
 use Rattle.rk_sound.specs.Small.{hashes_resolved_in, resolving}
-use Rattle.rk_inv_base.proofs.rows.Apart.{contains_cases}
 use Rattle.rk_inv_base.proofs.views.Views.{view_pulled}
 use Rattle.rk_inv_base.proofs.pulls.PullingChanges.{of_one_row, view_goes_on}
-
--- one of two tests passes
-pub either : (a b : Bool) → (a || b) ≡ true → (a ≡ true) ⊎ (b ≡ true)
-either true b holds = inl refl
-either false b holds = inr holds
+use Rattle.rk_inv_base.proofs.calls.Records.{filter_stands}
 
 -- the outstanding batch is just what is given, where the test says so
 pub batch_is : (outstanding given : List ℕ) → is_batch outstanding given ≡ true → outstanding ≡ given
@@ -31,23 +26,8 @@ resolved_cases hashes given hash = go (is_batch hashes.outstanding given) refl
         ⊎_elim (λ (before : contains hashes.resolved hash ≡ true). inl before)
         (λ (came : contains hashes.outstanding hash ≡ true).
         inr (subst (λ (batch : List ℕ). contains batch hash ≡ true) (batch_is hashes.outstanding given same) came))
-        (either (contains hashes.resolved hash) (contains hashes.outstanding hash)
+        (or_cases (contains hashes.resolved hash) (contains hashes.outstanding hash)
         (sym (list_any-append (λ (h : ℕ). eqb h hash) hashes.resolved hashes.outstanding) ∙ has))
-
--- what passes a test stands among what does
-pub passes : {X : Type 0} (p : X → Bool) (xs : List X) (x : X) → Contains xs x → p x ≡ true → Contains (filter p xs) x
-passes p [] x (k, within, is) holds = absurd (omega (arith, within))
-passes {X} p (y ∷ ys) x stands holds =
-    ⊎_elim
-    (λ (same : y ≡ x).
-    subst (λ (kept : List X). Contains kept x) (sym (cond-true (p y) (y ∷ filter p ys) (filter p ys) (ap p same ∙ holds)))
-    (0, omega arith, same))
-    (λ (behind : Contains ys x). go (p y) (passes p ys x behind holds))
-    (contains_cases y ys x stands)
-  where
-    go : (b : Bool) → Contains (filter p ys) x → Contains (cond b (y ∷ filter p ys) (filter p ys)) x
-    go true kept = (suc kept.0, omega (arith, kept.1), kept.2)
-    go false kept = kept
 
 -- an item stands among those that have given hashes, where its own is one of these
 pub of_hashes : (items : List Held) (given : List ℕ) (item : Held) → Contains items item → contains given (item_hash item) ≡ true → Contains (flat_map (λ hash. at_hash hash items) given) item
@@ -56,12 +36,12 @@ of_hashes items (hash ∷ more) item stands has =
     ⊎_elim
     (λ (same : eqb hash (item_hash item) ≡ true).
     Contains-append_left (at_hash hash items) (flat_map (λ hash. at_hash hash items) more) item
-    (passes (λ (other : Held). eqb (item_hash other) hash) items item stands
+    (filter_stands (λ (other : Held). eqb (item_hash other) hash) items item stands
     (eq-eqb (item_hash item) hash (sym (eqb-true hash (item_hash item) same)))))
     (λ (later : contains more (item_hash item) ≡ true).
     Contains-append_right (at_hash hash items) (flat_map (λ hash. at_hash hash items) more) item
     (of_hashes items more item stands later))
-    (either (eqb hash (item_hash item)) (contains more (item_hash item)) has)
+    (or_cases (eqb hash (item_hash item)) (contains more (item_hash item)) has)
 
 pub goes_on : (v : View) (row : Row) (source target : Member) (hashes : List ℕ) → MayResolve v row source target hashes → GoesOn v row source target (resolving hashes (v.pullings target.master row.tablet))
 goes_on v row source target hashes may = record {

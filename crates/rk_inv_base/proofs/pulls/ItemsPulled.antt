@@ -2,12 +2,12 @@
 use Rattle.std.proofs.Common.{◌≡◌, ℕ, zero, suc, ◌<◌, false, List, [], ◌∷◌, ◌++◌, length, Option, sym, ap, ◌∙◌, subst, ◌⊎◌, inl, inr}
 use Rattle.std.proofs.Common.{⊎_elim, arith, slice_index_or, slice_set, Contains, flat_map, length-set}
 use Rattle.rk_inv_base.proofs.Words.{false≢true, false_from_ne_true, Contains-append_cases, Contains-append_left, Contains-append_right}
-use Rattle.rk_inv_base.proofs.Words.{Contains-push, Contains-push_cases, list_any_at, list_any_none, Held, Range, Entry, is_in, with_newer}
-use Rattle.rk_inv_base.proofs.Words.{IsInScanOrder, Handover, Role, none_stands, Handed, with_pulled, Pulling, Written, IsBare, IsTarget}
-use Rattle.rk_inv_base.proofs.Words.{copied_items, is_joining, scan_items, IsTableOf}
+use Rattle.rk_inv_base.proofs.Words.{Contains-push, Contains-push_cases, Held, Range, Entry, is_in, with_newer, IsInScanOrder, Handover}
+use Rattle.rk_inv_base.proofs.Words.{Role, none_stands, Handed, with_pulled, Pulling, Written, IsBare, IsTarget, copied_items, is_joining}
+use Rattle.rk_inv_base.proofs.Words.{scan_items, IsTableOf}
 use Rattle.rk_transfer.specs.declared.role.Role.TheVariants as roles
-use Rattle.rk_inv_base.proofs.views.Lists.{all_by}
 use Rattle.rk_inv_base.proofs.calls.Records.{found_still, in_by_key, newer_cases, other_stays}
+use Rattle.rk_inv_base.proofs.logs.InRange.{HaveSame, none_same, table_same}
 
 -- ---- lists of items, where one of them has one more
 
@@ -56,10 +56,6 @@ module _ (item : Held) where
   one_stands (items ∷ lists) (suc place) within =
       Contains-append_right items (all_of (with_one lists place)) item (one_stands lists place (omega (arith, within)))
 
--- what a target copied that pulls
-pub copied_are : (role : Role) (pulling : Pulling) (sides : List (List Held)) → role ≡ roles.Receiving → copied_items role pulling sides ≡ flat_map (λ items. items) pulling.sides
-copied_are role pulling sides is = ap (λ (r : Role). copied_items r pulling sides) is
-
 -- ---- targets
 
 module _ (range : Range) (source : ℕ) (truth material : List Entry) (from : ℕ) (written : Written) (handover : Handover) (handed : Option Handed) (records : List Held) (pulling : Pulling) (item : Held) (order : IsInScanOrder records) where
@@ -71,14 +67,12 @@ module _ (range : Range) (source : ℕ) (truth material : List Entry) (from : �
   pub target_replays : (worker : ℕ) → worker < 4 → handover.role ≡ roles.Receiving → Contains (scan_items truth) item → Targets pulling records → Targets (with_pulled pulling worker item) (with_newer item records)
   target_replays worker few role_is of_source old =
       let now : Pulling = with_pulled pulling worker item in
-      let was : copied_items handover.role pulling written.sides ≡ flat_map (λ items. items) pulling.sides =
-      copied_are handover.role pulling written.sides role_is in
-      let is : copied_items handover.role now written.sides ≡ flat_map (λ items. items) now.sides =
-      copied_are handover.role now written.sides role_is in
-      let keeps : (x : Held) → Contains (copied_items handover.role pulling written.sides) x
-      → Contains (copied_items handover.role now written.sides) x = λ x stands.
-      subst (λ (list : List Held). Contains list x) (sym is)
-      (one_keeps item pulling.sides worker x (subst (λ (list : List Held). Contains list x) was stands)) in
+      let Copied : Pulling → Held → Type 0 = λ p. Contains (copied_items handover.role p written.sides) in
+      let is : (p : Pulling) → copied_items handover.role p written.sides ≡ flat_map (λ items. items) p.sides = λ p.
+      ap (λ (r : Role). copied_items r p written.sides) role_is in
+      let keeps : (x : Held) → Copied pulling x → Copied now x = λ x stands.
+      subst (λ (list : List Held). Contains list x) (sym (is now))
+      (one_keeps item pulling.sides worker x (subst (λ (list : List Held). Contains list x) (is pulling) stands)) in
       record {
         from_source = old.from_source;
         workers = length-set pulling.sides worker (slice_index_or pulling.sides worker [] ++ item ∷ []) ∙ old.workers;
@@ -87,15 +81,15 @@ module _ (range : Range) (source : ℕ) (truth material : List Entry) (from : �
           within = λ x stands.
               ⊎_elim (λ (same : item ≡ x). subst (Contains (scan_items truth)) same of_source)
               (λ (before : Contains (flat_map (λ items. items) pulling.sides) x).
-              old.received.within x (subst (λ (list : List Held). Contains list x) (sym was) before))
-              (one_cases item pulling.sides worker x (subst (λ (list : List Held). Contains list x) is stands));
+              old.received.within x (subst (λ (list : List Held). Contains list x) (sym (is pulling)) before))
+              (one_cases item pulling.sides worker x (subst (λ (list : List Held). Contains list x) (is now) stands));
           copied = λ x stands arrived.
               ⊎_elim (λ copied. inl (keeps x copied)) (λ outdone. inr outdone) (old.received.copied x stands arrived);
           come = λ x stands inside.
               ⊎_elim
               (λ (same : item ≡ x).
-              inr (subst (Contains (copied_items handover.role now written.sides)) same
-              (subst (λ (list : List Held). Contains list item) (sym is)
+              inr (subst (Copied now) same
+              (subst (λ (list : List Held). Contains list item) (sym (is now))
               (one_stands item pulling.sides worker (omega (arith, few, old.workers))))))
               (λ (before : Contains records x).
               ⊎_elim (λ own. inl own) (λ copied. inr (keeps x copied)) (old.received.come x before inside))
@@ -108,59 +102,26 @@ module _ (range : Range) (source : ℕ) (truth material : List Entry) (from : �
         closing = old.closing;
       }
 
-  -- a target goes on where an item comes into its records that is not of its range
-  pub target_beside : is_in range item ≡ false → Targets pulling records → Targets pulling (with_newer item records)
-  target_beside outside old = record {
-    from_source = old.from_source;
-    workers = old.workers;
-    pulled = old.pulled;
-    received = record {
-      within = old.received.within;
-      copied = old.received.copied;
-      come = λ x stands inside.
-          ⊎_elim
-          (λ (same : item ≡ x). absurd (false≢true (sym outside ∙ ap (is_in range) same ∙ inside)))
-          (λ (before : Contains records x). old.received.come x before inside)
-          (newer_cases item records x stands);
-      found = λ x come. found_still item records x order (old.received.found x come);
-    };
-    above = old.above;
-    told = old.told;
-    early = old.early;
-    closing = old.closing;
-  }
-
 -- ---- what an item that is not of a range leaves of it
 
 module _ (range : Range) (item : Held) (records : List Held) (outside : is_in range item ≡ false) where
-  -- a master that made ready has still nothing of it
-  pub bare_beside : (from : ℕ) (written : Written) → IsBare range from written records → IsBare range from written (with_newer item records)
-  bare_beside from written bare = record {
-    placed = bare.placed;
-    nothing = bare.nothing;
-    empty =
-        list_any_none (is_in range) (with_newer item records)
-        (all_by (λ x. is_in range x ≡ false) (with_newer item records)
-        (λ x stands.
+  -- the records have the same items of the range
+  pub beside_same : HaveSame range records (with_newer item records)
+  beside_same = record {
+    come = λ x inside stands.
         ⊎_elim
-        (λ (same : item ≡ x). ap (is_in range) (sym same) ∙ outside)
-        (λ (before : Contains records x).
-        false_from_ne_true (is_in range x)
-        (λ yes.
-        false≢true
-        (sym bare.empty ∙ list_any_at (is_in range) records before.0 x before.1 (ap (is_in range) before.2 ∙ yes))))
-        (newer_cases item records x stands)));
+        (λ (same : item ≡ x). absurd (false≢true (sym outside ∙ ap (is_in range) same ∙ inside)))
+        (λ (before : Contains records x). before)
+        (newer_cases item records x stands);
+    stays = λ x inside stands.
+        other_stays item records x stands
+        (false_from_ne_true _ (λ same. false≢true (sym outside ∙ sym (in_by_key range item x same) ∙ inside)));
   }
+
+  -- so a master that made ready has still nothing of it
+  pub bare_beside : (from : ℕ) (written : Written) → IsBare range from written records → IsBare range from written (with_newer item records)
+  bare_beside from written bare = assumption (none_same range records (with_newer item records) beside_same bare.empty)
 
   -- and a table has all of it still
   pub table_beside : (material : List Entry) → IsTableOf range material records → IsTableOf range material (with_newer item records)
-  table_beside material old x inside = (
-    λ stands.
-        ⊎_elim
-        (λ (same : item ≡ x). absurd (false≢true (sym outside ∙ ap (is_in range) same ∙ inside)))
-        (λ (before : Contains records x). (old x inside).0 before)
-        (newer_cases item records x stands),
-    λ newest.
-        other_stays item records x ((old x inside).1 newest)
-        (false_from_ne_true _ (λ same. false≢true (sym outside ∙ sym (in_by_key range item x same) ∙ inside))),
-  )
+  table_beside = table_same range records (with_newer item records) beside_same

@@ -1,15 +1,15 @@
 -- What a target that joins is to its row, and how what it copied tells what its source has.
 use Rattle.std.proofs.Common.{◌≡◌, ℕ, ◌<◌, ◌⊎◌, Bool, true, false, cond, List, [], ◌∷◌, ◌++◌, filter, fold, Option, Some, None, refl, sym}
-use Rattle.std.proofs.Common.{ap, ◌∙◌, subst, ⊎_elim, inl, inr, arith, ◌==◌, is_some, Contains, flat_map, eq-eqb, eqb-true}
+use Rattle.std.proofs.Common.{ap, ◌∙◌, subst, ⊎_elim, inl, inr, ◌==◌, Contains, flat_map, eq-eqb, eqb-true}
 use Rattle.rk_inv_base.proofs.Words.{cond_both, false≢true, flat_map-append, Contains-append_cases, Contains-append_left}
-use Rattle.rk_inv_base.proofs.Words.{Contains-append_right, Held, Member, is_among, Entry, with_item, is_before, lineage_of, Phase, Owned}
-use Rattle.rk_inv_base.proofs.Words.{Opening, Moving, Rebuilding, newest_is, newest_items_are, newest_items, items_in, items_of, is_member}
-use Rattle.rk_inv_base.proofs.Words.{with_number, Post, Owner, OpeningSource, MovingSource, MovingTarget, OnlyRebuilder, FirstRebuilder}
-use Rattle.rk_inv_base.proofs.Words.{LastRebuilder, OutsideRebuilder, FormerMember, Bystander, bond_of, post_of, rebuilder_post}
-use Rattle.rk_inv_base.proofs.Words.{target_post, Holds, scan_items, IsFormed}
+use Rattle.rk_inv_base.proofs.Words.{Contains-append_right, Held, Member, is_among, Entry, lineage_of, Phase, Owned, Opening, Moving}
+use Rattle.rk_inv_base.proofs.Words.{Rebuilding, items_in, items_of, is_member, with_number, Post, Owner, OpeningSource, MovingSource}
+use Rattle.rk_inv_base.proofs.Words.{MovingTarget, OnlyRebuilder, FirstRebuilder, LastRebuilder, OutsideRebuilder, FormerMember, Bystander}
+use Rattle.rk_inv_base.proofs.Words.{bond_of, post_of, rebuilder_post, target_post, Holds, scan_items, IsFormed, filter_passes}
+use Rattle.rk_inv_base.proofs.Words.{All-contains}
 use Rattle.rk_transfer.specs.declared.role.Role.TheVariants as roles
 use Rattle.rk_tablet_map.specs.Phase.{member as member_at}
-use Rattle.rk_inv_base.proofs.rows.Apart.{contains_cases}
+use Rattle.rk_inv_base.proofs.calls.Records.{filter_from, filter_stands, scanned_from}
 
 -- a master is the second of two members of a lineage; where it is to rebuild the row, it keeps a smaller term
 pub record IsSecond (phase : Phase) (master term own : ℕ) : Type 0 where
@@ -90,56 +90,16 @@ module _ (master term own applied : ℕ) where
 
 -- what is kept of a list stands there, and passes the test
 pub kept_stands : {X : Type 0} (p : X → Bool) (xs : List X) (x : X) → Contains (filter p xs) x → Contains xs x × (p x ≡ true)
-kept_stands p [] x = λ at. absurd (omega (arith, at.1))
-kept_stands {X} p (y ∷ xs) x =
-    cond_both (p y) (y ∷ filter p xs) (filter p xs) (λ kept. Contains kept x → Contains (y ∷ xs) x × (p x ≡ true))
-    (λ passes at.
-    ⊎_elim (λ (same : y ≡ x). ((0, omega arith, same), ap p (sym same) ∙ passes))
-    (λ (later : Contains (filter p xs) x). behind (kept_stands p xs x later))
-    (contains_cases y (filter p xs) x at))
-    (λ fails at. behind (kept_stands p xs x at))
-  where
-    behind : Contains xs x × (p x ≡ true) → Contains (y ∷ xs) x × (p x ≡ true)
-    behind there = (Contains-append_right (y ∷ []) xs x there.0, there.1)
+kept_stands p xs x at =
+    (filter_from p xs x at, All-contains (λ y. p y ≡ true) (filter p xs) x (filter_passes p xs) at)
 
 -- and what stands there and passes is kept
 pub stands_kept : {X : Type 0} (p : X → Bool) (xs : List X) (x : X) → Contains xs x → p x ≡ true → Contains (filter p xs) x
-stands_kept p [] x at passes = absurd (omega (arith, at.1))
-stands_kept {X} p (y ∷ xs) x at passes =
-    cond_both (p y) (y ∷ filter p xs) (filter p xs) (λ kept. Contains kept x)
-    (λ e.
-    ⊎_elim (λ (same : y ≡ x). (0, omega arith, same))
-    (λ (later : Contains xs x). Contains-append_right (y ∷ []) (filter p xs) x (stands_kept p xs x later passes))
-    (contains_cases y xs x at))
-    (λ e.
-    ⊎_elim (λ (same : y ≡ x). absurd (false≢true (sym e ∙ ap p same ∙ passes)))
-    (λ (later : Contains xs x). stands_kept p xs x later passes)
-    (contains_cases y xs x at))
-
--- an item among some to which others were put is one of either
-pub put_cases : (some others : List Held) (item : Held) → Contains (fold (λ items new. with_item new items) some others) item → Contains some item ⊎ Contains others item
-put_cases some [] item at = inl at
-put_cases some (new ∷ others) item at =
-    ⊎_elim
-    (λ (one : Contains (with_item new some) item).
-    ⊎_elim (λ (before : Contains (filter (λ other. is_before other new) some) item). inl (kept_stands (λ other. is_before other new) some item before).0)
-    (λ (rest : Contains (new ∷ filter (λ other. is_before new other) some) item).
-    ⊎_elim (λ (same : new ≡ item). inr (0, omega arith, same))
-    (λ (behind : Contains (filter (λ other. is_before new other) some) item). inl (kept_stands (λ other. is_before new other) some item behind).0)
-    (contains_cases new (filter (λ other. is_before new other) some) item rest))
-    (Contains-append_cases (filter (λ other. is_before other new) some) (new ∷ filter (λ other. is_before new other) some) item one))
-    (λ (later : Contains others item). inr (Contains-append_right (new ∷ []) others item later))
-    (put_cases (with_item new some) others item at)
+stands_kept p xs x at passes = filter_stands p xs x at passes
 
 -- the items that entries leave are items of them
 pub scanned : (list : List Entry) (item : Held) → Contains (scan_items list) item → Contains (items_of list) item
-scanned list item at =
-    let newest : List Held = newest_items (items_of list) in
-    let kept : Contains newest item =
-    ⊎_elim (λ (none : Contains [] item). absurd (omega (arith, none.1)))
-    (λ (there : Contains (filter (λ item. is_some item.value) newest) item). (kept_stands (λ item. is_some item.value) newest item there).0)
-    (put_cases [] (filter (λ item. is_some item.value) newest) item at) in
-    (newest_is (items_of list) item.table item.key item (((newest_items_are (items_of list)).newest item).0 kept)).stands
+scanned list item at = scanned_from list item at
 
 -- ---- side segments
 

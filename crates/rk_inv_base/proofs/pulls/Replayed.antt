@@ -6,15 +6,15 @@ use Rattle.rk_inv_base.proofs.Words.{with_newer, IsInScanOrder, Handover, Role, 
 use Rattle.rk_inv_base.proofs.Words.{is_member, unmarked_from, Master, tablet_at, side_entries, item_replayed, with_pulled, with_pulling}
 use Rattle.rk_inv_base.proofs.Words.{is_absent, is_receiving, Pulling, Tablet, World, master_at, applied_entries, member_material}
 use Rattle.rk_inv_base.proofs.Words.{member_truth, IsItemWithin, source_items, Post, Owner, OpeningSource, MovingSource, OnlyRebuilder}
-use Rattle.rk_inv_base.proofs.Words.{FirstRebuilder, Holds, bond_of, post_of, IsBare, wanted_place, put, put2, HasItems, has_all_items}
-use Rattle.rk_inv_base.proofs.Words.{View, view, IsSound, SoundView, is_granted}
+use Rattle.rk_inv_base.proofs.Words.{FirstRebuilder, Holds, bond_of, post_of, IsBare, wanted_place, HasItems, has_all_items, View, view}
+use Rattle.rk_inv_base.proofs.Words.{IsSound, SoundView, is_granted}
 use Rattle.rk_transfer.specs.declared.role.Role.TheVariants as roles
 use Rattle.rk_world.specs.Master.{with_item}
 use Rattle.rk_sound.specs.Moves.{MayReplay}
 use Rattle.rk_sound.specs.Small.{item_replayed_in, replayed}
 use Rattle.rk_inv_base.proofs.rows.Apart.{in_one_row, key_outside, same_number}
 use Rattle.rk_inv_base.proofs.views.Cover.{covered_by}
-use Rattle.rk_inv_base.proofs.pulls.ItemsPulled.{bare_beside, table_beside, target_beside, target_replays}
+use Rattle.rk_inv_base.proofs.pulls.ItemsPulled.{bare_beside, table_beside, target_replays, beside_same}
 use Rattle.rk_inv_base.proofs.views.Lists.{all_by}
 use Rattle.rk_inv_base.proofs.views.Masters.{tablet_apart, tablet_here}
 use Rattle.rk_inv_base.proofs.views.Put.{put_by, put_same, put2_by, put2_same}
@@ -22,9 +22,10 @@ use Rattle.rk_inv_base.proofs.calls.Rebuilders.{last_member}
 use Rattle.rk_inv_base.proofs.calls.Receives.{IsBareOf, IsTargetIn}
 use Rattle.rk_inv_base.proofs.rows.Heirs.{not_begun}
 use Rattle.rk_inv_base.proofs.views.WithRecords.{IsTargetOf, RebuildsWith, view_with_kept}
-use Rattle.rk_inv_base.proofs.calls.Records.{found_still, material_in, newer_cases, scanned_from}
+use Rattle.rk_inv_base.proofs.calls.Records.{material_in, newer_cases, scanned_from}
 use Rattle.rk_inv_base.proofs.views.Views.{view_master}
 use Rattle.rk_inv_base.proofs.views.ByRows.{row_in}
+use Rattle.rk_inv_base.proofs.logs.InRange.{rebuilder_same, scan_in, target_same, truth_in}
 
 -- ---- what a post says of a master that pulls
 
@@ -91,16 +92,13 @@ module _ (v : View) (row : Row) (source target : Member) (worker : ℕ) (item : 
 
   -- ---- cover
 
-  within_rows : IsItemWithin v.rows item
-  within_rows = covered_by v.rows row item.table (hash_of item.key) may.pulling.has_row inside
-
   within : (q : ℕ) → All (IsItemWithin v.rows) (now.records q)
   within q =
       by_records (All (IsItemWithin v.rows)) q
       (λ at.
       all_by (IsItemWithin v.rows) (with_newer item (v.records q))
       (λ x stands.
-      ⊎_elim (λ (is : item ≡ x). subst (IsItemWithin v.rows) is within_rows)
+      ⊎_elim (λ (is : item ≡ x). subst (IsItemWithin v.rows) is (covered_by v.rows row item.table (hash_of item.key) may.pulling.has_row inside))
       (λ (old : Contains (v.records q) x). All-contains (IsItemWithin v.rows) (v.records q) x (sound.cover.items q) old)
       (newer_cases item (v.records q) x stands)))
       (λ apart. sound.cover.items q)
@@ -168,9 +166,8 @@ module _ (v : View) (row : Row) (source target : Member) (worker : ℕ) (item : 
 
     beside : (other.tablet ≡ row.tablet → ⊥) → IsTargetWith other first last was table → IsTargetWith other first last was (with_newer item table)
     beside apart old =
-        target_beside other.range first.master (member_truth v.written other.range first) (member_material v.written other.range first)
-        last.from (v.written last.master) (v.handovers last.master other.tablet) (get v.handed other.tablet) table was item
-        (sound.records.ordered last.master) (outside other has apart) old
+        target_same other.range table (with_newer item table) (beside_same other.range item table (outside other has apart)) _ _ _ _ _ _ _ _
+        (scan_in other.range (member_truth v.written other.range first) (truth_in v.written other.range first)) old
 
   targets : (other : Row) → Contains v.rows other → (first last : Member) → lineage_of other.phase ≡ first ∷ last ∷ [] → is_granted (v.handovers last.master other.tablet).role ≡ true → IsTargetOf v v other first last → IsTargetOf v now other first last
   targets other has first last is granted old =
@@ -211,27 +208,6 @@ module _ (v : View) (row : Row) (source target : Member) (worker : ℕ) (item : 
 
   -- ---- rebuilds
 
-  rebuilder_beside : (other : Row) (lineage : List Member) (to : ℕ) → is_in other.range item ≡ false → RebuildsWith v other lineage to (v.records to) → RebuildsWith v other lineage to (with_newer item (v.records to))
-  rebuilder_beside other lineage to apart old = record {
-    range_is = old.range_is;
-    gather = old.gather;
-    read = old.read;
-    placed = old.placed;
-    merged = old.merged;
-    items = record {
-      found = λ x stands. found_still item (v.records to) x (sound.records.ordered to) (old.items.found x stands);
-      come = λ x stands its.
-          ⊎_elim
-          (λ (is : item ≡ x). absurd (false≢true (sym apart ∙ ap (is_in other.range) is ∙ its)))
-          (λ (before : Contains (v.records to) x). old.items.come x before its)
-          (newer_cases item (v.records to) x stands);
-    };
-    sides = λ x stands.
-        let was = old.sides x stands in
-        (was.0, found_still item (v.records to) x (sound.records.ordered to) was.1);
-    outside = old.outside;
-  }
-
   -- the target does not rebuild the row
   not_rebuilt : (other : Row) → Contains v.rows other → (lineage : List Member) (to : ℕ) → other.phase ≡ Rebuilding lineage to → to ≡ target.master → (v.handovers to other.tablet).term ≡ other.term → other.tablet ≡ row.tablet → ⊥
   not_rebuilt other has lineage to is at term its =
@@ -255,7 +231,10 @@ module _ (v : View) (row : Row) (source target : Member) (worker : ℕ) (item : 
     bare = bare_after;
     rebuilders = λ other has lineage to is term old.
         by_records (RebuildsWith v other lineage to) to
-        (λ at. rebuilder_beside other lineage to (outside other has (not_rebuilt other has lineage to is at term)) old) (λ apart. old);
+        (λ at.
+        rebuilder_same v other lineage to (v.records to) (with_newer item (v.records to))
+        (beside_same other.range item (v.records to) (outside other has (not_rebuilt other has lineage to is at term))) old)
+        (λ apart. old);
   })
 
 -- ---- the world
@@ -267,14 +246,12 @@ view_item w master number worker item =
     let tablet : Tablet = with_pulling (tablet_at m number) (with_pulled (tablet_at m number).pulling worker item) in
     view_master w master (item_replayed number worker m item) number tablet refl (tablet_here (with_item m item) number tablet)
     (tablet_apart (with_item m item) number tablet)
-    ∙ (λ i. record (view w) {
+    ∙ (λ i. record (replayed (view w) master number worker item) {
       logs = put_same (view w).logs master i;
       written = put_same (view w).written master i;
-      records = put (view w).records master (with_newer item ((view w).records master));
       calls = put_same (view w).calls master i;
       handovers = put2_same (view w).handovers master number i;
       completions = put2_same (view w).completions master number i;
-      pullings = put2 (view w).pullings master number (with_pulled ((view w).pullings master number) worker item);
       gathers = put2_same (view w).gathers master number i;
       merged = put2_same (view w).merged master number i;
     })

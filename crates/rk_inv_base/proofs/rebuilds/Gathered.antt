@@ -130,14 +130,10 @@ module _ (Needed : EntryEnd → Type 0) (known : Known) (stored : ℕ → List �
   pub segment_read : (range : Range) (bytes : Option (List ℕ)) → NoneBehind known → next_segment range gathered ≡ Some segment → IsReadPart Needed known stored segment (bytes_of bytes) → IsGathered Needed known stored (with_segment gathered segment bytes)
   segment_read range bytes none next part =
       cond_both gathered.main_read _ (with_main gathered bytes) (IsGathered Needed known stored)
-      (λ e. record {
-        main = old.main;
-        passed = old.passed;
-        passed_needed = old.passed_needed;
-        sides =
-            each_insert (λ n entries. AreRead Needed known stored n entries) gathered.sides segment (entries_of (bytes_of bytes)) old.sides
-            (record { bytes = bytes_of bytes; read = part; spelled = refl });
-      })
+      (λ e.
+      assumption
+      (each_insert (λ n entries. AreRead Needed known stored n entries) gathered.sides segment (entries_of (bytes_of bytes)) old.sides
+      (record { bytes = bytes_of bytes; read = part; spelled = refl })))
       (λ e.
       let first : Some (length gathered.main + 1) ≡ Some segment =
       sym (cond-false gathered.main_read (next_side range gathered) (Some (length gathered.main + 1)) e) ∙ next in

@@ -1,6 +1,6 @@
 -- A view stays sound when what is gathered for a tablet goes on: it is still that of the row, and what was read of each segment is a
 -- first part that holds what its master knew to be stored, and what is needed.
-use Rattle.std.proofs.Common.{◌≡◌, ℕ, List, sym, subst, refl, true, Option, None, IfSome}
+use Rattle.std.proofs.Common.{◌≡◌, ℕ, List, sym, subst, refl, true, None, IfSome, Some}
 use Rattle.rk_inv_base.proofs.Words.{Member, Entry, Handover, Role, Rebuilding, Row, Gather, own_place, is_gathering, member_material}
 use Rattle.rk_inv_base.proofs.Words.{IsMergedOf, merged_place, View, SoundView}
 use Rattle.rk_transfer.specs.declared.role.Role.TheVariants as roles
@@ -12,11 +12,8 @@ use Rattle.rk_inv_base.proofs.views.WithRecords.{RebuildsBy, view_with_gathers}
 
 -- a master that gathers has merged nothing
 pub gathering_merged : (role : Role) → is_gathering role ≡ true → merged_place role ≡ None
-gathering_merged (roles.Rebuilding from entry) gathers = gathering_place from entry gathers
-  where
-    gathering_place : (from : ℕ) (entry : Option ℕ) → is_gathering (roles.Rebuilding from entry) ≡ true → entry ≡ None
-    gathering_place from None gathers = refl
-    gathering_place from entry gathers = absurd (cc)
+gathering_merged (roles.Rebuilding from None) gathers = refl
+gathering_merged (roles.Rebuilding from (Some entry)) gathers = absurd (cc)
 gathering_merged role gathers = absurd (cc)
 
 module _ (v : View) (master number : ℕ) (change : Gather → Gather) (sound : SoundView v) (may : MayGatherOn v master number change) where
@@ -25,22 +22,12 @@ module _ (v : View) (master number : ℕ) (change : Gather → Gather) (sound : 
 
   -- it goes on to gather
   gathers_on : (row : Row) (lineage : List Member) (to : ℕ) (gather new : Gather) → GathersOn v row lineage to new → RebuildsBy v row lineage to gather (v.records to) → RebuildsBy v row lineage to new (v.records to)
-  gathers_on row lineage to gather new goes was = record {
-    range_is = was.range_is;
-    gather = goes.gather;
-    read = goes.read;
-    placed = was.placed;
-    merged =
-        let h : Handover = v.handovers to row.tablet in
-        let own : List Entry = member_material v.written row.range (member_at to (own_place h.role)) in
-        subst
-        (λ (place : Option ℕ). IfSome place
-        (λ entry. IsMergedOf row.tablet (own_place h.role) own h (v.completions to row.tablet) new (v.merged to row.tablet) (v.written to) entry))
-        (sym (gathering_merged h.role goes.gathering)) tt;
-    items = was.items;
-    sides = was.sides;
-    outside = was.outside;
-  }
+  gathers_on row lineage to gather new goes was =
+      let h : Handover = v.handovers to row.tablet in
+      let own : List Entry = member_material v.written row.range (member_at to (own_place h.role)) in
+      let merged : IfSome (merged_place h.role) (λ entry. IsMergedOf row.tablet (own_place h.role) own h (v.completions to row.tablet) new (v.merged to row.tablet) (v.written to) entry) =
+      rw (gathering_merged h.role goes.gathering) tt in
+      assumption
 
   pub view_gathers_on : SoundView now
   view_gathers_on =

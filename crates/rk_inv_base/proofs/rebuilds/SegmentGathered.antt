@@ -5,9 +5,8 @@ use Rattle.std.proofs.Common.{not, ◌==◌, Contains, ltb-true, lt-ltb, length-
 use Rattle.rk_inv_base.proofs.Words.{cases_lt, or_right, get_or_past, All-weaker, Member, Entry, FIRST_SIDE_SEGMENT, Phase, Rebuilding, Row}
 use Rattle.rk_inv_base.proofs.Words.{Known, known_length, nothing, IsBackup, Log, bytes_of, known_of, EntryEnd, CopySegment, Gather}
 use Rattle.rk_inv_base.proofs.Words.{is_member, names, IsMaster, World, Written, member_material, Mark, IsCopy, is_main, stored_of}
-use Rattle.rk_inv_base.proofs.Words.{IsGathered, IsReadPart, MarkFits, MarkedFit, NeededOf, READ_BACKUP, RowIsRebuilt, member_given_up}
-use Rattle.rk_inv_base.proofs.Words.{member_marked, member_stored, stored_count, IsFormed, segment_gathered_in, View, view, truths, IsSound}
-use Rattle.rk_inv_base.proofs.Words.{SoundView}
+use Rattle.rk_inv_base.proofs.Words.{IsGathered, IsReadPart, MarkFits, MarkedFit, NeededOf, READ_BACKUP, member_given_up, member_marked}
+use Rattle.rk_inv_base.proofs.Words.{member_stored, stored_count, IsFormed, segment_gathered_in, View, view, IsSound, SoundView}
 use Rattle.rk_outside.specs.Segments.{bytes_of as read_bytes}
 use Rattle.rk_world.specs.Gather.{with_segment}
 use Rattle.rk_sound.specs.Rebuilds.{IsGatherOf}
@@ -15,11 +14,12 @@ use Rattle.rk_sound.specs.Moves.{GathersOn, MayGather, MayGatherOn}
 use Rattle.rk_sound.specs.Small.{reading}
 use Rattle.rk_inv_base.proofs.rebuilds.Gathered.{NeedsFew, NoneBehind, members_read, read_apart, same_member, same_members, segment_read}
 use Rattle.rk_inv_base.proofs.rows.Apart.{same_number}
-use Rattle.rk_inv_base.proofs.views.Needed.{AreAmong, IsStoredEnd, among_then, end_stored, given_up_among, living_among, needed_member, needed_within, tells_among}
+use Rattle.rk_inv_base.proofs.views.Needed.{AreAmong, IsStoredEnd, among_then, end_stored, given_up_among, living_among, needed_member}
+use Rattle.rk_inv_base.proofs.views.Needed.{needed_within, tells_among}
 use Rattle.rk_inv_base.proofs.rebuilds.GatheringChanges.{view_gathers_on}
 use Rattle.rk_inv_base.proofs.logs.Segments.{bytes_before}
 use Rattle.rk_inv_base.proofs.views.Views.{view_gathered}
-use Rattle.rk_inv_base.proofs.views.ByRows.{row_in}
+use Rattle.rk_inv_base.proofs.views.ByRows.{row_in, IsRebuiltIn}
 
 -- of a copy where nothing of a main segment is known to be stored, nothing is stored of a later one
 pub copy_none_stored : (log : Log) (stored : ℕ → List ℕ) (known : Known) → IsCopy log stored known → (earlier later : ℕ) → 1 ≤ earlier → earlier < later → is_main later ≡ true → known_length known earlier ≡ 0 → 0 < length (stored later) → ⊥
@@ -122,9 +122,7 @@ goes_on v row lineage own copy sound has phase term may =
     let gather : Gather = v.gathers own row.tablet in
     let known : ℕ → Known = λ q. known_of (v.logs q) READ_BACKUP in
     let stored : ℕ → ℕ → List ℕ = λ q. stored_of v.stored q READ_BACKUP in
-    let rebuilt : RowIsRebuilt row (Rebuilding lineage own) (truths v row) v.logs v.written v.stored v.handovers v.completions v.gathers v.merged v.records v.live =
-    subst (λ (p : Phase). RowIsRebuilt row p (truths v row) v.logs v.written v.stored v.handovers v.completions v.gathers v.merged v.records v.live) phase
-    (row_in v sound row has).rebuilt in
+    let rebuilt : IsRebuiltIn v row (Rebuilding lineage own) = subst (IsRebuiltIn v row) phase (row_in v sound row has).rebuilt in
     let was = rebuilt.0 term in
     let old : IsGatherOf gather row.range lineage own = was.gather in
     let Needed : ℕ → EntryEnd → Type 0 = NeededOf row v.written lineage in
@@ -138,12 +136,7 @@ goes_on v row lineage own copy sound has phase term may =
     let apart = subst IsFormed phase (row_in v sound row has).formed in
     record {
       gathering = may.gathering;
-      gather = record {
-        range_is = old.range_is;
-        lineage_is = old.lineage_is;
-        own_is = old.own_is;
-        members_are = same_members gather.range copy.master copy.segment copy.bytes gather.members ∙ old.members_are;
-      };
+      gather = assumption (same_members gather.range copy.master copy.segment copy.bytes gather.members ∙ old.members_are);
       read =
           members_read gather.range copy.master copy.segment copy.bytes
           (λ gathered. IsGathered (Needed gathered.member.master) (known gathered.member.master) (stored gathered.member.master) gathered)

@@ -25,10 +25,6 @@ pub closing_wants : (role : Role) → role_closed role ≡ Some roles.Closing �
 closing_wants (roles.Wanting from) closes = absurd (cc)
 closing_wants role closes = refl
 
-pub closing_frozen : (role : Role) → role_closed role ≡ Some roles.Closing → role ≡ roles.Frozen → ⊥
-closing_frozen role closes frozen =
-    let none : Some roles.Closing ≡ None = sym closes ∙ ap role_closed frozen in absurd (cc none)
-
 -- ---- who may close
 
 -- a lineage has one member, which is this master
@@ -53,9 +49,6 @@ source_alone (Opening source sfrom target None) master is = absurd is
 source_alone (Owned owner from) master is = absurd is
 source_alone (Moving source sfrom target dfrom) master is = absurd is
 source_alone (Rebuilding lineage to) master is = absurd is
-
-pub source_closes : (term own applied : ℕ) → own ≡ term → Closes OpeningSource term own applied
-source_closes term own applied same = record { owner = tt; fits = same; says = λ old closing. refl }
 
 -- a master that is to rebuild what was its alone
 pub heir_alone : (lineage : List Member) (master : ℕ) → IsOnlyRebuilder (rebuilder_post lineage master) → IsAlone lineage master
@@ -106,7 +99,7 @@ module _ (v : View) (row : Row) (master term : ℕ) (sound : SoundView v) (may :
       ⊎_elim
       (λ (asked : (term ≡ row.term) × IsClosing row.phase master).
       let found = source_alone row.phase master asked.1 in
-      subst (λ (post : Post). Closes post row.term term applied) (sym found.1) (source_closes row.term term applied asked.0))
+      subst (λ (post : Post). Closes post row.term term applied) (sym found.1) (record { owner = tt; fits = asked.0; says = λ old closing. refl }))
       (λ (heir : (term < row.term) × IsOnlyRebuilder (post_of row.phase master)).
       rebuilder_closes (post_of row.phase master) row.term term applied heir.1 heir.0)
       may.may_follow
@@ -133,7 +126,7 @@ module _ (v : View) (row : Row) (master term : ℕ) (sound : SoundView v) (may :
     steady = refl;
     present = λ there. closing_present old.role may.closes;
     waited = closing_wants old.role may.closes;
-    given_up = λ frozen. absurd (closing_frozen old.role may.closes frozen);
+    given_up = λ frozen. absurd (cc (sym may.closes ∙ ap role_closed frozen));
     fits = closes.fits;
     speaks = closes.says old;
     settled = λ idles. absurd (cc idles);

@@ -1,9 +1,8 @@
 -- A lane stays sound when the owner of a row, or one that owned it at the term that it keeps, serves once its closing entry is applied.
 use Rattle.std.proofs.Common.{◌≡◌, ℕ, true, false, [], Some, refl, sym, ap, ◌∙◌, subst, inl, arith, lt-ltb}
-use Rattle.rk_inv_base.proofs.Words.{false≢true, All-contains, get, Handover, Role, Row, no_gather, is_absent, Pulling, pulling_from}
-use Rattle.rk_inv_base.proofs.Words.{without_merged, World, tablet_in, is_wanting, IsOwner, MayTakeRole, Post, Owner, OpeningSource}
-use Rattle.rk_inv_base.proofs.Words.{OnlyRebuilder, post_of, bond_of, Holds, speaks, is_granted, RoleFits, put2, role_taken, HandoverFits}
-use Rattle.rk_inv_base.proofs.Words.{View, view, IsSound, SoundView}
+use Rattle.rk_inv_base.proofs.Words.{false≢true, get, Handover, Role, Row, no_gather, is_absent, Pulling, pulling_from, without_merged}
+use Rattle.rk_inv_base.proofs.Words.{World, tablet_in, is_wanting, IsOwner, MayTakeRole, Post, Owner, OpeningSource, OnlyRebuilder, post_of}
+use Rattle.rk_inv_base.proofs.Words.{bond_of, Holds, speaks, is_granted, role_taken, View, view, IsSound, SoundView}
 use Rattle.rk_transfer.specs.declared.role.Role.TheVariants as roles
 use Rattle.rk_sound.specs.Moves.{IsClosed, MayOwn}
 use Rattle.rk_sound.specs.Small.{as_serving, pulled, tablet_owned_in}
@@ -13,6 +12,7 @@ use Rattle.rk_inv_base.proofs.views.WithRecords.{view_with_pullings}
 use Rattle.rk_inv_base.proofs.roles.RoleTaken.{view_role_taken}
 use Rattle.rk_inv_base.proofs.views.Views.{view_kept}
 use Rattle.rk_inv_base.proofs.views.ByRows.{row_in}
+use Rattle.rk_inv_base.proofs.rows.BeforeTurn.{at_most}
 
 -- ---- roles whose closing entry is applied
 
@@ -59,13 +59,6 @@ module _ (v : View) (row : Row) (master : ℕ) (sound : SoundView v) (may : MayO
   abbrev applied : ℕ
   applied = (v.written master).applied
 
-  fitted : RoleFits row master old applied
-  fitted =
-      (row_in v sound row may.has_row).fitting master (inl may.lives)
-
-  within : HandoverFits row row.tablet old
-  within = All-contains (λ (r : Row). HandoverFits r row.tablet old) v.rows row (sound.terms.kept master row.tablet) may.has_row
-
   pub serves : MayTakeRole v row master (as_serving old)
   serves = record {
     lives = may.lives;
@@ -73,13 +66,14 @@ module _ (v : View) (row : Row) (master : ℕ) (sound : SoundView v) (may : MayO
     range_is = refl;
     counter_is = refl;
     grows = omega arith;
-    within = within.within refl;
+    within = at_most v row master sound may.has_row;
     term_is = inl refl;
     steady = refl;
     present = λ there. closed_present old.role applied may.closed;
     waited = closed_wants old.role applied may.closed;
     given_up = λ frozen. absurd (subst (λ (role : Role). IsClosed role applied) frozen may.closed);
-    fits = fits_serving (post_of row.phase master) old.role row.term old.term applied may.owner may.closed fitted;
+    fits = fits_serving (post_of row.phase master) old.role row.term old.term applied may.owner may.closed
+        ((row_in v sound row may.has_row).fitting master (inl may.lives));
     speaks = λ says. speaks_closed (post_of row.phase master) old.role old row.term applied refl may.owner may.closed;
     settled = λ idles. absurd (cc idles);
   }
@@ -120,13 +114,7 @@ view_owned w master number =
       handover = as_serving (tablet_in w master number).handover;
       pulling = pulling_from 0;
     })
-    ∙ (λ i. record (view w) {
-      handovers = put2 (view w).handovers master number (as_serving ((view w).handovers master number));
-      completions = put2_same (view w).completions master number i;
-      pullings = put2 (view w).pullings master number (pulling_from 0);
-      gathers = put2 (view w).gathers master number no_gather;
-      merged = put2 (view w).merged master number [];
-    })
+    ∙ (λ i. record (owned_view (view w) master number) { completions = put2_same (view w).completions master number i })
 
 pub view_serves : (v : View) (row : Row) (master : ℕ) → SoundView v → MayOwn v row master → SoundView (owned_view v master row.tablet)
 view_serves v row master sound may =

@@ -1,13 +1,9 @@
 -- A lane stays sound when a master that is not of the lineage gives a frozen tablet up, and drops its items.
-use Rattle.std.proofs.Common.{◌≡◌, ℕ, Bool, true, false, List, [], ◌∷◌, Option, Some, None, refl, sym, ap, ◌∙◌, subst, inl, arith, ◌==◌}
-use Rattle.std.proofs.Common.{◌||◌, if◌then◌else◌, drop}
-use Rattle.rk_inv_base.proofs.Words.{false≢true, All-contains, list_any, ⊤, Member, Handover, Role, lineage_of, Phase, Owned, Opening}
-use Rattle.rk_inv_base.proofs.Words.{Moving, Rebuilding, Row, no_gather, is_member, Master, tablet_at, touches, without_items, is_idle}
-use Rattle.rk_inv_base.proofs.Words.{Tablet, with_handover, without_merged, World, master_at, tablet_in, is_wanting, MayRelease}
-use Rattle.rk_inv_base.proofs.Words.{MayTakeRole, Post, Owner, OpeningSource, InvitedTarget, ReadyTarget, MovingSource, MovingTarget}
-use Rattle.rk_inv_base.proofs.Words.{OnlyRebuilder, FirstRebuilder, LastRebuilder, OutsideRebuilder, FormerMember, Bystander}
-use Rattle.rk_inv_base.proofs.Words.{rebuilder_post, target_post, post_of, bond_of, Holds, speaks, put, put2, role_taken, HandoverFits}
-use Rattle.rk_inv_base.proofs.Words.{View, view, IsSound, SoundView}
+use Rattle.std.proofs.Common.{◌≡◌, ℕ, true, false, List, [], refl, sym, ap, ◌∙◌, subst, inl, arith, drop}
+use Rattle.rk_inv_base.proofs.Words.{false≢true, list_any, ⊤, Member, Handover, Role, lineage_of, Phase, Row, no_gather, is_member, Master}
+use Rattle.rk_inv_base.proofs.Words.{tablet_at, touches, without_items, is_idle, Tablet, with_handover, without_merged, World, master_at}
+use Rattle.rk_inv_base.proofs.Words.{tablet_in, is_wanting, MayRelease, MayTakeRole, Post, InvitedTarget, ReadyTarget, OutsideRebuilder}
+use Rattle.rk_inv_base.proofs.Words.{Bystander, rebuilder_post, post_of, bond_of, Holds, speaks, role_taken, View, view, IsSound, SoundView}
 use Rattle.rk_transfer.specs.declared.role.Role.TheVariants as roles
 use Rattle.rk_world.specs.Handovers.{tablet_released}
 use Rattle.rk_sound.specs.Small.{as_released, items_dropped, tablet_released_in}
@@ -17,6 +13,8 @@ use Rattle.rk_inv_base.proofs.views.Put.{put_same, put2_same}
 use Rattle.rk_inv_base.proofs.roles.RoleTaken.{view_role_taken}
 use Rattle.rk_inv_base.proofs.views.Views.{view_master}
 use Rattle.rk_inv_base.proofs.views.ByRows.{row_in}
+use Rattle.rk_inv_base.proofs.rows.Members.{is_inside, inside_heir, inside_member}
+use Rattle.rk_inv_base.proofs.rows.BeforeTurn.{at_most}
 
 -- ---- posts of masters that are not of the lineage
 
@@ -28,49 +26,23 @@ IsOutside OutsideRebuilder = ⊤
 IsOutside Bystander = ⊤
 IsOutside _ = ⊥
 
--- a target that makes ready is not of the lineage
-pub target_outside : (place : Option ℕ) → IsOutside (target_post place)
-target_outside None = tt
-target_outside (Some place) = tt
+pub not_inside : (post : Post) → (is_inside post ≡ true → ⊥) → IsOutside post
+not_inside InvitedTarget outside = tt
+not_inside (ReadyTarget place) outside = tt
+not_inside OutsideRebuilder outside = tt
+not_inside Bystander outside = tt
+not_inside _ outside = outside refl
 
--- nor is one that rebuilds it from without
+-- one that rebuilds it from without is none
 pub heir_outside : (lineage : List Member) (master : ℕ) → is_member lineage master ≡ false → IsOutside (rebuilder_post lineage master)
-heir_outside [] master outside = tt
-heir_outside (only ∷ []) master outside = go (only.master == master) outside
-  where
-    go : (b : Bool) → (b || false) ≡ false → IsOutside (if b then OnlyRebuilder only.from else OutsideRebuilder)
-    go true outside = absurd (cc)
-    go false outside = tt
-heir_outside (first ∷ last ∷ more) master outside = go (first.master == master) (last.master == master) outside
-  where
-    go : (b c : Bool) → (b || (c || is_member more master)) ≡ false → IsOutside (if b then FirstRebuilder first.from else if c then LastRebuilder last.from else OutsideRebuilder)
-    go false false outside = tt
-    go _ _ outside = absurd (cc)
+heir_outside lineage master outside =
+    not_inside (rebuilder_post lineage master) (λ is. false≢true (sym outside ∙ inside_heir lineage master is))
 
 -- each master that is not of the lineage has such a post
 pub outside_post : (phase : Phase) (master : ℕ) → is_member (lineage_of phase) master ≡ false → IsOutside (post_of phase master)
-outside_post (Owned owner from) master outside = go (owner == master) outside
-  where
-    go : (b : Bool) → (b || false) ≡ false → IsOutside (if b then Owner from else Bystander)
-    go true outside = absurd (cc)
-    go false outside = tt
-outside_post (Opening source sfrom target dfrom) master outside = go (source == master) (target == master) outside
-  where
-    go : (b c : Bool) → (b || false) ≡ false → IsOutside (if b then OpeningSource else if c then target_post dfrom else Bystander)
-    go true c outside = absurd (cc)
-    go false true outside = target_outside dfrom
-    go false false outside = tt
-outside_post (Moving source sfrom target dfrom) master outside = go (source == master) (target == master) outside
-  where
-    go : (b c : Bool) → (b || (c || false)) ≡ false → IsOutside (if b then MovingSource else if c then MovingTarget dfrom else Bystander)
-    go false false outside = tt
-    go _ _ outside = absurd (cc)
-outside_post (Rebuilding lineage to) master outside = go (to == master) (is_member lineage master) refl
-  where
-    go : (b c : Bool) → is_member lineage master ≡ c → IsOutside (if b then rebuilder_post lineage master else if c then FormerMember else Bystander)
-    go true c is = heir_outside lineage master outside
-    go false true is = absurd (false≢true (sym outside ∙ is))
-    go false false is = tt
+outside_post phase master outside =
+    not_inside (post_of phase master)
+    (λ is. false≢true (sym outside ∙ inside_member phase master is))
 
 -- such a post takes an absent role at the terms of a frozen one
 pub fits_absent : (post : Post) (term own applied : ℕ) → IsOutside post → Holds (bond_of post roles.Frozen) term own applied → Holds (bond_of post roles.Absent) term own applied
@@ -105,9 +77,6 @@ module _ (v : View) (row : Row) (master : ℕ) (sound : SoundView v) (may : MayR
       subst (λ (role : Role). Holds (bond_of (post_of row.phase master) role) row.term old.term applied) may.frozen
       ((row_in v sound row may.has_row).fitting master (inl may.lives))
 
-  within : HandoverFits row row.tablet old
-  within = All-contains (λ (r : Row). HandoverFits r row.tablet old) v.rows row (sound.terms.kept master row.tablet) may.has_row
-
   settled : list_any (touches row.range) (drop applied (v.written master).entries) ≡ false
   settled =
       (row_in v sound row may.has_row).idle master (inl may.lives) (ap is_idle may.frozen)
@@ -119,7 +88,7 @@ module _ (v : View) (row : Row) (master : ℕ) (sound : SoundView v) (may : MayR
     range_is = refl;
     counter_is = refl;
     grows = omega arith;
-    within = within.within refl;
+    within = at_most v row master sound may.has_row;
     term_is = inl refl;
     steady = refl;
     present = λ there. absurd (cc there);
@@ -142,16 +111,12 @@ view_released w master number =
     let tablet : Tablet = without_merged (with_handover (tablet_at dropped number) handover) in
     view_master w master (tablet_released (master_at w master) number handover) number tablet refl (tablet_here dropped number tablet)
     (tablet_apart dropped number tablet)
-    ∙ (λ i. record (view w) {
+    ∙ (λ i. record (role_taken (items_dropped (view w) master handover.range) master number handover no_gather []) {
       logs = put_same (view w).logs master i;
       written = put_same (view w).written master i;
-      records = put (view w).records master dropped.records;
       calls = put_same (view w).calls master i;
-      handovers = put2 (view w).handovers master number handover;
       completions = put2_same (view w).completions master number i;
       pullings = put2_same (view w).pullings master number i;
-      gathers = put2 (view w).gathers master number no_gather;
-      merged = put2 (view w).merged master number [];
     })
 
 pub sound_released : (w : World) (row : Row) (master : ℕ) → IsSound w → MayRelease (view w) row master → IsSound (tablet_released_in w master row.tablet)

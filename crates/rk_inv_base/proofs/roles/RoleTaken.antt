@@ -1,23 +1,24 @@
 -- A view stays sound when a master takes a steady role of a tablet that fits its post, at a term that is at most the row's. What it
 -- gathered and merged for the tablet may change too, since no row is rebuilt by a master in a steady role.
 use Rattle.std.proofs.Common.{◌≡◌, ℕ, ◌<◌, ◌≤◌, Bool, true, false, ◌&&◌, List, [], ◌∷◌, Option, Some, None, cond, eqb, refl, sym, ap, ◌∙◌}
-use Rattle.std.proofs.Common.{subst, ⊎_elim, ◌⊎◌, inl, inr, arith, slice_index_or, drop, ◌==◌, Contains, eq-eqb}
+use Rattle.std.proofs.Common.{subst, ⊎_elim, ◌⊎◌, inl, inr, arith, drop, ◌==◌, Contains, eq-eqb, All, ◌≢◌}
 use Rattle.rk_inv_base.proofs.Words.{Call, Waits, ByMaster, IfMaster, cases_eq, and_left, or_left, false≢true, both_ways, All-weaker}
-use Rattle.rk_inv_base.proofs.Words.{Contains-get_or, list_any, get, meets, Ended, Member, Node, Range, Completions, ends_of, Handover}
-use Rattle.rk_inv_base.proofs.Words.{lineage_of, row_of, Phase, Opening, Moving, Rebuilding, Row, Tenure, Transfer, Body, Got, Pulled}
-use Rattle.rk_inv_base.proofs.Words.{Rebuilt, Gather, is_member, second_of, touches, is_absent, is_idle, may_have_staged, IsKnown}
-use Rattle.rk_inv_base.proofs.Words.{IsStagedEnd, ReachAll, IsWithinRows, handed_by, handed_for_grant, is_waiting, is_waiting_at}
-use Rattle.rk_inv_base.proofs.Words.{is_wanting, second_has, AskAgrees, CloseFits, GotAgrees, GrantAgrees, IsOf, IsOfTarget, IsOwner}
-use Rattle.rk_inv_base.proofs.Words.{JoinedIn, OwnFits, PrepareFits, PulledAgrees, ReadyIn, RebuildFits, RebuiltIn, ReleaseFits, TransferIn}
-use Rattle.rk_inv_base.proofs.Words.{MayTakeRole, post_of, bond_of, Holds, speaks, StillCounts, MarkFits, RowIsRebuilt, HandedFits}
-use Rattle.rk_inv_base.proofs.Words.{MembersFit, is_granted, KeepTerm, RoleFits, IsFormed, role_taken, HasItems, has_all_items}
-use Rattle.rk_inv_base.proofs.Words.{HandoverFits, View, truths, rests, CoverOf, SoundView}
+use Rattle.rk_inv_base.proofs.Words.{list_any, get, meets, Ended, Member, Node, Range, Completions, ends_of, Handover, lineage_of, row_of}
+use Rattle.rk_inv_base.proofs.Words.{Phase, Opening, Moving, Rebuilding, Row, Tenure, Transfer, Body, Got, Pulled, Rebuilt, Gather}
+use Rattle.rk_inv_base.proofs.Words.{is_member, second_of, touches, is_absent, is_idle, may_have_staged, IsKnown, IsStagedEnd, ReachAll}
+use Rattle.rk_inv_base.proofs.Words.{IsWithinRows, handed_by, handed_for_grant, is_waiting, is_waiting_at, is_wanting, second_has}
+use Rattle.rk_inv_base.proofs.Words.{AskAgrees, CloseFits, GotAgrees, GrantAgrees, IsOf, IsOfTarget, IsOwner, JoinedIn, OwnFits}
+use Rattle.rk_inv_base.proofs.Words.{PrepareFits, PulledAgrees, ReadyIn, RebuildFits, RebuiltIn, ReleaseFits, TransferIn, MayTakeRole}
+use Rattle.rk_inv_base.proofs.Words.{post_of, bond_of, Holds, speaks, StillCounts, MarkFits, HandedFits, MembersFit, is_granted, KeepTerm}
+use Rattle.rk_inv_base.proofs.Words.{RoleFits, IsFormed, role_taken, HasItems, has_all_items, HandoverFits, View, truths, rests, CoverOf}
+use Rattle.rk_inv_base.proofs.Words.{SoundView, Message, has_merged}
 use Rattle.rk_message.specs.declared.message.Body.TheVariants as bodies
 use Rattle.rk_sound.specs.Moves.{MayRise}
-use Rattle.rk_inv_base.proofs.views.ByRows.{row_in, IsNextOf, SaysIn, SoundBeside, SoundRow, view_by_rows, waits_for}
+use Rattle.rk_inv_base.proofs.views.ByRows.{row_in, IsNextOf, SaysIn, SoundBeside, SoundRow, view_by_rows, waits_for, staged_as}
+use Rattle.rk_inv_base.proofs.views.ByRows.{IsRebuiltIn}
 use Rattle.rk_inv_base.proofs.views.OwnTablet.{SeenTablet, rows_but_one, seen_at}
 use Rattle.rk_inv_base.proofs.views.Put.{put2_by, put2_here, put2_other}
-use Rattle.rk_inv_base.proofs.rows.Apart.{one_precedes, same_number}
+use Rattle.rk_inv_base.proofs.rows.Apart.{same_number, one_met}
 use Rattle.rk_inv_base.proofs.rows.TurnedRows.{stands_found}
 use Rattle.rk_inv_base.proofs.views.Cover.{covered_by}
 use Rattle.rk_inv_base.proofs.wire.Messages.{by_master, if_master, close_rises, grant_rises, own_rises, prepare_rises, rebuild_rises}
@@ -26,18 +27,14 @@ use Rattle.rk_inv_base.proofs.views.Places.{behind_any}
 use Rattle.rk_inv_base.proofs.calls.Receives.{IsBareOf, IsTargetIn}
 use Rattle.rk_inv_base.proofs.calls.Rebuilds.{IsRebuilderIn}
 use Rattle.rk_inv_base.proofs.calls.Rest.{own_touches}
-use Rattle.rk_inv_base.proofs.rows.Serving.{meets_either}
 use Rattle.rk_inv_base.proofs.roles.Steady.{all_items_before, idle_or_staged, moving_steady, rebuilding_behind, steady_granted}
 use Rattle.rk_inv_base.proofs.roles.Steady.{steady_place, steady_wants}
+use Rattle.rk_inv_base.proofs.views.Lists.{all_in}
 
 -- rows of other numbers do not meet
 pub rows_apart : (v : View) (a b : Row) → SoundView v → Contains v.rows a → Contains v.rows b → (a.tablet ≡ b.tablet → ⊥) → meets a.range b.range ≡ true → ⊥
 rows_apart v a b sound first second other met =
-    ⊎_elim
-    (λ (is : a ≡ b). other (ap (λ (r : Row). r.tablet) is))
-    (λ (p : _).
-    ⊎_elim (λ h. false≢true (sym h.apart ∙ met)) (λ h. false≢true (sym h.apart ∙ meets_either a.range b.range met)) p)
-    (one_precedes v.rows a b sound.rows.apart first second)
+    other (ap (λ (r : Row). r.tablet) (one_met v.rows a b sound.rows.apart first second met))
 
 module _ (v : View) (row : Row) (master : ℕ) (new : Handover) (gather : Gather) (ends : List Ended) (sound : SoundView v) (may : MayTakeRole v row master new) where
   abbrev now : View
@@ -91,14 +88,8 @@ module _ (v : View) (row : Row) (master : ℕ) (new : Handover) (gather : Gather
       rebuilding_behind lineage master new.role row.term new.term (v.written master).applied may.steady
       (subst (λ (phase : Phase). Holds (bond_of (post_of phase master) new.role) row.term new.term (v.written master).applied) is may.fits)
 
-  pub not_rebuilt : (lineage : List Member) → row.phase ≡ Rebuilding lineage master → old.term ≡ row.term → ⊥
-  not_rebuilt lineage is term = omega (arith, behind lineage is, at_term term)
-
   range_same : (q r : ℕ) → (now.handovers q r).range ≡ (v.handovers q r).range
   range_same q r = by (λ q r h. h.range ≡ (v.handovers q r).range) q r (λ was. may.range_is) refl
-
-  counter_same : (q r : ℕ) → (now.handovers q r).counter ≡ (v.handovers q r).counter
-  counter_same q r = by (λ q r h. h.counter ≡ (v.handovers q r).counter) q r (λ was. may.counter_is) refl
 
   present : (q r : ℕ) → is_absent (now.handovers q r).role ≡ false → is_absent (v.handovers q r).role ≡ false
   present q r =
@@ -143,33 +134,20 @@ module _ (v : View) (row : Row) (master : ℕ) (new : Handover) (gather : Gather
         may.term_is;
   }
 
-  row_within : IsWithinRows v.rows row.range
-  row_within hash inside = covered_by v.rows row row.range.table hash may.has_row inside
-
   cover : CoverOf now
-  cover = record {
-    unknown = λ q r none.
-        by (λ q r h. row_of v.rows r ≡ None → h.term ≡ 0) q r
-        (λ was none.
-        let found : Some row ≡ None = sym (stands_found v.rows row sound.rows.apart may.has_row) ∙ none in absurd (cc found))
-        (sound.cover.unknown q r) none;
-    marks = sound.cover.marks;
-    sent = sound.cover.sent;
-    ranges = λ q r.
-        by (λ q r h. 1 ≤ h.term → IsWithinRows v.rows h.range) q r
-        (λ was begun.
-        ⊎_elim
-        (λ (same : new.term ≡ old.term).
-        subst (IsWithinRows v.rows) (sym may.range_is) (was (subst (λ (term : ℕ). 1 ≤ term) same begun)))
-        (λ (rise : MayRise row master new). subst (IsWithinRows v.rows) (sym rise.range_is) row_within)
-        may.term_is)
-        (sound.cover.ranges q r);
-    ordered = sound.cover.ordered;
-    entries = sound.cover.entries;
-    sides = sound.cover.sides;
-    items = sound.cover.items;
-    wholes = sound.cover.wholes;
-  }
+  cover =
+      let unknown : (q r : ℕ) → row_of v.rows r ≡ None → (now.handovers q r).term ≡ 0 = λ q r.
+      by (λ q r h. row_of v.rows r ≡ None → h.term ≡ 0) q r
+      (λ was none. absurd (cc (sym (stands_found v.rows row sound.rows.apart may.has_row) ∙ none))) (sound.cover.unknown q r) in
+      let ranges : (q r : ℕ) → 1 ≤ (now.handovers q r).term → IsWithinRows v.rows (now.handovers q r).range = λ q r.
+      by (λ q r h. 1 ≤ h.term → IsWithinRows v.rows h.range) q r
+      (λ was begun.
+      ⊎_elim
+      (λ (same : new.term ≡ old.term). rw may.range_is (was (rw same at begun)))
+      (λ (rise : MayRise row master new). rw rise.range_is (λ hash inside. covered_by v.rows row row.range.table hash may.has_row inside))
+      may.term_is)
+      (sound.cover.ranges q r) in
+      assumption
 
   -- those who have to keep the row's term do
   keep_term : (phase : Phase) → KeepTerm phase (λ q. (v.handovers q row.tablet).term) row.term → KeepTerm phase (λ q. (now.handovers q row.tablet).term) row.term
@@ -179,9 +157,6 @@ module _ (v : View) (row : Row) (master : ℕ) (new : Handover) (gather : Gather
   keep_term _ keeps = tt
 
   -- what is handed over is what it was, since the master awaits no grant
-  wants_same : (q r : ℕ) → is_wanting (now.handovers q r).role ≡ is_wanting (v.handovers q r).role
-  wants_same q r = by (λ q r h. is_wanting h.role ≡ is_wanting (v.handovers q r).role) q r (λ was. wants ∙ sym may.waited) refl
-
   wants_at_same : (term q r : ℕ) → (is_wanting (now.handovers q r).role && ((now.handovers q r).term == term)) ≡ (is_wanting (v.handovers q r).role && ((v.handovers q r).term == term))
   wants_at_same term q r =
       by (λ q r h. (is_wanting h.role && (h.term == term)) ≡ (is_wanting (v.handovers q r).role && ((v.handovers q r).term == term))) q r
@@ -190,7 +165,8 @@ module _ (v : View) (row : Row) (master : ℕ) (new : Handover) (gather : Gather
 
   waits_same : (member : Option Member) → is_waiting (second_has now.handovers row member) ≡ is_waiting (second_has v.handovers row member)
   waits_same None = refl
-  waits_same (Some member) = wants_same member.master row.tablet
+  waits_same (Some member) =
+      at (λ q h. is_wanting h.role ≡ is_wanting (v.handovers q row.tablet).role) member.master (λ was. wants ∙ sym may.waited) refl
 
   waits_at_same : (term : ℕ) (member : Option Member) → is_waiting_at (second_has now.handovers row member) term ≡ is_waiting_at (second_has v.handovers row member) term
   waits_at_same term None = refl
@@ -212,14 +188,9 @@ module _ (v : View) (row : Row) (master : ℕ) (new : Handover) (gather : Gather
       (⊎_elim (λ (known : IsKnown v.base v.journal end). inl known)
       (λ (staged : IsStagedEnd v.rows (rests v) master row.tablet old.term end).
       let same : staged.row ≡ row = same_number v.rows staged.row row sound.rows.apart staged.stands may.has_row staged.number in
-      inr (record {
-        row = staged.row;
-        stands = staged.stands;
-        told = staged.told;
-        number = staged.number;
-        rebuilt = staged.rebuilt;
-        at_term = at_term (staged.at_term ∙ ap (λ (r : Row). r.term) same) ∙ ap (λ (r : Row). r.term) (sym same);
-      })))
+      inr
+      (staged_as _ _ _ _ _ _ _ _ _ staged staged.stands staged.told
+      (at_term (staged.at_term ∙ ap (λ (r : Row). r.term) same) ∙ ap (λ (r : Row). r.term) (sym same)))))
 
   -- a call that waits for a row may be staged there
   waits : (q place : ℕ) (call : Call) → Waits v.rows (v.handovers q) (v.written q) q place call → Waits v.rows (now.handovers q) (v.written q) q place call
@@ -250,7 +221,7 @@ module _ (v : View) (row : Row) (master : ℕ) (new : Handover) (gather : Gather
   told (source ∷ target ∷ []) is fit = λ term.
       fit (sym (term_of_two source target is target.master) ∙ term ∙ term_of_two source target is source.master)
       ∙ sym (ap (λ (n : ℕ). Some (record { floor = n; ends = ends_of (v.completions source.master row.tablet) }))
-      (counter_same source.master row.tablet))
+      (by (λ q r h. h.counter ≡ (v.handovers q r).counter) source.master row.tablet (λ was. may.counter_is) refl))
   told _ is fit = fit
 
   -- the master does not rebuild the row
@@ -270,12 +241,7 @@ module _ (v : View) (row : Row) (master : ℕ) (new : Handover) (gather : Gather
       t.handover.term ≡ row.term
       → IsRebuilderIn v.logs v.written v.stored row lineage to (truths v row) t.handover t.completions t.gather t.merged (v.records to)
 
-  -- a row is rebuilt in it
-  abbrev IsRebuiltIn : View → Phase → Type 0
-  IsRebuiltIn w phase =
-      RowIsRebuilt row phase (truths v row) w.logs w.written w.stored w.handovers w.completions w.gathers w.merged w.records w.live
-
-  row_rebuilt : (phase : Phase) → row.phase ≡ phase → IsRebuiltIn v phase → IsRebuiltIn now phase
+  row_rebuilt : (phase : Phase) → row.phase ≡ phase → IsRebuiltIn v row phase → IsRebuiltIn now row phase
   row_rebuilt (Rebuilding lineage to) is fit = (
     ⊎_elim (λ (is_own : to ≡ master). λ term. absurd (not_by_master lineage to is_own is term))
         (λ (other : to ≡ master → ⊥). subst (Rebuilds to lineage) (other_has to other) fit.0) (cases_eq to master),
@@ -398,108 +364,77 @@ module _ (v : View) (row : Row) (master : ℕ) (new : Handover) (gather : Gather
 
   -- ---- the whole
 
+  -- a mark fits as before
+  marks : (q : ℕ) → All (λ mark. mark.tablet ≡ row.tablet → MarkFits row q (now.handovers q row.tablet) (v.live q) (v.written q) mark) (v.written q).marks
+  marks q =
+      All-weaker _ _
+      (λ mark.
+      at (λ q h. mark.tablet ≡ row.tablet → MarkFits row q h (v.live q) (v.written q) mark) q
+      (λ was its.
+      let fit = was its in
+      let none : mark.term ≡ row.term → (row.phase ≡ Rebuilding (lineage_of row.phase) master) × (new.term ≡ row.term) × (has_merged new.role ≡ true) = λ of_term.
+      let told = fit.by_rebuilder of_term in absurd (omega (arith, behind (lineage_of row.phase) told.0, at_term told.1)) in
+      assumption (none, fit)))
+      (v.written q).marks (was.marks q)
+
   holds : SoundRow now row
-  holds = record {
-    named = was.named;
-    begun = was.begun;
-    formed = was.formed;
-    placed = was.placed;
-    sent = was.sent;
-    fitting = λ q.
-        at (λ q h. StillCounts (v.live q) h.term row.term → RoleFits row q h (v.written q).applied) q (λ was counts. may.fits) (was.fitting q);
-    ranged = λ q.
-        at (λ q h. StillCounts (v.live q) h.term row.term → is_member (lineage_of row.phase) q ≡ true → h.range ≡ row.range) q
-        (λ was counts member. may.range_is ∙ was (inl may.lives) member) (was.ranged q);
-    at_term = keep_term row.phase was.at_term;
-    truth = was.truth;
-    above = was.above;
-    reached = was.reached;
-    recorded = was.recorded;
-    moving = was.moving;
-    answering = λ q.
-        at
-        (λ q h. StillCounts (v.live q) h.term row.term → speaks (post_of row.phase q) h row.term ≡ true
-        → ReachAll row.range v.journal (ends_of (v.completions q row.tablet)))
-        q (λ was counts says. was (inl may.lives) (may.speaks says)) (was.answering q);
-    ends_granted = rw for_grant_same was.ends_granted;
-    ends_sent = λ n m there. rw (by_message_same m.body) (was.ends_sent n m there);
-    low = was.low;
-    low_moving = was.low_moving;
-    counted = λ q.
-        at
-        (λ q h. StillCounts (v.live q) h.term row.term → speaks (post_of row.phase q) h row.term ≡ true → IsNextOf v row h.counter) q
-        (λ was counts says. subst (IsNextOf v row) (sym may.counter_is) (was (inl may.lives) (may.speaks says))) (was.counted q);
-    floor_granted = rw for_grant_same was.floor_granted;
-    floor_sent = λ n m there. rw (by_message_same m.body) (was.floor_sent n m there);
-    goes_on = was.goes_on;
-    done = was.done;
-    unnamed = was.unnamed;
-    idle = λ q.
-        at
-        (λ q h. StillCounts (v.live q) h.term row.term → is_idle h.role ≡ true
-        → list_any (touches row.range) (drop (v.written q).applied (v.written q).entries) ≡ false)
-        q (λ was counts idles. may.settled idles) (was.idle q);
-    items = λ q lives.
-        at (λ q h. v.live q ≡ true → has_all_items (post_of row.phase q) h row.term ≡ true → HasItems row v.written (v.records q)) q
-        (λ was lives has. was lives (all_items_before (post_of row.phase master) old new row.term may.grows has)) (was.items q) lives;
-    target = members (lineage_of row.phase) was.target;
-    handed_on = told (lineage_of row.phase) refl was.handed_on;
-    named_items = was.named_items;
-    rebuilt = row_rebuilt row.phase refl was.rebuilt;
-    marks = λ q m e inside.
-        at
-        (λ q h. (slice_index_or (v.written q).marks m e).tablet ≡ row.tablet
-        → MarkFits row q h (v.live q) (v.written q) (slice_index_or (v.written q).marks m e))
-        q
-        (λ was its.
-        let fit = was its in record {
-          rebuilt = fit.rebuilt;
-          within = fit.within;
-          present = fit.present;
-          by_rebuilder = λ of_term. let told = fit.by_rebuilder of_term in absurd (not_rebuilt (lineage_of row.phase) told.0 told.1);
-          behind = fit.behind;
-        })
-        (was.marks q m e inside);
-    pieces = was.pieces;
-    says = λ n m there. says_on m.from m.to m.body (was.says n m there);
-  }
+  holds =
+      assumption (
+        λ (q : ℕ).
+            at (λ q h. StillCounts (v.live q) h.term row.term → RoleFits row q h (v.written q).applied) q (λ was counts. may.fits) (was.fitting q),
+        λ (q : ℕ).
+            at (λ q h. StillCounts (v.live q) h.term row.term → is_member (lineage_of row.phase) q ≡ true → h.range ≡ row.range) q
+            (λ was counts member. may.range_is ∙ was (inl may.lives) member) (was.ranged q),
+        keep_term row.phase was.at_term,
+        λ (q : ℕ).
+            at
+            (λ q h. StillCounts (v.live q) h.term row.term → speaks (post_of row.phase q) h row.term ≡ true
+            → ReachAll row.range v.journal (ends_of (v.completions q row.tablet)))
+            q (λ was counts says. was (inl may.lives) (may.speaks says)) (was.answering q),
+        rw (← for_grant_same) at was.ends_granted,
+        λ (n : ℕ) (m : Message) (there : get v.wire n ≡ Some m). rw (← by_message_same m.body) at (was.ends_sent n m there),
+        λ (q : ℕ).
+            at (λ q h. StillCounts (v.live q) h.term row.term → speaks (post_of row.phase q) h row.term ≡ true → IsNextOf v row h.counter) q
+            (λ was counts says. rw may.counter_is (was (inl may.lives) (may.speaks says))) (was.counted q),
+        rw (← for_grant_same) at was.floor_granted,
+        λ (n : ℕ) (m : Message) (there : get v.wire n ≡ Some m). rw (← by_message_same m.body) at (was.floor_sent n m there),
+        λ (q : ℕ).
+            at
+            (λ q h. StillCounts (v.live q) h.term row.term → is_idle h.role ≡ true
+            → list_any (touches row.range) (drop (v.written q).applied (v.written q).entries) ≡ false)
+            q (λ was counts idles. may.settled idles) (was.idle q),
+        λ (q : ℕ).
+            at (λ q h. v.live q ≡ true → has_all_items (post_of row.phase q) h row.term ≡ true → HasItems row v.written (v.records q)) q
+            (λ was lives has. was lives (all_items_before (post_of row.phase master) old new row.term may.grows has)) (was.items q),
+        members (lineage_of row.phase) was.target,
+        told (lineage_of row.phase) refl was.handed_on,
+        row_rebuilt row.phase refl was.rebuilt,
+        marks,
+        λ (n : ℕ) (m : Message) (there : get v.wire n ≡ Some m). says_on m.from m.to m.body (was.says n m there),
+        was,
+      )
 
   beside : SoundBeside now
-  beside = record {
-    numbered = sound.nodes.numbered;
-    backed = sound.nodes.backed;
-    known_backups = sound.nodes.known;
-    crashed = sound.nodes.crashed;
-    left = sound.nodes.left;
-    rows_apart = sound.rows.apart;
-    covered = sound.rows.covered;
-    kept = λ q r k d within.
-        let x : Row = slice_index_or v.rows k d in
-        by (λ q r h. HandoverFits x r h) q r (handover_fits x (Contains-get_or v.rows k d within)) (sound.terms.kept q r k d within);
-    begun = λ q r.
-        by (λ q r h. is_absent h.role ≡ false → 1 ≤ h.term) q r (λ was there. omega (arith, was (may.present there), may.grows))
-        (sound.terms.begun q r);
-    apart = λ q a b other a_there b_there.
-        (λ i. meets (range_same q a i) (range_same q b i)) ∙ sound.terms.apart q a b other (present q a a_there) (present q b b_there);
-    cover = cover;
-    has_row = λ q r lives there. sound.roles.known q r lives (present q r there);
-    logs = sound.logs;
-    legal = sound.truth.legal;
-    rising = sound.truth.rising;
-    seen = sound.truth.seen;
-    once = sound.calls.once;
-    known = λ q r lives.
-        All-weaker _ _ (end_known q r)
-        (ends_of (v.completions q r)) (sound.calls.known q r lives);
-    waiting = λ q lives place call there. waits q place call (sound.rest.waiting q lives place call there);
-    are_last = sound.rest.are_last;
-    found = sound.rest.found;
-    ordered = sound.records.ordered;
-    bare = λ q r.
-        by (λ q r h. IsBareOf h (v.written q) (v.records q)) q r (λ was. steady_place new.role _ may.steady) (sound.receives.bare q r);
-    others = sound.messages.others;
-    asked = sound.asked;
-  }
+  beside =
+      assumption (
+        λ (q r : ℕ).
+            all_in _ (λ x. HandoverFits x r (now.handovers q r)) v.rows
+            (λ x has. by (λ q r h. HandoverFits x r h) q r (handover_fits x has)) (sound.terms.kept q r),
+        λ (q r : ℕ).
+            by (λ q r h. is_absent h.role ≡ false → 1 ≤ h.term) q r (λ was there. omega (arith, was (may.present there), may.grows))
+            (sound.terms.begun q r),
+        λ (q a b : ℕ) (other : a ≢ b) (a_there : is_absent (now.handovers q a).role ≡ false) (b_there : is_absent (now.handovers q b).role ≡ false).
+            (λ i. meets (range_same q a i) (range_same q b i)) ∙ sound.terms.apart q a b other (present q a a_there) (present q b b_there),
+        cover,
+        λ (q r : ℕ) (lives : v.live q ≡ true) (there : is_absent (now.handovers q r).role ≡ false).
+            sound.roles.known q r lives (present q r there),
+        λ (q r : ℕ) (lives : v.live q ≡ true).
+            All-weaker _ (λ end. IsKnown v.base v.journal end ⊎ IsStagedEnd v.rows (rests v) q r (now.handovers q r).term end) (end_known q r)
+            (ends_of (v.completions q r)) (sound.calls.known q r lives),
+        λ (q : ℕ) (lives : v.live q ≡ true) (place : ℕ) (call : Call) (there : get (v.calls q) place ≡ Some call).
+            waits q place call (sound.rest.waiting q lives place call there),
+        λ (q r : ℕ). by (λ q r h. IsBareOf h (v.written q) (v.records q)) q r (λ was. steady_place new.role _ may.steady) (sound.receives.bare q r),
+      )
 
   pub view_role_taken : SoundView now
   view_role_taken =

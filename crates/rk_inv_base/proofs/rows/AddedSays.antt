@@ -1,7 +1,7 @@
 -- Where a row is added for a master that served nothing of it, nothing was said of it.
 use Rattle.std.proofs.Common.{◌≡◌, ℕ, true, false, List, [], ◌∷◌, refl, sym, ◌∙◌, ⊎_elim, arith, IfSome, is_some, Contains}
-use Rattle.rk_inv_base.proofs.Words.{false≢true, ⊤, meets, Node, Range, row_of, Row, Tenure, Body, new_row, IfMaster}
-use Rattle.rk_inv_base.proofs.Words.{range_in, tenure_in, View}
+use Rattle.rk_inv_base.proofs.Words.{false≢true, ⊤, meets, Node, Range, row_of, Row, Tenure, Body, new_row, IfMaster, range_in, tenure_in}
+use Rattle.rk_inv_base.proofs.Words.{View}
 use Rattle.rk_types.specs.declared.node.Node.TheVariants as nodes
 use Rattle.rk_message.specs.declared.message.Body.TheVariants as bodies
 use Rattle.rk_sound.specs.Small.{added}
@@ -9,12 +9,6 @@ use Rattle.rk_inv_base.proofs.views.ByRows.{SaysIn}
 use Rattle.rk_inv_base.proofs.wire.Messages.{by_master}
 
 module _ (v : View) (tablet : ℕ) (range : Range) (master : ℕ) (unsaid : (tenure : Tenure) → is_some (row_of v.rows tenure.tablet) ≡ true → tenure.tablet ≡ tablet → ⊥) where
-  abbrev row : Row
-  row = new_row tablet range master
-
-  abbrev changed : View
-  changed = added v tablet range master
-
   if_any : (to : Node) (P : ℕ → Type 0) → ((q : ℕ) → P q) → IfMaster to P
   if_any (nodes.Master q) P all = all q
   if_any _ P all = tt
@@ -24,7 +18,7 @@ module _ (v : View) (tablet : ℕ) (range : Range) (master : ℕ) (unsaid : (ten
   some_row (x ∷ rows) n known = (x, (0, omega arith, refl))
 
   -- what is said of another row tells that a report comes from a master
-  pub says_new : (from to : Node) (body : Body) → IfSome (tenure_in body) (λ tenure. is_some (row_of v.rows tenure.tablet) ≡ true) → IfSome (range_in body) (λ r. meets range r ≡ false) → ((x : Row) → Contains v.rows x → SaysIn v x from to body) → SaysIn changed row from to body
+  pub says_new : (from to : Node) (body : Body) → IfSome (tenure_in body) (λ tenure. is_some (row_of v.rows tenure.tablet) ≡ true) → IfSome (range_in body) (λ r. meets range r ≡ false) → ((x : Row) → Contains v.rows x → SaysIn v x from to body) → SaysIn (added v tablet range master) (new_row tablet range master) from to body
   says_new from to (bodies.Prepare prepare) known away was =
       if_any to _ (λ q. record {
         range = λ is. absurd (unsaid prepare.tenure known is.tablet);

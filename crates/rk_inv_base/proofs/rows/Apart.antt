@@ -1,13 +1,11 @@
 -- Rows of a tablet map: a number names one of them, and a key lies in one of them.
-use Rattle.std.proofs.Common.{◌≡◌, ℕ, zero, suc, true, false, ◌&&◌, List, [], ◌∷◌, eqb, leb, sym, ap, subst, ◌∙◌, ⊎_elim, arith, ◌⊎◌, inl}
-use Rattle.std.proofs.Common.{inr, Contains}
-use Rattle.rk_inv_base.proofs.Words.{cases_Bool, nat_tests, All-from_recursion, All-contains, hash_of, meets, Range, Precedes, IsTabletMap}
-use Rattle.rk_inv_base.proofs.Words.{Row, has_key}
+use Rattle.std.proofs.Common.{◌≡◌, ℕ, true, false, List, [], ◌∷◌, sym, ap, subst, ◌∙◌, ⊎_elim, arith, ◌⊎◌, inl, inr, Contains}
+use Rattle.rk_inv_base.proofs.Words.{nat_tests, All-from_recursion, All-contains, meets, Range, Precedes, IsTabletMap, Row, has_key}
+use Rattle.rk_inv_base.proofs.Words.{stands_cases, false≢true, false_from_ne_true}
 
 -- one of a list with a first one is the first, or one of the others
 pub contains_cases : {X : Type 0} (first : X) (others : List X) (x : X) → Contains (first ∷ others) x → (first ≡ x) ⊎ Contains others x
-contains_cases first others x (zero, within, is) = inl is
-contains_cases first others x (suc k, within, is) = inr (k, omega (arith, within), is)
+contains_cases first others x at = stands_cases first others x at
 
 -- two rows are one, or one of them precedes the other
 pub one_precedes : (rows : List Row) (a b : Row) → IsTabletMap rows → Contains rows a → Contains rows b → (a ≡ b) ⊎ Precedes a b ⊎ Precedes b a
@@ -37,12 +35,19 @@ same_number rows a b apart first second same =
     absurd (⊎_elim (λ (p : Precedes a b). omega (arith, p.smaller, same)) (λ (p : Precedes b a). omega (arith, p.smaller, same)) other))
     (one_precedes rows a b apart first second)
 
+-- and so are rows that meet
+pub one_met : (rows : List Row) (a b : Row) → IsTabletMap rows → Contains rows a → Contains rows b → meets a.range b.range ≡ true → a ≡ b
+one_met rows a b apart first second met =
+    let back : meets b.range a.range ≡ true = grind (arith, nat_tests, met) in
+    ⊎_elim
+    (λ (is : a ≡ b). is)
+    (λ (other : Precedes a b ⊎ Precedes b a).
+    absurd (⊎_elim (λ (p : Precedes a b). false≢true (sym p.apart ∙ met)) (λ (p : Precedes b a). false≢true (sym p.apart ∙ back)) other))
+    (one_precedes rows a b apart first second)
+
 -- a key of a range is in none that does not meet it
 pub key_outside : (a b : Range) (table : ℕ) (key : List ℕ) → meets a b ≡ false → has_key b table key ≡ true → has_key a table key ≡ false
-key_outside a b table key apart inside = outside a.table a.first a.last b.table b.first b.last table (hash_of key) apart inside
-  where
-    outside : (s f l t g m table hash : ℕ) → (eqb s t && leb f m && leb g l) ≡ false → (eqb t table && leb g hash && leb hash m) ≡ true → (eqb s table && leb f hash && leb hash l) ≡ false
-    outside s f l t g m table hash apart inside = grind (arith, nat_tests)
+key_outside a b table key apart inside = grind (arith, nat_tests)
 
 -- so two ranges that do not meet have no key in common
 pub no_meeting : (a b : Range) (table : ℕ) (key : List ℕ) → meets a b ≡ false → has_key a table key ≡ true → has_key b table key ≡ true → ⊥
@@ -52,14 +57,7 @@ no_meeting a b table key apart first second =
 -- a key lies in one row alone
 pub in_one_row : (rows : List Row) (a b : Row) (table : ℕ) (key : List ℕ) → IsTabletMap rows → Contains rows a → Contains rows b → (b.tablet ≡ a.tablet → ⊥) → has_key a.range table key ≡ true → has_key b.range table key ≡ false
 in_one_row rows a b table key apart first second other inside =
-    ⊎_elim
-    (λ (both : has_key b.range table key ≡ true).
-    absurd (⊎_elim
-    (λ (is : a ≡ b). other (ap (λ (r : Row). r.tablet) (sym is)))
-    (λ (p : Precedes a b ⊎ Precedes b a).
-    ⊎_elim
-    (λ (h : Precedes a b). no_meeting a.range b.range table key h.apart inside both)
-    (λ (h : Precedes b a). no_meeting b.range a.range table key h.apart both inside) p)
-    (one_precedes rows a b apart first second)))
-    (λ (e : has_key b.range table key ≡ false). e)
-    (cases_Bool (has_key b.range table key))
+    false_from_ne_true (has_key b.range table key)
+    (λ both.
+    let met : meets b.range a.range ≡ true = grind (arith, nat_tests, inside, both) in
+    other (ap (λ (r : Row). r.tablet) (one_met rows b a apart second first met)))

@@ -1,10 +1,9 @@
 -- What is known of a row that is to be turned: what its masters have is at most at its term; and one that is owned, or opens before its
 -- target told a place, asks for no Close and is not rebuilt.
-use Rattle.std.proofs.Common.{◌≡◌, ℕ, ◌≤◌, ◌<◌, Bool, true, cond, eqb, List, Some, None, refl, subst, ⊎_elim, arith, inl, inr, All}
-use Rattle.std.proofs.Common.{Contains}
-use Rattle.rk_inv_base.proofs.Words.{cond_both, All-contains, All-weaker, ⊤, Member, Phase, Owned, Opening, Rebuilding, Row, IsRebuiltBy}
-use Rattle.rk_inv_base.proofs.Words.{IsClosing, IsOnlyRebuilder, row_at, Owner, InvitedTarget, OpeningSource, Bystander, post_of}
-use Rattle.rk_inv_base.proofs.Words.{StillCounts, MarkFits, HandoverFits, View, SoundView}
+use Rattle.std.proofs.Common.{◌≡◌, ℕ, ◌≤◌, ◌<◌, Bool, true, cond, eqb, Some, None, refl, subst, ⊎_elim, arith, inl, inr, All, Contains}
+use Rattle.rk_inv_base.proofs.Words.{cond_both, All-contains, All-weaker, ⊤, Phase, Owned, Opening, Rebuilding, Row, IsRebuiltBy, IsClosing}
+use Rattle.rk_inv_base.proofs.Words.{IsOnlyRebuilder, row_at, Owner, InvitedTarget, OpeningSource, Bystander, post_of, StillCounts}
+use Rattle.rk_inv_base.proofs.Words.{MarkFits, HandoverFits, View, SoundView}
 use Rattle.rk_sound.specs.Messages.{MayFollowClose}
 use Rattle.rk_inv_base.proofs.views.ByRows.{row_in}
 
@@ -43,9 +42,6 @@ pub early_rebuilt : (phase : Phase) (master : ℕ) → IsEarly phase → IsRebui
 early_rebuilt (Rebuilding lineage to) master early by = early
 early_rebuilt _ master early by = by
 
-pub early_unmarked : (phase : Phase) (lineage : List Member) (to : ℕ) → IsEarly phase → phase ≡ Rebuilding lineage to → ⊥
-early_unmarked phase lineage to early is = subst IsEarly is early
-
 module _ (v : View) (row : Row) (term : ℕ) (phase : Phase) (sound : SoundView v) (has_row : Contains v.rows row) (early : IsEarly row.phase) where
   -- no living master follows a Close
   pub none_closes : (q order : ℕ) → v.live q ≡ true → (v.handovers q row.tablet).term < order → MayFollowClose row q order → MayFollowClose (row_at row term phase) q order
@@ -64,6 +60,6 @@ module _ (v : View) (row : Row) (term : ℕ) (phase : Phase) (sound : SoundView 
       All-weaker (λ mark. mark.tablet ≡ row.tablet → MarkFits row q (v.handovers q row.tablet) (v.live q) (v.written q) mark)
       (λ mark. mark.tablet ≡ row.tablet → MarkFits (row_at row term phase) q (v.handovers q row.tablet) (v.live q) (v.written q) mark)
       (λ mark fits its.
-      let rebuilt = (fits its).rebuilt in absurd (early_unmarked row.phase rebuilt.0 rebuilt.1 early rebuilt.2))
+      let rebuilt = (fits its).rebuilt in absurd (subst IsEarly rebuilt.2 early))
       (v.written q).marks
       ((row_in v sound row has_row).marks q)

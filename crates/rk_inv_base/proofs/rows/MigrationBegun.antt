@@ -1,14 +1,14 @@
 -- A lane stays sound when a row that is owned begins to move to another master that is there, at the next term.
-use Rattle.std.proofs.Common.{◌≡◌, ℕ, ◌+◌, Bool, true, false, cond, eqb, List, Some, None, refl, sym, ap, subst, ◌∙◌, ⊎_elim, arith, inl}
-use Rattle.std.proofs.Common.{eqb-true}
+use Rattle.std.proofs.Common.{◌≡◌, ℕ, ◌+◌, Bool, true, false, cond, eqb, Some, None, sym, ap, subst, ◌∙◌, ⊎_elim, arith, inl, eqb-true, ◌⊎◌}
+use Rattle.std.proofs.Common.{◌<◌}
 use Rattle.rk_inv_base.proofs.Words.{or_cases, Role, lineage_of, Phase, Opening, Row, names, IsMaster, World, MayTakePost, MayTurn, Post}
 use Rattle.rk_inv_base.proofs.Words.{Owner, OpeningSource, InvitedTarget, Bystander, post_of, bond_of, Holds, StillCounts, View, view}
 use Rattle.rk_inv_base.proofs.Words.{IsSound, SoundView}
 use Rattle.rk_transfer.specs.declared.role.Role.TheVariants as roles
-use Rattle.rk_sound.specs.Moves.{MayMigrate}
+use Rattle.rk_sound.specs.Moves.{MayMigrate, OpensOn}
 use Rattle.rk_sound.specs.Small.{migration_begun_in}
 use Rattle.rk_inv_base.proofs.rows.BeforeTurn.{IsEarly, at_most, counted_before, none_closes, none_marked, none_rebuilds}
-use Rattle.rk_inv_base.proofs.rows.RowTurned.{rows_turned, view_turned}
+use Rattle.rk_inv_base.proofs.rows.RowTurned.{view_changed}
 use Rattle.rk_inv_base.proofs.views.ByRows.{SoundRow, row_in}
 
 -- ---- posts at the next term
@@ -57,24 +57,12 @@ module _ (v : View) (row : Row) (to : ℕ) (sound : SoundView v) (may : MayMigra
 
   posts_by : (q : ℕ) (a b : Bool) → FitsPost q (cond a (Owner may.from) Bystander)
       → TakesPost q (cond a (Owner may.from) Bystander) (cond a OpeningSource (cond b InvitedTarget Bystander))
-  posts_by q true b fits = record {
-    fits = owner_fits (v.handovers q row.tablet).role may.from row.term (v.handovers q row.tablet).term (v.written q).applied fits;
-    speaks = λ says. refl;
-    full = λ full. refl;
-    owns = λ owns. tt;
-  }
-  posts_by q false true fits = record {
-    fits = bystander_invited (v.handovers q row.tablet).role row.term (v.handovers q row.tablet).term (v.written q).applied fits;
-    speaks = λ says. says;
-    full = λ full. full;
-    owns = λ owns. owns;
-  }
-  posts_by q false false fits = record {
-    fits = bystander_stays (v.handovers q row.tablet).role row.term (v.handovers q row.tablet).term (v.written q).applied fits;
-    speaks = λ says. says;
-    full = λ full. full;
-    owns = λ owns. owns;
-  }
+  posts_by q true b fits =
+      assumption (owner_fits (v.handovers q row.tablet).role may.from row.term (v.handovers q row.tablet).term (v.written q).applied fits)
+  posts_by q false true fits =
+      assumption (bystander_invited (v.handovers q row.tablet).role row.term (v.handovers q row.tablet).term (v.written q).applied fits)
+  posts_by q false false fits =
+      assumption (bystander_stays (v.handovers q row.tablet).role row.term (v.handovers q row.tablet).term (v.written q).applied fits)
 
   posts : (q : ℕ) → StillCounts (v.live q) (v.handovers q row.tablet).term (row.term + 1) → TakesPost q (post_of row.phase q) (post_of opening q)
   posts q counting =
@@ -89,24 +77,17 @@ module _ (v : View) (row : Row) (to : ℕ) (sound : SoundView v) (may : MayMigra
   early = subst IsEarly (sym may.phase_is) tt
 
   pub may_begin : MayTurn v row (row.term + 1) opening
-  may_begin = record {
-    has_row = may.has_row;
-    lineage_is = sym (ap lineage_of may.phase_is);
-    term_is = inl (omega arith);
-    formed = may.another;
-    named = named;
-    at_term = tt;
-    posts = posts;
-    closes = none_closes v row (row.term + 1) opening sound may.has_row early;
-    unmoved = refl;
-    given_up = none_rebuilds v row (row.term + 1) opening sound may.has_row early;
-    rebuilt = tt;
-    marks = none_marked v row (row.term + 1) opening sound may.has_row early;
-  }
+  may_begin =
+      let term_is : (row.term < row.term + 1) ⊎ ((row.term + 1 ≡ row.term) × OpensOn row.phase opening) = inl (omega arith) in
+      assumption (
+        sym (ap lineage_of may.phase_is),
+        named,
+        posts,
+        none_closes v row (row.term + 1) opening sound may.has_row early,
+        none_rebuilds v row (row.term + 1) opening sound may.has_row early,
+        none_marked v row (row.term + 1) opening sound may.has_row early,
+      )
 
 pub sound_migrated : (w : World) (row : Row) (to : ℕ) → IsSound w → (may : MayMigrate (view w) row to) → IsSound (migration_begun_in w row may.owner may.from to)
 sound_migrated w row to sound may =
-    let turns = may_begin (view w) row to sound may in
-    subst (λ (rows : List Row). SoundView (record (view w) { rows = rows }))
-    (sym (rows_turned (view w) row (row.term + 1) (Opening may.owner may.from to None) sound turns))
-    (view_turned (view w) row (row.term + 1) (Opening may.owner may.from to None) sound turns)
+    view_changed (view w) row (row.term + 1) (Opening may.owner may.from to None) sound (may_begin (view w) row to sound may)

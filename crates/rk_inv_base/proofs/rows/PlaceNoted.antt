@@ -1,27 +1,23 @@
 -- A view stays sound when the place of a target is noted, where that waits at it at the row's term.
-use Rattle.std.proofs.Common.{◌≡◌, ℕ, Bool, true, false, cond, eqb, List, Some, None, refl, sym, ap, subst, ◌∙◌, inr, eqb-true}
-use Rattle.rk_inv_base.proofs.Words.{Handover, Role, lineage_of, Phase, Opening, Row, names, IsMaster, World, MayTakePost, MayTurn, Post}
+use Rattle.std.proofs.Common.{◌≡◌, ℕ, Bool, true, false, cond, eqb, Some, None, refl, sym, ap, subst, ◌∙◌, inr, eqb-true, ◌⊎◌, ◌<◌}
+use Rattle.rk_inv_base.proofs.Words.{Handover, lineage_of, Phase, Opening, Row, names, IsMaster, World, MayTakePost, MayTurn, Post}
 use Rattle.rk_inv_base.proofs.Words.{InvitedTarget, ReadyTarget, OpeningSource, Bystander, post_of, bond_of, Holds, StillCounts, IsFormed}
 use Rattle.rk_inv_base.proofs.Words.{View, view, IsSound, SoundView}
 use Rattle.rk_transfer.specs.declared.role.Role.TheVariants as roles
-use Rattle.rk_sound.specs.Moves.{MayNote}
+use Rattle.rk_sound.specs.Moves.{MayNote, OpensOn}
 use Rattle.rk_sound.specs.Small.{place_noted_in}
 use Rattle.rk_inv_base.proofs.rows.BeforeTurn.{IsEarly, none_closes, none_marked, none_rebuilds}
-use Rattle.rk_inv_base.proofs.rows.RowTurned.{rows_turned, view_turned}
+use Rattle.rk_inv_base.proofs.rows.RowTurned.{view_changed}
 use Rattle.rk_inv_base.proofs.views.ByRows.{SoundRow, row_in}
 
 -- what a master has fits its post as before, where that is the same
 pub same_post : (post : Post) (term : ℕ) (handover : Handover) (applied : ℕ) → Holds (bond_of post handover.role) term handover.term applied → MayTakePost post post term term handover applied
-same_post post term handover applied fits = record { fits = fits; speaks = λ says. says; full = λ full. full; owns = λ owns. owns }
+same_post post term handover applied fits = assumption
 
 -- a target that waits at its place, at the row's term, is ready
 pub ready_post : (place term : ℕ) (handover : Handover) (applied : ℕ) → handover.role ≡ roles.Wanting place → handover.term ≡ term → MayTakePost InvitedTarget (ReadyTarget place) term term handover applied
-ready_post place term handover applied waits at = record {
-  fits = subst (λ (role : Role). Holds (bond_of (ReadyTarget place) role) term handover.term applied) (sym waits) (at, refl);
-  speaks = λ says. says;
-  full = λ full. full;
-  owns = λ owns. owns;
-}
+ready_post place term handover applied waits at =
+    let fits : Holds (bond_of (ReadyTarget place) handover.role) term handover.term applied = rw waits (at, refl) in assumption
 
 module _ (v : View) (row : Row) (source sfrom target place : ℕ) (sound : SoundView v) (may : MayNote v row source sfrom target place) where
   abbrev noted : Phase
@@ -62,27 +58,22 @@ module _ (v : View) (row : Row) (source sfrom target place : ℕ) (sound : Sound
   early = subst IsEarly (sym may.phase_is) tt
 
   pub may_be_noted : MayTurn v row row.term noted
-  may_be_noted = record {
-    has_row = may.has_row;
-    lineage_is = sym (ap lineage_of may.phase_is);
-    term_is = inr (
-      refl,
-      record { source = source; from = sfrom; target = target; noted = None; place = place; was = may.phase_is; is = refl },
-    );
-    formed = subst IsFormed may.phase_is its.formed;
-    named = named;
-    at_term = may.waiting.term_is;
-    posts = posts;
-    closes = none_closes v row row.term noted sound may.has_row early;
-    unmoved = refl;
-    given_up = none_rebuilds v row row.term noted sound may.has_row early;
-    rebuilt = tt;
-    marks = none_marked v row row.term noted sound may.has_row early;
-  }
+  may_be_noted =
+      let opens : OpensOn row.phase noted =
+      record { source = source; from = sfrom; target = target; noted = None; place = place; was = may.phase_is; is = refl } in
+      let term_is : (row.term < row.term) ⊎ ((row.term ≡ row.term) × OpensOn row.phase noted) = inr (refl, opens) in
+      assumption (
+        sym (ap lineage_of may.phase_is),
+        subst IsFormed may.phase_is its.formed,
+        named,
+        may.waiting.term_is,
+        posts,
+        none_closes v row row.term noted sound may.has_row early,
+        none_rebuilds v row row.term noted sound may.has_row early,
+        none_marked v row row.term noted sound may.has_row early,
+      )
 
 pub sound_noted : (w : World) (row : Row) (source sfrom target place : ℕ) → IsSound w → MayNote (view w) row source sfrom target place → IsSound (place_noted_in w row source sfrom target place)
 sound_noted w row source sfrom target place sound may =
-    let turns = may_be_noted (view w) row source sfrom target place sound may in
-    subst (λ (rows : List Row). SoundView (record (view w) { rows = rows }))
-    (sym (rows_turned (view w) row row.term (Opening source sfrom target (Some place)) sound turns))
-    (view_turned (view w) row row.term (Opening source sfrom target (Some place)) sound turns)
+    view_changed (view w) row row.term (Opening source sfrom target (Some place)) sound
+    (may_be_noted (view w) row source sfrom target place sound may)

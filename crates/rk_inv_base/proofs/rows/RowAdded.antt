@@ -1,19 +1,18 @@
 -- A lane stays sound when a row is added for a master that serves it at once: nobody speaks of its number or of its range so far.
-use Rattle.std.proofs.Common.{◌≡◌, ℕ, ◌≤◌, ◌<◌, Bool, true, false, cond, ◌&&◌, ◌||◌, List, [], ◌∷◌, ◌++◌, Option, Some, None, eqb, leb}
-use Rattle.std.proofs.Common.{refl, sym, ap, subst, ◌∙◌, ⊎_elim, arith, ◌⊎◌, inl, inr, IfSome, is_some, drop, All, Contains, flat_map}
-use Rattle.std.proofs.Common.{eq-eqb, eqb-true, ne_eqb, append-nil}
-use Rattle.std.specs.Cmp.Lexicographic.{bytes_decides}
-use Rattle.rk_inv_base.proofs.Words.{and_parts, cases_Bool, cases_eq, cases_lt, false≢true, or_left, nat_tests, All-contains, All-nil}
-use Rattle.rk_inv_base.proofs.Words.{All-cons, All-weaker, IfSome_then, hash_of, has, meets, Call, Ended, Held, Waits, Placed, Member}
-use Rattle.rk_inv_base.proofs.Words.{Range, is_at_parts, IsLegal, is_at, live_after, map_after, last_version, never, is_mutation, Entry}
-use Rattle.rk_inv_base.proofs.Words.{ends_of, is_serving, Handover, Role, is_covered, placed, row_of, Owned, Row, newest_none, is_of}
-use Rattle.rk_inv_base.proofs.Words.{Tenure, Body, base_map, new_row, items_of, told, is_member, unmarked_from, of_key, side_entries}
-use Rattle.rk_inv_base.proofs.Words.{IsMaster, has_all, has_key, is_absent, may_have_staged, with_added, World, master_at, tablet_in}
-use Rattle.rk_inv_base.proofs.Words.{with_master, member_truth, applied_entries, Mark, IsKnown, IsReached, IsStagedEnd, is_record_in}
-use Rattle.rk_inv_base.proofs.Words.{AreAboveMap, IsNext, HasWholeRows, IsEntryWithin, IsItemWithin, IsOfWholeRows, IsWithinRows, HasSome}
-use Rattle.rk_inv_base.proofs.Words.{AreAbove, Bystander, Owner, Post, Holds, bond_of, post_of, speaks, HasOwnRange, MarkFits, IsRest}
-use Rattle.rk_inv_base.proofs.Words.{IsPlaced, put2, IsTableOf, HandoverFits, SentFits, range_in, tenure_in, View, view, truths, rests}
-use Rattle.rk_inv_base.proofs.Words.{IsSound, SoundView, CoverOf}
+use Rattle.std.proofs.Common.{◌≡◌, ℕ, ◌≤◌, ◌<◌, Bool, true, false, cond, ◌&&◌, ◌||◌, List, [], ◌∷◌, Option, Some, None, eqb, leb, refl, sym}
+use Rattle.std.proofs.Common.{ap, subst, ◌∙◌, ⊎_elim, arith, ◌⊎◌, inl, inr, IfSome, is_some, drop, All, Contains, flat_map, eq-eqb}
+use Rattle.std.proofs.Common.{eqb-true, ne_eqb, append-nil, length}
+use Rattle.rk_inv_base.proofs.Words.{cases_eq, cases_lt, false≢true, or_left, nat_tests, All-contains, All-nil, All-cons, All-weaker}
+use Rattle.rk_inv_base.proofs.Words.{IfSome_then, hash_of, has, meets, Call, Ended, Held, Waits, Placed, Member, Range, is_at_parts}
+use Rattle.rk_inv_base.proofs.Words.{IsLegal, is_at, live_after, map_after, last_version, never, is_mutation, Entry, ends_of, is_serving}
+use Rattle.rk_inv_base.proofs.Words.{Handover, Role, is_covered, placed, row_of, Owned, Row, newest_none, is_of, Tenure, Body, base_map}
+use Rattle.rk_inv_base.proofs.Words.{new_row, items_of, told, is_member, unmarked_from, of_key, side_entries, IsMaster, has_all, has_key}
+use Rattle.rk_inv_base.proofs.Words.{is_absent, may_have_staged, with_added, World, master_at, tablet_in, with_master, member_truth}
+use Rattle.rk_inv_base.proofs.Words.{applied_entries, Mark, IsKnown, IsReached, IsStagedEnd, is_record_in, AreAboveMap, HasWholeRows}
+use Rattle.rk_inv_base.proofs.Words.{IsEntryWithin, IsItemWithin, IsOfWholeRows, IsWithinRows, HasSome, AreAbove, Bystander, Owner, Post}
+use Rattle.rk_inv_base.proofs.Words.{Holds, bond_of, post_of, speaks, HasOwnRange, MarkFits, IsRest, IsPlaced, put2, IsTableOf}
+use Rattle.rk_inv_base.proofs.Words.{HandoverFits, SentFits, range_in, tenure_in, View, view, truths, rests, IsSound, SoundView, CoverOf}
+use Rattle.rk_inv_base.proofs.Words.{get, false_from_ne_true, is_of_parts, All-take, or_right}
 use Rattle.rk_model.specs.History.{record_of}
 use Rattle.rk_entry.specs.declared.entry.Entry.TheVariants as entries
 use Rattle.rk_transfer.specs.declared.role.Role.TheVariants as roles
@@ -23,24 +22,28 @@ use Rattle.rk_world.specs.Base.{newest_entry}
 use Rattle.rk_world.specs.Step.{tablet_added}
 use Rattle.rk_sound.specs.Moves.{HasSomeIn, MayAdd}
 use Rattle.rk_sound.specs.Small.{added, as_added}
-use Rattle.rk_inv_base.proofs.rows.AddedRows.{all_with, covered_still, known_placed, known_still, new_placed, row_apart, stands_placed}
-use Rattle.rk_inv_base.proofs.rows.AddedRows.{uncovered}
+use Rattle.rk_inv_base.proofs.rows.AddedRows.{all_with, covered_still, known_placed, new_placed, stands_placed, uncovered}
 use Rattle.rk_inv_base.proofs.rows.AddedSays.{says_new}
-use Rattle.rk_inv_base.proofs.views.ByRows.{row_in, IsNextOf, SoundBeside, SoundRow, none_for_owned, view_by_rows, waits_for}
+use Rattle.rk_inv_base.proofs.views.ByRows.{row_in, IsNextOf, SoundBeside, SoundRow, none_for_owned, view_by_rows, waits_for, staged_as}
 use Rattle.rk_inv_base.proofs.views.OwnTablet.{row_kept, seen_at}
 use Rattle.rk_inv_base.proofs.views.Cover.{covered_by}
-use Rattle.rk_inv_base.proofs.views.Lists.{all_by}
+use Rattle.rk_inv_base.proofs.views.Lists.{all_by, none_pass}
 use Rattle.rk_inv_base.proofs.logs.Missed.{Misses, counting_none, drop_missed, from_missed, joined_none, map_elsewhere, material_none}
-use Rattle.rk_inv_base.proofs.logs.Missed.{none_touches, take_missed}
+use Rattle.rk_inv_base.proofs.logs.Missed.{none_touches}
 use Rattle.rk_inv_base.proofs.views.Put.{put2_by, put2_here, put2_other, put2_same}
 use Rattle.rk_inv_base.proofs.calls.Receives.{IsBareOf}
 use Rattle.rk_inv_base.proofs.rows.TurnedRows.{stands_found}
 use Rattle.rk_inv_base.proofs.views.Views.{view_kept}
+use Rattle.std.proofs.lemmas.Bool.{true_from_ne_false}
 
 -- where two tests in a row find no fault, neither test passes
 pub no_fault : {X : Type 0} (a b : Bool) (one other : X) → cond a (Some one) (cond b (Some other) None) ≡ None → (a ≡ false) × (b ≡ false)
 no_fault false false one other none = (refl, refl)
 no_fault _ _ one other none = absurd (cc none)
+
+pub no_row : (found : Option Row) → (is_some found ≡ true → ⊥) → found ≡ None
+no_row None none = refl
+no_row (Some row) none = absurd (none refl)
 
 -- ranges that are not empty and meet have a hash in common: the greater of the first ones
 pub in_both : (s f l t g m : ℕ) → f ≤ l → g ≤ m → (eqb s t && leb f m && leb g l) ≡ true → (hash : ℕ) × ((eqb s s && leb f hash && leb hash l) ≡ true) × ((eqb t s && leb g hash && leb hash m) ≡ true)
@@ -70,13 +73,6 @@ module _ (v : View) (tablet : ℕ) (range : Range) (master : ℕ) (sound : Sound
   other : (x : Row) → Contains v.rows x → x.tablet ≡ tablet → ⊥
   other x has = unknown x.tablet (ap is_some (stands_found v.rows x sound.rows.apart has))
 
-  none_found : row_of v.rows tablet ≡ None
-  none_found = go (row_of v.rows tablet) free.0
-    where
-      go : (o : Option Row) → is_some o ≡ false → o ≡ None
-      go None is = refl
-      go (Some x) is = absurd (cc is)
-
   -- what a master has of another tablet is as it was; so it is for each row
   apart : (q n : ℕ) → (n ≡ tablet → ⊥) → now.handovers q n ≡ v.handovers q n
   apart q n unlike = put2_other v.handovers master tablet (as_added range) q n (λ at its. unlike its)
@@ -89,16 +85,12 @@ module _ (v : View) (tablet : ℕ) (range : Range) (master : ℕ) (sound : Sound
 
   -- no master had the tablet
   term_none : (q : ℕ) → (v.handovers q tablet).term ≡ 0
-  term_none q = sound.cover.unknown q tablet none_found
+  term_none q = sound.cover.unknown q tablet (no_row (row_of v.rows tablet) (λ some. false≢true (sym free.0 ∙ some)))
 
   absent_before : (q : ℕ) → is_absent (v.handovers q tablet).role ≡ true
   absent_before q =
-      ⊎_elim (λ (is : is_absent (v.handovers q tablet).role ≡ true). is)
-      (λ (is : is_absent (v.handovers q tablet).role ≡ false).
-      let begun : 1 ≤ (v.handovers q tablet).term = sound.terms.begun q tablet is in
-      let none : (v.handovers q tablet).term ≡ 0 = term_none q in
-      absurd (omega (arith, begun, none)))
-      (cases_Bool (is_absent (v.handovers q tablet).role))
+      true_from_ne_false (is_absent (v.handovers q tablet).role)
+      (λ is. omega (arith, sound.terms.begun q tablet is, term_none q))
 
   -- ---- ranges
 
@@ -108,12 +100,10 @@ module _ (v : View) (tablet : ℕ) (range : Range) (master : ℕ) (sound : Sound
 
   no_meeting : (other : Range) → HasSome other → IsWithinRows v.rows other → meets other range ≡ false
   no_meeting other some within =
-      ⊎_elim
-      (λ (met : meets other range ≡ true).
+      false_from_ne_true (meets other range)
+      (λ met.
       let both = in_both other.table other.first other.last range.table range.first range.last some may.some met in
-      absurd (no_hash other.table both.0 (within both.0 both.1) both.2))
-      (λ (none : meets other range ≡ false). none)
-      (cases_Bool (meets other range))
+      no_hash other.table both.0 (within both.0 both.1) both.2)
 
   misses : (entry : Entry) → HasSomeIn entry → IsEntryWithin v.rows entry → Misses range entry
   misses (entries.Held held) some within = uncovered v.rows range held.table (hash_of held.key) free.1 within
@@ -141,7 +131,7 @@ module _ (v : View) (tablet : ℕ) (range : Range) (master : ℕ) (sound : Sound
       material_none range (side_entries (v.written master).sides)
       (unmarked_from (v.written master).marks 0 (applied_entries (v.written master))) may.some
       (from_missed range (v.written master).marks 0 (applied_entries (v.written master))
-      (take_missed range (v.written master).applied (v.written master).entries (missed master)))
+      (All-take (Misses range) (v.written master).applied (v.written master).entries (missed master)))
 
   truth_none : truths v row ≡ []
   truth_none = append-nil (member_truth v.written range own) ∙ truth_is
@@ -160,24 +150,18 @@ module _ (v : View) (tablet : ℕ) (range : Range) (master : ℕ) (sound : Sound
   -- nothing was ever at its keys
   elsewhere : (table : ℕ) (key : List ℕ) → has_key range table key ≡ true → (placed : Placed) → Contains v.journal placed → is_at table key placed ≡ false
   elsewhere table key inside placed stands =
-      ⊎_elim
-      (λ (at : is_at table key placed ≡ true).
+      false_from_ne_true (is_at table key placed)
+      (λ at.
       let parts = is_at_parts table key placed at in
-      absurd (no_record placed stands ((λ i. has range (parts.0 i) (hash_of (parts.1 i))) ∙ inside)))
-      (λ (unlike : is_at table key placed ≡ false). unlike)
-      (cases_Bool (is_at table key placed))
+      no_record placed stands ((λ i. has range (parts.0 i) (hash_of (parts.1 i))) ∙ inside))
 
   none_based : (table : ℕ) (key : List ℕ) → has_key range table key ≡ true → (item : Held) → Contains v.base.items item → is_of table key item ≡ false
   none_based table key inside item stands =
-      ⊎_elim
-      (λ (at : is_of table key item ≡ true).
-      let parts = and_parts _ _ at in
-      let same_table : item.table ≡ table = eqb-true _ _ parts.0 in
-      let same_key : item.key ≡ key = (bytes_decides item.key key).0 parts.1 in
-      absurd (no_hash item.table (hash_of item.key) (All-contains (IsItemWithin v.rows) v.base.items item may.base stands)
-      ((λ i. has range (same_table i) (hash_of (same_key i))) ∙ inside)))
-      (λ (unlike : is_of table key item ≡ false). unlike)
-      (cases_Bool (is_of table key item))
+      false_from_ne_true (is_of table key item)
+      (λ at.
+      let its = is_of_parts table key item at in
+      no_hash item.table (hash_of item.key) (All-contains (IsItemWithin v.rows) v.base.items item may.base stands)
+      ((λ i. has range (its.0 i) (hash_of (its.1 i))) ∙ inside))
 
   untouched : (table : ℕ) (key : List ℕ) → has_key range table key ≡ true → map_after (base_map v.base) v.journal table key ≡ never
   untouched table key inside =
@@ -208,7 +192,7 @@ module _ (v : View) (tablet : ℕ) (range : Range) (master : ℕ) (sound : Sound
   fits_old : (x : Row) → Contains v.rows x → HandoverFits x tablet (as_added range)
   fits_old x has = record {
     within = λ is. absurd (other x has is);
-    below = λ unlike met. absurd (false≢true (sym (row_apart v.rows range x free.1 has) ∙ met));
+    below = λ unlike met. absurd (false≢true (sym (none_pass (λ (r : Row). meets r.range range) v.rows free.1 x has) ∙ met));
     exact = λ is term. absurd (other x has is);
   }
 
@@ -271,23 +255,17 @@ module _ (v : View) (tablet : ℕ) (range : Range) (master : ℕ) (sound : Sound
   entry_whole _ away wholes = tt
 
   known_on : (n : ℕ) → is_some (row_of v.rows n) ≡ true → is_some (row_of now.rows n) ≡ true
-  known_on = known_still row v.rows
+  known_on n is = known_placed row v.rows n ∙ or_right (eqb tablet n) (is_some (row_of v.rows n)) is
 
   known_new : is_some (row_of now.rows tablet) ≡ true
   known_new = known_placed row v.rows tablet ∙ or_left (eqb tablet tablet) (is_some (row_of v.rows tablet)) (eq-eqb tablet tablet refl)
-
-  still_none : (n : ℕ) → row_of now.rows n ≡ None → row_of v.rows n ≡ None
-  still_none n none = go (row_of v.rows n) (known_on n)
-    where
-      go : (o : Option Row) → (is_some o ≡ true → is_some (row_of now.rows n) ≡ true) → o ≡ None
-      go None on = refl
-      go (Some x) on = absurd (false≢true (sym (ap is_some none) ∙ on refl))
 
   cover : CoverOf now
   cover = record {
     unknown = λ q n.
         by (λ q n h. row_of now.rows n ≡ None → h.term ≡ 0) q n (λ none. absurd (false≢true (sym (ap is_some none) ∙ known_new)))
-        (λ none. sound.cover.unknown q n (still_none n none));
+        (λ none.
+        sound.cover.unknown q n (no_row (row_of v.rows n) (λ some. false≢true (sym (ap is_some none) ∙ known_on n some))));
     marks = λ q.
         All-weaker _ _ (λ mark knows. known_on mark.tablet knows) (v.written q).marks (sound.cover.marks q);
     sent = λ n m there. IfSome_then (tenure_in m.body) (sound.cover.sent n m there) (λ tenure knows. known_on tenure.tablet knows);
@@ -308,34 +286,21 @@ module _ (v : View) (tablet : ℕ) (range : Range) (master : ℕ) (sound : Sound
 
   -- ---- roles
 
-  absent_fits : (h : Handover) (b : Bool) (applied : ℕ) → h.term ≡ 0 → is_absent h.role ≡ true → Holds (bond_of Bystander h.role) 1 h.term applied
-  absent_fits h b applied none is = go h.role is
-    where
-      go : (role : Role) → is_absent role ≡ true → Holds (bond_of Bystander role) 1 h.term applied
-      go roles.Absent is = omega (arith, none)
-      go _ is = absurd (cc is)
+  absent_fits : (role : Role) (own applied : ℕ) → own ≡ 0 → is_absent role ≡ true → Holds (bond_of Bystander role) 1 own applied
+  absent_fits roles.Absent own applied none is = omega (arith, none)
+  absent_fits _ own applied none is = absurd (cc is)
 
   at_master : (q : ℕ) → q ≡ master → now.handovers q tablet ≡ as_added range
   at_master q at = put2_here v.handovers master tablet (as_added range) q tablet at refl
 
-  at_other : (q : ℕ) → (q ≡ master → ⊥) → now.handovers q tablet ≡ v.handovers q tablet
-  at_other q unlike = put2_other v.handovers master tablet (as_added range) q tablet (λ at its. unlike at)
-
-  post_here : (q : ℕ) → q ≡ master → post_of (Owned master 0) q ≡ Owner 0
-  post_here q at = ap (λ (b : Bool). cond b (Owner 0) Bystander) (eq-eqb master q (sym at))
-
-  post_other : (q : ℕ) → (q ≡ master → ⊥) → post_of (Owned master 0) q ≡ Bystander
-  post_other q unlike = ap (λ (b : Bool). cond b (Owner 0) Bystander) (ne_eqb master q (λ is. unlike (sym is)))
-
   -- what a master has of the tablet and what it is to the row
   by_post : (P : ℕ → Post → Handover → Type 0) (q : ℕ) → P q (Owner 0) (as_added range) → ((q ≡ master → ⊥) → P q Bystander (v.handovers q tablet)) → P q (post_of (Owned master 0) q) (now.handovers q tablet)
   by_post P q here unlike =
-      ⊎_elim
-      (λ (at : q ≡ master).
-      subst (λ (p : Post). P q p (now.handovers q tablet)) (sym (post_here q at)) (subst (λ (h : Handover). P q (Owner 0) h) (sym (at_master q at)) here))
-      (λ (away : q ≡ master → ⊥).
-      subst (λ (p : Post). P q p (now.handovers q tablet)) (sym (post_other q away)) (subst (λ (h : Handover). P q Bystander h) (sym (at_other q away)) (unlike away)))
-      (cases_eq q master)
+      put2_by v.handovers master tablet (λ _. as_added range) (P q (post_of (Owned master 0) q)) q tablet
+      (λ at its. subst (λ (b : Bool). P q (cond b (Owner 0) Bystander) (as_added range)) (sym (eq-eqb master q (sym at))) here)
+      (λ apart.
+      let away : q ≡ master → ⊥ = λ at. apart at refl in
+      subst (λ (b : Bool). P q (cond b (Owner 0) Bystander) (v.handovers q tablet)) (sym (ne_eqb master q (λ is. away (sym is)))) (unlike away))
 
   ranged_new : (q : ℕ) → is_member (own ∷ []) q ≡ true → (now.handovers q tablet).range ≡ range
   ranged_new q inside =
@@ -343,8 +308,6 @@ module _ (v : View) (tablet : ℕ) (range : Range) (master : ℕ) (sound : Sound
       (λ (away : q ≡ master → ⊥).
       absurd (false≢true (sym (ap (λ (b : Bool). b || false) (ne_eqb master q (λ is. away (sym is)))) ∙ inside)))
       (cases_eq q master)
-
-  -- ---- truth and rest
 
   -- ---- calls and counters
 
@@ -357,25 +320,13 @@ module _ (v : View) (tablet : ℕ) (range : Range) (master : ℕ) (sound : Sound
   end_known q n end =
       ⊎_elim (λ (knows : IsKnown v.base v.journal end). inl knows)
       (λ (s : IsStagedEnd v.rows (rests v) q n (v.handovers q n).term end).
-      inr (record {
-        row = s.row;
-        stands = stands_placed row s.row v.rows s.stands;
-        told = s.told;
-        number = s.number;
-        rebuilt = s.rebuilt;
-        at_term =
-            ap (λ (h : Handover). h.term) (apart q n (λ is. other s.row s.stands (s.number ∙ is))) ∙ s.at_term;
-      }))
+      let same : (now.handovers q n).term ≡ (v.handovers q n).term =
+      ap (λ (h : Handover). h.term) (apart q n (λ is. other s.row s.stands (s.number ∙ is))) in
+      inr (staged_as _ _ _ _ _ _ _ _ _ s (stands_placed row s.row v.rows s.stands) s.told (same ∙ s.at_term)))
 
-  silent : (h : Handover) → is_absent h.role ≡ true → speaks Bystander h 1 ≡ false
-  silent h is = go h.role is
-    where
-      go : (role : Role) → is_absent role ≡ true → is_serving role ≡ false
-      go roles.Absent is = refl
-      go _ is = absurd (cc is)
-
-  next_new : IsNext (truths v row ++ rests v row) 1
-  next_new = subst (λ (l : List Entry). IsNext (l ++ rests v row) 1) (sym truth_none) (subst (λ (l : List Entry). IsNext l 1) (sym rest_none) (omega arith))
+  silent : (role : Role) → is_absent role ≡ true → is_serving role ≡ false
+  silent roles.Absent is = refl
+  silent _ is = absurd (cc is)
 
   -- ---- records, targets and rebuilds
 
@@ -402,7 +353,7 @@ module _ (v : View) (tablet : ℕ) (range : Range) (master : ℕ) (sound : Sound
         sent_new m.body (sound.cover.sent n m there) (both_some (range_in m.body) (may.orders n m there) (sound.cover.ordered n m there));
     fitting = λ q counts.
         by_post (λ q post h. Holds (bond_of post h.role) 1 h.term (v.written q).applied) q refl
-        (λ away. absent_fits (v.handovers q tablet) true (v.written q).applied (term_none q) (absent_before q));
+        (λ away. absent_fits (v.handovers q tablet).role _ (v.written q).applied (term_none q) (absent_before q));
     ranged = λ q counts inside. ranged_new q inside;
     at_term = tt;
     truth =
@@ -420,8 +371,8 @@ module _ (v : View) (tablet : ℕ) (range : Range) (master : ℕ) (sound : Sound
         (λ table key inside. let none : last_version (map_after (base_map v.base) v.journal table key) ≡ 0 = ap last_version (untouched table key inside) in omega (arith, none));
     low_moving = tt;
     counted = λ q counts.
-        by_post (λ q post h. speaks post h 1 ≡ true → IsNextOf v row h.counter) q (λ says. next_new)
-        (λ away says. absurd (false≢true (sym (silent (v.handovers q tablet) (absent_before q)) ∙ says)));
+        by_post (λ q post h. speaks post h 1 ≡ true → IsNextOf v row h.counter) q (λ says. rw (truth_none, rest_none) (omega arith))
+        (λ away says. absurd (false≢true (sym (silent (v.handovers q tablet).role (absent_before q)) ∙ says)));
     floor_granted = tt;
     floor_sent = λ n m there. rw (none_for_owned tablet 1 range master 0 now.handovers m.body) tt;
     goes_on =
@@ -459,42 +410,26 @@ module _ (v : View) (tablet : ℕ) (range : Range) (master : ℕ) (sound : Sound
       (ap (λ (h : Handover). may_have_staged h.role) (apart q wait.row.tablet (other wait.row wait.has_row)) ∙ wait.may_stage)
 
   beside_rows : SoundBeside now
-  beside_rows = record {
-    numbered = sound.nodes.numbered;
-    backed = sound.nodes.backed;
-    known_backups = sound.nodes.known;
-    crashed = sound.nodes.crashed;
-    left = sound.nodes.left;
-    rows_apart = lawful_placed row v.rows sound.rows.apart (record { unknown = free.0; apart = free.1 });
-    covered =
-        All-weaker _ _ (λ p covered. covered_still row v.rows p.call.table (hash_of p.call.key) covered) v.journal sound.rows.covered;
-    kept = λ q n.
-        all_with (λ r. HandoverFits r n (now.handovers q n)) row v.rows (fits_new q n)
-        (λ x has.
-        by (λ q n h. HandoverFits x n h) q n (fits_old x has)
-        (All-contains (λ r. HandoverFits r n (v.handovers q n)) v.rows x (sound.terms.kept q n) has));
-    begun = λ q n. by (λ q n h. is_absent h.role ≡ false → 1 ≤ h.term) q n (λ there. omega arith) (sound.terms.begun q n);
-    apart = ranges_apart;
-    cover = cover;
-    has_row = λ q n.
-        by (λ q n h. v.live q ≡ true → is_absent h.role ≡ false → is_some (row_of now.rows n) ≡ true) q n (λ lives there. known_new)
-        (λ lives there. known_on n (sound.roles.known q n lives there));
-    logs = sound.logs;
-    legal = sound.truth.legal;
-    rising = sound.truth.rising;
-    seen = sound.truth.seen;
-    once = sound.calls.once;
-    known = λ q n lives.
-        All-weaker _ _ (end_known q n)
-        (ends_of (v.completions q n)) (sound.calls.known q n lives);
-    waiting = λ q lives n call there. waits q n call (sound.rest.waiting q lives n call there);
-    are_last = sound.rest.are_last;
-    found = sound.rest.found;
-    ordered = sound.records.ordered;
-    bare = λ q n. by (λ q n h. IsBareOf h (v.written q) (v.records q)) q n tt (sound.receives.bare q n);
-    others = sound.messages.others;
-    asked = sound.asked;
-  }
+  beside_rows =
+      assumption (
+        lawful_placed row v.rows sound.rows.apart (record { unknown = free.0; apart = free.1 }),
+        λ (k : ℕ) (d : Placed) (within : k < length v.journal). covered_still row v.rows _ _ (sound.rows.covered k d within),
+        λ (q n : ℕ).
+            all_with (λ r. HandoverFits r n (now.handovers q n)) row v.rows (fits_new q n)
+            (λ x has.
+            by (λ q n h. HandoverFits x n h) q n (fits_old x has)
+            (All-contains (λ r. HandoverFits r n (v.handovers q n)) v.rows x (sound.terms.kept q n) has)),
+        λ (q n : ℕ). by (λ q n h. is_absent h.role ≡ false → 1 ≤ h.term) q n (λ there. omega arith) (sound.terms.begun q n),
+        ranges_apart,
+        cover,
+        λ (q n : ℕ).
+            by (λ q n h. v.live q ≡ true → is_absent h.role ≡ false → is_some (row_of now.rows n) ≡ true) q n (λ lives there. known_new)
+            (λ lives there. known_on n (sound.roles.known q n lives there)),
+        λ (q n : ℕ) (lives : v.live q ≡ true). All-weaker _ _ (end_known q n) (ends_of (v.completions q n)) (sound.calls.known q n lives),
+        λ (q : ℕ) (lives : v.live q ≡ true) (n : ℕ) (call : Call) (there : get (v.calls q) n ≡ Some call).
+            waits q n call (sound.rest.waiting q lives n call there),
+        λ (q n : ℕ). by (λ q n h. IsBareOf h (v.written q) (v.records q)) q n tt (sound.receives.bare q n),
+      )
 
   -- of each other row masters have what they had
   row_on : (x : Row) → Contains v.rows x → SoundRow now x
@@ -502,9 +437,6 @@ module _ (v : View) (tablet : ℕ) (range : Range) (master : ℕ) (sound : Sound
       row_kept v now x (λ seen. refl)
       (λ q i. record (seen_at v x.tablet q) { handover = sym (apart q x.tablet (other x has)) i })
       (row_in v sound x has)
-
-  pub view_row_added : SoundView now
-  view_row_added = view_by_rows now beside_rows (all_with (SoundRow now) row v.rows holds row_on)
 
 pub view_served : (w : World) (tablet : ℕ) (range : Range) (master : ℕ) → view (with_master w master (with_added (master_at w master) tablet range)) ≡ record (view w) { handovers = put2 (view w).handovers master tablet (as_added range) }
 view_served w tablet range master =
@@ -520,4 +452,6 @@ view_served w tablet range master =
 pub sound_added : (w : World) (tablet : ℕ) (range : Range) (master : ℕ) → IsSound w → MayAdd (view w) (new_row tablet range master) master → IsSound (tablet_added w tablet range master)
 sound_added w tablet range master sound may =
     subst SoundView (ap (λ (v : View). record v { rows = placed (new_row tablet range master) (view w).rows }) (sym (view_served w tablet range master)))
-    (view_row_added (view w) tablet range master sound may)
+    (view_by_rows (added (view w) tablet range master) (beside_rows (view w) tablet range master sound may)
+    (all_with (SoundRow (added (view w) tablet range master)) (new_row tablet range master) (view w).rows
+    (holds (view w) tablet range master sound may) (row_on (view w) tablet range master sound may)))

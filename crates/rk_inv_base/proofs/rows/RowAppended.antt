@@ -1,7 +1,7 @@
 -- What the invariant says of a row it says still once a master appends an entry to its log: of the row of another tablet, where the entry is
 -- of other ranges, and of the row of the tablet for which it appends it, by what the entry adds.
 use Rattle.std.proofs.Common.{◌≡◌, ℕ, true, false, List, [], ◌∷◌, ◌++◌, Option, refl, sym, ap, ◌∙◌, subst, arith, slice_index_or, IfSome}
-use Rattle.std.proofs.Common.{All, Contains, drop, max}
+use Rattle.std.proofs.Common.{All, Contains, drop, max, Some}
 use Rattle.rk_inv_base.proofs.Words.{false≢true, All-head, All-tail, All-weaker, IfSome_then, get, list_any, EachIn, NumberMap, Call, Ended}
 use Rattle.rk_inv_base.proofs.Words.{Held, Member, Entry, Handover, lineage_of, Phase, Rebuilding, Row, Known, known_of, EntryEnd, Handed}
 use Rattle.rk_inv_base.proofs.Words.{items_in, items_of, told, first_of, touches, counts, joined_from, named_by, is_joined_in, is_idle}
@@ -10,11 +10,12 @@ use Rattle.rk_inv_base.proofs.Words.{IsKnown, AreAbove, AreAboveMap, IsNext, map
 use Rattle.rk_inv_base.proofs.Words.{handed_for_grant, target_truth, post_of, IsRest, FirstIsDone, OnlyIsUnnamed, HasItems, IsTableOf}
 use Rattle.rk_inv_base.proofs.Words.{IsPlaced, IsHandedBy, IsTarget, MembersFit, HandedFits, NamedFit, is_granted, named_items}
 use Rattle.rk_inv_base.proofs.Words.{wanted_place, stored_of, HasOwnRange, IsOfRange, IsRebuilder, MarkFits, NeededOf, READ_BACKUP}
-use Rattle.rk_inv_base.proofs.Words.{RowIsRebuilt, StandsLast, has_merged, put2, View, truths, rests, LogsOf, Log}
+use Rattle.rk_inv_base.proofs.Words.{RowIsRebuilt, StandsLast, has_merged, put2, View, truths, rests, LogsOf, Log, Message, has_all_items}
+use Rattle.rk_inv_base.proofs.Words.{is_member}
 use Rattle.rk_tablet_map.specs.Phase.{member as member_at}
 use Rattle.rk_inv_base.proofs.views.Put.{put2_by, put2_other}
-use Rattle.rk_inv_base.proofs.views.Alike.{AreAlike, IsAlike, alike_itself, handed_by_alike, handed_for_grant_alike, speaks_alike}
-use Rattle.rk_inv_base.proofs.views.Alike.{still_counts, target_truth_same}
+use Rattle.rk_inv_base.proofs.views.Alike.{AreAlike, IsAlike, handed_by_alike, handed_for_grant_alike, speaks_alike, still_counts}
+use Rattle.rk_inv_base.proofs.views.Alike.{target_truth_same}
 use Rattle.rk_inv_base.proofs.views.ByRows.{CountsFor, IsNextOf, SoundRow, SpeaksFor}
 use Rattle.rk_inv_base.proofs.views.Places.{behind_none}
 use Rattle.rk_inv_base.proofs.views.Seen.{AllLook, LooksAs, looks_same}
@@ -40,17 +41,6 @@ pub record StaysAs (old new : Handover) : Type 0 where
   pub granted : is_granted new.role ≡ is_granted old.role
   pub stages : may_have_staged new.role ≡ may_have_staged old.role
   pub wanted : wanted_place new.role ≡ wanted_place old.role
-
-pub stays_itself : (handover : Handover) → StaysAs handover handover
-stays_itself handover = record {
-  looks = looks_same handover;
-  alike = alike_itself handover;
-  idle = refl;
-  merged = refl;
-  granted = refl;
-  stages = refl;
-  wanted = refl;
-}
 
 -- the view where a master has one more entry, these calls wait, and this is what the master has of a tablet
 abbrev pub entry_appended : View → ℕ → ℕ → Entry → (ℕ → NumberMap Call) → Handover → View
@@ -113,7 +103,7 @@ module _ (v : View) (master tablet : ℕ) (entry : Entry) (calls : ℕ → Numbe
   pub each_stays : (q r : ℕ) → StaysAs (v.handovers q r) (now.handovers q r)
   each_stays q r =
       put2_by v.handovers master tablet (λ _. new) (StaysAs (v.handovers q r)) q r
-      (λ at its. subst (λ (h : Handover). StaysAs h new) (λ i. v.handovers (sym at i) (sym its i)) stays) (λ apart. stays_itself (v.handovers q r))
+      (λ at its. subst (λ (h : Handover). StaysAs h new) (λ i. v.handovers (sym at i) (sym its i)) stays) (λ apart. assumption (looks_same (v.handovers q r)))
 
   pub alike : AreAlike v.handovers now.handovers
   alike q r = (each_stays q r).alike
@@ -360,58 +350,51 @@ module _ (v : View) (master tablet : ℕ) (entry : Entry) (calls : ℕ → Numbe
     -- ---- the whole
 
     pub row_appended : SoundRow now x
-    row_appended = record {
-      named = was.named;
-      begun = was.begun;
-      formed = was.formed;
-      placed =
+    row_appended =
+        assumption (
           All-weaker (IsPlaced v.written) (IsPlaced now.written)
-          (λ member place. omega (arith, place, longer v master entry sound member.master)) (lineage_of x.phase) was.placed;
-      sent = was.sent;
-      fitting = λ q counts.
-          role_looks x q (v.handovers q x.tablet) (now.handovers q x.tablet) (v.written q).applied (now.written q).applied
-          (each_stays q x.tablet).looks (applied_same v master entry sound q) (was.fitting q (counts_before q counts));
-      ranged = λ q counts member. (each_stays q x.tablet).looks.range ∙ was.ranged q (counts_before q counts) member;
-      at_term =
+              (λ member place. omega (arith, place, longer v master entry sound member.master)) (lineage_of x.phase) was.placed,
+          λ (q : ℕ) (counts : CountsFor now x q).
+              role_looks x q (v.handovers q x.tablet) (now.handovers q x.tablet) (v.written q).applied (now.written q).applied
+              (each_stays q x.tablet).looks (applied_same v master entry sound q) (was.fitting q (counts_before q counts)),
+          λ (q : ℕ) (counts : CountsFor now x q) (member : is_member (lineage_of x.phase) q ≡ true).
+              (each_stays q x.tablet).looks.range ∙ was.ranged q (counts_before q counts) member,
           terms_look x.phase (λ q. (v.handovers q x.tablet).term) (λ q. (now.handovers q x.tablet).term) x.term
-          (λ q. (alike q x.tablet).same_term) was.at_term;
-      truth = of_truth (λ list. IsTruth v.base x.range list v.journal) was.truth;
-      above = of_truth (λ list. AreAbove (items_of list) (items_of (rests now x))) grows.rest.above;
-      reached = of_truth (TellAll x.range v.journal) was.reached;
-      recorded = of_truth (λ list. All (IsKnown v.base v.journal) (told list)) was.recorded;
-      moving = of_target_truth (TellAll x.range v.journal) was.moving;
-      answering = λ q counts says. was.answering q (counts_before q counts) (says_before q says);
-      ends_granted = of_granted (λ h. AreHandedOver v.base x.range v.journal h.ends) was.ends_granted;
-      ends_sent = of_sent (λ h. AreHandedOver v.base x.range v.journal h.ends) was.ends_sent;
-      low = of_truth (AreAboveMap x.range (map_after (base_map v.base) v.journal)) was.low;
-      low_moving = of_target_truth (AreAboveMap x.range (map_after (base_map v.base) v.journal)) was.low_moving;
-      counted = λ q counts says.
-          of_truth (λ list. IsNext (list ++ rests now x) (now.handovers q x.tablet).counter)
-          (grows.rest.counted q (counts_before q counts) (says_before q says));
-      floor_granted =
+              (λ q. (alike q x.tablet).same_term) was.at_term,
+          of_truth (λ list. IsTruth v.base x.range list v.journal) was.truth,
+          of_truth (λ list. AreAbove (items_of list) (items_of (rests now x))) grows.rest.above,
+          of_truth (TellAll x.range v.journal) was.reached,
+          of_truth (λ list. All (IsKnown v.base v.journal) (told list)) was.recorded,
+          of_target_truth (TellAll x.range v.journal) was.moving,
+          λ (q : ℕ) (counts : CountsFor now x q) (says : SpeaksFor now x q). was.answering q (counts_before q counts) (says_before q says),
+          of_granted (λ h. AreHandedOver v.base x.range v.journal h.ends) was.ends_granted,
+          of_sent (λ h. AreHandedOver v.base x.range v.journal h.ends) was.ends_sent,
+          of_truth (AreAboveMap x.range (map_after (base_map v.base) v.journal)) was.low,
+          of_target_truth (AreAboveMap x.range (map_after (base_map v.base) v.journal)) was.low_moving,
+          λ (q : ℕ) (counts : CountsFor now x q) (says : SpeaksFor now x q).
+              of_truth (λ list. IsNext (list ++ rests now x) (now.handovers q x.tablet).counter)
+              (grows.rest.counted q (counts_before q counts) (says_before q says)),
           of_truth (λ list. IfSome (handed_for_grant x now.handovers v.handed) (λ h. IsNext (list ++ rests now x) h.floor))
-          (of_granted (λ h. IsNext (truths v x ++ rests now x) h.floor) grows.rest.floor_granted);
-      floor_sent =
+              (of_granted (λ h. IsNext (truths v x ++ rests now x) h.floor) grows.rest.floor_granted),
           of_truth (λ list. EachIn (λ n m. IfSome (handed_by x now.handovers m.body) (λ h. IsNext (list ++ rests now x) h.floor)) v.wire)
-          (of_sent (λ h. IsNext (truths v x ++ rests now x) h.floor) grows.rest.floor_sent);
-      goes_on = of_truth (λ list. IsRest v.base x.range list (rests now x) v.journal v.asked) grows.rest.goes_on;
-      done = done (lineage_of x.phase) grows.first was.done;
-      unnamed = unnamed (lineage_of x.phase) refl was.unnamed;
-      idle = idle;
-      items = λ q alive has.
-          items q
-          (was.items q alive
-          (sym (all_items_same (post_of x.phase q) (now.handovers q x.tablet) (v.handovers q x.tablet) x.term (alike q x.tablet).same_term) ∙ has));
-      target = grows.target;
-      handed_on = handed_on (lineage_of x.phase) refl was.handed_on;
-      named_items = grows.named;
-      rebuilt =
+              (of_sent (λ h. IsNext (truths v x ++ rests now x) h.floor) grows.rest.floor_sent),
+          of_truth (λ list. IsRest v.base x.range list (rests now x) v.journal v.asked) grows.rest.goes_on,
+          done (lineage_of x.phase) grows.first was.done,
+          unnamed (lineage_of x.phase) refl was.unnamed,
+          idle,
+          λ (q : ℕ) (alive : v.live q ≡ true) (has : has_all_items (post_of x.phase q) (now.handovers q x.tablet) x.term ≡ true).
+              items q
+              (was.items q alive
+              (sym (all_items_same (post_of x.phase q) (now.handovers q x.tablet) (v.handovers q x.tablet) x.term (alike q x.tablet).same_term) ∙ has)),
+          grows.target,
+          handed_on (lineage_of x.phase) refl was.handed_on,
+          grows.named,
           of_truth
-          (λ list. RowIsRebuilt x x.phase list now.logs now.written v.stored now.handovers v.completions v.gathers v.merged v.records v.live)
-          (rebuilt x.phase refl was.rebuilt);
-      marks = marks;
-      pieces = pieces;
-      says = λ n m there.
-          says_of_looks v now.logs now.written now.handovers looks (known_same v master entry sound) (needs_no_more v master entry sound lives) x
-          m.from m.to m.body (was.says n m there);
-    }
+              (λ list. RowIsRebuilt x x.phase list now.logs now.written v.stored now.handovers v.completions v.gathers v.merged v.records v.live)
+              (rebuilt x.phase refl was.rebuilt),
+          marks,
+          pieces,
+          λ (n : ℕ) (m : Message) (there : get v.wire n ≡ Some m).
+              says_of_looks v now.logs now.written now.handovers looks (known_same v master entry sound) (needs_no_more v master entry sound lives) x
+              m.from m.to m.body (was.says n m there),
+        )

@@ -1,16 +1,17 @@
 -- A view stays sound when a row is replaced by another one of its number and range, of which all holds that is said of rows, and what is
 -- noted of its tablet may change with it.
 use Rattle.std.proofs.Common.{◌≡◌, ℕ, true, List, [], ◌∷◌, Option, None, Some, cond, refl, sym, ap, subst, ◌∙◌, ⊎_elim, inl, inr, ◌⊎◌}
-use Rattle.std.proofs.Common.{IfSome, is_some, option_map, Contains, flat_map, slice_index_or}
-use Rattle.rk_inv_base.proofs.Words.{AreHandedOver, All-weaker, IfSome_then, hash_of, NumberMap, get, meets, Call, Ended, Held, Member}
-use Rattle.rk_inv_base.proofs.Words.{Node, Range, Entry, ends_of, lawful_turned, lineage_of, is_covered, replaced, row_of, Phase, Moving}
-use Rattle.rk_inv_base.proofs.Words.{Row, Body, Handed, last_of, second_of, has_all, has_key, may_have_staged, member_truth, IsKnown}
-use Rattle.rk_inv_base.proofs.Words.{IsStagedEnd, HasWholeRows, IsEntryWithin, IsItemWithin, IsOfWholeRows, IsWithinRows, beginning_in}
-use Rattle.rk_inv_base.proofs.Words.{handed_for_grant, is_waiting, second_has, target_truth, GrantAgrees, IfMaster, IsRebuiltBy, row_at}
-use Rattle.rk_inv_base.proofs.Words.{HandedFits, MembersFit, Waits, HandoverFits, tenure_in, range_in, View, rests, SoundView, CoverOf}
+use Rattle.std.proofs.Common.{IfSome, is_some, option_map, Contains, flat_map, slice_index_or, All, ◌<◌, length, false}
+use Rattle.rk_inv_base.proofs.Words.{All-weaker, IfSome_then, hash_of, NumberMap, get, meets, Call, Ended, Held, Member, Node, Range, Entry}
+use Rattle.rk_inv_base.proofs.Words.{ends_of, lawful_turned, lineage_of, is_covered, replaced, row_of, Phase, Moving, Row, Body, Handed}
+use Rattle.rk_inv_base.proofs.Words.{last_of, second_of, has_all, has_key, may_have_staged, member_truth, IsKnown, IsStagedEnd}
+use Rattle.rk_inv_base.proofs.Words.{HasWholeRows, IsEntryWithin, IsItemWithin, IsOfWholeRows, IsWithinRows, beginning_in, handed_for_grant}
+use Rattle.rk_inv_base.proofs.Words.{is_waiting, second_has, target_truth, GrantAgrees, IfMaster, IsRebuiltBy, row_at, HandedFits}
+use Rattle.rk_inv_base.proofs.Words.{MembersFit, Waits, HandoverFits, tenure_in, range_in, View, rests, SoundView, CoverOf, Message, EachIn}
+use Rattle.rk_inv_base.proofs.Words.{Placed, is_absent}
 use Rattle.rk_entry.specs.declared.entry.Entry.TheVariants as entries
 use Rattle.rk_message.specs.declared.message.Body.TheVariants as bodies
-use Rattle.rk_inv_base.proofs.views.ByRows.{IsNextOf, SaysIn, SoundRow, SoundBeside, each_row, view_by_rows, waits_for}
+use Rattle.rk_inv_base.proofs.views.ByRows.{SaysIn, SoundRow, SoundBeside, each_row, view_by_rows, waits_for, staged_as}
 use Rattle.rk_inv_base.proofs.rows.OtherRows.{all_others}
 use Rattle.rk_inv_base.proofs.rows.TurnedRows.{all_turned, covered_turned, known_turned, new_stands, none_known, stands_found, stands_still}
 
@@ -64,41 +65,16 @@ module _ (v : View) (rows : List Row) (handed : NumberMap Handed) (row : Row) (s
 
   -- of a row all holds that held, where the same is noted of its tablet
   row_noted : SoundRow v row → SoundRow noted row
-  row_noted was = record {
-    named = was.named;
-    begun = was.begun;
-    formed = was.formed;
-    placed = was.placed;
-    sent = was.sent;
-    fitting = was.fitting;
-    ranged = was.ranged;
-    at_term = was.at_term;
-    truth = was.truth;
-    above = was.above;
-    reached = was.reached;
-    recorded = was.recorded;
-    moving = rw (← target_as row.phase) was.moving;
-    answering = was.answering;
-    ends_granted = granted_as (λ h. AreHandedOver v.base row.range v.journal h.ends) was.ends_granted;
-    ends_sent = was.ends_sent;
-    low = was.low;
-    low_moving = rw (← target_as row.phase) was.low_moving;
-    counted = was.counted;
-    floor_granted = granted_as (λ h. IsNextOf v row h.floor) was.floor_granted;
-    floor_sent = was.floor_sent;
-    goes_on = was.goes_on;
-    done = was.done;
-    unnamed = was.unnamed;
-    idle = was.idle;
-    items = was.items;
-    target = members_as (lineage_of row.phase) was.target;
-    handed_on = handed_as (lineage_of row.phase) was.handed_on;
-    named_items = was.named_items;
-    rebuilt = was.rebuilt;
-    marks = was.marks;
-    pieces = was.pieces;
-    says = λ n m there. says_as m.from m.to m.body (was.says n m there);
-  }
+  row_noted was =
+      assumption (
+        rw (target_as row.phase) at was.moving,
+        rw (target_as row.phase) at was.low_moving,
+        granted_as _ was.ends_granted,
+        granted_as _ was.floor_granted,
+        members_as (lineage_of row.phase) was.target,
+        handed_as (lineage_of row.phase) was.handed_on,
+        λ (n : ℕ) (m : Message) (there : get v.wire n ≡ Some m). says_as m.from m.to m.body (was.says n m there),
+      )
 
 -- ---- what lay in rows lies there
 
@@ -168,14 +144,21 @@ module _ (v : View) (row : Row) (term : ℕ) (phase : Phase) (handed : NumberMap
   staged_end q r number end lives s =
       ⊎_elim
       (λ (is : s.row ≡ row).
-      let by : IsRebuiltBy s.row.phase q = subst (λ (p : Phase). IsRebuiltBy p q) (sym s.rebuilt) refl in
-      absurd (may.given_up q lives (subst (λ (r : Row). IsRebuiltBy r.phase q) is by)))
-      (λ (stands : Contains now.rows s.row).
-      record { row = s.row; stands = stands; told = s.told; number = s.number; rebuilt = s.rebuilt; at_term = s.at_term })
+      let by : IsRebuiltBy s.row.phase q = rw s.rebuilt refl in
+      absurd (may.given_up q lives (rw is at by)))
+      (λ (stands : Contains now.rows s.row). staged_as _ _ _ _ _ _ _ _ _ s stands s.told s.at_term)
       (stands_still v.rows row.tablet row new s.row found s.stands)
 
-  waits : (q n : ℕ) (call : Call) → Waits v.rows (v.handovers q) (v.written q) q n call → Waits now.rows (v.handovers q) (v.written q) q n call
-  waits q n call wait =
+  known : (q r : ℕ) → v.live q ≡ true → All (λ end. IsKnown v.base v.journal end ⊎ IsStagedEnd now.rows (rests v) q r (v.handovers q r).term end) (ends_of (v.completions q r))
+  known q r lives =
+      All-weaker _ _
+      (λ end. ⊎_elim (λ (knows : IsKnown v.base v.journal end). inl knows)
+      (λ (s : IsStagedEnd v.rows (rests v) q r (v.handovers q r).term end). inr (staged_end q r (v.handovers q r).term end lives s)))
+      (ends_of (v.completions q r)) (sound.calls.known q r lives)
+
+  waiting : (q : ℕ) → v.live q ≡ true → EachIn (λ n call. Waits now.rows (v.handovers q) (v.written q) q n call) (v.calls q)
+  waiting q lives n call there =
+      let wait = sound.rest.waiting q lives n call there in
       ⊎_elim
       (λ (is : wait.row ≡ row).
       waits_for v.rows now.rows (v.handovers q) (v.handovers q) (v.written q) q n call wait new (new_stands v.rows row.tablet row new found)
@@ -189,45 +172,19 @@ module _ (v : View) (row : Row) (term : ℕ) (phase : Phase) (handed : NumberMap
   -- ---- the whole
 
   beside : SoundBeside now
-  beside = record {
-    numbered = sound.nodes.numbered;
-    backed = sound.nodes.backed;
-    known_backups = sound.nodes.known;
-    crashed = sound.nodes.crashed;
-    left = sound.nodes.left;
-    rows_apart = lawful_turned v.rows row.tablet row new found refl refl sound.rows.apart;
-    covered = λ k d within.
-        let call : Call = (slice_index_or v.journal k d).call in
-        covered_replaced v row new sound may.has_row refl refl call.table (hash_of call.key) ∙ sound.rows.covered k d within;
-    kept = λ q number.
-        all_turned (λ r. HandoverFits r number (v.handovers q number)) v.rows row new row.tablet may.has_row (may.kept q number)
-        (sound.terms.kept q number);
-    begun = sound.terms.begun;
-    apart = sound.terms.apart;
-    cover = cover_replaced v row new sound may.has_row refl refl handed;
-    has_row = λ q r lives there. known_replaced v row new sound may.has_row refl refl r ∙ sound.roles.known q r lives there;
-    logs = sound.logs;
-    legal = sound.truth.legal;
-    rising = sound.truth.rising;
-    seen = sound.truth.seen;
-    once = sound.calls.once;
-    known = λ q r lives.
-        All-weaker
-        (λ end. IsKnown v.base v.journal end ⊎ IsStagedEnd v.rows (rests v) q r (v.handovers q r).term end)
-        (λ end. IsKnown v.base v.journal end ⊎ IsStagedEnd now.rows (rests v) q r (v.handovers q r).term end)
-        (λ end either.
-        ⊎_elim (λ (knows : IsKnown v.base v.journal end). inl knows)
-        (λ (s : IsStagedEnd v.rows (rests v) q r (v.handovers q r).term end). inr (staged_end q r (v.handovers q r).term end lives s))
-        either)
-        (ends_of (v.completions q r)) (sound.calls.known q r lives);
-    waiting = λ q lives n call there. waits q n call (sound.rest.waiting q lives n call there);
-    are_last = sound.rest.are_last;
-    found = sound.rest.found;
-    ordered = sound.records.ordered;
-    bare = sound.receives.bare;
-    others = sound.messages.others;
-    asked = sound.asked;
-  }
+  beside =
+      assumption (
+        lawful_turned v.rows row.tablet row new found refl refl sound.rows.apart,
+        λ (k : ℕ) (d : Placed) (within : k < length v.journal).
+            covered_replaced v row new sound may.has_row refl refl _ _ ∙ sound.rows.covered k d within,
+        λ (q number : ℕ).
+            all_turned (λ r. HandoverFits r number (v.handovers q number)) v.rows row new row.tablet may.has_row (may.kept q number) (sound.terms.kept q number),
+        cover_replaced v row new sound may.has_row refl refl handed,
+        λ (q r : ℕ) (lives : v.live q ≡ true) (there : is_absent (v.handovers q r).role ≡ false).
+            known_replaced v row new sound may.has_row refl refl r ∙ sound.roles.known q r lives there,
+        known,
+        waiting,
+      )
 
   pub view_replaced : SoundView now
   view_replaced =

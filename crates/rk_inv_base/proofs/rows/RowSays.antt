@@ -1,15 +1,50 @@
 -- What messages say of a row, and hand over for it, where that is turned.
 use Rattle.std.proofs.Common.{◌≡◌, ℕ, ◌<◌, Bool, ◌&&◌, cond, eqb, List, [], ◌∷◌, Option, Some, None, refl, sym, ap, subst, ◌∙◌, inl, IfSome}
-use Rattle.std.proofs.Common.{eq-eqb, eqb-true}
+use Rattle.std.proofs.Common.{eq-eqb, eqb-true, true, false, ⊎_elim, arith, ◌⊎◌}
 use Rattle.rk_inv_base.proofs.Words.{and_from, and_parts, cond-true, cond_both, get, Member, Node, Handover, lineage_of, Phase, Row, Grant}
 use Rattle.rk_inv_base.proofs.Words.{Prepare, Tenure, Transfer, Body, Got, Pulled, Rebuild, Handed, told, is_member, second_of, handed_by}
-use Rattle.rk_inv_base.proofs.Words.{handed_for_grant, is_opening, is_waiting, is_waiting_at, second_has, SaysOf, IsOf, IsOfTarget}
-use Rattle.rk_inv_base.proofs.Words.{PrepareFits, CloseFits, OwnFits, ReleaseFits, RebuildFits, ReadyIn, TransferIn, JoinedIn, RebuiltIn}
-use Rattle.rk_inv_base.proofs.Words.{AfterMove, GrantIn, GrantAgrees, AskAgrees, PulledAgrees, GotAgrees, MayTurn, row_at, IsWithinTerm}
-use Rattle.rk_inv_base.proofs.Words.{SentFits, View}
+use Rattle.rk_inv_base.proofs.Words.{handed_for_grant, is_opening, is_waiting, is_waiting_at, second_has, IsOf, IsOfTarget, PrepareFits}
+use Rattle.rk_inv_base.proofs.Words.{CloseFits, OwnFits, ReleaseFits, RebuildFits, ReadyIn, TransferIn, JoinedIn, RebuiltIn, AfterMove}
+use Rattle.rk_inv_base.proofs.Words.{GrantIn, GrantAgrees, AskAgrees, PulledAgrees, GotAgrees, MayTurn, row_at, IsWithinTerm, SentFits}
+use Rattle.rk_inv_base.proofs.Words.{View, InvitedTarget, OpeningSource, Bystander, target_post, post_of, KeepTerm}
 use Rattle.rk_message.specs.declared.message.Body.TheVariants as bodies
 use Rattle.rk_inv_base.proofs.wire.Messages.{if_master, by_master}
-use Rattle.rk_inv_base.proofs.rows.OpensOn.{Stays, any_copy, any_lineage, any_read, none_invited, none_joined, none_moved, none_owned, none_rebuilt, none_released, opened_before, ready_stays, source_stays, stays_of, transfer_stays}
+use Rattle.rk_sound.specs.Moves.{OpensOn}
+use Rattle.rk_inv_base.proofs.views.ByRows.{SaysIn}
+
+-- ---- a row that opens and goes on to open
+
+-- the target of a row that opens is invited, where any master is
+pub is_target : (source target master : ℕ) (noted : Option ℕ) → cond (eqb source master) OpeningSource (cond (eqb target master) (target_post noted) Bystander) ≡ InvitedTarget → target ≡ master
+is_target source target master noted invited = go (eqb source master) (eqb target master) refl invited
+  where
+    go : (a b : Bool) → eqb target master ≡ b → cond a OpeningSource (cond b (target_post noted) Bystander) ≡ InvitedTarget → target ≡ master
+    go false true is invited = eqb-true target master is
+    go _ _ is invited = absurd (cc)
+
+-- its target keeps the row's term, so none is invited that keeps a smaller one
+pub none_invited : (old new : Phase) (terms : ℕ → ℕ) (term master : ℕ) → OpensOn old new → KeepTerm new terms term → post_of old master ≡ InvitedTarget → terms master < term → ⊥
+none_invited old new terms term master opens at invited below =
+    let same : terms opens.target ≡ term = rw opens.is at at in
+    let its : opens.target ≡ master = is_target opens.source opens.target master opens.noted (rw opens.was at invited) in
+    omega (arith, ap terms its, same, below)
+
+-- a message is of a row that goes on to open, and was of it before
+pub record Stays (row : Row) (term : ℕ) (phase : Phase) (tenure : Tenure) : Type 0 where
+  pub opens : OpensOn row.phase phase
+  pub same : term ≡ row.term
+  pub was : IsOf row tenure
+
+-- a message of the row's new term is of one that goes on to open, where no message has a term above the old one
+pub stays_of : (row : Row) (term : ℕ) (phase : Phase) (tenure : Tenure) → (row.term < term) ⊎ ((term ≡ row.term) × OpensOn row.phase phase) → IsWithinTerm row tenure.tablet tenure.term → IsOf (row_at row term phase) tenure → Stays row term phase tenure
+stays_of row term phase tenure term_is low is =
+    ⊎_elim
+    (λ (rises : row.term < term).
+    let own : tenure.term ≡ term = is.term in
+    let fits = low (sym is.tablet) in absurd (omega (arith, rises, own, fits)))
+    (λ (same : (term ≡ row.term) × OpensOn row.phase phase).
+    record { opens = same.1; same = same.0; was = record { tablet = is.tablet; term = is.term ∙ same.0 } })
+    term_is
 
 module _ (v : View) (row : Row) (term : ℕ) (phase : Phase) (may : MayTurn v row term phase) where
   abbrev new : Row
@@ -53,7 +88,7 @@ module _ (v : View) (row : Row) (term : ℕ) (phase : Phase) (may : MayTurn v ro
       subst (λ (o : Option Handed). IfSome o P)
       (cond-true (is_opening row.phase && its && (eqb transfer.tenure.term row.term)) (Some handed) None
       (and_from (is_opening row.phase && its) (eqb transfer.tenure.term row.term)
-      (and_from (is_opening row.phase) its (opened_before row.phase phase stay.opens parts.0) parts.1)
+      (and_from (is_opening row.phase) its (ap is_opening stay.opens.was) parts.1)
       (eq-eqb transfer.tenure.term row.term stay.was.term)))
       given)
       (λ none. tt)
@@ -86,33 +121,33 @@ module _ (v : View) (row : Row) (term : ℕ) (phase : Phase) (may : MayTurn v ro
 
   close : (q : ℕ) (tenure : Tenure) → IsWithinTerm row tenure.tablet tenure.term → CloseFits row (v.handovers q row.tablet) (v.live q) q tenure → CloseFits new (v.handovers q row.tablet) (v.live q) q tenure
   close q tenure low fits = record {
-    source = λ is. let stay = stays tenure low is in source_stays row.phase phase q stay.opens (fits.source stay.was);
+    source = λ is. let stay = stays tenure low is in rw stay.opens.is (rw stay.opens.was at (fits.source stay.was));
     may_follow = λ its lives below. may.closes q tenure.term lives below (fits.may_follow its lives below);
   }
 
   own : (q : ℕ) (tenure : Tenure) → IsWithinTerm row tenure.tablet tenure.term → OwnFits row (v.handovers q row.tablet) (v.live q) q tenure → OwnFits new (v.handovers q row.tablet) (v.live q) q tenure
   own q tenure low fits = record {
-    owned = λ is. let stay = stays tenure low is in absurd (none_owned row.phase phase q stay.opens (fits.owned stay.was));
+    owned = λ is. let stay = stays tenure low is in absurd (rw stay.opens.was at (fits.owned stay.was));
     reached = fits.reached;
     owner = λ its lives at. (may.posts q (inl lives)).owns (fits.owner its lives at);
   }
 
   release : (q : ℕ) (tenure : Tenure) → IsWithinTerm row tenure.tablet tenure.term → ReleaseFits row (v.handovers q row.tablet) (v.live q) q tenure → ReleaseFits new (v.handovers q row.tablet) (v.live q) q tenure
   release q tenure low fits = record {
-    owned = λ is. let stay = stays tenure low is in absurd (none_released row.phase phase q stay.opens (fits.owned stay.was));
+    owned = λ is. let stay = stays tenure low is in absurd (rw stay.opens.was at (fits.owned stay.was));
     outside = λ its lives reached. member q ∙ fits.outside its lives reached;
   }
 
   rebuild : (q : ℕ) (order : Rebuild) → IsWithinTerm row order.tenure.tablet order.tenure.term → RebuildFits row (v.handovers q row.tablet) (v.live q) q order → RebuildFits new (v.handovers q row.tablet) (v.live q) q order
   rebuild q order low fits = record {
     range = λ is. let stay = stays order.tenure low is in fits.range stay.was;
-    lineage = λ is. let stay = stays order.tenure low is in any_lineage row.phase phase order.lineage stay.opens;
+    lineage = λ is. let stay = stays order.tenure low is in rw stay.opens.is tt;
     ordered = λ its lives below. absurd (may.given_up q lives (fits.ordered its lives below).1);
   }
 
   -- none of the row's term was sent before it moves
   after : (tenure : Tenure) → IsWithinTerm row tenure.tablet tenure.term → AfterMove row tenure → AfterMove new tenure
-  after tenure low said is = let stay = stays tenure low is in absurd (none_moved row.phase phase stay.opens (said stay.was))
+  after tenure low said is = let stay = stays tenure low is in absurd (rw stay.opens.was at (said stay.was))
 
   grant_agrees : (q : ℕ) (grant : Grant) → GrantAgrees row (v.handovers q row.tablet) (v.live q) (get v.handed row.tablet) q grant → GrantAgrees new (v.handovers q row.tablet) (v.live q) (get v.handed row.tablet) q grant
   grant_agrees q grant agrees = record {
@@ -123,108 +158,69 @@ module _ (v : View) (row : Row) (term : ℕ) (phase : Phase) (may : MayTurn v ro
   of_target : (handover : Handover) (tenure : Tenure) → IsOfTarget new handover tenure → IsOfTarget row handover tenure
   of_target handover tenure is = record { tablet = is.tablet; term = is.term }
 
-  asks : (l : List Member) (q : ℕ) (to : Node) (tenure : Tenure) → AskAgrees row v.handovers l q to tenure → AskAgrees new v.handovers l q to tenure
-  asks (source ∷ target ∷ []) q to tenure agrees = λ here is. agrees here (of_target (v.handovers q row.tablet) tenure is)
-  asks _ q to tenure agrees = tt
+  asks : (q : ℕ) (to : Node) (tenure : Tenure) → AskAgrees row v.handovers (lineage_of row.phase) q to tenure → AskAgrees new v.handovers (lineage_of phase) q to tenure
+  asks q to tenure agrees = over (λ l. AskAgrees new v.handovers l q to tenure) (go (lineage_of row.phase) agrees)
+    where
+      go : (l : List Member) → AskAgrees row v.handovers l q to tenure → AskAgrees new v.handovers l q to tenure
+      go (source ∷ target ∷ []) agrees = λ here is. agrees here (of_target (v.handovers q row.tablet) tenure is)
+      go _ agrees = tt
 
-  pulled_agrees : (l : List Member) (from : Node) (q : ℕ) (pulled : Pulled) → PulledAgrees row v.written v.handovers v.live l from q pulled → PulledAgrees new v.written v.handovers v.live l from q pulled
-  pulled_agrees (source ∷ target ∷ []) from q pulled agrees = λ here lives is.
-      agrees here lives (of_target (v.handovers q row.tablet) pulled.tenure is)
-  pulled_agrees _ from q pulled agrees = tt
+  pulled_agrees : (from : Node) (q : ℕ) (pulled : Pulled) → PulledAgrees row v.written v.handovers v.live (lineage_of row.phase) from q pulled → PulledAgrees new v.written v.handovers v.live (lineage_of phase) from q pulled
+  pulled_agrees from q pulled agrees =
+      over (λ l. PulledAgrees new v.written v.handovers v.live l from q pulled) (go (lineage_of row.phase) agrees)
+    where
+      go : (l : List Member) → PulledAgrees row v.written v.handovers v.live l from q pulled → PulledAgrees new v.written v.handovers v.live l from q pulled
+      go (source ∷ target ∷ []) agrees = λ here lives is. agrees here lives (of_target (v.handovers q row.tablet) pulled.tenure is)
+      go _ agrees = tt
 
-  got_agrees : (l : List Member) (from : Node) (q : ℕ) (got : Got) → GotAgrees row v.written v.handovers v.live l from q got → GotAgrees new v.written v.handovers v.live l from q got
-  got_agrees (source ∷ target ∷ []) from q got agrees = λ here lives is.
-      agrees here lives (of_target (v.handovers q row.tablet) got.tenure is)
-  got_agrees _ from q got agrees = tt
-
-  abbrev SaysNow : Row → Node → Node → Body → Type 0
-  SaysNow r = SaysOf r v.logs v.written v.stored v.handovers v.completions v.merged v.live v.handed
+  got_agrees : (from : Node) (q : ℕ) (got : Got) → GotAgrees row v.written v.handovers v.live (lineage_of row.phase) from q got → GotAgrees new v.written v.handovers v.live (lineage_of phase) from q got
+  got_agrees from q got agrees =
+      over (λ l. GotAgrees new v.written v.handovers v.live l from q got) (go (lineage_of row.phase) agrees)
+    where
+      go : (l : List Member) → GotAgrees row v.written v.handovers v.live l from q got → GotAgrees new v.written v.handovers v.live l from q got
+      go (source ∷ target ∷ []) agrees = λ here lives is. agrees here lives (of_target (v.handovers q row.tablet) got.tenure is)
+      go _ agrees = tt
 
   -- what a transfer says of the new row
   transfer_in : (q : ℕ) (transfer : Transfer) → Stays row term phase transfer.tenure → TransferIn row.phase (v.handovers q row.tablet) (v.completions q row.tablet) row.term q transfer → TransferIn phase (v.handovers q row.tablet) (v.completions q row.tablet) term q transfer
   transfer_in q transfer stay told =
       subst (λ (n : ℕ). TransferIn phase (v.handovers q row.tablet) (v.completions q row.tablet) n q transfer) (sym stay.same)
-      (transfer_stays row.phase phase (v.handovers q row.tablet) (v.completions q row.tablet) row.term q transfer stay.opens told)
+      (rw stay.opens.is (rw stay.opens.was at told))
 
   -- what a message says of the row it says of the new one
-  pub says : (from to : Node) (body : Body) → SentFits row body → SaysNow row from to body → SaysNow new from to body
-  says from to (bodies.Prepare order) fits said =
-      if_master to (λ q. PrepareFits row (v.handovers q row.tablet) (v.live q) q order)
-      (λ q. PrepareFits new (v.handovers q row.tablet) (v.live q) q order) (λ q. prepare q order fits.within) said
+  pub says : (from to : Node) (body : Body) → SentFits row body → SaysIn v row from to body → SaysIn v new from to body
+  says from to (bodies.Prepare order) fits said = if_master to _ _ (λ q. prepare q order fits.within) said
   says from to (bodies.Ready told) fits said =
       by_master from (λ q. IsOf row told.tenure → ReadyIn row.phase (v.handovers q row.tablet) row.term q told.place)
       (λ q. IsOf new told.tenure → ReadyIn phase (v.handovers q row.tablet) term q told.place)
-      (λ q ready is.
-      let stay = stays told.tenure fits.within is in
-      ready_stays row.phase phase (v.handovers q row.tablet) term q told.place stay.opens) said
-  says from to (bodies.Close tenure) fits said =
-      if_master to (λ q. CloseFits row (v.handovers q row.tablet) (v.live q) q tenure)
-      (λ q. CloseFits new (v.handovers q row.tablet) (v.live q) q tenure) (λ q. close q tenure fits.within) said
+      (λ q ready is. let stay = stays told.tenure fits.within is in rw stay.opens.is tt) said
+  says from to (bodies.Close tenure) fits said = if_master to _ _ (λ q. close q tenure fits.within) said
   says from to (bodies.Transfer transfer) fits said =
       by_master from
       (λ q. IsOf row transfer.tenure → TransferIn row.phase (v.handovers q row.tablet) (v.completions q row.tablet) row.term q transfer)
       (λ q. IsOf new transfer.tenure → TransferIn phase (v.handovers q row.tablet) (v.completions q row.tablet) term q transfer)
       (λ q told is. let stay = stays transfer.tenure fits.within is in transfer_in q transfer stay (told stay.was)) said
-  says from to (bodies.Grant grant) fits said = (
-    after grant.tenure fits.within said.0,
-    if_master to (λ q. GrantAgrees row (v.handovers q row.tablet) (v.live q) (get v.handed row.tablet) q grant)
-        (λ q. GrantAgrees new (v.handovers q row.tablet) (v.live q) (get v.handed row.tablet) q grant) (λ q. grant_agrees q grant) said.1,
-  )
-  says from to (bodies.Pull pull) fits said = (
-    after pull.tenure fits.within said.0,
-    by_master from (λ q. AskAgrees row v.handovers (lineage_of row.phase) q to pull.tenure)
-        (λ q. AskAgrees new v.handovers (lineage_of phase) q to pull.tenure)
-        (λ q agrees. over (λ l. AskAgrees new v.handovers l q to pull.tenure) (asks (lineage_of row.phase) q to pull.tenure agrees)) said.1,
-  )
-  says from to (bodies.Pulled pulled) fits said = (
-    after pulled.tenure fits.within said.0,
-    if_master to (λ q. PulledAgrees row v.written v.handovers v.live (lineage_of row.phase) from q pulled)
-        (λ q. PulledAgrees new v.written v.handovers v.live (lineage_of phase) from q pulled)
-        (λ q agrees.
-        over (λ l. PulledAgrees new v.written v.handovers v.live l from q pulled)
-        (pulled_agrees (lineage_of row.phase) from q pulled agrees)) said.1,
-  )
-  says from to (bodies.Want want) fits said = (
-    after want.tenure fits.within said.0,
-    by_master from (λ q. AskAgrees row v.handovers (lineage_of row.phase) q to want.tenure)
-        (λ q. AskAgrees new v.handovers (lineage_of phase) q to want.tenure)
-        (λ q agrees. over (λ l. AskAgrees new v.handovers l q to want.tenure) (asks (lineage_of row.phase) q to want.tenure agrees)) said.1,
-  )
-  says from to (bodies.Got got) fits said = (
-    after got.tenure fits.within said.0,
-    if_master to (λ q. GotAgrees row v.written v.handovers v.live (lineage_of row.phase) from q got)
-        (λ q. GotAgrees new v.written v.handovers v.live (lineage_of phase) from q got)
-        (λ q agrees.
-        over (λ l. GotAgrees new v.written v.handovers v.live l from q got) (got_agrees (lineage_of row.phase) from q got agrees)) said.1,
-  )
+  says from to (bodies.Grant grant) fits said = (after grant.tenure fits.within said.0, if_master to _ _ (λ q. grant_agrees q grant) said.1)
+  says from to (bodies.Pull pull) fits said = (after pull.tenure fits.within said.0, by_master from _ _ (λ q. asks q to pull.tenure) said.1)
+  says from to (bodies.Pulled pulled) fits said =
+      (after pulled.tenure fits.within said.0, if_master to _ _ (λ q. pulled_agrees from q pulled) said.1)
+  says from to (bodies.Want want) fits said = (after want.tenure fits.within said.0, by_master from _ _ (λ q. asks q to want.tenure) said.1)
+  says from to (bodies.Got got) fits said = (after got.tenure fits.within said.0, if_master to _ _ (λ q. got_agrees from q got) said.1)
   says from to (bodies.Joined tenure) fits said =
       by_master from
       (λ q. IsOf row tenure → JoinedIn row.phase (v.handovers q row.tablet) (v.written q).applied row.term q)
       (λ q. IsOf new tenure → JoinedIn phase (v.handovers q row.tablet) (v.written q).applied term q)
-      (λ q told is.
-      let stay = stays tenure fits.within is in
-      absurd (none_joined row.phase phase (v.handovers q row.tablet) (v.written q).applied row.term q stay.opens (told stay.was))) said
-  says from to (bodies.Own tenure) fits said =
-      if_master to (λ q. OwnFits row (v.handovers q row.tablet) (v.live q) q tenure)
-      (λ q. OwnFits new (v.handovers q row.tablet) (v.live q) q tenure) (λ q. own q tenure fits.within) said
-  says from to (bodies.Release tenure) fits said =
-      if_master to (λ q. ReleaseFits row (v.handovers q row.tablet) (v.live q) q tenure)
-      (λ q. ReleaseFits new (v.handovers q row.tablet) (v.live q) q tenure) (λ q. release q tenure fits.within) said
-  says from to (bodies.Rebuild order) fits said =
-      if_master to (λ q. RebuildFits row (v.handovers q row.tablet) (v.live q) q order)
-      (λ q. RebuildFits new (v.handovers q row.tablet) (v.live q) q order) (λ q. rebuild q order fits.within) said
-  says from to (bodies.Read read) fits said = λ is.
-      let stay = stays read.tenure fits.within is in any_read row.phase phase v.live to read stay.opens
-  says from to (bodies.Copy copy) fits said = λ is.
-      let stay = stays copy.tenure fits.within is in any_copy new row.phase phase v.logs v.written v.stored v.live copy stay.opens
+      (λ q told is. let stay = stays tenure fits.within is in absurd (rw stay.opens.was at (told stay.was))) said
+  says from to (bodies.Own tenure) fits said = if_master to _ _ (λ q. own q tenure fits.within) said
+  says from to (bodies.Release tenure) fits said = if_master to _ _ (λ q. release q tenure fits.within) said
+  says from to (bodies.Rebuild order) fits said = if_master to _ _ (λ q. rebuild q order fits.within) said
+  says from to (bodies.Read read) fits said = λ is. let stay = stays read.tenure fits.within is in rw stay.opens.is tt
+  says from to (bodies.Copy copy) fits said = λ is. let stay = stays copy.tenure fits.within is in rw stay.opens.is tt
   says from to (bodies.Rebuilt rebuilt) fits said =
       by_master from
       (λ q. IsOf row rebuilt.tenure
       → RebuiltIn row.phase (v.handovers q row.tablet) (v.merged q row.tablet) (v.written q).applied row.term q rebuilt)
       (λ q. IsOf new rebuilt.tenure
       → RebuiltIn phase (v.handovers q row.tablet) (v.merged q row.tablet) (v.written q).applied term q rebuilt)
-      (λ q told is.
-      let stay = stays rebuilt.tenure fits.within is in
-      absurd (none_rebuilt row.phase phase (v.handovers q row.tablet) (v.merged q row.tablet) (v.written q).applied row.term q rebuilt
-      stay.opens (told stay.was))) said
+      (λ q told is. let stay = stays rebuilt.tenure fits.within is in absurd (rw stay.opens.was at (told stay.was))) said
   says from to body fits said = said

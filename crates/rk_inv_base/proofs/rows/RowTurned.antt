@@ -135,6 +135,8 @@ module _ (v : View) (row : Row) (term : ℕ) (phase : Phase) (sound : SoundView 
         holds = holds;
       })
 
-  -- the rows of a lane after it
-  pub rows_turned : changed_rows v.rows row.tablet term phase ≡ now.rows
-  rows_turned = ap (λ (o : Option Row). changed o v.rows row.tablet term phase) (stands_found v.rows row sound.rows.apart may.has_row)
+  -- so it does with the rows of a lane after it
+  pub view_changed : SoundView (record v { rows = changed_rows v.rows row.tablet term phase })
+  view_changed =
+      subst (λ (rows : List Row). SoundView (record v { rows = rows }))
+      (sym (ap (λ (o : Option Row). changed o v.rows row.tablet term phase) (stands_found v.rows row sound.rows.apart may.has_row))) view_turned

@@ -1,7 +1,8 @@
 -- Rows of a tablet map where one is turned into another of its number and range.
 use Rattle.std.proofs.Common.{◌≡◌, ℕ, suc, Bool, true, false, ◌||◌, cond, eqb, List, [], ◌∷◌, Option, Some, None, is_some, refl, sym, ap}
-use Rattle.std.proofs.Common.{subst, ◌∙◌, ⊎_elim, arith, ◌⊎◌, inl, inr, All, Contains, eq-eqb, eqb-true}
+use Rattle.std.proofs.Common.{subst, ◌∙◌, ⊎_elim, arith, ◌⊎◌, inl, inr, All, Contains, eq-eqb, eqb-true, find}
 use Rattle.rk_inv_base.proofs.Words.{cond_both, false≢true, All-contains, has, Range, IsTabletMap, is_covered, replaced, row_of, Row}
+use Rattle.rk_inv_base.proofs.Words.{list_any}
 use Rattle.rk_inv_base.proofs.rows.Apart.{contains_cases, same_number}
 use Rattle.rk_inv_base.proofs.views.Lists.{all_by}
 
@@ -75,47 +76,37 @@ all_turned P rows old new tablet has goes all =
     (λ (before : Contains rows x). All-contains P rows x all before)
     (stood rows tablet new x stands))
 
--- rows cover a hash as others do
-abbrev pub CoverAs : List Row → List Row → ℕ → ℕ → Type 0
-CoverAs rows others table hash = is_covered rows table hash ≡ is_covered others table hash
+-- as many pass a test, where the new one passes it if the old one does
+pub any_turned : (test : Row → Bool) (rows : List Row) (tablet : ℕ) (old new : Row) → row_of rows tablet ≡ Some old → test new ≡ test old → list_any test (replaced tablet new rows) ≡ list_any test rows
+any_turned test [] tablet old new found same = refl
+any_turned test (first ∷ rest) tablet old new found same =
+    go (eqb first.tablet tablet) (λ later. any_turned test rest tablet old new later same) found
+  where
+    go : (b : Bool) → (row_of rest tablet ≡ Some old → list_any test (replaced tablet new rest) ≡ list_any test rest) → cond b (Some first) (row_of rest tablet) ≡ Some old → list_any test (cond b (new ∷ rest) (first ∷ replaced tablet new rest)) ≡ (test first || list_any test rest)
+    go true later found =
+        let is : first ≡ old = cc in ap (λ (b : Bool). b || list_any test rest) (same ∙ sym (ap test is))
+    go false later found = ap (λ (b : Bool). test first || b) (later found)
 
--- the same hashes are covered
+-- so the same hashes are covered
 pub covered_turned : (rows : List Row) (tablet : ℕ) (old new : Row) → row_of rows tablet ≡ Some old → new.range ≡ old.range → (table hash : ℕ) → is_covered (replaced tablet new rows) table hash ≡ is_covered rows table hash
-covered_turned [] tablet old new found same table hash = refl
-covered_turned (first ∷ rest) tablet old new found same table hash =
-    go (eqb first.tablet tablet) (λ later. covered_turned rest tablet old new later same table hash) found
+covered_turned rows tablet old new found same table hash =
+    any_turned (λ r. has r.range table hash) rows tablet old new found (ap (λ (range : Range). has range table hash) same)
+
+-- whether a row is found is whether one passes the test
+pub found_any : (test : Row → Bool) (rows : List Row) → is_some (find test rows) ≡ list_any test rows
+found_any test [] = refl
+found_any test (first ∷ rest) = go (test first) (found_any test rest)
   where
-    go : (b : Bool) → (row_of rest tablet ≡ Some old → CoverAs (replaced tablet new rest) rest table hash) → cond b (Some first) (row_of rest tablet) ≡ Some old → CoverAs (cond b (new ∷ rest) (first ∷ replaced tablet new rest)) (first ∷ rest) table hash
-    go true later found =
-        let is : first ≡ old = cc in
-        ap (λ (range : Range). has range table hash || is_covered rest table hash) (same ∙ sym (ap (λ (r : Row). r.range) is))
-    go false later found = ap (λ (b : Bool). has first.range table hash || b) (later found)
+    go : (b : Bool) → is_some (find test rest) ≡ list_any test rest → is_some (cond b (Some first) (find test rest)) ≡ (b || list_any test rest)
+    go true later = refl
+    go false later = later
 
--- whether a first row has a number, or a later one
-pub some_first : (b : Bool) (row : Row) (later : Option Row) → is_some (cond b (Some row) later) ≡ (b || is_some later)
-some_first true row later = refl
-some_first false row later = refl
-
--- rows know a number as others do
-abbrev pub KnowAs : List Row → List Row → ℕ → Type 0
-KnowAs rows others number = is_some (row_of rows number) ≡ is_some (row_of others number)
-
--- the same numbers are known
+-- so the same numbers are known
 pub known_turned : (rows : List Row) (tablet : ℕ) (old new : Row) → row_of rows tablet ≡ Some old → new.tablet ≡ old.tablet → (number : ℕ) → is_some (row_of (replaced tablet new rows) number) ≡ is_some (row_of rows number)
-known_turned [] tablet old new found same number = refl
-known_turned (first ∷ rest) tablet old new found same number =
-    go (eqb first.tablet tablet) (λ later. known_turned rest tablet old new later same number) found
-  where
-    go : (b : Bool) → (row_of rest tablet ≡ Some old → KnowAs (replaced tablet new rest) rest number) → cond b (Some first) (row_of rest tablet) ≡ Some old → KnowAs (cond b (new ∷ rest) (first ∷ replaced tablet new rest)) (first ∷ rest) number
-    go true later found =
-        let is : first ≡ old = cc in
-        some_first (eqb new.tablet number) new (row_of rest number)
-        ∙ ap (λ (n : ℕ). eqb n number || is_some (row_of rest number)) (same ∙ sym (ap (λ (r : Row). r.tablet) is))
-        ∙ sym (some_first (eqb first.tablet number) first (row_of rest number))
-    go false later found =
-        some_first (eqb first.tablet number) first (row_of (replaced tablet new rest) number)
-        ∙ ap (λ (b : Bool). eqb first.tablet number || b) (later found)
-        ∙ sym (some_first (eqb first.tablet number) first (row_of rest number))
+known_turned rows tablet old new found same number =
+    found_any (λ r. eqb r.tablet number) (replaced tablet new rows)
+    ∙ any_turned (λ r. eqb r.tablet number) rows tablet old new found (ap (λ (n : ℕ). eqb n number) same)
+    ∙ sym (found_any (λ r. eqb r.tablet number) rows)
 
 -- what is unknown as well is unknown
 pub none_known : (a b : Option Row) → is_some b ≡ is_some a → b ≡ None → a ≡ None

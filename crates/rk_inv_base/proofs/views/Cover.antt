@@ -1,5 +1,5 @@
 -- Laws of the part Cover: what a message that is sent, tablets that look the same, and a staged write keep of it.
-use Rattle.std.proofs.Common.{sym, ap, subst, ◌∙◌, ◌≡◌, ◌≤◌, ℕ, true, List, All, is_some, Contains, flat_map}
+use Rattle.std.proofs.Common.{sym, ap, subst, ◌∙◌, ◌≡◌, ◌≤◌, ℕ, true, List, All, is_some, Contains, flat_map, None}
 use Rattle.rk_inv_base.proofs.Words.{list_any_at, NumberMap, has, Held, Handover, row_of, is_covered, Row, Message, Written, Mark}
 use Rattle.rk_inv_base.proofs.Words.{IsWithinRows, IsItemWithin, IsEntryWithin, IsOfWholeRows}
 use Rattle.rk_sound.specs.Cover.{Cover}
@@ -7,19 +7,10 @@ use Rattle.rk_inv_base.proofs.views.Seen.{LooksAs}
 
 -- each tablet looks as before
 pub cover_looks : (rows : List Row) (written : ℕ → Written) (handovers handovers' : ℕ → ℕ → Handover) (records : ℕ → List Held) (wire : NumberMap Message) → Cover rows written handovers records wire → ((q r : ℕ) → LooksAs (handovers q r) (handovers' q r)) → Cover rows written handovers' records wire
-cover_looks rows written handovers handovers' records wire old looks = record {
-  unknown = λ q r none. (looks q r).term ∙ old.unknown q r none;
-  marks = old.marks;
-  sent = old.sent;
-  ranges = λ q r begun.
-      subst (IsWithinRows rows) (sym (looks q r).range)
-      (old.ranges q r (subst (λ (term : ℕ). 1 ≤ term) (looks q r).term begun));
-  ordered = old.ordered;
-  entries = old.entries;
-  sides = old.sides;
-  items = old.items;
-  wholes = old.wholes;
-}
+cover_looks rows written handovers handovers' records wire old looks =
+    let ranges : (q r : ℕ) → 1 ≤ (handovers' q r).term → IsWithinRows rows (handovers' q r).range = λ q r begun.
+    rw (looks q r).range (old.ranges q r (rw (← (looks q r).term) begun)) in
+    assumption (λ (q r : ℕ) (none : row_of rows r ≡ None). (looks q r).term ∙ old.unknown q r none)
 
 -- a hash of a row is covered
 pub covered_by : (rows : List Row) (row : Row) (table hash : ℕ) → Contains rows row → has row.range table hash ≡ true → is_covered rows table hash ≡ true
@@ -29,15 +20,8 @@ covered_by rows row table hash stands here =
 
 -- each master has written the same marks and side items, and entries that lie in rows and are of whole ones
 pub cover_written : (rows : List Row) (written written' : ℕ → Written) (handovers : ℕ → ℕ → Handover) (records : ℕ → List Held) (wire : NumberMap Message) → Cover rows written handovers records wire → ((q : ℕ) → (written' q).marks ≡ (written q).marks) → ((q : ℕ) → (written' q).sides ≡ (written q).sides) → ((q : ℕ) → All (IsEntryWithin rows) (written' q).entries) → ((q : ℕ) → All (IsOfWholeRows rows) (written' q).entries) → Cover rows written' handovers records wire
-cover_written rows written written' handovers records wire old marks sides new wholes = record {
-  unknown = old.unknown;
-  marks = λ q. subst (λ (ms : List Mark). All (λ mark. is_some (row_of rows mark.tablet) ≡ true) ms) (sym (marks q)) (old.marks q);
-  sent = old.sent;
-  ranges = old.ranges;
-  ordered = old.ordered;
-  entries = new;
-  sides = λ q.
-      subst (λ (lists : List (List Held)). All (IsItemWithin rows) (flat_map (λ items. items) lists)) (sym (sides q)) (old.sides q);
-  items = old.items;
-  wholes = wholes;
-}
+cover_written rows written written' handovers records wire old marks sides new wholes =
+    assumption (
+      λ (q : ℕ). subst (λ (ms : List Mark). All (λ mark. is_some (row_of rows mark.tablet) ≡ true) ms) (sym (marks q)) (old.marks q),
+      λ (q : ℕ). subst (λ (lists : List (List Held)). All (IsItemWithin rows) (flat_map (λ items. items) lists)) (sym (sides q)) (old.sides q),
+    )

@@ -1,6 +1,7 @@
 -- Properties of each element, by the elements that stand in a list.
-use Rattle.std.proofs.Common.{List, All, Contains}
-use Rattle.rk_inv_base.proofs.Words.{All-weaker, All-contains, All-contains_itself}
+use Rattle.std.proofs.Common.{List, All, Contains, refl, ap, ◌≡◌, sym, ◌∙◌, Bool, ◌∷◌, false, filter, []}
+use Rattle.rk_inv_base.proofs.Words.{All-weaker, All-contains, All-contains_itself, false_from_ne_true, false≢true, list_any_at, list_any}
+use Rattle.rk_inv_base.proofs.Words.{All-head, All-tail, cond-false}
 
 -- what each element has that stands there
 pub all_by : {X : Type 0} (P : X → Type 0) (xs : List X) → ((x : X) → Contains xs x → P x) → All P xs
@@ -9,3 +10,15 @@ all_by P xs each = All-weaker (Contains xs) P each xs (All-contains_itself xs)
 -- what follows for each element that stands there
 pub all_in : {X : Type 0} (P Q : X → Type 0) (xs : List X) → ((x : X) → Contains xs x → P x → Q x) → All P xs → All Q xs
 all_in P Q xs gives all = all_by Q xs (λ x stands. gives x stands (All-contains P xs x all stands))
+
+-- where no element passes a test, one that stands there does not
+pub none_pass : {X : Type 0} (p : X → Bool) (xs : List X) → list_any p xs ≡ false → (x : X) → Contains xs x → p x ≡ false
+none_pass p xs none x stands =
+    false_from_ne_true (p x) (λ passes. false≢true (sym none ∙ list_any_at p xs stands.0 x stands.1 (ap p stands.2 ∙ passes)))
+
+-- and none is kept by it where none passes
+pub none_kept : {X : Type 0} (p : X → Bool) (xs : List X) → All (λ x. p x ≡ false) xs → filter p xs ≡ []
+none_kept p [] all = refl
+none_kept p (x ∷ xs) all =
+    cond-false (p x) (x ∷ filter p xs) (filter p xs) (All-head (λ y. p y ≡ false) x xs all)
+    ∙ none_kept p xs (All-tail (λ y. p y ≡ false) x xs all)

@@ -2,7 +2,7 @@
 use Rattle.std.proofs.Common.{[], ◌≡◌, ℕ, Option, refl, sym, ap, ◌∙◌, ⊎_elim, unwrap_or}
 use Rattle.rk_inv_base.proofs.Words.{cases_eq, get_same, get_other, Master, new_master, tablet_at, with_tablet, Tablet, no_tablet, World}
 use Rattle.rk_inv_base.proofs.Words.{master_at, tablet_in, with_master, put2}
-use Rattle.rk_inv_base.proofs.views.Put.{put2_is}
+use Rattle.rk_inv_base.proofs.views.Put.{put2_by}
 
 -- the master that was put
 pub master_same : (w : World) (number : ℕ) (master : Master) (q : ℕ) → q ≡ number → master_at (with_master w number master) q ≡ master
@@ -39,7 +39,7 @@ tablet_apart master number tablet other apart =
 module _ (w : World) (master number : ℕ) (changed : Master) (tablet : Tablet) (here : tablet_at changed number ≡ tablet) (apart : (r : ℕ) → (r ≡ number → ⊥) → tablet_at changed r ≡ tablet_in w master r) where
   pub keeps_with : {X : Type 0} (f : Tablet → X) (q r : ℕ) → f (tablet_in (with_master w master changed) q r) ≡ put2 (λ q r. f (tablet_in w q r)) master number (f tablet) q r
   keeps_with {X} f q r =
-      put2_is (λ q r. f (tablet_in w q r)) master number (f tablet) q r (f (tablet_in (with_master w master changed) q r))
+      put2_by (λ q r. f (tablet_in w q r)) master number (λ _. f tablet) (λ (x : X). f (tablet_in (with_master w master changed) q r) ≡ x) q r
       (λ at its.
       ap (λ (m : Master). f (tablet_at m r)) (master_same w master changed q at)
       ∙ ap (λ (n : ℕ). f (tablet_at changed n)) its ∙ ap f here)

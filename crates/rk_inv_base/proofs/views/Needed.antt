@@ -12,8 +12,7 @@ use Rattle.rk_inv_base.proofs.Words.{Ended, Held, Member, Range, is_among, spell
 use Rattle.rk_inv_base.proofs.Words.{with_bytes, Known, Log, EntryEnd, items_in, items_of, told, told_by, Gather, Gathered, is_member}
 use Rattle.rk_inv_base.proofs.Words.{is_marked, unmarked, unmarked_from, counts, counting, log_material, named, named_by, side_entries}
 use Rattle.rk_inv_base.proofs.Words.{with_number, Written, Mark, AreRead, IsGathered, IsReadPart, IsRebuilder, NeededOf, NeedsEnd}
-use Rattle.rk_inv_base.proofs.Words.{TellNoMore, TellsMore, given_up_marks, marked_entries, stored_count, put, with_one_more}
-use Rattle.rk_inv_base.proofs.Words.{known_length}
+use Rattle.rk_inv_base.proofs.Words.{TellNoMore, TellsMore, given_up_marks, marked_entries, stored_count, put, with_one_more, known_length}
 use Rattle.rk_log.proofs.Cuts.{AreFilled, filled_with, some_segments, spelled_some}
 use Rattle.rk_sound.specs.Rebuilds.{AreGathered, HasItemMore, IsNeeded, TellsEndMore}
 use Rattle.rk_inv_base.proofs.views.Put.{put_by}
@@ -37,11 +36,8 @@ module _ (Needed Less : EntryEnd → Type 0) (known known' : Known) (stored stor
   }
 
 pub part_weaker : (Needed Less : EntryEnd → Type 0) (known : Known) (stored : ℕ → List ℕ) (segment : ℕ) (bytes : List ℕ) → ((end : EntryEnd) → Less end → Needed end) → IsReadPart Needed known stored segment bytes → IsReadPart Less known stored segment bytes
-part_weaker Needed Less known stored segment bytes less part = record {
-  front = part.front;
-  enough = part.enough;
-  needed = λ end its at. part.needed end (less end its) at;
-}
+part_weaker Needed Less known stored segment bytes less part =
+    assumption (λ (end : EntryEnd) (its : Less end). part.needed end (less end its))
 
 pub one_weaker : (Needed Less : EntryEnd → Type 0) (known : Known) (stored : ℕ → List ℕ) (gathered : Gathered) → ((end : EntryEnd) → Less end → Needed end) → IsGathered Needed known stored gathered → IsGathered Less known stored gathered
 one_weaker Needed Less known stored gathered less =
@@ -73,10 +69,6 @@ kept_away own (member ∷ others) =
     (filter (λ m. not (m.master == own)) others) (IsAway own)
     (λ e. (λ same. absurd (false≢true (sym (ap not (eq-eqb member.master own same)) ∙ e)), later)) (λ e. later)
 
--- as the gather of a row says
-pub read_away : (own : ℕ) (lineage : List Member) (members : List Gathered) → map (λ gathered. gathered.member) members ≡ filter (λ member. not (member.master == own)) lineage → IsAway own (map (λ gathered. gathered.member) members)
-read_away own lineage members is = subst (IsAway own) (sym is) (kept_away own lineage)
-
 -- so a master that rebuilds a row goes on where no more is needed of others
 module _ (row : Row) (lineage : List Member) (master : ℕ) (truth own : List Entry) (Needed Less : ℕ → EntryEnd → Type 0) (known : ℕ → Known) (stored : ℕ → ℕ → List ℕ) (w : Written) (handover : Handover) (completions : Completions) (gather : Gather) (merged : List Ended) (table : List Held) where
   -- by what is needed
@@ -84,18 +76,10 @@ module _ (row : Row) (lineage : List Member) (master : ℕ) (truth own : List En
   RebuildsBy Wanted = IsRebuilder row lineage master truth own Wanted known stored w handover completions gather merged table
 
   pub rebuilder_weaker : NeedsLess Needed Less master → RebuildsBy Needed → RebuildsBy Less
-  rebuilder_weaker less was = record {
-    range_is = was.range_is;
-    gather = was.gather;
-    read =
-        gathered_weaker Needed Less known stored master less gather.members
-        (read_away master lineage gather.members was.gather.members_are) was.read;
-    placed = was.placed;
-    merged = was.merged;
-    items = was.items;
-    sides = was.sides;
-    outside = was.outside;
-  }
+  rebuilder_weaker less was =
+      assumption
+      (gathered_weaker Needed Less known stored master less gather.members (subst (IsAway master) (sym was.gather.members_are) (kept_away master lineage))
+      was.read)
 
 -- ---- what entries tell
 
@@ -161,15 +145,8 @@ needs_less range given_up own more from last end among needs =
     record {
       place = needs.place;
       entry = needs.entry;
-      needed = record {
-        behind = needs.needed.behind;
-        stands = needs.needed.stands;
-        unmarked = needs.needed.unmarked;
-        in_range = needs.needed.in_range;
-        tells =
-            more_than_fewer given_up (more ++ before) (own ++ before) needs.entry (among_front own more before among)
-            needs.needed.tells;
-      };
+      needed =
+          assumption (more_than_fewer given_up (more ++ before) (own ++ before) needs.entry (among_front own more before among) needs.needed.tells);
       ends_there = needs.ends_there;
     }
 

@@ -3,7 +3,7 @@ use Rattle.std.proofs.Common.{◌≡◌, ℕ, ◌&&◌, List, [], ◌∷◌, Opt
 use Rattle.rk_inv_base.proofs.Words.{get, Ended, Member, Node, Completions, Handover, lineage_of, Phase, Rebuilding, Row, Tenure, Body, Got}
 use Rattle.rk_inv_base.proofs.Words.{Pulled, Gather, second_of, Pulling, handed_by, handed_for_grant, is_waiting, is_waiting_at, second_has}
 use Rattle.rk_inv_base.proofs.Words.{AfterMove, AskAgrees, ByMaster, GotAgrees, IfMaster, PulledAgrees, HandedFits, MembersFit}
-use Rattle.rk_inv_base.proofs.Words.{RowIsRebuilt, View, truths, SoundView, cases_eq}
+use Rattle.rk_inv_base.proofs.Words.{RowIsRebuilt, View, truths, SoundView, cases_eq, Message}
 use Rattle.rk_message.specs.declared.message.Body.TheVariants as bodies
 use Rattle.rk_inv_base.proofs.rows.Apart.{same_number}
 use Rattle.rk_inv_base.proofs.views.ByRows.{row_in, SaysIn, SoundRow}
@@ -99,78 +99,30 @@ module _ (v : View) (row : Row) where
   instead X Y same = subst (λ (Z : Type 0). Z) same
 
   to_own : SoundRow v row → SoundRow own row
-  to_own was = record {
-    named = was.named;
-    begun = was.begun;
-    formed = was.formed;
-    placed = was.placed;
-    sent = was.sent;
-    fitting = was.fitting;
-    ranged = was.ranged;
-    at_term = was.at_term;
-    truth = was.truth;
-    above = was.above;
-    reached = was.reached;
-    recorded = was.recorded;
-    moving = was.moving;
-    answering = was.answering;
-    ends_granted = rw (← granted_own) was.ends_granted;
-    ends_sent = λ n m there. rw (← handed_own m.body) (was.ends_sent n m there);
-    low = was.low;
-    low_moving = was.low_moving;
-    counted = was.counted;
-    floor_granted = rw (← granted_own) was.floor_granted;
-    floor_sent = λ n m there. rw (← handed_own m.body) (was.floor_sent n m there);
-    goes_on = was.goes_on;
-    done = was.done;
-    unnamed = was.unnamed;
-    idle = was.idle;
-    items = was.items;
-    target = instead _ _ (members_own (lineage_of row.phase)) was.target;
-    handed_on = instead _ _ (fits_own (lineage_of row.phase)) was.handed_on;
-    named_items = was.named_items;
-    rebuilt = instead _ _ (rebuilt_own row.phase) was.rebuilt;
-    marks = was.marks;
-    pieces = was.pieces;
-    says = λ n m there. instead _ _ (says_own m.from m.to m.body) (was.says n m there);
-  }
+  to_own was =
+      assumption (
+        rw granted_own at was.ends_granted,
+        rw granted_own at was.floor_granted,
+        λ (n : ℕ) (m : Message) (there : get v.wire n ≡ Some m). rw (handed_own m.body) at (was.ends_sent n m there),
+        λ (n : ℕ) (m : Message) (there : get v.wire n ≡ Some m). rw (handed_own m.body) at (was.floor_sent n m there),
+        instead _ _ (members_own (lineage_of row.phase)) was.target,
+        instead _ _ (fits_own (lineage_of row.phase)) was.handed_on,
+        instead _ _ (rebuilt_own row.phase) was.rebuilt,
+        λ (n : ℕ) (m : Message) (there : get v.wire n ≡ Some m). instead _ _ (says_own m.from m.to m.body) (was.says n m there),
+      )
 
   of_own : SoundRow own row → SoundRow v row
-  of_own was = record {
-    named = was.named;
-    begun = was.begun;
-    formed = was.formed;
-    placed = was.placed;
-    sent = was.sent;
-    fitting = was.fitting;
-    ranged = was.ranged;
-    at_term = was.at_term;
-    truth = was.truth;
-    above = was.above;
-    reached = was.reached;
-    recorded = was.recorded;
-    moving = was.moving;
-    answering = was.answering;
-    ends_granted = rw granted_own was.ends_granted;
-    ends_sent = λ n m there. rw (handed_own m.body) (was.ends_sent n m there);
-    low = was.low;
-    low_moving = was.low_moving;
-    counted = was.counted;
-    floor_granted = rw granted_own was.floor_granted;
-    floor_sent = λ n m there. rw (handed_own m.body) (was.floor_sent n m there);
-    goes_on = was.goes_on;
-    done = was.done;
-    unnamed = was.unnamed;
-    idle = was.idle;
-    items = was.items;
-    target = instead _ _ (sym (members_own (lineage_of row.phase))) was.target;
-    handed_on = instead _ _ (sym (fits_own (lineage_of row.phase))) was.handed_on;
-    named_items = was.named_items;
-    rebuilt = instead _ _ (sym (rebuilt_own row.phase)) was.rebuilt;
-    marks = was.marks;
-    pieces = was.pieces;
-    says = λ n m there. instead _ _ (sym (says_own m.from m.to m.body)) (was.says n m there);
-  }
+  of_own was =
+      assumption (
+        rw (← granted_own) at was.ends_granted,
+        rw (← granted_own) at was.floor_granted,
+        λ (n : ℕ) (m : Message) (there : get v.wire n ≡ Some m). rw (← handed_own m.body) at (was.ends_sent n m there),
+        λ (n : ℕ) (m : Message) (there : get v.wire n ≡ Some m). rw (← handed_own m.body) at (was.floor_sent n m there),
+        instead _ _ (sym (members_own (lineage_of row.phase))) was.target,
+        instead _ _ (sym (fits_own (lineage_of row.phase))) was.handed_on,
+        instead _ _ (sym (rebuilt_own row.phase)) was.rebuilt,
+        λ (n : ℕ) (m : Message) (there : get v.wire n ≡ Some m). instead _ _ (sym (says_own m.from m.to m.body)) (was.says n m there),
+      )
 
 -- two views are the same but for their rows and what masters have of tablets, and of the row's tablet each master has the same
 pub row_kept : (v now : View) (row : Row) → ((seen : ℕ → SeenTablet) → alone v seen ≡ alone now seen) → ((q : ℕ) → seen_at v row.tablet q ≡ seen_at now row.tablet q) → SoundRow v row → SoundRow now row

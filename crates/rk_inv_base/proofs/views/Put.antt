@@ -1,5 +1,5 @@
 -- What is kept for each number, or by each master of each tablet, where one of them is another now.
-use Rattle.std.proofs.Common.{◌≡◌, ℕ, eqb, refl, sym, ap, subst, ◌∙◌, ⊎_elim, eq-eqb, ne_eqb}
+use Rattle.std.proofs.Common.{◌≡◌, ℕ, eqb, refl, sym, subst, ◌∙◌, ⊎_elim, eq-eqb, ne_eqb}
 use Rattle.rk_inv_base.proofs.Words.{cases_eq, cond-true, cond-false, put, put2}
 
 -- what is put is kept, and each other thing as it was
@@ -8,62 +8,6 @@ put_here old number thing q is = cond-true (eqb q number) thing (old q) (eq-eqb 
 
 pub put_other : {X : Type 0} (old : ℕ → X) (number : ℕ) (thing : X) (q : ℕ) → (q ≡ number → ⊥) → put old number thing q ≡ old q
 put_other old number thing q apart = cond-false (eqb q number) thing (old q) (ne_eqb q number apart)
-
--- what is the thing where it was put, and as it was elsewhere
-pub put_is : {X : Type 0} (old : ℕ → X) (number : ℕ) (thing : X) (q : ℕ) (seen : X) → (q ≡ number → seen ≡ thing) → ((q ≡ number → ⊥) → seen ≡ old q) → seen ≡ put old number thing q
-put_is old number thing q seen here apart =
-    ⊎_elim
-    (λ (is : q ≡ number). here is ∙ sym (put_here old number thing q is))
-    (λ (other : q ≡ number → ⊥). apart other ∙ sym (put_other old number thing q other))
-    (cases_eq q number)
-
--- so it is of what each master keeps
-pub put2_here : {X : Type 0} (old : ℕ → ℕ → X) (master number : ℕ) (thing : X) (q r : ℕ) → q ≡ master → r ≡ number → put2 old master number thing q r ≡ thing
-put2_here {X} old master number thing q r at its =
-    ap (λ (kept : ℕ → X). kept r) (put_here old master (put (old master) number thing) q at)
-    ∙ put_here (old master) number thing r its
-
-pub put2_other : {X : Type 0} (old : ℕ → ℕ → X) (master number : ℕ) (thing : X) (q r : ℕ) → (q ≡ master → r ≡ number → ⊥) → put2 old master number thing q r ≡ old q r
-put2_other {X} old master number thing q r apart =
-    ⊎_elim
-    (λ (at : q ≡ master).
-    ap (λ (kept : ℕ → X). kept r) (put_here old master (put (old master) number thing) q at)
-    ∙ put_other (old master) number thing r (λ its. apart at its)
-    ∙ ap (λ (n : ℕ). old n r) (sym at))
-    (λ (other : q ≡ master → ⊥). ap (λ (kept : ℕ → X). kept r) (put_other old master (put (old master) number thing) q other))
-    (cases_eq q master)
-
--- what is the thing where it was put, and as it was elsewhere
-pub put2_is : {X : Type 0} (old : ℕ → ℕ → X) (master number : ℕ) (thing : X) (q r : ℕ) (seen : X) → (q ≡ master → r ≡ number → seen ≡ thing) → ((q ≡ master → r ≡ number → ⊥) → seen ≡ old q r) → seen ≡ put2 old master number thing q r
-put2_is old master number thing q r seen here apart =
-    ⊎_elim
-    (λ (at : q ≡ master).
-    ⊎_elim
-    (λ (its : r ≡ number). here at its ∙ sym (put2_here old master number thing q r at its))
-    (λ (other : r ≡ number → ⊥).
-    apart (λ _ its. other its) ∙ sym (put2_other old master number thing q r (λ _ its. other its)))
-    (cases_eq r number))
-    (λ (other : q ≡ master → ⊥).
-    apart (λ at _. other at) ∙ sym (put2_other old master number thing q r (λ at _. other at)))
-    (cases_eq q master)
-
-module _ {X : Type 0} (old : ℕ → ℕ → X) (master number : ℕ) (change : X → X) where
-  -- a statement of what is kept holds of what changed and of the rest
-  pub put2_by : (P : X → Type 0) (q r : ℕ) → (q ≡ master → r ≡ number → P (change (old q r))) → ((q ≡ master → r ≡ number → ⊥) → P (old q r)) → P (put2 old master number (change (old master number)) q r)
-  put2_by P q r here apart =
-      ⊎_elim
-      (λ (at : q ≡ master).
-      ⊎_elim
-      (λ (its : r ≡ number).
-      subst P
-      ((λ i. change (old (at i) (its i))) ∙ sym (put2_here old master number (change (old master number)) q r at its))
-      (here at its))
-      (λ (other : r ≡ number → ⊥).
-      subst P (sym (put2_other old master number (change (old master number)) q r (λ _ its. other its))) (apart (λ _ its. other its)))
-      (cases_eq r number))
-      (λ (other : q ≡ master → ⊥).
-      subst P (sym (put2_other old master number (change (old master number)) q r (λ at _. other at))) (apart (λ at _. other at)))
-      (cases_eq q master)
 
 -- a statement of what is kept for a number holds of what changed and of the rest
 pub put_by : {X : Type 0} (old : ℕ → X) (number : ℕ) (change : X → X) (P : X → Type 0) (q : ℕ) → (q ≡ number → P (change (old q))) → ((q ≡ number → ⊥) → P (old q)) → P (put old number (change (old number)) q)
@@ -74,13 +18,30 @@ put_by {X} old number change P q here apart =
     (λ (other : q ≡ number → ⊥). subst P (sym (put_other old number (change (old number)) q other)) (apart other))
     (cases_eq q number)
 
+-- what is the thing where it was put, and as it was elsewhere
+pub put_is : {X : Type 0} (old : ℕ → X) (number : ℕ) (thing : X) (q : ℕ) (seen : X) → (q ≡ number → seen ≡ thing) → ((q ≡ number → ⊥) → seen ≡ old q) → seen ≡ put old number thing q
+put_is {X} old number thing q seen here apart = put_by old number (λ _. thing) (λ (x : X). seen ≡ x) q here apart
+
 -- what is put where it was already changes nothing
 pub put_same : {X : Type 0} (old : ℕ → X) (number : ℕ) → ◌≡◌ {A = ℕ → X} (put old number (old number)) old
-put_same old number i q =
-    ⊎_elim
-    (λ (is : q ≡ number). put_here old number (old number) q is ∙ ap old (sym is))
-    (λ (apart : q ≡ number → ⊥). put_other old number (old number) q apart)
-    (cases_eq q number) i
+put_same {X} old number i q = put_by old number (λ thing. thing) (λ (x : X). x ≡ old q) q (λ is. refl) (λ apart. refl) i
+
+-- ---- so it is of what each master keeps of each tablet
+
+module _ {X : Type 0} (old : ℕ → ℕ → X) (master number : ℕ) (change : X → X) where
+  pub put2_by : (P : X → Type 0) (q r : ℕ) → (q ≡ master → r ≡ number → P (change (old q r))) → ((q ≡ master → r ≡ number → ⊥) → P (old q r)) → P (put2 old master number (change (old master number)) q r)
+  put2_by P q r here apart =
+      put_by old master (λ kept. put kept number (change (kept number))) (λ (kept : ℕ → X). P (kept r)) q
+      (λ at. put_by (old q) number change P r (here at) (λ other. apart (λ _ its. other its)))
+      (λ other. apart (λ at _. other at))
+
+pub put2_here : {X : Type 0} (old : ℕ → ℕ → X) (master number : ℕ) (thing : X) (q r : ℕ) → q ≡ master → r ≡ number → put2 old master number thing q r ≡ thing
+put2_here {X} old master number thing q r at its =
+    put2_by old master number (λ _. thing) (λ (x : X). x ≡ thing) q r (λ _ _. refl) (λ apart. absurd (apart at its))
+
+pub put2_other : {X : Type 0} (old : ℕ → ℕ → X) (master number : ℕ) (thing : X) (q r : ℕ) → (q ≡ master → r ≡ number → ⊥) → put2 old master number thing q r ≡ old q r
+put2_other {X} old master number thing q r apart =
+    put2_by old master number (λ _. thing) (λ (x : X). x ≡ old q r) q r (λ at its. absurd (apart at its)) (λ _. refl)
 
 pub put2_same : {X : Type 0} (old : ℕ → ℕ → X) (master number : ℕ) → ◌≡◌ {A = ℕ → ℕ → X} (put2 old master number (old master number)) old
 put2_same {X} old master number i q r =

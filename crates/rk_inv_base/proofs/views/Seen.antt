@@ -1,5 +1,5 @@
 -- What rows and messages see of a handover: its term, its range and its role, and of a frozen one its counter.
-use Rattle.std.proofs.Common.{refl, ap, ◌≡◌, ℕ, true}
+use Rattle.std.proofs.Common.{ap, ◌≡◌, ℕ, true}
 use Rattle.rk_inv_base.proofs.Words.{both_ways, Member, Range, is_serving, Handover, Role, is_absent, Written, member_truth, is_wanting}
 use Rattle.rk_inv_base.proofs.Words.{HasJoined, HasRebuilt, Post, bond_of, Holds, with_counter}
 use Rattle.rk_transfer.specs.declared.role.Role.TheVariants as roles
@@ -31,30 +31,15 @@ pub record AllLook (written written' : ℕ → Written) (handovers handovers' : 
 
 -- a role goes on as itself
 pub goes_on_same : (role : Role) → GoesOn role role
-goes_on_same role = record {
-  absent = refl;
-  wanting = refl;
-  waits = λ _ is. is;
-  frozen = λ is. is;
-  joined = λ _ has. has;
-  rebuilt = λ _ _ has. has;
-  fits = λ _ _ _ _ holds. holds;
-}
+goes_on_same role = assumption
 
 -- a tablet looks as itself
 pub looks_same : (handover : Handover) → LooksAs handover handover
-looks_same handover = record {
-  term = refl;
-  range = refl;
-  role = goes_on_same handover.role;
-  counter = λ _. refl;
-}
+looks_same handover = assumption (goes_on_same handover.role)
 
 -- a tablet that is served looks the same with another counter
 pub counted_looks : (counter : ℕ) (handover : Handover) → is_serving handover.role ≡ true → LooksAs handover (with_counter counter handover)
-counted_looks counter handover serves = record {
-  term = refl;
-  range = refl;
-  role = goes_on_same handover.role;
-  counter = λ frozen. absurd (both_ways (is_serving handover.role) (ap is_serving frozen) serves);
-}
+counted_looks counter handover serves =
+    let unfrozen : handover.role ≡ roles.Frozen → counter ≡ handover.counter = λ frozen.
+    absurd (both_ways (is_serving handover.role) (ap is_serving frozen) serves) in
+    assumption (goes_on_same handover.role)

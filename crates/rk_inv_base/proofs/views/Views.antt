@@ -60,16 +60,11 @@ pub view_kept : (w : World) (master number : ℕ) (tablet : Tablet) → view (wi
 view_kept w master number tablet =
     view_master w master (with_tablet (master_at w master) number tablet) number tablet refl
     (tablet_here (master_at w master) number tablet) (tablet_apart (master_at w master) number tablet)
-    ∙ (λ i. record (view w) {
+    ∙ (λ i. record (kept_view (view w) master number tablet) {
       logs = put_same (view w).logs master i;
       written = put_same (view w).written master i;
       records = put_same (view w).records master i;
       calls = put_same (view w).calls master i;
-      handovers = put2 (view w).handovers master number tablet.handover;
-      completions = put2 (view w).completions master number tablet.completions;
-      pullings = put2 (view w).pullings master number tablet.pulling;
-      gathers = put2 (view w).gathers master number tablet.gather;
-      merged = put2 (view w).merged master number tablet.merged_ends;
     })
 
 -- of what one tablet pulls alone
@@ -100,10 +95,7 @@ view_gathered w master number gather =
 pub view_taken : (w : World) (master number : ℕ) (handover : Handover) (gather : Gather) (ends : List Ended) → view (with_master w master (with_tablet (master_at w master) number (record (tablet_in w master number) { handover = handover; gather = gather; merged_ends = ends }))) ≡ role_taken (view w) master number handover gather ends
 view_taken w master number handover gather ends =
     view_kept w master number (record (tablet_in w master number) { handover = handover; gather = gather; merged_ends = ends })
-    ∙ (λ i. record (view w) {
-      handovers = put2 (view w).handovers master number handover;
+    ∙ (λ i. record (role_taken (view w) master number handover gather ends) {
       completions = put2_same (view w).completions master number i;
       pullings = put2_same (view w).pullings master number i;
-      gathers = put2 (view w).gathers master number gather;
-      merged = put2 (view w).merged master number ends;
     })

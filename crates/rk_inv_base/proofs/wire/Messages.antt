@@ -1,19 +1,20 @@
 -- Laws of the part Messages: what a message that is sent, and tablets that look the same, keep of it.
 use Rattle.std.proofs.Common.{false, sym, subst, ◌∙◌, ◌≡◌, ◌≤◌, ◌-◌, ℕ, Bool, List, [], ◌∷◌, Option, None, slice_index_or, flat_map, arith}
-use Rattle.std.proofs.Common.{true}
+use Rattle.std.proofs.Common.{true, length, Some, ◌<◌}
 use Rattle.rk_inv_base.proofs.Words.{get, Ended, Member, Node, Segments, Entry, at_hash, batch_at, next_token, Completions, Handover}
 use Rattle.rk_inv_base.proofs.Words.{lineage_of, Phase, Opening, Moving, Rebuilding, Row, Known, nothing, Log, known_of, EntryEnd}
 use Rattle.rk_inv_base.proofs.Words.{BATCH_BYTES, Grant, Prepare, Tenure, Transfer, Body, Got, Pulled, CopySegment, Rebuild, Rebuilt}
-use Rattle.rk_inv_base.proofs.Words.{Handed, as_entries, Written, stored_of, SaysOf, IfMaster, ByMaster, IsOf, IsOfTarget, PrepareFits}
-use Rattle.rk_inv_base.proofs.Words.{CloseFits, RebuildFits, OwnFits, IsOwner, ReleaseFits, ReadyIn, TransferIn, JoinedIn, RebuiltIn}
-use Rattle.rk_inv_base.proofs.Words.{GrantAgrees, AskAgrees, IsFromSource, PulledAgrees, GotAgrees, CopyIn, post_of, READ_BACKUP}
-use Rattle.rk_inv_base.proofs.Words.{IsReadPart, NeededOf, scan_items, View, MessagesOf, is_wanting}
+use Rattle.rk_inv_base.proofs.Words.{Handed, as_entries, Written, stored_of, IfMaster, ByMaster, IsOfTarget, PrepareFits, CloseFits}
+use Rattle.rk_inv_base.proofs.Words.{RebuildFits, OwnFits, IsOwner, ReleaseFits, ReadyIn, TransferIn, JoinedIn, RebuiltIn, GrantAgrees}
+use Rattle.rk_inv_base.proofs.Words.{AskAgrees, IsFromSource, PulledAgrees, GotAgrees, CopyIn, post_of, READ_BACKUP, IsReadPart, NeededOf}
+use Rattle.rk_inv_base.proofs.Words.{scan_items, View, MessagesOf, is_wanting, Message}
 use Rattle.rk_types.specs.declared.node.Node.TheVariants as nodes
 use Rattle.rk_outside.specs.Segments.{bytes_of as copied_bytes}
 use Rattle.rk_message.specs.declared.message.Body.TheVariants as bodies
 use Rattle.rk_sound.specs.Messages.{IsFrozenSource}
 use Rattle.rk_inv_base.proofs.views.Seen.{LooksAs, AllLook}
 use Rattle.rk_inv_base.proofs.views.Needed.{part_weaker}
+use Rattle.rk_inv_base.proofs.views.ByRows.{SaysIn}
 
 -- what is said where a node is a master, it says as well where that follows
 pub if_master : (node : Node) (Fits Gives : ℕ → Type 0) → ((master : ℕ) → Fits master → Gives master) → IfMaster node Fits → IfMaster node Gives
@@ -23,6 +24,10 @@ if_master node Fits Gives gives fits = fits
 pub by_master : (node : Node) (Fits Gives : ℕ → Type 0) → ((master : ℕ) → Fits master → Gives master) → ByMaster node Fits → ByMaster node Gives
 by_master (nodes.Master master) Fits Gives gives fits = gives master fits
 by_master node Fits Gives gives fits = fits
+
+-- what is said under a condition, it says as well under it where that follows
+pub then : {A X Y : Type 0} → (X → Y) → (A → X) → A → Y
+then gives fits is = gives (fits is)
 
 -- ---- orders: of a master that keeps as great a term as before they say what they said
 
@@ -100,15 +105,11 @@ rebuilt_looks phase old new merged applied applied' term master rebuilt looks sa
 
 -- ---- between source and target
 
-pub of_target : (row : Row) (old new : Handover) (tenure : Tenure) → LooksAs old new → IsOfTarget row new tenure → IsOfTarget row old tenure
-of_target row old new tenure looks is = record { tablet = is.tablet; term = is.term ∙ looks.term }
-
 -- what is said of a target that pulls, and to it, where each tablet looks as before
 module _ (row : Row) (written written' : ℕ → Written) (handovers handovers' : ℕ → ℕ → Handover) (live : ℕ → Bool) (looks : AllLook written written' handovers handovers') where
   -- what a target asks is of its tablet as before
   of_target_now : (master : ℕ) (tenure : Tenure) → IsOfTarget row (handovers' master row.tablet) tenure → IsOfTarget row (handovers master row.tablet) tenure
-  of_target_now master tenure =
-      of_target row (handovers master row.tablet) (handovers' master row.tablet) tenure (looks.each master row.tablet)
+  of_target_now master tenure is = record { tablet = is.tablet; term = is.term ∙ (looks.each master row.tablet).term }
 
   ask_looks : (lineage : List Member) (master : ℕ) (to : Node) (tenure : Tenure) → AskAgrees row handovers lineage master to tenure → AskAgrees row handovers' lineage master to tenure
   ask_looks (source ∷ target ∷ []) master to tenure agrees = λ here is. agrees here (of_target_now master tenure is)
@@ -157,107 +158,86 @@ module _ (logs logs' : ℕ → Log) (written written' : ℕ → Written) (stored
 
 -- what a message says of a row, it says where each tablet looks as before, and backups are known to hold as much
 module _ (v : View) (logs' : ℕ → Log) (written' : ℕ → Written) (handovers' : ℕ → ℕ → Handover) (looks : AllLook v.written written' v.handovers handovers') (same : (q : ℕ) → (logs' q).known ≡ (v.logs q).known) (less : NeedNoMore v.written written' v.live) where
-  abbrev SaysBefore : Row → Node → Node → Body → Type 0
-  SaysBefore row = SaysOf row v.logs v.written v.stored v.handovers v.completions v.merged v.live v.handed
+  abbrev after : View
+  after = record v { logs = logs'; written = written'; handovers = handovers' }
 
-  abbrev SaysAfter : Row → Node → Node → Body → Type 0
-  SaysAfter row = SaysOf row logs' written' v.stored handovers' v.completions v.merged v.live v.handed
+  -- what a master had of the tablet of a row, and what it has
+  abbrev had : Row → ℕ → Handover
+  had row m = v.handovers m row.tablet
 
-  rises : (row : Row) (m : ℕ) → (v.handovers m row.tablet).term ≤ (handovers' m row.tablet).term
+  abbrev has : Row → ℕ → Handover
+  has row m = handovers' m row.tablet
+
+  rises : (row : Row) (m : ℕ) → (had row m).term ≤ (has row m).term
   rises row m = let same = (looks.each m row.tablet).term in omega (arith, same)
 
-  pub says_of_looks : (row : Row) (from to : Node) (body : Body) → SaysBefore row from to body → SaysAfter row from to body
-  says_of_looks row from to (bodies.Prepare prepare) says =
-      if_master to (λ m. PrepareFits row (v.handovers m row.tablet) (v.live m) m prepare)
-      (λ m. PrepareFits row (handovers' m row.tablet) (v.live m) m prepare)
-      (λ m. prepare_rises row (v.handovers m row.tablet) (handovers' m row.tablet) (v.live m) m (rises row m) prepare) says
-  says_of_looks row from to (bodies.Ready ready) says =
-      by_master from (λ m. IsOf row ready.tenure → ReadyIn row.phase (v.handovers m row.tablet) row.term m ready.place)
-      (λ m. IsOf row ready.tenure → ReadyIn row.phase (handovers' m row.tablet) row.term m ready.place)
-      (λ m told is.
-      ready_looks row.phase (v.handovers m row.tablet) (handovers' m row.tablet) row.term m ready.place (looks.each m row.tablet)
-      (told is)) says
-  says_of_looks row from to (bodies.Close tenure) says =
-      if_master to (λ m. CloseFits row (v.handovers m row.tablet) (v.live m) m tenure)
-      (λ m. CloseFits row (handovers' m row.tablet) (v.live m) m tenure)
-      (λ m. close_rises row (v.handovers m row.tablet) (handovers' m row.tablet) (v.live m) m (rises row m) tenure) says
-  says_of_looks row from to (bodies.Transfer transfer) says =
-      by_master from (λ m. IsOf row transfer.tenure → TransferIn row.phase (v.handovers m row.tablet) (v.completions m row.tablet) row.term m transfer)
-      (λ m. IsOf row transfer.tenure → TransferIn row.phase (handovers' m row.tablet) (v.completions m row.tablet) row.term m transfer)
-      (λ m told is.
-      transfer_looks row.phase (v.handovers m row.tablet) (handovers' m row.tablet) (v.completions m row.tablet) row.term m transfer (looks.each m row.tablet)
-      (told is)) says
-  says_of_looks row from to (bodies.Grant grant) says = (
+  owner_looks : (row : Row) (m term : ℕ) → ((had row m).term ≡ term → IsOwner (post_of row.phase m) (had row m).term row.term) → (has row m).term ≡ term → IsOwner (post_of row.phase m) (has row m).term row.term
+  owner_looks row m term owner at =
+      let same = (looks.each m row.tablet).term in
+      subst (λ (n : ℕ). IsOwner (post_of row.phase m) n row.term) (sym same) (owner (sym same ∙ at))
+
+  pub says_of_looks : (row : Row) (from to : Node) (body : Body) → SaysIn v row from to body → SaysIn after row from to body
+  says_of_looks row from to (bodies.Prepare prepare) =
+      if_master to _ _ (λ m. prepare_rises row (had row m) (has row m) (v.live m) m (rises row m) prepare)
+  says_of_looks row from to (bodies.Ready ready) =
+      by_master from _ _ (λ m. then (ready_looks row.phase (had row m) (has row m) row.term m ready.place (looks.each m row.tablet)))
+  says_of_looks row from to (bodies.Close tenure) =
+      if_master to _ _ (λ m. close_rises row (had row m) (has row m) (v.live m) m (rises row m) tenure)
+  says_of_looks row from to (bodies.Transfer transfer) =
+      by_master from _ _
+      (λ m.
+      then (transfer_looks row.phase (had row m) (has row m) (v.completions m row.tablet) row.term m transfer (looks.each m row.tablet)))
+  says_of_looks row from to (bodies.Grant grant) = λ says. (
     says.0,
-    if_master to (λ m. GrantAgrees row (v.handovers m row.tablet) (v.live m) (get v.handed row.tablet) m grant)
-        (λ m. GrantAgrees row (handovers' m row.tablet) (v.live m) (get v.handed row.tablet) m grant)
+    if_master to _ _
         (λ m.
-        grant_rises row (v.handovers m row.tablet) (handovers' m row.tablet) (v.live m) m (rises row m) (get v.handed row.tablet) grant
+        grant_rises row (had row m) (has row m) (v.live m) m (rises row m) (get v.handed row.tablet) grant
         (λ waits. ((looks.each m row.tablet).term, sym (looks.each m row.tablet).role.wanting ∙ waits))) says.1,
   )
-  says_of_looks row from to (bodies.Pull pull) says = (
+  says_of_looks row from to (bodies.Pull pull) = λ says. (
     says.0,
-    by_master from (λ m. AskAgrees row v.handovers (lineage_of row.phase) m to pull.tenure)
-        (λ m. AskAgrees row handovers' (lineage_of row.phase) m to pull.tenure)
+    by_master from _ _
         (λ m. ask_looks row v.written written' v.handovers handovers' v.live looks (lineage_of row.phase) m to pull.tenure) says.1,
   )
-  says_of_looks row from to (bodies.Pulled pulled) says = (
+  says_of_looks row from to (bodies.Pulled pulled) = λ says. (
     says.0,
-    if_master to (λ m. PulledAgrees row v.written v.handovers v.live (lineage_of row.phase) from m pulled)
-        (λ m. PulledAgrees row written' handovers' v.live (lineage_of row.phase) from m pulled)
+    if_master to _ _
         (λ m. pulled_looks row v.written written' v.handovers handovers' v.live looks (lineage_of row.phase) from m pulled) says.1,
   )
-  says_of_looks row from to (bodies.Want want) says = (
+  says_of_looks row from to (bodies.Want want) = λ says. (
     says.0,
-    by_master from (λ m. AskAgrees row v.handovers (lineage_of row.phase) m to want.tenure)
-        (λ m. AskAgrees row handovers' (lineage_of row.phase) m to want.tenure)
+    by_master from _ _
         (λ m. ask_looks row v.written written' v.handovers handovers' v.live looks (lineage_of row.phase) m to want.tenure) says.1,
   )
-  says_of_looks row from to (bodies.Got got) says = (
+  says_of_looks row from to (bodies.Got got) = λ says. (
     says.0,
-    if_master to (λ m. GotAgrees row v.written v.handovers v.live (lineage_of row.phase) from m got)
-        (λ m. GotAgrees row written' handovers' v.live (lineage_of row.phase) from m got)
+    if_master to _ _
         (λ m. got_looks row v.written written' v.handovers handovers' v.live looks (lineage_of row.phase) from m got) says.1,
   )
-  says_of_looks row from to (bodies.Joined tenure) says =
-      by_master from
-      (λ m. IsOf row tenure → JoinedIn row.phase (v.handovers m row.tablet) (v.written m).applied row.term m)
-      (λ m. IsOf row tenure → JoinedIn row.phase (handovers' m row.tablet) (written' m).applied row.term m)
-      (λ m told is.
-      joined_looks row.phase (v.handovers m row.tablet) (handovers' m row.tablet) (v.written m).applied (written' m).applied row.term m
-      (looks.each m row.tablet) (looks.applied m) (told is)) says
-  says_of_looks row from to (bodies.Own tenure) says =
-      if_master to (λ m. OwnFits row (v.handovers m row.tablet) (v.live m) m tenure)
-      (λ m. OwnFits row (handovers' m row.tablet) (v.live m) m tenure)
+  says_of_looks row from to (bodies.Joined tenure) =
+      by_master from _ _
       (λ m.
-      own_rises row (v.handovers m row.tablet) (handovers' m row.tablet) (v.live m) m (rises row m) tenure
-      (λ owner at.
-      subst (λ (term : ℕ). IsOwner (post_of row.phase m) term row.term) (sym (looks.each m row.tablet).term)
-      (owner (sym (looks.each m row.tablet).term ∙ at)))) says
-  says_of_looks row from to (bodies.Release tenure) says =
-      if_master to (λ m. ReleaseFits row (v.handovers m row.tablet) (v.live m) m tenure)
-      (λ m. ReleaseFits row (handovers' m row.tablet) (v.live m) m tenure)
-      (λ m. release_rises row (v.handovers m row.tablet) (handovers' m row.tablet) (v.live m) m (rises row m) tenure) says
-  says_of_looks row from to (bodies.Rebuild rebuild) says =
-      if_master to (λ m. RebuildFits row (v.handovers m row.tablet) (v.live m) m rebuild)
-      (λ m. RebuildFits row (handovers' m row.tablet) (v.live m) m rebuild)
-      (λ m. rebuild_rises row (v.handovers m row.tablet) (handovers' m row.tablet) (v.live m) m (rises row m) rebuild) says
-  says_of_looks row from to (bodies.Copy copy) says = λ is.
+      then (joined_looks row.phase (had row m) (has row m) (v.written m).applied (written' m).applied row.term m
+      (looks.each m row.tablet) (looks.applied m)))
+  says_of_looks row from to (bodies.Own tenure) =
+      if_master to _ _
+      (λ m. own_rises row (had row m) (has row m) (v.live m) m (rises row m) tenure (owner_looks row m tenure.term))
+  says_of_looks row from to (bodies.Release tenure) =
+      if_master to _ _ (λ m. release_rises row (had row m) (has row m) (v.live m) m (rises row m) tenure)
+  says_of_looks row from to (bodies.Rebuild rebuild) =
+      if_master to _ _ (λ m. rebuild_rises row (had row m) (has row m) (v.live m) m (rises row m) rebuild)
+  says_of_looks row from to (bodies.Copy copy) = λ says is.
       copy_looks v.logs logs' v.written written' v.stored v.live copy (same copy.master) less row row.phase (says is)
-  says_of_looks row from to (bodies.Rebuilt rebuilt) says =
-      by_master from
-      (λ m. IsOf row rebuilt.tenure
-      → RebuiltIn row.phase (v.handovers m row.tablet) (v.merged m row.tablet) (v.written m).applied row.term m rebuilt)
-      (λ m. IsOf row rebuilt.tenure
-      → RebuiltIn row.phase (handovers' m row.tablet) (v.merged m row.tablet) (written' m).applied row.term m rebuilt)
-      (λ m told is.
-      rebuilt_looks row.phase (v.handovers m row.tablet) (handovers' m row.tablet) (v.merged m row.tablet) (v.written m).applied (written' m).applied row.term m
-      rebuilt (looks.each m row.tablet) (looks.applied m) (told is)) says
-  says_of_looks row from to body says = says
+  says_of_looks row from to (bodies.Rebuilt rebuilt) =
+      by_master from _ _
+      (λ m.
+      then (rebuilt_looks row.phase (had row m) (has row m) (v.merged m row.tablet) (v.written m).applied (written' m).applied row.term m
+      rebuilt (looks.each m row.tablet) (looks.applied m)))
+  says_of_looks row from to body = λ says. says
 
   -- each tablet looks as before, as much is applied and counts as before, and backups are known to hold as much
   pub messages_looks : MessagesOf v → MessagesOf (record v { logs = logs'; written = written'; handovers = handovers' })
-  messages_looks old = record {
-    of_rows = λ n m there k d within. says_of_looks (slice_index_or v.rows k d) m.from m.to m.body (old.of_rows n m there k d within);
-    others = old.others;
-  }
+  messages_looks old =
+      assumption
+      (λ (n : ℕ) (m : Message) (there : get v.wire n ≡ Some m) (k : ℕ) (d : Row) (within : k < length v.rows).
+      says_of_looks _ m.from m.to m.body (old.of_rows n m there k d within))

@@ -1,19 +1,19 @@
 -- A sound and well formed lane stays sound when a master answers a get: what it tells is what the journal leaves, and the read gets its
 -- record at once.
-use Rattle.std.proofs.Common.{Bool, Contains, List, None, Option, Some, [], ap, arith, cond, eq-eqb, false, length, not, position, refl}
-use Rattle.std.proofs.Common.{slice_get, subst, sym, true, ℕ, ◌&&◌, ◌++◌, ◌-◌, ◌||◌, ◌∙◌, ◌∷◌, ◌≡◌}
+use Rattle.std.proofs.Common.{Bool, List, None, Option, Some, [], ap, arith, cond, eq-eqb, false, length, not, position, refl, slice_get}
+use Rattle.std.proofs.Common.{subst, sym, true, ℕ, ◌&&◌, ◌++◌, ◌-◌, ◌||◌, ◌∙◌, ◌∷◌, ◌≡◌}
 use Rattle.rk_model.proofs.Places.{slice_get_end}
 use Rattle.rk_model.specs.History.{record_of as entry_record}
 use Rattle.rk_model.specs.Machine.{Entry as MapEntry, gone, live as live_entry, read_of as machine_read}
 use Rattle.rk_types.specs.declared.call.Answer.TheVariants as answers
 use Rattle.rk_types.specs.declared.call.Op.TheVariants as ops
 use Rattle.rk_world.specs.Requests.{read_of}
-use Rattle.rk_inv_base.proofs.Words.{Allowed, Call, HasArrived, Held, IsMaster, IsServedIn, IsSound, IsTruth, IsWellFormed, Ledger, Master}
-use Rattle.rk_inv_base.proofs.Words.{MaySend, Message, Op, Outcome, Placed, Reads, Request, RequestFits, Served, Tablet, View, World}
-use Rattle.rk_inv_base.proofs.Words.{answering, base_map, call_of, choice_of, cond-false, cond-true, filled, found, has_key, hash_of}
-use Rattle.rk_inv_base.proofs.Words.{is_known, is_mutation, is_of, is_of_mutation, is_serving, items_of, lives, map_after, master_at, never}
-use Rattle.rk_inv_base.proofs.Words.{newest, next_record, option_or, place_of, record_of, staged, state_of, tablet_in, truths, view}
-use Rattle.rk_inv_base.proofs.Words.{with_all_sent, with_all_served, with_ledger, with_marks, with_master, with_mutation, with_record}
+use Rattle.rk_inv_base.proofs.Words.{Allowed, Call, Held, IsMaster, IsSound, IsTruth, IsWellFormed, Ledger, Master, MaySend, Message, Op}
+use Rattle.rk_inv_base.proofs.Words.{Outcome, Placed, Reads, Request, RequestFits, Served, Tablet, View, World, answering, base_map}
+use Rattle.rk_inv_base.proofs.Words.{call_of, choice_of, cond-false, cond-true, filled, found, hash_of, is_known, is_mutation}
+use Rattle.rk_inv_base.proofs.Words.{is_of_mutation, items_of, lives, map_after, master_at, never, newest, next_record, option_or, place_of}
+use Rattle.rk_inv_base.proofs.Words.{record_of, staged, state_of, tablet_in, truths, view, with_all_sent, with_all_served, with_ledger}
+use Rattle.rk_inv_base.proofs.Words.{with_marks, with_master, with_mutation, with_record, Row}
 use Rattle.rk_inv_base.proofs.calls.ReadRecorded.{sound_recorded}
 use Rattle.rk_inv_events.proofs.Words.{MayRead, length_push, row_true, sound_sent, was_read}
 use Rattle.rk_inv_events.proofs.answer.FoundItems.{has_arrived}
@@ -21,7 +21,7 @@ use Rattle.rk_inv_events.proofs.answer.RecordFound.{Knows, record_found}
 use Rattle.rk_inv_events.proofs.events.Working.{marks_same, sound_unchanged, view_unchanged}
 use Rattle.rk_inv_events.proofs.request.Answering.{done_as}
 use Rattle.rk_inv_events.proofs.request.Choices.{IsFresh, IsRead, fresh, reads}
-use Rattle.rk_inv_events.proofs.request.Served.{HasServedRow, has_here, served_here, served_row, serves_key_of, tablet_is}
+use Rattle.rk_inv_events.proofs.request.Served.{IsServedAt, served_at}
 use Rattle.rk_inv_events.proofs.stored.Replies.{may_tell_at}
 use Rattle.rk_inv_events.proofs.stored.Work.{reply_to}
 
@@ -83,25 +83,12 @@ module _ (w : World) (master client : ℕ) (request : Request) (outcome : Outcom
   is_get : is_mutation request.op ≡ false
   is_get = ap is_mutation is_read.op_is
 
-  -- the tablet that serves
-  tablet : tablet_in w master is_fresh.number ≡ is_fresh.tablet
-  tablet = tablet_is w master request.table request.key is_fresh.number is_fresh.tablet formed there is_fresh.serves
+  -- calls for the key are answered here
+  at : IsServedAt w master request.table request.key is_fresh.number is_fresh.tablet
+  at = served_at w master request.table request.key is_fresh.number is_fresh.tablet sound formed there alive is_fresh.serves
 
-  serves : is_serving (tablet_in w master is_fresh.number).handover.role ≡ true
-  serves = served_here w master request.table request.key is_fresh.number is_fresh.tablet formed there is_fresh.serves
-
-  inside : has_key (tablet_in w master is_fresh.number).handover.range request.table request.key ≡ true
-  inside = has_here w master request.table request.key is_fresh.number is_fresh.tablet formed there is_fresh.serves
-
-  is_served : IsServedIn (view w) master (call_of client request)
-  is_served = serves_key_of (view w) sound master is_fresh.number alive serves request.table request.key inside
-
-  at : HasServedRow (view w) master is_fresh.number
-  at = served_row (view w) sound master is_fresh.number alive serves
-
-  in_row : has_key at.row.range request.table request.key ≡ true
-  in_row = ap (λ range. has_key range request.table request.key) (sym at.range)
-      ∙ ap (λ (n : ℕ). has_key (v.handovers master n).range request.table request.key) at.number ∙ inside
+  abbrev row : Row
+  row = at.served.row
 
   -- what is found is what the truth leaves
   finds : state_of (master_at w master) (call_of client request) ≡ found request.table request.key (v.records master)
@@ -109,31 +96,27 @@ module _ (w : World) (master client : ℕ) (request : Request) (outcome : Outcom
       ap
       (λ (b : Bool). option_or (cond b (newest (items_of (staged own)) call.table call.key) None) (found call.table call.key own.records)) is_get
 
-  knows : Knows (view w) sound at.row master at.stands alive at.serves request.table request.key in_row
+  knows : Knows (view w) sound at.served.row master at.served.has_row alive at.served.serves request.table request.key at.served.in_row
   knows none =
-      subst
-      (λ (n : ℕ).
-      (items : List Held) (x : Held) → Contains items x → is_of request.table request.key x ≡ true
-      → HasArrived (v.handovers master n).role (v.pullings master n) items x) (sym at.number)
-      (has_arrived (tablet_in w master is_fresh.number) request.table request.key
-      (subst (λ (t : Tablet). is_known t (hash_of request.key) None ≡ true) (sym tablet)
-      (subst (λ (o : Option Held). is_known is_fresh.tablet (hash_of request.key) o ≡ true) (finds ∙ none) is_read.known)))
+      has_arrived (tablet_in w master row.tablet) request.table request.key
+      (subst (λ (t : Tablet). is_known t (hash_of request.key) None ≡ true) (sym at.tablet_is)
+      (subst (λ (o : Option Held). is_known is_fresh.tablet (hash_of request.key) o ≡ true) (finds ∙ none) is_read.known))
 
-  truth : IsTruth v.base at.row.range (truths v at.row) v.journal
-  truth = row_true v sound at.row at.stands
+  truth : IsTruth v.base at.served.row.range (truths v at.served.row) v.journal
+  truth = row_true v sound row at.served.has_row
 
   abbrev entry : MapEntry
   entry = map_after (base_map w.base) w.ledger.journal request.table request.key
 
   tells : outcome ≡ machine_read (map_after (base_map w.base) w.ledger.journal request.table request.key)
   tells = is_read.outcome_is ∙ ap (λ (o : Option Held). read_of (record_of o)) finds
-      ∙ ap read_of (record_found (view w) sound at.row master at.stands alive at.serves request.table request.key in_row knows)
-      ∙ ap read_of (truth.live request.table request.key in_row) ∙ reads_entry entry
+      ∙ ap read_of (record_found (view w) sound row master at.served.has_row alive at.served.serves request.table request.key at.served.in_row knows)
+      ∙ ap read_of (truth.live request.table request.key at.served.in_row) ∙ reads_entry entry
 
   may_read : MayRead (view w) master (call_of client request) request.seen outcome
   may_read = record {
     read = is_get;
-    served = is_served;
+    served = at.served;
     was_asked = asked.was_asked;
     has_seen = asked.seen;
     allowed = allowed_get entry request.op outcome is_read.op_is tells;

@@ -1,65 +1,47 @@
 -- A sound and well formed lane stays sound when a master tells the outcome of a call that it knows to have ended.
-use Rattle.std.proofs.Common.{Bool, Contains, List, None, Some, [], ap, arith, cond, eq-eqb, eqb-true, false, length, lt-ltb, ltb, not}
-use Rattle.std.proofs.Common.{position, refl, slice_get, suc, sym, true, ℕ, ⊎_elim, ◌&&◌, ◌+◌, ◌<◌, ◌==◌, ◌∙◌, ◌∷◌, ◌≡◌}
+use Rattle.std.proofs.lemmas.List.Folds.{find_at}
+use Rattle.std.proofs.Common.{Bool, Contains, List, None, Some, [], ap, eq-eqb, eqb-true, length, lt-ltb, ltb, position, refl}
+use Rattle.std.proofs.Common.{slice_get, sym, true, ℕ, ◌&&◌, ◌==◌, ◌∙◌, ◌≡◌, Option, find}
 use Rattle.rk_message.specs.declared.message.Body.TheVariants as bodies
 use Rattle.rk_types.specs.declared.call.Answer.TheVariants as answers
 use Rattle.rk_types.specs.declared.node.Node.TheVariants as nodes
 use Rattle.rk_inv_base.proofs.Words.{Call, End, IsMaster, IsSound, IsWellFormed, MaySend, Placed, Repeats, Request, SoundView, Tablet, View}
 use Rattle.rk_inv_base.proofs.Words.{WasAsked, World, and_from, and_parts, answering, call_of, choice_of, cond-true, false≢true, filled}
-use Rattle.rk_inv_base.proofs.Words.{has_key, is_mutation, is_of_mutation, lives, look, master_at, outcome_of, slice_get-get_or, view}
-use Rattle.rk_inv_base.proofs.Words.{with_master}
-use Rattle.rk_inv_events.proofs.Words.{contains_cases, position_or_len}
+use Rattle.rk_inv_base.proofs.Words.{is_mutation, is_of_mutation, lives, look, master_at, outcome_of, slice_get-get_or, view, with_master}
+use Rattle.rk_inv_base.proofs.Words.{slice_get_within}
+use Rattle.rk_inv_events.proofs.Words.{position_or_len, none_of}
 use Rattle.rk_inv_events.proofs.answer.Ended.{HasRecord, has_record}
 use Rattle.rk_inv_events.proofs.events.Working.{sound_sending, sound_unchanged}
 use Rattle.rk_inv_events.proofs.request.Answering.{done_as}
 use Rattle.rk_inv_events.proofs.request.Choices.{IsRepeated, repeats}
-use Rattle.rk_inv_events.proofs.request.Served.{ends_order, has_here, served_here, served_row, tablet_is}
+use Rattle.rk_inv_events.proofs.request.Served.{served_at}
 use Rattle.rk_inv_events.proofs.stored.Replies.{may_tell_at}
+use Rattle.rk_inv_wellformed.proofs.maps.Lists.{find_passes}
 
 -- ---- the place of the first thing in a list that passes a test, where one does
 
--- the first one that passes
 record IsFirst {X : Type 0} (p : X → Bool) (xs : List X) : Type 0 where
   place : ℕ
   first : X
-  place_is : position_or_len p xs ≡ place
-  within : place < length xs
+  place_is : position p xs ≡ Some place
   stands : slice_get xs place ≡ Some first
   passes : p first ≡ true
 
 first_one : {X : Type 0} (p : X → Bool) (xs : List X) (x : X) → Contains xs x → p x ≡ true → IsFirst p xs
-first_one p [] x at passes = absurd (omega (arith, at.1))
-first_one {X} p (y ∷ xs) x at passes = by (p y) refl (λ behind. first_one p xs x behind passes)
+first_one {X} p xs x at passes = go (find p xs) refl
   where
-    by : (b : Bool) → p y ≡ b → (Contains xs x → IsFirst p xs) → IsFirst p (y ∷ xs)
-    by true is more = record {
-      place = 0;
-      first = y;
-      place_is = ap (λ (b : Bool). cond (not b) (1 + position_or_len p xs) 0) is;
-      within = omega arith;
-      stands = refl;
-      passes = is;
-    }
-    by false is more =
-        ⊎_elim
-        (λ (same : y ≡ x). absurd (false≢true (sym is ∙ ap p same ∙ passes)))
-        (λ (behind : Contains xs x).
-        let later = more behind in
-        let opened : position_or_len p (y ∷ xs) ≡ 1 + position_or_len p xs =
-        ap (λ (b : Bool). cond (not b) (1 + position_or_len p xs) 0) is in
+    go : (found : Option X) → find p xs ≡ found → IsFirst p xs
+    go None is = absurd (false≢true (sym (none_of p xs is x at) ∙ passes))
+    go (Some first) is =
+        let place : ℕ = position_or_len p xs in
+        let stands : slice_get xs place ≡ Some first = sym (find_at p xs) ∙ is in
         record {
-          place = suc later.place;
-          first = later.first;
-          place_is = omega (arith, opened, later.place_is);
-          within = omega (arith, later.within);
-          stands = later.stands;
-          passes = later.passes;
-        })
-        (contains_cases y xs x at)
-
-position_is : {X : Type 0} (p : X → Bool) (xs : List X) (is : IsFirst p xs) → position p xs ≡ Some is.place
-position_is p xs is = ap (λ (n : ℕ). cond (ltb n (length xs)) (Some n) None) is.place_is
-    ∙ cond-true (ltb is.place (length xs)) (Some is.place) None (lt-ltb is.place (length xs) is.within)
+          place = place;
+          first = first;
+          place_is = cond-true (ltb place (length xs)) (Some place) None (lt-ltb place (length xs) (slice_get_within xs place first stands));
+          stands = stands;
+          passes = find_passes p xs first is;
+        }
 
 -- ---- the outcome
 
@@ -95,7 +77,7 @@ module _ (v : View) (sound : SoundView v) (master : ℕ) (call : Call) (end : En
             (record { seq = call.seq; stamp = 0; place = 0; answer = answers.Done (outcome_of end) });
       }))
   may_tell = may_tell_at v master [] (record { call = call; outcome = outcome_of end }) first.place first.first
-      (position_is (is_of_mutation call.client call.seq) v.journal first) first.stands one_record.0 one_record.1
+      first.place_is first.stands one_record.0 one_record.1
       (ap (λ (p : Placed). p.outcome) one_record.2 ∙ has.outcome)
 
 module _ (w : World) (master client : ℕ) (request : Request) (end : End) (sound : IsSound w) (formed : IsWellFormed w) (there : IsMaster w.coordinator.masters master)
@@ -112,16 +94,10 @@ module _ (w : World) (master client : ℕ) (request : Request) (end : End) (soun
   in_journal : HasRecord w.ledger.journal (call_of client request) end
   in_journal =
       let found = is_repeated in
-      let tablet = tablet_is w master request.table request.key found.number found.tablet formed there found.serves in
-      let serves = served_here w master request.table request.key found.number found.tablet formed there found.serves in
-      let inside = has_here w master request.table request.key found.number found.tablet formed there found.serves in
-      let order = ends_order w master request.table request.key found.number found.tablet formed there found.serves in
-      let row = served_row v sound master found.number alive serves in
-      has_record v sound row.row master call end row.stands alive row.serves
-      (rw row.number (ap (λ (t : Tablet). look t.completions client request.seq) tablet ∙ found.same)) (rw row.number (rw tablet order))
-      found.mutation
-      (ap (λ range. has_key range request.table request.key) (sym row.range)
-      ∙ ap (λ (n : ℕ). has_key (v.handovers master n).range request.table request.key) row.number ∙ inside) was_asked
+      let at = served_at w master request.table request.key found.number found.tablet sound formed there alive found.serves in
+      has_record v sound at.served.row master call end at.served.has_row alive at.served.serves
+      (ap (λ (t : Tablet). look t.completions client request.seq) at.tablet_is ∙ found.same) (rw at.tablet_is at.order)
+      found.mutation at.served.in_row was_asked
 
   pub sound_repeated : IsSound (done_as w master client request (Repeats end))
   sound_repeated =

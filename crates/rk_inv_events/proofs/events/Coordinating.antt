@@ -17,7 +17,7 @@ use Rattle.rk_inv_base.proofs.Words.{IsWellFormed, Limits, Master, MayHappen, No
 use Rattle.rk_inv_base.proofs.Words.{coordinator_notice, crashed_masters, get, has_crashed, is_noticed, limits_of, master_at, migrating}
 use Rattle.rk_inv_base.proofs.Words.{new_master, new_row, no_tablet, notice_one, notice_order, number_of, option_or, phase_noticed}
 use Rattle.rk_inv_base.proofs.Words.{range_in, range_with_len, refusal, row_migrated, row_noticed, row_of, tablet_at, tablet_in}
-use Rattle.rk_inv_base.proofs.Words.{tablet_migrated, view, where_true, with_coordinator}
+use Rattle.rk_inv_base.proofs.Words.{tablet_migrated, view, where_true, with_coordinator, IsInOrder}
 use Rattle.rk_inv_base.proofs.rows.CrashNoticed.{sound_crash_noticed}
 use Rattle.rk_inv_base.proofs.rows.MigrationBegun.{sound_migrated}
 use Rattle.rk_inv_base.proofs.rows.RowAdded.{sound_added}
@@ -42,6 +42,10 @@ module _ (w : World) (formed : IsWellFormed w) where
       go : (found : Option Master) → get w.masters q ≡ found → P (unwrap_or found (new_master q []))
       go None is = new
       go (Some m) is = each m is (formed.masters q m is)
+
+  -- their tablets are in order
+  pub tablets_order : (q : ℕ) → IsInOrder (master_at w q).tablets
+  tablets_order q = of_master (λ m. IsInOrder m.tablets) q tt (λ m is its. its.tablets_order)
 
   -- so it is of their tablets
   pub of_tablet : (P : Tablet → Type 0) (q number : ℕ) → P no_tablet

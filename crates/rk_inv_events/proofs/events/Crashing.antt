@@ -10,7 +10,7 @@ use Rattle.rk_inv_tablets.proofs.crash.Crashed.{sound_crashed}
 use Rattle.rk_inv_events.proofs.Words.{AreReadable, MayCrash, room_of_master, segments_few}
 use Rattle.rk_inv_events.proofs.events.Coordinating.{masters_from, of_master, of_tablet, rows_some}
 
-module _ (w : World) (formed : IsWellFormed w) (room : HasRoom w) where
+module _ (w : World) (formed : IsWellFormed w) where
   pub entries_lawful : (q : ℕ) → All IsLawfulEntry (master_at w q).log.entries
   entries_lawful q = of_master w formed (λ m. All IsLawfulEntry m.log.entries) q (All-nil IsLawfulEntry)
       (λ m is its. All-weaker (IsFormedEntry (limits_of w)) IsLawfulEntry (λ entry it. lawful_of (limits_of w) entry it) m.log.entries its.written)
@@ -18,10 +18,6 @@ module _ (w : World) (formed : IsWellFormed w) (room : HasRoom w) where
   pub items_lawful : (q : ℕ) → All IsLawfulHeld (flat_map (λ items. items) (master_at w q).sides)
   items_lawful q = of_master w formed (λ m. All IsLawfulHeld (flat_map (λ items. items) m.sides)) q (All-nil IsLawfulHeld)
       (λ m is its. All-weaker (IsFormedHeld (limits_of w)) IsLawfulHeld (λ held it. it.lawful) (flat_map (λ items. items) m.sides) its.items)
-
-  pub segments_left : (q : ℕ) → HasSegmentLeft (master_at w q).log
-  segments_left q = of_master w formed (λ m. HasSegmentLeft m.log) q (omega arith) (λ m is its.
-      let fits = room_of_master w q m is formed.standing room in segments_few m.log (omega (arith, fits.bytes)))
 
   pub gathered_formed : (q tablet : ℕ) → All (IsFormedGathered (limits_of w)) (tablet_at (master_at w q) tablet).gather.members
   gathered_formed q tablet = of_tablet w formed (λ t. All (IsFormedGathered (limits_of w)) t.gather.members) q tablet
@@ -31,8 +27,13 @@ module _ (w : World) (formed : IsWellFormed w) (room : HasRoom w) where
   gathered_few q tablet = All-weaker (IsFormedGathered (limits_of w)) (λ gathered. length gathered.main ≤ LAST_MAIN_SEGMENT)
       (λ gathered read. read.few) (tablet_at (master_at w q) tablet).gather.members (gathered_formed q tablet)
 
+module _ (w : World) (formed : IsWellFormed w) (room : HasRoom w) where
+  pub segments_left : (q : ℕ) → HasSegmentLeft (master_at w q).log
+  segments_left q = of_master w formed (λ m. HasSegmentLeft m.log) q (omega arith) (λ m is its.
+      let fits = room_of_master w q m is formed.standing room in segments_few m.log (omega (arith, fits.bytes)))
+
   pub readable : AreReadable (view w).logs (view w).written
-  readable = record { entries = entries_lawful; items = items_lawful; room = segments_left }
+  readable = record { entries = entries_lawful w formed; items = items_lawful w formed; room = segments_left }
 
   -- another master lives
   another_lives : (master : ℕ) → lives_another w master ≡ true → MayCrash (view w) master
@@ -53,5 +54,5 @@ module _ (w : World) (formed : IsWellFormed w) (room : HasRoom w) where
         may = another_lives master calm;
         ranges = rows_some w formed;
         readable = readable;
-        gathered = gathered_few master;
+        gathered = gathered_few w formed master;
       })

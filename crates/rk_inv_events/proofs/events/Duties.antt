@@ -10,9 +10,8 @@ use Rattle.rk_inv_base.proofs.Words.{IsOf, MaySend, Member, MembersFit, Node, RE
 use Rattle.rk_inv_base.proofs.Words.{Rebuilt, RebuiltIn, Role, Row, SoundView, Tenure, Token, View, cases_Bool, is_absent, is_granted}
 use Rattle.rk_inv_base.proofs.Words.{lineage_of, list_any_at, next_of, next_reading, next_segment, option_or, post_of, reading_of, row_of}
 use Rattle.rk_inv_events.proofs.Words.{all_by, role_fits, row_in, row_rebuilt}
-use Rattle.rk_inv_events.proofs.copies.GatheringRow.{gathering_row}
+use Rattle.rk_inv_events.proofs.events.PostsOf.{gathering_row, Fits, former_member, joined_in, rebuilt_in, receiving_moves}
 use Rattle.rk_inv_events.proofs.events.Coordinating.{tested}
-use Rattle.rk_inv_events.proofs.events.PostsOf.{Fits, former_member, joined_in, rebuilt_in, receiving_moves}
 use Rattle.rk_inv_events.proofs.events.Sending.{may_send}
 
 -- what is read next is of one of the members

@@ -140,6 +140,26 @@ module _ (master term own applied : ℕ) (same : own ≡ term) where
       go (outside lineage none) fits = (refl, at, its, ends)
       go _ fits = absurd fits
 
+-- ---- a master that gathers
+
+-- a row in this phase is rebuilt by a master, whose term is the row's
+pub record IsRebuiltAt (phase : Phase) (master own term : ℕ) : Type 0 where
+  pub lineage : List Member
+  pub phase_is : phase ≡ Rebuilding lineage master
+  pub term_is : own ≡ term
+
+pub gathering_row : (master place term own applied : ℕ) (phase : Phase)
+    → Fits (post_of phase master) (roles.Rebuilding place None) term own applied → IsRebuiltAt phase master own term
+gathering_row master place term own applied phase = go (has_post phase master)
+  where
+    go : {p : Phase} {post : Post} → HasPost master p post → Fits post (roles.Rebuilding place None) term own applied
+        → IsRebuiltAt p master own term
+    go (only_heir only here) fits = record { lineage = only ∷ []; phase_is = refl; term_is = fits.0 }
+    go (first_heir first last more here) fits = record { lineage = first ∷ last ∷ more; phase_is = refl; term_is = fits.0 }
+    go (last_heir first last more here) fits = record { lineage = first ∷ last ∷ more; phase_is = refl; term_is = fits.0 }
+    go (outside lineage none) fits = record { lineage = lineage; phase_is = refl; term_is = fits }
+    go _ fits = absurd fits
+
 -- ---- a master that serves
 
 -- what a post says of a master that serves there: only some posts let it

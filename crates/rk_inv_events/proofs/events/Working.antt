@@ -2,9 +2,8 @@
 use Rattle.std.proofs.Common.{Bool, List, None, Option, Some, [], ap, append-nil, cond, eq-eqb, false, refl, subst, sym, true, ℕ, ◌==◌, ◌∙◌}
 use Rattle.std.proofs.Common.{◌≡◌}
 use Rattle.rk_inv_base.proofs.Words.{Body, Handover, IsSound, Ledger, Mark, Master, MaySend, Message, NumberMap, Role, SoundView, Stepped}
-use Rattle.rk_inv_base.proofs.Words.{View, Worked, World, changed, cond-false, cond-true, cond_both, filled, has_crashed, in_role, lives}
-use Rattle.rk_inv_base.proofs.Words.{losing, master_at, order, seen_in, sending, tablet_in, to_master, view, with_marks, with_master}
-use Rattle.rk_inv_base.proofs.Words.{worked_at}
+use Rattle.rk_inv_base.proofs.Words.{View, Worked, World, changed, cond-true, cond_both, filled, has_crashed, in_role, lives, losing}
+use Rattle.rk_inv_base.proofs.Words.{master_at, order, seen_in, sending, tablet_in, to_master, view, with_marks, with_master, worked_at}
 use Rattle.rk_inv_events.proofs.Words.{master_same, put2_same, put_same, sound_sent, view_master}
 use Rattle.rk_inv_events.proofs.events.Pairs.{insert_twice}
 use Rattle.rk_inv_events.specs.orders.Orders.{order_to}
@@ -50,15 +49,9 @@ let_through false some thing is = absurd (cc is)
 -- ---- a message reaches a master
 
 -- what is so once a living master has worked is so of the lane then
-pub reached_as : (P : World → Type 0) (w : World) (master seen : ℕ) (worked : Worked) → has_crashed w master ≡ false
-    → P (worked_at w master seen worked).world
-    → P (cond (has_crashed w master) (losing w) (worked_at w master seen worked)).world
-reached_as P w master seen worked lives = subst (λ (s : Stepped). P s.world)
-    (sym (cond-false (has_crashed w master) (losing w) (worked_at w master seen worked) lives))
-
 pub reached : (w : World) (master seen : ℕ) (worked : Worked) → has_crashed w master ≡ false → IsSound (worked_at w master seen worked).world
     → IsSound (cond (has_crashed w master) (losing w) (worked_at w master seen worked)).world
-reached = reached_as IsSound
+reached w master seen worked lives sound = rw lives sound
 
 -- one that has crashed loses it
 pub reached_or_lost : (w : World) (master seen : ℕ) (worked : Worked) → IsSound w
@@ -68,14 +61,10 @@ reached_or_lost w master seen worked sound =
     cond_both (has_crashed w master) (losing w) (worked_at w master seen worked) (λ (s : Stepped). IsSound s.world) (λ crashed. sound)
 
 -- a living master takes an order
-pub taken_as : (P : World → Type 0) (w : World) (master : ℕ) (body : Body) → has_crashed w master ≡ false
-    → P (worked_at w master (seen_in body) (order (master_at w master) body)).world → P (to_master w master (order_to master body)).world
-taken_as P w master body = reached_as P w master (seen_in body) (order (master_at w master) body)
-
 pub taken : (w : World) (master : ℕ) (body : Body) → has_crashed w master ≡ false
     → IsSound (worked_at w master (seen_in body) (order (master_at w master) body)).world
     → IsSound (to_master w master (order_to master body)).world
-taken = taken_as IsSound
+taken w master body = reached w master (seen_in body) (order (master_at w master) body)
 
 -- ---- the master works
 

@@ -10,7 +10,6 @@ use Rattle.rk_inv_base.proofs.Words.{with_ledger, with_marks, with_master, worke
 use Rattle.rk_inv_tablets.proofs.merge.RebuildMerged.{merged_is}
 use Rattle.rk_inv_events.proofs.Words.{as_merged, master_same, merge_in, piece_entries, put_here, rebuild_merged_in, role_carried}
 use Rattle.rk_inv_events.proofs.Words.{segments_few, with_entries, within_sum_of}
-use Rattle.rk_inv_events.proofs.copies.Gathers.{gathers}
 use Rattle.rk_inv_events.proofs.events.Working.{moved_itself, put_again}
 
 -- the log of a master has no more main segments than there can be

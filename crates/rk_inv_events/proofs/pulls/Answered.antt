@@ -1,29 +1,18 @@
 -- A sound lane stays sound when a Got reaches a target that lives: it replays the items, each of which is its source's, and the hashes are
 -- resolved.
-use Rattle.std.proofs.Common.{Bool, Contains, List, Some, [], ap, arith, cond, eqb-true, false, flat_map, not, refl, subst, sym, true, ℕ}
-use Rattle.std.proofs.Common.{◌&&◌, ◌∙◌, ◌∷◌, ◌≡◌}
+use Rattle.std.proofs.Common.{Bool, Contains, List, Some, [], ap, arith, cond, false, flat_map, not, refl, subst, sym, true, ℕ, ◌&&◌, ◌∙◌}
+use Rattle.std.proofs.Common.{◌∷◌, ◌≡◌}
 use Rattle.rk_message.specs.declared.message.Body.TheVariants as bodies
-use Rattle.rk_transfer.specs.declared.role.Role.TheVariants as roles
 use Rattle.rk_types.specs.declared.node.Node.TheVariants as nodes
-use Rattle.rk_inv_base.proofs.Words.{Got, GotAgrees, Held, IsPulling, IsSound, Master, Member, Role, Row, Tablet, View, World, and_parts}
-use Rattle.rk_inv_base.proofs.Words.{as_entries, at_hash, changed, get, got_taken, has_crashed, hashes_resolved, is_batch, is_receiving}
-use Rattle.rk_inv_base.proofs.Words.{is_receiving_at, items_of, lineage_of, master_at, replay, source_items, tablet_in, to_master, view}
-use Rattle.rk_inv_base.proofs.Words.{with_master, worked_at}
+use Rattle.rk_inv_base.proofs.Words.{Got, GotAgrees, Held, IsPulling, IsSound, Master, Member, Row, Tablet, World, at_hash, changed, get}
+use Rattle.rk_inv_base.proofs.Words.{got_taken, has_crashed, hashes_resolved, is_batch, is_receiving_at, items_of, master_at, replay}
+use Rattle.rk_inv_base.proofs.Words.{source_items, tablet_in, to_master, view, with_master, worked_at, Node}
 use Rattle.rk_inv_base.proofs.pulls.HashesResolved.{sound_resolved}
 use Rattle.rk_inv_events.proofs.Words.{row_said}
 use Rattle.rk_inv_events.proofs.events.Working.{put_again, reached, sound_changed, stays}
 use Rattle.rk_inv_events.proofs.pulls.Replaying.{found_in, replayed_all, same_source, still_pulls}
-use Rattle.rk_inv_events.proofs.pulls.Targets.{found_there, of_some_hash, target_of}
-
--- a role that the test says to pull does
-pub receiving_is : (role : Role) → is_receiving role ≡ true → role ≡ roles.Receiving
-receiving_is roles.Receiving holds = refl
-receiving_is _ holds = absurd (cc holds)
-
--- the items of entries that are items
-pub items_again : (items : List Held) → items_of (as_entries items) ≡ items
-items_again [] = refl
-items_again (item ∷ items) = ap (λ (list : List Held). item ∷ list) (items_again items)
+use Rattle.rk_inv_events.proofs.pulls.Targets.{found_there, of_some_hash, as_target, of_target}
+use Rattle.rk_inv_wellformed.proofs.masters.Pulls.{items_again}
 
 -- ---- a target
 
@@ -53,35 +42,33 @@ module _ (w : World) (sound : IsSound w) (row : Row) (source target : Member) (p
 
 -- ---- the message
 
+-- what a Got has is what the source of its receiver has of the hashes
+pub got_are : (w : World) (number master : ℕ) (from : Node) (message : Got) (sound : IsSound w) (lives : has_crashed w master ≡ false)
+    (receives : is_receiving_at (tablet_in w master message.tenure.tablet) message.tenure.term ≡ true)
+    → get w.wire.messages number ≡ Some (record { from = from; to = nodes.Master master; body = bodies.Got message })
+    → let its = as_target w sound master message.tenure lives receives in
+    items_of message.entries ≡ flat_map (λ hash. at_hash hash (source_items (view w) its.row its.source)) message.hashes
+got_are w number master from message sound lives receives there =
+    let v = view w in
+    let its = as_target w sound master message.tenure lives receives in
+    let agrees : GotAgrees its.row v.written v.handovers v.live (its.source ∷ its.target ∷ []) from master message =
+    rw its.pulls.lineage_is at (row_said v sound its.row its.pulls.has_row number _ there).1 in
+    ap items_of (agrees its.here (ap not lives) (of_target w sound master message.tenure lives receives)).items_are
+    ∙ items_again (flat_map (λ hash. at_hash hash (source_items v its.row its.source)) message.hashes)
+
 module _ (w : World) (number sender master : ℕ) (message : Got) (sound : IsSound w) (lives : has_crashed w master ≡ false)
     (there : get w.wire.messages number ≡ Some (record { from = nodes.Master sender; to = nodes.Master master; body = bodies.Got message })) where
-  abbrev v : View
-  v = view w
-
   abbrev kept : Tablet
   kept = tablet_in w master message.tenure.tablet
-
-  -- what is said of it to a target
-  got_says : (row : Row) → Contains v.rows row → (lineage : List _) → lineage_of row.phase ≡ lineage → GotAgrees row v.written v.handovers v.live lineage (nodes.Master sender) master message
-  got_says row stands lineage is =
-      rw is at
-      (row_said v sound row stands number (record { from = nodes.Master sender; to = nodes.Master master; body = bodies.Got message })
-      there).1
 
   taken : is_receiving_at kept message.tenure.term ≡ true
       → IsSound (with_master w master (hashes_resolved (replay (master_at w master) message.tenure.tablet 0 (items_of message.entries)) message.tenure.tablet message.hashes))
   taken receives =
-      let both = and_parts _ _ receives in
-      let its = target_of v sound master message.tenure.tablet (ap not lives) (receiving_is kept.handover.role both.0) in
-      let says = got_says its.row its.pulls.has_row (its.source ∷ its.target ∷ []) its.pulls.lineage_is its.here (ap not lives) (record {
-        tablet = sym its.number_is;
-        term = sym (eqb-true kept.handover.term message.tenure.term both.1) ∙ ap (λ (n : ℕ). (v.handovers master n).term) (sym its.number_is);
-      }) in
-      let items : items_of message.entries ≡ flat_map (λ hash. at_hash hash (source_items v its.row its.source)) message.hashes =
-      ap items_of says.items_are ∙ items_again (flat_map (λ hash. at_hash hash (source_items v its.row its.source)) message.hashes) in
+      let its = as_target w sound master message.tenure lives receives in
       subst (λ (n : ℕ). IsSound (with_master w master (hashes_resolved (replay (master_at w master) n 0 (items_of message.entries)) n message.hashes))) its.number_is
       (subst (λ (q : ℕ). IsSound (with_master w q (hashes_resolved (replay (master_at w q) its.row.tablet 0 (items_of message.entries)) its.row.tablet message.hashes))) its.here
-      (sound_items w sound its.row its.source its.target its.pulls message.hashes (items_of message.entries) items))
+      (sound_items w sound its.row its.source its.target its.pulls message.hashes (items_of message.entries)
+      (got_are w number master (nodes.Master sender) message sound lives receives there)))
 
   pub sound_got : IsSound (to_master w master (record { from = nodes.Master sender; to = nodes.Master master; body = bodies.Got message })).world
   sound_got = reached w master 0 (got_taken (master_at w master) message) lives

@@ -1,23 +1,23 @@
 -- A sound lane stays sound when a Pulled reaches a target that lives: it replays the batch of its token and passes on, and behind the last
 -- batch it seals what it copied.
-use Rattle.std.proofs.Common.{Bool, Contains, List, Some, [], ap, arith, cond, eqb-true, false, inl, inr, not, refl, subst, sym, true, ℕ}
-use Rattle.std.proofs.Common.{◌%◌, ◌&&◌, ◌+◌, ◌<◌, ◌∙◌, ◌∷◌, ◌≡◌}
+use Rattle.std.proofs.Common.{Bool, List, Some, [], ap, arith, cond, eqb-true, false, inl, inr, not, refl, subst, sym, true, ℕ, ◌%◌, ◌&&◌}
+use Rattle.std.proofs.Common.{◌+◌, ◌<◌, ◌∙◌, ◌∷◌, ◌≡◌}
 use Rattle.std.proofs.lemmas.Nat.{mod_below}
 use Rattle.rk_message.specs.declared.message.Body.TheVariants as bodies
 use Rattle.rk_transfer.specs.declared.role.Role.TheVariants as roles
 use Rattle.rk_types.specs.declared.node.Node.TheVariants as nodes
 use Rattle.rk_world.specs.Master.{with_item}
 use Rattle.rk_inv_base.proofs.Words.{All-contains, BATCH_BYTES, Handover, HasSegmentLeft, Held, IsFormedRow, IsSound, IsWellFormed, Master}
-use Rattle.rk_inv_base.proofs.Words.{Member, Pulled, PulledAgrees, Pulling, Range, Row, Tablet, Token, View, World, and_parts, batch_at}
+use Rattle.rk_inv_base.proofs.Words.{Member, Pulled, PulledAgrees, Pulling, Range, Tablet, Token, View, World, and_parts, batch_at}
 use Rattle.rk_inv_base.proofs.Words.{batch_taken, cases_eq, changed, cond_both, end, found, get, has_crashed, is_member, is_newer}
-use Rattle.rk_inv_base.proofs.Words.{is_receiving_at, is_token, item_replayed, items_of, limits_of, lineage_of, log_in, master_at, meets}
-use Rattle.rk_inv_base.proofs.Words.{pulled_all, pulled_taken, replay, replay_one, source_items, tablet_at, tablet_in, to_master}
-use Rattle.rk_inv_base.proofs.Words.{token_passed, view, with_master, with_pulled, with_pulling, with_tablet, worked_at}
+use Rattle.rk_inv_base.proofs.Words.{is_receiving_at, is_token, item_replayed, items_of, limits_of, log_in, master_at, meets, pulled_all}
+use Rattle.rk_inv_base.proofs.Words.{pulled_taken, replay, replay_one, source_items, tablet_at, tablet_in, to_master, token_passed, view}
+use Rattle.rk_inv_base.proofs.Words.{with_master, with_pulled, with_pulling, with_tablet, worked_at, Node, next_token}
 use Rattle.rk_inv_events.proofs.Words.{MaySealThere, last_member, master_same, meets_itself, row_in, row_said, tablet_apart, tablet_here}
 use Rattle.rk_inv_events.proofs.events.Working.{put_again, reached, sound_changed, stays}
-use Rattle.rk_inv_events.proofs.pulls.Answered.{items_again, receiving_is}
+use Rattle.rk_inv_wellformed.proofs.masters.Pulls.{items_again}
+use Rattle.rk_inv_events.proofs.pulls.Targets.{receiving_is, IsTargetOf, as_target, of_target}
 use Rattle.rk_inv_events.proofs.pulls.Passing.{sound_batch, sound_pulled_all}
-use Rattle.rk_inv_events.proofs.pulls.Targets.{IsTargetOf, target_of}
 use Rattle.rk_inv_events.specs.pulls.Moves.{MaySealBehind, batch_replayed}
 
 -- tokens that the test says to be one are
@@ -77,6 +77,21 @@ keeps_all number worker m (item ∷ items) =
 
 -- ---- the message
 
+-- a Pulled has the batch of its token that the source of its receiver has, and the next token there
+pub pulled_are : (w : World) (number master : ℕ) (from : Node) (message : Pulled) (sound : IsSound w) (lives : has_crashed w master ≡ false)
+    (receives : is_receiving_at (tablet_in w master message.tenure.tablet) message.tenure.term ≡ true)
+    → get w.wire.messages number ≡ Some (record { from = from; to = nodes.Master master; body = bodies.Pulled message })
+    → let its = as_target w sound master message.tenure lives receives in
+    let items = source_items (view w) its.row its.source in
+    (items_of message.entries ≡ batch_at message.token BATCH_BYTES items) × (message.next ≡ next_token message.token BATCH_BYTES items)
+pulled_are w number master from message sound lives receives there =
+    let v = view w in
+    let its = as_target w sound master message.tenure lives receives in
+    let agrees : PulledAgrees its.row v.written v.handovers v.live (its.source ∷ its.target ∷ []) from master message =
+    rw its.pulls.lineage_is at (row_said v sound its.row its.pulls.has_row number _ there).1 in
+    let said = agrees its.here (ap not lives) (of_target w sound master message.tenure lives receives) in
+    (ap items_of said.0.items_are ∙ items_again (batch_at message.token BATCH_BYTES (source_items v its.row its.source)), said.1)
+
 module _ (w : World) (number sender master : ℕ) (message : Pulled) (sound : IsSound w) (formed : IsWellFormed w) (lives : has_crashed w master ≡ false)
     (there : get w.wire.messages number ≡ Some (record { from = nodes.Master sender; to = nodes.Master master; body = bodies.Pulled message })) (may : message.next ≡ end → MaySealBehind w master message) where
   abbrev v : View
@@ -98,28 +113,17 @@ module _ (w : World) (number sender master : ℕ) (message : Pulled) (sound : Is
   abbrev passed : Master
   passed = token_passed replayed tablet message.next
 
-  -- what is said of it to a target
-  says : (row : Row) → Contains v.rows row → (lineage : List Member) → lineage_of row.phase ≡ lineage → PulledAgrees row v.written v.handovers v.live lineage (nodes.Master sender) master message
-  says row stands lineage is =
-      rw is at
-      (row_said v sound row stands number (record { from = nodes.Master sender; to = nodes.Master master; body = bodies.Pulled message })
-      there).1
-
   module _ (receives : is_receiving_at kept message.tenure.term ≡ true) (at_token : is_token message.token kept.pulling.token ≡ true) where
     role_is : kept.handover.role ≡ roles.Receiving
     role_is = receiving_is kept.handover.role (and_parts _ _ receives).0
 
-    its : IsTargetOf v master tablet
-    its = target_of v sound master tablet (ap not lives) role_is
+    abbrev its : IsTargetOf v master tablet
+    its = as_target w sound master message.tenure lives receives
 
     -- the lane is sound with the batch
     sound_taken : IsSound (with_master w master passed)
     sound_taken =
-        let said = says its.row its.pulls.has_row (its.source ∷ its.target ∷ []) its.pulls.lineage_is its.here (ap not lives) (record {
-          tablet = sym its.number_is;
-          term = sym (eqb-true kept.handover.term message.tenure.term (and_parts _ _ receives).1) ∙ ap (λ (n : ℕ). (v.handovers master n).term) (sym its.number_is);
-        }) in
-        let batch : List Held = batch_at message.token BATCH_BYTES (source_items v its.row its.source) in
+        let are = pulled_are w number master (nodes.Master sender) message sound lives receives there in
         let worker : ℕ = kept.pulling.batches % 4 in
         let few : worker < 4 = mod_below kept.pulling.batches 4 (omega arith) in
         let token : message.token ≡ (v.pullings its.target.master its.row.tablet).token =
@@ -127,7 +131,7 @@ module _ (w : World) (number sender master : ℕ) (message : Pulled) (sound : Is
         subst (λ (n : ℕ). IsSound (with_master w master (token_passed (replay own n worker (items_of message.entries)) n message.next))) its.number_is
         (subst (λ (q : ℕ). IsSound (with_master w q (token_passed (replay (master_at w q) its.row.tablet worker (items_of message.entries)) its.row.tablet message.next))) its.here
         (sound_batch w sound its.row its.source its.target its.pulls worker few message.token message.next
-        (items_of message.entries) token (ap items_of said.0.items_are ∙ items_again batch) said.1))
+        (items_of message.entries) token are.0 are.1))
 
     -- the range of the tablet is that of its row, so it is not empty
     meets_own : meets kept.handover.range kept.handover.range ≡ true

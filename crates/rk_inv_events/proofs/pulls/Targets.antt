@@ -1,12 +1,14 @@
 -- A target that pulls, by its row and its source: an item of the source that is found in the target's records is copied there, or the target
 -- has a newer one of its own.
 use Rattle.std.proofs.Common.{All, Contains, List, Some, [], ap, drop, flat_map, inl, inr, subst, sym, true, ℕ, ⊎_elim, ◌<◌, ◌∙◌, ◌∷◌, ◌≡◌}
+use Rattle.std.proofs.Common.{eqb-true, false, not, refl}
 use Rattle.rk_transfer.specs.declared.role.Role.TheVariants as roles
 use Rattle.rk_inv_base.proofs.Words.{All-contains, BATCH_BYTES, Contains-append_cases, Contains-append_left, Contains-append_right, Entry}
 use Rattle.rk_inv_base.proofs.Words.{Handover, Held, IsFound, IsPulling, Member, MembersFit, Row, SoundView, Token, View, Written}
 use Rattle.rk_inv_base.proofs.Words.{applied_entries, at_hash, batch_at, copied_items, counts, entries_from, get, is_absent, is_granted}
 use Rattle.rk_inv_base.proofs.Words.{is_in, is_of_parts, items_in, items_of, member_material, member_truth, newest, none_stands, passed}
-use Rattle.rk_inv_base.proofs.Words.{post_of, scan_items, source_items}
+use Rattle.rk_inv_base.proofs.Words.{post_of, scan_items, source_items, IsOfTarget, IsSound, Role, Tenure, World, and_parts, has_crashed}
+use Rattle.rk_inv_base.proofs.Words.{is_receiving, is_receiving_at, tablet_in, view}
 use Rattle.rk_inv_base.proofs.pulls.Joining.{joining_second, scanned}
 use Rattle.rk_inv_tablets.proofs.seal.SidesJoined.{fits_joining}
 use Rattle.rk_inv_events.proofs.Words.{IsIn, IsTargetIn, IsThere, filter_from, first_stand, flat_among, in_by_key, kept_among, law_whole}
@@ -78,6 +80,25 @@ module _ (v : View) (sound : SoundView v) (master number : ℕ) (lives : v.live 
   target_of =
       let its = has_row v.rows number (sound.roles.known master number lives (ap is_absent receives)) in
       target_in its.row its.stands its.tablet_is
+
+-- a role that the test says to pull does
+pub receiving_is : (role : Role) → is_receiving role ≡ true → role ≡ roles.Receiving
+receiving_is roles.Receiving holds = refl
+receiving_is _ holds = absurd (cc holds)
+
+-- a living master that takes what it pulls is the target of a row, and what it takes is of that row
+module _ (w : World) (sound : IsSound w) (master : ℕ) (tenure : Tenure) (lives : has_crashed w master ≡ false) (receives : is_receiving_at (tablet_in w master tenure.tablet) tenure.term ≡ true) where
+  pub as_target : IsTargetOf (view w) master tenure.tablet
+  as_target = target_of (view w) sound master tenure.tablet (ap not lives)
+      (receiving_is (tablet_in w master tenure.tablet).handover.role (and_parts _ _ receives).0)
+
+  pub of_target : IsOfTarget as_target.row ((view w).handovers master as_target.row.tablet) tenure
+  of_target = record {
+    tablet = sym as_target.number_is;
+    term =
+        sym (eqb-true (tablet_in w master tenure.tablet).handover.term tenure.term (and_parts _ _ receives).1)
+        ∙ ap (λ (n : ℕ). ((view w).handovers master n).term) (sym as_target.number_is);
+  }
 
 -- ---- what is there
 

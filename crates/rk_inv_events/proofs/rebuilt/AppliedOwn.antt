@@ -11,7 +11,7 @@ use Rattle.rk_inv_rows.proofs.lineage.MarksTaken.{apart, silent_apart}
 use Rattle.rk_inv_events.proofs.Words.{IsCovered, covered_by, covered_of, filter_from, kept_passes, marks_taken, row_in, taken_from}
 
 -- without marks no entry bears one
-none_marked : (place : ℕ) (list : List Entry) → unmarked [] place list ≡ list
+pub none_marked : (place : ℕ) (list : List Entry) → unmarked [] place list ≡ list
 none_marked place [] = refl
 none_marked place (entry ∷ list) = ap (λ (l : List Entry). entry ∷ l) (none_marked (suc place) list)
 

@@ -16,6 +16,7 @@ use Rattle.rk_inv_logs.proofs.apply.JoinedApplied.{item_entry}
 use Rattle.rk_inv_logs.proofs.apply.MergedEnds.{mapped}
 use Rattle.rk_inv_events.proofs.Words.{HasBoth, TellHistory, all_by, filter_from, filter_stands, from_flat, to_flat}
 use Rattle.rk_inv_events.proofs.rebuilt.Newest.{copy_of_all, live_same, target_plain}
+use Rattle.rk_inv_tablets.proofs.crash.MergeTells.{item_told}
 
 -- entries are own ones and a piece: copies of the newest of all, and a Carried behind them
 pub record HasPiece (own all now : List Entry) (carried : Carried) : Type 0 where
@@ -37,10 +38,6 @@ of_entries (first ∷ items) entry stands = elim (stands_cases (entries.Held fir
 
 pub entry_item : (list : List Entry) (item : Held) → Contains list (entries.Held item) → Contains (items_of list) item
 entry_item list item stands = to_flat items_in list (entries.Held item) item stands (first_stands item [])
-
-pub end_told : (list : List Entry) (item : Held) → Contains (items_of list) item → Contains (told list) (item_end item)
-end_told list item stands =
-    to_flat told_by list (entries.Held item) (item_end item) (item_entry list item stands) (first_stands (item_end item) [])
 
 module _ (own all now : List Entry) (carried : Carried) (piece : HasPiece own all now carried) where
   abbrev copies : List Held
@@ -123,7 +120,7 @@ module _ (base : Base) (range : Range) (asked : ℕ → Option LastCall) (journa
         | inl is ↦
             rw is at
             (of_truth (item_end item)
-            (end_told truth item ((stands_in.items item).0 (copy_of_all (items_of own) (items_of all) item copy))))
+            (item_told truth item ((stands_in.items item).0 (copy_of_all (items_of own) (items_of all) item copy))))
         | inr none ↦ absurd (none_stands end none)
       ])) stands_in.known
     where

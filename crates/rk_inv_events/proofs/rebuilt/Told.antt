@@ -116,4 +116,4 @@ sound_rebuilt_delivered w number master rebuilt called sound formed room stands 
     subst (λ (message : Option Message). IsSound (delivered w message called).world) (sym stands)
     (sound_rebuilt w number master sound rebuilt stands (λ row lineage to place ends may.
     owns_rebuilt (view w) row lineage to place ends sound
-    (record { may = may; ranges = rows_some w formed; readable = readable w formed room; gathered = gathered_few w formed room to row.tablet })))
+    (record { may = may; ranges = rows_some w formed; readable = readable w formed room; gathered = gathered_few w formed to row.tablet })))

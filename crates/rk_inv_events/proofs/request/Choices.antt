@@ -6,8 +6,8 @@ use Rattle.rk_types.specs.declared.call.Op.TheVariants as ops
 use Rattle.rk_world.specs.Requests.{choice_at, mutation_choice, read_of}
 use Rattle.rk_inv_base.proofs.Words.{Call, Choice, End, Held, Ignores, Master, Op, Outcome, Reads, Redirects, Refuses, Repeats, Tablet}
 use Rattle.rk_inv_base.proofs.Words.{Wants, Writes, choice_of, cond_both, fresh_choice, hash_of, is_known, is_mutation, look, needs_state}
-use Rattle.rk_inv_base.proofs.Words.{operation, record_of, serving, state_of, version_of, ⊤}
-use Rattle.rk_inv_events.proofs.Words.{is_staged, not-false}
+use Rattle.rk_inv_base.proofs.Words.{operation, record_of, serving, state_of, version_of, ⊤, and_parts}
+use Rattle.rk_inv_events.proofs.Words.{is_staged, not-false, not-true}
 use Rattle.rk_inv_events.specs.answer.Small.{StagesNothing}
 
 -- a call that ended is repeated: a tablet serves it whose completions have the end
@@ -39,7 +39,7 @@ IsOfFresh choice = ⊤
 -- what is done with a fresh call: what is lacking of its key is wanted, a get of which all is known tells what was found, and a mutation is
 -- staged
 data FreshIs (number : ℕ) (tablet : Tablet) (call : Call) (state : Option Held) : Choice → Type 0 where
-  wants : FreshIs number tablet call state (Wants number)
+  wants : needs_state call.op ≡ true → is_known tablet (hash_of call.key) state ≡ false → FreshIs number tablet call state (Wants number)
   finds :
       call.op ≡ ops.Get → is_known tablet (hash_of call.key) state ≡ true
       → FreshIs number tablet call state (Reads (read_of (record_of state)))
@@ -51,7 +51,10 @@ module _ (number : ℕ) (tablet : Tablet) (call : Call) (state : Option Held) wh
 
   fresh_is : Is (fresh_choice number tablet call state)
   fresh_is = cond_both (needs_state call.op && not (is_known tablet (hash_of call.key) state)) (Wants number)
-      (operation number call.op (record_of state)) Is (λ lacks. wants) (by_op call.op refl)
+      (operation number call.op (record_of state)) Is
+      (λ lacks.
+      let parts = and_parts (needs_state call.op) (not (is_known tablet (hash_of call.key) state)) lacks in
+      wants parts.0 (not-true (is_known tablet (hash_of call.key) state) parts.1)) (by_op call.op refl)
     where
       by_op : (op : Op) → call.op ≡ op → (needs_state op && not (is_known tablet (hash_of call.key) state)) ≡ false
           → Is (operation number op (record_of state))
@@ -65,13 +68,34 @@ module _ (number : ℕ) (tablet : Tablet) (call : Call) (state : Option Held) wh
           (λ there. stages (Writes number None) (ap is_mutation is) (λ none. none))
           (λ gone. stages (Refuses 0 true) (ap is_mutation is) (λ none. none))
 
-  never_repeats : (end : End) → fresh_choice number tablet call state ≡ Repeats end → ⊥
-  never_repeats end = go fresh_is
+  -- it is a choice of fresh calls
+  is_of_fresh : IsOfFresh (fresh_choice number tablet call state)
+  is_of_fresh = go fresh_is
     where
-      go : {choice : Choice} → Is choice → choice ≡ Repeats end → ⊥
-      go wants is = absurd (cc is)
+      staged : (choice : Choice) → (StagesNothing choice → ⊥) → IsOfFresh choice
+      staged Redirects never = never tt
+      staged (Repeats end) never = never tt
+      staged Ignores never = never tt
+      staged _ never = tt
+
+      go : {choice : Choice} → Is choice → IsOfFresh choice
+      go (wants needs unknown) = tt
+      go (finds op known) = tt
+      go (stages choice mutates never) = staged choice never
+
+  -- what a call that is put off lacks
+  pub record IsUnknown (other : ℕ) : Type 0 where
+    pub same : number ≡ other
+    pub needs : needs_state call.op ≡ true
+    pub unknown : is_known tablet (hash_of call.key) state ≡ false
+
+  pub put_off : (other : ℕ) → fresh_choice number tablet call state ≡ Wants other → IsUnknown other
+  put_off other = go fresh_is
+    where
+      go : {choice : Choice} → Is choice → choice ≡ Wants other → IsUnknown other
+      go (wants needs unknown) is = record { same = cc is; needs = needs; unknown = unknown }
       go (finds op known) is = absurd (cc is)
-      go (stages choice mutates never) is = never (subst StagesNothing (sym is) tt)
+      go (stages choice mutates never) is = absurd (never (subst StagesNothing (sym is) tt))
 
   -- a get of which all is known tells what was found
   pub record IsRead (outcome : Outcome) : Type 0 where
@@ -83,7 +107,7 @@ module _ (number : ℕ) (tablet : Tablet) (call : Call) (state : Option Held) wh
   reads outcome = go fresh_is
     where
       go : {choice : Choice} → Is choice → choice ≡ Reads outcome → IsRead outcome
-      go wants is = absurd (cc is)
+      go (wants needs unknown) is = absurd (cc is)
       go (finds op known) is = let same : read_of (record_of state) ≡ outcome = cc is in record { op_is = op; known = known; outcome_is = sym same }
       go (stages choice mutates never) is = absurd (never (subst StagesNothing (sym is) tt))
 
@@ -92,7 +116,7 @@ module _ (number : ℕ) (tablet : Tablet) (call : Call) (state : Option Held) wh
   staging_mutates choice = go fresh_is
     where
       go : {made : Choice} → Is made → made ≡ choice → (StagesNothing choice → ⊥) → is_mutation call.op ≡ true
-      go wants is stages_it = absurd (stages_it (subst StagesNothing is tt))
+      go (wants needs unknown) is stages_it = absurd (stages_it (subst StagesNothing is tt))
       go (finds op known) is stages_it = absurd (stages_it (subst StagesNothing is tt))
       go (stages made mutates never) is stages_it = mutates
 
@@ -100,7 +124,7 @@ module _ (number : ℕ) (tablet : Tablet) (call : Call) (state : Option Held) wh
 
 -- a call that a master chose to do something with
 data Chose (master : Master) (call : Call) : Choice → Type 0 where
-  redirects : Chose master call Redirects
+  redirects : serving master call.table call.key ≡ None → Chose master call Redirects
   ignores : Chose master call Ignores
   repeated : (end : End) → IsRepeated master call end → Chose master call (Repeats end)
   as_fresh : (choice : Choice) → IsFresh master call choice → Chose master call choice
@@ -145,7 +169,7 @@ chose master call = at (serving master call.table call.key) refl
     by number tablet serves true mutates (looks.Old seq) looked = ignores
 
     at : (found : Option (ℕ × Tablet)) → serving master call.table call.key ≡ found → Chose master call (choice_at master call found)
-    at None serves = redirects
+    at None serves = redirects serves
     at (Some (number, tablet)) serves =
         by number tablet serves (is_mutation call.op) refl (look tablet.completions call.client call.seq) refl
 
@@ -153,16 +177,26 @@ pub repeats : (master : Master) (call : Call) (end : End) → choice_of master c
 repeats master call end = go (chose master call)
   where
     go : {choice : Choice} → Chose master call choice → choice ≡ Repeats end → IsRepeated master call end
-    go redirects is = absurd (cc is)
+    go (redirects none) is = absurd (cc is)
     go ignores is = absurd (cc is)
     go (repeated other its) is = let same : other ≡ end = cc is in subst (IsRepeated master call) same its
-    go (as_fresh choice its) is = absurd (never_repeats its.number its.tablet call (state_of master call) end (its.choice_is ∙ is))
+    go (as_fresh choice its) is = absurd (subst IsOfFresh (its.choice_is ∙ is) (is_of_fresh its.number its.tablet call (state_of master call)))
 
 pub fresh : (master : Master) (call : Call) (choice : Choice) → IsOfFresh choice → choice_of master call ≡ choice → IsFresh master call choice
 fresh master call choice of_fresh = go (chose master call)
   where
     go : {made : Choice} → Chose master call made → made ≡ choice → IsFresh master call choice
-    go redirects is = absurd (subst IsOfFresh (sym is) of_fresh)
+    go (redirects none) is = absurd (subst IsOfFresh (sym is) of_fresh)
     go ignores is = absurd (subst IsOfFresh (sym is) of_fresh)
     go (repeated end its) is = absurd (subst IsOfFresh (sym is) of_fresh)
     go (as_fresh made its) is = subst (IsFresh master call) is its
+
+-- a call is redirected where no tablet serves its key
+pub redirected : (master : Master) (call : Call) → choice_of master call ≡ Redirects → serving master call.table call.key ≡ None
+redirected master call = go (chose master call)
+  where
+    go : {made : Choice} → Chose master call made → made ≡ Redirects → serving master call.table call.key ≡ None
+    go (redirects none) is = none
+    go ignores is = absurd (cc is)
+    go (repeated end its) is = absurd (cc is)
+    go (as_fresh made its) is = absurd (subst IsOfFresh (its.choice_is ∙ is) (is_of_fresh its.number its.tablet call (state_of master call)))

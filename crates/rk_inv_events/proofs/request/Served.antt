@@ -1,11 +1,11 @@
 -- Where a living master serves a tablet, the row of that tablet ends its lineage with it, and has the range that is served: it is the only
--- member and has all items, or it was granted the tablet by the first of two.
-use Rattle.std.proofs.Common.{Contains, List, Option, Some, [], ap, inl, inr, lt-ltb, refl, subst, true, unwrap_or, ℕ, ◌∙◌, ◌∷◌, ◌≡◌, ◌⊎◌}
+-- member and has all items, or it was granted the tablet by the first of two. So calls for a key of the range are answered by it.
+use Rattle.std.proofs.Common.{List, Option, Some, [], ap, inl, inr, lt-ltb, refl, true, unwrap_or, ℕ, ◌∙◌, ◌∷◌, ◌≡◌, ◌⊎◌, sym}
 use Rattle.rk_tablet_map.specs.Phase.{member as member_at}
-use Rattle.rk_inv_base.proofs.Words.{Handover, IsFormed, IsFormedMaster, IsInOrder, IsMaster, IsWellFormed, LastRebuilder, Member}
-use Rattle.rk_inv_base.proofs.Words.{MovingTarget, OnlyRebuilder, OpeningSource, Owner, Phase, Post, Range, Role, Row, SoundView, Tablet}
-use Rattle.rk_inv_base.proofs.Words.{View, World, and_parts, get, has_all_items, has_key, is_granted, is_serving, last_of, limits_of}
-use Rattle.rk_inv_base.proofs.Words.{lineage_of, master_at, no_tablet, post_of, serving, tablet_in}
+use Rattle.rk_inv_base.proofs.Words.{Handover, IsFormed, IsInOrder, IsMaster, IsWellFormed, LastRebuilder, Member, MovingTarget}
+use Rattle.rk_inv_base.proofs.Words.{OnlyRebuilder, OpeningSource, Owner, Phase, Post, Range, Role, Tablet, World, and_parts, get}
+use Rattle.rk_inv_base.proofs.Words.{has_all_items, has_key, is_granted, is_serving, last_of, lineage_of, master_at, no_tablet, post_of}
+use Rattle.rk_inv_base.proofs.Words.{IsSound, lives, serving, tablet_in, view}
 use Rattle.rk_inv_wellformed.proofs.maps.Lists.{find_passes}
 use Rattle.rk_inv_events.proofs.Words.{IsServed, SoundRow, find_is_got, last_member, master_of, present, row_in, serves_key}
 use Rattle.rk_inv_events.proofs.events.PostsOf.{Fits, HasPost, Serves, gives, has_post, last_heir, only_heir, owns, serves_in, takes}
@@ -60,70 +60,50 @@ module _ (handover : Handover) (term applied : ℕ) (serves : is_serving handove
       go (last_heir first last (other ∷ more) here) formed its = absurd formed
       go _ formed its = absurd its
 
--- the row of a tablet that a living master serves
-pub record HasServedRow (v : View) (master tablet : ℕ) : Type 0 where
-  pub row : Row
-  pub stands : Contains v.rows row
-  pub number : row.tablet ≡ tablet
-  pub ends : EndsWith (lineage_of row.phase) master
-  pub range : (v.handovers master row.tablet).range ≡ row.range
-  pub serves : is_serving (v.handovers master row.tablet).role ≡ true
+-- a living master serves a key by the tablet of this number: calls for the key are answered there, and the tablet's completions are in order
+pub record IsServedAt (w : World) (master table : ℕ) (key : List ℕ) (number : ℕ) (tablet : Tablet) : Type 0 where
+  pub served : IsServed w.coordinator.rows ((view w).handovers master) ((view w).live master) master table key
+  pub number_is : served.row.tablet ≡ number
+  pub tablet_is : tablet_in w master served.row.tablet ≡ tablet
+  pub order : IsInOrder tablet.completions
 
-module _ (v : View) (sound : SoundView v) (master tablet : ℕ) (lives : v.live master ≡ true)
-    (serves : is_serving (v.handovers master tablet).role ≡ true) where
-  pub served_row : HasServedRow v master tablet
-  served_row =
-      let its = has_row v.rows tablet (sound.roles.known master tablet lives (present (v.handovers master tablet).role serves)) in
-      let row : SoundRow v its.row = row_in v sound its.row its.stands in
-      let serving : is_serving (v.handovers master its.row.tablet).role ≡ true = rw its.tablet_is serves in
-      let ends : EndsWith (lineage_of its.row.phase) master =
-      (serves_as (v.handovers master its.row.tablet) its.row.term (v.written master).applied serving its.row.phase master row.formed
-      (row.fitting master (inl lives))).0 in
-      record {
+pub served_at : (w : World) (master table : ℕ) (key : List ℕ) (number : ℕ) (tablet : Tablet) → IsSound w → IsWellFormed w
+    → IsMaster w.coordinator.masters master → lives w master ≡ true → serving (master_at w master) table key ≡ Some (number, tablet)
+    → IsServedAt w master table key number tablet
+served_at w master table key number tablet sound formed there alive found =
+    let v = view w in
+    let own = master_of w master there formed in
+    let got : get (master_at w master).tablets number ≡ Some tablet =
+    find_is_got (λ entry. serves_key table key entry.1) (master_at w master).tablets (number, tablet) own.tablets_order found in
+    let passes : serves_key table key tablet ≡ true =
+    find_passes (λ entry. serves_key table key entry.1) (master_at w master).tablets (number, tablet) found in
+    let parts = and_parts (is_serving tablet.handover.role) (has_key tablet.handover.range table key) passes in
+    let is : tablet_in w master number ≡ tablet = ap (λ (o : Option Tablet). unwrap_or o no_tablet) got in
+    let its =
+    has_row v.rows number
+    (sound.roles.known master number alive
+    (present (v.handovers master number).role (ap (λ (t : Tablet). is_serving t.handover.role) is ∙ parts.0))) in
+    let row : SoundRow v its.row = row_in v sound its.row its.stands in
+    let here : tablet_in w master its.row.tablet ≡ tablet = ap (tablet_in w master) its.tablet_is ∙ is in
+    let serves : is_serving (v.handovers master its.row.tablet).role ≡ true =
+    ap (λ (t : Tablet). is_serving t.handover.role) here ∙ parts.0 in
+    let ends : EndsWith (lineage_of its.row.phase) master =
+    (serves_as (v.handovers master its.row.tablet) its.row.term (v.written master).applied serves its.row.phase master row.formed
+    (row.fitting master (inl alive))).0 in
+    let range = row.ranged master (inl alive) (last_member (lineage_of its.row.phase) ends.last master ends.is_last ends.here) in
+    record {
+      served = record {
+        lives = alive;
         row = its.row;
-        stands = its.stands;
-        number = its.tablet_is;
-        ends = ends;
-        range = row.ranged master (inl lives) (last_member (lineage_of its.row.phase) ends.last master ends.is_last ends.here);
-        serves = serving;
-      }
-
-  -- so calls for a key in the range that it serves are answered by it
-  pub serves_key_of : (table : ℕ) (key : List ℕ) → has_key (v.handovers master tablet).range table key ≡ true
-      → IsServed v.rows (v.handovers master) (v.live master) master table key
-  serves_key_of table key has = record {
-    lives = lives;
-    row = served_row.row;
-    has_row = served_row.stands;
-    in_row = subst (λ (range : Range). has_key range table key ≡ true) served_row.range (rw served_row.number has);
-    last = served_row.ends.last;
-    is_last = served_row.ends.is_last;
-    here = served_row.ends.here;
-    serves = served_row.serves;
-  }
-
--- ---- at a master of a well formed lane, the tablet stands under its number, and its completions are in order
-
-module _ (w : World) (master table : ℕ) (key : List ℕ) (number : ℕ) (tablet : Tablet) (formed : IsWellFormed w) (there : IsMaster w.coordinator.masters master) (found : serving (master_at w master) table key ≡ Some (number, tablet)) where
-  own_formed : IsFormedMaster (limits_of w) master (master_at w master)
-  own_formed = master_of w master there formed
-
-  got : get (master_at w master).tablets number ≡ Some tablet
-  got = find_is_got (λ entry. serves_key table key entry.1) (master_at w master).tablets (number, tablet) own_formed.tablets_order found
-
-  passes : serves_key table key tablet ≡ true
-  passes = find_passes (λ entry. serves_key table key entry.1) (master_at w master).tablets (number, tablet) found
-
-  pub tablet_is : tablet_in w master number ≡ tablet
-  tablet_is = ap (λ (o : Option Tablet). unwrap_or o no_tablet) got
-
-  pub served_here : is_serving (tablet_in w master number).handover.role ≡ true
-  served_here = ap (λ (t : Tablet). is_serving t.handover.role) tablet_is
-      ∙ (and_parts (is_serving tablet.handover.role) (has_key tablet.handover.range table key) passes).0
-
-  pub has_here : has_key (tablet_in w master number).handover.range table key ≡ true
-  has_here = ap (λ (t : Tablet). has_key t.handover.range table key) tablet_is
-      ∙ (and_parts (is_serving tablet.handover.role) (has_key tablet.handover.range table key) passes).1
-
-  pub ends_order : IsInOrder tablet.completions
-  ends_order = (own_formed.tablets number tablet got).order
+        has_row = its.stands;
+        in_row = ap (λ (range : Range). has_key range table key) (sym range)
+            ∙ ap (λ (t : Tablet). has_key t.handover.range table key) here ∙ parts.1;
+        last = ends.last;
+        is_last = ends.is_last;
+        here = ends.here;
+        serves = serves;
+      };
+      number_is = its.tablet_is;
+      tablet_is = here;
+      order = (own.tablets number tablet got).order;
+    }

@@ -31,7 +31,7 @@ waiting_sides : (master : Master) (number : ℕ) (tablet : Tablet) (handover : O
 waiting_sides master number tablet None = refl
 waiting_sides master number tablet (Some handover) = refl
 
-joined_sides : (master : Master) (number : ℕ) (tablet : Tablet) (sealed : List ℕ) → (joining_by master number tablet sealed).log.sides ≡ master.log.sides
+pub joined_sides : (master : Master) (number : ℕ) (tablet : Tablet) (sealed : List ℕ) → (joining_by master number tablet sealed).log.sides ≡ master.log.sides
 joined_sides master number tablet [] =
     closing_sides master number tablet (joined tablet.handover tablet.handover.term (Some (length master.log.entries)))
 joined_sides master number tablet (segment ∷ more) = waiting_sides master number tablet (joined tablet.handover tablet.handover.term None)

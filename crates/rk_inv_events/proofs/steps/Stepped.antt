@@ -13,7 +13,7 @@ use Rattle.rk_inv_base.proofs.wire.Forgotten.{sound_forgotten}
 use Rattle.rk_inv_wellformed.proofs.lanes.Events.{does_not_hold, has_no_fault}
 use Rattle.rk_inv_wellformed.proofs.lanes.Whole.{formed_event}
 use Rattle.rk_inv_events.proofs.Words.{AreSealedThere, told_for, told_to}
-use Rattle.rk_inv_events.proofs.copies.Delivered as copies
+use Rattle.rk_inv_events.proofs.copies.Gathers as copies
 use Rattle.rk_inv_events.proofs.events.Clients.{sound_added, sound_again}
 use Rattle.rk_inv_events.proofs.events.Coordinating.{sound_event_split, sound_noticed, sound_tablet_added, sound_tablet_migrated}
 use Rattle.rk_inv_events.proofs.events.CoordinatorTurn.{sound_coordinator_turn}

@@ -17,29 +17,24 @@ use Rattle.rk_inv_events.specs.stored.Small.{with_work}
 -- ---- the next of the entries that are held, and those behind it
 
 module _ {X : Type 0} where
-  first_of : (list : List X) (place : ℕ) (x : X) (more : List X) → drop place list ≡ x ∷ more → slice_get list place ≡ Some x
-  first_of [] zero x more is = absurd (cc is)
-  first_of [] (suc place) x more is = absurd (cc is)
-  first_of (first ∷ list) zero x more is = cc is
-  first_of (first ∷ list) (suc place) x more is = first_of list place x more is
-
-  behind_first : (list : List X) (place : ℕ) (x : X) (more : List X) → drop place list ≡ x ∷ more → drop (suc place) list ≡ more
-  behind_first [] zero x more is = absurd (cc is)
-  behind_first [] (suc place) x more is = absurd (cc is)
-  behind_first (first ∷ list) zero x more is = cc is
-  behind_first (first ∷ list) (suc place) x more is = behind_first list place x more is
+  of_drop : (list : List X) (place : ℕ) (x : X) (more : List X) → drop place list ≡ x ∷ more
+      → (slice_get list place ≡ Some x) × (drop (suc place) list ≡ more)
+  of_drop [] zero x more is = absurd (cc is)
+  of_drop [] (suc place) x more is = absurd (cc is)
+  of_drop (first ∷ list) zero x more is = (cc is, cc is)
+  of_drop (first ∷ list) (suc place) x more is = of_drop list place x more is
 
   module _ (list : List X) (count place : ℕ) (x : X) (more : List X) (next : drop place (take count list) ≡ x ∷ more) where
     pub next_stands : slice_get list place ≡ Some x
     next_stands = rw (take-append-drop count list) at
-        (slice_get_front (take count list) (drop count list) place x (first_of (take count list) place x more next))
+        (slice_get_front (take count list) (drop count list) place x (of_drop (take count list) place x more next).0)
 
     pub next_within : place < count
     next_within =
-        omega (arith, slice_get_within (take count list) place x (first_of (take count list) place x more next), length-take count list)
+        omega (arith, slice_get_within (take count list) place x (of_drop (take count list) place x more next).0, length-take count list)
 
     pub others_behind : drop (place + 1) (take count list) ≡ more
-    others_behind = rw add-one (behind_first (take count list) place x more next)
+    others_behind = rw add-one (of_drop (take count list) place x more next).1
 
 -- ---- the record of a served call
 

@@ -1,15 +1,18 @@
 -- What a master makes of its next entry: its number and its log stay, one more entry is applied, and each call that it served is told.
-use Rattle.std.proofs.Common.{List, None, Option, Some, [], ap, fold, map, not, refl, subst, sym, true, ℕ, ◌&&◌, ◌++◌, ◌+◌, ◌∙◌, ◌∷◌, ◌≡◌}
+use Rattle.std.proofs.Common.{List, Option, Some, [], ap, fold, map, not, refl, subst, sym, true, ℕ, ◌&&◌, ◌++◌, ◌+◌, ◌∙◌, ◌∷◌, ◌≡◌, All}
+use Rattle.std.proofs.Common.{arith, length}
 use Rattle.rk_message.specs.declared.message.Body.TheVariants as bodies
 use Rattle.rk_types.proofs.NumberMaps.{in_order_changed}
 use Rattle.rk_types.specs.declared.call.Answer.TheVariants as answers
 use Rattle.rk_types.specs.declared.node.Node.TheVariants as nodes
 use Rattle.rk_inv_base.proofs.Words.{All-map, All-weaker, Call, Ended, Entry, Handover, Log, Master, Message, NumberMap, Served, Tablet}
 use Rattle.rk_inv_base.proofs.Words.{Worked, apply_entries, apply_entry, cond_both, get, has_key, is_absent, map-append, meets, noted}
-use Rattle.rk_inv_base.proofs.Words.{noting, told_by, with_applied, with_ended}
+use Rattle.rk_inv_base.proofs.Words.{noting, told_by, with_applied, with_ended, All-head, All-tail, changed, ⊤}
 use Rattle.rk_inv_logs.proofs.apply.EntryPassed.{item_put}
 use Rattle.rk_inv_events.proofs.Words.{side_waits, side_waits_in, side_waits_of, with_item_of}
 use Rattle.rk_inv_events.specs.stored.Small.{MayGoOn}
+use Rattle.rk_world.specs.Commits.{ended_call}
+use Rattle.rk_world.specs.Worked.{then_works}
 
 -- the reply to a call that was served
 abbrev pub reply_to : ℕ → Served → Message
@@ -34,6 +37,35 @@ passed master entry = record master { records = with_item_of entry master.record
 pub apply_is : (master : Master) (entry : Entry) → apply_entry master entry ≡ with_ended (passed master entry) master.applied (get master.calls master.applied) (told_by entry)
 apply_is master entry =
     λ i. with_ended (with_applied (item_put master entry i)) master.applied (get master.calls master.applied) (told_by entry)
+
+-- something of a master and of what it makes of its next entries, of each of which Q is so: it is so where none is applied, where one is with
+-- which no call ends, and where one is with which a call ends, and of work that goes on after such work
+pub record Passes (Q : Entry → Type 0) (R : Master → Worked → Type 0) : Type 0 where
+  pub stays : (master : Master) → R master (changed master)
+  pub silent : (master : Master) (entry : Entry) → Q entry → R master (changed (passed master entry))
+  pub ends : (master : Master) (entry : Entry) (call : Call) (end : Ended) → Q entry → get master.calls master.applied ≡ Some call
+      → R master (ended_call (passed master entry) master.applied call end)
+  pub goes_on : (master : Master) (first later : Worked) → R master first → R first.master later → R master (then_works first (λ next. later))
+
+module _ {Q : Entry → Type 0} {R : Master → Worked → Type 0} (passes : Passes Q R) where
+  pub entry_passes : (master : Master) (entry : Entry) → Q entry → R master (apply_entry master entry)
+  entry_passes master entry its = rw (apply_is master entry) (by (get master.calls master.applied) refl (told_by entry))
+    where
+      by : (waits : Option Call) → get master.calls master.applied ≡ waits → (ends : List Ended)
+          → R master (with_ended (passed master entry) master.applied waits ends)
+      by (Some call) is (end ∷ ends) = passes.ends master entry call end its is
+      by _ is _ = passes.silent master entry its
+
+  pub entries_pass : (entries : List Entry) (master : Master) → All Q entries → R master (apply_entries master entries)
+  entries_pass [] master all = passes.stays master
+  entries_pass (entry ∷ entries) master all =
+      let first = apply_entry master entry in
+      passes.goes_on master first (apply_entries first.master entries) (entry_passes master entry (All-head Q entry entries all))
+      (entries_pass entries first.master (All-tail Q entry entries all))
+
+-- any entry
+abbrev pub AnyNext : Entry → Type 0
+AnyNext entry = ⊤
 
 -- a tablet that notes an end is else as it was
 noted_same : (call : Call) (end : Ended) (tablet : Tablet) → ((noting call end tablet).handover ≡ tablet.handover) × ((noting call end tablet).pulling ≡ tablet.pulling)
@@ -67,47 +99,40 @@ still_goes_on call end log tablets may =
       room = rw (waits_same call end tablets) may.room;
     }
 
-ended_told : (master : Master) (place : ℕ) (waits : Option Call) (ends : List Ended) → IsTold master (with_ended master place waits ends)
-ended_told master place None ends = record { number = refl; log = refl; sends = refl; marked = refl; goes_on = λ may. may }
-ended_told master place (Some call) [] = record { number = refl; log = refl; sends = refl; marked = refl; goes_on = λ may. may }
-ended_told master place (Some call) (end ∷ ends) = record {
-  number = refl;
-  log = refl;
-  sends = refl;
-  marked = refl;
-  goes_on = still_goes_on call end master.log master.tablets;
+told_passes : Passes AnyNext IsTold
+told_passes = record {
+  stays = λ master. record { number = refl; log = refl; sends = refl; marked = refl; goes_on = λ may. may };
+  silent = λ master entry any. record { number = refl; log = refl; sends = refl; marked = refl; goes_on = λ may. may };
+  ends = λ master entry call end any is.
+      record { number = refl; log = refl; sends = refl; marked = refl; goes_on = still_goes_on call end master.log master.tablets };
+  goes_on = λ master first later one two. record {
+    number = two.number ∙ one.number;
+    log = two.log ∙ one.log;
+    sends =
+        (λ i. one.sends i ++ two.sends i)
+        ∙ ap (λ (n : ℕ). map (reply_to master.number) first.served ++ map (reply_to n) later.served) one.number
+        ∙ sym (map-append (reply_to master.number) first.served later.served);
+    marked = (λ i. one.marked i ++ two.marked i);
+    goes_on = λ may. two.goes_on (one.goes_on may);
+  };
 }
 
-ended_applied : (master : Master) (place : ℕ) (waits : Option Call) (ends : List Ended) → (with_ended master place waits ends).master.applied ≡ master.applied
-ended_applied master place None ends = refl
-ended_applied master place (Some call) [] = refl
-ended_applied master place (Some call) (end ∷ ends) = refl
-
 pub entry_told : (master : Master) (entry : Entry) → IsTold master (apply_entry master entry)
-entry_told master entry =
-    as_of (rw (apply_is master entry) (ended_told (passed master entry) master.applied (get master.calls master.applied) (told_by entry)))
-  where
-    as_of : IsTold (passed master entry) (apply_entry master entry) → IsTold master (apply_entry master entry)
-    as_of told = record { number = told.number; log = told.log; sends = told.sends; marked = told.marked; goes_on = told.goes_on }
+entry_told master entry = entry_passes told_passes master entry tt
+
+-- so is it of entries that are applied one after the other
+pub all_told : (entries : List Entry) (master : Master) → IsTold master (apply_entries master entries)
+all_told entries master = entries_pass told_passes entries master (λ place none inside. tt)
+
+ended_applied : (master : Master) (place : ℕ) (waits : Option Call) (ends : List Ended) → (with_ended master place waits ends).master.applied ≡ master.applied
+ended_applied master place (Some call) (end ∷ ends) = refl
+ended_applied master place _ _ = refl
 
 pub entry_applied_next : (master : Master) (entry : Entry) → (apply_entry master entry).master.applied ≡ master.applied + 1
 entry_applied_next master entry = ap (λ (worked : Worked). worked.master.applied) (apply_is master entry)
     ∙ ended_applied (passed master entry) master.applied (get master.calls master.applied) (told_by entry)
 
--- so is it of entries that are applied one after the other
-pub all_told : (entries : List Entry) (master : Master) → IsTold master (apply_entries master entries)
-all_told [] master = record { number = refl; log = refl; sends = refl; marked = refl; goes_on = λ may. may }
-all_told (entry ∷ entries) master =
-    let first = entry_told master entry in
-    let now = (apply_entry master entry).master in
-    let later = all_told entries now in
-    record {
-      number = later.number ∙ first.number;
-      log = later.log ∙ first.log;
-      sends =
-          (λ i. first.sends i ++ later.sends i)
-          ∙ ap (λ (n : ℕ). map (reply_to master.number) (apply_entry master entry).served ++ map (reply_to n) (apply_entries now entries).served) first.number
-          ∙ sym (map-append (reply_to master.number) (apply_entry master entry).served (apply_entries now entries).served);
-      marked = (λ i. first.marked i ++ later.marked i);
-      goes_on = λ may. later.goes_on (first.goes_on may);
-    }
+pub all_applied_next : (entries : List Entry) (master : Master) → (apply_entries master entries).master.applied ≡ master.applied + length entries
+all_applied_next [] master = omega arith
+all_applied_next (entry ∷ entries) master =
+    omega (arith, entry_applied_next master entry, all_applied_next entries (apply_entry master entry).master)

@@ -9,8 +9,8 @@ use Rattle.rk_world.specs.MasterTurn.{batch_asked, joined_duty, pull_of, rebuilt
 use Rattle.rk_inv_base.proofs.Words.{All-append, All-cons, All-contains, All-head, All-nil, All-tail, All-weaker, Body, FIRST_SIDE_SEGMENT}
 use Rattle.rk_inv_base.proofs.Words.{IsInOrder, IsSound, IsWellFormed, Master, MaySend, Message, Node, NumberMap, Reading, Role, Tablet}
 use Rattle.rk_inv_base.proofs.Words.{View, Worked, World, appends, changed, cond_both, cut, duties, filled, from_master, get, get_other}
-use Rattle.rk_inv_base.proofs.Words.{has_crashed, log_in, master_at, master_turn, new_master, next_reading, no_tablet, reading_duty}
-use Rattle.rk_inv_base.proofs.Words.{sending, tablet_at, tablet_duty, tablet_in, turned, view, with_outstanding}
+use Rattle.rk_inv_base.proofs.Words.{has_crashed, log_in, master_at, master_turn, next_reading, no_tablet, reading_duty, sending, tablet_at}
+use Rattle.rk_inv_base.proofs.Words.{tablet_duty, tablet_in, turned, view, with_outstanding}
 use Rattle.rk_inv_events.proofs.Words.{all_in, order_tail}
 use Rattle.rk_inv_events.proofs.events.Appends.{each_append, may_append}
 use Rattle.rk_inv_events.proofs.events.Duties.{may_pull, may_read_segment, may_tell_joined, may_tell_rebuilt, may_want}
@@ -19,6 +19,7 @@ use Rattle.rk_inv_events.proofs.events.Sending.{MaySendFilled}
 use Rattle.rk_inv_events.proofs.events.Working.{sound_unchanged, view_unchanged}
 use Rattle.rk_inv_events.proofs.turn.Sending.{IsSoundPulling, OnlySends, may_send_pulling, sends_none, sends_one, sends_then}
 use Rattle.rk_inv_events.proofs.turn.Sending.{sound_batch_asked, sound_sends}
+use Rattle.rk_inv_events.proofs.events.Coordinating.{tablets_order}
 
 -- ---- what it asks for changes what is pulled alone
 
@@ -175,16 +176,8 @@ module _ (w : World) (master : ℕ) (sound : IsSound w) (formed : IsWellFormed w
   abbrev own : Master
   own = master_at w master
 
-  -- its tablets are in order
-  in_order : IsInOrder own.tablets
-  in_order = go (get w.masters master) refl
-    where
-      go : (found : Option Master) → get w.masters master ≡ found → IsInOrder (unwrap_or found (new_master master [])).tablets
-      go None is = tt
-      go (Some there) is = (formed.masters master there is).tablets_order
-
   found : All (HasTablet own) own.tablets
-  found = each_found own.tablets in_order
+  found = each_found own.tablets (tablets_order w formed master)
 
   -- the turn sends messages alone
   turn_sends : OnlySends (view w) (master_turn own)
@@ -202,7 +195,7 @@ module _ (w : World) (master : ℕ) (sound : IsSound w) (formed : IsWellFormed w
   pub sound_master_turn : IsSound (turned w (nodes.Master master)).world
   sound_master_turn =
       let after =
-      sound_duties w master own.tablets own in_order found
+      sound_duties w master own.tablets own (tablets_order w formed master) found
       (record { sound = sound_unchanged w master sound; pullings = (view w).pullings; view_is = view_unchanged w master }) in
       sound_sends w master 0 (master_turn own)
       (sends_pulling (view w) _ (master_turn own) (λ message may. rw after.view_is (may_send_pulling (view w) after.pullings message may))

@@ -2,23 +2,18 @@
 -- and is not staged, and what truth and rest leave at its key allows the end.
 use Rattle.std.proofs.Common.{Bool, List, None, Option, Some, ap, cond, subst, sym, true, ℕ, ◌∙◌, ◌≡◌}
 use Rattle.rk_model.specs.History.{record_of as map_record_of}
-use Rattle.rk_inv_base.proofs.Words.{Allowed, Call, Choice, HasSegmentLeft, Held, IsMaster, IsServedIn, IsSound, IsWellFormed, Master}
-use Rattle.rk_inv_base.proofs.Words.{Outcome, Range, Refuses, Request, Tablet, View, WasAsked, World, Writes, call_of, end_of_item, found}
-use Rattle.rk_inv_base.proofs.Words.{get, has_key, hash_of, is_known, is_mutation, is_serving, items_of, lives, log_in, master_at, newest}
-use Rattle.rk_inv_base.proofs.Words.{option_or, outcome_of, record_of, refused_as, staged, state_of, tablet_in, view}
+use Rattle.rk_inv_base.proofs.Words.{Allowed, Call, Choice, HasSegmentLeft, Held, IsMaster, IsSound, IsWellFormed, Master, Outcome, Refuses}
+use Rattle.rk_inv_base.proofs.Words.{Request, Tablet, View, WasAsked, World, Writes, call_of, end_of_item, found, get, hash_of, is_known}
+use Rattle.rk_inv_base.proofs.Words.{is_mutation, items_of, lives, log_in, master_at, newest, option_or, outcome_of, record_of, refused_as}
+use Rattle.rk_inv_base.proofs.Words.{staged, state_of, view}
 use Rattle.rk_inv_base.proofs.calls.RefusalStaged.{sound_refused}
 use Rattle.rk_inv_base.proofs.calls.WriteStaged.{sound_staged}
 use Rattle.rk_inv_events.proofs.Words.{MayEndIn, next_version, refusal_staged_in, write_staged_in}
 use Rattle.rk_inv_events.proofs.request.Choices.{IsFresh, fresh, staging_mutates}
-use Rattle.rk_inv_events.proofs.request.Served.{ends_order, has_here, served_here, served_row, tablet_is}
+use Rattle.rk_inv_events.proofs.request.Served.{IsServedAt, served_at}
 use Rattle.rk_inv_events.proofs.write.Choosing.{FitsCall, fresh_fits}
 use Rattle.rk_inv_events.proofs.write.Ending.{HasTablet, found_state, found_tells, left_at_key, may_end, version_above}
 use Rattle.rk_inv_events.specs.request.Small.{choice_in, request_message}
-
--- a master answers calls for the key of a call, by the tablet of this number
-record IsServedAt (v : View) (master : ℕ) (call : Call) (number : ℕ) : Type 0 where
-  served : IsServedIn v master call
-  number_is : served.row.tablet ≡ number
 
 module _ (w : World) (number master client : ℕ) (request : Request) (sound : IsSound w) (formed : IsWellFormed w) (alive : lives w master ≡ true)
     (there : get w.wire.messages number ≡ Some (request_message client master request)) where
@@ -35,43 +30,16 @@ module _ (w : World) (number master client : ℕ) (request : Request) (sound : I
   here = (formed.wire.each number (request_message client master request) there).to
 
   module _ (choice : Choice) (its : IsFresh (master_at w master) (call_of client request) choice) (mutates : is_mutation (call_of client request).op ≡ true) where
-    -- ---- the tablet and its row
+    -- calls for the key are answered here
+    at : IsServedAt w master call.table call.key its.number its.tablet
+    at = served_at w master call.table call.key its.number its.tablet sound formed here alive its.serves
 
-    tablet : tablet_in w master its.number ≡ its.tablet
-    tablet = tablet_is w master call.table call.key its.number its.tablet formed here its.serves
-
-    serves : is_serving (v.handovers master its.number).role ≡ true
-    serves = served_here w master call.table call.key its.number its.tablet formed here its.serves
-
-    -- so calls for the key are answered here
-    is_served : IsServedAt v master call its.number
-    is_served =
-        let of = served_row v sound master its.number alive serves in
-        let inside : has_key (v.handovers master of.row.tablet).range call.table call.key ≡ true =
-        ap (λ (n : ℕ). has_key (v.handovers master n).range call.table call.key) of.number
-        ∙ has_here w master call.table call.key its.number its.tablet formed here its.serves in
-        record {
-          served = record {
-            lives = alive;
-            row = of.row;
-            has_row = of.stands;
-            in_row = subst (λ (range : Range). has_key range call.table call.key ≡ true) of.range inside;
-            last = of.ends.last;
-            is_last = of.ends.is_last;
-            here = of.ends.here;
-            serves = of.serves;
-          };
-          number_is = of.number;
-        }
-
-    has_tablet : (at : ℕ) → at ≡ its.number → HasTablet v master at its.tablet
-    has_tablet at is =
-        let here : its.tablet ≡ tablet_in w master at = sym (ap (tablet_in w master) is ∙ tablet) in
-        record {
-          handover = ap (λ (t : Tablet). t.handover) here;
-          pulling = ap (λ (t : Tablet). t.pulling) here;
-          completions = ap (λ (t : Tablet). t.completions) here;
-        }
+    has_tablet : HasTablet v master at.served.row.tablet its.tablet
+    has_tablet = record {
+      handover = ap (λ (t : Tablet). t.handover) (sym at.tablet_is);
+      pulling = ap (λ (t : Tablet). t.pulling) (sym at.tablet_is);
+      completions = ap (λ (t : Tablet). t.completions) (sym at.tablet_is);
+    }
 
     -- ---- the call
 
@@ -79,27 +47,26 @@ module _ (w : World) (number master client : ℕ) (request : Request) (sound : I
     was_asked = (sound.asked.sent number (request_message client master request) there).was_asked
 
     -- what it finds is the newest staged item, else that of the records
-    module _ (served : IsServedIn v master call) (number_is : served.row.tablet ≡ its.number) where
-      state_is : state_of own call ≡ found_state v sound master call served
-      state_is =
-          ap
-          (λ (b : Bool). option_or (cond b (newest (items_of (staged own)) call.table call.key) None) (found call.table call.key own.records)) mutates
+    state_is : state_of own call ≡ found_state v sound master call at.served
+    state_is =
+        ap
+        (λ (b : Bool). option_or (cond b (newest (items_of (staged own)) call.table call.key) None) (found call.table call.key own.records)) mutates
 
-      tells : is_known its.tablet (hash_of call.key) (state_of own call) ≡ true → record_of (state_of own call) ≡ map_record_of (left_at_key v sound master call served)
-      tells known = ap record_of state_is
-          ∙ found_tells v sound master call served its.tablet (has_tablet served.row.tablet number_is)
-          (subst (λ (o : Option Held). is_known its.tablet (hash_of call.key) o ≡ true) state_is known)
+    tells : is_known its.tablet (hash_of call.key) (state_of own call) ≡ true
+        → record_of (state_of own call) ≡ map_record_of (left_at_key v sound master call at.served)
+    tells known = ap record_of state_is
+        ∙ found_tells v sound master call at.served its.tablet has_tablet
+        (subst (λ (o : Option Held). is_known its.tablet (hash_of call.key) o ≡ true) state_is known)
 
-      pub fits : FitsCall its.number (v.handovers master served.row.tablet).counter call (left_at_key v sound master call served) choice
-      fits = subst (FitsCall its.number (v.handovers master served.row.tablet).counter call (left_at_key v sound master call served))
-          its.choice_is
-          (fresh_fits its.number (v.handovers master served.row.tablet).counter call its.tablet (state_of own call)
-          (left_at_key v sound master call served) tells (version_above v sound master call served))
+    fits : FitsCall its.number (v.handovers master at.served.row.tablet).counter call (left_at_key v sound master call at.served) choice
+    fits = subst (FitsCall its.number (v.handovers master at.served.row.tablet).counter call (left_at_key v sound master call at.served))
+        its.choice_is
+        (fresh_fits its.number (v.handovers master at.served.row.tablet).counter call its.tablet (state_of own call)
+        (left_at_key v sound master call at.served) tells (version_above v sound master call at.served))
 
-      pub ends : (outcome : Outcome) → Allowed (left_at_key v sound master call served) call.op outcome → MayEndIn v served.row call outcome
-      ends = may_end v sound master call served its.tablet.completions (has_tablet served.row.tablet number_is).completions
-          (ends_order w master call.table call.key its.number its.tablet formed here its.serves) (its.new mutates) mutates
-          (its.unstaged mutates) was_asked
+    ends : (outcome : Outcome) → Allowed (left_at_key v sound master call at.served) call.op outcome → MayEndIn v at.served.row call outcome
+    ends = may_end v sound master call at.served its.tablet.completions has_tablet.completions at.order (its.new mutates) mutates
+        (its.unstaged mutates) was_asked
 
   -- ---- what is staged
 
@@ -108,13 +75,13 @@ module _ (w : World) (number master client : ℕ) (request : Request) (sound : I
     sound_written tablet value chose =
         let its = fresh own call (Writes tablet value) tt chose in
         let mutates = staging_mutates its.number its.tablet call (state_of own call) (Writes tablet value) its.choice_is (λ none. none) in
-        let at = is_served (Writes tablet value) its mutates in
-        let fit = fits (Writes tablet value) its mutates at.served at.number_is in
-        subst (λ (n : ℕ). IsSound (write_staged_in w master n call value)) (at.number_is ∙ sym fit.number_is)
+        let its_row = at (Writes tablet value) its mutates in
+        let fit = fits (Writes tablet value) its mutates in
+        subst (λ (n : ℕ). IsSound (write_staged_in w master n call value)) (its_row.number_is ∙ sym fit.number_is)
         (sound_staged w master call value sound
         (record {
-          served = at.served;
-          ends = ends (Writes tablet value) its mutates at.served at.number_is (outcome_of (end_of_item (next_version v master at.served.row) value)) fit.allowed;
+          served = its_row.served;
+          ends = ends (Writes tablet value) its mutates (outcome_of (end_of_item (next_version v master its_row.served.row) value)) fit.allowed;
           room = room;
           leaves = fit.leaves;
         }))
@@ -123,12 +90,11 @@ module _ (w : World) (number master client : ℕ) (request : Request) (sound : I
     sound_refusal there absent chose =
         let its = fresh own call (Refuses there absent) tt chose in
         let mutates = staging_mutates its.number its.tablet call (state_of own call) (Refuses there absent) its.choice_is (λ none. none) in
-        let at = is_served (Refuses there absent) its mutates in
-        let fit = fits (Refuses there absent) its mutates at.served at.number_is in
+        let fit = fits (Refuses there absent) its mutates in
         sound_refused w master call there absent sound
         (record {
-          served = at.served;
-          ends = ends (Refuses there absent) its mutates at.served at.number_is (refused_as there absent) fit.allowed;
+          served = (at (Refuses there absent) its mutates).served;
+          ends = ends (Refuses there absent) its mutates (refused_as there absent) fit.allowed;
           room = room;
           leaves = fit.leaves;
         })

@@ -1,39 +1,30 @@
 -- The masters of a lane are caught up: in a new lane, after each event, and after a client's turn or answer.
-use Rattle.std.proofs.Common.{◌≡◌, ◌<◌, ◌≤◌, ◌-◌, ℕ, [], length, Option, None, Some, refl, sym, ap, subst, ⊎_elim, arith, unwrap_or}
-use Rattle.rk_inv_base.proofs.Words.{cases_eq, get, get_or, FIRST_SIDE_SEGMENT, cut, Known, known_length, committed, Called, accept, ask}
-use Rattle.rk_inv_base.proofs.Words.{Session, IsWellFormed, Master, log_bytes, new_master, MOST_BYTES, world_visited, happened, World}
-use Rattle.rk_inv_base.proofs.Words.{bytes_of_logs, log_in, master_at, new_world, with_master, Event}
+use Rattle.std.proofs.Common.{◌≡◌, ◌<◌, ◌≤◌, ◌-◌, ℕ, [], length, Some, refl, sym, ap, subst, arith}
+use Rattle.rk_inv_base.proofs.Words.{get, get_or, FIRST_SIDE_SEGMENT, cut, Known, known_length, committed, Called, accept, ask, Session}
+use Rattle.rk_inv_base.proofs.Words.{IsWellFormed, Master, log_bytes, new_master, MOST_BYTES, world_visited, happened, World, bytes_of_logs}
+use Rattle.rk_inv_base.proofs.Words.{log_in, master_at, new_world, Event}
 use Rattle.rk_inv_wellformed.proofs.maps.Bounds.{within_sum_of}
 use Rattle.rk_inv_base.proofs.logs.Segments.{segments_few}
 use Rattle.rk_inv_base.proofs.views.Fresh.{each_fresh}
-use Rattle.rk_inv_base.proofs.views.Masters.{master_other, master_same}
-use Rattle.rk_inv_tablets.proofs.steady.Walks.{IsKept, Part, accept_keeps, ask_keeps, event_keeps}
+use Rattle.rk_inv_tablets.proofs.steady.Walks.{Part, accept_keeps, ask_keeps}
 use Rattle.rk_inv_lanes.specs.applied.CaughtUp.{AllCaughtUp, IsCaughtUp}
 use Rattle.rk_inv_lanes.proofs.applied.Commits.{split_caught, step_caught, turn_caught}
+use Rattle.rk_inv_lanes.proofs.lanes.Masters.{each_kept}
+use Rattle.rk_inv_events.proofs.events.Coordinating.{of_master}
 
 -- ---- events
 
 abbrev AreCaughtUp : Part
 AreCaughtUp masters count backups = (master : ℕ) → IsCaughtUp (get_or (new_master master []) masters master)
 
-module _ (w : World) (caught : AllCaughtUp w) where
-  put_caught : (number : ℕ) (master : Master) → IsCaughtUp master → AllCaughtUp (with_master w number master)
-  put_caught number master now q =
-      ⊎_elim (λ (is : q ≡ number). subst IsCaughtUp (sym (master_same w number master q is)) now)
-      (λ (apart : q ≡ number → ⊥). subst IsCaughtUp (sym (master_other w number master q apart)) (caught q)) (cases_eq q number)
-
-  caught_kept : IsKept AreCaughtUp w
-  caught_kept = record {
-    now = caught;
-    steps = λ master message. put_caught master _ (step_caught (master_at w master) message (caught master));
-    turns = λ master. put_caught master _ (turn_caught (master_at w master) (caught master));
-    adds = λ master tablet range. put_caught master _ (caught master);
-    splits = λ master tablet at new term. put_caught master _ (split_caught (master_at w master) tablet at new term (caught master));
-    stores = λ number segments. caught;
-  }
-
 pub caught_event : (w : World) (event : Event) (called : Called) → AllCaughtUp w → AllCaughtUp (happened w event called).world
-caught_event w event called caught = event_keeps AreCaughtUp w (caught_kept w caught) event called
+caught_event w event called caught = each_kept {P = λ number. IsCaughtUp} {w = w} {event = event} (record {
+  now = caught;
+  steps = λ number master message is found to lives. step_caught (master_at w master) message (caught master);
+  turns = λ master. turn_caught (master_at w master) (caught master);
+  adds = λ master tablet range. caught master;
+  splits = λ master tablet at new term. split_caught (master_at w master) tablet at new term (caught master);
+}) called
 
 pub caught_asked : (w : World) (session : Session) → AllCaughtUp w → AllCaughtUp (world_visited w (ask w session))
 caught_asked w session caught = ask_keeps AreCaughtUp w caught session
@@ -69,11 +60,5 @@ few_of w number master formed room found = record {
 -- what every backup is known to hold is applied
 pub all_applied : (w : World) (master : ℕ) → IsWellFormed w → bytes_of_logs w < MOST_BYTES → AllCaughtUp w
     → (master_at w master).applied ≡ committed (log_in w master)
-all_applied w master formed room caught = by (get w.masters master) refl (caught master)
-  where
-    by : (found : Option Master) → get w.masters master ≡ found → IsCaughtUp (unwrap_or found (new_master master []))
-        → (unwrap_or found (new_master master [])).applied ≡ committed (unwrap_or found (new_master master [])).log
-    by None is now = refl
-    by (Some there) is now =
-        let has = few_of w master there formed room is in
-        now.count_is has.backed has.few
+all_applied w master formed room caught = of_master w formed (λ m. IsCaughtUp m → m.applied ≡ committed m.log) master (λ now. refl)
+    (λ m is its now. let has = few_of w master m formed room is in now.count_is has.backed has.few) (caught master)

@@ -1,15 +1,15 @@
 -- A master with staged entries that is caught up sends something on its turn.
 use Rattle.std.proofs.Common.{◌≡◌, ◌≢◌, true, ◌+◌, ◌-◌, ◌<◌, ◌≤◌, ℕ, List, [], ◌∷◌, length, get_or, map, Option, None, Some, refl, ap}
-use Rattle.std.proofs.Common.{⊎_elim, arith, length-append, fold, is_some, unwrap_or, length-drop}
-use Rattle.rk_inv_base.proofs.Words.{cases_lt, length-map, range_with_len, get, Entry, committed, pending, PlacedBytes, Traffic}
-use Rattle.rk_inv_base.proofs.Words.{with_message, Message, Called, IsWellFormed, Master, new_master, staged, append_of, appends, duties}
-use Rattle.rk_inv_base.proofs.Words.{master_turn, filled, MOST_BYTES, happened, ledger_after, World, bytes_of_logs, master_at, Node}
-use Rattle.rk_inv_base.proofs.Words.{Event}
+use Rattle.std.proofs.Common.{⊎_elim, arith, length-append, fold, is_some, length-drop}
+use Rattle.rk_inv_base.proofs.Words.{cases_lt, length-map, range_with_len, Entry, committed, pending, PlacedBytes, Traffic, with_message}
+use Rattle.rk_inv_base.proofs.Words.{Message, Called, IsWellFormed, Master, staged, append_of, appends, duties, master_turn, filled}
+use Rattle.rk_inv_base.proofs.Words.{MOST_BYTES, happened, ledger_after, World, bytes_of_logs, master_at, Node, Event}
 use Rattle.std.proofs.lemmas.List.Folds.{length-flat_map-take}
 use Rattle.std.proofs.lemmas.List.FromFn.{get_or-range_with_len, length-range_with_len}
 use Rattle.rk_inv_lanes.specs.applied.CaughtUp.{AllCaughtUp, IsCaughtUp}
 use Rattle.rk_inv_lanes.proofs.applied.Lacking.{Lacks, lacks}
 use Rattle.rk_inv_lanes.proofs.applied.Lanes.{HasFew, few_of}
+use Rattle.rk_inv_events.proofs.events.Coordinating.{of_master}
 
 -- ---- a master
 
@@ -58,12 +58,9 @@ turn_some master has caught some =
 -- a master of a lane sends one message at least
 sends_one : {w : World} (master : ℕ) → IsWellFormed w → bytes_of_logs w < MOST_BYTES → AllCaughtUp w → staged (master_at w master) ≢ []
     → 1 ≤ length (master_turn (master_at w master)).sends
-sends_one {w} master formed room caught = by (get w.masters master) refl (caught master)
-  where
-    by : (found : Option Master) → get w.masters master ≡ found → IsCaughtUp (unwrap_or found (new_master master []))
-        → staged (unwrap_or found (new_master master [])) ≢ [] → 1 ≤ length (master_turn (unwrap_or found (new_master master []))).sends
-    by None is now some = absurd (some refl)
-    by (Some there) is now some = turn_some there (few_of w master there formed room is) now some
+sends_one {w} master formed room caught = of_master w formed
+    (λ m. IsCaughtUp m → staged m ≢ [] → 1 ≤ length (master_turn m).sends) master (λ now some. absurd (some refl))
+    (λ m is its now some. turn_some m (few_of w master m formed room is) now some) (caught master)
 
 pub sends_some : (w : World) (master : ℕ) → IsWellFormed w → bytes_of_logs w < MOST_BYTES → AllCaughtUp w → staged (master_at w master) ≢ []
     → (master_turn (master_at w master)).sends ≢ []

@@ -1,14 +1,15 @@
 -- What a Reply on the wire says that was not there before its Request was delivered: what the master chose to say.
 use Rattle.std.proofs.Common.{◌≡◌, ◌+◌, ℕ, Bool, true, false, cond, List, Option, Some, None, refl, sym, ap, ⊎_elim, ◌∙◌, slice_get}
-use Rattle.rk_inv_base.proofs.Words.{cases_eq, get_other, get_same, IsInOrder, get, Answer, Call, Placed, Traffic, with_message, Reply}
-use Rattle.rk_inv_base.proofs.Words.{Request, Body, Message, Called, outcome_of, IsWellFormed, MayAnswerMoved, Master, filled, place_of}
-use Rattle.rk_inv_base.proofs.Words.{reply_at, reply_with, answering, call_of, choice_of, chosen, ledger_after, losing, worked_at, World}
-use Rattle.rk_inv_base.proofs.Words.{has_crashed, master_at, Choice, Ignores, Reads, Redirects, Refuses, Repeats, Wants, Writes, Served}
+use Rattle.rk_inv_base.proofs.Words.{cases_eq, get_other, get_same, get, Answer, Call, Placed, Traffic, with_message, Reply, Request, Body}
+use Rattle.rk_inv_base.proofs.Words.{Message, Called, outcome_of, IsWellFormed, MayAnswerMoved, Master, filled, place_of, reply_at}
+use Rattle.rk_inv_base.proofs.Words.{reply_with, answering, call_of, choice_of, chosen, ledger_after, losing, worked_at, World, has_crashed}
+use Rattle.rk_inv_base.proofs.Words.{master_at, Choice, Ignores, Reads, Redirects, Refuses, Repeats, Wants, Writes, Served}
 use Rattle.rk_inv_events.specs.request.Small.{request_message}
 use Rattle.rk_inv_lanes.specs.late.Refused.{IsPutOff}
 use Rattle.rk_inv_lanes.specs.late.Sent.{IsMade}
 use Rattle.rk_inv_lanes.proofs.late.Lanes.{comes_to}
 use Rattle.rk_inv_lanes.proofs.late.Refusals.{moved_justified, not_yet_justified}
+use Rattle.rk_inv_events.proofs.events.Coordinating.{tablets_order}
 
 -- ---- what is filled in
 
@@ -117,14 +118,6 @@ wants : (choice : Choice) (asked : ℕ) (key : List ℕ) (call : Call) → said 
 wants (Wants number) asked key call is = record { tablet = number; is = refl }
 wants _ asked key call is = absurd (cc is)
 
--- the tablets of each master of a well formed lane stand by number
-tablets_in_order : {w : World} (master : ℕ) → IsWellFormed w → IsInOrder (master_at w master).tablets
-tablets_in_order {w} master formed = go (get w.masters master) refl
-  where
-    go : (there : Option Master) → get w.masters master ≡ there → IsInOrder (master_at w master).tablets
-    go None none = rw none tt
-    go (Some own) some = rw some (formed.masters master own some).tablets_order
-
 module _ (w : World) (number new master client : ℕ) (request : Request) (message : Message) (called : Called) (its : IsMade w number new master client request message called) (reply : Reply) (replies : message.body ≡ Body.Reply reply) where
   answer_is : answer_in message.body ≡ Some reply.answer
   answer_is = ap answer_in replies
@@ -142,5 +135,5 @@ module _ (w : World) (number new master client : ℕ) (request : Request) (messa
       wants (choice_of (master_at w master) (call_of client request)) request.tablet key (call_of client request) (made ∙ ap Some is) in
       record {
         tablet = wanted.tablet;
-        may = not_yet_justified (master_at w master) (call_of client request) wanted.tablet (tablets_in_order master formed) wanted.is;
+        may = not_yet_justified (master_at w master) (call_of client request) wanted.tablet (tablets_order w formed master) wanted.is;
       }

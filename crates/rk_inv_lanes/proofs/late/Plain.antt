@@ -1,14 +1,13 @@
 -- What nodes send that refuses no call: all but what a master answers to a Request.
-use Rattle.std.proofs.Common.{◌≡◌, ◌++◌, ℕ, Bool, true, false, cond, List, [], ◌∷◌, Option, Some, None, refl, sym, subst, All, length}
-use Rattle.std.proofs.Common.{map, nat_lt, flat_map}
-use Rattle.rk_inv_base.proofs.Words.{All-append, All-cons, All-map, All-nil, All-weaker, range_with_len, ⊤, NumberMap, get, Answer, Call}
-use Rattle.rk_inv_base.proofs.Words.{Ended, Placed, Node, Entry, Role, Phase, Owned, Opening, Row, overreach, pending, PlacedBytes}
-use Rattle.rk_inv_base.proofs.Words.{Overreach, Reply, Body, Message, Appended, Called, Gave, backup_step, apply_entries, apply_entry}
-use Rattle.rk_inv_base.proofs.Words.{newly_held, stored_taken, with_applied, with_ended, with_entry_item, Coordinator, coordinator_turn}
-use Rattle.rk_inv_base.proofs.Words.{located, own_to, release_to, row_duty, told_coordinator, told_by, next_reading, Master, with_known}
-use Rattle.rk_inv_base.proofs.Words.{told_master, append_of, appends, duties, master_turn, reading_duty, tablet_duty, with_outstanding}
-use Rattle.rk_inv_base.proofs.Words.{filled, place_of, Tablet, all_going_on, Worked, changed, from_master, sending, Reading, Served}
-use Rattle.rk_inv_base.proofs.Words.{Stored}
+use Rattle.std.proofs.Common.{◌≡◌, ◌++◌, ℕ, Bool, true, false, cond, List, [], ◌∷◌, Option, Some, None, refl, sym, subst, All, length, map}
+use Rattle.std.proofs.Common.{nat_lt, flat_map}
+use Rattle.rk_inv_base.proofs.Words.{All-append, All-cons, All-map, All-nil, All-weaker, range_with_len, ⊤, NumberMap, Answer, Placed, Node}
+use Rattle.rk_inv_base.proofs.Words.{Role, Phase, Owned, Opening, Row, overreach, pending, PlacedBytes, Overreach, Reply, Body, Message}
+use Rattle.rk_inv_base.proofs.Words.{Appended, Called, Gave, backup_step, apply_entries, newly_held, stored_taken, Coordinator}
+use Rattle.rk_inv_base.proofs.Words.{coordinator_turn, located, own_to, release_to, row_duty, told_coordinator, next_reading, Master}
+use Rattle.rk_inv_base.proofs.Words.{with_known, told_master, append_of, appends, duties, master_turn, reading_duty, tablet_duty}
+use Rattle.rk_inv_base.proofs.Words.{with_outstanding, filled, place_of, Tablet, all_going_on, Worked, changed, from_master, sending}
+use Rattle.rk_inv_base.proofs.Words.{Reading, Served, Stored}
 use Rattle.rk_world.specs.Backup.{master_message}
 use Rattle.rk_world.specs.MasterTurn.{pull_of, tenure_at, want_of}
 use Rattle.rk_world.specs.Replies.{filled_body, filled_reply}
@@ -17,6 +16,7 @@ use Rattle.rk_inv_lanes.specs.late.Refused.{IsNoRefusal, IsOutcome}
 use Rattle.rk_inv_lanes.proofs.lanes.Reports.{IsMade, told_made}
 use Rattle.rk_inv_lanes.proofs.late.Answered.{at_same}
 use Rattle.rk_inv_lanes.proofs.masters.Sends.{IsSaid, copy_sends, order_sends, peer_sends}
+use Rattle.rk_inv_events.proofs.stored.Work.{AnyNext, Passes, entries_pass}
 
 -- a message that refuses no call
 abbrev pub IsPlain : Message → Type 0
@@ -71,15 +71,13 @@ plainly = record {
   says_got = λ master sender want message. one _ tt;
 }
 
-ends : (master : Master) (place : ℕ) (call : Option Call) (told : List Ended) → WorksPlainly (with_ended master place call told)
-ends master place None told = record { sends = none }
-ends master place (Some call) [] = record { sends = none }
-ends master place (Some call) (end ∷ more) = record { sends = one _ tt }
-
-applies : (master : Master) (entries : List Entry) → WorksPlainly (apply_entries master entries)
-applies master [] = record { sends = none }
-applies master (entry ∷ entries) =
-    both (apply_entry master entry) (λ next. apply_entries next entries) (ends (with_applied (with_entry_item master entry)) master.applied (get master.calls master.applied) (told_by entry)) (applies (apply_entry master entry).master entries)
+applies : Passes AnyNext (λ master worked. WorksPlainly worked)
+applies = record {
+  stays = λ master. quiet master;
+  silent = λ master entry any. record { sends = none };
+  ends = λ master entry call end any is. record { sends = one _ tt };
+  goes_on = λ master first later its others. both first (λ next. later) its others;
+}
 
 -- a client asks a call
 abbrev pub IsAsked : Node → Body → Type 0
@@ -90,7 +88,8 @@ of_stored : (master : Master) (backup : ℕ) (stored : Stored) (beyond : Option 
 of_stored master backup stored (Some beyond) = record { sends = none }
 of_stored master backup stored None =
     let known = with_known master backup stored.segment stored.length in
-    both (apply_entries known (newly_held known)) (λ now. changed (all_going_on now now.tablets)) (applies known (newly_held known))
+    both (apply_entries known (newly_held known)) (λ now. changed (all_going_on now now.tablets))
+    (entries_pass applies (newly_held known) known (λ place none inside. tt))
     (quiet _)
 
 pub master_plain : (master : Master) (sender : Node) (body : Body) → (IsAsked sender body → ⊥) → WorksPlainly (told_master master sender body)

@@ -1,37 +1,27 @@
 -- What the coordinator makes of a report that comes late, or that no row waits for: it stays as it is, and at most tells an owner again.
-use Rattle.std.proofs.Common.{◌≡◌, ℕ, Bool, true, false, cond, [], ◌∷◌, Option, Some, None, refl, sym, ap, subst, ⊎_elim, ◌∙◌, ◌⊎◌, ◌==◌}
-use Rattle.std.proofs.Common.{eq-eqb, eqb-true}
+use Rattle.std.proofs.Common.{◌≡◌, ℕ, Bool, true, false, cond, [], ◌∷◌, Option, Some, None, refl, sym, ap, ◌∙◌, ◌⊎◌, ◌==◌}
+use Rattle.std.proofs.Common.{eq-eqb, eqb-true, inl, inr}
 use Rattle.rk_inv_base.proofs.Words.{row_of, Phase, Owned, Opening, Moving, Rebuilding, Row, Ready, Tenure, Transfer, Body, Rebuilt}
 use Rattle.rk_inv_base.proofs.Words.{Coordinator, is_noticed, Coordinated, about, answered, at_term, joined_in, own_to, ready_in}
-use Rattle.rk_inv_base.proofs.Words.{rebuilt_in, report, row_for, transfer_in, unanswered, tenure_in}
+use Rattle.rk_inv_base.proofs.Words.{rebuilt_in, report, row_for, transfer_in, unanswered, tenure_in, cond-false, cond-true, cond_both}
 use Rattle.rk_inv_lanes.specs.late.Late.{HasOtherTerm, IsLateReport, is_told_again, is_waited_for}
 use Rattle.rk_inv_lanes.proofs.late.Tests.{not_at}
 
--- a test that fails leaves the other branch
-otherwise : (b : Bool) (one other : Coordinated) → b ≡ false → cond b one other ≡ other
-otherwise b one other is = ap (λ (t : Bool). cond t one other) is
-
 -- ---- the row that a report speaks of
-
-either_none : (b : Bool) (row : Option Row) → row ≡ None → cond b None row ≡ None
-either_none true row is = refl
-either_none false row is = is
 
 -- a report that comes late speaks of no row
 no_row : (coordinator : Coordinator) (sender : ℕ) (tenure : Tenure) → IsLateReport coordinator sender tenure
     → row_for coordinator sender tenure ≡ None
-no_row coordinator sender tenure late =
-    let noticed : Bool = is_noticed coordinator sender in
-    let found : Option Row = row_of coordinator.rows tenure.tablet in
-    ⊎_elim (λ (its : is_noticed coordinator sender ≡ true). ap (λ (b : Bool). cond b None (at_term tenure found)) its)
-    (λ (others : (row_of coordinator.rows tenure.tablet ≡ None) ⊎ HasOtherTerm coordinator tenure).
-    either_none noticed (at_term tenure found)
-    (⊎_elim
-    (λ (none : row_of coordinator.rows tenure.tablet ≡ None). ap (at_term tenure) none)
-    (λ (has : HasOtherTerm coordinator tenure).
-    ap (at_term tenure) has.found ∙ not_at has.row.term tenure.term (Some has.row) has.other)
-    others))
-    late
+no_row coordinator sender tenure (inl noticed) =
+    cond-true (is_noticed coordinator sender) None (at_term tenure (row_of coordinator.rows tenure.tablet)) noticed
+no_row coordinator sender tenure (inr others) =
+    cond_both (is_noticed coordinator sender) None (at_term tenure (row_of coordinator.rows tenure.tablet)) (λ (row : Option Row). row ≡ None) (λ noticed. refl)
+    (λ heard. none others)
+  where
+    none : (row_of coordinator.rows tenure.tablet ≡ None) ⊎ HasOtherTerm coordinator tenure
+        → at_term tenure (row_of coordinator.rows tenure.tablet) ≡ None
+    none (inl is) = ap (at_term tenure) is
+    none (inr has) = ap (at_term tenure) has.found ∙ not_at has.row.term tenure.term (Some has.row) has.other
 
 -- a report speaks of the row that has its tablet and its term
 row_is : (coordinator : Coordinator) (sender : ℕ) (tenure : Tenure) (row : Row) → is_noticed coordinator sender ≡ false
@@ -41,20 +31,21 @@ row_is coordinator sender tenure row heard found same =
     ∙ ap (λ (b : Bool). cond b (Some row) None) (eq-eqb row.term tenure.term same)
 
 module _ (coordinator : Coordinator) (sender : ℕ) where
-  -- ---- reports that come late
-
-  about_none : (taken : Row → Coordinated) (stated tenure : Tenure) → Some stated ≡ Some tenure → IsLateReport coordinator sender tenure
-      → about coordinator taken (row_for coordinator sender stated) ≡ unanswered coordinator
-  about_none taken stated tenure says late =
+  -- what is made of the row that a report speaks of, since the report has this tenure
+  about_is : (taken : Row → Coordinated) (stated tenure : Tenure) (row : Option Row) → Some stated ≡ Some tenure
+      → row_for coordinator sender tenure ≡ row → about coordinator taken (row_for coordinator sender stated) ≡ about coordinator taken row
+  about_is taken stated tenure row says is =
       let same : stated ≡ tenure = cc says in
-      ap (about coordinator taken) (no_row coordinator sender stated (subst (IsLateReport coordinator sender) (sym same) late))
+      ap (about coordinator taken) (ap (row_for coordinator sender) same ∙ is)
+
+  -- ---- reports that come late
 
   pub report_late : (body : Body) (tenure : Tenure) → tenure_in body ≡ Some tenure → IsLateReport coordinator sender tenure
       → report coordinator sender body ≡ unanswered coordinator
-  report_late (Body.Ready ready) tenure says late = about_none _ ready.tenure tenure says late
-  report_late (Body.Transfer transfer) tenure says late = about_none _ transfer.tenure tenure says late
-  report_late (Body.Joined joined) tenure says late = about_none _ joined tenure says late
-  report_late (Body.Rebuilt rebuilt) tenure says late = about_none _ rebuilt.tenure tenure says late
+  report_late (Body.Ready ready) tenure says late = about_is _ ready.tenure tenure None says (no_row coordinator sender tenure late)
+  report_late (Body.Transfer transfer) tenure says late = about_is _ transfer.tenure tenure None says (no_row coordinator sender tenure late)
+  report_late (Body.Joined joined) tenure says late = about_is _ joined tenure None says (no_row coordinator sender tenure late)
+  report_late (Body.Rebuilt rebuilt) tenure says late = about_is _ rebuilt.tenure tenure None says (no_row coordinator sender tenure late)
   report_late _ tenure says late = refl
 
   -- ---- reports that no row waits for
@@ -74,24 +65,24 @@ module _ (coordinator : Coordinator) (sender : ℕ) where
 
   ready_quiet : (ready : Ready) (row : Row) (phase : Phase) → is_waited_for phase sender (Body.Ready ready) ≡ false
       → ready_in coordinator sender ready row phase ≡ unanswered coordinator
-  ready_quiet ready row (Opening source sfrom target None) other = otherwise _ _ (unanswered coordinator) other
+  ready_quiet ready row (Opening source sfrom target None) other = cond-false _ _ _ other
   ready_quiet ready row _ other = refl
 
   transfer_quiet : (transfer : Transfer) (row : Row) (phase : Phase) → is_waited_for phase sender (Body.Transfer transfer) ≡ false
       → transfer_in coordinator sender transfer row phase ≡ unanswered coordinator
-  transfer_quiet transfer row (Opening source sfrom target (Some dfrom)) other = otherwise _ _ (unanswered coordinator) other
+  transfer_quiet transfer row (Opening source sfrom target (Some dfrom)) other = cond-false _ _ _ other
   transfer_quiet transfer row _ other = refl
 
   joined_quiet : (tenure : Tenure) (row : Row) (phase : Phase) → is_waited_for phase sender (Body.Joined tenure) ≡ false
       → is_told_again phase sender (Body.Joined tenure) ≡ false → joined_in coordinator sender row phase ≡ unanswered coordinator
-  joined_quiet tenure row (Moving source sfrom target dfrom) other untold = otherwise _ _ (unanswered coordinator) other
-  joined_quiet tenure row (Owned master from) other untold = otherwise _ _ (unanswered coordinator) untold
+  joined_quiet tenure row (Moving source sfrom target dfrom) other untold = cond-false _ _ _ other
+  joined_quiet tenure row (Owned master from) other untold = cond-false _ _ _ untold
   joined_quiet tenure row _ other untold = refl
 
   rebuilt_quiet : (rebuilt : Rebuilt) (row : Row) (phase : Phase) → is_waited_for phase sender (Body.Rebuilt rebuilt) ≡ false
       → is_told_again phase sender (Body.Rebuilt rebuilt) ≡ false → rebuilt_in coordinator sender rebuilt row phase ≡ unanswered coordinator
-  rebuilt_quiet rebuilt row (Rebuilding lineage to) other untold = otherwise _ _ (unanswered coordinator) other
-  rebuilt_quiet rebuilt row (Owned master from) other untold = otherwise _ _ (unanswered coordinator) untold
+  rebuilt_quiet rebuilt row (Rebuilding lineage to) other untold = cond-false _ _ _ other
+  rebuilt_quiet rebuilt row (Owned master from) other untold = cond-false _ _ _ untold
   rebuilt_quiet rebuilt row _ other untold = refl
 
   pub report_unawaited : (body : Body) (tenure : Tenure) (row : Row) → tenure_in body ≡ Some tenure
@@ -114,7 +105,7 @@ module _ (coordinator : Coordinator) (sender : ℕ) where
       → cond (sender == master) (answered coordinator (own_to master row ∷ [])) (unanswered coordinator)
       ≡ answered coordinator (own_to sender row ∷ [])
   own_again row master here =
-      ap (λ (b : Bool). cond b (answered coordinator (own_to master row ∷ [])) (unanswered coordinator)) here
+      cond-true (sender == master) (answered coordinator (own_to master row ∷ [])) (unanswered coordinator) here
       ∙ ap (λ (m : ℕ). answered coordinator (own_to m row ∷ [])) (sym (eqb-true sender master here))
 
   joined_again : (tenure : Tenure) (row : Row) (phase : Phase) → is_told_again phase sender (Body.Joined tenure) ≡ true
@@ -127,13 +118,6 @@ module _ (coordinator : Coordinator) (sender : ℕ) where
   rebuilt_again rebuilt row (Owned master from) here = own_again row master here
   rebuilt_again rebuilt row _ here = absurd (cc here)
 
-  about_found : (taken : Row → Coordinated) (stated tenure : Tenure) (row : Row) → Some stated ≡ Some tenure
-      → row_for coordinator sender tenure ≡ Some row
-      → about coordinator taken (row_for coordinator sender stated) ≡ taken row
-  about_found taken stated tenure row says found =
-      let same : stated ≡ tenure = cc says in
-      ap (about coordinator taken) (ap (row_for coordinator sender) same ∙ found)
-
   pub report_told_again : (body : Body) (tenure : Tenure) (row : Row) → tenure_in body ≡ Some tenure
       → is_noticed coordinator sender ≡ false → row_of coordinator.rows tenure.tablet ≡ Some row → row.term ≡ tenure.term
       → is_told_again row.phase sender body ≡ true
@@ -145,6 +129,6 @@ module _ (coordinator : Coordinator) (sender : ℕ) where
 
       go : (b : Body) → tenure_in b ≡ Some tenure → is_told_again row.phase sender b ≡ true
           → report coordinator sender b ≡ answered coordinator (own_to sender row ∷ [])
-      go (Body.Joined joined) says again = about_found _ joined tenure row says its ∙ joined_again joined row row.phase again
-      go (Body.Rebuilt rebuilt) says again = about_found _ rebuilt.tenure tenure row says its ∙ rebuilt_again rebuilt row row.phase again
+      go (Body.Joined joined) says again = about_is _ joined tenure (Some row) says its ∙ joined_again joined row row.phase again
+      go (Body.Rebuilt rebuilt) says again = about_is _ rebuilt.tenure tenure (Some row) says its ∙ rebuilt_again rebuilt row row.phase again
       go _ says again = absurd (cc again)

@@ -1,17 +1,34 @@
--- What is so of a master's log, of what is applied of it, of the calls that wait and of the records, whatever becomes of its tablets: it stays
--- so where a call is chosen for, where what waited goes on, and where a tablet is handed over, if it does when the log grows and when items
--- go into the records or are dropped from them.
-use Rattle.std.proofs.Common.{Bool, List, None, Option, Some, cond, false, length, true, ℕ, ◌==◌}
-use Rattle.rk_inv_base.proofs.Words.{Call, Choice, Entry, Grant, Handover, Held, Log, Master, NumberMap, Prepare, Range, Refuses, Request}
-use Rattle.rk_inv_base.proofs.Words.{Role, Tablet, Tenure, Worked, Writes, all_going_on, call_of, carried_entry, changed, choice_of}
-use Rattle.rk_inv_base.proofs.Words.{chosen, close_taken, closed, closing, closing_entry, freezing, frozen, going_on_in, grant_taken}
-use Rattle.rk_inv_base.proofs.Words.{granted, granting, is_frozen_at, is_greater, is_sealed_stored, is_settled, item_of, joined}
-use Rattle.rk_inv_base.proofs.Words.{joined_entry, own_taken, owned, owning, prepare_taken, prepared, preparing, ready, ready_again}
-use Rattle.rk_inv_base.proofs.Words.{refusal_of, release_taken, released, releasing, request_taken, sending, tablet_at, tablet_closed}
-use Rattle.rk_inv_base.proofs.Words.{tablet_frozen, tablet_prepared, transfer, transferring, with_appended, with_move}
-use Rattle.rk_inv_base.proofs.Words.{with_others_given_up, with_side_segment, without_items}
+-- What is so of a master stays so where a call is chosen for, where what waited goes on, and where a tablet is handed over, if it does when the
+-- log grows, when items go into the records or are dropped from them, and when a tablet is put. So is what is said of the log, of what is
+-- applied of it, of the calls that wait and of the records alone, whatever becomes of the tablets.
+use Rattle.std.proofs.Common.{Bool, List, None, Option, Some, cond, false, length, true, ℕ, ◌==◌, All, [], ◌∷◌, slice_set}
+use Rattle.rk_inv_base.proofs.Words.{Call, Choice, Entry, Grant, Handover, Held, Log, Master, NumberMap, Prepare, Range, Refuses, Role}
+use Rattle.rk_inv_base.proofs.Words.{Tablet, Tenure, Worked, Writes, all_going_on, carried_entry, changed, chosen, close_taken, closed}
+use Rattle.rk_inv_base.proofs.Words.{closing, closing_entry, freezing, frozen, going_on_in, granting, is_frozen_at, is_greater}
+use Rattle.rk_inv_base.proofs.Words.{is_sealed_stored, is_settled, item_of, joined, joined_entry, owning, prepare_taken, prepared}
+use Rattle.rk_inv_base.proofs.Words.{preparing, ready, ready_again, refusal_of, releasing, sending, tablet_at, tablet_closed, tablet_frozen}
+use Rattle.rk_inv_base.proofs.Words.{transfer, with_appended, with_move, with_others_given_up, with_side_segment, without_items}
+use Rattle.rk_inv_base.proofs.Words.{Wants, with_handover, with_staged, with_tablet, ⊤}
 use Rattle.rk_world.specs.Master.{with_call, with_item}
-use Rattle.rk_inv_wellformed.proofs.lanes.Ledgers.{kept_by_fold}
+use Rattle.rk_inv_wellformed.proofs.maps.Lists.{fold_keeps_all}
+
+-- it stays so where an entry that may be appended is, where a side segment becomes known, where an item that fits is put into the records,
+-- where the items of a range are dropped from them, and where a tablet is put that has sealed few side segments, with these lists of workers
+pub record Lasts (P : Master → Type 0) (Fits : Held → Type 0) (May : Entry → Type 0) (Few : List ℕ → List (List Held) → Type 0) : Type 0 where
+  pub appended : (master : Master) (entry : Entry) → May entry → P master → P (with_appended master entry)
+  pub sealed : (master : Master) (items : List Held) → P master → P (with_side_segment master items)
+  pub put : (master : Master) (item : Held) → Fits item → P master → P (with_item master item)
+  pub dropped : (master : Master) (range : Range) → P master → P (without_items master range)
+  pub tablet : (master : Master) (number : ℕ) (tablet : Tablet) → Few tablet.pulling.sealed tablet.pulling.sides → P master
+      → P (with_tablet master number tablet)
+  pub given_up : (master : Master) (number : ℕ) (range : Range) → P master → P (with_others_given_up master number range)
+  -- each tablet has sealed few, and one that pulls anew has
+  pub few : (master : Master) (number : ℕ) → P master → Few (tablet_at master number).pulling.sealed (tablet_at master number).pulling.sides
+  pub all : (master : Master) → P master → All (λ entry. Few entry.1.pulling.sealed entry.1.pulling.sides) master.tablets
+  pub none : Few [] ([] ∷ [] ∷ [] ∷ [] ∷ [])
+  pub replayed : (sealed : List ℕ) (sides : List (List Held)) (worker : ℕ) (items : List Held) → Few sealed sides
+      → Few sealed (slice_set sides worker items)
+  pub closes : (tablet : Tablet) → Few tablet.pulling.sealed tablet.pulling.sides → May (joined_entry tablet)
 
 -- something of a log, of how many of its entries are applied, of the calls that wait, of the items of its side segments, and of records
 abbrev pub About : Type 1
@@ -21,132 +38,154 @@ About = Log → ℕ → NumberMap Call → List (List Held) → List Held → Ty
 abbrev pub Has : About → Master → Type 0
 Has P master = P master.log master.applied master.calls master.sides master.records
 
--- it stays so where an entry is appended, where a side segment becomes known, where an item that fits is put into the records, and where the
--- items of a range are dropped from them
+-- it stays so at these changes alone
 pub record IsLasting (P : About) (Fits : Held → Type 0) : Type 0 where
   pub appended : (master : Master) (entry : Entry) → Has P master → Has P (with_appended master entry)
   pub sealed : (master : Master) (items : List Held) → Has P master → Has P (with_side_segment master items)
   pub put : (master : Master) (item : Held) → Fits item → Has P master → Has P (with_item master item)
   pub dropped : (master : Master) (range : Range) → Has P master → Has P (without_items master range)
 
-module _ {P : About} {Fits : Held → Type 0} (lasting : IsLasting P Fits) where
+-- any entry, and any tablet
+abbrev pub AnyEntry : Entry → Type 0
+AnyEntry entry = ⊤
+
+abbrev pub AnyTablet : List ℕ → List (List Held) → Type 0
+AnyTablet sealed sides = ⊤
+
+pub of_lasting : {P : About} {Fits : Held → Type 0} → IsLasting P Fits → Lasts (Has P) Fits AnyEntry AnyTablet
+of_lasting lasting = record {
+  appended = λ master entry any has. lasting.appended master entry has;
+  sealed = lasting.sealed;
+  put = lasting.put;
+  dropped = lasting.dropped;
+  tablet = λ master number tablet any has. has;
+  given_up = λ master number range has. has;
+  few = λ master number has. tt;
+  all = λ master has place none inside. tt;
+  none = tt;
+  replayed = λ sealed sides worker items any. tt;
+  closes = λ tablet any. tt;
+}
+
+-- the entry that a choice leaves may be appended
+abbrev pub MayLeave : (Entry → Type 0) → Master → Call → Choice → Type 0
+MayLeave May master call (Writes number value) = May (Entry.Held (item_of call (tablet_at master number).handover.counter value))
+MayLeave May master call (Refuses found absent) = May (refusal_of call found absent)
+MayLeave May master call _ = ⊤
+
+module _ {P : Master → Type 0} {Fits : Held → Type 0} {May : Entry → Type 0} {Few : List ℕ → List (List Held) → Type 0} (lasts : Lasts P Fits May Few) where
   -- what is made where a test holds has it, and so has what is made where it does not
-  pub either_has : (test : Bool) (one other : Master) → Has P one → Has P other → Has P (cond test one other)
+  pub either_has : (test : Bool) (one other : Master) → P one → P other → P (cond test one other)
   either_has true one other first second = first
   either_has false one other first second = second
 
-  pub either_work : (test : Bool) (one other : Worked) → Has P one.master → Has P other.master → Has P (cond test one other).master
+  pub either_work : (test : Bool) (one other : Worked) → P one.master → P other.master → P (cond test one other).master
   either_work true one other first second = first
   either_work false one other first second = second
 
+  -- a tablet of a number is put, with what it sealed and its lists of workers
+  pub put_has : (master : Master) (number : ℕ) (handover : Handover) → P master
+      → P (with_tablet master number (with_handover (tablet_at master number) handover))
+  put_has master number handover has = lasts.tablet master number _ (lasts.few master number has) has
+
   -- ---- requests
 
-  chosen_has : (master : Master) (asked : ℕ) (call : Call) (choice : Choice) → Has P (with_call master call) → Has P master
-      → Has P (chosen master asked call choice).master
-  chosen_has master asked call (Writes number value) called has =
-      lasting.appended (with_call master call) (Entry.Held (item_of call (tablet_at master number).handover.counter value)) called
-  chosen_has master asked call (Refuses found absent) called has =
-      lasting.appended (with_call master call) (refusal_of call found absent) called
-  chosen_has master asked call _ called has = has
-
   -- where it stays so once the call waits
-  pub request_has : (master : Master) (client : ℕ) (request : Request) → Has P (with_call master (call_of client request)) → Has P master
-      → Has P (request_taken master client request).master
-  request_has master client request =
-      chosen_has master request.tablet (call_of client request) (choice_of master (call_of client request))
+  pub chosen_has : (master : Master) (asked : ℕ) (call : Call) (choice : Choice) → MayLeave May master call choice → P (with_call master call)
+      → P master → P (chosen master asked call choice).master
+  chosen_has master asked call (Wants number) may called has = lasts.tablet master number _ (lasts.few master number has) has
+  chosen_has master asked call (Writes number value) may called has =
+      let entry = Entry.Held (item_of call (tablet_at master number).handover.counter value) in
+      lasts.tablet (with_staged master call entry) number _ (lasts.few master number has)
+      (lasts.appended (with_call master call) entry may called)
+  chosen_has master asked call (Refuses found absent) may called has =
+      lasts.appended (with_call master call) (refusal_of call found absent) may called
+  chosen_has master asked call _ may called has = has
 
   -- ---- what waited
 
-  freezing_has : (master : Master) (number : ℕ) (tablet : Tablet) (handover : Option Handover)
-      → Has P master → Has P (freezing master number tablet handover)
-  freezing_has master number tablet None has = has
-  freezing_has master number tablet (Some handover) has =
-      either_has (is_settled master tablet.handover.range) (tablet_frozen master number tablet handover) master has has
+  pub freezing_has : (master : Master) (number : ℕ) (tablet : Tablet) (handover : Option Handover)
+      → Few tablet.pulling.sealed tablet.pulling.sides → P master → P (freezing master number tablet handover)
+  freezing_has master number tablet None few has = has
+  freezing_has master number tablet (Some handover) few has = either_has (is_settled master tablet.handover.range)
+      (tablet_frozen master number tablet handover) master (lasts.tablet master number _ few has) has
 
   pub closing_entry_has : (master : Master) (number : ℕ) (tablet : Tablet) (handover : Option Handover)
-      → Has P master → Has P (closing_entry master number tablet handover)
-  closing_entry_has master number tablet None has = has
-  closing_entry_has master number tablet (Some handover) has = lasting.appended master (joined_entry tablet) has
+      → Few tablet.pulling.sealed tablet.pulling.sides → P master → P (closing_entry master number tablet handover)
+  closing_entry_has master number tablet None few has = has
+  closing_entry_has master number tablet (Some handover) few has =
+      lasts.appended (with_tablet master number (with_handover tablet handover)) (joined_entry tablet) (lasts.closes tablet few)
+      (lasts.tablet master number _ few has)
 
-  going_on_has : (master : Master) (number : ℕ) (tablet : Tablet) (role : Role) → Has P master → Has P (going_on_in master number tablet role)
-  going_on_has master number tablet Role.Closing has =
-      freezing_has master number tablet (frozen tablet.handover tablet.handover.term) has
-  going_on_has master number tablet (Role.Joining None) has =
+  going_on_has : (master : Master) (number : ℕ) (tablet : Tablet) (role : Role) → Few tablet.pulling.sealed tablet.pulling.sides → P master
+      → P (going_on_in master number tablet role)
+  going_on_has master number tablet Role.Closing few has =
+      freezing_has master number tablet (frozen tablet.handover tablet.handover.term) few has
+  going_on_has master number tablet (Role.Joining None) few has =
       let handover = joined tablet.handover tablet.handover.term (Some (length master.log.entries)) in
       either_has (is_sealed_stored master tablet) (closing_entry master number tablet handover) master
-      (closing_entry_has master number tablet handover has) has
-  going_on_has master number tablet _ has = has
+      (closing_entry_has master number tablet handover few has) has
+  going_on_has master number tablet _ few has = has
 
-  pub all_going_on_has : (master : Master) (tablets : NumberMap Tablet) → Has P master → Has P (all_going_on master tablets)
-  all_going_on_has master tablets has =
-      kept_by_fold (Has P) (λ now (entry : ℕ × Tablet). going_on_in now entry.0 entry.1 entry.1.handover.role)
-      (λ now entry kept. going_on_has now entry.0 entry.1 entry.1.handover.role kept) tablets master has
+  pub all_going_on_has : (master : Master) → P master → P (all_going_on master master.tablets)
+  all_going_on_has master has =
+      fold_keeps_all P (λ (entry : ℕ × Tablet). Few entry.1.pulling.sealed entry.1.pulling.sides)
+      (λ now (entry : ℕ × Tablet). going_on_in now entry.0 entry.1 entry.1.handover.role) master.tablets master has (lasts.all master has)
+      (λ now entry kept few. going_on_has now entry.0 entry.1 entry.1.handover.role few kept)
 
   -- ---- ready
 
-  move_has : (master : Master) (number : ℕ) (handover : Option Handover) → Has P master → Has P (with_move master number handover)
+  move_has : (master : Master) (number : ℕ) (handover : Option Handover) → P master → P (with_move master number handover)
   move_has master number None has = has
-  move_has master number (Some handover) has = has
+  move_has master number (Some handover) has = lasts.tablet master number _ (lasts.few master number has) has
 
-  prepared_has : (master : Master) (prepare : Prepare) → Has P master → Has P (tablet_prepared master prepare)
-  prepared_has master prepare has =
-      let number = prepare.tenure.tablet in
-      let now = with_others_given_up (without_items master prepare.range) number prepare.range in
-      move_has now number (prepared (tablet_at now number).handover prepare.tenure.term prepare.range (length master.log.entries))
-      (lasting.dropped master prepare.range has)
-
-  again_has : (master : Master) (tenure : Tenure) (role : Role) (term : ℕ) → Has P master → Has P (ready_again master tenure role term).master
+  again_has : (master : Master) (tenure : Tenure) (role : Role) (term : ℕ) → P master → P (ready_again master tenure role term).master
   again_has master tenure (Role.Wanting from) term has =
       either_work (term == tenure.term) (sending master (ready master tenure from)) (changed master) has has
   again_has master tenure _ term has = has
 
-  pub prepare_has : (master : Master) (prepare : Prepare) → Has P master → Has P (prepare_taken master prepare).master
+  pub prepare_has : (master : Master) (prepare : Prepare) → P master → P (prepare_taken master prepare).master
   prepare_has master prepare has =
-      let handover = (tablet_at master prepare.tenure.tablet).handover in
-      either_work (is_greater master prepare.tenure.tablet prepare.tenure.term prepare.range) (preparing master prepare)
+      let number = prepare.tenure.tablet in
+      let handover = (tablet_at master number).handover in
+      let now = with_others_given_up (without_items master prepare.range) number prepare.range in
+      either_work (is_greater master number prepare.tenure.term prepare.range) (preparing master prepare)
       (ready_again master prepare.tenure handover.role handover.term)
-      (prepared_has master prepare has) (again_has master prepare.tenure handover.role handover.term has)
+      (move_has now number (prepared (tablet_at now number).handover prepare.tenure.term prepare.range (length master.log.entries))
+      (lasts.given_up (without_items master prepare.range) number prepare.range (lasts.dropped master prepare.range has)))
+      (again_has master prepare.tenure handover.role handover.term has)
 
   -- ---- closed
 
-  closing_has : (master : Master) (number : ℕ) (handover : Option Handover) → Has P master → Has P (closing master number handover)
+  closing_has : (master : Master) (number : ℕ) (handover : Option Handover) → P master → P (closing master number handover)
   closing_has master number None has = has
   closing_has master number (Some handover) has =
       let now = tablet_closed master number handover in
-      freezing_has now number (tablet_at now number) (frozen handover handover.term) has
+      let closed_has = move_has master number (Some handover) has in
+      freezing_has now number (tablet_at now number) (frozen handover handover.term) (lasts.few now number closed_has) closed_has
 
-  transferring_has : (master : Master) (tenure : Tenure) → Has P master → Has P (transferring master tenure).master
-  transferring_has master tenure has =
-      let tablet = tablet_at master tenure.tablet in
-      either_work (is_frozen_at tablet tenure.term) (sending master (transfer master tenure tablet)) (changed master) has has
-
-  pub close_has : (master : Master) (tenure : Tenure) → Has P master → Has P (close_taken master tenure).master
+  pub close_has : (master : Master) (tenure : Tenure) → P master → P (close_taken master tenure).master
   close_has master tenure has =
       let handover = closed (tablet_at master tenure.tablet).handover tenure.term in
-      transferring_has (closing master tenure.tablet handover) tenure (closing_has master tenure.tablet handover has)
+      let now = closing master tenure.tablet handover in
+      let tablet = tablet_at now tenure.tablet in
+      let has_now = closing_has master tenure.tablet handover has in
+      either_work (is_frozen_at tablet tenure.term) (sending now (transfer now tenure tablet)) (changed now) has_now has_now
 
   -- ---- granted, owned and released
 
-  granting_has : (master : Master) (grant : Grant) (handover : Option Handover) → Has P master → Has P (granting master grant handover).master
-  granting_has master grant None has = has
-  granting_has master grant (Some handover) has = lasting.appended master (carried_entry handover grant) has
+  pub granting_has : (master : Master) (grant : Grant) (handover : Option Handover) → ((handover : Handover) → May (carried_entry handover grant))
+      → P master → P (granting master grant handover).master
+  granting_has master grant None may has = has
+  granting_has master grant (Some handover) may has =
+      lasts.tablet (with_appended master (carried_entry handover grant)) grant.tenure.tablet _ lasts.none
+      (lasts.appended master (carried_entry handover grant) (may handover) has)
 
-  pub grant_has : (master : Master) (grant : Grant) → Has P master → Has P (grant_taken master grant).master
-  grant_has master grant has =
-      granting_has master grant (granted (tablet_at master grant.tenure.tablet).handover grant.tenure.term grant.floor) has
-
-  owning_has : (master : Master) (number : ℕ) (handover : Option Handover) → Has P master → Has P (owning master number handover).master
+  pub owning_has : (master : Master) (number : ℕ) (handover : Option Handover) → P master → P (owning master number handover).master
   owning_has master number None has = has
-  owning_has master number (Some handover) has = has
+  owning_has master number (Some handover) has = lasts.tablet master number _ lasts.none has
 
-  pub own_has : (master : Master) (tenure : Tenure) → Has P master → Has P (own_taken master tenure).master
-  own_has master tenure has =
-      owning_has master tenure.tablet (owned (tablet_at master tenure.tablet).handover tenure.term master.applied) has
-
-  releasing_has : (master : Master) (number : ℕ) (handover : Option Handover) → Has P master → Has P (releasing master number handover).master
+  pub releasing_has : (master : Master) (number : ℕ) (handover : Option Handover) → P master → P (releasing master number handover).master
   releasing_has master number None has = has
-  releasing_has master number (Some handover) has = lasting.dropped master handover.range has
-
-  pub release_has : (master : Master) (tenure : Tenure) → Has P master → Has P (release_taken master tenure).master
-  release_has master tenure has =
-      releasing_has master tenure.tablet (released (tablet_at master tenure.tablet).handover tenure.term) has
+  releasing_has master number (Some handover) has =
+      move_has (without_items master handover.range) number (Some handover) (lasts.dropped master handover.range has)

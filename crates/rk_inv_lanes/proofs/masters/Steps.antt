@@ -1,205 +1,282 @@
--- What is so of a master's log and records stays so at each message that it takes, where what it replays fits, and at its turn.
-use Rattle.std.proofs.Common.{All, List, None, Option, Some, [], cond, false, length, nat_lt, true, ℕ, ◌%◌, ◌&&◌, ◌==◌, ◌∷◌}
-use Rattle.rk_inv_base.proofs.Words.{Body, Call, CopySegment, Got, Handover, Held, Master, Member, Merged, Node, NumberMap, Pull, Pulled}
-use Rattle.rk_inv_base.proofs.Words.{Range, Reading, Rebuild, Role, Stored, Tablet, Want, as_entries, batch_taken, beginning, begun_from}
+-- What is so of a master stays so at each message that it takes, where what it replays fits and what it appends may be, and at its turn.
+use Rattle.std.proofs.Common.{All, List, None, Option, Some, [], cond, false, length, nat_lt, true, ℕ, ◌%◌, ◌&&◌, ◌∷◌, Bool, fold, refl}
+use Rattle.std.proofs.Common.{◌≡◌}
+use Rattle.rk_inv_base.proofs.Words.{Body, Call, CopySegment, Got, Handover, Held, Master, Member, Merged, Node, NumberMap, Pulled}
+use Rattle.rk_inv_base.proofs.Words.{Range, Reading, Rebuild, Role, Stored, Tablet, as_entries, batch_taken, beginning, begun_from}
 use Rattle.rk_inv_base.proofs.Words.{by_member, call_of, carried, changed, copy_taken, duties, end, found, got_taken, has_parts}
-use Rattle.rk_inv_base.proofs.Words.{hashes_resolved, is_awaited, is_batch, is_frozen_at, is_gathering, is_greater, is_newer}
-use Rattle.rk_inv_base.proofs.Words.{is_receiving_at, is_token, item_replayed, items_of, joined, joining_at, joining_by, master_turn}
-use Rattle.rk_inv_base.proofs.Words.{merge, merging, next_reading, order, overreach, own_material, own_member, peer_message, pull_taken}
-use Rattle.rk_inv_base.proofs.Words.{pulled_all, pulled_taken, reading_duty, rebuild_begun, rebuild_goes_on, rebuild_taken, rebuilding_on}
-use Rattle.rk_inv_base.proofs.Words.{rebuilt, rebuilt_entry, replay, replay_one, sealed_sides, sealing, segment_gathered, stored_taken}
-use Rattle.rk_inv_base.proofs.Words.{tablet_at, tablet_duty, token_passed, told_master, want_taken, with_all, with_appended, with_begun}
-use Rattle.rk_inv_base.proofs.Words.{with_halves, with_others_given_up, with_side_segment, with_split, without_foreign}
-use Rattle.rk_world.specs.Master.{with_call}
+use Rattle.rk_inv_base.proofs.Words.{hashes_resolved, is_batch, is_frozen_at, is_greater, is_newer, is_receiving_at, is_token}
+use Rattle.rk_inv_base.proofs.Words.{item_replayed, items_of, joined, joining_at, joining_by, master_turn, merge, merging, next_reading}
+use Rattle.rk_inv_base.proofs.Words.{order, overreach, own_material, own_member, peer_message, pulled_all, pulled_taken, reading_duty}
+use Rattle.rk_inv_base.proofs.Words.{rebuild_begun, rebuild_goes_on, rebuild_taken, rebuilding_on, rebuilt, rebuilt_entry, replay}
+use Rattle.rk_inv_base.proofs.Words.{replay_one, sealed_sides, sealing, segment_gathered, stored_taken, tablet_at, tablet_duty}
+use Rattle.rk_inv_base.proofs.Words.{token_passed, told_master, with_all, with_appended, with_begun, with_halves, with_others_given_up}
+use Rattle.rk_inv_base.proofs.Words.{with_side_segment, with_split, without_foreign, Choice, Entry, Refuses}
+use Rattle.rk_inv_base.proofs.Words.{Worked, Writes, carried_entry, choice_of, granted, owned, released, All-head, All-tail, cond_both}
+use Rattle.rk_inv_base.proofs.Words.{next_sides, range_below, with_half, with_tablet, ⊤}
+use Rattle.rk_world.specs.Master.{with_call, with_item}
 use Rattle.rk_inv_wellformed.proofs.lanes.Ledgers.{kept_by_fold}
 use Rattle.rk_inv_wellformed.proofs.maps.Lists.{fold_keeps_all}
 use Rattle.rk_inv_lanes.specs.room.Replayed.{got_items, pulled_items, replayed_of}
-use Rattle.rk_inv_lanes.proofs.masters.Changes.{About, Has, IsLasting, close_has, closing_entry_has, either_has, either_work, grant_has}
-use Rattle.rk_inv_lanes.proofs.masters.Changes.{own_has, prepare_has, release_has, request_has}
+use Rattle.rk_inv_lanes.proofs.masters.Changes.{About, AnyEntry, AnyTablet, Has, IsLasting, Lasts, MayLeave, closing_entry_has, either_has}
+use Rattle.rk_inv_lanes.proofs.masters.Changes.{chosen_has, close_has, either_work, granting_has, owning_has, prepare_has, put_has, releasing_has}
+use Rattle.rk_inv_events.specs.copies.Small.{awaits}
 
-module _ {P : About} {Fits : Held → Type 0} (lasting : IsLasting P Fits) where
-  -- ---- a source
+-- what a merge appends may be appended
+abbrev pub MayMerge : (Entry → Type 0) → Master → ℕ → Type 0
+MayMerge May master number =
+    let tablet = tablet_at master number in
+    let merged = merge (own_material master tablet) (by_member tablet.gather (own_material master tablet)) in
+    All May (as_entries merged.copies) × May (rebuilt_entry tablet merged)
 
-  pull_has : (master : Master) (sender : Node) (pull : Pull) → Has P master → Has P (pull_taken master sender pull).master
-  pull_has master sender pull has =
-      either_work lasting (is_frozen_at (tablet_at master pull.tenure.tablet) pull.tenure.term) _ (changed master) has has
+-- the side segments that a target seals behind its last batch are few
+abbrev pub MaySeal : (Master → Type 0) → (List ℕ → List (List Held) → Type 0) → Master → Pulled → Type 0
+MaySeal P Few master pulled =
+    let number = pulled.tenure.tablet in
+    let worker = (tablet_at master number).pulling.batches % 4 in
+    let now = token_passed (replay master number worker (items_of pulled.entries)) number pulled.next in
+    (is_receiving_at (tablet_at master number) pulled.tenure.term && is_token pulled.token (tablet_at master number).pulling.token) ≡ true
+    → is_token pulled.next end ≡ true → P now
+    → Few (next_sides now (length (sealed_sides (tablet_at now number).pulling.sides))) ([] ∷ [] ∷ [] ∷ [] ∷ [])
 
-  want_has : (master : Master) (sender : Node) (want : Want) → Has P master → Has P (want_taken master sender want).master
-  want_has master sender want has =
-      either_work lasting (is_frozen_at (tablet_at master want.tenure.tablet) want.tenure.term) _ (changed master) has has
+-- what a message makes a master append or seal may be
+abbrev pub Makes : (Master → Type 0) → (Entry → Type 0) → (List ℕ → List (List Held) → Type 0) → Master → Node → Body → Type 0
+Makes P May Few master (Node.Client client) (Body.Request request) =
+    MayLeave May master (call_of client request) (choice_of master (call_of client request))
+Makes P May Few master Node.Coordinator (Body.Grant grant) = (handover : Handover) → May (carried_entry handover grant)
+Makes P May Few master Node.Coordinator (Body.Rebuild rebuild) = MayMerge May (rebuild_begun master rebuild) rebuild.tenure.tablet
+Makes P May Few master (Node.Master other) (Body.Pulled pulled) = MaySeal P Few master pulled
+Makes P May Few master (Node.Backup backup) (Body.Copy copy) =
+    awaits master copy ≡ true → MayMerge May (segment_gathered master copy) copy.tenure.tablet
+Makes P May Few master _ _ = ⊤
 
+-- so it is where any entry may be appended and any tablet put
+leaves_any : (master : Master) (call : Call) (choice : Choice) → MayLeave AnyEntry master call choice
+leaves_any master call (Writes number value) = tt
+leaves_any master call (Refuses found absent) = tt
+leaves_any master call _ = tt
+
+pub makes_any : {P : About} {Fits : Held → Type 0} → IsLasting P Fits → (master : Master) (sender : Node) (body : Body)
+    → Makes (Has P) AnyEntry AnyTablet master sender body
+makes_any lasting master (Node.Client client) (Body.Request request) =
+    leaves_any master (call_of client request) (choice_of master (call_of client request))
+makes_any lasting master Node.Coordinator (Body.Grant grant) = λ handover. tt
+makes_any lasting master Node.Coordinator (Body.Rebuild rebuild) = ((λ place none inside. tt), tt)
+makes_any lasting master (Node.Master other) (Body.Pulled pulled) = λ takes last has. tt
+makes_any lasting master (Node.Backup backup) (Body.Copy copy) = λ awaited. ((λ place none inside. tt), tt)
+makes_any lasting master _ _ = tt
+
+module _ {P : Master → Type 0} {Fits : Held → Type 0} {May : Entry → Type 0} {Few : List ℕ → List (List Held) → Type 0} (lasts : Lasts P Fits May Few) where
   -- ---- items are replayed
 
   -- each goes into the records where it is newer
-  replay_has : (master : Master) (number worker : ℕ) (items : List Held) → All Fits items → Has P master → Has P (replay master number worker items)
+  replay_has : (master : Master) (number worker : ℕ) (items : List Held) → All Fits items → P master → P (replay master number worker items)
   replay_has master number worker items each has =
-      fold_keeps_all (Has P) Fits (replay_one number worker) items master has each
-      (λ now item kept fits. either_has lasting (is_newer item (found item.table item.key now.records))
-      (item_replayed number worker now item) now (lasting.put now item fits kept) kept)
+      fold_keeps_all P Fits (replay_one number worker) items master has each
+      (λ now item kept fits. either_has lasts (is_newer item (found item.table item.key now.records))
+      (item_replayed number worker now item) now
+      (lasts.tablet (with_item now item) number _
+      (lasts.replayed (tablet_at now number).pulling.sealed (tablet_at now number).pulling.sides worker _ (lasts.few now number kept))
+      (lasts.put now item fits kept)) kept)
 
   -- those of a Got are replayed where it is awaited
-  got_has : (master : Master) (message : Got) → All Fits (got_items master message) → Has P master → Has P (got_taken master message).master
+  got_has : (master : Master) (message : Got) → All Fits (got_items master message) → P master → P (got_taken master message).master
   got_has master message each has =
-      let tablet = tablet_at master message.tenure.tablet in
-      let now = replay master message.tenure.tablet 0 (items_of message.entries) in
-      let resolved = changed (hashes_resolved now message.tenure.tablet message.hashes) in
+      let number = message.tenure.tablet in
+      let tablet = tablet_at master number in
+      let now = replay master number 0 (items_of message.entries) in
+      let resolved = changed (hashes_resolved now number message.hashes) in
       elim (is_receiving_at tablet message.tenure.term && is_batch tablet.pulling.hashes.outstanding message.hashes)
-      as (λ b. All Fits (cond b (items_of message.entries) []) → Has P (cond b resolved (changed master)).master) [
-        | true ↦ λ each. replay_has master message.tenure.tablet 0 (items_of message.entries) each has
+      as (λ b. All Fits (cond b (items_of message.entries) []) → P (cond b resolved (changed master)).master) [
+        | true ↦ λ each.
+            let kept = replay_has master number 0 (items_of message.entries) each has in
+            lasts.tablet now number _ (lasts.few now number kept) kept
         | false ↦ λ each. has
       ] each
 
   -- ---- a target that has pulled all
 
-  sealing_has : (master : Master) (number : ℕ) (tablet : Tablet) → Has P master → Has P (sealing master number tablet)
-  sealing_has master number tablet has = kept_by_fold (Has P) with_side_segment lasting.sealed (sealed_sides tablet.pulling.sides) master has
+  joining_at_has : (master : Master) (number : ℕ) (handover : Option Handover) → P master
+      → P (joining_at master number (tablet_at master number) handover)
+  joining_at_has master number None has = has
+  joining_at_has master number (Some handover) has = put_has lasts master number handover has
 
-  joining_at_has : (master : Master) (number : ℕ) (tablet : Tablet) (handover : Option Handover)
-      → Has P master → Has P (joining_at master number tablet handover)
-  joining_at_has master number tablet None has = has
-  joining_at_has master number tablet (Some handover) has = has
+  joining_has : (master : Master) (number : ℕ) (segments : List ℕ) → P master → P (joining_by master number (tablet_at master number) segments)
+  joining_has master number [] has =
+      let tablet = tablet_at master number in
+      closing_entry_has lasts master number tablet (joined tablet.handover tablet.handover.term (Some (length master.log.entries)))
+      (lasts.few master number has) has
+  joining_has master number (segment ∷ more) has =
+      let tablet = tablet_at master number in joining_at_has master number (joined tablet.handover tablet.handover.term None) has
 
-  joining_has : (master : Master) (number : ℕ) (tablet : Tablet) (segments : List ℕ) → Has P master → Has P (joining_by master number tablet segments)
-  joining_has master number tablet [] has = closing_entry_has lasting master number tablet
-      (joined tablet.handover tablet.handover.term (Some (length master.log.entries))) has
-  joining_has master number tablet (segment ∷ more) has =
-      joining_at_has master number tablet (joined tablet.handover tablet.handover.term None) has
-
-  all_pulled_has : (master : Master) (number : ℕ) → Has P master → Has P (pulled_all master number)
-  all_pulled_has master number has =
+  all_pulled_has : (master : Master) (number : ℕ)
+      → Few (next_sides master (length (sealed_sides (tablet_at master number).pulling.sides))) ([] ∷ [] ∷ [] ∷ [] ∷ [])
+      → P master → P (pulled_all master number)
+  all_pulled_has master number few has =
+      let pieces = sealed_sides (tablet_at master number).pulling.sides in
       let now = sealing master number (tablet_at master number) in
-      joining_has now number (tablet_at now number) (tablet_at now number).pulling.sealed
-      (sealing_has master number (tablet_at master number) has)
-
-  batch_has : (master : Master) (number : ℕ) (pulled : Pulled) → All Fits (items_of pulled.entries) → Has P master
-      → Has P (batch_taken master number pulled)
-  batch_has master number pulled each has =
-      let worker = (tablet_at master number).pulling.batches % 4 in
-      let now = token_passed (replay master number worker (items_of pulled.entries)) number pulled.next in
-      let kept : Has P now = replay_has master number worker (items_of pulled.entries) each has in
-      either_has lasting (is_token pulled.next end) (pulled_all now number) now (all_pulled_has now number kept) kept
+      joining_has now number (tablet_at now number).pulling.sealed
+      (lasts.tablet (fold with_side_segment master pieces) number _ few (kept_by_fold P with_side_segment lasts.sealed pieces master has))
 
   -- those of a Pulled are replayed where it is that of the token
-  pulled_has : (master : Master) (pulled : Pulled) → All Fits (pulled_items master pulled) → Has P master → Has P (pulled_taken master pulled).master
-  pulled_has master pulled each has =
-      let tablet = tablet_at master pulled.tenure.tablet in
-      let taken = changed (batch_taken master pulled.tenure.tablet pulled) in
-      elim (is_receiving_at tablet pulled.tenure.term && is_token pulled.token tablet.pulling.token)
-      as (λ b. All Fits (cond b (items_of pulled.entries) []) → Has P (cond b taken (changed master)).master) [
-        | true ↦ λ each. batch_has master pulled.tenure.tablet pulled each has
-        | false ↦ λ each. has
-      ] each
+  pulled_has : (master : Master) (pulled : Pulled) → MaySeal P Few master pulled → All Fits (pulled_items master pulled) → P master
+      → P (pulled_taken master pulled).master
+  pulled_has master pulled seals each has = go (is_receiving_at tablet pulled.tenure.term && is_token pulled.token tablet.pulling.token) refl each
+    where
+      number : ℕ
+      number = pulled.tenure.tablet
+
+      tablet : Tablet
+      tablet = tablet_at master pulled.tenure.tablet
+
+      replayed : Master
+      replayed = replay master pulled.tenure.tablet ((tablet_at master pulled.tenure.tablet).pulling.batches % 4) (items_of pulled.entries)
+
+      now : Master
+      now = token_passed replayed number pulled.next
+
+      passed : All Fits (items_of pulled.entries) → P now
+      passed each =
+          let kept = replay_has master number (tablet.pulling.batches % 4) (items_of pulled.entries) each has in
+          lasts.tablet replayed number _ (lasts.few replayed number kept) kept
+
+      go : (takes : Bool) → (is_receiving_at tablet pulled.tenure.term && is_token pulled.token tablet.pulling.token) ≡ takes
+          → All Fits (cond takes (items_of pulled.entries) [])
+          → P (cond takes (changed (batch_taken master number pulled)) (changed master)).master
+      go true takes each = cond_both (is_token pulled.next end) (pulled_all now number) now P
+          (λ last. all_pulled_has now number (seals takes last (passed each)) (passed each)) (λ more. passed each)
+      go false other each = has
 
   -- ---- what was gathered is merged
 
-  merging_has : (master : Master) (number : ℕ) (tablet : Tablet) (merged : Merged) (handover : Option Handover)
-      → Has P master → Has P (merging master number tablet merged handover).master
-  merging_has master number tablet merged None has = has
-  merging_has master number tablet merged (Some handover) has =
-      lasting.appended (with_all master (as_entries merged.copies)) (rebuilt_entry tablet merged)
-      (kept_by_fold (Has P) with_appended lasting.appended (as_entries merged.copies) master has)
+  merging_has : (master : Master) (number : ℕ) (merged : Merged) (handover : Option Handover)
+      → All May (as_entries merged.copies) × May (rebuilt_entry (tablet_at master number) merged) → P master
+      → P (merging master number (tablet_at master number) merged handover).master
+  merging_has master number merged None may has = has
+  merging_has master number merged (Some handover) may has =
+      let copied = with_all master (as_entries merged.copies) in
+      lasts.tablet (with_appended copied (rebuilt_entry (tablet_at master number) merged)) number _ (lasts.few master number has)
+      (lasts.appended copied (rebuilt_entry (tablet_at master number) merged) may.1
+      (fold_keeps_all P May with_appended (as_entries merged.copies) master has may.0
+      (λ now entry kept may. lasts.appended now entry may kept)))
 
-  rebuilding_has : (master : Master) (number : ℕ) (reading : Option Reading) → Has P master → Has P (rebuilding_on master number reading).master
-  rebuilding_has master number (Some reading) has = has
-  rebuilding_has master number None has =
-      let tablet = tablet_at master number in
-      let merged = merge (own_material master tablet) (by_member tablet.gather (own_material master tablet)) in
-      merging_has master number tablet merged
-      (carried tablet.handover tablet.handover.term (length (with_all master (as_entries merged.copies)).log.entries) merged.floor) has
-
-  goes_on_has : (master : Master) (number : ℕ) → Has P master → Has P (rebuild_goes_on master number).master
-  goes_on_has master number has = rebuilding_has master number (next_reading (tablet_at master number).gather) has
+  goes_on_has : (master : Master) (number : ℕ) → MayMerge May master number → P master → P (rebuild_goes_on master number).master
+  goes_on_has master number may has = go (next_reading (tablet_at master number).gather)
+    where
+      go : (reading : Option Reading) → P (rebuilding_on master number reading).master
+      go (Some reading) = has
+      go None =
+          let tablet = tablet_at master number in
+          let merged = merge (own_material master tablet) (by_member tablet.gather (own_material master tablet)) in
+          merging_has master number merged
+          (carried tablet.handover tablet.handover.term (length (with_all master (as_entries merged.copies)).log.entries) merged.floor) may has
 
   -- ---- a rebuild begins, and gathers
 
-  foreign_has : (master : Master) (range : Range) (own : Option Member) → Has P master → Has P (without_foreign master range own)
+  foreign_has : (master : Master) (range : Range) (own : Option Member) → P master → P (without_foreign master range own)
   foreign_has master range (Some member) has = has
-  foreign_has master range None has = lasting.dropped master range has
+  foreign_has master range None has = lasts.dropped master range has
 
-  with_begun_has : (master : Master) (rebuild : Rebuild) (handover : Option Handover) → Has P master → Has P (with_begun master rebuild handover)
+  with_begun_has : (master : Master) (rebuild : Rebuild) (handover : Option Handover) → P master → P (with_begun master rebuild handover)
   with_begun_has master rebuild None has = has
-  with_begun_has master rebuild (Some handover) has = has
+  with_begun_has master rebuild (Some handover) has = lasts.tablet master rebuild.tenure.tablet _ lasts.none has
 
-  begun_has : (master : Master) (rebuild : Rebuild) → Has P master → Has P (rebuild_begun master rebuild)
+  pub begun_has : (master : Master) (rebuild : Rebuild) → P master → P (rebuild_begun master rebuild)
   begun_has master rebuild has =
       let own = own_member rebuild.lineage master.number in
       let number = rebuild.tenure.tablet in
-      let now = with_others_given_up (without_foreign master rebuild.range own) number rebuild.range in
+      let foreign = without_foreign master rebuild.range own in
+      let now = with_others_given_up foreign number rebuild.range in
       with_begun_has now rebuild (rebuilt (tablet_at now number).handover rebuild.tenure.term rebuild.range (begun_from master own))
-      (foreign_has master rebuild.range own has)
+      (lasts.given_up foreign number rebuild.range (foreign_has master rebuild.range own has))
 
-  rebuild_has : (master : Master) (rebuild : Rebuild) → Has P master → Has P (rebuild_taken master rebuild).master
-  rebuild_has master rebuild has =
-      either_work lasting (is_greater master rebuild.tenure.tablet rebuild.tenure.term rebuild.range) (beginning master rebuild) (changed master)
-      (goes_on_has (rebuild_begun master rebuild) rebuild.tenure.tablet (begun_has master rebuild has)) has
+  rebuild_has : (master : Master) (rebuild : Rebuild) → MayMerge May (rebuild_begun master rebuild) rebuild.tenure.tablet → P master
+      → P (rebuild_taken master rebuild).master
+  rebuild_has master rebuild may has =
+      either_work lasts (is_greater master rebuild.tenure.tablet rebuild.tenure.term rebuild.range) (beginning master rebuild) (changed master)
+      (goes_on_has (rebuild_begun master rebuild) rebuild.tenure.tablet may (begun_has master rebuild has)) has
 
-  pub copy_has : (master : Master) (copy : CopySegment) → Has P master → Has P (copy_taken master copy).master
-  copy_has master copy has =
+  pub copy_has : (master : Master) (copy : CopySegment) → (awaits master copy ≡ true → MayMerge May (segment_gathered master copy) copy.tenure.tablet)
+      → P master → P (copy_taken master copy).master
+  copy_has master copy may has =
       let number = copy.tenure.tablet in
-      let tablet = tablet_at master number in
-      either_work lasting (is_gathering tablet.handover.role && (tablet.handover.term == copy.tenure.term)
-      && is_awaited (next_reading tablet.gather) copy.master copy.segment)
-      (rebuild_goes_on (segment_gathered master copy) number) (changed master)
-      (goes_on_has (segment_gathered master copy) number has) has
+      cond_both (awaits master copy) (rebuild_goes_on (segment_gathered master copy) number) (changed master)
+      (λ (worked : Worked). P worked.master)
+      (λ awaited. goes_on_has (segment_gathered master copy) number (may awaited) (lasts.tablet master number _ (lasts.few master number has) has))
+      (λ other. has)
 
   -- ---- messages
 
-  pub order_has : (master : Master) (body : Body) → Has P master → Has P (order master body).master
-  order_has master (Body.Prepare prepare) has = prepare_has lasting master prepare has
-  order_has master (Body.Close tenure) has = close_has lasting master tenure has
-  order_has master (Body.Grant grant) has = grant_has lasting master grant has
-  order_has master (Body.Own tenure) has = own_has lasting master tenure has
-  order_has master (Body.Release tenure) has = release_has lasting master tenure has
-  order_has master (Body.Rebuild rebuild) has = rebuild_has master rebuild has
-  order_has master _ has = has
+  pub order_has : (master : Master) (body : Body) → Makes P May Few master Node.Coordinator body → P master → P (order master body).master
+  order_has master (Body.Prepare prepare) may has = prepare_has lasts master prepare has
+  order_has master (Body.Close tenure) may has = close_has lasts master tenure has
+  order_has master (Body.Grant grant) may has =
+      granting_has lasts master grant (granted (tablet_at master grant.tenure.tablet).handover grant.tenure.term grant.floor) may has
+  order_has master (Body.Own tenure) may has =
+      owning_has lasts master tenure.tablet (owned (tablet_at master tenure.tablet).handover tenure.term master.applied) has
+  order_has master (Body.Release tenure) may has =
+      releasing_has lasts master tenure.tablet (released (tablet_at master tenure.tablet).handover tenure.term) has
+  order_has master (Body.Rebuild rebuild) may has = rebuild_has master rebuild may has
+  order_has master _ may has = has
 
   -- where what is replayed fits
-  pub peer_has : (master : Master) (sender : Node) (body : Body) → All Fits (replayed_of master body) → Has P master
-      → Has P (peer_message master sender body).master
-  peer_has master sender (Body.Pull pull) each has = pull_has master sender pull has
-  peer_has master sender (Body.Pulled pulled) each has = pulled_has master pulled each has
-  peer_has master sender (Body.Want want) each has = want_has master sender want has
-  peer_has master sender (Body.Got message) each has = got_has master message each has
-  peer_has master sender _ each has = has
+  pub peer_has : (master : Master) (other : ℕ) (body : Body) → Makes P May Few master (Node.Master other) body
+      → All Fits (replayed_of master body) → P master → P (peer_message master (Node.Master other) body).master
+  peer_has master other (Body.Pull pull) may each has =
+      either_work lasts (is_frozen_at (tablet_at master pull.tenure.tablet) pull.tenure.term) _ (changed master) has has
+  peer_has master other (Body.Pulled pulled) may each has = pulled_has master pulled may each has
+  peer_has master other (Body.Want want) may each has =
+      either_work lasts (is_frozen_at (tablet_at master want.tenure.tablet) want.tenure.term) _ (changed master) has has
+  peer_has master other (Body.Got message) may each has = got_has master message each has
+  peer_has master other _ may each has = has
 
-  -- a message, where what is replayed fits, and where it stays so once a call waits and at what a backup tells
-  pub told_has : (master : Master) (sender : Node) (body : Body) → ((call : Call) → Has P (with_call master call))
-      → ((backup : ℕ) (stored : Stored) → Has P (stored_taken master backup stored (overreach master.log stored.segment stored.length)).master)
-      → All Fits (replayed_of master body) → Has P master → Has P (told_master master sender body).master
-  told_has master (Node.Client client) (Body.Request request) called told each has =
-      request_has lasting master client request (called (call_of client request)) has
-  told_has master (Node.Client client) _ called told each has = has
-  told_has master Node.Coordinator body called told each has = order_has master body has
-  told_has master (Node.Master other) body called told each has = peer_has master (Node.Master other) body each has
-  told_has master (Node.Backup backup) (Body.Stored stored) called told each has = told backup stored
-  told_has master (Node.Backup backup) (Body.Copy copy) called told each has = copy_has master copy has
-  told_has master (Node.Backup backup) _ called told each has = has
+  -- a message, where it stays so once a call waits and at what a backup tells
+  pub told_has : (master : Master) (sender : Node) (body : Body) → Makes P May Few master sender body → ((call : Call) → P (with_call master call))
+      → ((backup : ℕ) (stored : Stored) → P (stored_taken master backup stored (overreach master.log stored.segment stored.length)).master)
+      → All Fits (replayed_of master body) → P master → P (told_master master sender body).master
+  told_has master (Node.Client client) (Body.Request request) may called told each has =
+      let call = call_of client request in
+      chosen_has lasts master request.tablet call (choice_of master call) may (called call) has
+  told_has master (Node.Client client) _ may called told each has = has
+  told_has master Node.Coordinator body may called told each has = order_has master body may has
+  told_has master (Node.Master other) body may called told each has = peer_has master other body may each has
+  told_has master (Node.Backup backup) (Body.Stored stored) may called told each has = told backup stored
+  told_has master (Node.Backup backup) (Body.Copy copy) may called told each has = copy_has master copy may has
+  told_has master (Node.Backup backup) _ may called told each has = has
 
   -- ---- turns
 
-  reading_has : (master : Master) (number : ℕ) (tablet : Tablet) (reading : Option Reading)
-      → Has P master → Has P (reading_duty master number tablet reading).master
+  reading_has : (master : Master) (number : ℕ) (tablet : Tablet) (reading : Option Reading) → P master
+      → P (reading_duty master number tablet reading).master
   reading_has master number tablet None has = has
   reading_has master number tablet (Some reading) has = has
 
-  duty_has : (master : Master) (number : ℕ) (tablet : Tablet) (role : Role) → Has P master → Has P (tablet_duty master number tablet role).master
-  duty_has master number tablet (Role.Joining (Some entry)) has = either_work lasting (nat_lt entry master.applied) _ (changed master) has has
-  duty_has master number tablet (Role.Rebuilding from None) has = reading_has master number tablet (next_reading tablet.gather) has
-  duty_has master number tablet (Role.Rebuilding from (Some entry)) has =
-      either_work lasting (nat_lt entry master.applied) _ (changed master) has has
-  duty_has master number tablet _ has = has
+  duty_has : (master : Master) (number : ℕ) (tablet : Tablet) (role : Role) → Few tablet.pulling.sealed tablet.pulling.sides → P master
+      → P (tablet_duty master number tablet role).master
+  duty_has master number tablet Role.Receiving few has = lasts.tablet master number _ few has
+  duty_has master number tablet (Role.Joining (Some entry)) few has =
+      either_work lasts (nat_lt entry master.applied) _ (changed master) has has
+  duty_has master number tablet (Role.Rebuilding from None) few has = reading_has master number tablet (next_reading tablet.gather) has
+  duty_has master number tablet (Role.Rebuilding from (Some entry)) few has =
+      either_work lasts (nat_lt entry master.applied) _ (changed master) has has
+  duty_has master number tablet _ few has = has
 
-  duties_have : (tablets : NumberMap Tablet) (master : Master) → Has P master → Has P (duties master tablets).master
-  duties_have [] master has = has
-  duties_have ((number, tablet) ∷ others) master has = duties_have others
-      (tablet_duty master number tablet tablet.handover.role).master (duty_has master number tablet tablet.handover.role has)
+  duties_have : (tablets : NumberMap Tablet) (master : Master) → All (λ entry. Few entry.1.pulling.sealed entry.1.pulling.sides) tablets → P master
+      → P (duties master tablets).master
+  duties_have [] master all has = has
+  duties_have (entry ∷ others) master all has =
+      let AreFew : ℕ × Tablet → Type 0 = λ entry. Few entry.1.pulling.sealed entry.1.pulling.sides in
+      duties_have others (tablet_duty master entry.0 entry.1 entry.1.handover.role).master (All-tail AreFew entry others all)
+      (duty_has master entry.0 entry.1 entry.1.handover.role (All-head AreFew entry others all) has)
 
   -- a turn
-  pub turn_has : (master : Master) → Has P master → Has P (master_turn master).master
-  turn_has master has = duties_have master.tablets master has
+  pub turn_has : (master : Master) → P master → P (master_turn master).master
+  turn_has master has = duties_have master.tablets master (lasts.all master has) has
 
   -- a tablet that is split
-  pub split_has : (master : Master) (number at new term : ℕ) → Has P master → Has P (with_split master number at new term)
+  pub split_has : (master : Master) (number at new term : ℕ) → P master → P (with_split master number at new term)
   split_has master number at new term has =
       let tablet = tablet_at master number in
-      either_has lasting (has_parts tablet.handover.range at) (with_halves master number tablet at new term) master has has
+      let lower = with_half tablet (range_below tablet.handover.range at) term in
+      either_has lasts (has_parts tablet.handover.range at) (with_halves master number tablet at new term) master
+      (lasts.tablet (with_tablet master number lower) new _ (lasts.few master number has)
+      (lasts.tablet master number lower (lasts.few master number has) has)) has

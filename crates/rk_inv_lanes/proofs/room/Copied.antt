@@ -32,10 +32,9 @@ use Rattle.rk_inv_base.proofs.views.Views.{view_gathered}
 use Rattle.rk_inv_tablets.proofs.crash.MergeTells.{read_all}
 use Rattle.rk_inv_tablets.proofs.merge.Heirs.{gathers_from}
 use Rattle.rk_inv_tablets.specs.merge.Small.{as_merged, merge_in, own_entries}
-use Rattle.rk_inv_events.proofs.copies.GatheringRow.{gathering_row}
-use Rattle.rk_inv_events.proofs.copies.Gathers.{gathers, sound_with_copy}
-use Rattle.rk_inv_events.proofs.copies.Merges.{last_is}
-use Rattle.rk_inv_events.proofs.events.Crashing.{entries_lawful, gathered_formed, items_lawful, segments_left}
+use Rattle.rk_inv_events.proofs.events.PostsOf.{gathering_row}
+use Rattle.rk_inv_events.proofs.copies.Gathers.{last_is, gathers, sound_with_copy}
+use Rattle.rk_inv_events.proofs.events.Crashing.{gathered_formed, readable}
 use Rattle.rk_inv_events.proofs.events.Duties.{fits_as, known}
 use Rattle.rk_inv_events.specs.copies.Small.{awaits, copy_message, next_after}
 use Rattle.rk_inv_lanes.specs.room.Logged.{IsLogged}
@@ -144,7 +143,7 @@ module _ (w : World) (number backup master : ℕ) (copy : CopySegment) (sound : 
     few =
         All-weaker (IsFormedGathered (limits_of w)) (λ gathered. length gathered.main ≤ LAST_MAIN_SEGMENT) (λ gathered its. its.few)
         (with_gathered kept copy).gather.members
-        (read_formed (limits_of w) kept.gather.members copy.master copy.segment copy.bytes says.spelled (gathered_formed w formed room master tablet))
+        (read_formed (limits_of w) kept.gather.members copy.master copy.segment copy.bytes says.spelled (gathered_formed w formed master tablet))
 
     -- the copies for the tablet are written
     written : All (IsWritten v.written) (merge_in v master tablet).copies
@@ -164,7 +163,7 @@ module _ (w : World) (number backup master : ℕ) (copy : CopySegment) (sound : 
             (fits_as v sound_then master tablet (ap not lives) (Role.Rebuilding role.0 None) role.1 row stands (sym number_is)) in
             subst (λ (n : ℕ). All (IsWritten v.written) (merge_in v master n).copies) number_is
             (copies_written v sound_then
-            (record { entries = entries_lawful w formed room; items = items_lawful w formed room; room = segments_left w formed room })
+            (readable w formed room)
             row stands its.lineage master its.phase_is (ap (λ (n : ℕ). (v.handovers master n).term) number_is ∙ its.term_is)
             (rw (gather_is row.tablet number_is) few))
 

@@ -4,11 +4,10 @@ use Rattle.std.proofs.Common.{◌≡◌, ◌≤◌, ◌+◌, ◌-◌, ◌==◌, 
 use Rattle.std.proofs.Common.{take, refl, sym, ap, subst, ◌∙◌, ⊎_elim, arith, Contains, not, slice_index_or, flat_map}
 use Rattle.rk_inv_base.proofs.Words.{cond_both, or_right, flat_map-append, All-contains, Contains-append_cases, Contains-append_left}
 use Rattle.rk_inv_base.proofs.Words.{Contains-append_right, Held, Member, Range, Entry, FIRST_SIDE_SEGMENT, Phase, Rebuilding, Row}
-use Rattle.rk_inv_base.proofs.Words.{newest_is, newest_items_are, newest_items, IsBackup, known_of, items_in, items_of, Gather, Gathered}
-use Rattle.rk_inv_base.proofs.Words.{LAST_MAIN_SEGMENT, by_member, counted_of, is_member, unmarked_from, Master, as_entries, counting}
-use Rattle.rk_inv_base.proofs.Words.{counts, material_of, named, side_entries, copies_of, has_version, names, IsMaster, own_place, World}
-use Rattle.rk_inv_base.proofs.Words.{master_at, Written, stored_of, IsGathered, NeededOf, READ_BACKUP, RowIsRebuilt, TellNoMore}
-use Rattle.rk_inv_base.proofs.Words.{member_stored, View, truths, view, SoundView}
+use Rattle.rk_inv_base.proofs.Words.{IsBackup, known_of, items_in, items_of, Gather, Gathered, LAST_MAIN_SEGMENT, by_member, counted_of}
+use Rattle.rk_inv_base.proofs.Words.{is_member, unmarked_from, Master, as_entries, counting, counts, material_of, named, side_entries}
+use Rattle.rk_inv_base.proofs.Words.{names, IsMaster, own_place, World, master_at, Written, stored_of, IsGathered, NeededOf, READ_BACKUP}
+use Rattle.rk_inv_base.proofs.Words.{RowIsRebuilt, TellNoMore, member_stored, View, truths, view, SoundView}
 use Rattle.rk_tablet_map.specs.Phase.{member as member_at}
 use Rattle.rk_inv_wellformed.proofs.masters.Pulls.{items_again}
 use Rattle.rk_inv_base.proofs.calls.Rebuilds.{IsRebuilderIn}
@@ -23,6 +22,8 @@ use Rattle.rk_inv_tablets.proofs.crash.Unmarked.{first_among, free_place}
 use Rattle.rk_inv_tablets.specs.crash.Moves.{AreReadable}
 use Rattle.rk_inv_tablets.specs.merge.Small.{merge_in, own_entries}
 use Rattle.rk_inv_lanes.specs.room.Logged.{IsLogged}
+use Rattle.rk_inv_events.proofs.rebuilt.Newest.{copy_of_all}
+use Rattle.rk_inv_events.proofs.Words.{row_rebuilt}
 
 -- ---- what a master has written
 
@@ -93,12 +94,6 @@ written_logged w item is =
           is.1;
     }
 
--- copies are items of what is merged
-copies_stand : (own all : List Held) (item : Held) → Contains (copies_of own all) item → Contains all item
-copies_stand own all item at =
-    let kept = kept_stands (λ other. not (has_version own other)) (newest_items all) item at in
-    (newest_is all item.table item.key item (((newest_items_are all).newest item).0 kept.0)).stands
-
 -- ---- what a rebuild has gathered
 
 -- in a sound view whose logs can be read again, for a row that a master rebuilds
@@ -114,13 +109,8 @@ module _ (v : View) (sound : SoundView v) (readable : AreReadable v.logs v.writt
   -- the master, as the one that rebuilds the row
   rebuilder : IsRebuilderIn v.logs v.written v.stored row lineage master (truths v row) (v.handovers master row.tablet)
       (v.completions master row.tablet) (v.gathers master row.tablet) (v.merged master row.tablet) (v.records master)
-  rebuilder =
-      let fits = subst (λ (phase : Phase). RowIsRebuilt row phase (truths v row) v.logs v.written v.stored v.handovers
-      v.completions v.gathers v.merged v.records v.live)
-      phase_is (All-contains (λ (r : Row). RowIsRebuilt r r.phase (truths v r) v.logs v.written v.stored v.handovers v.completions
-      v.gathers v.merged v.records v.live)
-      v.rows row sound.rebuilds.rebuilt has_row) in
-      fits.0 term_is
+  rebuilder = (subst (λ (phase : Phase). RowIsRebuilt row phase (truths v row) v.logs v.written v.stored v.handovers v.completions v.gathers
+      v.merged v.records v.live) phase_is (row_rebuilt v sound row has_row)).0 term_is
 
   -- all that the master and the members have written
   abbrev members : List Member
@@ -188,6 +178,6 @@ module _ (v : View) (sound : SoundView v) (readable : AreReadable v.logs v.writt
   pub copies_written : All (IsWritten v.written) (merge_in v master row.tablet).copies
   copies_written = all_by (IsWritten v.written) (merge_in v master row.tablet).copies
       (λ item at.
-      let entry = flat_from items_in all item (read.items item (copies_stand (items_of own) (items_of (read_all (by_member gather own))) item at)) in
+      let entry = flat_from items_in all item (read.items item (copy_of_all (items_of own) (items_of (read_all (by_member gather own))) item at)) in
       let one = flat_from (λ (m : Member). all_written (v.written m.master)) members entry.0 entry.1 in
       (one.0.master, flat_of items_in (all_written (v.written one.0.master)) entry.0 item one.2 entry.2))

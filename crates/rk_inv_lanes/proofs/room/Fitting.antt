@@ -1,204 +1,230 @@
--- The entries of a master fit, and its tablets have sealed few side segments: it stays so where a tablet or the log changes, where what was
--- waited for goes on, where entries are applied, and at a turn.
-use Rattle.std.proofs.Common.{◌≡◌, ◌≤◌, ◌&&◌, ℕ, Bool, true, false, cond, not, nat_lt, List, [], ◌∷◌, All, length, Option, None, Some}
-use Rattle.std.proofs.Common.{refl, arith, unwrap_or}
-use Rattle.rk_inv_base.proofs.Words.{cond_both, All-head, All-push, All-tail, each_insert, EachIn, IsInOrder, NumberMap, get, Call, Ended}
-use Rattle.rk_inv_base.proofs.Words.{Entry, noted, frozen, joined, Handover, Role, Overreach, Stored, apply_entries, apply_entry}
-use Rattle.rk_inv_base.proofs.Words.{newly_held, noting, stored_taken, with_applied, with_ended, with_entry_item, told_by, next_reading}
-use Rattle.rk_inv_base.proofs.Words.{Master, is_settled, tablet_at, with_all, with_appended, with_known, with_tablet, duties, master_turn}
-use Rattle.rk_inv_base.proofs.Words.{reading_duty, tablet_duty, with_outstanding, has_key, is_absent, Tablet, no_tablet, with_handover}
-use Rattle.rk_inv_base.proofs.Words.{all_going_on, closing_entry, freezing, going_on_in, is_sealed_stored, joined_entry, tablet_frozen}
-use Rattle.rk_inv_base.proofs.Words.{Worked, changed, Reading}
+-- A master's entries fit, and its tablets have sealed few side segments: it stays so at each message that the master takes, where it has few bytes
+-- before and then, at its turn, and where a tablet is split.
+use Rattle.std.proofs.Common.{◌≡◌, ◌≤◌, ◌&&◌, ℕ, cond, not, List, [], ◌∷◌, All, length, Option, None, Some, refl, arith, ◌<◌, ◌+◌, fold}
+use Rattle.std.proofs.Common.{length-set, ap, ◌∙◌, sum_by, ◌==◌}
+use Rattle.rk_inv_base.proofs.Words.{cond_both, All-push, each_insert, EachIn, IsInOrder, NumberMap, Call, Ended, Entry, noted, Overreach}
+use Rattle.rk_inv_base.proofs.Words.{Stored, apply_entries, newly_held, noting, stored_taken, Master, tablet_at, with_known, with_tablet}
+use Rattle.rk_inv_base.proofs.Words.{has_key, is_absent, Tablet, no_tablet, joined_entry, sum_by-append, sum_by-cons, Held, spelled_all}
+use Rattle.rk_inv_base.proofs.Words.{FIRST_SIDE_SEGMENT, found, end, log_bytes, with_side_segment, as_entries, pulled_all, sealing}
+use Rattle.rk_inv_base.proofs.Words.{MOST_BYTES, sealed_sides, All-map, All-weaker, meets, Node, completions_from, ends_of, overreach, Body}
+use Rattle.rk_inv_base.proofs.Words.{IsFormedMaster, by_member, IsFormedHeld, Limits, told_master, merge, call_of, choice_of, item_of}
+use Rattle.rk_inv_base.proofs.Words.{Choice, Writes, Refuses, next_sides, own_material, rebuild_begun, segment_gathered, ⊤}
 use Rattle.rk_types.proofs.NumberMaps.{in_order_changed, in_order_insert}
 use Rattle.rk_types.specs.NumberMap.{changed_each}
 use Rattle.rk_entry.proofs.Sizes.{spelled_count}
 use Rattle.rk_entry.specs.Kinds.{kind_of}
 use Rattle.rk_world.specs.Commits.{with_noted}
-use Rattle.rk_inv_wellformed.proofs.bytes.EntryBytes.{FitsSegment, mark_few}
-use Rattle.rk_inv_wellformed.proofs.maps.Maps.{All_pairs, each_changed}
-use Rattle.rk_inv_lanes.specs.room.Fits.{IsFitting, MOST_SEALED}
+use Rattle.rk_world.specs.Handovers.{given_up}
+use Rattle.rk_inv_wellformed.proofs.bytes.EntryBytes.{FitsSegment, mark_few, carried_fits, held_fits, refused_fits}
+use Rattle.rk_inv_wellformed.proofs.maps.Maps.{All_pairs, each_changed, each_or}
+use Rattle.rk_inv_lanes.specs.room.Fits.{MOST_SEALED}
+use Rattle.std.proofs.lemmas.List.FromFn.{length-range_with_len}
+use Rattle.rk_inv_wellformed.proofs.bytes.PullBytes.{items_bytes}
+use Rattle.rk_inv_wellformed.proofs.bytes.Sizes.{side_bytes, below_fits, entries_few}
+use Rattle.rk_inv_lanes.proofs.room.SealedFew.{sealed_few}
+use Rattle.rk_inv_events.proofs.steps.SealedBehind.{joined_sides}
+use Rattle.rk_world.specs.Limits.{IsClient, IsFormedBody, IsFormedEnd}
+use Rattle.rk_world.specs.Premises.{IsLawfulCall}
+use Rattle.rk_inv_wellformed.proofs.maps.Rising.{rising_within}
+use Rattle.rk_inv_wellformed.proofs.masters.Handovers.{one_stood}
+use Rattle.rk_inv_wellformed.proofs.masters.Rebuilding.{begins, few_ends, formed_gathered, merge_formed}
+use Rattle.rk_inv_wellformed.proofs.masters.Requests.{IsFormedChoice, choice_formed}
+use Rattle.rk_inv_wellformed.proofs.masters.Sealing.{first_holds}
+use Rattle.rk_inv_wellformed.proofs.masters.Work.{AreLimits}
+use Rattle.rk_inv_lanes.proofs.masters.Changes.{Lasts, MayLeave, all_going_on_has}
+use Rattle.rk_inv_lanes.proofs.masters.Steps.{Makes, MayMerge, told_has}
+use Rattle.rk_inv_events.proofs.stored.Work.{AnyNext, Passes, entries_pass}
 
 -- ---- what fits
 
 -- the entry that closes the role of a target that sealed few side segments
-pub joined_fits : (tablet : Tablet) → length tablet.pulling.sealed ≤ MOST_SEALED → FitsSegment (joined_entry tablet)
+joined_fits : (tablet : Tablet) → length tablet.pulling.sealed ≤ MOST_SEALED → FitsSegment (joined_entry tablet)
 joined_fits tablet few = omega (arith, few, spelled_count (joined_entry tablet), mark_few (kind_of (joined_entry tablet)))
 
--- a tablet that has sealed few side segments
-abbrev pub HasFewSealed : Tablet → Type 0
-HasFewSealed tablet = length tablet.pulling.sealed ≤ MOST_SEALED
+-- a tablet has sealed few side segments, and has a list of items for each of its four workers
+pub record AreFew (sealed : List ℕ) (sides : List (List Held)) : Type 0 where
+  pub few : length sealed ≤ MOST_SEALED
+  pub workers : length sides ≡ 4
+
+abbrev IsFewAt : ℕ → Tablet → Type 0
+IsFewAt number tablet = AreFew tablet.pulling.sealed tablet.pulling.sides
 
 -- entries that fit, and tablets in order that have sealed few side segments
 pub record AreFitting (list : List Entry) (tablets : NumberMap Tablet) : Type 0 where
   pub each : All FitsSegment list
   pub order : IsInOrder tablets
-  pub sealed : EachIn (λ number tablet. HasFewSealed tablet) tablets
+  pub sealed : EachIn (λ number tablet. AreFew tablet.pulling.sealed tablet.pulling.sides) tablets
 
 -- a master with such entries and tablets
 abbrev pub IsFit : Master → Type 0
 IsFit master = AreFitting master.log.entries master.tablets
 
--- a master that fits, where its tablets are in order, and back
-pub fit_of : {master : Master} → IsInOrder master.tablets → IsFitting master → IsFit master
-fit_of order fits = record { each = fits.entries; order = order; sealed = fits.sealed }
-
-pub fitting_of : (master : Master) → IsFit master → IsFitting master
-fitting_of master fit = record { entries = fit.each; sealed = fit.sealed }
-
 -- ---- changes
 
--- what is made where a test holds, and what where it does not
-pub either_fit : (test : Bool) (one other : Master) → IsFit one → IsFit other → IsFit (cond test one other)
-either_fit true one other first second = first
-either_fit false one other first second = second
+none_few : AreFew [] ([] ∷ [] ∷ [] ∷ [] ∷ [])
+none_few = record { few = omega arith; workers = refl }
 
-pub either_work : (test : Bool) (one other : Worked) → IsFit one.master → IsFit other.master → IsFit (cond test one other).master
-either_work true one other first second = first
-either_work false one other first second = second
-
--- the tablet under a number has sealed few side segments, also one that the master does not know
-pub few_at : (master : Master) (id : ℕ) → IsFit master → HasFewSealed (tablet_at master id)
-few_at master id fit = go (get master.tablets id) refl
-  where
-    go : (found : Option Tablet) → get master.tablets id ≡ found → HasFewSealed (unwrap_or found no_tablet)
-    go None is = omega arith
-    go (Some tablet) is = fit.sealed id tablet is
-
--- a tablet is so
-pub put_fit : (master : Master) (id : ℕ) (tablet : Tablet) → HasFewSealed tablet → IsFit master → IsFit (with_tablet master id tablet)
-put_fit master id tablet few fit = record {
+-- a tablet is put
+pub put_fit : (master : Master) (number : ℕ) (tablet : Tablet) → AreFew tablet.pulling.sealed tablet.pulling.sides → IsFit master
+    → IsFit (with_tablet master number tablet)
+put_fit master number tablet few fit = record {
   each = fit.each;
-  order = in_order_insert master.tablets id tablet fit.order;
-  sealed = each_insert (λ number tablet. HasFewSealed tablet) master.tablets id tablet fit.sealed few;
+  order = in_order_insert master.tablets number tablet fit.order;
+  sealed = each_insert IsFewAt master.tablets number tablet fit.sealed few;
 }
 
+-- the tablet under a number has sealed few side segments, also one that the master does not know
+pub few_at : (master : Master) (number : ℕ) → IsFit master → IsFewAt number (tablet_at master number)
+few_at master number fit = each_or IsFewAt no_tablet master.tablets number none_few fit.sealed
+
 -- each tablet changes
-pub changed_fit : (change : ℕ → Tablet → Tablet) → ((number : ℕ) (tablet : Tablet) → HasFewSealed tablet → HasFewSealed (change number tablet))
+changed_fit : (change : ℕ → Tablet → Tablet) → ((number : ℕ) (tablet : Tablet) → IsFewAt number tablet → IsFewAt number (change number tablet))
     → (master : Master) → IsFit master → AreFitting master.log.entries (changed_each change master.tablets)
 changed_fit change gives master fit = record {
   each = fit.each;
   order = in_order_changed change master.tablets fit.order;
-  sealed =
-      each_changed (λ number tablet. HasFewSealed tablet) (λ number tablet. HasFewSealed tablet) change gives master.tablets fit.sealed;
+  sealed = each_changed IsFewAt IsFewAt change gives master.tablets fit.sealed;
 }
 
--- an entry is appended
-pub appended_fit : (master : Master) (entry : Entry) → FitsSegment entry → IsFit master → IsFit (with_appended master entry)
-appended_fit master entry fits fit = record {
-  each = All-push FitsSegment master.log.entries entry fit.each fits;
-  order = fit.order;
-  sealed = fit.sealed;
+-- so a master that fits does so where entries that fit are appended and such tablets are put
+pub fit_lasts : Lasts IsFit (λ item. ⊤) FitsSegment AreFew
+fit_lasts = record {
+  appended = λ master entry fits fit. record {
+    each = All-push FitsSegment master.log.entries entry fit.each fits;
+    order = fit.order;
+    sealed = fit.sealed;
+  };
+  sealed = λ master items fit. fit;
+  put = λ master item fits fit. fit;
+  dropped = λ master range fit. fit;
+  tablet = put_fit;
+  given_up = λ master id range fit. changed_fit
+      (λ number tablet. cond (not (number == id) && meets tablet.handover.range range) (given_up tablet) tablet)
+      (λ number tablet few. cond_both (not (number == id) && meets tablet.handover.range range) (given_up tablet) tablet (IsFewAt number)
+      (λ is. none_few) (λ other. few)) master fit;
+  few = few_at;
+  all = λ master fit. All_pairs IsFewAt master.tablets fit.order fit.sealed;
+  none = none_few;
+  replayed = λ sealed sides worker items few. record { few = few.few; workers = length-set sides worker items ∙ few.workers };
+  closes = λ tablet few. joined_fits tablet few.few;
 }
-
--- entries are appended, one after the other
-pub all_fit : (list : List Entry) (master : Master) → All FitsSegment list → IsFit master → IsFit (with_all master list)
-all_fit [] master all fit = fit
-all_fit (entry ∷ list) master all fit =
-    all_fit list (with_appended master entry) (All-tail FitsSegment entry list all)
-    (appended_fit master entry (All-head FitsSegment entry list all) fit)
-
--- ---- what waited
-
--- a tablet that closes freezes, or stays
-pub freezing_fit : (master : Master) (id : ℕ) (tablet : Tablet) (moved : Option Handover) → HasFewSealed tablet → IsFit master
-    → IsFit (freezing master id tablet moved)
-freezing_fit master id tablet None few fit = fit
-freezing_fit master id tablet (Some handover) few fit = either_fit (is_settled master tablet.handover.range)
-    (tablet_frozen master id tablet handover) master (put_fit master id (with_handover tablet handover) few fit) fit
-
--- a target that has all closes its role: the entry that it leaves fits, since it names few side segments
-pub closing_fit : (master : Master) (id : ℕ) (tablet : Tablet) (moved : Option Handover) → HasFewSealed tablet → IsFit master
-    → IsFit (closing_entry master id tablet moved)
-closing_fit master id tablet None few fit = fit
-closing_fit master id tablet (Some handover) few fit =
-    appended_fit (with_tablet master id (with_handover tablet handover)) (joined_entry tablet) (joined_fits tablet few)
-    (put_fit master id (with_handover tablet handover) few fit)
-
--- what was waited for at a tablet goes on
-going_on_fit : (master : Master) (id : ℕ) (tablet : Tablet) (role : Role) → HasFewSealed tablet → IsFit master
-    → IsFit (going_on_in master id tablet role)
-going_on_fit master id tablet Role.Closing few fit =
-    freezing_fit master id tablet (frozen tablet.handover tablet.handover.term) few fit
-going_on_fit master id tablet (Role.Joining None) few fit =
-    let moved = joined tablet.handover tablet.handover.term (Some (length master.log.entries)) in
-    either_fit (is_sealed_stored master tablet) (closing_entry master id tablet moved) master (closing_fit master id tablet moved few fit) fit
-going_on_fit master id tablet _ few fit = fit
-
--- a list of tablets that have sealed few side segments
-abbrev AllHaveFew : NumberMap Tablet → Type 0
-AllHaveFew tablets = All (λ entry. HasFewSealed entry.1) tablets
-
--- the tablets of a master that fits are such a list
-all_few : (master : Master) → IsFit master → AllHaveFew master.tablets
-all_few master fit = All_pairs (λ number tablet. HasFewSealed tablet) master.tablets fit.order fit.sealed
-
--- and at each of these tablets
-all_going_on_fit : (tablets : NumberMap Tablet) (master : Master) → AllHaveFew tablets → IsFit master → IsFit (all_going_on master tablets)
-all_going_on_fit [] master all fit = fit
-all_going_on_fit ((id, tablet) ∷ others) master all fit =
-    all_going_on_fit others (going_on_in master id tablet tablet.handover.role) (All-tail (λ entry. HasFewSealed entry.1) (id, tablet) others all)
-    (going_on_fit master id tablet tablet.handover.role (All-head (λ entry. HasFewSealed entry.1) (id, tablet) others all) fit)
 
 -- ---- what a backup tells
 
 -- a tablet that notes the end of a call keeps what it sealed
-noting_few : (call : Call) (end : Ended) (tablet : Tablet) → HasFewSealed tablet → HasFewSealed (noting call end tablet)
-noting_few call end tablet few =
-    cond_both (not (is_absent tablet.handover.role) && has_key tablet.handover.range call.table call.key)
-    (record tablet { completions = noted tablet.completions end }) tablet HasFewSealed (λ notes. few) (λ other. few)
-
 noted_fit : (master : Master) (call : Call) (end : Ended) → IsFit master → IsFit (with_noted master call end)
-noted_fit master call end fit = changed_fit (λ number tablet. noting call end tablet) (λ number tablet few. noting_few call end tablet few) master fit
-
-ended_fit : (master : Master) (place : ℕ) (call : Option Call) (ends : List Ended) → IsFit master → IsFit (with_ended master place call ends).master
-ended_fit master place (Some call) (end ∷ ends) fit = noted_fit master call end fit
-ended_fit master place (Some call) [] fit = fit
-ended_fit master place None ends fit = fit
-
-item_fit : (master : Master) (entry : Entry) → IsFit master → IsFit (with_applied (with_entry_item master entry))
-item_fit master (Entry.Held held) fit = fit
-item_fit master _ fit = fit
+noted_fit master call end fit = changed_fit (λ number tablet. noting call end tablet)
+    (λ number tablet few.
+    cond_both (not (is_absent tablet.handover.role) && has_key tablet.handover.range call.table call.key)
+    (record tablet { completions = noted tablet.completions end }) tablet (IsFewAt number) (λ notes. few) (λ other. few)) master fit
 
 -- entries are applied, one after the other
-applied_fit : (list : List Entry) (master : Master) → IsFit master → IsFit (apply_entries master list).master
-applied_fit [] master fit = fit
-applied_fit (entry ∷ list) master fit = applied_fit list (apply_entry master entry).master
-    (ended_fit (with_applied (with_entry_item master entry)) master.applied (get master.calls master.applied) (told_by entry)
-    (item_fit master entry fit))
+applied_fit : Passes AnyNext (λ master worked. IsFit master → IsFit worked.master)
+applied_fit = record {
+  stays = λ master fit. fit;
+  silent = λ master entry any fit. fit;
+  ends = λ master entry call end any is fit. noted_fit master call end fit;
+  goes_on = λ master first later one two fit. two (one fit);
+}
 
 -- a master that takes what a backup tells
-pub stored_fit : (master : Master) (backup : ℕ) (stored : Stored) (over : Option Overreach) → IsFit master
+stored_fit : (master : Master) (backup : ℕ) (stored : Stored) (over : Option Overreach) → IsFit master
     → IsFit (stored_taken master backup stored over).master
 stored_fit master backup stored (Some beyond) fit = fit
 stored_fit master backup stored None fit =
     let known = with_known master backup stored.segment stored.length in
-    let now = (apply_entries known (newly_held known)).master in
-    let applied = applied_fit (newly_held known) known fit in
-    all_going_on_fit now.tablets now (all_few now applied) applied
+    all_going_on_has fit_lasts (apply_entries known (newly_held known)).master
+    (entries_pass applied_fit (newly_held known) known (λ place none inside. tt) fit)
 
--- ---- a turn
+-- ---- what is sealed
 
-reading_fit : (master : Master) (id : ℕ) (tablet : Tablet) (reading : Option Reading) → IsFit master
-    → IsFit (reading_duty master id tablet reading).master
-reading_fit master id tablet None fit = fit
-reading_fit master id tablet (Some reading) fit = fit
+-- the side segments of a log have these bytes more
+sides_sum : (pieces : List (List Held)) (master : Master)
+    → sum_by (λ (b : List ℕ). length b) (fold with_side_segment master pieces).log.sides
+    ≡ sum_by (λ (b : List ℕ). length b) master.log.sides + sum_by items_bytes pieces
+sides_sum [] master = omega arith
+sides_sum (items ∷ pieces) master =
+    omega (
+      arith,
+      sides_sum pieces (with_side_segment master items),
+      sum_by-append (λ (b : List ℕ). length b) master.log.sides (spelled_all (as_entries items) ∷ []),
+      sum_by-cons (λ (b : List ℕ). length b) (spelled_all (as_entries items)) [],
+      sum_by-cons items_bytes items pieces,
+    )
 
--- the duty for a tablet changes at most the hashes that it wants
-duty_fit : (master : Master) (id : ℕ) (tablet : Tablet) (role : Role) → HasFewSealed tablet → IsFit master
-    → IsFit (tablet_duty master id tablet role).master
-duty_fit master id tablet Role.Receiving few fit = put_fit master id (with_outstanding tablet) few fit
-duty_fit master id tablet (Role.Joining (Some entry)) few fit = either_work (nat_lt entry master.applied) _ (changed master) fit fit
-duty_fit master id tablet (Role.Rebuilding from None) few fit = reading_fit master id tablet (next_reading tablet.gather) fit
-duty_fit master id tablet (Role.Rebuilding from (Some entry)) few fit = either_work (nat_lt entry master.applied) _ (changed master) fit fit
-duty_fit master id tablet _ few fit = fit
+-- those that a target makes have no more bytes than the master then, so they are few
+seals_few : (number : ℕ) (master : Master) → IsFit master → log_bytes (pulled_all master number) < MOST_BYTES
+    → length (next_sides master (length (sealed_sides (tablet_at master number).pulling.sides))) ≤ MOST_SEALED
+seals_few number master fit below =
+    let sides = (tablet_at master number).pulling.sides in
+    let sealed = sealing master number (tablet_at master number) in
+    omega (
+      arith,
+      below,
+      sides_sum (sealed_sides sides) master,
+      ap (λ (sides : List (List ℕ)). sum_by (λ (b : List ℕ). length b) sides)
+          (joined_sides sealed number (tablet_at sealed number) (tablet_at sealed number).pulling.sealed),
+      side_bytes (pulled_all master number),
+      sealed_few sides,
+      (few_at master number fit).workers,
+      length-range_with_len (FIRST_SIDE_SEGMENT + length master.log.sides) (length (sealed_sides sides)),
+    )
 
-duties_fit : (tablets : NumberMap Tablet) (master : Master) → AllHaveFew tablets → IsFit master → IsFit (duties master tablets).master
-duties_fit [] master all fit = fit
-duties_fit ((id, tablet) ∷ others) master all fit =
-    duties_fit others (tablet_duty master id tablet tablet.handover.role).master
-    (All-tail (λ entry. HasFewSealed entry.1) (id, tablet) others all)
-    (duty_fit master id tablet tablet.handover.role (All-head (λ entry. HasFewSealed entry.1) (id, tablet) others all) fit)
+-- ---- messages
 
--- a master that takes its turn
-pub turn_fit : (master : Master) → IsFit master → IsFit (master_turn master).master
-turn_fit master fit = duties_fit master.tablets master (all_few master fit) fit
+-- a call that is chosen for so leaves an entry that fits, or none
+leaves_fit : (limits : Limits) (master : Master) {call : Call} (choice : Choice) → IsLawfulCall call → IsFormedChoice limits master choice
+    → MayLeave FitsSegment master call choice
+leaves_fit limits master {call} (Writes number value) lawful formed =
+    held_fits (item_of call (tablet_at master number).handover.counter value) lawful.key formed.1
+leaves_fit limits master {call} (Refuses found absent) lawful formed = refused_fits
+    (record { table = call.table; found = found; client = call.client; seq = call.seq; absent = absent; key = call.key }) lawful.key
+leaves_fit limits master _ lawful formed = tt
+
+module _ (limits : Limits) (number : ℕ) (master : Master) (are : AreLimits limits) (formed : IsFormedMaster limits number master) (fit : IsFit master) (below : log_bytes master < MOST_BYTES) where
+  -- what a rebuild merges fits: its copies, and the entry that closes it
+  merge_fits : (now : Master) (id : ℕ) → 1 ≤ limits.top → IsFormedMaster limits number now → MayMerge FitsSegment now id
+  merge_fits now id some formed_now =
+      let it = tablet_at now id in
+      let own = own_material now it in
+      let merged = merge own (by_member it.gather own) in
+      let is = merge_formed limits number now id some formed_now in (
+        All-map FitsSegment Entry.Held merged.copies
+            (All-weaker (IsFormedHeld limits) (λ held. FitsSegment (Entry.Held held))
+            (λ held it. held_fits held it.lawful.key it.lawful.value) merged.copies is.copies),
+        carried_fits
+            (record { range = it.handover.range; term = it.handover.term; floor = merged.floor; ends = ends_of (completions_from [] merged.ends) })
+            (few_ends limits merged.ends are is.told),
+      )
+
+  makes : (sender : Node) (body : Body) → IsFormedBody limits sender body → log_bytes (told_master master sender body).master < MOST_BYTES
+      → Makes IsFit FitsSegment AreFew master sender body
+  makes (Node.Client client) (Body.Request request) says few =
+      leaves_fit limits master (choice_of master (call_of client request)) says.call
+      (choice_formed limits number master (call_of client request) formed says.call)
+  -- the ends that come with a grant are of different clients, so they are few
+  makes Node.Coordinator (Body.Grant grant) says few = λ handover. carried_fits
+      (record { range = handover.range; term = handover.term; floor = grant.floor; ends = grant.ends })
+      (omega (
+        arith,
+        are.clients,
+        rising_within grant.ends limits.clients says.told.rising
+            (All-weaker (IsFormedEnd limits) (λ end. IsClient limits end.client) (λ end formed. formed.client) grant.ends says.told.each),
+      ))
+  makes Node.Coordinator (Body.Rebuild rebuild) says few =
+      merge_fits (rebuild_begun master rebuild) rebuild.tenure.tablet (one_stood limits rebuild.tenure.term says.tenure.term)
+      (begins limits number master rebuild says (below_fits (length master.log.entries) (log_bytes master) (entries_few master) below) formed)
+  makes (Node.Master other) (Body.Pulled pulled) says few = λ takes last fits. record {
+    few = seals_few pulled.tenure.tablet _ fits (rw last at (rw takes at few));
+    workers = refl;
+  }
+  makes (Node.Backup backup) (Body.Copy copy) says few = λ awaited.
+      merge_fits (segment_gathered master copy) copy.tenure.tablet (one_stood limits copy.tenure.term says.tenure.term)
+      (formed_gathered limits number master copy says (first_holds _ _ awaited) formed)
+  makes _ _ says few = tt
+
+  -- a master that takes a message, and has few bytes before it and then
+  pub told_fit : (sender : Node) (body : Body) → IsFormedBody limits sender body → log_bytes (told_master master sender body).master < MOST_BYTES
+      → IsFit (told_master master sender body).master
+  told_fit sender body says few = told_has fit_lasts master sender body (makes sender body says few) (λ call. fit)
+      (λ backup stored. stored_fit master backup stored (overreach master.log stored.segment stored.length) fit) (λ place none inside. tt) fit

@@ -1,9 +1,8 @@
 -- The masters of a lane fit: in a new lane, after each event that leaves the logs few bytes, and after a client's turn or answer.
-use Rattle.std.proofs.Common.{◌≡◌, ◌<◌, ℕ, [], Option, None, Some, refl, sym, subst, arith, unwrap_or}
-use Rattle.rk_inv_base.proofs.Words.{All-nil, IsInOrder, get, get_or, Called, accept, ask, Session, IsWellFormed, limits_of, Master}
-use Rattle.rk_inv_base.proofs.Words.{log_bytes, new_master, tablet_at, with_tablet, IsMaster, range_below, range_from, HasRoom}
-use Rattle.rk_inv_base.proofs.Words.{MOST_BYTES, world_visited, has_parts, with_half, with_halves, with_split, happened, World}
-use Rattle.rk_inv_base.proofs.Words.{bytes_of_logs, master_at, new_world, Event}
+use Rattle.std.proofs.Common.{◌<◌, ℕ, [], sym, subst, arith}
+use Rattle.rk_inv_base.proofs.Words.{All-nil, get_or, Called, accept, ask, Session, IsWellFormed, limits_of, Master, log_bytes, new_master}
+use Rattle.rk_inv_base.proofs.Words.{IsMaster, HasRoom, MOST_BYTES, world_visited, happened, World, bytes_of_logs, master_at, new_world}
+use Rattle.rk_inv_base.proofs.Words.{Event}
 use Rattle.rk_world.specs.Limits.{IsFormedMessage, IsThere}
 use Rattle.rk_inv_wellformed.proofs.bytes.ByteEvents.{master_below}
 use Rattle.rk_inv_wellformed.proofs.lanes.Worlds.{formed_limits, master_of}
@@ -11,35 +10,26 @@ use Rattle.rk_inv_base.proofs.views.Fresh.{each_fresh}
 use Rattle.rk_inv_tablets.proofs.steady.Walks.{Part, accept_keeps, ask_keeps}
 use Rattle.rk_inv_lanes.specs.room.Fits.{AllFit, IsFitting}
 use Rattle.rk_inv_lanes.proofs.lanes.Masters.{IsKeptByEach, each_kept}
-use Rattle.rk_inv_lanes.proofs.room.Fitting.{IsFit, either_fit, few_at, fit_of, fitting_of, put_fit, turn_fit}
-use Rattle.rk_inv_lanes.proofs.room.FittingSteps.{told_fit}
-
--- ---- masters
-
--- both parts of a split tablet have sealed what it has
-split_fit : (master : Master) (tablet at new term : ℕ) → IsFit master → IsFit (with_split master tablet at new term)
-split_fit master tablet at new term fit =
-    let it = tablet_at master tablet in
-    let lower = with_half it (range_below it.handover.range at) term in
-    let upper = with_half it (range_from it.handover.range at) term in
-    either_fit (has_parts it.handover.range at) (with_halves master tablet it at new term) master
-    (put_fit (with_tablet master tablet lower) new upper (few_at master tablet fit)
-    (put_fit master tablet lower (few_at master tablet fit) fit))
-    fit
-
--- the tablets of each master are in order, also of one that is not there
-order_at : (w : World) (number : ℕ) → IsWellFormed w → IsInOrder (master_at w number).tablets
-order_at w number formed = go (get w.masters number) refl
-  where
-    go : (found : Option Master) → get w.masters number ≡ found → IsInOrder (unwrap_or found (new_master number [])).tablets
-    go None is = tt
-    go (Some master) is = (formed.masters number master is).tablets_order
+use Rattle.rk_inv_lanes.proofs.room.Fitting.{IsFit, few_at, put_fit, told_fit, fit_lasts}
+use Rattle.rk_inv_events.proofs.events.Coordinating.{of_master}
+use Rattle.rk_inv_lanes.proofs.masters.Steps.{split_has, turn_has}
 
 -- ---- events
 
 module _ {w : World} (formed : IsWellFormed w) (room : HasRoom w) (all : AllFit w) where
   fit_at : (number : ℕ) → IsFit (master_at w number)
-  fit_at number = fit_of (order_at w number formed) (all number)
+  fit_at number = of_master w formed (λ m. IsFitting m → IsFit m) number
+      (λ fits. record { each = fits.entries; order = tt; sealed = λ id tablet is. absurd (cc is) })
+      (λ m is its fits. record {
+        each = fits.entries;
+        order = its.tablets_order;
+        sealed = λ id tablet at. record { few = fits.sealed id tablet at; workers = (its.tablets id tablet at).pulled.workers };
+      })
+      (all number)
+
+  -- a master that fits has entries that fit, and its tablets have sealed few side segments
+  fitting_of : (master : Master) → IsFit master → IsFitting master
+  fitting_of master fit = record { entries = fit.each; sealed = λ id tablet at. (fit.sealed id tablet at).few }
 
   -- a master that has few bytes fits, once it has taken a message too
   kept : (event : Event) → IsKeptByEach (λ number master. log_bytes master < MOST_BYTES → IsFitting master) w event
@@ -49,11 +39,11 @@ module _ {w : World} (formed : IsWellFormed w) (room : HasRoom w) (all : AllFit 
         let told : IsFormedMessage (limits_of w) message = formed.wire.each number message found in
         let there : IsMaster w.coordinator.masters master = subst (λ to. IsThere (limits_of w) to) to told.to in
         fitting_of _ (told_fit (limits_of w) master (master_at w master) (formed_limits w formed room) (master_of w master there formed)
-        (fit_at master) message.from message.body told.says (omega (arith, room.bytes, master_below w master)) few);
-    turns = λ master few. fitting_of _ (turn_fit (master_at w master) (fit_at master));
+        (fit_at master) (omega (arith, room.bytes, master_below w master)) message.from message.body told.says few);
+    turns = λ master few. fitting_of _ (turn_has fit_lasts (master_at w master) (fit_at master));
     adds = λ master tablet range few.
         fitting_of _ (put_fit (master_at w master) tablet _ (few_at (master_at w master) tablet (fit_at master)) (fit_at master));
-    splits = λ master tablet at new term few. fitting_of _ (split_fit (master_at w master) tablet at new term (fit_at master));
+    splits = λ master tablet at new term few. fitting_of _ (split_has fit_lasts (master_at w master) tablet at new term (fit_at master));
   }
 
   -- after each event that leaves the logs few bytes the masters fit

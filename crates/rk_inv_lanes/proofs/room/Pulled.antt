@@ -1,23 +1,24 @@
 -- What a master replays is logged: it comes with a Pulled or a Got of a source, and what counts of a member of a lineage are entries of its
 -- log and items of its side segments.
-use Rattle.std.proofs.Common.{◌≡◌, ℕ, zero, suc, true, false, List, [], ◌∷◌, ◌++◌, Option, None, Some, refl, sym, ap, subst, ◌∙◌, ⊎_elim}
-use Rattle.std.proofs.Common.{arith, ◌-◌, ◌&&◌, drop, nat_lt, not, slice_index_or, All, Contains, flat_map, eqb-true}
-use Rattle.rk_inv_base.proofs.Words.{and_parts, cond_both, All-contains, All-nil, Contains-append_cases, Contains-append_left}
-use Rattle.rk_inv_base.proofs.Words.{Contains-append_right, get, Held, Member, Node, Range, Entry, FIRST_SIDE_SEGMENT, at_hash, batch_at}
-use Rattle.rk_inv_base.proofs.Words.{Row, is_batch, none_stands, BATCH_BYTES, Tenure, Body, Message, Got, Pulled, items_in, items_of}
-use Rattle.rk_inv_base.proofs.Words.{unmarked_from, as_entries, counting, counts, log_material, named, side_entries, is_token}
-use Rattle.rk_inv_base.proofs.Words.{is_receiving_at, Tablet, World, has_crashed, master_at, tablet_in, written_in, applied_entries}
-use Rattle.rk_inv_base.proofs.Words.{member_truth, Event, Mark, GotAgrees, IsOfTarget, PulledAgrees, SaysOf, source_items, View, view}
+use Rattle.std.proofs.Common.{◌≡◌, ℕ, zero, suc, true, false, List, [], ◌∷◌, ◌++◌, Option, None, Some, refl, ⊎_elim, arith, ◌-◌, ◌&&◌, drop}
+use Rattle.std.proofs.Common.{nat_lt, slice_index_or, All, Contains, flat_map}
+use Rattle.rk_inv_base.proofs.Words.{and_parts, cond_both, All-nil, Contains-append_cases, Contains-append_left, Contains-append_right, get}
+use Rattle.rk_inv_base.proofs.Words.{Held, Member, Node, Range, Entry, FIRST_SIDE_SEGMENT, at_hash, batch_at, Row, is_batch, none_stands}
+use Rattle.rk_inv_base.proofs.Words.{BATCH_BYTES, Body, Message, Got, Pulled, items_in, items_of, unmarked_from, as_entries, counting}
+use Rattle.rk_inv_base.proofs.Words.{counts, log_material, named, side_entries, is_token, is_receiving_at, Tablet, World, has_crashed}
+use Rattle.rk_inv_base.proofs.Words.{master_at, tablet_in, written_in, applied_entries, member_truth, Event, Mark, source_items, View, view}
 use Rattle.rk_inv_base.proofs.Words.{IsSound}
 use Rattle.rk_inv_base.proofs.calls.Records.{filter_from}
 use Rattle.rk_inv_base.proofs.pulls.Joining.{scanned}
 use Rattle.rk_inv_base.proofs.views.Lists.{all_by}
 use Rattle.rk_inv_rows.proofs.lineage.Among.{first_stand, flat_among, from_flat, later_stands, to_flat}
 use Rattle.rk_inv_rows.proofs.lineage.Pieces.{unmarked_stood}
-use Rattle.rk_inv_events.proofs.pulls.Answered.{items_again, receiving_is}
-use Rattle.rk_inv_events.proofs.pulls.Targets.{IsTargetOf, batch_stands, of_some_hash, target_of}
+use Rattle.rk_inv_wellformed.proofs.masters.Pulls.{items_again}
+use Rattle.rk_inv_events.proofs.pulls.Targets.{as_target, batch_stands, of_some_hash}
 use Rattle.rk_inv_lanes.specs.room.Logged.{IsLogged}
 use Rattle.rk_inv_lanes.specs.room.Replayed.{replayed_at, replayed_in, replayed_of, replayed_to}
+use Rattle.rk_inv_events.proofs.pulls.Answered.{got_are}
+use Rattle.rk_inv_events.proofs.pulls.Batches.{pulled_are}
 
 -- ---- what counts of a log
 
@@ -87,67 +88,32 @@ module _ (w : World) (sound : IsSound w) (number master : ℕ) (from : Node) (li
   abbrev v : View
   v = view w
 
-  -- what a message says of a row
-  abbrev Said : Body → Row → Type 0
-  Said body row = SaysOf row v.logs v.written v.stored v.handovers v.completions v.merged v.live v.handed from (Node.Master master) body
-
   -- the message stands on the wire
   abbrev Stands : Body → Type 0
   Stands body = get w.wire.messages number ≡ Some (record { from = from; to = Node.Master master; body = body })
-
-  -- so it says that of each row
-  says : (body : Body) → Stands body → (row : Row) → Contains v.rows row → Said body row
-  says body there row stands =
-      All-contains (Said body) v.rows row (sound.messages.of_rows number (record { from = from; to = Node.Master master; body = body }) there) stands
 
   -- what the source of a row has for it is logged
   source_logged : (row : Row) (source : Member) {item : Held} → Contains (source_items v row source) item → IsLogged w item
   source_logged row source {item} at = truth_logged row.range source (scanned (member_truth v.written row.range source) item at)
 
-  module _ (tenure : Tenure) (receives : is_receiving_at (tablet_in w master tenure.tablet) tenure.term ≡ true) where
-    -- the master is the target of a row
-    as_target : IsTargetOf v master tenure.tablet
-    as_target = target_of v sound master tenure.tablet (ap not lives)
-        (receiving_is (tablet_in w master tenure.tablet).handover.role (and_parts _ _ receives).0)
-
-    -- and the message is of that row, at its term
-    of_target : IsOfTarget as_target.row (v.handovers master as_target.row.tablet) tenure
-    of_target = record {
-      tablet = sym as_target.number_is;
-      term =
-          sym (eqb-true (tablet_in w master tenure.tablet).handover.term tenure.term (and_parts _ _ receives).1)
-          ∙ ap (λ (n : ℕ). (v.handovers master n).term) (sym as_target.number_is);
-    }
-
   -- a Pulled has a batch of its source
   pulled_logged : (pulled : Pulled) → Stands (Body.Pulled pulled) → is_receiving_at (tablet_in w master pulled.tenure.tablet) pulled.tenure.term ≡ true
       → All (IsLogged w) (items_of pulled.entries)
   pulled_logged pulled there receives =
-      let its : IsTargetOf v master pulled.tenure.tablet = as_target pulled.tenure receives in
-      let truth : List Entry = member_truth v.written its.row.range its.source in
-      let batch : List Held = batch_at pulled.token BATCH_BYTES (source_items v its.row its.source) in
-      let agrees : PulledAgrees its.row v.written v.handovers v.live (its.source ∷ its.target ∷ []) from master pulled =
-      subst (λ (members : List Member). PulledAgrees its.row v.written v.handovers v.live members from master pulled) its.pulls.lineage_is
-      (says (Body.Pulled pulled) there its.row its.pulls.has_row).1 in
-      let said = agrees its.here (ap not lives) (of_target pulled.tenure receives) in
-      let items : items_of pulled.entries ≡ batch = ap items_of said.0.items_are ∙ items_again batch in
-      subst (All (IsLogged w)) (sym items)
-      (all_by (IsLogged w) batch (λ item at. source_logged its.row its.source (batch_stands truth pulled.token item at)))
+      let its = as_target w sound master pulled.tenure lives receives in
+      rw (pulled_are w number master from pulled sound lives receives there).0
+      (all_by (IsLogged w) (batch_at pulled.token BATCH_BYTES (source_items v its.row its.source))
+      (λ item at. source_logged its.row its.source (batch_stands (member_truth v.written its.row.range its.source) pulled.token item at)))
 
   -- and a Got what its source has of some hashes
   got_logged : (message : Got) → Stands (Body.Got message) → is_receiving_at (tablet_in w master message.tenure.tablet) message.tenure.term ≡ true
       → All (IsLogged w) (items_of message.entries)
   got_logged message there receives =
-      let its : IsTargetOf v master message.tenure.tablet = as_target message.tenure receives in
+      let its = as_target w sound master message.tenure lives receives in
       let items : List Held = source_items v its.row its.source in
-      let some : List Held = flat_map (λ hash. at_hash hash items) message.hashes in
-      let agrees : GotAgrees its.row v.written v.handovers v.live (its.source ∷ its.target ∷ []) from master message =
-      subst (λ (members : List Member). GotAgrees its.row v.written v.handovers v.live members from master message) its.pulls.lineage_is
-      (says (Body.Got message) there its.row its.pulls.has_row).1 in
-      let said = agrees its.here (ap not lives) (of_target message.tenure receives) in
-      let same : items_of message.entries ≡ some = ap items_of said.items_are ∙ items_again some in
-      subst (All (IsLogged w)) (sym same)
-      (all_by (IsLogged w) some (λ item at. source_logged its.row its.source (of_some_hash items message.hashes item at)))
+      rw (got_are w number master from message sound lives receives there)
+      (all_by (IsLogged w) (flat_map (λ hash. at_hash hash items) message.hashes)
+      (λ item at. source_logged its.row its.source (of_some_hash items message.hashes item at)))
 
   -- so what a living master replays of a message is logged
   of_body : (body : Body) → Stands body → All (IsLogged w) (replayed_of (master_at w master) body)

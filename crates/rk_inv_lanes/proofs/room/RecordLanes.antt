@@ -10,7 +10,7 @@ use Rattle.rk_inv_lanes.specs.room.Logged.{AreLogged, HasRecordsOf, IsLogged, lo
 use Rattle.rk_inv_lanes.specs.room.Replayed.{replayed_at, replayed_in, replayed_of, replayed_to}
 use Rattle.rk_inv_lanes.proofs.room.Logging.{AreAllLogged, AreRecordsOf, logged_last, records_last}
 use Rattle.rk_inv_lanes.proofs.lanes.Masters.{AllAre, IsKeptByEach, each_kept}
-use Rattle.rk_inv_lanes.proofs.masters.Changes.{Has, IsLasting}
+use Rattle.rk_inv_lanes.proofs.masters.Changes.{Has, IsLasting, of_lasting}
 use Rattle.rk_inv_lanes.proofs.masters.Items.{OfItems, about, step_has}
 use Rattle.rk_inv_lanes.proofs.masters.Steps.{split_has, turn_has}
 
@@ -34,9 +34,9 @@ event_has P Fits lasting w own all event called each = each_kept kept called
       steps = λ number master message is found to lives.
           step_has (P master) Fits (lasting master) (master_at w master) message (own master)
           (subst (All Fits) (replayed_is w event number master message is found to lives) each) (all master);
-      turns = λ master. turn_has (lasting master) (master_at w master) (all master);
+      turns = λ master. turn_has (of_lasting (lasting master)) (master_at w master) (all master);
       adds = λ master tablet range. all master;
-      splits = λ master tablet at new term. split_has (lasting master) (master_at w master) tablet at new term (all master);
+      splits = λ master tablet at new term. split_has (of_lasting (lasting master)) (master_at w master) tablet at new term (all master);
     }
 
 -- ---- events

@@ -1,12 +1,11 @@
 -- How many bytes a target gets by a replay of items that are logged: it takes each of them once at most, so no more than all logs have.
-use Rattle.std.proofs.Common.{◌≡◌, ◌≤◌, ◌+◌, ◌%◌, ◌&&◌, ℕ, Bool, true, false, cond, nat_lt, List, [], ◌∷◌, length, All, Option, None}
-use Rattle.std.proofs.Common.{Some, refl, sym, ap, ◌∙◌, ⊎_elim, arith, Contains, unwrap_or, sum_by, if◌then◌else◌}
+use Rattle.std.proofs.Common.{◌≡◌, ◌≤◌, ◌+◌, ◌%◌, ◌&&◌, ℕ, Bool, true, false, cond, nat_lt, List, [], ◌∷◌, length, All, Option, None, Some}
+use Rattle.std.proofs.Common.{refl, sym, ap, ◌∙◌, ⊎_elim, arith, Contains, sum_by, if◌then◌else◌}
 use Rattle.rk_inv_base.proofs.Words.{cases_Bool, cond-false, cond-true, cond_both, nat_tests, All-head, All-tail, All-weaker, sum-map}
-use Rattle.rk_inv_base.proofs.Words.{sum_by-cons, spelled_of, IsInOrder, get, Held, spelled_all, order_after, found, is_newer, with_newer}
+use Rattle.rk_inv_base.proofs.Words.{sum_by-cons, spelled_of, IsInOrder, Held, spelled_all, order_after, found, is_newer, with_newer}
 use Rattle.rk_inv_base.proofs.Words.{IsInScanOrder, end, is_batch, is_of_parts, Got, Pulled, items_of, IsWellFormed, Master, log_bytes}
-use Rattle.rk_inv_base.proofs.Words.{new_master, tablet_at, as_entries, got_taken, hashes_resolved, is_token, item_replayed, pulled_all}
-use Rattle.rk_inv_base.proofs.Words.{pulled_taken, replay, replay_one, token_passed, is_receiving_at, Worked, changed, World}
-use Rattle.rk_inv_base.proofs.Words.{bytes_of_logs, master_at}
+use Rattle.rk_inv_base.proofs.Words.{tablet_at, as_entries, got_taken, hashes_resolved, is_token, item_replayed, pulled_all, pulled_taken}
+use Rattle.rk_inv_base.proofs.Words.{replay, replay_one, token_passed, is_receiving_at, Worked, changed, World, bytes_of_logs, master_at}
 use Rattle.std.proofs.lemmas.List.Sums.{sum_by-le-sum_by}
 use Rattle.rk_table.proofs.Changes.{found_after, found_newer}
 use Rattle.rk_table.specs.Items.{is_at}
@@ -18,6 +17,7 @@ use Rattle.rk_inv_lanes.specs.room.Logged.{IsLogged}
 use Rattle.rk_inv_lanes.specs.room.Replayed.{got_items, pulled_items}
 use Rattle.rk_inv_lanes.proofs.room.Sums.{all_logged, logged_bytes, logged_stands, sum_less, where_few}
 use Rattle.std.specs.List.Sorted.{IsStrictlySortedBy}
+use Rattle.rk_inv_events.proofs.events.Coordinating.{of_master}
 
 -- ---- what records lack
 
@@ -137,12 +137,8 @@ module _ (w : World) (number : ℕ) (formed : IsWellFormed w) where
   -- the tablets of a master are in order, and so are its records
   master_order : IsInOrder (master_at w number).tablets × IsInScanOrder (master_at w number).records
   unfolding IsStrictlySortedBy
-  master_order = go (get w.masters number) refl
-    where
-      go : (there : Option Master) → get w.masters number ≡ there
-          → IsInOrder (unwrap_or there (new_master number [])).tablets × IsInScanOrder (unwrap_or there (new_master number [])).records
-      go None none = (tt, tt)
-      go (Some master) found = ((formed.masters number master found).tablets_order, (formed.masters number master found).scanned)
+  master_order = of_master w formed (λ m. IsInOrder m.tablets × IsInScanOrder m.records) number (tt, tt)
+      (λ m is its. (its.tablets_order, its.scanned))
 
   -- what it takes of items that are logged has no more bytes than all logs
   taken_bytes : (items : List Held) → All (IsLogged w) items

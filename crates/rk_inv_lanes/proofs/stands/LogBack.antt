@@ -1,33 +1,16 @@
 -- What counts of a log that is read back from where it is stored, once all of it is applied and nothing is marked, is what counts of
 -- the applied entries.
-use Rattle.std.proofs.Common.{◌≡◌, ℕ, suc, zero, ◌<◌, ◌≤◌, true, List, [], ◌∷◌, ◌++◌, length, Option, refl, sym, ap, ◌∙◌, arith, drop}
-use Rattle.std.proofs.Common.{take, All, Contains, flat_map, take_all}
-use Rattle.rk_inv_base.proofs.Words.{cond_both, All-contains, All-drop, Contains-append_right, meets, Range, entries_of, IsLawfulEntry}
-use Rattle.rk_inv_base.proofs.Words.{IsLawfulHeld, Entry, FIRST_SIDE_SEGMENT, cut, IsBackup, Log, is_side_stored, LAST_MAIN_SEGMENT}
-use Rattle.rk_inv_base.proofs.Words.{unmarked, counting, log_material, material_of, named, named_by, side_entries, Written}
-use Rattle.rk_inv_base.proofs.Words.{applied_entries, Mark, IsLog, segments_in}
+use Rattle.std.proofs.Common.{◌≡◌, ℕ, ◌<◌, ◌≤◌, true, List, [], ◌++◌, length, Option, sym, ap, ◌∙◌, drop, take, All, flat_map, take_all}
+use Rattle.rk_inv_base.proofs.Words.{All-contains, All-drop, Range, entries_of, IsLawfulEntry, IsLawfulHeld, Entry, FIRST_SIDE_SEGMENT, cut}
+use Rattle.rk_inv_base.proofs.Words.{IsBackup, Log, is_side_stored, LAST_MAIN_SEGMENT, counting, log_material, material_of, named}
+use Rattle.rk_inv_base.proofs.Words.{side_entries, Written, applied_entries, Mark, IsLog, segments_in}
 use Rattle.rk_outside.specs.Segments.{bytes_of as stored_bytes}
 use Rattle.rk_log.specs.Stored.{stored_entries}
 use Rattle.rk_inv_tablets.proofs.crash.Among.{named_from}
 use Rattle.rk_inv_lanes.proofs.stands.MainStored.{entries_back}
 use Rattle.rk_inv_lanes.proofs.stands.SideStored.{side_back}
-
--- where things give the same, all of them do
-flat_same : {X Y : Type 0} (f g : X → List Y) (xs : List X) → ((x : X) → Contains xs x → f x ≡ g x) → flat_map f xs ≡ flat_map g xs
-flat_same f g [] same = refl
-flat_same f g (x ∷ xs) same =
-    λ i. same x (zero, omega arith, refl) i ++ flat_same f g xs (λ y at. same y (Contains-append_right (x ∷ []) xs y at)) i
-
--- the segments that an entry names for a range are among those that it names
-named_in : (range : Range) (entry : Entry) (number : ℕ) → Contains (named_by range entry) number → Contains (segments_in entry) number
-named_in range (Entry.Joined joined) number = cond_both (meets joined.range range) joined.segments []
-    (λ numbers. Contains numbers number → Contains joined.segments number) (λ e at. at) (λ e at. absurd (omega (arith, at.1)))
-named_in range _ number = λ at. at
-
--- without marks each entry bears none
-unmarked_all : (place : ℕ) (list : List Entry) → unmarked [] place list ≡ list
-unmarked_all place [] = refl
-unmarked_all place (entry ∷ list) = ap (λ (more : List Entry). entry ∷ more) (unmarked_all (suc place) list)
+use Rattle.rk_inv_events.proofs.Words.{flat_same, named_in}
+use Rattle.rk_inv_events.proofs.rebuilt.AppliedOwn.{none_marked}
 
 module _ (log : Log) (w : Written) (stored : ℕ → ℕ → List ℕ) (kept : IsLog log w stored) (applied : length w.entries ≤ w.applied) (backup : ℕ) (there : IsBackup log backup) (few : length (cut log.entries) < FIRST_SIDE_SEGMENT) (lawful : All IsLawfulEntry w.entries) (lawful_items : All IsLawfulHeld (flat_map (λ items. items) w.sides)) (segments : ℕ → Option (List ℕ)) (are : (number : ℕ) → stored_bytes (segments number) ≡ stored backup number) where
   -- the side segments that entries name are read back
@@ -54,6 +37,6 @@ module _ (log : Log) (w : Written) (stored : ℕ → ℕ → List ℕ) (kept : I
       All-drop (λ (entry : Entry). All (λ segment. is_side_stored log segment ≡ true) (segments_in entry)) from w.entries kept.named in
       ap (λ (list : List Entry). material_of range side (drop from list)) read
       ∙ ap (λ (list : List Entry). counting range behind ++ counting range list) (sides_back range behind held)
-      ∙ ap (material_of range (side_entries w.sides)) (sym (unmarked_all from behind))
+      ∙ ap (material_of range (side_entries w.sides)) (sym (none_marked from behind))
       ∙ ap (λ (marks : List Mark). log_material range marks w.sides from w.entries) (sym none)
       ∙ ap (log_material range w.marks w.sides from) (sym all)

@@ -12,11 +12,7 @@ use Rattle.rk_inv_base.proofs.logs.Holding.{applied_stored}
 use Rattle.rk_inv_base.proofs.logs.Segments.{bytes_main}
 use Rattle.rk_inv_tablets.proofs.crash.FirstRead.{read_none}
 use Rattle.rk_inv_tablets.proofs.crash.Groups.{cut_groups, ends_in, group_ends, spelled_first, spelled_none, spelled_one}
-
--- bytes that have all of what they begin
-pub whole_part : (whole bytes more : List ℕ) → whole ≡ bytes ++ more → length whole ≤ length bytes → bytes ≡ whole
-whole_part whole bytes [] is enough = sym (is ∙ append-nil bytes)
-whole_part whole bytes (x ∷ more) is enough = absurd (omega (arith, enough, ap length is, length-append bytes (x ∷ more)))
+use Rattle.rk_inv_events.proofs.Words.{whole_part}
 
 -- ---- segments whose entries are stored
 

@@ -10,7 +10,7 @@ use Rattle.rk_inv_base.proofs.logs.Segments.{bytes_in, bytes_side, numbered_at, 
 use Rattle.rk_inv_tablets.proofs.crash.FirstRead.{read_none}
 use Rattle.rk_inv_tablets.proofs.crash.Groups.{spelled_none}
 use Rattle.rk_inv_tablets.proofs.crash.LogRead.{all_at, all_groups}
-use Rattle.rk_inv_lanes.proofs.stands.MainStored.{whole_part}
+use Rattle.rk_inv_events.proofs.Words.{whole_part}
 
 -- the bytes of the items at a place
 items_at : (sides : List (List Held)) (k : ℕ) → get_or (map (λ (items : List Held). spelled_all (as_entries items)) sides) k [] ≡ spelled_all (as_entries (get_or sides k []))

@@ -1,25 +1,22 @@
 -- In a quiet lane no log bears a mark and all of each owner's log is applied, so what a backup stores of a row is the row's truth.
 use Rattle.std.proofs.Common.{◌≡◌, ℕ, ◌<◌, ◌≤◌, Bool, true, false, List, [], ◌∷◌, ◌++◌, length, Option, Some, None, refl, sym, ap, subst}
 use Rattle.std.proofs.Common.{arith, length-drop, is_some, not, unwrap_or, All, Contains, flat_map, eq-eqb}
-use Rattle.rk_inv_base.proofs.Words.{All-contains, All-head, All-nil, All-weaker, EachIn, get, Range, Segments, IsLawfulEntry}
-use Rattle.rk_inv_base.proofs.Words.{IsLawfulHeld, FIRST_SIDE_SEGMENT, Handover, number_of, lineage_of, member, row_of, Phase, Owned, Row}
-use Rattle.rk_inv_base.proofs.Words.{cut, IsBackup, no_segments, Session, IsWellFormed, IsFormedEntry, IsFormedHeld, limits_of, Master}
-use Rattle.rk_inv_base.proofs.Words.{new_master, staged, names, IsMaster, HasRoom, World, backup_at, has_crashed, log_in, master_at}
-use Rattle.rk_inv_base.proofs.Words.{written_in, Written, lineage_truth, member_truth, Mark, stored_of, MarkFits, IsTruth, truths, view}
-use Rattle.rk_inv_base.proofs.Words.{IsSound}
+use Rattle.rk_inv_base.proofs.Words.{All-contains, All-head, EachIn, get, Range, Segments, FIRST_SIDE_SEGMENT, Handover, number_of}
+use Rattle.rk_inv_base.proofs.Words.{lineage_of, member, row_of, Phase, Owned, Row, cut, IsBackup, no_segments, Session, IsWellFormed}
+use Rattle.rk_inv_base.proofs.Words.{Master, staged, names, IsMaster, HasRoom, World, backup_at, has_crashed, log_in, written_in, Written}
+use Rattle.rk_inv_base.proofs.Words.{lineage_truth, member_truth, Mark, stored_of, MarkFits, IsTruth, truths, view, IsSound}
 use Rattle.rk_outside.specs.Segments.{bytes_of as stored_bytes}
 use Rattle.rk_world.specs.Quiet.{IsOwnedLive, IsQuiet}
 use Rattle.rk_world.specs.Stands.{Stands, StandsIn, stored_material}
 use Rattle.rk_world.specs.World.{live_masters}
-use Rattle.rk_inv_wellformed.proofs.lanes.Backups.{lawful_of}
-use Rattle.rk_inv_wellformed.proofs.lanes.Worlds.{room_of_master}
 use Rattle.rk_inv_wellformed.proofs.maps.Maps.{All_pairs, each_from_pairs}
-use Rattle.rk_inv_base.proofs.logs.Segments.{segments_few}
 use Rattle.rk_inv_base.proofs.pulls.Joining.{stands_kept}
 use Rattle.rk_inv_base.proofs.rows.Serving.{found_stands}
 use Rattle.rk_inv_base.proofs.views.Lists.{all_by}
 use Rattle.rk_inv_lanes.specs.stands.Backups.{HasOwnBackups}
 use Rattle.rk_inv_lanes.proofs.stands.LogBack.{material_back}
+use Rattle.rk_inv_events.proofs.events.Crashing.{entries_lawful, items_lawful, segments_left}
+use Rattle.rk_inv_events.proofs.events.Coordinating.{of_master}
 
 -- ---- marks
 
@@ -45,38 +42,6 @@ none_marked crashed rows master handovers live written (mark ∷ marks) owned kn
         owned_unmarked crashed (All-contains (λ (row : Row). IsOwnedLive crashed row.phase) rows row owned stands)
         (fits (sym (number_of rows mark.tablet row found)))
 
--- ---- what a well formed lane has
-
-module _ (w : World) (formed : IsWellFormed w) where
-  -- what logs have is lawful
-  entries_lawful : (q : ℕ) → All IsLawfulEntry (master_at w q).log.entries
-  entries_lawful q = go (get w.masters q) refl
-    where
-      go : (found : Option Master) → get w.masters q ≡ found → All IsLawfulEntry (unwrap_or found (new_master q [])).log.entries
-      go None is = All-nil IsLawfulEntry
-      go (Some master) is =
-          All-weaker (IsFormedEntry (limits_of w)) IsLawfulEntry (λ entry it. lawful_of (limits_of w) entry it) master.log.entries
-          (formed.masters q master is).written
-
-  items_lawful : (q : ℕ) → All IsLawfulHeld (flat_map (λ items. items) (master_at w q).sides)
-  items_lawful q = go (get w.masters q) refl
-    where
-      go : (found : Option Master) → get w.masters q ≡ found → All IsLawfulHeld (flat_map (λ items. items) (unwrap_or found (new_master q [])).sides)
-      go None is = All-nil IsLawfulHeld
-      go (Some master) is = All-weaker (IsFormedHeld (limits_of w)) IsLawfulHeld (λ held it. it.lawful)
-          (flat_map (λ items. items) master.sides) (formed.masters q master is).items
-
-  -- with room there are numbers for all main segments
-  segments_numbered : HasRoom w → (q : ℕ) → length (cut (log_in w q).entries) < FIRST_SIDE_SEGMENT
-  segments_numbered room q = go (get w.masters q) refl
-    where
-      go : (found : Option Master) → get w.masters q ≡ found → length (cut (unwrap_or found (new_master q [])).log.entries) < FIRST_SIDE_SEGMENT
-      go None is = omega arith
-      go (Some master) is =
-          let fits = room_of_master w q master is formed.standing room in
-          let left = segments_few master.log (omega (arith, fits.bytes)) in
-          omega (arith, left)
-
 -- ---- a quiet lane
 
 module _ (w : World) (sessions : List Session) (sound : IsSound w) (formed : IsWellFormed w) (told : HasOwnBackups w) (quiet : IsQuiet w.coordinator.rows w.crashed (live_masters w) sessions) (few : (master : ℕ) → length (cut (log_in w master).entries) < FIRST_SIDE_SEGMENT) where
@@ -97,13 +62,8 @@ module _ (w : World) (sessions : List Session) (sound : IsSound w) (formed : IsW
 
   -- so all of its log is applied
   all_applied : (q : ℕ) → has_crashed w q ≡ false → length (written_in w q).entries ≤ (written_in w q).applied
-  all_applied q alive = go (get w.masters q) refl
-    where
-      go : (found : Option Master) → get w.masters q ≡ found → length (unwrap_or found (new_master q [])).log.entries ≤ (unwrap_or found (new_master q [])).applied
-      go None is = omega arith
-      go (Some master) is =
-          let none = settled q master is alive in
-          omega (arith, ap length none, length-drop master.applied master.log.entries)
+  all_applied q alive = of_master w formed (λ m. length m.log.entries ≤ m.applied) q (omega arith)
+      (λ m is its. omega (arith, ap length (settled q m is alive), length-drop m.applied m.log.entries))
 
   module _ (number : ℕ) (segments : Segments) (found : get w.backups number ≡ Some segments) where
     -- what the backup stores of a living master's log counts as what is applied does
@@ -146,4 +106,4 @@ module _ (w : World) (sessions : List Session) (sound : IsSound w) (formed : IsW
 -- so they do with room
 pub quiet_stands_in_room : (w : World) (sessions : List Session) → IsSound w → IsWellFormed w → HasRoom w → HasOwnBackups w → IsQuiet w.coordinator.rows w.crashed (live_masters w) sessions → Stands w
 quiet_stands_in_room w sessions sound formed room told quiet =
-    quiet_stands w sessions sound formed told quiet (segments_numbered w formed room)
+    quiet_stands w sessions sound formed told quiet (λ q. let left = segments_left w formed room q in omega (arith, left))

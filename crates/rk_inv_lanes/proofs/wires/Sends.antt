@@ -1,11 +1,11 @@
 -- What a master sends, and how many calls wait at it then, when it takes a message: together they come to less than the message itself.
-use Rattle.std.proofs.Common.{◌≡◌, ◌≤◌, ◌<◌, ◌+◌, ℕ, List, [], ◌∷◌, length, Option, Some, None, ap, arith, sum_by, refl}
-use Rattle.rk_inv_base.proofs.Words.{sum_by-append, NumberMap, get, Call, Ended, Entry, Overreach, Body, Message, Stored, apply_entries}
-use Rattle.rk_inv_base.proofs.Words.{apply_entry, newly_held, stored_taken, with_applied, with_ended, with_entry_item, told_by, Master}
-use Rattle.rk_inv_base.proofs.Words.{with_known, chosen, Worked, Choice, Writes, Refuses, ⊤}
+use Rattle.std.proofs.Common.{◌≡◌, ◌≤◌, ◌<◌, ◌+◌, ℕ, List, [], length, Option, Some, None, ap, arith, sum_by, refl}
+use Rattle.rk_inv_base.proofs.Words.{sum_by-append, NumberMap, Call, Overreach, Body, Message, Stored, apply_entries, newly_held}
+use Rattle.rk_inv_base.proofs.Words.{stored_taken, Master, with_known, chosen, Worked, Choice, Writes, Refuses, ⊤}
 use Rattle.rk_inv_lanes.specs.wires.Emptied.{deliveries_of}
-use Rattle.rk_inv_lanes.proofs.masters.Changes.{IsLasting, all_going_on_has}
+use Rattle.rk_inv_lanes.proofs.masters.Changes.{IsLasting, all_going_on_has, of_lasting}
 use Rattle.rk_inv_lanes.proofs.wires.Sums.{length_inserted, length_removed}
+use Rattle.rk_inv_events.proofs.stored.Work.{AnyNext, Passes, entries_pass}
 
 -- the deliveries that messages bring
 abbrev pub deliveries_in : List Message → ℕ
@@ -42,36 +42,14 @@ chosen_spends master asked call _ = omega arith
 abbrev Answers : Master → Worked → Type 0
 Answers master worked = deliveries_in worked.sends + length worked.master.calls ≤ length master.calls
 
-ended_answers : (master : Master) (place : ℕ) (call : Option Call) (ends : List Ended) → get master.calls place ≡ call
-    → Answers master (with_ended master place call ends)
-ended_answers master place (Some call) (end ∷ ends) there = omega (arith, length_removed master.calls place call there)
-ended_answers master place (Some call) [] there = omega arith
-ended_answers master place None ends there = omega arith
-
-item_keeps : (master : Master) (entry : Entry) → (with_entry_item master entry).calls ≡ master.calls
-item_keeps master (Entry.Held held) = refl
-item_keeps master entry = refl
-
-entry_answers : (master : Master) (entry : Entry) → Answers master (apply_entry master entry)
-entry_answers master entry =
-    let kept = item_keeps master entry in
-    omega (
-      arith,
-      ended_answers (with_applied (with_entry_item master entry)) master.applied (get master.calls master.applied) (told_by entry)
-          (ap (λ (calls : NumberMap Call). get calls master.applied) kept),
-      ap (λ (calls : NumberMap Call). length calls) kept,
-    )
-
-entries_answer : (entries : List Entry) (master : Master) → Answers master (apply_entries master entries)
-entries_answer [] master = omega arith
-entries_answer (entry ∷ entries) master =
-    let now = apply_entry master entry in
-    omega (
-      arith,
-      entry_answers master entry,
-      entries_answer entries now.master,
-      sum_by-append (λ (message : Message). deliveries_of message.body) now.sends (apply_entries now.master entries).sends,
-    )
+answers : Passes AnyNext Answers
+answers = record {
+  stays = λ master. omega arith;
+  silent = λ master entry any. omega arith;
+  ends = λ master entry call end any there. omega (arith, length_removed master.calls master.applied call there);
+  goes_on = λ master first later one two.
+      omega (arith, one, two, sum_by-append (λ (message : Message). deliveries_of message.body) first.sends later.sends);
+}
 
 pub stored_spends : (master : Master) (backup : ℕ) (stored : Stored) (over : Option Overreach) → Spends 1 master (stored_taken master backup stored over)
 stored_spends master backup stored (Some beyond) = omega arith
@@ -80,7 +58,7 @@ stored_spends master backup stored None =
     let worked = apply_entries known (newly_held known) in
     omega (
       arith,
-      entries_answer (newly_held known) known,
+      entries_pass answers (newly_held known) known (λ place none inside. tt),
       sum_by-append (λ (message : Message). deliveries_of message.body) worked.sends [],
-      ap (λ (calls : NumberMap Call). length calls) (all_going_on_has (same_calls worked.master.calls) worked.master worked.master.tablets refl),
+      ap (λ (calls : NumberMap Call). length calls) (all_going_on_has (of_lasting (same_calls worked.master.calls)) worked.master refl),
     )

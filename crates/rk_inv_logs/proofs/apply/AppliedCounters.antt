@@ -1,17 +1,13 @@
--- Versions and floors once the entry of a call is applied: the floor of what counts for a row is what it was, wherever the entry stands, and
--- what is applied of a key is above what the map has there.
-use Rattle.std.proofs.Common.{◌≡◌, ℕ, ◌≤◌, ◌<◌, Bool, true, false, cond, ◌&&◌, eqb, List, [], ◌++◌, Option, Some, None, refl, sym, ap, ◌∙◌}
-use Rattle.std.proofs.Common.{arith, bytes_eq, slice_index_or, Contains, eq-eqb, eqb-true, inl, inr}
-use Rattle.rk_inv_base.proofs.Words.{and_from, and_parts, cases_Bool, All-contains, Contains-get_or, IfSome_then, bytes_eq-Decides, Call}
-use Rattle.rk_inv_base.proofs.Words.{Held, Range, Map, with_change, last_version, Entry, Row, first_stands, is_of_from, map_entry_of}
-use Rattle.rk_inv_base.proofs.Words.{items_in, items_of, of_key, tells_of, floor_of, AreAboveMap, IsNext, handed_by, handed_for_grant}
-use Rattle.rk_inv_base.proofs.Words.{IsEntryOf, View, truths, rests, CountersOf}
+-- Versions and floors of a key with the entry of a call: what is applied of a key is above what the map has there.
+use Rattle.std.proofs.Common.{◌≡◌, ℕ, ◌≤◌, ◌<◌, Bool, true, false, cond, ◌&&◌, eqb, List, [], Option, Some, None, refl, sym, ◌∙◌, arith}
+use Rattle.std.proofs.Common.{bytes_eq, Contains, eq-eqb, eqb-true, inl, inr}
+use Rattle.rk_inv_base.proofs.Words.{and_from, and_parts, cases_Bool, bytes_eq-Decides, Call, Held, Range, Map, with_change, last_version}
+use Rattle.rk_inv_base.proofs.Words.{Entry, first_stands, is_of_from, map_entry_of, items_in, items_of, of_key, tells_of, floor_of}
+use Rattle.rk_inv_base.proofs.Words.{AreAboveMap, IsEntryOf}
 use Rattle.rk_entry.specs.declared.entry.Entry.TheVariants as entries
+use Rattle.rk_inv_logs.proofs.apply.Applying.{change_by}
 use Rattle.rk_inv_base.proofs.logs.Floors.{floor_above}
-use Rattle.rk_inv_logs.proofs.apply.Inserted.{IsInserted, floor_inserted, floor_more, inserted_kept, inserted_out, told_new}
-use Rattle.rk_inv_logs.proofs.apply.Applying.{Applying, after, by_row, change_by, entry, its_row, rest_here, row_cases, truth_here}
-use Rattle.rk_inv_logs.proofs.apply.Applying.{rest_beside_row, truth_beside_row}
-use Rattle.rk_inv_logs.proofs.apply.AppliedTruth.{map_beside, map_is, map_now, map_was, of_moving}
+use Rattle.rk_inv_logs.proofs.apply.Inserted.{IsInserted, floor_more, inserted_kept, inserted_out, told_new}
 
 -- ---- the entry of a call
 
@@ -67,52 +63,3 @@ low_inserted range map call (entries.Refused refused) old now own put low table 
     let before : last_version (map table key) < floor_of (of_key table key old) = low table key within in
     let grows = key_floor (entries.Refused refused) old now put table key in omega (arith, before, grows)
 low_inserted range map call _ old now own put low table key within = absurd own
-
-module _ (v : View) (a : Applying v) where
-  -- what is applied of another row is above the map as before
-  low_beside : (other : Row) → Contains v.rows other → (other.tablet ≡ (its_row v a).tablet → ⊥) → (list : List Entry) → AreAboveMap other.range (map_was v a) list → AreAboveMap other.range (map_now v a) list
-  low_beside other has differs list low table key within = rw (map_beside v a other has differs table key within) (low table key within)
-
-  low_here : (old now : List Entry) → IsInserted (entry v a) old now → AreAboveMap (its_row v a).range (map_was v a) old → AreAboveMap (its_row v a).range (map_now v a) now
-  low_here old now put low = rw (map_is v a) (low_inserted (its_row v a).range (map_was v a) a.call (entry v a) old now a.waits.own put low)
-
-  -- the floor of truth and rest of a row is what it was
-  floor_same : (other : Row) → Contains v.rows other → floor_of (truths (after v a) other ++ rests (after v a) other) ≡ floor_of (truths v other ++ rests v other)
-  floor_same other has = elim (row_cases v a other has) [
-    | inl same ↦
-        rw same
-        (floor_inserted (entry v a) (truths v (its_row v a)) (truths (after v a) (its_row v a)) (rests (after v a) (its_row v a))
-        (truth_here v a) ∙ ap (λ (l : List Entry). floor_of (truths v (its_row v a) ++ l)) (sym (rest_here v a)))
-    | inr differs ↦ λ i. floor_of (truth_beside_row v a other has differs i ++ rest_beside_row v a other has differs i)
-  ]
-
-  next_still : (other : Row) → Contains v.rows other → (number : ℕ) → IsNext (truths v other ++ rests v other) number → IsNext (truths (after v a) other ++ rests (after v a) other) number
-  next_still other has number next = rw (floor_same other has) next
-
-  pub counters : CountersOf (after v a) (truths (after v a)) (rests (after v a))
-  counters = record {
-    low = λ k d within.
-        let row : Row = slice_index_or v.rows k d in
-        let has : Contains v.rows row = Contains-get_or v.rows k d within in
-        by_row v a (λ r truth rest. AreAboveMap r.range (map_now v a) truth) row has
-        (low_here (truths v (its_row v a)) (truths (after v a) (its_row v a)) (truth_here v a)
-        (All-contains (λ (r : Row). AreAboveMap r.range (map_was v a) (truths v r)) v.rows (its_row v a) a.sound.counters.low
-        a.waits.has_row)) (λ differs. low_beside row has differs (truths v row) (a.sound.counters.low k d within));
-    moving = λ k d within.
-        let row : Row = slice_index_or v.rows k d in
-        let has : Contains v.rows row = Contains-get_or v.rows k d within in
-        of_moving v a (λ r. AreAboveMap r.range (map_was v a)) (λ r. AreAboveMap r.range (map_now v a)) row has low_here
-        (λ differs. low_beside row has differs) (a.sound.counters.moving k d within);
-    counted = λ q k d within counts says.
-        let row : Row = slice_index_or v.rows k d in
-        next_still row (Contains-get_or v.rows k d within) (v.handovers q row.tablet).counter
-        (a.sound.counters.counted q k d within counts says);
-    handed_on = λ k d within.
-        let row : Row = slice_index_or v.rows k d in
-        IfSome_then (handed_for_grant row v.handovers v.handed) (a.sound.counters.handed_on k d within)
-        (λ h. next_still row (Contains-get_or v.rows k d within) h.floor);
-    sent = λ n m found k d within.
-        let row : Row = slice_index_or v.rows k d in
-        IfSome_then (handed_by row v.handovers m.body) (a.sound.counters.sent n m found k d within)
-        (λ h. next_still row (Contains-get_or v.rows k d within) h.floor);
-  }

@@ -1,31 +1,34 @@
 -- What targets, rebuilds and messages have once the entry of a call is applied: the target of the row has one more entry of its own; where
 -- the master rebuilds the row, one more is found in its records, and what it merged has the end of the call already.
-use Rattle.std.proofs.Common.{◌≡◌, ℕ, ◌≤◌, ◌<◌, true, cond, List, [], ◌∷◌, Option, Some, None, refl, sym, ap, ◌∙◌, subst, inl, inr, arith}
-use Rattle.std.proofs.Common.{map, false, ◌==◌, if◌then◌else◌, slice_index_or, Contains, flat_map, eq-eqb, eqb-true, ne_eqb}
-use Rattle.rk_inv_base.proofs.Words.{cond-false, cond-true, false≢true, Contains-append_left, Contains-get_or, Any-from_list_any, get, Held}
-use Rattle.rk_inv_base.proofs.Words.{Member, Range, Entry, completions_from, Handover, Role, lineage_of, Phase, Rebuilding, Row, items_in}
-use Rattle.rk_inv_base.proofs.Words.{items_of, told, told_by, Gather, by_member, is_of_lineage, material_by, is_member, last_of}
-use Rattle.rk_inv_base.proofs.Words.{unmarked_from, counting, counts, named, side_entries, merge, merged_ends, own_place, is_absent}
-use Rattle.rk_inv_base.proofs.Words.{may_have_staged, Written, member_material, Merged, is_wanting, Bystander, FormerMember, LastRebuilder}
-use Rattle.rk_inv_base.proofs.Words.{OnlyRebuilder, FirstRebuilder, OutsideRebuilder, Holds, Post, bond_of, post_of, rebuilder_post}
-use Rattle.rk_inv_base.proofs.Words.{HandedFits, IsHandedBy, AreApart, View, truths, ReceivesOf, MessagesOf}
-use Rattle.rk_transfer.specs.declared.role.Role.TheVariants as roles
+use Rattle.std.proofs.Common.{◌≡◌, ℕ, ◌≤◌, true, List, [], ◌∷◌, Some, None, refl, sym, ap, ◌∙◌, subst, inl, inr, arith, ◌++◌, map, false}
+use Rattle.std.proofs.Common.{◌==◌, if◌then◌else◌, Contains, flat_map, eq-eqb, eqb-true}
+use Rattle.rk_inv_base.proofs.Words.{cond-false, cond-true, false≢true, Contains-append_left, Any-from_list_any, get, Member, Range, Entry}
+use Rattle.rk_inv_base.proofs.Words.{completions_from, Handover, Role, lineage_of, Phase, Rebuilding, Row, items_in, told, told_by, Gather}
+use Rattle.rk_inv_base.proofs.Words.{by_member, is_of_lineage, material_by, is_member, last_of, unmarked_from, counting, counts, named}
+use Rattle.rk_inv_base.proofs.Words.{side_entries, merge, merged_ends, own_place, is_absent, may_have_staged, Written, member_material}
+use Rattle.rk_inv_base.proofs.Words.{Merged, is_wanting, post_of, HandedFits, IsHandedBy, View, truths, All-weaker, AreAboveMap}
+use Rattle.rk_inv_base.proofs.Words.{AreHandedOver, Ended, IfSome_then, IsKnown, IsReached, ReachAll, TellAll, base_map, ends_of, floor_of}
+use Rattle.rk_inv_base.proofs.Words.{handed_by, handed_for_grant, has_key, is_mutation, is_waiting, map_after, member_truth, noted, rests}
+use Rattle.rk_inv_base.proofs.Words.{second_has, second_of}
+use Rattle.rk_inv_logs.proofs.Words.{speaker_is, SoundRow, row_in, last_stands, filter_stands, history_of, flat_of, free_stands}
+use Rattle.rk_inv_logs.proofs.Words.{counts_call}
 use Rattle.rk_tablet_map.specs.Phase.{member as member_at}
-use Rattle.rk_inv_logs.proofs.apply.Inserted.{told_still}
+use Rattle.rk_inv_base.proofs.rows.Apart.{key_outside as key_beside}
+use Rattle.rk_transfer.specs.declared.role.Role.TheVariants as roles
+use Rattle.rk_inv_logs.proofs.apply.Inserted.{IsInserted, floor_inserted, inserted_behind, told_still}
 use Rattle.rk_inv_logs.proofs.apply.ItemPut.{bare_with}
 use Rattle.rk_inv_logs.proofs.apply.MergedEnds.{mapped, merged_reaches, noted_again}
-use Rattle.rk_inv_logs.proofs.apply.NextEntry.{counted_next}
-use Rattle.rk_inv_logs.proofs.apply.Applying.{Applying, after, apart_in, entry, inside, its_fits, its_member, its_row, names}
-use Rattle.rk_inv_logs.proofs.apply.Applying.{of_completions, outside, place, row_cases, same_row, truth_beside_row, truth_here}
-use Rattle.rk_inv_logs.proofs.apply.Applying.{first_apart, its_range, truth_same, new}
-use Rattle.rk_inv_logs.proofs.apply.AppliedCalls.{tells_it}
-use Rattle.rk_inv_base.proofs.rows.Apart.{key_outside}
-use Rattle.rk_inv_base.proofs.logs.Shares.{counts_call}
-use Rattle.rk_inv_logs.proofs.apply.Stagers.{staging_present, staging_wants}
+use Rattle.rk_inv_logs.proofs.apply.Applying.{Applying, after, apart_in, entry, first_apart, inside, its_fits, its_member, its_range}
+use Rattle.rk_inv_logs.proofs.apply.Applying.{its_row, its_speaker, key_outside, last_takes, names, outside, place, rest_beside_row}
+use Rattle.rk_inv_logs.proofs.apply.Applying.{rest_here, row_cases, same_row, still_beside, truth_beside_row, truth_here}
+use Rattle.rk_inv_logs.proofs.apply.CallEnds.{of_completions, reach_noted, serving}
+use Rattle.rk_inv_logs.proofs.apply.CallHistory.{Serving, all_there, history_here, history_there, known, low_here, low_there, tell_here}
+use Rattle.rk_inv_logs.proofs.apply.CallHistory.{tell_there, tells_it}
+use Rattle.rk_inv_logs.proofs.apply.AppliedRest.{rest_counts}
+use Rattle.rk_inv_logs.proofs.apply.AppliedTables.{items_beside, items_its}
+use Rattle.rk_inv_logs.proofs.apply.Stagers.{none_hands, none_waits, rebuilder_from, staging_present, staging_wants}
 use Rattle.rk_inv_logs.proofs.apply.TargetApplied.{applied_with}
-use Rattle.rk_inv_logs.proofs.apply.Applies.{Applies, StaysBare, HasApplied, bare_at, members_at, named_at, says_now}
-use Rattle.rk_inv_base.proofs.calls.MoreRecords.{says_still}
-use Rattle.rk_inv_rows.proofs.lineage.Among.{to_flat}
+use Rattle.rk_inv_logs.proofs.apply.Applies.{Applies, StaysBare, Tells, of_target}
 
 -- ---- data
 
@@ -42,44 +45,7 @@ own_among gather own lineage master lineage_is own_is member =
     Contains-append_left each (if is_of_lineage gather then [] else own ∷ []) own
     (subst (Contains each) its (mapped (λ (member : Member). material_by gather own member.master) gather.lineage one stands))
 
--- a master that rebuilds at the row's term begins at the place of the last member, if it is that
-module _ (last : Member) (master : ℕ) (here : last.master ≡ master) (from : ℕ) (closing : Option ℕ) (term own applied : ℕ) (at_term : own ≡ term) where
-  only_from : (closing : Option ℕ) → Holds (bond_of (OnlyRebuilder last.from) (roles.Rebuilding from closing)) term own applied → from ≡ last.from
-  only_from None holds = holds.1
-  only_from (Some entry) holds =
-      elim holds [ inl behind ↦ let below : own < term = behind.0 in absurd (omega (arith, below, at_term)) | inr equal ↦ equal.1 ]
-
-  last_from : (lineage : List Member) → AreApart lineage → last_of lineage ≡ Some last → Holds (bond_of (rebuilder_post lineage master) (roles.Rebuilding from closing)) term own applied → from ≡ last.from
-  last_from (only ∷ []) apart is holds =
-      let same : only ≡ last = cc is in
-      let at : only.master ≡ master = ap (λ (m : Member). m.master) same ∙ here in
-      only_from closing
-      (subst (λ (m : Member). Holds (bond_of (OnlyRebuilder m.from) (roles.Rebuilding from closing)) term own applied) same
-      (subst (λ (post : Post). Holds (bond_of post (roles.Rebuilding from closing)) term own applied)
-      (cond-true (only.master == master) (OnlyRebuilder only.from) OutsideRebuilder (eq-eqb only.master master at)) holds))
-  last_from (first ∷ second ∷ []) apart is holds =
-      let same : second ≡ last = cc is in
-      let at : second.master ≡ master = ap (λ (m : Member). m.master) same ∙ here in
-      let post : rebuilder_post (first ∷ second ∷ []) master ≡ LastRebuilder second.from =
-      cond-false (first.master == master) (FirstRebuilder first.from)
-      (cond (second.master == master) (LastRebuilder second.from) OutsideRebuilder)
-      (ne_eqb first.master master (λ e. absurd (apart (e ∙ sym at))))
-      ∙ cond-true (second.master == master) (LastRebuilder second.from) OutsideRebuilder (eq-eqb second.master master at) in
-      let holds_last : (own ≡ term) × (from ≡ second.from) = rw post at holds in
-      holds_last.1 ∙ ap (λ (m : Member). m.from) same
-  last_from _ apart is holds = absurd apart
-
 module _ (v : View) (a : Applying v) where
-  -- the truth of a row tells what it told
-  pub truth_still : (other : Row) → Contains v.rows other → (x : Held) → Contains (items_of (truths v other)) x → Contains (items_of (truths (after v a) other)) x
-  truth_still other has x at = elim (row_cases v a other has) [
-    | inl same ↦
-        rw same
-        (told_still (entry v a) (truths v (its_row v a)) (truths (after v a) (its_row v a)) (truth_here v a) items_in x
-        (subst (λ (r : Row). Contains (items_of (truths v r)) x) same at))
-    | inr differs ↦ subst (λ (l : List Entry). Contains (items_of l) x) (sym (truth_beside_row v a other has differs)) at
-  ]
-
   -- ---- the master that rebuilds its row
 
   -- where its own entries of the row begin
@@ -88,14 +54,12 @@ module _ (v : View) (a : Applying v) where
   own_from (roles.Rebuilding from closing) lineage is at_term role_is =
       let kept : Handover = v.handovers a.master (its_row v a).tablet in
       let row : Row = its_row v a in
-      let post : post_of (Rebuilding lineage a.master) a.master ≡ rebuilder_post lineage a.master =
-      cond-true (a.master == a.master) (rebuilder_post lineage a.master) (cond (is_member lineage a.master) FormerMember Bystander)
-      (eq-eqb a.master a.master refl) in
-      let fits = rw role_is at (rw (ap (λ (p : Phase). post_of p a.master) is ∙ post) at (its_fits v a)) in
+      let fits = rw role_is at (rw (eq-eqb a.master a.master refl) at (rw (ap (λ (p : Phase). post_of p a.master) is) at (its_fits v a))) in
       let lineage_is : lineage_of row.phase ≡ lineage = ap lineage_of is in
       let same : from ≡ a.waits.last.from =
-      last_from a.waits.last a.master a.waits.here from closing row.term kept.term (place v a) at_term lineage
-      (rw lineage_is at (apart_in v a row a.waits.has_row)) (sym (ap last_of lineage_is) ∙ a.waits.is_last) fits in
+      rebuilder_from lineage a.master row.term kept.term (place v a) from closing (rw lineage_is at (apart_in v a row a.waits.has_row))
+      at_term
+      fits a.waits.last (last_stands lineage a.waits.last (sym (ap last_of lineage_is) ∙ a.waits.is_last)) a.waits.here in
       let behind : a.waits.last.from ≤ place v a = a.waits.from in omega (arith, same, behind)
   own_from _ lineage is at_term role_is = omega arith
 
@@ -103,11 +67,13 @@ module _ (v : View) (a : Applying v) where
   own_tells : (from : ℕ) → from ≤ place v a → (range : Range) → counts range (entry v a) ≡ true → Contains (told (member_material v.written range (member_at a.master from))) a.end
   own_tells from behind range inside =
       let w : Written = v.written a.master in
-      let own : List Entry = counting range (unmarked_from w.marks from w.entries) in
-      to_flat told_by (member_material v.written range (member_at a.master from)) (entry v a) a.end
-      (Contains-append_left own (counting range (flat_map (side_entries w.sides) (named range (unmarked_from w.marks from w.entries))))
-      (entry v a) (counted_next range w.entries w.applied (entry v a) a.waits.stands w.marks from inside a.waits.unmarked behind))
-      (tells_it v a)
+      let all : List Entry = unmarked_from w.marks from w.entries in
+      flat_of told_by (member_material v.written range (member_at a.master from)) (entry v a) a.end
+      (Contains-append_left (counting range all) (counting range (flat_map (side_entries w.sides) (named range all))) (entry v a)
+      (filter_stands (counts range) all (entry v a)
+      (free_stands w.marks from w.entries (entry v a)
+      (record { place = w.applied; behind = behind; stands = a.waits.stands; free = a.waits.unmarked })) inside))
+      (tells_it (serving v a))
 
   module _ (other : Row) (has : Contains v.rows other) (lineage : List Member) (phase_is : other.phase ≡ Rebuilding lineage a.master) (at_term : (v.handovers a.master other.tablet).term ≡ other.term) where
     abbrev kept : Handover
@@ -120,7 +86,7 @@ module _ (v : View) (a : Applying v) where
     own = member_material v.written other.range (member_at a.master (own_place (v.handovers a.master other.tablet).role))
 
     -- an entry of the row stands behind the place where its own ones begin
-    behind_own : counts other.range (entry v a) ≡ true → own_place (v.handovers a.master other.tablet).role ≤ place v a
+    pub behind_own : counts other.range (entry v a) ≡ true → own_place (v.handovers a.master other.tablet).role ≤ place v a
     behind_own counted = elim (row_cases v a other has) [
       | inl same ↦
           rw same
@@ -142,24 +108,12 @@ module _ (v : View) (a : Applying v) where
         ap (λ (l : List Member). is_member l a.master) (ap lineage_of (sym phase_is) ∙ ap (λ (r : Row). lineage_of r.phase) same)
         ∙ its_member v a in
         let told_it : Contains (flat_map told (by_member gather own)) a.end =
-        to_flat told (by_member gather own) own a.end (own_among gather own lineage a.master lineage_is own_is member)
+        flat_of told (by_member gather own) own a.end (own_among gather own lineage a.master lineage_is own_is member)
         (own_tells (own_place (v.handovers a.master other.tablet).role) (behind_own counted) other.range counted) in
         let reached = merged_reaches (by_member gather own) a.end told_it in
         let ends_are : merged.ends ≡ merged_ends (by_member gather own) = ap (λ (m : Merged). m.ends) merged_is in
         noted_again (v.completions a.master other.tablet) a.end (rw (completions ∙ ap (completions_from []) ends_are) reached)
         ∙ completions) (λ apart. completions)
-
-  pub own_now : (row : Row) (has : Contains v.rows row) (lineage : List Member) (is : row.phase ≡ Rebuilding lineage a.master) (term : (v.handovers a.master row.tablet).term ≡ row.term)
-      → HasApplied row.range (own_place (v.handovers a.master row.tablet).role) (v.written a.master) (entry v a) (v.records a.master)
-  own_now row has lineage is term =
-      let has_own =
-      applied_with row.range (v.written a.master) (entry v a) a.waits.stands (names v a row.range)
-      (own_place (v.handovers a.master row.tablet).role) (λ counted x at. behind_own row has lineage is term counted) in
-      record {
-        still = has_own.still;
-        new = has_own.new;
-        cases = λ x at. elim (has_own.cases x at) [ inl its ↦ inl its | inr was ↦ inr (inl was) ];
-      }
 
   -- ---- targets
 
@@ -177,7 +131,7 @@ module _ (v : View) (a : Applying v) where
   tablet_outside number apart there =
       let range : Range = (v.handovers a.master number).range in
       counts_call range a.call (entry v a) a.waits.own
-      ∙ key_outside range (its_row v a).range a.call.table a.call.key
+      ∙ key_beside range (its_row v a).range a.call.table a.call.key
       (rw (its_range v a) at
       (a.sound.terms.apart a.master number (its_row v a).tablet apart there
       (staging_present (v.handovers a.master (its_row v a).tablet).role a.waits.may_stage))) a.waits.in_row
@@ -208,50 +162,117 @@ module _ (v : View) (a : Applying v) where
     sound = a.sound;
     held = a.may.held;
     stands = a.waits.stands;
-    firsts = λ row has first second more is.
-        truth_same v a row.range first (first_apart v a row has first second more (subst AreApart is (apart_in v a row has)) is);
+    calls = (after v a).calls;
+    kept = (after v a).completions;
+    journal = (after v a).journal;
+    firsts = λ row has first second more is. still_beside v a row.range first (first_apart v a row has first second more is);
     granted = λ row has first last is at granted counted x its.
         subst (λ (n : ℕ). last.from ≤ (v.written n).applied) (sym at) (own_behind row has last (ap last_of is) counted);
     wanted = waiting_apart;
-    still = truth_still;
-    own = λ row has lineage is term found. own_now row has lineage is term;
-    kept = (after v a).completions;
+    own = λ row has lineage is term found.
+        applied_with row.range (v.written a.master) (entry v a) (v.records a.master) a.waits.stands (names v a row.range)
+        (own_place (v.handovers a.master row.tablet).role) (λ counted x at. behind_own row has lineage is term counted);
     others = λ q tablet apart. of_completions v a (λ c. c ≡ v.completions q tablet) q tablet (λ at its. absurd (apart at)) (λ other. refl);
     merged = λ row has lineage is term gather m merged_is same.
         completions_same row has lineage is term m merged_is same gather.lineage_is gather.own_is;
     frozen = frozen_same;
   }
 
-  handed_at : (other : Row) → Contains v.rows other → (lineage : List Member) → AreApart lineage → lineage_of other.phase ≡ lineage → HandedFits other v.handovers v.completions v.handed lineage → HandedFits other v.handovers (after v a).completions v.handed lineage
-  handed_at other has (first ∷ last ∷ []) apart is fit = λ one.
+  handed_at : (other : Row) → Contains v.rows other → (lineage : List Member) → lineage_of other.phase ≡ lineage → HandedFits other v.handovers v.completions v.handed lineage → HandedFits other v.handovers (after v a).completions v.handed lineage
+  handed_at other has (first ∷ last ∷ []) is fit = λ one.
       of_completions v a (IsHandedBy (get v.handed other.tablet) (v.handovers first.master other.tablet)) first.master other.tablet
       (λ at its.
       let same : other ≡ its_row v a = same_row v a other has its in
       absurd
       (false≢true
-      (sym (first_apart v a other has first last [] apart is at) ∙ ap (λ (r : Row). counts r.range (entry v a)) same ∙ inside v a)))
+      (sym (first_apart v a other has first last [] is at) ∙ ap (λ (r : Row). counts r.range (entry v a)) same ∙ inside v a)))
       (λ _. fit one)
-  handed_at other has _ apart is fit = tt
+  handed_at other has _ is fit = tt
 
-  pub receives : ReceivesOf (after v a)
-  receives = record {
-    targets = λ k d within.
-        let row : Row = slice_index_or v.rows k d in
-        members_at v applies row (Contains-get_or v.rows k d within) (lineage_of row.phase) refl (a.sound.receives.targets k d within);
-    handed_on = λ k d within.
-        let row : Row = slice_index_or v.rows k d in
-        let has : Contains v.rows row = Contains-get_or v.rows k d within in
-        handed_at row has (lineage_of row.phase) (apart_in v a row has) refl (a.sound.receives.handed_on k d within);
-    bare = λ q r. bare_at v applies q r (a.sound.receives.bare q r);
-    named = λ k d within.
-        let row : Row = slice_index_or v.rows k d in
-        named_at v applies row (Contains-get_or v.rows k d within) (lineage_of row.phase) refl (a.sound.receives.named k d within);
-  }
+  -- ---- what rows tell
 
-  pub messages : MessagesOf (after v a)
-  messages = record {
-    of_rows = λ n m found k d within.
-        says_now v applies (slice_index_or v.rows k d) (Contains-get_or v.rows k d within) m.from m.to m.body
-        (a.sound.messages.of_rows n m found k d within);
-    others = λ n m found. says_still v.journal (new v a ∷ []) m.to m.body (a.sound.messages.others n m found);
-  }
+  -- of the row
+  tells_here : Tells v (after v a) (its_row v a)
+  tells_here =
+      let row : Row = its_row v a in
+      let s : Serving = serving v a in
+      let was : SoundRow v row = row_in v a.sound row a.waits.has_row in
+      let stages : may_have_staged (v.handovers a.waits.last.master row.tablet).role ≡ true =
+      ap (λ (m : ℕ). may_have_staged (v.handovers m row.tablet).role) a.waits.here ∙ a.waits.may_stage in
+      let grows : (last : Member) → last_of (lineage_of row.phase) ≡ Some last → (front : List Entry)
+      → IsInserted (entry v a) (front ++ member_truth v.written row.range last) (front ++ member_truth (after v a).written row.range last) =
+      λ last is front. inserted_behind (entry v a) _ _ (last_takes v a last is).truth front in
+      let floor = floor_inserted (entry v a) (truths v row) (truths (after v a) row) (rests (after v a) row) (truth_here v a) in
+      let rest : floor_of (truths v row ++ rests v row) ≡ floor_of (truths v row ++ entry v a ∷ rests (after v a) row) =
+      ap (λ (l : List Entry). floor_of (truths v row ++ l)) (rest_here v a) in
+      record {
+        history = history_here s;
+        moving = of_target v (after v a).written row (TellAll row.range v.journal) (TellAll row.range (after v a).journal)
+            (λ last is front. tell_here s _ _ (grows last is front)) row.phase refl was.moving;
+        low_moving = of_target v (after v a).written row (AreAboveMap row.range (map_after (base_map v.base) v.journal))
+            (AreAboveMap row.range (map_after (base_map v.base) (after v a).journal))
+            (λ last is front. low_here s _ _ (grows last is front)) row.phase refl was.low_moving;
+        still = told_still (entry v a) (truths v row) (truths (after v a) row) (truth_here v a) items_in;
+        floor = omega (arith, floor, rest);
+        answering = λ q counts says.
+            let at : q ≡ a.master =
+            speaker_is row q (v.handovers q row.tablet) (v.written q).applied (was.fitting q counts) says ∙ sym (its_speaker v a) in
+            of_completions v a (λ c. ReachAll row.range (after v a).journal (ends_of c)) q row.tablet
+            (λ _ _.
+            subst (λ (m : ℕ). ReachAll row.range (after v a).journal (ends_of (noted (v.completions m row.tablet) a.end))) (sym at)
+            (reach_noted v a
+            (subst (λ (m : ℕ). ReachAll row.range v.journal (ends_of (v.completions m row.tablet))) at (was.answering q counts says))))
+            (λ apart. absurd (apart at refl));
+        ends_granted =
+            rw
+            (cond-false (is_waiting (second_has v.handovers row (second_of (lineage_of row.phase)))) (get v.handed row.tablet) None
+            (none_waits v row a.waits.last stages (lineage_of row.phase) (apart_in v a row a.waits.has_row) a.waits.is_last)) tt;
+        ends_sent = λ n m there.
+            rw
+            (none_hands v row a.waits.last stages m.from m.to m.body (was.says n m there) (apart_in v a row a.waits.has_row) a.waits.is_last
+            (a.waits.here ∙ its_speaker v a)) tt;
+        items = λ q alive all. items_its v a q all (was.items q alive all);
+        handed_on = handed_at row a.waits.has_row (lineage_of row.phase) refl was.handed_on;
+      }
+
+  -- and of each other one
+  tells_there : (row : Row) → Contains v.rows row → (row.tablet ≡ (its_row v a).tablet → ⊥) → Tells v (after v a) row
+  tells_there row has differs =
+      let s : Serving = serving v a in
+      let was : SoundRow v row = row_in v a.sound row has in
+      let out : has_key row.range a.call.table a.call.key ≡ false = key_outside v a row has differs in
+      let uncounted : counts row.range (entry v a) ≡ false = outside v a row has differs in
+      let reach : (list : List Ended) → ReachAll row.range v.journal list → ReachAll row.range (after v a).journal list =
+      λ list. all_there s row.range out (λ placed. is_mutation placed.call.op ≡ true → IsReached list placed) in
+      let handed : (list : List Ended) → AreHandedOver v.base row.range v.journal list → AreHandedOver v.base row.range
+      (after v a).journal list =
+      λ list old. record {
+        reached = reach list old.reached;
+        known = All-weaker (IsKnown v.base v.journal) (IsKnown v.base (after v a).journal) (known s) list old.known;
+      } in
+      let same : (last : Member) → member_truth (after v a).written row.range last ≡ member_truth v.written row.range last =
+      λ last. (still_beside v a row.range last (λ at. uncounted)).truth in
+      record {
+        history = rw (truth_beside_row v a row has differs, rest_beside_row v a row has differs)
+            (history_there s row.range out (truths v row) (rests v row) (rest_counts v.written row.range (lineage_of row.phase))
+            (history_of v row a.sound has));
+        moving = of_target v (after v a).written row (TellAll row.range v.journal) (TellAll row.range (after v a).journal)
+            (λ last is front told. rw (same last) (tell_there s row.range out (front ++ member_truth v.written row.range last) told))
+            row.phase refl was.moving;
+        low_moving = of_target v (after v a).written row (AreAboveMap row.range (map_after (base_map v.base) v.journal))
+            (AreAboveMap row.range (map_after (base_map v.base) (after v a).journal))
+            (λ last is front told. rw (same last) (low_there s row.range out (front ++ member_truth v.written row.range last) told))
+            row.phase refl was.low_moving;
+        still = λ x at. rw (truth_beside_row v a row has differs) at;
+        floor = rw (truth_beside_row v a row has differs, rest_beside_row v a row has differs) (omega arith);
+        answering = λ q counts says.
+            of_completions v a (λ c. ReachAll row.range (after v a).journal (ends_of c)) q row.tablet (λ at its. absurd (differs its))
+            (λ apart. reach (ends_of (v.completions q row.tablet)) (was.answering q counts says));
+        ends_granted = IfSome_then (handed_for_grant row v.handovers v.handed) was.ends_granted (λ h. handed h.ends);
+        ends_sent = λ n m there. IfSome_then (handed_by row v.handovers m.body) (was.ends_sent n m there) (λ h. handed h.ends);
+        items = λ q alive all. items_beside v a row uncounted q (was.items q alive all);
+        handed_on = handed_at row has (lineage_of row.phase) refl was.handed_on;
+      }
+
+  pub tells : (row : Row) → Contains v.rows row → Tells v (after v a) row
+  tells row has = elim (row_cases v a row has) [ inl same ↦ rw same tells_here | inr differs ↦ tells_there row has differs ]

@@ -1,61 +1,59 @@
 -- The records of masters once the entry of a call is applied: whoever has all of a tablet has the newest of it still.
-use Rattle.std.proofs.Common.{◌≡◌, ℕ, ◌≤◌, ◌<◌, Option, Bool, true, false, cond, List, [], ◌∷◌, ◌++◌, Some, None, refl, sym, ap, ◌∙◌, ◌==◌}
-use Rattle.std.proofs.Common.{IfSome, slice_index_or, Contains, eqb-true, inl, inr}
-use Rattle.rk_inv_base.proofs.Words.{All-weaker, All-contains, Contains-get_or, IfSome_then, Held, Member, Range, Entry, IsInScanOrder}
-use Rattle.rk_inv_base.proofs.Words.{Handover, lineage_of, Phase, Owned, Opening, Moving, Rebuilding, Row, is_of, items_in, items_of}
-use Rattle.rk_inv_base.proofs.Words.{first_of, is_member, last_of, lineage_truth, member_truth, IsAboveAll, Bystander, FirstRebuilder}
-use Rattle.rk_inv_base.proofs.Words.{FormerMember, LastRebuilder, MovingSource, MovingTarget, OnlyRebuilder, OpeningSource}
-use Rattle.rk_inv_base.proofs.Words.{OutsideRebuilder, Owner, post_of, rebuilder_post, target_post, AreApart, HasItems, IsTableOf}
-use Rattle.rk_inv_base.proofs.Words.{has_all_items, View, truths, TablesOf}
-use Rattle.rk_inv_base.proofs.views.Lists.{all_by}
-use Rattle.rk_inv_base.proofs.logs.Shares.{append_nil}
+use Rattle.std.proofs.Common.{◌≡◌, ℕ, ◌<◌, Option, Bool, true, false, cond, List, [], ◌∷◌, ◌++◌, Some, None, refl, sym, ap, ◌∙◌, ◌==◌}
+use Rattle.std.proofs.Common.{IfSome, Contains, eqb-true}
+use Rattle.rk_inv_base.proofs.Words.{All-weaker, All-contains, IfSome_then, Held, Member, Range, Entry, Handover, lineage_of, Phase, Owned}
+use Rattle.rk_inv_base.proofs.Words.{Opening, Moving, Rebuilding, Row, is_of, items_in, items_of, first_of, is_member, last_of}
+use Rattle.rk_inv_base.proofs.Words.{lineage_truth, member_truth, IsAboveAll, Bystander, FirstRebuilder, FormerMember, LastRebuilder}
+use Rattle.rk_inv_base.proofs.Words.{MovingSource, MovingTarget, OnlyRebuilder, OpeningSource, OutsideRebuilder, Owner, post_of}
+use Rattle.rk_inv_base.proofs.Words.{rebuilder_post, target_post, AreApart, HasItems, IsTableOf, has_all_items, View, truths, cond_both}
+use Rattle.rk_inv_base.proofs.Words.{counts}
+use Rattle.rk_inv_logs.proofs.Words.{put_by, all_by, append_nil}
+use Rattle.rk_inv_logs.proofs.apply.Applying.{Applying, after, apart_in, entry, inside, its_row, last_takes, still_beside}
+use Rattle.rk_inv_logs.proofs.apply.CallEnds.{serving}
+use Rattle.rk_inv_logs.proofs.apply.CallHistory.{newest_here}
+use Rattle.rk_inv_logs.specs.apply.Small.{with_item_of}
 use Rattle.rk_inv_logs.proofs.apply.Inserted.{AreNewest}
-use Rattle.rk_inv_logs.proofs.apply.ItemPut.{order_with, table_apart, table_inserted}
-use Rattle.rk_inv_logs.proofs.apply.Applying.{Applying, after, apart_in, entry, inside, its_row, of_records, outside, place, row_cases}
-use Rattle.rk_inv_logs.proofs.apply.Applying.{truth_grows, truth_same}
-use Rattle.rk_inv_logs.proofs.apply.AppliedTruth.{newest_here}
+use Rattle.rk_inv_logs.proofs.apply.ItemPut.{table_apart, table_inserted}
 
 -- ---- who has all of a tablet is the first of its lineage
 
 heir_first : (lineage : List Member) (master term : ℕ) (handover : Handover) → has_all_items (rebuilder_post lineage master) handover term ≡ true → IfSome (first_of lineage) (λ m. m.master ≡ master)
-heir_first [] master term handover has = tt
-heir_first (only ∷ []) master term handover has = go (only.master == master) refl has
-  where
-    go : (b : Bool) → (only.master == master) ≡ b → has_all_items (cond b (OnlyRebuilder only.from) OutsideRebuilder) handover term ≡ true → only.master ≡ master
-    go true is has = eqb-true only.master master is
-    go false is has = absurd (cc has)
-heir_first (first ∷ last ∷ more) master term handover has = go (first.master == master) (last.master == master) refl has
-  where
-    go : (b c : Bool) → (first.master == master) ≡ b → has_all_items (cond b (FirstRebuilder first.from) (cond c (LastRebuilder last.from) OutsideRebuilder)) handover term ≡ true → first.master ≡ master
-    go true c is has = eqb-true first.master master is
-    go false true is has = absurd (cc has)
-    go false false is has = absurd (cc has)
+heir_first [] master term handover = λ has. tt
+heir_first (only ∷ []) master term handover =
+    cond_both (only.master == master) (OnlyRebuilder only.from) OutsideRebuilder
+    (λ post. has_all_items post handover term ≡ true → only.master ≡ master) (λ e has. eqb-true only.master master e)
+    (λ e has. absurd (cc has))
+heir_first (first ∷ last ∷ more) master term handover =
+    cond_both (first.master == master) (FirstRebuilder first.from) (cond (last.master == master) (LastRebuilder last.from) OutsideRebuilder)
+    (λ post. has_all_items post handover term ≡ true → first.master ≡ master) (λ e has. eqb-true first.master master e)
+    (λ e. cond_both (last.master == master) (LastRebuilder last.from) OutsideRebuilder
+    (λ post. has_all_items post handover term ≡ true → first.master ≡ master) (λ f has. absurd (cc has)) (λ f has. absurd (cc has)))
 
-pub has_all_first : (phase : Phase) (master term : ℕ) (handover : Handover) → has_all_items (post_of phase master) handover term ≡ true → IfSome (first_of (lineage_of phase)) (λ m. m.master ≡ master)
-has_all_first (Owned owner from) master term handover has = go (owner == master) refl has
+has_all_first : (phase : Phase) (master term : ℕ) (handover : Handover) → has_all_items (post_of phase master) handover term ≡ true → IfSome (first_of (lineage_of phase)) (λ m. m.master ≡ master)
+has_all_first (Owned owner from) master term handover =
+    cond_both (owner == master) (Owner from) Bystander (λ post. has_all_items post handover term ≡ true → owner ≡ master)
+    (λ e has. eqb-true owner master e) (λ e has. absurd (cc has))
+has_all_first (Opening source sfrom target dfrom) master term handover =
+    cond_both (source == master) OpeningSource (cond (target == master) (target_post dfrom) Bystander)
+    (λ post. has_all_items post handover term ≡ true → source ≡ master) (λ e has. eqb-true source master e)
+    (λ e. none dfrom (target == master))
   where
-    go : (b : Bool) → (owner == master) ≡ b → has_all_items (cond b (Owner from) Bystander) handover term ≡ true → owner ≡ master
-    go true is has = eqb-true owner master is
-    go false is has = absurd (cc has)
-has_all_first (Opening source sfrom target dfrom) master term handover has = go (source == master) (target == master) dfrom refl has
-  where
-    go : (b c : Bool) (place : Option ℕ) → (source == master) ≡ b → has_all_items (cond b OpeningSource (cond c (target_post place) Bystander)) handover term ≡ true → source ≡ master
-    go true c place is has = eqb-true source master is
-    go false true None is has = absurd (cc has)
-    go false true (Some place) is has = absurd (cc has)
-    go false false place is has = absurd (cc has)
-has_all_first (Moving source sfrom target dfrom) master term handover has = go (source == master) (target == master) refl has
-  where
-    go : (b c : Bool) → (source == master) ≡ b → has_all_items (cond b MovingSource (cond c (MovingTarget dfrom) Bystander)) handover term ≡ true → source ≡ master
-    go true c is has = eqb-true source master is
-    go false true is has = absurd (cc has)
-    go false false is has = absurd (cc has)
-has_all_first (Rebuilding lineage to) master term handover has = go (to == master) (is_member lineage master) has
-  where
-    go : (b c : Bool) → has_all_items (cond b (rebuilder_post lineage master) (cond c FormerMember Bystander)) handover term ≡ true → IfSome (first_of lineage) (λ m. m.master ≡ master)
-    go true c has = heir_first lineage master term handover has
-    go false true has = absurd (cc has)
-    go false false has = absurd (cc has)
+    none : (place : Option ℕ) (b : Bool) → has_all_items (cond b (target_post place) Bystander) handover term ≡ true → source ≡ master
+    none None true has = absurd (cc has)
+    none (Some place) true has = absurd (cc has)
+    none place false has = absurd (cc has)
+has_all_first (Moving source sfrom target dfrom) master term handover =
+    cond_both (source == master) MovingSource (cond (target == master) (MovingTarget dfrom) Bystander)
+    (λ post. has_all_items post handover term ≡ true → source ≡ master) (λ e has. eqb-true source master e)
+    (λ e. cond_both (target == master) (MovingTarget dfrom) Bystander
+    (λ post. has_all_items post handover term ≡ true → source ≡ master) (λ f has. absurd (cc has)) (λ f has. absurd (cc has)))
+has_all_first (Rebuilding lineage to) master term handover =
+    cond_both (to == master) (rebuilder_post lineage master) (cond (is_member lineage master) FormerMember Bystander)
+    (λ post. has_all_items post handover term ≡ true → IfSome (first_of lineage) (λ m. m.master ≡ master))
+    (λ e. heir_first lineage master term handover)
+    (λ e. cond_both (is_member lineage master) FormerMember Bystander
+    (λ post. has_all_items post handover term ≡ true → IfSome (first_of lineage) (λ m. m.master ≡ master)) (λ f has. absurd (cc has))
+    (λ f has. absurd (cc has)))
 
 module _ (v : View) (a : Applying v) where
   -- the entry is above what its master told of the row
@@ -64,7 +62,7 @@ module _ (v : View) (a : Applying v) where
       (λ item above.
       all_by (λ other. is_of item.table item.key other ≡ true → other.version < item.version) (items_of list) (λ other at.
       All-contains (λ (x : Held). is_of item.table item.key x ≡ true → x.version < item.version) (items_of (truths v (its_row v a))) other
-      above (within other at))) (items_in (entry v a)) (newest_here v a)
+      above (within other at))) (items_in (entry v a)) (newest_here (serving v a))
 
   -- the records of the first member have the newest of the row, also where that is the master
   items_here : (q : ℕ) (lineage : List Member) → lineage_of (its_row v a).phase ≡ lineage → AreApart lineage → last_of lineage ≡ Some a.waits.last → IfSome (first_of lineage) (λ m. m.master ≡ q)
@@ -75,43 +73,34 @@ module _ (v : View) (a : Applying v) where
       let range : Range = (its_row v a).range in
       let same : only ≡ a.waits.last = cc last in
       let at : only.master ≡ a.master = ap (λ (m : Member). m.master) same ∙ a.waits.here in
-      let from : only.from ≤ place v a = rw same a.waits.from in
       let all : truths v (its_row v a) ≡ member_truth v.written range only ++ [] = ap (lineage_truth v.base v.written range) is in
-      of_records v a (IsTableOf range (member_truth (after v a).written range only)) q
+      put_by v.records a.master (with_item_of (entry v a)) (IsTableOf range (member_truth (after v a).written range only)) q
       (λ _.
       table_inserted range (member_truth v.written range only) (member_truth (after v a).written range only) (v.records q)
-      (a.sound.records.ordered q) old (entry v a) (truth_grows v a range only at from (inside v a))
+      (a.sound.records.ordered q) old (entry v a) (last_takes v a only (ap last_of is)).truth
       (newest_alone (member_truth v.written range only) (λ x there. rw (all ∙ append_nil (member_truth v.written range only)) there))
       (inside v a)) (λ other. absurd (other (sym first ∙ at)))
   items_here q (first ∷ second ∷ []) is apart last at old =
       let same : second ≡ a.waits.last = cc last in
       let here : second.master ≡ a.master = ap (λ (m : Member). m.master) same ∙ a.waits.here in
       let range : Range = (its_row v a).range in
-      of_records v a (IsTableOf range (member_truth (after v a).written range first)) q (λ q_is. absurd (apart (at ∙ q_is ∙ sym here)))
-      (λ _. rw (truth_same v a range first (λ first_is. absurd (apart (first_is ∙ sym here)))) old)
+      put_by v.records a.master (with_item_of (entry v a)) (IsTableOf range (member_truth (after v a).written range first)) q
+      (λ q_is. absurd (apart (at ∙ q_is ∙ sym here)))
+      (λ _. rw (still_beside v a range first (λ first_is. absurd (apart (first_is ∙ sym here)))).truth old)
   items_here q (first ∷ second ∷ third ∷ more) is apart last at old = absurd apart
 
-  -- so they do of each row
-  items_at : (q : ℕ) (other : Row) → Contains v.rows other → has_all_items (post_of other.phase q) (v.handovers q other.tablet) other.term ≡ true → HasItems other v.written (v.records q) → HasItems other (after v a).written ((after v a).records q)
-  items_at q other has all old = elim (row_cases v a other has) [
-    | inl same ↦
-        rw same
-        (items_here q (lineage_of (its_row v a).phase) refl (apart_in v a (its_row v a) a.waits.has_row) a.waits.is_last
-        (has_all_first (its_row v a).phase q (its_row v a).term (v.handovers q (its_row v a).tablet) (rw same at all)) (rw same at old))
-    | inr differs ↦
-        IfSome_then (first_of (lineage_of other.phase)) old (λ member table.
-        let beside : IsTableOf other.range (member_truth (after v a).written other.range member) (v.records q) =
-        rw (truth_same v a other.range member (λ at. outside v a other has differs)) table in
-        of_records v a (IsTableOf other.range (member_truth (after v a).written other.range member)) q
-        (λ at.
-        table_apart other.range (entry v a) (member_truth (after v a).written other.range member) (v.records q)
-        (outside v a other has differs) beside) (λ apart. beside))
-  ]
+  -- so they do of the row, and of each other one
+  pub items_its : (q : ℕ) → has_all_items (post_of (its_row v a).phase q) (v.handovers q (its_row v a).tablet) (its_row v a).term ≡ true → HasItems (its_row v a) v.written (v.records q) → HasItems (its_row v a) (after v a).written ((after v a).records q)
+  items_its q all =
+      items_here q (lineage_of (its_row v a).phase) refl (apart_in v a (its_row v a) a.waits.has_row) a.waits.is_last
+      (has_all_first (its_row v a).phase q (its_row v a).term (v.handovers q (its_row v a).tablet) all)
 
-  pub tables : TablesOf (after v a)
-  tables = record {
-    ordered = λ q.
-        of_records v a IsInScanOrder q (λ at. order_with (entry v a) (v.records q) (a.sound.records.ordered q)) (λ apart. a.sound.records.ordered q);
-    items = λ q alive k d within all.
-        items_at q (slice_index_or v.rows k d) (Contains-get_or v.rows k d within) all (a.sound.records.items q alive k d within all);
-  }
+  pub items_beside : (other : Row) → counts other.range (entry v a) ≡ false → (q : ℕ) → HasItems other v.written (v.records q) → HasItems other (after v a).written ((after v a).records q)
+  items_beside other outside q old =
+      IfSome_then (first_of (lineage_of other.phase)) old (λ member table.
+      let beside : IsTableOf other.range (member_truth (after v a).written other.range member) (v.records q) =
+      rw (still_beside v a other.range member (λ at. outside)).truth table in
+      put_by v.records a.master (with_item_of (entry v a)) (IsTableOf other.range (member_truth (after v a).written other.range member)) q
+      (λ at.
+      table_apart other.range (entry v a) (member_truth (after v a).written other.range member) (v.records q) outside beside)
+      (λ apart. beside))

@@ -1,26 +1,15 @@
--- The journal and the truths of rows once the entry of a call is applied: the call has its record, and the truth of its row the entry,
--- which leave the same.
-use Rattle.std.proofs.Common.{◌≡◌, ℕ, ◌<◌, true, false, ◌&&◌, eqb, List, [], ◌∷◌, ◌++◌, Option, Some, None, refl, sym, ap, ◌∙◌, subst}
-use Rattle.std.proofs.Common.{⊎_elim, arith, bytes_eq, slice_index_or, IfSome, option_map, Contains, inl, inr}
-use Rattle.rk_inv_base.proofs.Words.{cases_Bool, cond-true, cond-false, false≢true, false_from_ne_true, flat_map-append, All-contains}
-use Rattle.rk_inv_base.proofs.Words.{All-head, All-push, Contains-get_or, get, Call, Outcome, Held, Placed, Member, legal_push}
-use Rattle.rk_inv_base.proofs.Words.{map_after-append, is_at_parts, name-swap, IsLegal, Map, is_at, map_after, map_with, with_change, Entry}
-use Rattle.rk_inv_base.proofs.Words.{lineage_of, Phase, Owned, Opening, Moving, Rebuilding, Row, newest_is, newer_item, newest_from-append}
-use Rattle.rk_inv_base.proofs.Words.{with_newer_here, with_newer_other, is_of_from, is_of_parts, record_of, is_of, newest, none_found}
-use Rattle.rk_inv_base.proofs.Words.{base_map, map_entry_of, Handed, items_in, items_of, next_record, seen_of, last_of, counts, has_key}
-use Rattle.rk_inv_base.proofs.Words.{member_truth, LastCall, beginning_in, target_truth, AreAbove, IsAboveAll, IsEntryOf, IsAfterSeen}
-use Rattle.rk_inv_base.proofs.Words.{IsTruth, View, truths, rests, TruthOf}
-use Rattle.rk_model.proofs.Keys.{map_with-other}
+-- What the entry of a call leaves of a truth, wherever it stands there: what the call leaves of the map.
+use Rattle.std.proofs.Common.{◌≡◌, ℕ, ◌<◌, true, false, ◌&&◌, eqb, List, [], ◌∷◌, ◌++◌, Some, refl, sym, ap, ◌∙◌, ⊎_elim, bytes_eq}
+use Rattle.rk_inv_base.proofs.Words.{cases_Bool, cond-true, cond-false, flat_map-append, All-contains, All-head, Call, Held, name-swap, Map}
+use Rattle.rk_inv_base.proofs.Words.{with_change, Entry, newest_is, newer_item, newest_from-append, with_newer_here, with_newer_other}
+use Rattle.rk_inv_base.proofs.Words.{is_of_from, is_of_parts, record_of, is_of, newest, none_found, map_entry_of, items_in, items_of}
+use Rattle.rk_inv_base.proofs.Words.{IsAboveAll, IsEntryOf}
+use Rattle.rk_inv_logs.proofs.Words.{record_put, append_nil}
 use Rattle.rk_model.specs.History.{record_of as map_record_of, with_entry}
-use Rattle.rk_entry.specs.declared.entry.Entry.TheVariants as entries
 use Rattle.rk_overlay.specs.Live.{live as live_items}
-use Rattle.rk_inv_base.proofs.calls.Histories.{record_put}
-use Rattle.rk_inv_base.proofs.calls.MoreRecords.{rising_push}
-use Rattle.rk_inv_base.proofs.logs.Shares.{append_nil}
-use Rattle.rk_inv_logs.proofs.apply.Inserted.{AreNewest, IsInserted, above_first, inserted_behind, newest_inserted, plain_inserted}
-use Rattle.rk_inv_logs.proofs.apply.Applying.{Applying, after, allowed, by_row, change_by, entry, inside, its_row, key_outside, leaves, new}
-use Rattle.rk_inv_logs.proofs.apply.Applying.{outside, rest_here, row_cases, truth_grows, truth_here, truth_same}
-use Rattle.rk_inv_logs.proofs.apply.OfRow.{row_true}
+use Rattle.rk_entry.specs.declared.entry.Entry.TheVariants as entries
+use Rattle.rk_inv_logs.proofs.apply.Applying.{change_by}
+use Rattle.rk_inv_logs.proofs.apply.Inserted.{AreNewest, IsInserted, newest_inserted}
 
 -- ---- what an item leaves
 
@@ -70,128 +59,3 @@ module _ (map : Map) (truth : List Entry) (call : Call) (table : ℕ) (key : Lis
 pub live_inserted : (old now : List Entry) (entry : Entry) → IsInserted entry old now → AreNewest old entry → (table : ℕ) (key : List ℕ) → live_items (items_of now) table key ≡ live_items (items_of (old ++ entry ∷ [])) table key
 live_inserted old now entry put above table key = ap (λ (l : List Entry). live_items (items_of l) table key) (sym (append_nil now))
     ∙ ap record_of (newest_inserted old now entry [] put above table key)
-
--- what a client had seen is below the stamp of its record
-after_seen : (last : Option LastCall) (journal : List Placed) (call : Call) (outcome : Outcome) → IsAfterSeen last (next_record journal call outcome (seen_of last))
-after_seen None journal call outcome = tt
-after_seen (Some last) journal call outcome = λ same. omega arith
-
-module _ (v : View) (a : Applying v) where
-  -- the map that the journal left, and leaves now
-  abbrev pub map_was : Map
-  map_was = map_after (base_map v.base) v.journal
-
-  abbrev pub map_now : Map
-  map_now = map_after (base_map v.base) (after v a).journal
-
-  pub map_with_new : ◌≡◌ {A = Map} (map_now) (map_with map_was (new v a))
-  map_with_new = map_after-append (base_map v.base) v.journal (new v a ∷ [])
-
-  pub map_is : ◌≡◌ {A = Map} (map_now) (with_change map_was a.call.table a.call.key (change_by (entry v a)))
-  map_is = map_with_new ∙ ap (with_change map_was a.call.table a.call.key) (leaves v a)
-
-  -- the key of the call is of no other row
-  pub key_apart : (other : Row) → Contains v.rows other → (other.tablet ≡ (its_row v a).tablet → ⊥) → (table : ℕ) (key : List ℕ) → has_key other.range table key ≡ true → is_at table key (new v a) ≡ false
-  key_apart other has differs table key within =
-      false_from_ne_true (is_at table key (new v a)) (λ here.
-      let parts = is_at_parts table key (new v a) here in
-      false≢true (sym (key_outside v a other has differs) ∙ (λ i. has_key other.range (parts.0 i) (parts.1 i)) ∙ within))
-
-  -- so the map has there what it had
-  pub map_beside : (other : Row) → Contains v.rows other → (other.tablet ≡ (its_row v a).tablet → ⊥) → (table : ℕ) (key : List ℕ) → has_key other.range table key ≡ true → map_now table key ≡ map_was table key
-  map_beside other has differs table key within =
-      ap (λ (m : Map). m table key) map_with_new ∙ map_with-other map_was (new v a) table key (key_apart other has differs table key within)
-
-  -- the entry is above all of the row
-  pub newest_here : AreNewest (truths v (its_row v a)) (entry v a)
-  newest_here =
-      (above_first (truths v (its_row v a)) (rests (after v a) (its_row v a)) (entry v a)
-      (rw (rest_here v a) at
-      (All-contains (λ (r : Row). AreAbove (items_of (truths v r)) (items_of (rests v r))) v.rows (its_row v a) a.sound.order.above
-      a.waits.has_row))).0
-
-  pub legal_now : IsLegal (base_map v.base) (after v a).journal
-  legal_now = legal_push (base_map v.base) v.journal (new v a) a.sound.truth.legal (allowed v a)
-
-  its_truth : IsTruth v.base (its_row v a).range (truths (after v a) (its_row v a)) (after v a).journal
-  its_truth =
-      let row : Row = its_row v a in
-      let was : IsTruth v.base row.range (truths v row) v.journal = row_true v a.sound row a.waits.has_row in
-      record {
-        plain = plain_inserted (truths v row) (truths (after v a) row) (entry v a) (truth_here v a) newest_here was.plain;
-        live = λ table key within.
-            live_inserted (truths v row) (truths (after v a) row) (entry v a) (truth_here v a) newest_here table key
-            ∙ live_last map_was (truths v row) a.call table key (entry v a) a.waits.own newest_here (was.live table key within)
-            ∙ ap (λ (m : Map). map_record_of (m table key)) (sym map_is);
-      }
-
-  pub truth : TruthOf (after v a) (truths (after v a))
-  truth = record {
-    legal = legal_now;
-    rising = rising_push 0 v.journal (new v a) a.sound.truth.rising (omega arith);
-    seen = All-push (λ placed. IsAfterSeen (v.asked placed.call.client) placed) v.journal (new v a) a.sound.truth.seen
-        (after_seen (v.asked a.call.client) v.journal a.call (new v a).outcome);
-    true = λ k d within.
-        let row : Row = slice_index_or v.rows k d in
-        let has : Contains v.rows row = Contains-get_or v.rows k d within in
-        by_row v a (λ r truth rest. IsTruth v.base r.range truth (after v a).journal) row has its_truth (λ differs.
-        let was = a.sound.truth.true k d within in
-        record {
-          plain = was.plain;
-          live = λ table key inside. was.live table key inside ∙ ap map_record_of (sym (map_beside row has differs table key inside));
-        });
-  }
-
-  -- ---- the target of a row that moves
-
-  abbrev at_target : ℕ → ℕ → Member
-  at_target target dfrom = record { master = target; from = dfrom }
-
-  module _ (Old New : Row → List Entry → Type 0) where
-    -- has the entry too, where it is of the row
-    moving_here : ((old now : List Entry) → IsInserted (entry v a) old now → Old (its_row v a) old → New (its_row v a) now) → (phase : Phase) → (its_row v a).phase ≡ phase
-        → IfSome (target_truth v.written v.handed (its_row v a) phase) (Old (its_row v a)) → IfSome (target_truth (after v a).written v.handed (its_row v a) phase) (New (its_row v a))
-    moving_here gives (Moving source sfrom target dfrom) is told = of_handed (get v.handed (its_row v a).tablet) told
-      where
-        grows : IsInserted (entry v a) (member_truth v.written (its_row v a).range (at_target target dfrom)) (member_truth (after v a).written (its_row v a).range (at_target target dfrom))
-        grows =
-            let ends : Some (at_target target dfrom) ≡ Some a.waits.last = ap (λ (p : Phase). last_of (lineage_of p)) (sym is) ∙ a.waits.is_last in
-            let same : at_target target dfrom ≡ a.waits.last = cc ends in
-            subst (λ (m : Member). IsInserted (entry v a) (member_truth v.written (its_row v a).range m) (member_truth (after v a).written (its_row v a).range m))
-            (sym same)
-            (truth_grows v a (its_row v a).range a.waits.last a.waits.here a.waits.from inside_row)
-          where
-            inside_row : counts (its_row v a).range (entry v a) ≡ true
-            inside_row = inside v a
-
-        of_handed : (handed : Option Handed)
-            → IfSome (option_map (λ h. beginning_in (its_row v a) h ∷ member_truth v.written (its_row v a).range (at_target target dfrom)) handed) (Old (its_row v a))
-            → IfSome (option_map (λ h. beginning_in (its_row v a) h ∷ member_truth (after v a).written (its_row v a).range (at_target target dfrom)) handed) (New (its_row v a))
-        of_handed None old = tt
-        of_handed (Some h) old = gives (beginning_in (its_row v a) h ∷ member_truth v.written (its_row v a).range (at_target target dfrom))
-            (beginning_in (its_row v a) h ∷ member_truth (after v a).written (its_row v a).range (at_target target dfrom))
-            (inserted_behind (entry v a) (member_truth v.written (its_row v a).range (at_target target dfrom))
-            (member_truth (after v a).written (its_row v a).range (at_target target dfrom)) grows (beginning_in (its_row v a) h ∷ [])) old
-    moving_here gives _ is old = tt
-
-    -- and else what it had
-    moving_beside : (other : Row) → counts other.range (entry v a) ≡ false → ((list : List Entry) → Old other list → New other list) → (phase : Phase)
-        → IfSome (target_truth v.written v.handed other phase) (Old other) → IfSome (target_truth (after v a).written v.handed other phase) (New other)
-    moving_beside other beside gives (Moving source sfrom target dfrom) told = of_handed (get v.handed other.tablet) told
-      where
-        of_handed : (handed : Option Handed)
-            → IfSome (option_map (λ h. beginning_in other h ∷ member_truth v.written other.range (at_target target dfrom)) handed) (Old other)
-            → IfSome (option_map (λ h. beginning_in other h ∷ member_truth (after v a).written other.range (at_target target dfrom)) handed) (New other)
-        of_handed None old = tt
-        of_handed (Some h) old =
-            subst (λ (l : List Entry). New other (beginning_in other h ∷ l)) (sym (truth_same v a other.range (at_target target dfrom) (λ at. beside)))
-            (gives (beginning_in other h ∷ member_truth v.written other.range (at_target target dfrom)) old)
-    moving_beside other beside gives _ old = tt
-
-    pub of_moving : (other : Row) → Contains v.rows other → ((old now : List Entry) → IsInserted (entry v a) old now → Old (its_row v a) old → New (its_row v a) now)
-        → ((other.tablet ≡ (its_row v a).tablet → ⊥) → (list : List Entry) → Old other list → New other list)
-        → IfSome (target_truth v.written v.handed other other.phase) (Old other) → IfSome (target_truth (after v a).written v.handed other other.phase) (New other)
-    of_moving other has here beside = elim (row_cases v a other has) [
-      | inl same ↦ rw same (moving_here here (its_row v a).phase refl)
-      | inr differs ↦ moving_beside other (outside v a other has differs) (beside differs) other.phase
-    ]

@@ -1,41 +1,40 @@
--- The next entry of a master's log is applied: what is asked of it beside its rows and records, and the parts of who has what, of targets,
--- of rebuilds and of messages.
+-- The law of entries that are applied: a view stays sound when the next entry of a master's log is, where what counts for each row tells
+-- its history then, and what is said beside the rows is so. What is asked beside it of the entry, and what follows for targets, for
+-- rebuilds and for messages, is the same whatever it tells.
 use Rattle.std.proofs.Common.{◌≡◌, ℕ, ◌+◌, true, false, List, [], ◌∷◌, Some, refl, sym, ap, ◌∙◌, subst, inl, inr, ◌⊎◌, arith, ◌≤◌, ◌<◌}
-use Rattle.std.proofs.Common.{Contains, All, IfSome, slice_get, slice_index_or}
-use Rattle.rk_inv_base.proofs.Words.{All-contains, Contains-get_or, All-cons, All-nil, IfSome_then, get_or_from_slice_get, slice_get_within}
-use Rattle.rk_inv_base.proofs.Words.{get, Ended, Held, Member, Node, Range, Entry, Completions, completions_from, Handover, Role}
-use Rattle.rk_inv_base.proofs.Words.{lineage_of, Phase, Owned, Opening, Moving, Rebuilding, Row, known_of, committed, EntryEnd, Transfer}
-use Rattle.rk_inv_base.proofs.Words.{Body, Got, Pulled, CopySegment, Rebuilt, items_in, items_of, by_member, counts, merge, own_place}
-use Rattle.rk_inv_base.proofs.Words.{is_absent, Written, member_material, member_truth, Mark, Merged, MayApply, IsEntryWithin, IsItemWithin}
-use Rattle.rk_inv_base.proofs.Words.{is_wanting, stored_of, CopyIn, GotAgrees, IsOf, JoinedIn, PulledAgrees, RebuiltIn, SaysOf, HasJoined}
-use Rattle.rk_inv_base.proofs.Words.{HasRebuilt, TransferIn, post_of, bond_of, Holds, IsRebuilder, MarkFits, MarkedFit, NeededOf}
-use Rattle.rk_inv_base.proofs.Words.{READ_BACKUP, RowIsRebuilt, applied_from, merged_place, IsPieceOf, IsBare, IsFound, IsTarget}
-use Rattle.rk_inv_base.proofs.Words.{MembersFit, NamedFit, is_granted, wanted_place, named_items, View, truths, SoundView, CoverOf, LogsOf}
-use Rattle.rk_inv_base.proofs.Words.{RolesOf}
-use Rattle.rk_entry.specs.declared.entry.Entry.TheVariants as entries
-use Rattle.rk_inv_logs.proofs.apply.ItemPut.{found_with, item_cases, item_counts, item_found}
-use Rattle.rk_inv_logs.proofs.apply.TargetApplied.{StandsBehind, target_applied}
-use Rattle.rk_inv_logs.specs.apply.Small.{with_item_of, entry_applied, with_one_applied}
-use Rattle.rk_inv_base.proofs.views.Lists.{all_by}
-use Rattle.rk_inv_base.proofs.wire.Messages.{by_master, if_master}
-use Rattle.rk_inv_base.proofs.views.Needed.{part_weaker, rebuilder_weaker}
-use Rattle.rk_inv_base.proofs.views.Put.{put_by}
-use Rattle.rk_inv_base.proofs.calls.Records.{newer_cases}
-use Rattle.rk_message.specs.declared.message.Body.TheVariants as bodies
+use Rattle.std.proofs.Common.{Contains, All, IfSome, slice_get, slice_index_or, Option, None, ◌++◌, drop, max, option_map}
+use Rattle.rk_inv_base.proofs.Words.{All-contains, All-cons, All-nil, IfSome_then, get_or_from_slice_get, slice_get_within, get, Ended}
+use Rattle.rk_inv_base.proofs.Words.{Held, Member, Node, Range, Entry, Completions, completions_from, Handover, Role, lineage_of, Phase}
+use Rattle.rk_inv_base.proofs.Words.{Opening, Moving, Rebuilding, Row, known_of, committed, EntryEnd, Transfer, Body, Got, Pulled}
+use Rattle.rk_inv_base.proofs.Words.{CopySegment, Rebuilt, items_in, items_of, by_member, merge, own_place, is_absent, Written}
+use Rattle.rk_inv_base.proofs.Words.{member_material, member_truth, Mark, Merged, MayApply, IsEntryWithin, IsItemWithin, is_wanting}
+use Rattle.rk_inv_base.proofs.Words.{stored_of, CopyIn, GotAgrees, IsOf, JoinedIn, PulledAgrees, RebuiltIn, SaysOf, HasJoined, HasRebuilt}
+use Rattle.rk_inv_base.proofs.Words.{TransferIn, post_of, bond_of, Holds, IsRebuilder, MarkFits, MarkedFit, NeededOf, READ_BACKUP}
+use Rattle.rk_inv_base.proofs.Words.{RowIsRebuilt, merged_place, IsPieceOf, IsBare, IsFound, IsTarget, MembersFit, NamedFit, is_granted}
+use Rattle.rk_inv_base.proofs.Words.{wanted_place, named_items, View, truths, SoundView, CoverOf, LogsOf, Call, NumberMap, Placed, IsKnown}
+use Rattle.rk_inv_base.proofs.Words.{IsStagedEnd, told, IsInScanOrder, Waits, EachIn, AreAboveMap, AreHandedOver, FirstIsDone, HandedFits}
+use Rattle.rk_inv_base.proofs.Words.{Handed, HasItems, OnlyIsUnnamed, ReachAll, TellAll, base_map, beginning_in, ends_of, floor_of}
+use Rattle.rk_inv_base.proofs.Words.{handed_by, handed_for_grant, has_all_items, is_joined_in, joined_from, last_of, list_any, map_after}
+use Rattle.rk_inv_base.proofs.Words.{rests, target_truth, touches}
+use Rattle.rk_inv_logs.proofs.Words.{all_by, by_master, if_master, part_weaker, rebuilder_weaker, put_by, newer_cases, Bond, Closed, Both}
+use Rattle.rk_inv_logs.proofs.Words.{Either, IsGatherOf, CountsFor, SoundBeside, SoundRow, SpeaksFor, row_in, view_by_rows, TellHistory}
 use Rattle.rk_outside.specs.Segments.{bytes_of as copied_bytes}
-use Rattle.rk_sound.specs.Posts.{Bond, Closed, Both, Either}
-use Rattle.rk_sound.specs.Rebuilds.{IsGatherOf, Rebuilds}
 use Rattle.rk_tablet_map.specs.Phase.{member as member_at}
+use Rattle.rk_inv_base.proofs.views.ByRows.{IsNextOf}
+use Rattle.rk_entry.specs.declared.entry.Entry.TheVariants as entries
+use Rattle.rk_message.specs.declared.message.Body.TheVariants as bodies
 use Rattle.rk_transfer.specs.declared.role.Role.TheVariants as roles
+use Rattle.rk_inv_logs.proofs.apply.Members as members
+use Rattle.rk_inv_logs.proofs.apply.ItemPut.{found_with, item_cases, item_counts, item_found, order_with}
+use Rattle.rk_inv_logs.specs.apply.Small.{with_item_of, entry_applied, with_one_applied}
+use Rattle.rk_inv_logs.proofs.apply.TargetApplied.{HasApplied, StandsBehind, target_applied}
+use Rattle.rk_inv_logs.proofs.apply.Members.{IsStill, after_apart, after_here, stands_at}
+use Rattle.rk_inv_logs.proofs.apply.NextEntry.{none_fewer, none_from}
 
 -- ---- data
 
--- what holds of one more applied entry, and of as many as were, holds of each master
-pub of_one_applied : (written : ℕ → Written) (master : ℕ) (P : ℕ → Type 0) (q : ℕ) → (q ≡ master → P ((written q).applied + 1)) → ((q ≡ master → ⊥) → P (written q).applied) → P (with_one_applied written master q).applied
-of_one_applied written master P q here was = put_by (λ r. (written r).applied) master (λ n. n + 1) P q here was
-
 -- what holds of records and of the item of an entry holds of the records with it
-pub all_with : (P : Held → Type 0) (entry : Entry) (records : List Held) → All P records → All P (items_in entry) → All P (with_item_of entry records)
+all_with : (P : Held → Type 0) (entry : Entry) (records : List Held) → All P records → All P (items_in entry) → All P (with_item_of entry records)
 all_with P (entries.Held held) records old new =
     all_by P (with_item_of (entries.Held held) records) (λ x stands. elim (newer_cases held records x stands) [
       | inl is ↦ rw is at (All-contains P (held ∷ []) held new (0, omega arith, refl))
@@ -44,12 +43,12 @@ all_with P (entries.Held held) records old new =
 all_with P _ records old new = old
 
 -- the item of an entry that lies in rows lies there
-pub item_within : (rows : List Row) (entry : Entry) → IsEntryWithin rows entry → All (IsItemWithin rows) (items_in entry)
+item_within : (rows : List Row) (entry : Entry) → IsEntryWithin rows entry → All (IsItemWithin rows) (items_in entry)
 item_within rows (entries.Held held) within = All-cons (IsItemWithin rows) held [] within (All-nil (IsItemWithin rows))
 item_within rows _ within = All-nil (IsItemWithin rows)
 
 -- a bond holds with more applied
-pub holds_more : (bond : Bond) (term own few many : ℕ) → few ≤ many → Holds bond term own few → Holds bond term own many
+holds_more : (bond : Bond) (term own few many : ℕ) → few ≤ many → Holds bond term own few → Holds bond term own many
 holds_more (Closed entry) term own few many more holds = let closed : entry < few = holds in omega (arith, closed, more)
 holds_more (Both one other) term own few many more holds =
     (holds_more one term own few many more holds.0, holds_more other term own few many more holds.1)
@@ -69,12 +68,12 @@ rebuilt_more (roles.Rebuilding from (Some closing)) few many place more has =
     let below : closing < few = has.0 in (omega (arith, below, more), has.1)
 rebuilt_more role few many place more has = has
 
-pub joined_says : (phase : Phase) (handover : Handover) (few many term master : ℕ) → few ≤ many → JoinedIn phase handover few term master → JoinedIn phase handover many term master
+joined_says : (phase : Phase) (handover : Handover) (few many term master : ℕ) → few ≤ many → JoinedIn phase handover few term master → JoinedIn phase handover many term master
 joined_says (Moving source sfrom target dfrom) handover few many term master more says =
     (says.0, says.1, joined_more handover.role few many more says.2)
 joined_says phase handover few many term master more says = says
 
-pub rebuilt_says : (phase : Phase) (handover : Handover) (ends : List Ended) (few many term master : ℕ) (rebuilt : Rebuilt) → few ≤ many → RebuiltIn phase handover ends few term master rebuilt → RebuiltIn phase handover ends many term master rebuilt
+rebuilt_says : (phase : Phase) (handover : Handover) (ends : List Ended) (few many term master : ℕ) (rebuilt : Rebuilt) → few ≤ many → RebuiltIn phase handover ends few term master rebuilt → RebuiltIn phase handover ends many term master rebuilt
 rebuilt_says (Rebuilding lineage to) handover ends few many term master rebuilt more says =
     (says.0, says.1, rebuilt_more handover.role few many rebuilt.place more says.2, says.3)
 rebuilt_says phase handover ends few many term master rebuilt more says = says
@@ -82,7 +81,7 @@ rebuilt_says phase handover ends few many term master rebuilt more says = says
 -- ---- what has to be read
 
 -- the same is needed however much is applied
-pub needs_same : (v : View) (master : ℕ) (row : Row) (lineage : List Member) (q : ℕ) (end : EntryEnd) → NeededOf row (with_one_applied v.written master) lineage q end → NeededOf row v.written lineage q end
+needs_same : (v : View) (master : ℕ) (row : Row) (lineage : List Member) (q : ℕ) (end : EntryEnd) → NeededOf row (with_one_applied v.written master) lineage q end → NeededOf row v.written lineage q end
 needs_same v master row (first ∷ last ∷ []) q end needed =
     let needs = needed.1 in (
       needed.0,
@@ -96,12 +95,12 @@ needs_same v master row (first ∷ last ∷ []) q end needed =
 needs_same v master row _ q end needed = needed
 
 -- what waits for its grant is not absent
-pub waiting_so : (role : Role) (P Q : ℕ → Type 0) → (is_wanting role ≡ true → is_absent role ≡ false → (from : ℕ) → P from → Q from) → IfSome (wanted_place role) P → IfSome (wanted_place role) Q
+waiting_so : (role : Role) (P Q : ℕ → Type 0) → (is_wanting role ≡ true → is_absent role ≡ false → (from : ℕ) → P from → Q from) → IfSome (wanted_place role) P → IfSome (wanted_place role) Q
 waiting_so (roles.Wanting from) P Q so holds = so refl refl from holds
 waiting_so role P Q so holds = tt
 
 -- the piece of a rebuild is the same however much is applied
-pub piece_same : (number from : ℕ) (handover : Handover) (merged : Merged) (w : Written) (closing applied : ℕ) → IsPieceOf number from handover merged w closing → IsPieceOf number from handover merged (record w { applied = applied }) closing
+piece_same : (number from : ℕ) (handover : Handover) (merged : Merged) (w : Written) (closing applied : ℕ) → IsPieceOf number from handover merged w closing → IsPieceOf number from handover merged (record w { applied = applied }) closing
 piece_same number from handover merged w closing applied piece = record {
   mark = piece.mark;
   marked = piece.marked;
@@ -116,35 +115,27 @@ piece_same number from handover merged w closing applied piece = record {
 
 -- ---- the entry
 
--- what is applied of a master's own entries of a range, with one more: it has what it had, and beside it the entry's item or what is found
-pub record HasApplied (range : Range) (from : ℕ) (w : Written) (entry : Entry) (records : List Held) : Type 0 where
-  pub still :
-      (x : Held) → Contains (items_of (applied_from range from w)) x
-      → Contains (items_of (applied_from range from (record w { applied = w.applied + 1 }))) x
-  pub new :
-      counts range entry ≡ true → (x : Held) → Contains (items_in entry) x
-      → Contains (items_of (applied_from range from (record w { applied = w.applied + 1 }))) x
-  pub cases :
-      (x : Held) → Contains (items_of (applied_from range from (record w { applied = w.applied + 1 }))) x
-      → Contains (items_in entry) x ⊎ Contains (items_of (applied_from range from w)) x ⊎ IsFound records x
-
 -- where the master has nothing of the range of a tablet, it has nothing with the item of an entry
 abbrev pub StaysBare : View → ℕ → Entry → ℕ → Type 0
 StaysBare v master entry tablet =
     (from : ℕ) (w : Written) → IsBare (v.handovers master tablet).range from w (v.records master)
     → IsBare (v.handovers master tablet).range from w (with_item_of entry (v.records master))
 
--- the next entry of a master's log is applied, in a sound view: what is asked of it, and the last ends that masters keep then
+-- the next entry of a master's log is applied, in a sound view, with the calls that wait then, the last ends that masters keep, and the
+-- journal
 pub record Applies (v : View) : Type 0 where
   pub master : ℕ
   pub entry : Entry
   pub sound : SoundView v
   pub held : MayApply v master
   pub stands : slice_get (v.written master).entries (v.written master).applied ≡ Some entry
+  pub calls : ℕ → NumberMap Call
+  pub kept : ℕ → ℕ → Completions
+  pub journal : List Placed
   -- the first of two members has what it had
   pub firsts :
       (row : Row) → Contains v.rows row → (first second : Member) (more : List Member) → lineage_of row.phase ≡ first ∷ second ∷ more
-      → member_truth (with_one_applied v.written master) row.range first ≡ member_truth v.written row.range first
+      → IsStill v.written (with_one_applied v.written master) row.range first
   -- an item of a row stands behind the place of the target that was granted it, and a master that waits for a grant has none of it
   pub granted :
       (row : Row) → Contains v.rows row → (first last : Member) → lineage_of row.phase ≡ first ∷ last ∷ [] → last.master ≡ master
@@ -153,10 +144,7 @@ pub record Applies (v : View) : Type 0 where
   pub wanted :
       (tablet : ℕ) → is_wanting (v.handovers master tablet).role ≡ true → is_absent (v.handovers master tablet).role ≡ false
       → StaysBare v master entry tablet
-  -- what the truth of a row has it has still, and so has what the master rebuilds
-  pub still :
-      (row : Row) → Contains v.rows row → (x : Held) → Contains (items_of (truths v row)) x
-      → Contains (items_of (truths (entry_applied v master entry) row)) x
+  -- what the master rebuilds has what it had
   pub own :
       (row : Row) → Contains v.rows row → (lineage : List Member) → row.phase ≡ Rebuilding lineage master
       → (v.handovers master row.tablet).term ≡ row.term
@@ -164,7 +152,6 @@ pub record Applies (v : View) : Type 0 where
       → IsFound (v.records master) x)
       → HasApplied row.range (own_place (v.handovers master row.tablet).role) (v.written master) entry (v.records master)
   -- the last ends that are kept are those of what was merged still, and those of frozen sources, and of other masters
-  pub kept : ℕ → ℕ → Completions
   pub others : (q tablet : ℕ) → (q ≡ master → ⊥) → kept q tablet ≡ v.completions q tablet
   pub merged :
       (row : Row) → Contains v.rows row → (lineage : List Member) → row.phase ≡ Rebuilding lineage master
@@ -178,15 +165,78 @@ pub record Applies (v : View) : Type 0 where
   pub frozen :
       (q tablet : ℕ) → (v.handovers q tablet).role ≡ roles.Frozen → kept q tablet ≡ v.completions q tablet
 
+-- what is to be shown of a row: what counts for it tells its history, and so will what a target has once its source is forgotten. No item
+-- is lost, and no floor rises; who answers, and what is handed over, tells all of it; and the records of the first member have the newest
+pub record Tells (v now : View) (row : Row) : Type 0 where
+  pub history : TellHistory v.base row.range (truths now row) (rests now row) now.journal v.asked
+  pub moving : IfSome (target_truth now.written v.handed row row.phase) (TellAll row.range now.journal)
+  pub low_moving :
+      IfSome (target_truth now.written v.handed row row.phase) (AreAboveMap row.range (map_after (base_map v.base) now.journal))
+  pub still : (x : Held) → Contains (items_of (truths v row)) x → Contains (items_of (truths now row)) x
+  pub floor : floor_of (truths now row ++ rests now row) ≤ floor_of (truths v row ++ rests v row)
+  pub answering :
+      (q : ℕ) → CountsFor v row q → SpeaksFor v row q → ReachAll row.range now.journal (ends_of (now.completions q row.tablet))
+  pub ends_granted : IfSome (handed_for_grant row v.handovers v.handed) (λ h. AreHandedOver v.base row.range now.journal h.ends)
+  pub ends_sent : EachIn (λ n m. IfSome (handed_by row v.handovers m.body) (λ h. AreHandedOver v.base row.range now.journal h.ends)) v.wire
+  pub items :
+      (q : ℕ) → v.live q ≡ true → has_all_items (post_of row.phase q) (v.handovers q row.tablet) row.term ≡ true
+      → HasItems row now.written (now.records q)
+  pub handed_on : HandedFits row v.handovers now.completions v.handed (lineage_of row.phase)
+
+-- what a target has once its source is forgotten: what follows of it for any last member follows
+pub of_target : (v : View) (written : ℕ → Written) (row : Row) (P Q : List Entry → Type 0)
+    → ((last : Member) → last_of (lineage_of row.phase) ≡ Some last → (front : List Entry) → P (front ++ member_truth v.written row.range last) → Q (front ++ member_truth written row.range last))
+    → (phase : Phase) → row.phase ≡ phase → IfSome (target_truth v.written v.handed row phase) P → IfSome (target_truth written v.handed row phase) Q
+of_target v written row P Q gives (Moving source sfrom target dfrom) is old = of_handed (get v.handed row.tablet) old
+  where
+    of_handed : (handed : Option Handed)
+        → IfSome (option_map (λ h. beginning_in row h ∷ member_truth v.written row.range (member_at target dfrom)) handed) P
+        → IfSome (option_map (λ h. beginning_in row h ∷ member_truth written row.range (member_at target dfrom)) handed) Q
+    of_handed None old = tt
+    of_handed (Some h) old = gives (member_at target dfrom) (ap (λ (p : Phase). last_of (lineage_of p)) is) (beginning_in row h ∷ []) old
+of_target v written row P Q gives _ is old = old
+
+-- an end is known by the journal, or staged of a row that a master rebuilds
+abbrev pub IsKnownIn : View → View → ℕ → ℕ → Ended → Type 0
+IsKnownIn v now q r end = IsKnown v.base now.journal end ⊎ IsStagedEnd v.rows (rests now) q r (v.handovers q r).term end
+
+pub end_then : (v now : View) (q r : ℕ) (end : Ended) → (IsKnown v.base v.journal end → IsKnown v.base now.journal end)
+    → ((row : Row) → Contains v.rows row → Contains (told (rests v row)) end → IsKnown v.base now.journal end ⊎ Contains (told (rests now row)) end)
+    → IsKnownIn v v q r end → IsKnownIn v now q r end
+end_then v now q r end known staged is = elim is [
+  | inl was ↦ inl (known was)
+  | inr s ↦ elim (staged s.row s.stands s.told) [
+    | inl told ↦ inl told
+    | inr there ↦
+        inr
+        (record {
+          row = s.row;
+          stands = s.stands;
+          told = there;
+          number = s.number;
+          rebuilt = s.rebuilt;
+          at_term = s.at_term;
+        })
+  ]
+]
+
 module _ (v : View) (b : Applies v) where
   abbrev pub now : View
-  now = entry_applied v b.master b.entry
+  now = record (entry_applied v b.master b.entry) { calls = b.calls; completions = b.kept; journal = b.journal }
 
   pub of_applied : (P : ℕ → Type 0) (q : ℕ) → (q ≡ b.master → P ((v.written q).applied + 1)) → ((q ≡ b.master → ⊥) → P (v.written q).applied) → P (now.written q).applied
-  of_applied P q here was = put_by (λ r. (v.written r).applied) b.master (λ n. n + 1) P q here was
+  of_applied = members.of_applied v.written b.master b.entry b.stands
 
-  pub of_records : (P : List Held → Type 0) (q : ℕ) → (q ≡ b.master → P (with_item_of b.entry (v.records q))) → ((q ≡ b.master → ⊥) → P (v.records q)) → P (now.records q)
+  of_records : (P : List Held → Type 0) (q : ℕ) → (q ≡ b.master → P (with_item_of b.entry (v.records q))) → ((q ≡ b.master → ⊥) → P (v.records q)) → P (now.records q)
   of_records P q here was = put_by v.records b.master (with_item_of b.entry) P q here was
+
+  -- what a master has written, and its records, with the entry or without it
+  of_both : (P : Written → List Held → Type 0) (q : ℕ) → (q ≡ b.master → P (record (v.written q) { applied = (v.written q).applied + 1 }) (with_item_of b.entry (v.records q))) → ((q ≡ b.master → ⊥) → P (v.written q) (v.records q)) → P (now.written q) (now.records q)
+  of_both P q here was =
+      of_records (P (now.written q)) q
+      (λ at. subst (λ (w : Written). P w (with_item_of b.entry (v.records q))) (sym (after_here v.written b.master b.entry b.stands q at))
+      (here at))
+      (λ apart. subst (λ (w : Written). P w (v.records q)) (sym (after_apart v.written b.master b.entry b.stands q apart)) (was apart))
 
   pub applied_grows : (q : ℕ) → (v.written q).applied ≤ (now.written q).applied
   applied_grows q = of_applied (λ n. (v.written q).applied ≤ n) q (λ at. omega arith) (λ apart. omega arith)
@@ -215,18 +265,6 @@ module _ (v : View) (b : Applies v) where
     wholes = b.sound.cover.wholes;
   }
 
-  pub roles_now : RolesOf now
-  roles_now = record {
-    fitting = λ q k d within counts.
-        let row : Row = slice_index_or v.rows k d in
-        let kept = v.handovers q row.tablet in
-        holds_more (bond_of (post_of row.phase q) kept.role) row.term kept.term (v.written q).applied (now.written q).applied
-        (applied_grows q) (b.sound.roles.fitting q k d within counts);
-    ranged = b.sound.roles.ranged;
-    at_term = b.sound.roles.at_term;
-    known = b.sound.roles.known;
-  }
-
   pub logs_now : LogsOf now
   logs_now = record {
     each = λ q.
@@ -238,39 +276,33 @@ module _ (v : View) (b : Applies v) where
 
   -- ---- targets
 
-  abbrev IsTargetOf : Row → Member → Member → List Entry → Written → List Held → Type 0
-  IsTargetOf other first last truth w records = IsTarget other.range first.master truth (member_material v.written other.range first)
-      last.from w (v.handovers last.master other.tablet) (v.pullings last.master other.tablet) (get v.handed other.tablet) records
-
   target_at : (other : Row) → Contains v.rows other → (first last : Member) → lineage_of other.phase ≡ first ∷ last ∷ [] → is_granted (v.handovers last.master other.tablet).role ≡ true → (truth : List Entry)
-      → IsTargetOf other first last truth (v.written last.master) (v.records last.master)
-      → IsTargetOf other first last truth (now.written last.master) (now.records last.master)
+      → IsTarget other.range first.master truth (member_material v.written other.range first) last.from (v.written last.master) (v.handovers last.master other.tablet) (v.pullings last.master other.tablet) (get v.handed other.tablet) (v.records last.master)
+      → IsTarget other.range first.master truth (member_material v.written other.range first) last.from (now.written last.master) (v.handovers last.master other.tablet) (v.pullings last.master other.tablet) (get v.handed other.tablet) (now.records last.master)
   target_at other has first last is granted truth old =
-      let w : Written = v.written last.master in
-      of_records (IsTargetOf other first last truth (now.written last.master)) last.master
+      of_both
+      (λ w records.
+      IsTarget other.range first.master truth (member_material v.written other.range first) last.from w
+      (v.handovers last.master other.tablet)
+      (v.pullings last.master other.tablet) (get v.handed other.tablet) records) last.master
       (λ at.
-      of_applied (λ n. IsTargetOf other first last truth (record w { applied = n }) (with_item_of b.entry (v.records last.master)))
-      last.master
-      (λ _.
-      target_applied other.range w b.entry (ap (λ (n : ℕ). slice_get (v.written n).entries (v.written n).applied) at ∙ b.stands) last.from
+      target_applied other.range (v.written last.master) b.entry (stands_at v.written b.master b.entry b.stands last.master at) last.from
       first.master truth (member_material v.written other.range first) (v.handovers last.master other.tablet)
       (v.pullings last.master other.tablet) (get v.handed other.tablet) (v.records last.master) (b.sound.records.ordered last.master)
-      (b.granted other has first last is at granted) old) (λ apart. absurd (apart at))) (λ apart.
-      of_applied (λ n. IsTargetOf other first last truth (record w { applied = n }) (v.records last.master)) last.master
-      (λ at. absurd (apart at)) (λ _. old))
+      (b.granted other has first last is at granted) old) (λ apart. old)
 
-  pub members_at : (other : Row) → Contains v.rows other → (lineage : List Member) → lineage_of other.phase ≡ lineage → MembersFit other v.written v.handovers v.pullings v.records v.handed lineage → MembersFit other now.written v.handovers v.pullings now.records v.handed lineage
+  members_at : (other : Row) → Contains v.rows other → (lineage : List Member) → lineage_of other.phase ≡ lineage → MembersFit other v.written v.handovers v.pullings v.records v.handed lineage → MembersFit other now.written v.handovers v.pullings now.records v.handed lineage
   members_at other has (first ∷ last ∷ []) is fit = λ granted.
-      rw (b.firsts other has first last [] is)
+      rw (b.firsts other has first last [] is).truth
       (target_at other has first last is granted (member_truth v.written other.range first) (fit granted))
   members_at other has _ is fit = tt
 
-  pub named_at : (other : Row) → Contains v.rows other → (lineage : List Member) → lineage_of other.phase ≡ lineage → NamedFit v.written other.range lineage → NamedFit now.written other.range lineage
-  named_at other has (first ∷ last ∷ []) is fit = λ item there. rw (b.firsts other has first last [] is) (fit item there)
+  named_at : (other : Row) → Contains v.rows other → (lineage : List Member) → lineage_of other.phase ≡ lineage → NamedFit v.written other.range lineage → NamedFit now.written other.range lineage
+  named_at other has (first ∷ last ∷ []) is fit = λ item there. rw (b.firsts other has first last [] is).truth (fit item there)
   named_at other has _ is fit = tt
 
-  pub bare_at : (q r : ℕ) → IfSome (wanted_place (v.handovers q r).role) (λ from. IsBare (v.handovers q r).range from (v.written q) (v.records q)) → IfSome (wanted_place (v.handovers q r).role) (λ from. IsBare (v.handovers q r).range from (now.written q) (now.records q))
-  bare_at q r =
+  pub bare_now : (q r : ℕ) → IfSome (wanted_place (v.handovers q r).role) (λ from. IsBare (v.handovers q r).range from (now.written q) (now.records q))
+  bare_now q r =
       let kept : Handover = v.handovers q r in
       waiting_so kept.role (λ from. IsBare kept.range from (v.written q) (v.records q))
       (λ from. IsBare kept.range from (now.written q) (now.records q)) (λ wants there from bare.
@@ -283,7 +315,30 @@ module _ (v : View) (b : Applies v) where
       → IsBare (v.handovers n r).range from (v.written n) (v.records n)
       → IsBare (v.handovers n r).range from (v.written n) (with_item_of b.entry (v.records n))) (sym at)
       (λ w t. b.wanted r w t from (v.written b.master)) wants there bare in
-      assumption with_it) (λ apart. assumption bare))
+      assumption with_it) (λ apart. assumption bare)) (b.sound.receives.bare q r)
+
+  -- ---- records, and the calls that wait
+
+  pub ordered_now : (q : ℕ) → IsInScanOrder (now.records q)
+  ordered_now q =
+      of_records IsInScanOrder q (λ at. order_with b.entry (v.records q) (b.sound.records.ordered q)) (λ apart. b.sound.records.ordered q)
+
+  pub waits_on : (q number : ℕ) (call : Call) → (now.written q).applied ≤ number → Waits v.rows (v.handovers q) (v.written q) q number call → Waits v.rows (v.handovers q) (now.written q) q number call
+  waits_on q number call behind old = record {
+    behind = behind;
+    entry = old.entry;
+    stands = old.stands;
+    own = old.own;
+    unmarked = old.unmarked;
+    row = old.row;
+    has_row = old.has_row;
+    in_row = old.in_row;
+    last = old.last;
+    is_last = old.is_last;
+    here = old.here;
+    from = old.from;
+    may_stage = old.may_stage;
+  }
 
   -- ---- rebuilds
 
@@ -294,115 +349,94 @@ module _ (v : View) (b : Applies v) where
       (λ q. known_of (v.logs q) READ_BACKUP) (λ q. stored_of v.stored q READ_BACKUP) w (v.handovers to other.tablet) ends
       (v.gathers to other.tablet) (v.merged to other.tablet) records
 
-  rebuilder_here : (other : Row) → Contains v.rows other → (lineage : List Member) → other.phase ≡ Rebuilding lineage b.master → (v.handovers b.master other.tablet).term ≡ other.term → (Needed : ℕ → EntryEnd → Type 0)
-      → IsRebuilderBy other lineage b.master (truths v other) Needed (v.written b.master) (v.completions b.master other.tablet) (v.records b.master)
-      → IsRebuilderBy other lineage b.master (truths now other) Needed (record (v.written b.master) { applied = (v.written b.master).applied + 1 }) (b.kept b.master other.tablet) (with_item_of b.entry (v.records b.master))
-  rebuilder_here other has lineage is at_term Needed old =
-      let w : Written = v.written b.master in
-      let kept : Handover = v.handovers b.master other.tablet in
-      let from : ℕ = own_place (v.handovers b.master other.tablet).role in
-      let records : List Held = v.records b.master in
-      let order = b.sound.records.ordered b.master in
-      let own : HasApplied other.range from w b.entry records = b.own other has lineage is at_term (λ x at. (old.sides x at).1) in
-      record {
-        range_is = old.range_is;
-        gather = old.gather;
-        read = old.read;
-        placed = old.placed;
-        merged = IfSome_then (merged_place kept.role) old.merged (λ closing merged. record {
-          gathered_all = merged.gathered_all;
-          merged = merged.merged;
-          merged_is = merged.merged_is;
-          ends_are = merged.ends_are;
-          piece = piece_same other.tablet from kept merged.merged w closing (w.applied + 1) merged.piece;
-          counter = merged.counter;
-          completions = b.merged other has lineage is at_term old.gather merged.merged merged.merged_is merged.completions;
-        });
-        items = record {
-          found = λ x at. elim (own.cases x at) [
-            | inl its ↦ item_found b.entry records x its
-            | inr rest ↦ found_with b.entry records x order (elim rest [ inl was ↦ old.items.found x was | inr is ↦ is ])
-          ];
-          come = λ x at inside. elim (item_cases b.entry records x at) [
-            | inl its ↦ inl (own.new (item_counts other.range b.entry x its inside) x its)
-            | inr was ↦
-                elim (old.items.come x was inside) [ inl mine ↦ inl (own.still x mine) | inr told ↦ inr (b.still other has x told) ]
-          ];
-        };
-        sides = λ x at. let was = old.sides x at in (b.still other has x was.0, found_with b.entry records x order was.1);
-        outside = old.outside;
-      }
-
-  rebuilder_at : (other : Row) → Contains v.rows other → (lineage : List Member) (to : ℕ) → other.phase ≡ Rebuilding lineage to → (v.handovers to other.tablet).term ≡ other.term → (Needed : ℕ → EntryEnd → Type 0)
-      → IsRebuilderBy other lineage to (truths v other) Needed (v.written to) (v.completions to other.tablet) (v.records to)
-      → IsRebuilderBy other lineage to (truths now other) Needed (now.written to) (b.kept to other.tablet) (now.records to)
-  rebuilder_at other has lineage to is at_term Needed old =
-      let w : Written = v.written to in
-      of_records (IsRebuilderBy other lineage to (truths now other) Needed (now.written to) (b.kept to other.tablet)) to
-      (λ at.
-      of_applied
-      (λ n.
-      IsRebuilderBy other lineage to (truths now other) Needed (record w { applied = n }) (b.kept to other.tablet)
-      (with_item_of b.entry (v.records to))) to
-      (λ _.
-      subst
-      (λ (m : ℕ).
-      IsRebuilderBy other lineage m (truths now other) Needed (record (v.written m) { applied = (v.written m).applied + 1 })
-      (b.kept m other.tablet) (with_item_of b.entry (v.records m))) (sym at)
-      (rebuilder_here other has lineage (is ∙ ap (Rebuilding lineage) at)
-      (subst (λ (m : ℕ). (v.handovers m other.tablet).term ≡ other.term) at at_term) Needed
-      (subst (λ (m : ℕ). IsRebuilderBy other lineage m (truths v other) Needed (v.written m) (v.completions m other.tablet) (v.records m))
-      at old))) (λ apart. absurd (apart at))) (λ apart.
-      of_applied
-      (λ n. IsRebuilderBy other lineage to (truths now other) Needed (record w { applied = n }) (b.kept to other.tablet) (v.records to)) to
-      (λ at. absurd (apart at)) (λ _.
-      subst (λ (c : Completions). IsRebuilderBy other lineage to (truths now other) Needed w c (v.records to))
-      (sym (b.others to other.tablet apart))
-      (record {
-        range_is = old.range_is;
-        gather = old.gather;
-        read = old.read;
-        placed = old.placed;
-        merged = old.merged;
-        items = record {
-          found = old.items.found;
-          come = λ x at inside. elim (old.items.come x at inside) [ inl mine ↦ inl mine | inr told ↦ inr (b.still other has x told) ];
-        };
-        sides = λ x at. let was = old.sides x at in (b.still other has x was.0, was.1);
-        outside = old.outside;
-      })))
-
   marked_same : (range : Range) (lineage : List Member) → MarkedFit v.logs v.written v.stored v.live range lineage → MarkedFit v.logs now.written v.stored v.live range lineage
   marked_same range _ fit = fit
 
-  rebuilt_at : (other : Row) → Contains v.rows other → (phase : Phase) → other.phase ≡ phase
-      → RowIsRebuilt other phase (truths v other) v.logs v.written v.stored v.handovers v.completions v.gathers v.merged v.records v.live
-      → RowIsRebuilt other phase (truths now other) v.logs now.written v.stored v.handovers b.kept v.gathers v.merged now.records v.live
-  rebuilt_at other has (Rebuilding lineage to) is says = (
-    λ term.
-        rebuilder_weaker other lineage to (truths now other)
-        (member_material v.written other.range (member_at to (own_place (v.handovers to other.tablet).role)))
-        (NeededOf other v.written lineage) (NeededOf other now.written lineage) (λ q. known_of (v.logs q) READ_BACKUP)
-        (λ q. stored_of v.stored q READ_BACKUP) (now.written to) (v.handovers to other.tablet) (b.kept to other.tablet)
-        (v.gathers to other.tablet) (v.merged to other.tablet) (now.records to)
-        (λ q _ end needed. needs_same v b.master other lineage q end needed)
-        (rebuilder_at other has lineage to is term (NeededOf other v.written lineage) (says.0 term)),
-    marked_same other.range lineage says.1,
-  )
-  rebuilt_at other has _ is says = tt
+  module _ (other : Row) (has : Contains v.rows other) (still : (x : Held) → Contains (items_of (truths v other)) x → Contains (items_of (truths now other)) x) where
+    rebuilder_here : (lineage : List Member) → other.phase ≡ Rebuilding lineage b.master → (v.handovers b.master other.tablet).term ≡ other.term → (Needed : ℕ → EntryEnd → Type 0)
+        → IsRebuilderBy other lineage b.master (truths v other) Needed (v.written b.master) (v.completions b.master other.tablet) (v.records b.master)
+        → IsRebuilderBy other lineage b.master (truths now other) Needed (record (v.written b.master) { applied = (v.written b.master).applied + 1 }) (b.kept b.master other.tablet) (with_item_of b.entry (v.records b.master))
+    rebuilder_here lineage is at_term Needed old =
+        let w : Written = v.written b.master in
+        let kept : Handover = v.handovers b.master other.tablet in
+        let from : ℕ = own_place (v.handovers b.master other.tablet).role in
+        let records : List Held = v.records b.master in
+        let order = b.sound.records.ordered b.master in
+        let own : HasApplied other.range from w b.entry records = b.own other has lineage is at_term (λ x at. (old.sides x at).1) in
+        record {
+          range_is = old.range_is;
+          gather = old.gather;
+          read = old.read;
+          placed = old.placed;
+          merged = IfSome_then (merged_place kept.role) old.merged (λ closing merged. record {
+            gathered_all = merged.gathered_all;
+            merged = merged.merged;
+            merged_is = merged.merged_is;
+            ends_are = merged.ends_are;
+            piece = piece_same other.tablet from kept merged.merged w closing (w.applied + 1) merged.piece;
+            counter = merged.counter;
+            completions = b.merged other has lineage is at_term old.gather merged.merged merged.merged_is merged.completions;
+          });
+          items = record {
+            found = λ x at. elim (own.cases x at) [
+              | inl its ↦ item_found b.entry records x its
+              | inr rest ↦ found_with b.entry records x order (elim rest [ inl was ↦ old.items.found x was | inr is ↦ is ])
+            ];
+            come = λ x at inside. elim (item_cases b.entry records x at) [
+              | inl its ↦ inl (own.new (item_counts other.range b.entry x its inside) x its)
+              | inr was ↦ elim (old.items.come x was inside) [ inl mine ↦ inl (own.still x mine) | inr told ↦ inr (still x told) ]
+            ];
+          };
+          sides = λ x at. let was = old.sides x at in (still x was.0, found_with b.entry records x order was.1);
+          outside = old.outside;
+        }
+
+    rebuilder_at : (lineage : List Member) (to : ℕ) → other.phase ≡ Rebuilding lineage to → (v.handovers to other.tablet).term ≡ other.term → (Needed : ℕ → EntryEnd → Type 0)
+        → IsRebuilderBy other lineage to (truths v other) Needed (v.written to) (v.completions to other.tablet) (v.records to)
+        → IsRebuilderBy other lineage to (truths now other) Needed (now.written to) (b.kept to other.tablet) (now.records to)
+    rebuilder_at lineage to is at_term Needed old =
+        of_both (λ w records. IsRebuilderBy other lineage to (truths now other) Needed w (b.kept to other.tablet) records) to
+        (λ at.
+        subst
+        (λ (m : ℕ).
+        IsRebuilderBy other lineage m (truths now other) Needed (record (v.written m) { applied = (v.written m).applied + 1 })
+        (b.kept m other.tablet) (with_item_of b.entry (v.records m))) (sym at)
+        (rebuilder_here lineage (is ∙ ap (Rebuilding lineage) at)
+        (subst (λ (m : ℕ). (v.handovers m other.tablet).term ≡ other.term) at at_term) Needed
+        (subst (λ (m : ℕ). IsRebuilderBy other lineage m (truths v other) Needed (v.written m) (v.completions m other.tablet) (v.records m))
+        at old))) (λ apart.
+        rw (b.others to other.tablet apart)
+        (record {
+          range_is = old.range_is;
+          gather = old.gather;
+          read = old.read;
+          placed = old.placed;
+          merged = old.merged;
+          items = record {
+            found = old.items.found;
+            come = λ x at inside. elim (old.items.come x at inside) [ inl mine ↦ inl mine | inr told ↦ inr (still x told) ];
+          };
+          sides = λ x at. let was = old.sides x at in (still x was.0, was.1);
+          outside = old.outside;
+        }))
+
+    rebuilt_at : (phase : Phase) → other.phase ≡ phase → RowIsRebuilt other phase (truths v other) v.logs v.written v.stored v.handovers v.completions v.gathers v.merged v.records v.live
+        → RowIsRebuilt other phase (truths now other) v.logs now.written v.stored v.handovers b.kept v.gathers v.merged now.records v.live
+    rebuilt_at (Rebuilding lineage to) is says = (
+      λ term.
+          rebuilder_weaker other lineage to (truths now other)
+          (member_material v.written other.range (member_at to (own_place (v.handovers to other.tablet).role)))
+          (NeededOf other v.written lineage) (NeededOf other now.written lineage) (λ q. known_of (v.logs q) READ_BACKUP)
+          (λ q. stored_of v.stored q READ_BACKUP) (now.written to) (v.handovers to other.tablet) (b.kept to other.tablet)
+          (v.gathers to other.tablet) (v.merged to other.tablet) (now.records to)
+          (λ q _ end needed. needs_same v b.master other lineage q end needed)
+          (rebuilder_at lineage to is term (NeededOf other v.written lineage) (says.0 term)),
+      marked_same other.range lineage says.1,
+    )
+    rebuilt_at _ is says = tt
 
   mark_same : (other : Row) (q : ℕ) (mark : Mark) → MarkFits other q (v.handovers q other.tablet) (v.live q) (v.written q) mark → MarkFits other q (v.handovers q other.tablet) (v.live q) (now.written q) mark
   mark_same other q mark fits = assumption fits
-
-  pub rebuilds : Rebuilds v.rows (truths now) v.logs now.written v.stored v.handovers b.kept v.gathers v.merged now.records v.live
-  rebuilds = record {
-    rebuilt = λ k d within.
-        let row : Row = slice_index_or v.rows k d in
-        rebuilt_at row (Contains-get_or v.rows k d within) row.phase refl (b.sound.rebuilds.rebuilt k d within);
-    marks = λ q k d within i mark inside its.
-        mark_same (slice_index_or v.rows k d) q (slice_index_or (v.written q).marks i mark) (b.sound.rebuilds.marks q k d within i mark inside its);
-    pieces = b.sound.rebuilds.pieces;
-  }
 
   -- ---- messages
 
@@ -413,12 +447,12 @@ module _ (v : View) (b : Applies v) where
 
   pulled_says : (other : Row) → Contains v.rows other → (lineage : List Member) → lineage_of other.phase ≡ lineage → (from : Node) (master : ℕ) (pulled : Pulled) → PulledAgrees other v.written v.handovers v.live lineage from master pulled → PulledAgrees other now.written v.handovers v.live lineage from master pulled
   pulled_says other has (source ∷ target ∷ []) is from master pulled agrees =
-      λ here alive its. rw (b.firsts other has source target [] is) (agrees here alive its)
+      λ here alive its. rw (b.firsts other has source target [] is).truth (agrees here alive its)
   pulled_says other has _ is from master pulled agrees = agrees
 
   got_says : (other : Row) → Contains v.rows other → (lineage : List Member) → lineage_of other.phase ≡ lineage → (from : Node) (master : ℕ) (got : Got) → GotAgrees other v.written v.handovers v.live lineage from master got → GotAgrees other now.written v.handovers v.live lineage from master got
   got_says other has (source ∷ target ∷ []) is from master got agrees =
-      λ here alive its. rw (b.firsts other has source target [] is) (agrees here alive its)
+      λ here alive its. rw (b.firsts other has source target [] is).truth (agrees here alive its)
   got_says other has _ is from master got agrees = agrees
 
   copy_says : (other : Row) (copy : CopySegment) (phase : Phase) → CopyIn other phase v.logs v.written v.stored v.live copy → CopyIn other phase v.logs now.written v.stored v.live copy
@@ -430,7 +464,7 @@ module _ (v : View) (b : Applies v) where
   )
   copy_says other copy _ says = says
 
-  pub says_now : (other : Row) → Contains v.rows other → (from to : Node) (body : Body) → SaysOf other v.logs v.written v.stored v.handovers v.completions v.merged v.live v.handed from to body → SaysOf other v.logs now.written v.stored v.handovers b.kept v.merged v.live v.handed from to body
+  says_now : (other : Row) → Contains v.rows other → (from to : Node) (body : Body) → SaysOf other v.logs v.written v.stored v.handovers v.completions v.merged v.live v.handed from to body → SaysOf other v.logs now.written v.stored v.handovers b.kept v.merged v.live v.handed from to body
   says_now other has from to (bodies.Transfer transfer) says =
       by_master from
       (λ q. IsOf other transfer.tenure → TransferIn other.phase (v.handovers q other.tablet) (v.completions q other.tablet) other.term q transfer)
@@ -465,3 +499,71 @@ module _ (v : View) (b : Applies v) where
       rebuilt_says other.phase (v.handovers q other.tablet) (v.merged q other.tablet) (v.written q).applied (now.written q).applied
       other.term q rebuilt (applied_grows q) (told is)) says
   says_now other has from to _ says = says
+
+  -- ---- all rows
+
+  done_at : (row : Row) → Contains v.rows row → (lineage : List Member) → lineage_of row.phase ≡ lineage → FirstIsDone v.written row.range lineage → FirstIsDone now.written row.range lineage
+  done_at row has (first ∷ second ∷ more) is done =
+      let still = b.firsts row has first second more is in record { rest = still.rest ∙ done.rest; all = done.all ∙ sym still.truth }
+  done_at row has _ is done = tt
+
+  unnamed_at : (range : Range) (lineage : List Member) → OnlyIsUnnamed v.written range lineage → OnlyIsUnnamed now.written range lineage
+  unnamed_at range (only ∷ []) none =
+      let w : Written = v.written only.master in
+      of_applied (λ n. joined_from range (max only.from n) w.entries ≡ []) only.master
+      (λ at. none_from (is_joined_in range) (max only.from w.applied) (max only.from (w.applied + 1)) w.entries (omega arith) none)
+      (λ apart. none)
+  unnamed_at range _ none = tt
+
+  next_now : (row : Row) → Tells v now row → (number : ℕ) → IsNextOf v row number → IsNextOf now row number
+  next_now row tells number next = omega (arith, tells.floor, next)
+
+  -- what is said of a row is said still
+  pub row_now : (row : Row) → Contains v.rows row → Tells v now row → SoundRow now row
+  row_now row has tells =
+      let was : SoundRow v row = row_in v b.sound row has in
+      record {
+        named = was.named;
+        begun = was.begun;
+        formed = was.formed;
+        placed = was.placed;
+        sent = was.sent;
+        fitting = λ q counts.
+            let kept = v.handovers q row.tablet in
+            holds_more (bond_of (post_of row.phase q) kept.role) row.term kept.term (v.written q).applied (now.written q).applied
+            (applied_grows q) (was.fitting q counts);
+        ranged = was.ranged;
+        at_term = was.at_term;
+        truth = tells.history.leaves;
+        above = tells.history.above;
+        reached = tells.history.ends;
+        recorded = tells.history.known;
+        moving = tells.moving;
+        answering = tells.answering;
+        ends_granted = tells.ends_granted;
+        ends_sent = tells.ends_sent;
+        low = tells.history.low;
+        low_moving = tells.low_moving;
+        counted = λ q counts says. next_now row tells (v.handovers q row.tablet).counter (was.counted q counts says);
+        floor_granted = IfSome_then (handed_for_grant row v.handovers v.handed) was.floor_granted (λ h. next_now row tells h.floor);
+        floor_sent = λ n m there.
+            IfSome_then (handed_by row v.handovers m.body) (was.floor_sent n m there) (λ h. next_now row tells h.floor);
+        goes_on = tells.history.goes_on;
+        done = done_at row has (lineage_of row.phase) refl was.done;
+        unnamed = unnamed_at row.range (lineage_of row.phase) was.unnamed;
+        idle = λ q counts idles.
+            let none = was.idle q counts idles in
+            of_applied (λ n. list_any (touches row.range) (drop n (v.written q).entries) ≡ false) q
+            (λ at. none_fewer (touches row.range) (v.written q).applied (v.written q).entries none) (λ apart. none);
+        items = tells.items;
+        target = members_at row has (lineage_of row.phase) refl was.target;
+        handed_on = tells.handed_on;
+        named_items = named_at row has (lineage_of row.phase) refl was.named_items;
+        rebuilt = rebuilt_at row has tells.still row.phase refl was.rebuilt;
+        marks = λ q i mark inside its. mark_same row q (slice_index_or (v.written q).marks i mark) (was.marks q i mark inside its);
+        pieces = was.pieces;
+        says = λ n m there. says_now row has m.from m.to m.body (was.says n m there);
+      }
+
+  pub view_applied : SoundBeside now → ((row : Row) → Contains v.rows row → Tells v now row) → SoundView now
+  view_applied beside tells = view_by_rows now beside (all_by (SoundRow now) v.rows (λ row has. row_now row has (tells row has)))

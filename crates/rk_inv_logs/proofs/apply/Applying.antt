@@ -1,31 +1,22 @@
 -- The next entry of a master's log is applied, and a call ends with it: what is known of the call and of its row, and what stays as it
 -- was.
-use Rattle.std.proofs.Common.{◌≡◌, ℕ, ◌+◌, ◌≤◌, max, Bool, true, false, List, [], ◌∷◌, ◌++◌, Option, Some, None, refl, sym, ap, ◌∙◌, subst}
-use Rattle.std.proofs.Common.{inl, inr, ◌⊎◌, arith, take, slice_get, if◌then◌else◌, Contains, flat_map}
-use Rattle.rk_inv_base.proofs.Words.{cases_eq, All-head, NumberMap, remove, Call, Ended, Op, Outcome, Held, Placed, Member, Range}
-use Rattle.rk_inv_base.proofs.Words.{legal_back, IsLegal, map_after, map_with, Allowed, change_of, is_mutation, Entry, Completions, noted}
-use Rattle.rk_inv_base.proofs.Words.{lineage_of, Row, Base, base_map, map_entry_of, item_end, outcome_of, refusal_end, told_by, has_record}
-use Rattle.rk_inv_base.proofs.Words.{next_record, seen_of, is_member, last_of, is_marked, unmarked_from, counting, counts, log_material}
-use Rattle.rk_inv_base.proofs.Words.{named_by, has_key, may_have_staged, Written, lineage_rest, lineage_truth, member_rest, member_truth}
-use Rattle.rk_inv_base.proofs.Words.{LastCall, IsEntryOf, IsLast, IsLastAsked, IsRest, IsStaged, Waits, call_end, call_ends, record_of_last}
-use Rattle.rk_inv_base.proofs.Words.{records_of, RoleFits, AreApart, View, truths, rests, SoundView}
-use Rattle.rk_types.specs.declared.call.End.TheVariants as ends
+use Rattle.std.proofs.Common.{◌≡◌, ℕ, ◌≤◌, Bool, true, false, List, [], ◌∷◌, Option, Some, None, refl, sym, ap, ◌∙◌, subst, inl, inr, ◌⊎◌}
+use Rattle.std.proofs.Common.{if◌then◌else◌, Contains}
+use Rattle.rk_inv_base.proofs.Words.{cases_eq, All-head, Call, Ended, Op, Outcome, Placed, Member, Range, change_of, is_mutation, Entry}
+use Rattle.rk_inv_base.proofs.Words.{lineage_of, Row, Base, map_entry_of, item_end, outcome_of, refusal_end, told_by, has_record}
+use Rattle.rk_inv_base.proofs.Words.{next_record, seen_of, is_member, last_of, is_marked, counts, named_by, has_key, LastCall, IsEntryOf}
+use Rattle.rk_inv_base.proofs.Words.{IsLast, IsLastAsked, IsStaged, Waits, call_end, RoleFits, AreApart, View, truths, rests, SoundView}
+use Rattle.rk_inv_logs.proofs.Words.{first_not_last, formed_apart, in_one_row, last_member, counts_call, names_call, speaker_of, row_in}
+use Rattle.rk_inv_logs.proofs.Words.{history_of, TellHistory}
 use Rattle.rk_types.specs.declared.call.Op.TheVariants.{Get, Put, CondPut, Delete}
 use Rattle.rk_model.specs.Machine.{Entry as MapEntry}
+use Rattle.rk_inv_base.proofs.rows.Apart.{same_number}
+use Rattle.rk_types.specs.declared.call.End.TheVariants as ends
 use Rattle.rk_entry.specs.declared.entry.Entry.TheVariants as entries
-use Rattle.rk_inv_base.proofs.calls.Appending.{formed_apart}
-use Rattle.rk_inv_base.proofs.rows.Apart.{in_one_row, same_number}
-use Rattle.rk_inv_base.proofs.calls.Histories.{record_for}
-use Rattle.rk_inv_base.proofs.logs.InRest.{lineage_last}
-use Rattle.rk_inv_base.proofs.views.Put.{put2_by, put_by}
-use Rattle.rk_inv_base.proofs.calls.Rebuilders.{last_member}
-use Rattle.rk_inv_base.proofs.logs.Shares.{counts_call, names_call}
-use Rattle.rk_inv_base.proofs.rows.Speakers.{speaker_of}
-use Rattle.rk_inv_logs.specs.apply.Small.{MayApplyCall, call_applied, with_item_of}
+use Rattle.rk_inv_logs.specs.apply.Small.{MayApplyCall, call_applied}
 use Rattle.rk_inv_logs.proofs.apply.Inserted.{IsInserted, inserted_before, inserted_behind}
-use Rattle.rk_inv_logs.proofs.apply.NextEntry.{rest_beside, rest_first, truth_beside, truth_more}
+use Rattle.rk_inv_logs.proofs.apply.Members.{IsStill, Takes, has_last, next_at, rest_grows, still, takes, truth_grows, truth_still}
 use Rattle.rk_inv_logs.proofs.apply.Stagers.{stager_is}
-use Rattle.rk_inv_logs.proofs.apply.OfRow.{role_fits, row_formed, row_goes_on, row_ranged}
 
 -- ---- a call and its entry
 
@@ -135,32 +126,6 @@ module _ (v : View) (a : Applying v) where
   pub lives : v.live a.master ≡ true
   lives = a.may.held.lives
 
-  -- ---- what is kept, at the master and elsewhere
-
-  -- what holds of one more applied entry, and of as many as were, holds of each master
-  pub of_applied : (P : ℕ → Type 0) (q : ℕ) → (q ≡ a.master → P ((v.written q).applied + 1)) → ((q ≡ a.master → ⊥) → P (v.written q).applied) → P (after.written q).applied
-  of_applied P q here was = put_by (λ r. (v.written r).applied) a.master (λ n. n + 1) P q here was
-
-  pub of_records : (P : List Held → Type 0) (q : ℕ) → (q ≡ a.master → P (with_item_of entry (v.records q))) → ((q ≡ a.master → ⊥) → P (v.records q)) → P (after.records q)
-  of_records P q here was = put_by v.records a.master (with_item_of entry) P q here was
-
-  pub of_calls : (P : NumberMap Call → Type 0) (q : ℕ) → (q ≡ a.master → P (remove (v.calls q) place)) → ((q ≡ a.master → ⊥) → P (v.calls q)) → P (after.calls q)
-  of_calls P q here was = put_by v.calls a.master (λ calls. remove calls place) P q here was
-
-  pub of_completions : (P : Completions → Type 0) (q r : ℕ) → (q ≡ a.master → r ≡ its_row.tablet → P (noted (v.completions q r) a.end)) → ((q ≡ a.master → r ≡ its_row.tablet → ⊥) → P (v.completions q r)) → P (after.completions q r)
-  of_completions P q r here was = put2_by v.completions a.master its_row.tablet (λ c. noted c a.end) P q r here was
-
-  -- no fewer entries are applied
-  pub applied_grows : (q : ℕ) → (v.written q).applied ≤ (after.written q).applied
-  applied_grows q = of_applied (λ n. (v.written q).applied ≤ n) q (λ at. omega arith) (λ apart. omega arith)
-
-  -- the entry stands at the place, and bears no mark
-  pub stands_at : (q : ℕ) → q ≡ a.master → slice_get (v.written q).entries (v.written q).applied ≡ Some entry
-  stands_at q at = ap (λ (n : ℕ). slice_get (v.written n).entries (v.written n).applied) at ∙ a.waits.stands
-
-  pub free_at : (q : ℕ) → q ≡ a.master → is_marked (v.written q).marks (v.written q).applied ≡ false
-  free_at q at = ap (λ (n : ℕ). is_marked (v.written n).marks (v.written n).applied) at ∙ a.waits.unmarked
-
   -- ---- the row of the key
 
   -- it is the only one of its number
@@ -188,143 +153,82 @@ module _ (v : View) (a : Applying v) where
 
   -- its lineage has one member, or two
   pub apart_in : (other : Row) → Contains v.rows other → AreApart (lineage_of other.phase)
-  apart_in other stands = formed_apart other.phase (row_formed v a.sound other stands)
+  apart_in other stands = formed_apart other.phase (row_in v a.sound other stands).formed
 
   -- the first of two members is not the one that has an entry of the range
-  pub first_apart : (other : Row) → Contains v.rows other → (first second : Member) (more : List Member) → AreApart (first ∷ second ∷ more) → lineage_of other.phase ≡ first ∷ second ∷ more → first.master ≡ a.master → counts other.range entry ≡ false
-  first_apart other has first second [] apart lineage at = elim (row_cases other has) [
+  pub first_apart : (other : Row) → Contains v.rows other → (first second : Member) (more : List Member) → lineage_of other.phase ≡ first ∷ second ∷ more → first.master ≡ a.master → counts other.range entry ≡ false
+  first_apart other has first second more lineage at = elim (row_cases other has) [
     | inl same ↦
-        let ends = sym (ap last_of (sym (ap (λ (r : Row). lineage_of r.phase) same) ∙ lineage)) ∙ a.waits.is_last in
-        let its : second ≡ a.waits.last = cc ends in
-        absurd (apart (at ∙ sym a.waits.here ∙ sym (ap (λ (m : Member). m.master) its)))
+        let last = ap last_of (sym lineage) ∙ ap (λ (r : Row). last_of (lineage_of r.phase)) same ∙ a.waits.is_last in
+        absurd
+        (first_not_last first second more a.waits.last (subst AreApart lineage (apart_in other has)) last (at ∙ sym a.waits.here))
     | inr differs ↦ outside other has differs
   ]
-  first_apart other has first second (third ∷ more) apart lineage at = absurd apart
 
   -- the role of the master fits its post, it keeps the row's range, and it speaks for the row
   pub its_fits : RoleFits its_row a.master (v.handovers a.master its_row.tablet) place
-  its_fits = role_fits v a.sound its_row a.waits.has_row a.master (inl lives)
+  its_fits = (row_in v a.sound its_row a.waits.has_row).fitting a.master (inl lives)
 
   pub its_member : is_member (lineage_of its_row.phase) a.master ≡ true
   its_member = last_member (lineage_of its_row.phase) a.waits.last a.master a.waits.is_last a.waits.here
 
   pub its_range : (v.handovers a.master its_row.tablet).range ≡ its_row.range
-  its_range = row_ranged v a.sound its_row a.waits.has_row a.master (inl lives) its_member
+  its_range = (row_in v a.sound its_row a.waits.has_row).ranged a.master (inl lives) its_member
 
   pub its_speaker : a.master ≡ speaker_of its_row.phase
   its_speaker = stager_is its_row a.master (v.handovers a.master its_row.tablet) place its_fits a.waits.may_stage
 
-  pub last_stages : may_have_staged (v.handovers a.waits.last.master its_row.tablet).role ≡ true
-  last_stages = ap (λ (m : ℕ). may_have_staged (v.handovers m its_row.tablet).role) a.waits.here ∙ a.waits.may_stage
-
-  -- ---- what counts of a log
-
-  -- of what is applied the same, unless the entry is of the range
-  pub truth_same : (range : Range) (member : Member) → (member.master ≡ a.master → counts range entry ≡ false) → member_truth after.written range member ≡ member_truth v.written range member
-  truth_same range member beside =
-      let w : Written = v.written member.master in
-      of_applied (λ n. log_material range w.marks w.sides member.from (take n w.entries) ≡ member_truth v.written range member)
-      member.master
-      (λ at.
-      truth_beside range w.entries w.applied entry (stands_at member.master at) (names range) w.marks w.sides member.from (beside at))
-      (λ apart. refl)
-
-  -- and with the entry, where it is
-  pub truth_grows : (range : Range) (member : Member) → member.master ≡ a.master → member.from ≤ place → counts range entry ≡ true → IsInserted entry (member_truth v.written range member) (member_truth after.written range member)
-  truth_grows range member at from has =
-      let w : Written = v.written member.master in
-      let behind : member.from ≤ w.applied = subst (λ (n : ℕ). member.from ≤ (v.written n).applied) (sym at) from in
-      of_applied
-      (λ n. IsInserted entry (member_truth v.written range member) (log_material range w.marks w.sides member.from (take n w.entries)))
-      member.master
-      (λ here.
-      truth_more range w.entries w.applied entry (stands_at member.master here) (names range) w.marks w.sides member.from has
-      (free_at member.master here) behind) (λ apart. absurd (apart at))
-
-  -- what is not applied is the same, or begins with the entry
-  pub rest_same : (range : Range) (member : Member) → (member.master ≡ a.master → counts range entry ≡ false) → member_rest after.written range member ≡ member_rest v.written range member
-  rest_same range member beside =
-      let w : Written = v.written member.master in
-      of_applied (λ n. counting range (unmarked_from w.marks (max member.from n) w.entries) ≡ member_rest v.written range member)
-      member.master (λ at. rest_beside range w.entries w.applied entry (stands_at member.master at) w.marks member.from (beside at))
-      (λ apart. refl)
-
-  pub rest_begins : (range : Range) (member : Member) → member.master ≡ a.master → member.from ≤ place → counts range entry ≡ true → member_rest v.written range member ≡ entry ∷ member_rest after.written range member
-  rest_begins range member at from has =
-      let w : Written = v.written member.master in
-      let behind : member.from ≤ w.applied = subst (λ (n : ℕ). member.from ≤ (v.written n).applied) (sym at) from in
-      of_applied (λ n. member_rest v.written range member ≡ entry ∷ counting range (unmarked_from w.marks (max member.from n) w.entries))
-      member.master
-      (λ here.
-      rest_first range w.entries w.applied entry (stands_at member.master here) w.marks member.from has (free_at member.master here) behind)
-      (λ apart. absurd (apart at))
-
   -- ---- what counts of a row
 
-  -- another row has what it had
-  lineage_truth_same : (range : Range) (members : List Member) → counts range entry ≡ false → lineage_truth v.base after.written range members ≡ lineage_truth v.base v.written range members
-  lineage_truth_same range [] beside = refl
-  lineage_truth_same range (member ∷ members) beside =
-      ap (λ (sure : Member → List Entry). flat_map sure (member ∷ members)) (λ i m. truth_same range m (λ at. beside) i)
+  -- a member has what it had, unless the entry is of the range, and then has that
+  pub still_beside : (range : Range) (member : Member) → (member.master ≡ a.master → counts range entry ≡ false) → IsStill v.written after.written range member
+  still_beside range member beside =
+      still v.written a.master entry a.waits.stands range member (λ at free. (beside at, names range))
 
-  lineage_rest_same : (range : Range) (members : List Member) → counts range entry ≡ false → lineage_rest after.written range members ≡ lineage_rest v.written range members
-  lineage_rest_same range [] beside = refl
-  lineage_rest_same range (member ∷ []) beside = rest_same range member (λ at. beside)
-  lineage_rest_same range (member ∷ next ∷ more) beside = lineage_rest_same range (next ∷ more) beside
+  pub last_takes : (last : Member) → last_of (lineage_of its_row.phase) ≡ Some last → Takes entry v.written after.written its_row.range last
+  last_takes last is =
+      let same : a.waits.last ≡ last = cc (sym a.waits.is_last ∙ is) in
+      let at : last.master ≡ a.master = ap (λ (m : Member). m.master) (sym same) ∙ a.waits.here in
+      let from : last.from ≤ place = subst (λ (m : Member). m.from ≤ place) same a.waits.from in
+      takes v.written a.master entry a.waits.stands its_row.range last
+      (next_at v.written a.master entry a.waits.stands its_row.range last at
+      (subst (λ (n : ℕ). last.from ≤ (v.written n).applied) (sym at) from))
+      (ap (λ (n : ℕ). is_marked (v.written n).marks (v.written n).applied) at ∙ a.waits.unmarked) inside (names its_row.range)
 
+  -- so another row has what it had
   pub truth_beside_row : (other : Row) → Contains v.rows other → (other.tablet ≡ its_row.tablet → ⊥) → truths after other ≡ truths v other
-  truth_beside_row other stands apart = lineage_truth_same other.range (lineage_of other.phase) (outside other stands apart)
+  truth_beside_row other stands apart =
+      truth_still v.base v.written after.written other.range (lineage_of other.phase) (apart_in other stands)
+      (λ member. still_beside other.range member (λ at. outside other stands apart))
 
   pub rest_beside_row : (other : Row) → Contains v.rows other → (other.tablet ≡ its_row.tablet → ⊥) → rests after other ≡ rests v other
-  rest_beside_row other stands apart = lineage_rest_same other.range (lineage_of other.phase) (outside other stands apart)
+  rest_beside_row other stands apart =
+      let last = has_last (lineage_of other.phase) (apart_in other stands) in
+      sym
+      (rest_grows v.written after.written other.range (lineage_of other.phase) last.0 [] last.1
+      (sym (still_beside other.range last.0 (λ at. outside other stands apart)).rest))
 
-  -- the truth of the row has the entry now
-  lineage_grows : (range : Range) (members : List Member) → AreApart members → last_of members ≡ Some a.waits.last → counts range entry ≡ true → IsInserted entry (lineage_truth v.base v.written range members) (lineage_truth v.base after.written range members)
-  lineage_grows range [] apart is has = absurd apart
-  lineage_grows range (only ∷ []) apart is has =
-      let same : only ≡ a.waits.last = cc is in
-      let at : only.master ≡ a.master = ap (λ (m : Member). m.master) same ∙ a.waits.here in
-      let from : only.from ≤ place = rw same a.waits.from in
-      inserted_before entry (member_truth v.written range only) (member_truth after.written range only) (truth_grows range only at from has)
-      []
-  lineage_grows range (first ∷ second ∷ []) apart is has =
-      let same : second ≡ a.waits.last = cc is in
-      let at : second.master ≡ a.master = ap (λ (m : Member). m.master) same ∙ a.waits.here in
-      let from : second.from ≤ place = rw same a.waits.from in
-      let old : List Entry = member_truth v.written range second ++ [] in
-      let now : List Entry = member_truth after.written range second ++ [] in
-      let front = truth_same range first (λ here. absurd (apart (here ∙ sym at))) in
-      rw front
-      (inserted_behind entry old now
-      (inserted_before entry (member_truth v.written range second) (member_truth after.written range second)
-      (truth_grows range second at from has) []) (member_truth v.written range first))
-  lineage_grows range (first ∷ second ∷ third ∷ more) apart is has = absurd apart
-
+  -- the truth of the row has the entry now, which stood before its rest
   pub truth_here : IsInserted entry (truths v its_row) (truths after its_row)
-  truth_here = lineage_grows its_row.range (lineage_of its_row.phase) (apart_in its_row a.waits.has_row) a.waits.is_last inside
+  truth_here =
+      truth_grows v.base v.written after.written its_row.range (IsInserted entry)
+      (λ front old now put. inserted_behind entry old now put front) (λ old now put. inserted_before entry old now put [])
+      (lineage_of its_row.phase) (apart_in its_row a.waits.has_row)
+      (λ first second more is. still_beside its_row.range first (first_apart its_row a.waits.has_row first second more is))
+      (λ last is. (last_takes last is).truth)
 
-  -- which stood before its rest
   pub rest_here : rests v its_row ≡ entry ∷ rests after its_row
-  rest_here = lineage_last v.written its_row.range (lineage_of its_row.phase) a.waits.last a.waits.is_last
-      ∙ rest_begins its_row.range a.waits.last a.waits.here a.waits.from inside
-      ∙ ap (λ (l : List Entry). entry ∷ l)
-      (sym (lineage_last after.written its_row.range (lineage_of its_row.phase) a.waits.last a.waits.is_last))
+  rest_here =
+      rest_grows v.written after.written its_row.range (lineage_of its_row.phase) a.waits.last (entry ∷ []) a.waits.is_last
+      (last_takes a.waits.last a.waits.is_last).rest
 
-  -- what holds of truth and rest of the row now, and of those of each other row as they were, holds of all
-  pub by_row : (P : Row → List Entry → List Entry → Type 0) (other : Row) → Contains v.rows other → P its_row (truths after its_row) (rests after its_row) → ((other.tablet ≡ its_row.tablet → ⊥) → P other (truths v other) (rests v other)) → P other (truths after other) (rests after other)
-  by_row P other stands here apart = elim (row_cases other stands) [
-    | inl same ↦ rw same here
-    | inr differs ↦ rw (truth_beside_row other stands differs) (rw (rest_beside_row other stands differs) (apart differs))
-  ]
+  pub was_history : TellHistory v.base its_row.range (truths v its_row) (entry ∷ rests after its_row) v.journal v.asked
+  was_history = rw rest_here at (history_of v its_row a.sound a.waits.has_row)
 
   -- ---- the call
 
-  -- the entry stood first in what was staged of the row
-  pub was_rest : IsRest v.base its_row.range (truths v its_row) (entry ∷ rests after its_row) v.journal v.asked
-  was_rest = rw rest_here at (row_goes_on v a.sound its_row a.waits.has_row)
-
   was_staged : IsStaged v.base v.asked v.journal entry
-  was_staged = All-head (IsStaged v.base v.asked v.journal) entry (rests after its_row) was_rest.staged
+  was_staged = All-head (IsStaged v.base v.asked v.journal) entry (rests after its_row) was_history.goes_on.staged
 
   -- the call is its client's last, a mutation, and has no record
   pub is_last : IsLast (v.asked a.call.client) a.call
@@ -341,22 +245,3 @@ module _ (v : View) (a : Applying v) where
 
   pub leaves : change_of a.call.op outcome ≡ change_by entry
   leaves = leaves_so v.base v.journal v.asked a.call entry a.end is_last a.waits.own a.ended was_staged
-
-  -- the records that the staged calls of the row were to make begin with its own
-  pub records_first : records_of v.asked (call_ends (entry ∷ rests after its_row)) ≡ record_for a.call outcome ∷ records_of v.asked (call_ends (rests after its_row))
-  records_first =
-      let more : List Placed = records_of v.asked (call_ends (rests after its_row)) in
-      ap (λ (l : List Ended). records_of v.asked (l ++ call_ends (rests after its_row))) a.ended.ends_it
-      ∙ ap (λ (o : Option LastCall). record_of_last a.end o ++ more) (ap v.asked a.ended.client ∙ its_last.asked_is)
-      ∙ ap (λ (c : Call). record_for c outcome ∷ more) same_call
-
-  -- so it may end so behind the journal, and the others may go on behind it
-  was_legal : IsLegal (map_after (base_map v.base) v.journal) (record_for a.call outcome ∷ records_of v.asked (call_ends (rests after its_row)))
-  was_legal = legal_back (base_map v.base) v.journal (record_for a.call outcome ∷ records_of v.asked (call_ends (rests after its_row)))
-      (rw records_first at was_rest.legal)
-
-  pub allowed : Allowed (map_after (base_map v.base) v.journal a.call.table a.call.key) a.call.op outcome
-  allowed = was_legal.0
-
-  pub legal_behind : IsLegal (map_with (map_after (base_map v.base) v.journal) new) (records_of v.asked (call_ends (rests after its_row)))
-  legal_behind = was_legal.1

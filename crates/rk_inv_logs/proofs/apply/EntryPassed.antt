@@ -2,9 +2,8 @@
 use Rattle.std.proofs.Common.{◌≡◌, ℕ, ◌+◌, None, refl, sym, ap, ◌∙◌, subst}
 use Rattle.rk_inv_base.proofs.Words.{get, Entry, apply_entry, with_applied, with_ended, with_entry_item, told_by, marks_of, Master, changed}
 use Rattle.rk_inv_base.proofs.Words.{World, master_at, tablet_in, written_by, put, view, IsSound, SoundView}
+use Rattle.rk_inv_logs.proofs.Words.{put2_same, put_here, put_is, put_other, put_same, view_master}
 use Rattle.rk_entry.specs.declared.entry.Entry.TheVariants as entries
-use Rattle.rk_inv_base.proofs.views.Put.{put2_same, put_here, put_is, put_other, put_same}
-use Rattle.rk_inv_base.proofs.views.Views.{view_master}
 use Rattle.rk_inv_logs.specs.apply.Small.{entry_applied, entry_applied_in, with_item_of, with_one_applied, worked_in}
 
 -- an item goes into the records of a master

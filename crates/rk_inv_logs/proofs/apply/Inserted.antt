@@ -5,13 +5,12 @@ use Rattle.rk_inv_base.proofs.Words.{cases_Bool, flat_map-append, All-contains, 
 use Rattle.rk_inv_base.proofs.Words.{Contains-append_left, Contains-append_right, filter-append, fold-append, Held, Entry, filter_kept}
 use Rattle.rk_inv_base.proofs.Words.{filter_left_out, newest_is, newer_item, newest_from-append, with_newer_here, with_newer_other}
 use Rattle.rk_inv_base.proofs.Words.{none_stands, stands_cases, is_of_from, is_of_parts, is_of, newest, none_found, IsPlain, items_in}
-use Rattle.rk_inv_base.proofs.Words.{items_of, floor_by, floor_of, AreAbove, IsAboveAll}
-use Rattle.rk_entry.specs.declared.entry.Entry.TheVariants as entries
-use Rattle.rk_overlay.proofs.Folds.{newest_from-same, newest_from-stays}
+use Rattle.rk_inv_base.proofs.Words.{items_of, floor_by, floor_of, AreAbove, IsAboveAll, first_stands}
+use Rattle.rk_inv_logs.proofs.Words.{newest_from-same, newest_from-stays, all_by, append_nil, flat_from, flat_of}
 use Rattle.rk_overlay.specs.Newest.{Found, newest_from, with_newer}
 use Rattle.rk_inv_base.proofs.logs.Floors.{floor_append}
-use Rattle.rk_inv_base.proofs.views.Lists.{all_by}
-use Rattle.rk_inv_base.proofs.logs.Shares.{append_nil}
+use Rattle.rk_entry.specs.declared.entry.Entry.TheVariants as entries
+use Rattle.rk_inv_logs.proofs.apply.More.{HasMore, more_before, more_behind, more_cases, more_kept, more_still, more_there, told_among}
 
 -- a list has one more entry, at some place
 pub record IsInserted (entry : Entry) (old new : List Entry) : Type 0 where
@@ -24,32 +23,29 @@ pub record IsInserted (entry : Entry) (old new : List Entry) : Type 0 where
 pub inserted_last : (entry : Entry) (list : List Entry) → IsInserted entry list (list ++ entry ∷ [])
 inserted_last entry list = record { before = list; behind = []; old_is = sym (append_nil list); new_is = refl }
 
+-- that is one entry more
+abbrev pub more_one : {entry : Entry} {old now : List Entry} → IsInserted entry old now → HasMore old now
+more_one {entry} put =
+    record { before = put.before; block = entry ∷ []; behind = put.behind; old_is = put.old_is; now_is = put.new_is }
+
+abbrev of_one : {entry : Entry} {old new : List Entry} (more : HasMore old new) → more.block ≡ entry ∷ [] → IsInserted entry old new
+of_one {entry} more is = record {
+  before = more.before;
+  behind = more.behind;
+  old_is = more.old_is;
+  new_is = more.now_is ∙ ap (λ (l : List Entry). more.before ++ (l ++ more.behind)) is;
+}
+
 module _ (entry : Entry) (old new : List Entry) (put : IsInserted entry old new) where
   -- behind others, before others, and among those that pass a test
   pub inserted_behind : (front : List Entry) → IsInserted entry (front ++ old) (front ++ new)
-  inserted_behind front = record {
-    before = front ++ put.before;
-    behind = put.behind;
-    old_is = ap (λ (l : List Entry). front ++ l) put.old_is ∙ sym (append_assoc front put.before put.behind);
-    new_is = ap (λ (l : List Entry). front ++ l) put.new_is ∙ sym (append_assoc front put.before (entry ∷ put.behind));
-  }
+  inserted_behind front = of_one (more_behind (more_one put) front) refl
 
   pub inserted_before : (back : List Entry) → IsInserted entry (old ++ back) (new ++ back)
-  inserted_before back = record {
-    before = put.before;
-    behind = put.behind ++ back;
-    old_is = ap (λ (l : List Entry). l ++ back) put.old_is ∙ append_assoc put.before put.behind back;
-    new_is = ap (λ (l : List Entry). l ++ back) put.new_is ∙ append_assoc put.before (entry ∷ put.behind) back;
-  }
+  inserted_before back = of_one (more_before (more_one put) back) refl
 
   pub inserted_kept : (p : Entry → Bool) → p entry ≡ true → IsInserted entry (filter p old) (filter p new)
-  inserted_kept p passes = record {
-    before = filter p put.before;
-    behind = filter p put.behind;
-    old_is = ap (filter p) put.old_is ∙ filter-append p put.before put.behind;
-    new_is = ap (filter p) put.new_is ∙ filter-append p put.before (entry ∷ put.behind)
-        ∙ ap (λ (l : List Entry). filter p put.before ++ l) (filter_kept p entry put.behind passes);
-  }
+  inserted_kept p passes = of_one (more_kept (more_one put) p) (filter_kept p entry [] passes)
 
   pub inserted_out : (p : Entry → Bool) → p entry ≡ false → filter p new ≡ filter p old
   inserted_out p fails = ap (filter p) put.new_is ∙ filter-append p put.before (entry ∷ put.behind)
@@ -67,31 +63,20 @@ module _ (entry : Entry) (old new : List Entry) (put : IsInserted entry old new)
 
     -- what was told is told, and so is what the entry tells
     pub told_still : (x : X) → Contains (flat_map f old) x → Contains (flat_map f new) x
-    told_still x at = rw parts_now
-        (elim
-        (Contains-append_cases (flat_map f put.before) (flat_map f put.behind) x (subst (λ (l : List X). Contains l x) parts_old at)) [
-          | inl front ↦ Contains-append_left (flat_map f put.before) (f entry ++ flat_map f put.behind) x front
-          | inr back ↦ Contains-append_right (flat_map f put.before) (f entry ++ flat_map f put.behind) x
-              (Contains-append_right (f entry) (flat_map f put.behind) x back)
-        ])
+    told_still = told_among f old new (more_still (more_one put))
 
     pub told_new : (x : X) → Contains (f entry) x → Contains (flat_map f new) x
-    told_new x at = rw parts_now
-        (Contains-append_right (flat_map f put.before) (f entry ++ flat_map f put.behind) x
-        (Contains-append_left (f entry) (flat_map f put.behind) x at))
+    told_new x at = flat_of f new entry x (more_there (more_one put) entry (first_stands entry [])) at
 
     -- and nothing else is
     pub told_cases : (x : X) → Contains (flat_map f new) x → Contains (f entry) x ⊎ Contains (flat_map f old) x
-    told_cases x at =
-        elim
-        (Contains-append_cases (flat_map f put.before) (f entry ++ flat_map f put.behind) x
-        (subst (λ (l : List X). Contains l x) parts_now at)) [
-          | inl front ↦ inr (rw parts_old (Contains-append_left (flat_map f put.before) (flat_map f put.behind) x front))
-          | inr rest ↦ elim (Contains-append_cases (f entry) (flat_map f put.behind) x rest) [
-            | inl own ↦ inl own
-            | inr back ↦ inr (rw parts_old (Contains-append_right (flat_map f put.before) (flat_map f put.behind) x back))
-          ]
-        ]
+    told_cases x at = let of = flat_from f new x at in elim (more_cases (more_one put) of.0 of.1) [
+      | inl its ↦ elim (stands_cases entry [] of.0 its) [
+        | inl is ↦ inl (subst (λ (e : Entry). Contains (f e) x) (sym is) of.2)
+        | inr none ↦ absurd (none_stands of.0 none)
+      ]
+      | inr was ↦ inr (flat_of f old of.0 x was of.2)
+    ]
 
 -- ---- floors
 

@@ -1,29 +1,29 @@
 -- Records with the item of an entry that is applied: what was found is found, the item is, and they have the newest of each key still.
-use Rattle.std.proofs.Common.{◌≡◌, ℕ, ◌<◌, Bool, true, false, cond, List, [], ◌∷◌, Option, Some, None, refl, sym, ap, ◌∙◌, subst, ⊎_elim}
-use Rattle.std.proofs.Common.{inl, inr, ◌⊎◌, arith, find, Contains, lt-ltb, ltb-false}
+use Rattle.std.proofs.Common.{◌≡◌, ℕ, ◌<◌, Bool, true, false, List, [], ◌∷◌, Option, Some, None, refl, sym, ap, ◌∙◌, subst, ⊎_elim, inl}
+use Rattle.std.proofs.Common.{inr, ◌⊎◌, arith, find, Contains, lt-ltb, ltb-false}
 use Rattle.rk_inv_base.proofs.Words.{cases_Bool, false≢true, flat_map-append, All-contains, All-head, Held, Range, name-swap, Entry}
 use Rattle.rk_inv_base.proofs.Words.{order_after, same_older, found, is_in, is_newer, with_newer, IsInScanOrder, newest_is, newer_item}
 use Rattle.rk_inv_base.proofs.Words.{newest_from-append, with_newer_here, with_newer_other, behind_stands, first_stands, none_stands}
 use Rattle.rk_inv_base.proofs.Words.{stands_cases, is_of_from, is_of_parts, is_of, newest, none_found, items_in, items_of, counts, Written}
 use Rattle.rk_inv_base.proofs.Words.{IsAboveAll, IsBare, IsFound, IsTableOf}
-use Rattle.rk_entry.specs.declared.entry.Entry.TheVariants as entries
+use Rattle.rk_inv_logs.proofs.Words.{found_still, in_by_key, newer_cases, newer_stands, other_stays, stands_is_found, append_nil}
 use Rattle.rk_overlay.specs.Newest.{with_newer as found_newer}
 use Rattle.rk_table.specs.Items.{is_at}
 use Rattle.rk_inv_base.proofs.pulls.ItemsPulled.{bare_beside, table_beside}
-use Rattle.rk_inv_base.proofs.calls.Records.{found_still, in_by_key, newer_cases, newer_stands, other_stays, stands_is_found}
-use Rattle.rk_inv_base.proofs.logs.Shares.{append_nil}
+use Rattle.rk_entry.specs.declared.entry.Entry.TheVariants as entries
 use Rattle.rk_inv_logs.specs.apply.Small.{with_item_of}
 use Rattle.rk_inv_logs.proofs.apply.Inserted.{AreNewest, IsInserted, newest_inserted, same_items}
 
 -- what is found stands there, and passes
 found_at : (p : Held → Bool) (items : List Held) (item : Held) → find p items ≡ Some item → Contains items item × (p item ≡ true)
 found_at p [] item is = absurd (cc is)
-found_at p (first ∷ items) item is = go (p first) refl is (found_at p items item)
-  where
-    go : (b : Bool) → p first ≡ b → cond b (Some first) (find p items) ≡ Some item → (find p items ≡ Some item → Contains items item × (p item ≡ true)) → Contains (first ∷ items) item × (p item ≡ true)
-    go true passes is later =
-        let same : first ≡ item = cc is in (subst (Contains (first ∷ items)) same (first_stands first items), subst (λ (x : Held). p x ≡ true) same passes)
-    go false fails is later = let there = later is in (behind_stands first items item there.0, there.1)
+found_at p (first ∷ items) item is = elim (cases_Bool (p first)) [
+  | inl passes ↦
+      let found : Some first ≡ Some item = rw passes at is in
+      let same : first ≡ item = cc found in
+      (subst (Contains (first ∷ items)) same (first_stands first items), subst (λ (x : Held). p x ≡ true) same passes)
+  | inr fails ↦ let later = found_at p items item (rw fails at is) in (behind_stands first items item later.0, later.1)
+]
 
 -- ---- what is found
 

@@ -1,119 +1,83 @@
 -- A view stays sound when a Joined is applied that bears no mark: the side items that it makes part of its master's log are of the truth of
 -- the first member already, or it names none for the row.
-use Rattle.std.proofs.Common.{◌≡◌, ℕ, ◌+◌, ◌≤◌, ◌<◌, max, true, false, List, [], ◌∷◌, ◌++◌, Option, Some, None, refl, sym, ap, ◌∙◌, subst}
-use Rattle.std.proofs.Common.{inl, inr, ◌⊎◌, arith, append_assoc, drop, filter, length, take, slice_get, Contains, flat_map, length-append}
-use Rattle.std.proofs.lemmas.List.{nil_from_length}
-use Rattle.rk_inv_base.proofs.Words.{cases_Bool, cases_eq, cases_lt, cond-false, All-contains, All-nil, Contains-append_left, filter-append}
-use Rattle.rk_inv_base.proofs.Words.{get, meets, Call, Held, Member, Range, Entry, Joined, filter_kept, lineage_of, Row, items_in, items_of}
-use Rattle.rk_inv_base.proofs.Words.{is_marked, unmarked, unmarked_from, counting, counts, is_joined_in, joined_from, log_material}
-use Rattle.rk_inv_base.proofs.Words.{material_of, named, named_by, side_entries, own_place, Written, lineage_rest, lineage_truth}
-use Rattle.rk_inv_base.proofs.Words.{member_material, member_rest, member_truth, IsFound, NamedFit, named_items, FirstIsDone, IsEntryOf}
-use Rattle.rk_inv_base.proofs.Words.{OnlyIsUnnamed, AreApart, View, SoundView}
+use Rattle.std.proofs.Common.{◌≡◌, ℕ, ◌+◌, ◌≤◌, max, true, false, List, [], ◌∷◌, ◌++◌, Some, None, refl, sym, ap, ◌∙◌, subst, inl, inr, ◌⊎◌}
+use Rattle.std.proofs.Common.{arith, drop, filter, length, take, slice_get, Contains, flat_map, length-append, Bool, take-append-drop}
+use Rattle.rk_inv_base.proofs.Words.{cases_Bool, cond-false, All-nil, Contains-append_left, filter-append, get, meets, Held, Member, Range}
+use Rattle.rk_inv_base.proofs.Words.{Entry, Joined, filter_kept, lineage_of, Row, items_in, items_of, is_marked, unmarked_from, counting}
+use Rattle.rk_inv_base.proofs.Words.{counts, is_joined_in, joined_from, material_of, named, side_entries, own_place, Written}
+use Rattle.rk_inv_base.proofs.Words.{member_material, member_rest, member_truth, NamedFit, FirstIsDone, IsEntryOf, OnlyIsUnnamed, AreApart}
+use Rattle.rk_inv_base.proofs.Words.{View, SoundView, last_of}
+use Rattle.rk_inv_logs.proofs.Words.{nil_from_length, formed_apart, Extends, still_contains, sides_extend, append_nil, unless_marked}
+use Rattle.rk_inv_logs.proofs.Words.{kept_stands, row_in, flat_from, named_from, named_of}
 use Rattle.rk_entry.specs.declared.entry.Entry.TheVariants as entries
-use Rattle.rk_inv_base.proofs.calls.Appending.{formed_apart}
-use Rattle.rk_inv_base.proofs.logs.Grows.{Extends}
-use Rattle.rk_inv_base.proofs.views.Needed.{sides_extend}
-use Rattle.rk_inv_base.proofs.logs.Shares.{append_nil}
 use Rattle.rk_inv_logs.specs.apply.Small.{MayApplyUnmarked, entry_applied, with_one_applied}
-use Rattle.rk_inv_logs.proofs.apply.Keeps.{HasMore, KeepsRow, more_none, told_among, told_from}
+use Rattle.rk_inv_logs.proofs.apply.Members.{IsNextOf, IsStill, member_cases, stands_at, still}
+use Rattle.rk_inv_logs.proofs.apply.NamedSides.{IsNamedItem, has_block, named_item}
+use Rattle.rk_inv_logs.proofs.apply.NextEntry.{dropped_next, unmarked_next}
+use Rattle.rk_inv_logs.proofs.apply.Passing.{Gains, Passing, gains_none, none_found}
+use Rattle.rk_inv_logs.proofs.read.ReadMember.{unmarked_grow}
 use Rattle.rk_inv_logs.proofs.apply.JoinedOwn.{applied_named, held_of}
-use Rattle.rk_inv_logs.proofs.apply.NamedSides.{IsNamedItem, has_block, named_has, named_in, named_item, unmarked_all, unmarked_now}
-use Rattle.rk_inv_logs.proofs.apply.NamedSides.{unmarked_within}
-use Rattle.rk_inv_logs.proofs.apply.NextEntry.{dropped_next, nothing_ahead, rest_beside, truth_beside}
-use Rattle.rk_inv_logs.proofs.apply.Applies.{HasApplied, of_one_applied}
-use Rattle.rk_inv_logs.proofs.apply.Passing.{IsStill, Passing}
 use Rattle.rk_inv_logs.proofs.apply.PassingState.{view_passed}
-use Rattle.rk_inv_logs.proofs.apply.OfRow.{row_done, row_formed}
 
 -- an item of entries stands among them
 pub item_entry : (list : List Entry) (item : Held) → Contains (items_of list) item → Contains list (entries.Held item)
-item_entry list item at = let told_it = told_from items_in list item at in rw (held_of told_it.entry item told_it.tells) told_it.stands
+item_entry list item at = let of = flat_from items_in list item at in rw (held_of of.0 item of.2) of.1
 
 -- side items came into the truth of a member, which it names
-record Names (joined : Joined) (master : ℕ) (written now : ℕ → Written) (range : Range) (member : Member) : Type 0 where
+record Names (v : View) (joined : Joined) (now : ℕ → Written) (range : Range) (member : Member) : Type 0 where
   block : List Entry
-  truth : member_truth now range member ≡ member_truth written range member ++ block
-  rest : member_rest now range member ≡ member_rest written range member
-  sides : (e : Entry) → Contains block e → IsNamedItem range (written member.master).sides (named range (unmarked_from (written member.master).marks member.from (written member.master).entries)) e
-  few : length (member_truth written range member) + length block ≤ length (member_material written range member)
+  truth : member_truth now range member ≡ member_truth v.written range member ++ block
+  rest : member_rest now range member ≡ member_rest v.written range member
+  sides : (e : Entry) → Contains block e → IsNamedItem range (v.written member.master).sides (named range (unmarked_from (v.written member.master).marks member.from (v.written member.master).entries)) e
+  few : length (member_truth v.written range member) + length block ≤ length (member_material v.written range member)
   met : meets joined.range range ≡ true
-  at : member.master ≡ master
-  behind : member.from ≤ (written member.master).applied
+  stands : slice_get (v.written member.master).entries (v.written member.master).applied ≡ Some (entries.Joined joined)
+  behind : member.from ≤ (v.written member.master).applied
 
 module _ (v : View) (master : ℕ) (joined : Joined) (sound : SoundView v) (may : MayApplyUnmarked v master (entries.Joined joined)) where
-  -- what is written then
+  abbrev entry : Entry
+  entry = entries.Joined joined
+
   abbrev after : ℕ → Written
   after = with_one_applied v.written master
 
   none_waits : get (v.calls master) (v.written master).applied ≡ None
-  none_waits = go (get (v.calls master) (v.written master).applied) refl
-    where
-      go : (o : Option Call) → get (v.calls master) (v.written master).applied ≡ o → o ≡ None
-      go None is = refl
-      go (Some call) is =
-          let waits = sound.rest.waiting master may.held.lives (v.written master).applied call is in
-          let same : waits.entry ≡ entries.Joined joined = cc (sym waits.stands ∙ may.stands) in
-          absurd (subst (IsEntryOf call) same waits.own)
-
-  stands_at : (q : ℕ) → q ≡ master → slice_get (v.written q).entries (v.written q).applied ≡ Some (entries.Joined joined)
-  stands_at q at = ap (λ (n : ℕ). slice_get (v.written n).entries (v.written n).applied) at ∙ may.stands
-
-  free_at : (q : ℕ) → q ≡ master → is_marked (v.written q).marks (v.written q).applied ≡ false
-  free_at q at = ap (λ (n : ℕ). is_marked (v.written n).marks (v.written n).applied) at ∙ may.unmarked
+  none_waits = none_found v master sound may.held.lives (λ call waits.
+      let same : waits.entry ≡ entry = cc (sym waits.stands ∙ may.stands) in subst (IsEntryOf call) same waits.own)
 
   -- ---- members
 
-  rest_same : (range : Range) (member : Member) → member_rest after range member ≡ member_rest v.written range member
-  rest_same range member =
+  names : (range : Range) (member : Member) → IsNextOf v.written master (entries.Joined joined) may.stands range member → meets joined.range range ≡ true → Names v joined (with_one_applied v.written master) range member
+  names range member next met =
       let w : Written = v.written member.master in
-      of_one_applied v.written master (λ n. counting range (unmarked_from w.marks (max member.from n) w.entries) ≡ member_rest v.written range member) member.master
-      (λ at. rest_beside range w.entries w.applied (entries.Joined joined) (stands_at member.master at) w.marks member.from refl)
-      (λ apart. refl)
-
-  still : (range : Range) (member : Member) → (member.master ≡ master → (meets joined.range range ≡ false) ⊎ ((v.written member.master).applied < member.from)) → IsStill v.written after range member
-  still range member beside =
-      let w : Written = v.written member.master in
-      record {
-        truth = of_one_applied v.written master
-            (λ n. log_material range w.marks w.sides member.from (take n w.entries) ≡ member_truth v.written range member) member.master
-            (λ at. elim (beside at) [
-              | inl apart ↦ truth_beside range w.entries w.applied (entries.Joined joined) (stands_at member.master at)
-                  (cond-false (meets joined.range range) joined.segments [] apart) w.marks w.sides member.from refl
-              | inr ahead ↦ ap (λ (l : List Entry). material_of range (side_entries w.sides) (unmarked w.marks member.from l))
-                  (nothing_ahead w.entries w.applied (entries.Joined joined) (stands_at member.master at) member.from ahead)
-            ]) (λ apart. refl);
-        rest = rest_same range member;
-      }
-
-  names : (range : Range) (member : Member) → member.master ≡ master → meets joined.range range ≡ true → member.from ≤ (v.written member.master).applied → Names joined master v.written after range member
-  names range member at met behind =
-      let w : Written = v.written member.master in
-      let stands : slice_get w.entries w.applied ≡ Some (entries.Joined joined) = stands_at member.master at in
-      let free : is_marked w.marks w.applied ≡ false = free_at member.master at in
+      let side : ℕ → List Entry = side_entries w.sides in
+      let stands : slice_get w.entries w.applied ≡ Some entry = stands_at v.written master entry may.stands member.master next.at in
+      let free : is_marked w.marks w.applied ≡ false =
+      ap (λ (n : ℕ). is_marked (v.written n).marks (v.written n).applied) next.at ∙ may.unmarked in
       let old : List Entry = unmarked_from w.marks member.from (take w.applied w.entries) in
       let now : List Entry = unmarked_from w.marks member.from (take (w.applied + 1) w.entries) in
       let all : List Entry = unmarked_from w.marks member.from w.entries in
-      let is = unmarked_now w.entries w.applied (entries.Joined joined) stands w.marks free member.from behind in
-      let more = has_block range w.sides old (entries.Joined joined) refl in
-      let truth_is = ap (material_of range (side_entries w.sides)) is ∙ more.parts in
-      let grown = unmarked_all w.entries w.applied (entries.Joined joined) stands w.marks free member.from in
+      let left : List Entry = unmarked_from w.marks (max member.from (w.applied + 1)) w.entries in
+      let is : now ≡ old ++ entry ∷ [] =
+      unmarked_next w.entries w.applied entry stands w.marks member.from next.behind ∙ ap (λ (b : Bool). old ++ unless_marked b entry)
+      free in
+      let more = has_block range w.sides old entry refl in
+      let grown = unmarked_grow w.marks member.from (take (w.applied + 1) w.entries) w.entries
+      (record { more = drop (w.applied + 1) w.entries; parts = sym (take-append-drop (w.applied + 1) w.entries) }) in
       record {
         block = more.block;
-        truth = of_one_applied v.written master
-            (λ n. log_material range w.marks w.sides member.from (take n w.entries) ≡ member_truth v.written range member ++ more.block)
-            member.master (λ here. truth_is) (λ apart. absurd (apart at));
-        rest = rest_same range member;
+        truth = next.truth ∙ ap (λ (b : Bool). material_of range side (old ++ unless_marked b entry)) free ∙ more.parts;
+        rest = next.rest_now ∙ sym (next.rest ∙ ap (λ (b : Bool). counting range (unless_marked b entry ++ left)) free);
         sides = λ e there.
-            named_item range w.sides (named range (old ++ entries.Joined joined ∷ [])) (named range all) e
-            (λ k in_old.
-            named_has range all k
-            (told_among (named_by range) now all
-            (unmarked_within w.entries w.applied (entries.Joined joined) stands w.marks free member.from) k
-            (rw is (named_in range (old ++ entries.Joined joined ∷ []) k in_old)))) (more.from e there);
-        few = longer w now all (material_of range (side_entries w.sides) old) more.block truth_is grown;
+            let kept = kept_stands (counts range) (flat_map side (named range (old ++ entry ∷ []))) e (more.from e there) in
+            let of = flat_from side (named range (old ++ entry ∷ [])) e kept.0 in
+            let by = named_from range (old ++ entry ∷ []) of.0 of.1 in
+            named_item range w.sides (named range all) of.0 e
+            (named_of range all by.0 of.0 (still_contains now all by.0 grown (rw is by.1)) by.2) of.2 kept.1;
+        few = longer w now all (material_of range side old) more.block (ap (material_of range side) is ∙ more.parts) grown;
         met = met;
-        at = at;
-        behind = behind;
+        stands = stands;
+        behind = next.behind;
       }
     where
       longer : (w : Written) (now all front back : List Entry) → material_of range (side_entries w.sides) now ≡ front ++ back → Extends now all → length front + length back ≤ length (material_of range (side_entries w.sides) all)
@@ -133,22 +97,22 @@ module _ (v : View) (master : ℕ) (joined : Joined) (sound : SoundView v) (may 
           let seven = length-append (counting range (flat_map side (named range now))) sides.more in
           omega (arith, one, same, two, three, four, five, six, seven)
 
-  either : (range : Range) (member : Member) → IsStill v.written after range member ⊎ Names joined master v.written after range member
-  either range member = elim (cases_eq member.master master) [
-    | inl at ↦ elim (cases_Bool (meets joined.range range)) [
-      | inl met ↦ elim (cases_lt (v.written member.master).applied member.from) [
-        | inl ahead ↦ inl (still range member (λ _. inr ahead))
-        | inr behind ↦ inr (names range member at met behind)
-      ]
-      | inr apart ↦ inl (still range member (λ _. inl apart))
+  either : (range : Range) (member : Member) → IsStill v.written (with_one_applied v.written master) range member ⊎ Names v joined (with_one_applied v.written master) range member
+  either range member = elim (member_cases v.written master entry may.stands range member) [
+    | inl same ↦ inl same
+    | inr next ↦ elim (cases_Bool (meets joined.range range)) [
+      | inl met ↦ inr (names range member next met)
+      | inr apart ↦
+          inl
+          (still v.written master entry may.stands range member
+          (λ at free. (refl, cond-false (meets joined.range range) joined.segments [] apart)))
     ]
-    | inr apart ↦ inl (still range member (λ at. absurd (apart at)))
   ]
 
   -- the first of two names no more than what it has applied
-  first_still : (row : Row) → Contains v.rows row → (first second : Member) (more : List Member) → lineage_of row.phase ≡ first ∷ second ∷ more → IsStill v.written after row.range first
+  first_still : (row : Row) → Contains v.rows row → (first second : Member) (more : List Member) → lineage_of row.phase ≡ first ∷ second ∷ more → IsStill v.written (with_one_applied v.written master) row.range first
   first_still row has first second more is =
-      let done : FirstIsDone v.written row.range (first ∷ second ∷ more) = rw is at (row_done v sound row has) in
+      let done : FirstIsDone v.written row.range (first ∷ second ∷ more) = rw is at (row_in v sound row has).done in
       elim (either row.range first) [
         | inl same ↦ same
         | inr named_it ↦
@@ -162,27 +126,21 @@ module _ (v : View) (master : ℕ) (joined : Joined) (sound : SoundView v) (may 
       ]
 
   -- and an only one has no Joined of the range that is not applied
-  only_still : (row : Row) → Contains v.rows row → (only : Member) → lineage_of row.phase ≡ only ∷ [] → IsStill v.written after row.range only
+  only_still : (row : Row) → Contains v.rows row → (only : Member) → lineage_of row.phase ≡ only ∷ [] → IsStill v.written (with_one_applied v.written master) row.range only
   only_still row has only is =
       let unnamed : OnlyIsUnnamed v.written row.range (only ∷ []) =
-      rw is at (All-contains (λ (r : Row). OnlyIsUnnamed v.written r.range (lineage_of r.phase)) v.rows row sound.rest.unnamed has) in
+      rw is at (row_in v sound row has).unnamed in
       elim (either row.range only) [
         | inl same ↦ same
         | inr named_it ↦
             let w : Written = v.written only.master in
             let here : max only.from w.applied ≡ w.applied =
             (let behind : only.from ≤ w.applied = named_it.behind in omega (arith, behind)) in
-            let stands : slice_get w.entries w.applied ≡ Some (entries.Joined joined) = stands_at only.master named_it.at in
             let joins : joined_from row.range w.applied w.entries ≡ entries.Joined joined ∷ filter (is_joined_in row.range) (drop (w.applied + 1) w.entries) =
-            ap (filter (is_joined_in row.range)) (dropped_next w.entries w.applied (entries.Joined joined) stands)
+            ap (filter (is_joined_in row.range)) (dropped_next w.entries w.applied (entries.Joined joined) named_it.stands)
             ∙ filter_kept (is_joined_in row.range) (entries.Joined joined) (drop (w.applied + 1) w.entries) named_it.met in
             absurd (cc (sym joins ∙ ap (λ (n : ℕ). joined_from row.range n w.entries) (sym here) ∙ unnamed))
       ]
-
-  -- ---- rows
-
-  apart_in : (row : Row) → Contains v.rows row → AreApart (lineage_of row.phase)
-  apart_in row has = formed_apart row.phase (row_formed v sound row has)
 
   -- what the last of two names is of the truth of the first one
   named_first : (row : Row) → Contains v.rows row → (first second : Member) → lineage_of row.phase ≡ first ∷ second ∷ [] → (e : Entry)
@@ -190,69 +148,36 @@ module _ (v : View) (master : ℕ) (joined : Joined) (sound : SoundView v) (may 
       → Contains (member_truth v.written row.range first) e
   named_first row has first second is e named_it =
       let fit : NamedFit v.written row.range (first ∷ second ∷ []) =
-      rw is at (All-contains (λ (r : Row). NamedFit v.written r.range (lineage_of r.phase)) v.rows row sound.receives.named has) in
+      rw is at (row_in v sound row has).named_items in
       rw named_it.is at (item_entry (member_truth v.written row.range first) named_it.item (fit named_it.item named_it.stands))
 
-  keeps_at : (row : Row) → Contains v.rows row → (lineage : List Member) → AreApart lineage → lineage_of row.phase ≡ lineage
-      → KeepsRow v.base v.journal (lineage_truth v.base v.written row.range lineage) (lineage_rest v.written row.range lineage)
-      (lineage_truth v.base after row.range lineage) (lineage_rest after row.range lineage)
-  keeps_at row has (only ∷ []) apart is =
-      let same = only_still row has only is in
-      record {
-        more = more_none (ap (λ (l : List Entry). l ++ []) same.truth);
-        head = [];
-        rest_is = sym same.rest;
-        quiet = All-nil _;
-        from = λ e at. inr at;
-      }
-  keeps_at row has (first ∷ second ∷ []) apart is =
-      let front = first_still row has first second [] is in
-      let f : List Entry = member_truth v.written row.range first in
-      let t : List Entry = member_truth v.written row.range second in
-      elim (either row.range second) [
-        | inl same ↦ record {
-          more = more_none (λ i. front.truth i ++ (same.truth i ++ []));
-          head = [];
-          rest_is = sym same.rest;
-          quiet = All-nil _;
-          from = λ e at. inr at;
-        }
+  last_gains : (row : Row) → Contains v.rows row → (lineage : List Member) → AreApart lineage → lineage_of row.phase ≡ lineage → (last : Member) → last_of lineage ≡ Some last → Gains v (with_one_applied v.written master) row last
+  last_gains row has (only ∷ []) apart is last ends =
+      let same : only ≡ last = cc ends in
+      subst (Gains v after row) same (gains_none v after row only (only_still row has only is))
+  last_gains row has (first ∷ second ∷ []) apart is last ends = let same : second ≡ last = cc ends in
+      subst (Gains v after row) same (elim (either row.range second) [
+        | inl still ↦ gains_none v after row second still
         | inr named_it ↦ record {
           more = record {
-            before = f ++ t;
+            before = member_truth v.written row.range second;
             block = named_it.block;
             behind = [];
-            old_is = sym (append_assoc f t []);
-            now_is =
-                (λ i. front.truth i ++ (named_it.truth i ++ [])) ∙ ap (λ (l : List Entry). f ++ l) (append_assoc t named_it.block [])
-                ∙ sym (append_assoc f t (named_it.block ++ []));
+            old_is = sym (append_nil (member_truth v.written row.range second));
+            now_is = named_it.truth
+                ∙ ap (λ (l : List Entry). member_truth v.written row.range second ++ l) (sym (append_nil named_it.block));
           };
           head = [];
           rest_is = sym named_it.rest;
           quiet = All-nil _;
-          from = λ e at. inl (Contains-append_left f (t ++ []) e (named_first row has first second is e (named_it.sides e at)));
+          from = λ e at.
+              inl
+              (rw is
+              (Contains-append_left (member_truth v.written row.range first) (member_truth v.written row.range second ++ []) e
+              (named_first row has first second is e (named_it.sides e at))));
         }
-      ]
-  keeps_at row has _ apart is = absurd apart
-
-  grows : (range : Range) (member : Member) → HasMore (member_truth v.written range member) (member_truth after range member)
-  grows range member = elim (either range member) [
-    | inl same ↦ more_none same.truth
-    | inr named_it ↦ record {
-      before = member_truth v.written range member;
-      block = named_it.block;
-      behind = [];
-      old_is = sym (append_nil (member_truth v.written range member));
-      now_is = named_it.truth ∙ ap (λ (l : List Entry). member_truth v.written range member ++ l) (sym (append_nil named_it.block));
-    }
-  ]
-
-  -- ---- what the master rebuilds
-
-  own : (row : Row) → ((x : Held) → Contains (named_items row.range (own_place (v.handovers master row.tablet).role) (v.written master)) x → IsFound (v.records master) x)
-      → HasApplied row.range (own_place (v.handovers master row.tablet).role) (v.written master) (entries.Joined joined) (v.records master)
-  own row found = applied_named row.range (v.written master) joined may.stands may.unmarked (own_place (v.handovers master row.tablet).role)
-      (v.records master) found
+      ])
+  last_gains row has _ apart is last ends = absurd apart
 
   abbrev passing : Passing v
   passing = record {
@@ -262,12 +187,13 @@ module _ (v : View) (master : ℕ) (joined : Joined) (sound : SoundView v) (may 
     held = may.held;
     stands = may.stands;
     none = none_waits;
-    keeps = λ row has. keeps_at row has (lineage_of row.phase) (apart_in row has) refl;
-    grows = λ row has member in_lineage. grows row.range member;
     firsts = first_still;
     only = λ row has only is. ap items_of (only_still row has only is).truth;
+    lasts = λ row has. last_gains row has (lineage_of row.phase) (formed_apart row.phase (row_in v sound row has).formed) refl;
     copied = inl refl;
-    own = λ row has lineage is term found. own row found;
+    own = λ row has found.
+        applied_named row.range (v.written master) joined may.stands may.unmarked (own_place (v.handovers master row.tablet).role)
+        (v.records master) found;
   }
 
   pub view_joined : SoundView (entry_applied v master (entries.Joined joined))

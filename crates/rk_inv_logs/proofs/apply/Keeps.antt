@@ -1,113 +1,13 @@
 -- Truth and rest of a row, where what was applied tells nothing new: a block of entries came into the truth that were there already, or
 -- stood first in the rest, with no item and of no call.
-use Rattle.std.proofs.Common.{◌≡◌, ◌≤◌, ◌<◌, Bool, true, List, [], ◌∷◌, ◌++◌, refl, sym, ap, ◌∙◌, subst, inl, inr, ◌⊎◌, arith, append_assoc}
-use Rattle.std.proofs.Common.{filter, All, Contains, flat_map}
+use Rattle.std.proofs.Common.{◌≡◌, ◌≤◌, ◌<◌, true, List, [], ◌∷◌, ◌++◌, refl, sym, ap, ◌∙◌, subst, inl, inr, ◌⊎◌, arith, append_assoc}
+use Rattle.std.proofs.Common.{All, Contains, flat_map}
 use Rattle.rk_inv_base.proofs.Words.{flat_map-append, All-contains, All-head, All-tail, All-weaker, Contains-append_cases}
-use Rattle.rk_inv_base.proofs.Words.{Contains-append_left, Contains-append_right, filter-append, Ended, Held, Placed, Entry, behind_stands}
-use Rattle.rk_inv_base.proofs.Words.{first_stands, none_stands, stands_cases, is_of_from, is_of, IsPlain, Base, items_in, items_of, told}
-use Rattle.rk_inv_base.proofs.Words.{told_by, floor_of, IsKnown, AreAbove, call_end, call_ends}
-use Rattle.rk_overlay.specs.Plain.{HaveSame}
-use Rattle.rk_inv_base.proofs.logs.Shares.{append_nil}
-use Rattle.rk_inv_logs.proofs.apply.Inserted.{IsInserted}
-use Rattle.rk_inv_rows.proofs.lineage.FloorsOf.{floor_among}
-use Rattle.rk_inv_rows.proofs.lineage.Among.{to_flat}
-
--- ---- floors, by what stands in a list
-
--- ---- lists with a block of entries put in
-
-pub record HasMore (old now : List Entry) : Type 0 where
-  pub before : List Entry
-  pub block : List Entry
-  pub behind : List Entry
-  pub old_is : old ≡ before ++ behind
-  pub now_is : now ≡ before ++ (block ++ behind)
-
--- nothing was put in; one entry was; or some were at the end
-abbrev pub more_none : {list now : List Entry} → now ≡ list → HasMore list now
-more_none {list} same =
-    record { before = list; block = []; behind = []; old_is = sym (append_nil list); now_is = same ∙ sym (append_nil list) }
-
-abbrev pub more_one : {entry : Entry} {old now : List Entry} → IsInserted entry old now → HasMore old now
-more_one {entry} put =
-    record { before = put.before; block = entry ∷ []; behind = put.behind; old_is = put.old_is; now_is = put.new_is }
-
-abbrev pub more_last : (old block : List Entry) → HasMore old (old ++ block)
-more_last old block = record {
-  before = old;
-  block = block;
-  behind = [];
-  old_is = sym (append_nil old);
-  now_is = ap (λ (l : List Entry). old ++ l) (sym (append_nil block));
-}
-
-module _ {old now : List Entry} (more : HasMore old now) where
-  pub more_behind : (front : List Entry) → HasMore (front ++ old) (front ++ now)
-  more_behind front = record {
-    before = front ++ more.before;
-    block = more.block;
-    behind = more.behind;
-    old_is = ap (λ (l : List Entry). front ++ l) more.old_is ∙ sym (append_assoc front more.before more.behind);
-    now_is = ap (λ (l : List Entry). front ++ l) more.now_is ∙ sym (append_assoc front more.before (more.block ++ more.behind));
-  }
-
-  pub more_before : (back : List Entry) → HasMore (old ++ back) (now ++ back)
-  more_before back = record {
-    before = more.before;
-    block = more.block;
-    behind = more.behind ++ back;
-    old_is = ap (λ (l : List Entry). l ++ back) more.old_is ∙ append_assoc more.before more.behind back;
-    now_is = ap (λ (l : List Entry). l ++ back) more.now_is ∙ append_assoc more.before (more.block ++ more.behind) back
-        ∙ ap (λ (l : List Entry). more.before ++ l) (append_assoc more.block more.behind back);
-  }
-
-  pub more_kept : (p : Entry → Bool) → HasMore (filter p old) (filter p now)
-  more_kept p = record {
-    before = filter p more.before;
-    block = filter p more.block;
-    behind = filter p more.behind;
-    old_is = ap (filter p) more.old_is ∙ filter-append p more.before more.behind;
-    now_is = ap (filter p) more.now_is ∙ filter-append p more.before (more.block ++ more.behind)
-        ∙ ap (λ (l : List Entry). filter p more.before ++ l) (filter-append p more.block more.behind);
-  }
-
-  -- what stood there does, and beside it the block alone
-  pub more_still : (e : Entry) → Contains old e → Contains now e
-  more_still e at = rw more.now_is
-      (elim (Contains-append_cases more.before more.behind e (subst (λ (l : List Entry). Contains l e) more.old_is at)) [
-        | inl front ↦ Contains-append_left more.before (more.block ++ more.behind) e front
-        | inr back ↦ Contains-append_right more.before (more.block ++ more.behind) e (Contains-append_right more.block more.behind e back)
-      ])
-
-  pub more_cases : (e : Entry) → Contains now e → Contains more.block e ⊎ Contains old e
-  more_cases e at =
-      elim (Contains-append_cases more.before (more.block ++ more.behind) e (subst (λ (l : List Entry). Contains l e) more.now_is at)) [
-        | inl front ↦ inr (rw more.old_is (Contains-append_left more.before more.behind e front))
-        | inr later ↦ elim (Contains-append_cases more.block more.behind e later) [
-          | inl new ↦ inl new
-          | inr back ↦ inr (rw more.old_is (Contains-append_right more.before more.behind e back))
-        ]
-      ]
-
--- what is told of a list is told by one of it
-pub record IsToldBy {X : Type 0} (f : Entry → List X) (list : List Entry) (x : X) : Type 0 where
-  pub entry : Entry
-  pub stands : Contains list entry
-  pub tells : Contains (f entry) x
-
-pub told_from : {X : Type 0} (f : Entry → List X) (list : List Entry) (x : X) → Contains (flat_map f list) x → IsToldBy f list x
-told_from f [] x at = absurd (none_stands x at)
-told_from f (first ∷ list) x at = elim (Contains-append_cases (f first) (flat_map f list) x at) [
-  | inl here ↦ record { entry = first; stands = first_stands first list; tells = here }
-  | inr there ↦
-      let later = told_from f list x there in
-      record { entry = later.entry; stands = behind_stands first list later.entry later.stands; tells = later.tells }
-]
-
--- what fewer entries tell more do
-pub told_among : {X : Type 0} (f : Entry → List X) (few many : List Entry) → ((e : Entry) → Contains few e → Contains many e) → (x : X) → Contains (flat_map f few) x → Contains (flat_map f many) x
-told_among f few many within x at =
-    let told_it = told_from f few x at in to_flat f many told_it.entry x (within told_it.entry told_it.stands) told_it.tells
+use Rattle.rk_inv_base.proofs.Words.{Contains-append_left, Contains-append_right, Ended, Held, Placed, Entry, none_stands}
+use Rattle.rk_inv_base.proofs.Words.{stands_cases, is_of_from, is_of, IsPlain, Base, items_in, items_of, told, told_by, floor_of, IsKnown}
+use Rattle.rk_inv_base.proofs.Words.{AreAbove, call_end, call_ends}
+use Rattle.rk_inv_logs.proofs.Words.{HaveSame, append_nil, floor_among, flat_from, flat_of}
+use Rattle.rk_inv_logs.proofs.apply.More.{HasMore, more_cases, more_still, told_among}
 
 -- ---- truth and rest
 
@@ -144,10 +44,10 @@ module _ {base : Base} {journal : List Placed} {truth rest truth' rest' : List E
   items_keep x = (
     told_among items_in truth truth' (more_still keeps.more) x,
     λ at.
-        let told_it = told_from items_in truth' x at in
-        elim (truth_from told_it.entry told_it.stands) [
-          | inl old ↦ to_flat items_in truth told_it.entry x old told_it.tells
-          | inr first ↦ absurd (none_stands x (subst (λ (l : List Held). Contains l x) (quiet_at told_it.entry first).items told_it.tells))
+        let told_it = flat_from items_in truth' x at in
+        elim (truth_from told_it.0 told_it.1) [
+          | inl old ↦ flat_of items_in truth told_it.0 x old told_it.2
+          | inr first ↦ absurd (none_stands x (subst (λ (l : List Held). Contains l x) (quiet_at told_it.0 first).items told_it.2))
         ],
   )
 
@@ -184,22 +84,22 @@ module _ {base : Base} {journal : List Placed} {truth rest truth' rest' : List E
 
   pub truth_tells : (end : Ended) → Contains (told truth') end → Contains (told truth) end ⊎ IsKnown base journal end
   truth_tells end at =
-      let told_it = told_from told_by truth' end at in
-      elim (truth_from told_it.entry told_it.stands) [
-        | inl old ↦ inl (to_flat told_by truth told_it.entry end old told_it.tells)
+      let told_it = flat_from told_by truth' end at in
+      elim (truth_from told_it.0 told_it.1) [
+        | inl old ↦ inl (flat_of told_by truth told_it.0 end old told_it.2)
         | inr first ↦
-            inr (All-contains (IsKnown base journal) (told_by told_it.entry) end (quiet_at told_it.entry first).known told_it.tells)
+            inr (All-contains (IsKnown base journal) (told_by told_it.0) end (quiet_at told_it.0 first).known told_it.2)
       ]
 
   pub rest_tells : (end : Ended) → Contains (told rest) end → IsKnown base journal end ⊎ Contains (told rest') end
   rest_tells end at =
-      let told_it = told_from told_by rest end at in
+      let told_it = flat_from told_by rest end at in
       elim
-      (Contains-append_cases keeps.head rest' told_it.entry
-      (subst (λ (l : List Entry). Contains l told_it.entry) keeps.rest_is told_it.stands)) [
+      (Contains-append_cases keeps.head rest' told_it.0
+      (subst (λ (l : List Entry). Contains l told_it.0) keeps.rest_is told_it.1)) [
         | inl first ↦
-            inl (All-contains (IsKnown base journal) (told_by told_it.entry) end (quiet_at told_it.entry first).known told_it.tells)
-        | inr later ↦ inr (to_flat told_by rest' told_it.entry end later told_it.tells)
+            inl (All-contains (IsKnown base journal) (told_by told_it.0) end (quiet_at told_it.0 first).known told_it.2)
+        | inr later ↦ inr (flat_of told_by rest' told_it.0 end later told_it.2)
       ]
 
   -- floors

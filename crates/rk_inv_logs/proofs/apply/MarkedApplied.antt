@@ -1,25 +1,18 @@
 -- A view stays sound when the next entry of a master's log is applied that bears a mark: it is of a rebuild that the coordinator was not
 -- told of, counts for nothing, and no call waits for it.
-use Rattle.std.proofs.Common.{◌≡◌, ℕ, ◌≤◌, ◌<◌, max, true, ◌&&◌, List, [], ◌∷◌, Option, Some, None, refl, sym, ap, ◌∙◌, subst, inl, inr}
-use Rattle.std.proofs.Common.{◌⊎◌, arith, take, is_some, leb, ltb, IfSome, slice_get, All, Contains, flat_map, leb-true, ltb-true}
-use Rattle.rk_inv_base.proofs.Words.{and_parts, cases_eq, false≢true, All-contains, All-nil, Any-from_list_any, get, Call, Held, Member}
-use Rattle.rk_inv_base.proofs.Words.{Range, Entry, Role, number_of, lineage_of, row_of, Row, none_stands, items_in, items_of, is_marked}
-use Rattle.rk_inv_base.proofs.Words.{unmarked_from, counting, log_material, material_of, named_by, side_entries, own_place, Written}
-use Rattle.rk_inv_base.proofs.Words.{lineage_rest, lineage_truth, member_rest, member_truth, Mark, HasOwnRange, IsOfRange, MarkFits}
-use Rattle.rk_inv_base.proofs.Words.{has_merged, merged_place, View, rests, truths, SoundView}
+use Rattle.std.proofs.Common.{◌≡◌, ℕ, ◌≤◌, ◌<◌, true, ◌&&◌, List, [], Option, Some, None, refl, sym, ap, ◌∙◌, subst, inl, inr, ◌⊎◌, arith}
+use Rattle.std.proofs.Common.{is_some, leb, ltb, IfSome, Contains, leb-true, ltb-true}
+use Rattle.rk_inv_base.proofs.Words.{and_parts, cases_eq, false≢true, All-contains, Any-from_list_any, get, Held, Member, Range, Entry}
+use Rattle.rk_inv_base.proofs.Words.{Role, number_of, row_of, Row, none_stands, items_in, items_of, is_marked, named_by, own_place, Mark}
+use Rattle.rk_inv_base.proofs.Words.{HasOwnRange, IsOfRange, MarkFits, has_merged, merged_place, View, SoundView}
+use Rattle.rk_inv_logs.proofs.Words.{in_one_row, in_piece, found_stands, SoundRow, row_in}
 use Rattle.rk_entry.specs.declared.entry.Entry.TheVariants as entries
 use Rattle.rk_transfer.specs.declared.role.Role.TheVariants as roles
-use Rattle.rk_inv_base.proofs.rows.Apart.{in_one_row}
-use Rattle.rk_inv_base.proofs.logs.MarkedApart.{in_piece}
-use Rattle.rk_inv_base.proofs.rows.Serving.{found_stands}
 use Rattle.rk_inv_logs.specs.apply.Small.{MayApplyMarked, entry_applied, with_one_applied}
-use Rattle.rk_inv_logs.proofs.apply.Keeps.{KeepsRow, more_none}
-use Rattle.rk_inv_logs.proofs.apply.NextEntry.{rest_marked, unmarked_same}
-use Rattle.rk_inv_logs.proofs.apply.Applies.{HasApplied, of_one_applied}
-use Rattle.rk_inv_logs.proofs.apply.Passing.{IsCopied, Passing}
+use Rattle.rk_inv_logs.proofs.apply.Members.{IsStill, still}
+use Rattle.rk_inv_logs.proofs.apply.Passing.{IsCopied, Passing, gains_none, none_found}
 use Rattle.rk_inv_logs.proofs.apply.PassingState.{view_passed}
 use Rattle.rk_inv_logs.proofs.apply.TargetApplied.{StandsBehind, applied_with}
-use Rattle.rk_inv_logs.proofs.apply.OfRow.{row_rebuilt}
 
 -- what a row has that is found by its number
 found_row : (o : Option Row) → is_some o ≡ true → (row : Row) × (o ≡ Some row)
@@ -38,64 +31,14 @@ names_rebuilt range other (entries.Joined joined) is = absurd is
 names_rebuilt range other _ is = refl
 
 module _ (v : View) (master : ℕ) (entry : Entry) (sound : SoundView v) (may : MayApplyMarked v master entry) where
-  -- what is written then
-  abbrev after : ℕ → Written
-  after = with_one_applied v.written master
-
   -- no call waits for it
   none_waits : get (v.calls master) (v.written master).applied ≡ None
-  none_waits = go (get (v.calls master) (v.written master).applied) refl
-    where
-      go : (o : Option Call) → get (v.calls master) (v.written master).applied ≡ o → o ≡ None
-      go None is = refl
-      go (Some call) is =
-          let waits = sound.rest.waiting master may.held.lives (v.written master).applied call is in
-          absurd (false≢true (sym waits.unmarked ∙ may.marked))
+  none_waits = none_found v master sound may.held.lives (λ call waits. false≢true (sym waits.unmarked ∙ may.marked))
 
-  -- ---- what counts is the same
-
-  stands_at : (q : ℕ) → q ≡ master → slice_get (v.written q).entries (v.written q).applied ≡ Some entry
-  stands_at q at = ap (λ (n : ℕ). slice_get (v.written n).entries (v.written n).applied) at ∙ may.stands
-
-  marked_at : (q : ℕ) → q ≡ master → is_marked (v.written q).marks (v.written q).applied ≡ true
-  marked_at q at = ap (λ (n : ℕ). is_marked (v.written n).marks (v.written n).applied) at ∙ may.marked
-
-  truth_same : (range : Range) (member : Member) → member_truth after range member ≡ member_truth v.written range member
-  truth_same range member =
-      let x : Written = v.written member.master in
-      of_one_applied v.written master (λ n. log_material range x.marks x.sides member.from (take n x.entries) ≡ member_truth v.written range member) member.master
-      (λ at.
-      ap (material_of range (side_entries x.sides))
-      (unmarked_same range x.entries x.applied entry (stands_at member.master at) x.marks member.from (marked_at member.master at)))
-      (λ apart. refl)
-
-  rest_same : (range : Range) (member : Member) → member_rest after range member ≡ member_rest v.written range member
-  rest_same range member =
-      let x : Written = v.written member.master in
-      of_one_applied v.written master (λ n. counting range (unmarked_from x.marks (max member.from n) x.entries) ≡ member_rest v.written range member) member.master
-      (λ at.
-      ap (counting range)
-      (rest_marked range x.entries x.applied entry (stands_at member.master at) x.marks member.from (marked_at member.master at)))
-      (λ apart. refl)
-
-  lineage_truth_same : (range : Range) (members : List Member) → lineage_truth v.base after range members ≡ lineage_truth v.base v.written range members
-  lineage_truth_same range [] = refl
-  lineage_truth_same range (member ∷ members) =
-      ap (λ (sure : Member → List Entry). flat_map sure (member ∷ members)) (λ i m. truth_same range m i)
-
-  lineage_rest_same : (range : Range) (members : List Member) → lineage_rest after range members ≡ lineage_rest v.written range members
-  lineage_rest_same range [] = refl
-  lineage_rest_same range (member ∷ []) = rest_same range member
-  lineage_rest_same range (member ∷ next ∷ more) = lineage_rest_same range (next ∷ more)
-
-  keeps : (row : Row) → KeepsRow v.base v.journal (truths v row) (rests v row) (truths (entry_applied v master entry) row) (rests (entry_applied v master entry) row)
-  keeps row = record {
-    more = more_none (lineage_truth_same row.range (lineage_of row.phase));
-    head = [];
-    rest_is = sym (lineage_rest_same row.range (lineage_of row.phase));
-    quiet = All-nil _;
-    from = λ e at. inr at;
-  }
+  -- what counts is the same
+  still_each : (range : Range) (member : Member) → IsStill v.written (with_one_applied v.written master) range member
+  still_each range member = still v.written master entry may.stands range member (λ at free.
+      absurd (false≢true (sym free ∙ ap (λ (n : ℕ). is_marked (v.written n).marks (v.written n).applied) at ∙ may.marked)))
 
   -- ---- the rebuild that it is of
 
@@ -118,21 +61,19 @@ module _ (v : View) (master : ℕ) (entry : Entry) (sound : SoundView v) (may : 
   same_tablet : the_mark.0.tablet ≡ its_row.0.tablet
   same_tablet = sym (number_of v.rows the_mark.0.tablet its_row.0 its_row.1)
 
+  row_says : SoundRow v its_row.0
+  row_says = row_in v sound its_row.0 row_stands
+
   fits : MarkFits its_row.0 master (v.handovers master its_row.0.tablet) (v.live master) (v.written master) the_mark.0
   fits =
       All-contains (λ (m : Mark). m.tablet ≡ its_row.0.tablet → MarkFits its_row.0 master (v.handovers master its_row.0.tablet) (v.live master) (v.written master) m)
-      (v.written master).marks the_mark.0
-      (All-contains
-      (λ (r : Row). All (λ m. m.tablet ≡ r.tablet → MarkFits r master (v.handovers master r.tablet) (v.live master) (v.written master) m)
-      (v.written master).marks) v.rows its_row.0 (sound.rebuilds.marks master) row_stands) the_mark.1 same_tablet
+      (v.written master).marks the_mark.0 (row_says.marks master) the_mark.1 same_tablet
 
   of_range : IsOfRange its_row.0.range entry
   of_range =
       let piece : HasOwnRange its_row.0.range (v.written master).entries the_mark.0 =
       All-contains (λ (m : Mark). m.tablet ≡ its_row.0.tablet → HasOwnRange its_row.0.range (v.written master).entries m)
-      (v.written master).marks the_mark.0
-      (All-contains (λ (r : Row). All (λ m. m.tablet ≡ r.tablet → HasOwnRange r.range (v.written master).entries m) (v.written master).marks)
-      v.rows its_row.0 (sound.rebuilds.pieces master) row_stands) the_mark.1 same_tablet in
+      (v.written master).marks the_mark.0 (row_says.pieces master) the_mark.1 same_tablet in
       All-contains (IsOfRange its_row.0.range) _ entry piece
       (in_piece (v.written master).entries the_mark.0.first the_mark.0.past (v.written master).applied entry the_mark.2 the_mark.3 may.stands)
 
@@ -141,8 +82,7 @@ module _ (v : View) (master : ℕ) (entry : Entry) (sound : SoundView v) (may : 
   begins =
       let row : Row = its_row.0 in
       let at = fits.by_rebuilder (fits.present may.held.lives) in
-      let all = row_rebuilt v sound row row_stands in
-      let here = rw at.0 at all in
+      let here = rw at.0 at row_says.rebuilt in
       let closing = merged_then (v.handovers master row.tablet).role _ at.2 (here.0 at.1).merged in
       let piece = closing.1.piece in
       let same : the_mark.0 ≡ piece.mark =
@@ -180,17 +120,6 @@ module _ (v : View) (master : ℕ) (entry : Entry) (sound : SoundView v) (may : 
     ]
   ]
 
-  own : (other : Row) → Contains v.rows other → HasApplied other.range (own_place (v.handovers master other.tablet).role) (v.written master) entry (v.records master)
-  own other has =
-      let has_own =
-      applied_with other.range (v.written master) entry may.stands (names_rebuilt its_row.0.range other.range entry of_range)
-      (own_place (v.handovers master other.tablet).role) (stands_behind other has) in
-      record {
-        still = has_own.still;
-        new = has_own.new;
-        cases = λ x at. elim (has_own.cases x at) [ inl its ↦ inl its | inr was ↦ inr (inl was) ];
-      }
-
   abbrev passing : Passing v
   passing = record {
     master = master;
@@ -199,12 +128,14 @@ module _ (v : View) (master : ℕ) (entry : Entry) (sound : SoundView v) (may : 
     held = may.held;
     stands = may.stands;
     none = none_waits;
-    keeps = λ row has. keeps row;
-    grows = λ row has member in_lineage. more_none (truth_same row.range member);
-    firsts = λ row has first second more is. record { truth = truth_same row.range first; rest = rest_same row.range first };
-    only = λ row has only is. ap items_of (truth_same row.range only);
+    firsts = λ row has first second more is. still_each row.range first;
+    only = λ row has only is. ap items_of (still_each row.range only).truth;
+    lasts = λ row has last is. gains_none v (with_one_applied v.written master) row last (still_each row.range last);
     copied = copied;
-    own = λ row has lineage is term found. own row has;
+    own = λ row has found.
+        applied_with row.range (v.written master) entry (v.records master) may.stands
+        (names_rebuilt its_row.0.range row.range entry of_range)
+        (own_place (v.handovers master row.tablet).role) (stands_behind row has);
   }
 
   pub view_marked : SoundView (entry_applied v master entry)

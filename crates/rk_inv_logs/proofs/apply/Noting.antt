@@ -4,7 +4,7 @@ use Rattle.std.proofs.Common.{⊎_elim, inl, inr, ◌⊎◌, arith, Contains, na
 use Rattle.rk_inv_base.proofs.Words.{cases_Bool, ranked, by_order, eq_by_cmp, Ordering, Less, Equal, Greater, same_number, get, insert}
 use Rattle.rk_inv_base.proofs.Words.{Ended, Completions, ended_of, ends_of, is_later, noted, Completion, behind_stands, first_stands}
 use Rattle.rk_inv_base.proofs.Words.{none_stands, stands_cases}
-use Rattle.rk_done.proofs.Noted.{noted_later, noted_older}
+use Rattle.rk_inv_logs.proofs.Words.{noted_later, noted_older}
 
 -- an end has gone where another one of its client has come
 pub record IsReplaced (now : List Ended) (end other : Ended) : Type 0 where

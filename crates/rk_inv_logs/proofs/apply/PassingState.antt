@@ -1,23 +1,23 @@
 -- Records, targets, rebuilds and messages once an entry is applied with which no call ends.
-use Rattle.std.proofs.Common.{◌≡◌, ℕ, Bool, true, false, cond, List, [], ◌∷◌, refl, sym, ap, ◌∙◌, inl, inr, ◌⊎◌, arith, ◌==◌, IfSome}
-use Rattle.std.proofs.Common.{slice_index_or, Contains, eq-eqb, le-ltb}
-use Rattle.rk_inv_base.proofs.Words.{cases_eq, cond-true, false≢true, All-contains, Contains-get_or, IfSome_then, meets, Held, Member}
-use Rattle.rk_inv_base.proofs.Words.{Range, Entry, IsInScanOrder, Handover, Role, lineage_of, Phase, Row, none_stands, items_in, items_of}
-use Rattle.rk_inv_base.proofs.Words.{first_of, is_member, counts, is_absent, Written, member_truth, is_wanting, Bystander, FirstRebuilder}
-use Rattle.rk_inv_base.proofs.Words.{FormerMember, LastRebuilder, OnlyRebuilder, OutsideRebuilder, Post, post_of, rebuilder_post}
-use Rattle.rk_inv_base.proofs.Words.{has_merged, IsBare, is_granted, HasItems, IsTableOf, has_all_items, HandoverFits, View, truths}
-use Rattle.rk_inv_base.proofs.Words.{MessagesOf, ReceivesOf, SoundView, TablesOf}
+use Rattle.std.proofs.Common.{◌≡◌, ℕ, true, false, List, [], ◌∷◌, refl, sym, ap, ◌∙◌, inl, inr, ◌⊎◌, arith, IfSome, Contains, eq-eqb, ◌≢◌}
+use Rattle.std.proofs.Common.{◌≤◌, Some}
+use Rattle.rk_inv_base.proofs.Words.{cases_eq, false≢true, All-contains, IfSome_then, meets, Held, Member, Range, Entry, Handover, Role}
+use Rattle.rk_inv_base.proofs.Words.{lineage_of, Phase, Row, none_stands, items_in, items_of, first_of, counts, is_absent, Written}
+use Rattle.rk_inv_base.proofs.Words.{member_truth, is_wanting, Post, post_of, rebuilder_post, has_merged, IsBare, is_granted, HasItems}
+use Rattle.rk_inv_base.proofs.Words.{IsTableOf, has_all_items, HandoverFits, View, truths, SoundView, All-weaker, AreAboveMap, Call}
+use Rattle.rk_inv_base.proofs.Words.{TellAll, base_map, ends_of, get, map_after, rests}
+use Rattle.rk_inv_logs.proofs.Words.{heir_post, begun_lacks, put_by, history_of, SoundBeside, SoundRow, row_in}
+use Rattle.rk_inv_base.proofs.rows.Apart.{key_outside, same_number}
 use Rattle.rk_entry.specs.declared.entry.Entry.TheVariants as entries
 use Rattle.rk_transfer.specs.declared.role.Role.TheVariants as roles
-use Rattle.rk_inv_base.proofs.rows.Apart.{key_outside, same_number}
-use Rattle.rk_inv_base.proofs.views.Put.{put_by}
-use Rattle.rk_inv_logs.specs.apply.Small.{with_item_of}
-use Rattle.rk_inv_logs.proofs.apply.Applies.{Applies, StaysBare, bare_at, cover_now, logs_now, members_at, named_at, rebuilds, roles_now}
-use Rattle.rk_inv_logs.proofs.apply.Applies.{says_now}
-use Rattle.rk_inv_logs.proofs.apply.ItemPut.{bare_with, order_with, table_apart}
-use Rattle.rk_inv_logs.proofs.apply.Keeps.{items_keep}
+use Rattle.rk_inv_logs.proofs.apply.Keeps.{floor_keeps, items_keep, rest_tells}
+use Rattle.rk_inv_logs.proofs.apply.More.{more_behind}
+use Rattle.rk_inv_logs.specs.apply.Small.{entry_applied, with_item_of}
+use Rattle.rk_inv_logs.proofs.apply.Applies.{Applies, IsKnownIn, StaysBare, Tells, applied_grows, bare_now, cover_now, end_then, logs_now}
+use Rattle.rk_inv_logs.proofs.apply.Applies.{of_applied, of_target, ordered_now, view_applied, waits_on}
+use Rattle.rk_inv_logs.proofs.apply.ItemPut.{bare_with, table_apart}
 use Rattle.rk_inv_logs.proofs.apply.TargetApplied.{StandsBehind}
-use Rattle.rk_inv_logs.proofs.apply.Passing.{IsCopied, Passing, after, calls, counters, order, rest, rows, truth}
+use Rattle.rk_inv_logs.proofs.apply.Passing.{IsCopied, Passing, history_keeps, low_more, row_keeps, tell_more}
 
 -- ---- data
 
@@ -29,21 +29,6 @@ no_item _ records none = refl
 -- records have the newest of entries with the same items
 table_same : (range : Range) (old now : List Entry) (records : List Held) → items_of now ≡ items_of old → IsTableOf range old records → IsTableOf range now records
 table_same range old now records same table x inside = rw same (table x inside)
-
--- a master that rebuilds a tablet at the row's term has not all of it in its records
-rebuilds_lacks : (lineage : List Member) (master : ℕ) (handover : Handover) (term : ℕ) → handover.term ≡ term → has_all_items (rebuilder_post lineage master) handover term ≡ false
-rebuilds_lacks [] master handover term same = refl
-rebuilds_lacks (only ∷ []) master handover term same = go (only.master == master)
-  where
-    go : (b : Bool) → has_all_items (cond b (OnlyRebuilder only.from) OutsideRebuilder) handover term ≡ false
-    go true = le-ltb handover.term term (omega (arith, same))
-    go false = refl
-rebuilds_lacks (first ∷ last ∷ more) master handover term same = go (first.master == master) (last.master == master)
-  where
-    go : (b c : Bool) → has_all_items (cond b (FirstRebuilder first.from) (cond c (LastRebuilder last.from) OutsideRebuilder)) handover term ≡ false
-    go true c = le-ltb handover.term term (omega (arith, same))
-    go false true = refl
-    go false false = refl
 
 -- a role that has merged was not granted the tablet, and waits for no grant
 merged_ungranted : (role : Role) → has_merged role ≡ true → is_granted role ≡ false
@@ -61,6 +46,9 @@ merged_present roles.Absent merged = absurd (cc merged)
 merged_present role merged = refl
 
 module _ (v : View) (p : Passing v) where
+  abbrev now : View
+  now = entry_applied v p.master p.entry
+
   -- ---- the item, if there is one
 
   -- a statement of the records of the master holds where the item is not of what they are for
@@ -77,14 +65,12 @@ module _ (v : View) (p : Passing v) where
     ]
   ]
 
-  -- ---- records
-
   first_same : (other : Row) → Contains v.rows other → (lineage : List Member) → lineage_of other.phase ≡ lineage → (records : List Held)
       → IfSome (first_of lineage) (λ m. IsTableOf other.range (member_truth v.written other.range m) records)
-      → IfSome (first_of lineage) (λ m. IsTableOf other.range (member_truth (after v p).written other.range m) records)
+      → IfSome (first_of lineage) (λ m. IsTableOf other.range (member_truth now.written other.range m) records)
   first_same other has [] is records old = tt
   first_same other has (only ∷ []) is records old = table_same other.range (member_truth v.written other.range only)
-      (member_truth (after v p).written other.range only) records (p.only other has only is) old
+      (member_truth now.written other.range only) records (p.only other has only is) old
   first_same other has (first ∷ second ∷ more) is records old = rw (p.firsts other has first second more is).truth old
 
   beside_records : (range : Range) (material : List Entry) (records : List Held) → IsBeside range → IsTableOf range material records → IsTableOf range material (with_item_of p.entry records)
@@ -93,35 +79,26 @@ module _ (v : View) (p : Passing v) where
     | inr outside ↦ table_apart range p.entry material records outside old
   ]
 
-  items_at : (q : ℕ) (other : Row) → Contains v.rows other → has_all_items (post_of other.phase q) (v.handovers q other.tablet) other.term ≡ true → HasItems other v.written (v.records q) → HasItems other (after v p).written ((after v p).records q)
+  items_at : (q : ℕ) (other : Row) → Contains v.rows other → has_all_items (post_of other.phase q) (v.handovers q other.tablet) other.term ≡ true → HasItems other v.written (v.records q) → HasItems other now.written (now.records q)
   items_at q other has all old =
-      let now = first_same other has (lineage_of other.phase) refl (v.records q) old in
-      put_by v.records p.master (with_item_of p.entry) (HasItems other (after v p).written) q
+      let same = first_same other has (lineage_of other.phase) refl (v.records q) old in
+      put_by v.records p.master (with_item_of p.entry) (HasItems other now.written) q
       (λ at. elim (beside_or other has) [
-        | inl beside ↦ IfSome_then (first_of (lineage_of other.phase)) now
-            (λ member table. beside_records other.range (member_truth (after v p).written other.range member) (v.records q) beside table)
+        | inl beside ↦ IfSome_then (first_of (lineage_of other.phase)) same
+            (λ member table. beside_records other.range (member_truth now.written other.range member) (v.records q) beside table)
         | inr copy ↦ absurd (lacks at copy.0 copy.1)
-      ]) (λ apart. now)
+      ]) (λ apart. same)
     where
       lacks : q ≡ p.master → (c : IsCopied v p.master p.entry) → other ≡ c.row → ⊥
       lacks at c same =
-          let post : post_of c.row.phase p.master ≡ rebuilder_post (lineage_of c.row.phase) p.master =
-          ap (λ (phase : Phase). post_of phase p.master) c.rebuilt
-          ∙ cond-true (p.master == p.master) (rebuilder_post (lineage_of c.row.phase) p.master)
-          (cond (is_member (lineage_of c.row.phase) p.master) FormerMember Bystander) (eq-eqb p.master p.master refl) in
+          let lineage : List Member = lineage_of c.row.phase in
+          let post : post_of c.row.phase p.master ≡ rebuilder_post lineage p.master =
+          ap (λ (phase : Phase). post_of phase p.master) c.rebuilt ∙ rw (eq-eqb p.master p.master refl) refl in
           let all_here : has_all_items (post_of c.row.phase p.master) (v.handovers p.master c.row.tablet) c.row.term ≡ true =
           (λ i. has_all_items (post_of (sym same i).phase (sym at i)) (v.handovers (sym at i) (sym same i).tablet) (sym same i).term) ∙ all in
-          false≢true
-          (sym (rebuilds_lacks (lineage_of c.row.phase) p.master (v.handovers p.master c.row.tablet) c.row.term c.at_term)
-          ∙ ap (λ (post : Post). has_all_items post (v.handovers p.master c.row.tablet) c.row.term) (sym post) ∙ all_here)
-
-  pub tables : TablesOf (after v p)
-  tables = record {
-    ordered = λ q.
-        put_by v.records p.master (with_item_of p.entry) IsInScanOrder q (λ at. order_with p.entry (v.records q) (p.sound.records.ordered q)) (λ apart. p.sound.records.ordered q);
-    items = λ q alive k d within all.
-        items_at q (slice_index_or v.rows k d) (Contains-get_or v.rows k d within) all (p.sound.records.items q alive k d within all);
-  }
+          begun_lacks (rebuilder_post lineage p.master) (v.handovers p.master c.row.tablet) c.row.term (heir_post lineage p.master)
+          c.at_term
+          (ap (λ (post : Post). has_all_items post (v.handovers p.master c.row.tablet) c.row.term) (sym post) ∙ all_here)
 
   -- ---- targets
 
@@ -168,10 +145,7 @@ module _ (v : View) (p : Passing v) where
               (key_outside range c.row.range held.table held.key meeting inside) bare
           of_entry _ inside = bare
 
-  -- ---- the parts that see the state
-
-  truth_items : (row : Row) → Contains v.rows row → (x : Held) → Contains (items_of (truths v row)) x → Contains (items_of (truths (after v p) row)) x
-  truth_items row has x = (items_keep (p.keeps row has) x).0
+  -- ---- all parts
 
   abbrev applies : Applies v
   applies = record {
@@ -180,55 +154,85 @@ module _ (v : View) (p : Passing v) where
     sound = p.sound;
     held = p.held;
     stands = p.stands;
-    firsts = λ row has first second more is. (p.firsts row has first second more is).truth;
+    calls = v.calls;
+    kept = v.completions;
+    journal = v.journal;
+    firsts = p.firsts;
     granted = λ row has first last is at granted. target_behind row has last at granted last.from;
     wanted = bare_records;
-    still = truth_items;
-    own = p.own;
-    kept = v.completions;
+    own = λ row has lineage is term found. p.own row has found;
     others = λ q tablet apart. refl;
     merged = λ row has lineage is term gather m merged_is same. same;
     frozen = λ q tablet frozen. refl;
   }
 
-  pub receives : ReceivesOf (after v p)
-  receives = record {
-    targets = λ k d within.
-        let row : Row = slice_index_or v.rows k d in
-        members_at v applies row (Contains-get_or v.rows k d within) (lineage_of row.phase) refl (p.sound.receives.targets k d within);
-    handed_on = p.sound.receives.handed_on;
-    bare = λ q r. bare_at v applies q r (p.sound.receives.bare q r);
-    named = λ k d within.
-        let row : Row = slice_index_or v.rows k d in
-        named_at v applies row (Contains-get_or v.rows k d within) (lineage_of row.phase) refl (p.sound.receives.named k d within);
-  }
+  tells : (row : Row) → Contains v.rows row → Tells v now row
+  tells row has =
+      let was : SoundRow v row = row_in v p.sound row has in
+      let keeps = row_keeps v p row has in
+      record {
+        history = history_keeps v.base row.range (truths v row) (rests v row) (truths now row) (rests now row) v.journal v.asked keeps
+            (history_of v row p.sound has);
+        moving = of_target v now.written row (TellAll row.range v.journal) (TellAll row.range v.journal)
+            (λ last is front. tell_more row.range v.journal _ _ (more_behind (p.lasts row has last is).more front)) row.phase refl
+            was.moving;
+        low_moving = of_target v now.written row (AreAboveMap row.range (map_after (base_map v.base) v.journal))
+            (AreAboveMap row.range (map_after (base_map v.base) v.journal))
+            (λ last is front.
+            low_more row.range (map_after (base_map v.base) v.journal) _ _ (more_behind (p.lasts row has last is).more front)) row.phase
+            refl
+            was.low_moving;
+        still = λ x. (items_keep keeps x).0;
+        floor = floor_keeps keeps;
+        answering = was.answering;
+        ends_granted = was.ends_granted;
+        ends_sent = was.ends_sent;
+        items = λ q alive all. items_at q row has all (was.items q alive all);
+        handed_on = was.handed_on;
+      }
 
-  pub messages : MessagesOf (after v p)
-  messages = record {
-    of_rows = λ n m found k d within.
-        says_now v applies (slice_index_or v.rows k d) (Contains-get_or v.rows k d within) m.from m.to m.body
-        (p.sound.messages.of_rows n m found k d within);
-    others = p.sound.messages.others;
-  }
+  -- no call waited for the entry
+  behind_it : (q number : ℕ) (call : Call) → get (v.calls q) number ≡ Some call → (v.written q).applied ≤ number → (now.written q).applied ≤ number
+  behind_it q number call found behind = of_applied v applies (λ n. n ≤ number) q
+      (λ at.
+      let differs : number ≢ (v.written q).applied =
+      λ same.
+      absurd (cc (sym p.none ∙ (λ i. get (v.calls (sym at i)) (v.written (sym at i)).applied) ∙ ap (get (v.calls q)) (sym same) ∙ found)) in
+      omega (arith, differs, behind)) (λ apart. behind)
 
-  -- ---- all parts
-
-  pub view_passed : SoundView (after v p)
-  view_passed = record {
-    nodes = p.sound.nodes;
-    rows = rows v p;
-    terms = p.sound.terms;
+  beside : SoundBeside now
+  beside = record {
+    numbered = p.sound.nodes.numbered;
+    backed = p.sound.nodes.backed;
+    known_backups = p.sound.nodes.known;
+    crashed = p.sound.nodes.crashed;
+    left = p.sound.nodes.left;
+    rows_apart = p.sound.rows.apart;
+    covered = p.sound.rows.covered;
+    kept = p.sound.terms.kept;
+    begun = p.sound.terms.begun;
+    apart = p.sound.terms.apart;
     cover = cover_now v applies;
-    roles = roles_now v applies;
+    has_row = p.sound.roles.known;
     logs = logs_now v applies;
-    truth = truth v p;
-    order = order v p;
-    calls = calls v p;
-    counters = counters v p;
-    rest = rest v p;
-    records = tables;
-    receives = receives;
-    rebuilds = rebuilds v applies;
-    messages = messages;
+    legal = p.sound.truth.legal;
+    rising = p.sound.truth.rising;
+    seen = p.sound.truth.seen;
+    once = p.sound.calls.once;
+    known = λ q r alive.
+        All-weaker (IsKnownIn v v q r) (IsKnownIn v now q r)
+        (λ end. end_then v now q r end (λ is. is) (λ row has. rest_tells (row_keeps v p row has) end)) (ends_of (v.completions q r))
+        (p.sound.calls.known q r alive);
+    waiting = λ q alive number call found.
+        let was = p.sound.rest.waiting q alive number call found in
+        waits_on v applies q number call (behind_it q number call found was.behind) was;
+    are_last = p.sound.rest.are_last;
+    found = λ q alive number e behind. p.sound.rest.found q alive number e (omega (arith, behind, applied_grows v applies q));
+    ordered = ordered_now v applies;
+    bare = bare_now v applies;
+    others = p.sound.messages.others;
     asked = p.sound.asked;
   }
+
+  pub view_passed : SoundView now
+  view_passed = view_applied v applies beside tells

@@ -1,14 +1,16 @@
 -- Whose calls may be staged for a row: those of the one master that speaks for it. While that may have some, no grant is awaited, and no
 -- Transfer counts.
 use Rattle.std.proofs.Common.{◌≡◌, ℕ, Bool, true, false, ◌&&◌, cond, eqb, List, [], ◌∷◌, Some, None, refl, sym, ap, ◌∙◌, eqb-true, inl, inr}
+use Rattle.std.proofs.Common.{Contains, Option, arith, eq-eqb, ne_eqb, ◌<◌}
 use Rattle.rk_inv_base.proofs.Words.{cases_eq, false≢true, and_right, cond-false, Member, Node, Handover, Role, lineage_of, Phase, Opening}
 use Rattle.rk_inv_base.proofs.Words.{Row, Transfer, Body, Handed, last_of, second_of, is_absent, is_idle, may_have_staged, handed_by}
 use Rattle.rk_inv_base.proofs.Words.{is_opening, is_waiting, is_waiting_at, is_wanting, second_has, SaysOf, TransferIn, Post, InvitedTarget}
 use Rattle.rk_inv_base.proofs.Words.{ReadyTarget, MovingSource, FormerMember, Bystander, bond_of, post_of, Holds, RoleFits, AreApart, View}
+use Rattle.rk_inv_base.proofs.Words.{OnlyRebuilder, rebuilder_post}
+use Rattle.rk_inv_logs.proofs.Words.{contains_cases, IsQuiet, quiet_others, speaker_of, waiting_at}
 use Rattle.rk_types.specs.declared.node.Node.TheVariants as nodes
 use Rattle.rk_transfer.specs.declared.role.Role.TheVariants as roles
 use Rattle.rk_message.specs.declared.message.Body.TheVariants as bodies
-use Rattle.rk_inv_base.proofs.rows.Speakers.{IsQuiet, quiet_others, speaker_of, waiting_at}
 
 -- ---- roles
 
@@ -46,6 +48,39 @@ stager_is row q handover applied fits stages = elim (cases_eq q (speaker_of row.
   | inr apart ↦
       absurd (quiet_stages (post_of row.phase q) handover.role row.term handover.term applied (quiet_others row.phase q apart) fits stages)
 ]
+
+-- ---- who rebuilds
+
+-- a member that rebuilds at the row's term begins at its own place
+pub rebuilder_from : (lineage : List Member) (q term own applied from : ℕ) (closing : Option ℕ) → AreApart lineage → own ≡ term → Holds (bond_of (rebuilder_post lineage q) (roles.Rebuilding from closing)) term own applied → (member : Member) → Contains lineage member → member.master ≡ q → from ≡ member.from
+rebuilder_from [] q term own applied from closing apart at holds member there here = absurd apart
+rebuilder_from (only ∷ []) q term own applied from closing apart at holds member there here = elim (contains_cases only [] member there) [
+  | inl same ↦
+      let is : only.master ≡ q = ap (λ (m : Member). m.master) same ∙ here in
+      only_from closing (rw (eq-eqb only.master q is) at holds) ∙ ap (λ (m : Member). m.from) same
+  | inr none ↦ absurd (omega (arith, none.1))
+]
+  where
+    only_from : (closing : Option ℕ) → Holds (bond_of (OnlyRebuilder only.from) (roles.Rebuilding from closing)) term own applied → from ≡ only.from
+    only_from None holds = holds.1
+    only_from (Some entry) holds =
+        elim holds [ inl behind ↦ let below : own < term = behind.0 in absurd (omega (arith, below, at)) | inr equal ↦ equal.1 ]
+rebuilder_from (first ∷ second ∷ []) q term own applied from closing apart at holds member there here =
+    elim (contains_cases first (second ∷ []) member there) [
+      | inl same ↦
+          let is : first.master ≡ q = ap (λ (m : Member). m.master) same ∙ here in
+          let begins : (own ≡ term) × (from ≡ first.from) = rw (eq-eqb first.master q is) at holds in
+          begins.1 ∙ ap (λ (m : Member). m.from) same
+      | inr later ↦ elim (contains_cases second [] member later) [
+        | inl same ↦
+            let is : second.master ≡ q = ap (λ (m : Member). m.master) same ∙ here in
+            let begins : (own ≡ term) × (from ≡ second.from) =
+            rw (ne_eqb first.master q (λ e. apart (e ∙ sym is)), eq-eqb second.master q is) at holds in
+            begins.1 ∙ ap (λ (m : Member). m.from) same
+        | inr none ↦ absurd (omega (arith, none.1))
+      ]
+    ]
+rebuilder_from (first ∷ second ∷ third ∷ more) q term own applied from closing apart at holds member there here = absurd apart
 
 -- ---- what is handed over
 

@@ -1,18 +1,15 @@
 -- What records of other keys leave of another range: what tells all of it tells all of it still.
-use Rattle.std.proofs.Common.{◌≡◌, ℕ, true, false, ◌||◌, eqb, List, [], ◌∷◌, ◌++◌, Option, Some, sym, ap, ◌∙◌, arith, All, eqb-true}
-use Rattle.rk_inv_base.proofs.Words.{and_parts, false≢true, false_from_ne_true, All-append, All-cons, All-contains, All-head, All-nil}
-use Rattle.rk_inv_base.proofs.Words.{All-tail, All-weaker, list_any-append, list_any_none, Ended, Placed, Range, IsLegal-append, legal_back}
-use Rattle.rk_inv_base.proofs.Words.{map_after-append, is_at_parts, IsLegal, Map, is_at, map_after, map_with, last_version, is_mutation}
-use Rattle.rk_inv_base.proofs.Words.{Entry, Base, base_map, item_end, outcome_of, refusal_end, told, has_record, is_of_call, is_of_mutation}
-use Rattle.rk_inv_base.proofs.Words.{counts, of_key, has_key, LastCall, IsKnown, IsReached, is_record_in, IsLastAsked, IsRest, IsStaged}
-use Rattle.rk_inv_base.proofs.Words.{call_end, call_ends, records_of}
-use Rattle.rk_model.proofs.Keys.{allowed_same, is_at_own, map_after-same, map_with-same}
+use Rattle.std.proofs.Common.{◌≡◌, ℕ, true, false, List, [], ◌∷◌, ◌++◌, Option, Some, sym, ap, ◌∙◌, arith, All, ◌≢◌}
+use Rattle.rk_inv_base.proofs.Words.{false≢true, false_from_ne_true, All-append, All-cons, All-contains, All-head, All-nil, All-tail}
+use Rattle.rk_inv_base.proofs.Words.{All-weaker, Ended, Placed, Range, IsLegal-append, legal_back, map_after-append, is_at_parts, IsLegal}
+use Rattle.rk_inv_base.proofs.Words.{Map, is_at, map_after, map_with, last_version, is_mutation, Entry, Base, base_map, item_end}
+use Rattle.rk_inv_base.proofs.Words.{outcome_of, refusal_end, told, counts, of_key, has_key, LastCall, IsKnown, IsReached, is_record_in}
+use Rattle.rk_inv_base.proofs.Words.{IsLastAsked, IsRest, IsStaged, call_end, call_ends, records_of}
+use Rattle.rk_inv_logs.proofs.Words.{allowed_same, is_at_own, map_after-same, map_with-same, all_by, known_still, flat_from, TellHistory}
 use Rattle.rk_model.specs.History.{record_of as map_record_of}
-use Rattle.rk_entry.specs.declared.entry.Entry.TheVariants as entries
-use Rattle.rk_inv_base.proofs.views.Lists.{all_by}
 use Rattle.rk_inv_base.proofs.logs.Missed.{map_elsewhere}
-use Rattle.rk_inv_base.proofs.calls.MoreRecords.{known_still}
-use Rattle.rk_inv_rows.specs.lineage.Lineages.{TellHistory}
+use Rattle.rk_entry.specs.declared.entry.Entry.TheVariants as entries
+use Rattle.rk_inv_logs.proofs.apply.Staged.{AreOfOthers, still_staged}
 
 -- ---- staged calls
 
@@ -24,23 +21,23 @@ pub record IsEndOfLast (asked : ℕ → Option LastCall) (journal : List Placed)
   pub inside : has_key range table key ≡ true
 
 module _ (base : Base) (asked : ℕ → Option LastCall) (journal : List Placed) (range : Range) where
-  -- the ends of the calls of staged entries are so
-  pub staged_ends : (list : List Entry) → All (λ entry. counts range entry ≡ true) list → All (IsStaged base asked journal) list → All (IsEndOfLast asked journal range) (call_ends list)
-  staged_ends [] counted staged = All-nil (IsEndOfLast asked journal range)
-  staged_ends (entry ∷ list) counted staged =
-      All-append (IsEndOfLast asked journal range) (call_end entry) (call_ends list)
-      (at entry (All-head (λ (e : Entry). counts range e ≡ true) entry list counted) (All-head (IsStaged base asked journal) entry list staged))
-      (staged_ends list (All-tail (λ (e : Entry). counts range e ≡ true) entry list counted) (All-tail (IsStaged base asked journal) entry list staged))
-    where
-      one : (end : Ended) → IsEndOfLast asked journal range end → All (IsEndOfLast asked journal range) (end ∷ [])
-      one end is = All-cons (IsEndOfLast asked journal range) end [] is (All-nil (IsEndOfLast asked journal range))
+  -- the end of the call of a staged entry is so
+  pub entry_ends : (entry : Entry) → counts range entry ≡ true → IsStaged base asked journal entry → All (IsEndOfLast asked journal range) (call_end entry)
+  entry_ends (entries.Held held) inside staged =
+      All-cons (IsEndOfLast asked journal range) (item_end held) []
+      (record { table = held.table; key = held.key; last = staged.last; inside = inside }) (All-nil (IsEndOfLast asked journal range))
+  entry_ends (entries.Refused refused) inside staged =
+      All-cons (IsEndOfLast asked journal range) (refusal_end refused) []
+      (record { table = refused.table; key = refused.key; last = staged; inside = inside }) (All-nil (IsEndOfLast asked journal range))
+  entry_ends _ inside staged = All-nil (IsEndOfLast asked journal range)
 
-      at : (entry : Entry) → counts range entry ≡ true → IsStaged base asked journal entry → All (IsEndOfLast asked journal range) (call_end entry)
-      at (entries.Held held) inside staged =
-          one (item_end held) (record { table = held.table; key = held.key; last = staged.last; inside = inside })
-      at (entries.Refused refused) inside staged =
-          one (refusal_end refused) (record { table = refused.table; key = refused.key; last = staged; inside = inside })
-      at _ inside staged = All-nil (IsEndOfLast asked journal range)
+  pub staged_ends : (list : List Entry) → All (λ entry. counts range entry ≡ true) list → All (IsStaged base asked journal) list → All (IsEndOfLast asked journal range) (call_ends list)
+  staged_ends list counted staged =
+      all_by (IsEndOfLast asked journal range) (call_ends list) (λ end at.
+      let of = flat_from call_end list end at in
+      All-contains (IsEndOfLast asked journal range) (call_end of.0) end
+      (entry_ends of.0 (All-contains (λ (e : Entry). counts range e ≡ true) list of.0 counted of.1)
+      (All-contains (IsStaged base asked journal) list of.0 staged of.1)) of.2)
 
   -- the last call is of a key in the range
   pub last_inside : (end : Ended) (its : IsEndOfLast asked journal range end) → has_key range its.last.last.call.table its.last.last.call.key ≡ true
@@ -99,42 +96,15 @@ module _ (base : Base) (range : Range) (journal made : List Placed) (asked : ℕ
   map_beside table key inside = ap (λ (m : Map). m table key) (map_after-append start journal made)
       ∙ map_elsewhere (map_after start journal) made table key (elsewhere table key inside)
 
-  -- a call of the range has no record still
-  still_unrecorded : (client seq table : ℕ) (key : List ℕ) → has_key range table key ≡ true → IsLastAsked asked journal client seq table key → has_record (journal ++ made) client seq ≡ false
-  still_unrecorded client seq table key inside its = list_any-append (is_of_mutation client seq) journal made
-      ∙ (λ i.
-      its.unrecorded i || list_any_none (is_of_mutation client seq) made
-      (all_by (λ placed. is_of_mutation client seq placed ≡ false) made (λ placed stands.
-      false_from_ne_true (is_of_mutation client seq placed) (λ is.
-      let parts = and_parts (is_mutation placed.call.op) (is_of_call client seq placed) is in
-      let client_is : placed.call.client ≡ client =
-      eqb-true placed.call.client client (and_parts (eqb placed.call.client client) (eqb placed.call.seq seq) parts.1).0 in
+  -- they are of other clients than a staged call of the range
+  other_clients : (end : Ended) → IsEndOfLast asked journal range end → All (λ placed. placed.call.client ≢ end.client) made
+  other_clients end its = all_by (λ placed. placed.call.client ≢ end.client) made (λ placed stands same.
       let one = All-contains (IsOfLast asked) made placed of_last stands in
-      let same : one.last ≡ its.last = cc (sym one.asked_is ∙ ap asked client_is ∙ its.asked_is) in
-      let call = one.call_is ∙ ap (λ (l : LastCall). l.call) same in
+      let last : one.last ≡ its.last.last = cc (sym one.asked_is ∙ ap asked same ∙ its.last.asked_is) in
+      let call = one.call_is ∙ ap (λ (l : LastCall). l.call) last in
       false≢true
       (sym (All-contains (λ p. is_record_in range p ≡ false) made placed outside stands) ∙ (λ i. has_key range (call i).table (call i).key)
-      ∙ (λ i. has_key range (its.table_is i) (its.key_is i)) ∙ inside)))) i)
-
-  still_last : (client seq table : ℕ) (key : List ℕ) → has_key range table key ≡ true → IsLastAsked asked journal client seq table key → IsLastAsked asked (journal ++ made) client seq table key
-  still_last client seq table key inside its = record {
-    last = its.last;
-    asked_is = its.asked_is;
-    seq_is = its.seq_is;
-    table_is = its.table_is;
-    key_is = its.key_is;
-    mutation = its.mutation;
-    unrecorded = still_unrecorded client seq table key inside its;
-  }
-
-  still_staged : (entry : Entry) → counts range entry ≡ true → IsStaged base asked journal entry → IsStaged base asked (journal ++ made) entry
-  unfolding still_last
-  still_staged (entries.Held held) inside staged =
-      record { last = still_last held.client held.seq held.table held.key inside staged.last; leaves = staged.leaves }
-  still_staged (entries.Refused refused) inside staged = still_last refused.client refused.seq refused.table refused.key inside staged
-  still_staged (entries.Carried carried) inside staged =
-      All-weaker (IsKnown base journal) (IsKnown base (journal ++ made)) (known_still journal made base) carried.ends staged
-  still_staged (entries.Joined joined) inside staged = staged
+      ∙ last_inside base asked journal range end its))
 
   pub rest_beside : (truth rest : List Entry) → All (λ entry. counts range entry ≡ true) rest → IsRest base range truth rest journal asked → IsRest base range truth rest (journal ++ made) asked
   rest_beside truth rest counted was =
@@ -154,8 +124,10 @@ module _ (base : Base) (range : Range) (journal made : List Placed) (asked : ℕ
             ∙ ap (λ (m : Map). m table key) (sym (map_after-append start (journal ++ made) records)));
         staged =
             all_by (IsStaged base asked (journal ++ made)) rest (λ entry at.
-            still_staged entry (All-contains (λ e. counts range e ≡ true) rest entry counted at)
-            (All-contains (IsStaged base asked journal) rest entry was.staged at));
+            let staged = All-contains (IsStaged base asked journal) rest entry was.staged at in
+            still_staged base journal made asked entry
+            (All-weaker (IsEndOfLast asked journal range) (AreOfOthers base journal made asked) other_clients (call_end entry)
+            (entry_ends base asked journal range entry (All-contains (λ e. counts range e ≡ true) rest entry counted at) staged)) staged);
         one = was.one;
       }
 

@@ -1,20 +1,16 @@
 -- The records that ends make whose calls wait, one a client: of each the last call with its end, in their order.
-use Rattle.std.proofs.Common.{◌≡◌, ℕ, true, false, ◌||◌, eqb, List, [], ◌∷◌, ◌++◌, map, Option, Some, refl, sym, ap, ◌∙◌, append_assoc, ◌≢◌}
-use Rattle.std.proofs.Common.{IfSome, slice_get, All, AllPairs, Contains, ne_eqb, inl, inr}
-use Rattle.std.specs.List.{AllZip}
-use Rattle.rk_inv_base.proofs.Words.{and_left, and_right, All-cons, All-contains, All-head, All-nil, All-push, All-tail}
-use Rattle.rk_inv_base.proofs.Words.{Contains-push_cases, list_any-append, list_any_none, Call, Ended, Placed, IsLegal, Map, map_after}
-use Rattle.rk_inv_base.proofs.Words.{map_with, is_mutation, AreOneMutation, behind_stands, first_stands, none_stands, stands_cases, Base}
-use Rattle.rk_inv_base.proofs.Words.{outcome_of, has_record, is_of_call, is_of_mutation, next_record, LastCall, IsLastCall, record_of_last}
-use Rattle.rk_inv_base.proofs.Words.{records_of}
-use Rattle.rk_inv_base.proofs.views.Lists.{all_by}
-use Rattle.rk_inv_base.proofs.calls.MoreRecords.{got_cases}
-use Rattle.rk_inv_base.proofs.logs.Shares.{append_nil}
-use Rattle.rk_inv_rows.specs.lineage.Rebuilt.{made_of}
+use Rattle.std.proofs.Common.{◌≡◌, ℕ, true, false, List, [], ◌∷◌, ◌++◌, map, Option, Some, refl, sym, ap, ◌∙◌, append_assoc, ◌≢◌, IfSome}
+use Rattle.std.proofs.Common.{slice_get, All, AllPairs, Contains, inl, inr}
+use Rattle.rk_inv_base.proofs.Words.{All-cons, All-contains, All-head, All-nil, All-push, All-tail, Contains-push_cases, Call, Ended}
+use Rattle.rk_inv_base.proofs.Words.{Placed, IsLegal, Map, map_after, map_with, AreOneMutation, behind_stands, first_stands, none_stands}
+use Rattle.rk_inv_base.proofs.Words.{stands_cases, Base, outcome_of, next_record, LastCall, IsLastCall, record_of_last, records_of}
+use Rattle.rk_inv_logs.proofs.Words.{AllZip, all_by, got_cases, append_nil, made_of}
+use Rattle.rk_inv_base.proofs.calls.Accepted.{stands_there}
 use Rattle.rk_inv_logs.specs.made.Made.{waits, without_stamp}
 use Rattle.rk_inv_logs.proofs.made.PlacedEnds.{Differ, first_differs, later_differ}
+use Rattle.rk_inv_logs.proofs.made.LastCalls.{HasNone}
+use Rattle.rk_inv_logs.proofs.apply.Staged.{still_unrecorded}
 use Rattle.rk_inv_logs.proofs.made.Waiting.{IsWaiting, makes_one, waiting_parts}
-use Rattle.rk_inv_base.proofs.calls.Accepted.{stands_there}
 
 -- ---- stamps
 
@@ -43,16 +39,6 @@ module _ (base : Base) (lane : ℕ) (asked : ℕ → Option LastCall) (last_call
   abbrev Makes : List Ended → List Placed → Type 0
   Makes = AllZip (IsMadeOf asked)
 
-  -- a record of another client is none of a call
-  still_none : (journal more : List Placed) (client seq : ℕ) → All (λ placed. placed.call.client ≢ client) more → has_record journal client seq ≡ false → has_record (journal ++ more) client seq ≡ false
-  still_none journal more client seq others none = list_any-append (is_of_mutation client seq) journal more
-      ∙ (λ i.
-      none i || list_any_none (is_of_mutation client seq) more
-      (all_by (λ placed. is_of_mutation client seq placed ≡ false) more (λ placed at.
-      and_right (is_mutation placed.call.op) (is_of_call client seq placed)
-      (and_left (eqb placed.call.client client) (eqb placed.call.seq seq)
-      (ne_eqb placed.call.client client (All-contains (λ p. p.call.client ≢ client) more placed others at))))) i)
-
   -- each end makes the record of its client's last call
   pub makes : (journal more : List Placed) (ends : List Ended) → All (λ end. waits asked journal end ≡ true) ends → AllPairs Differ ends
       → All (λ end. All (λ placed. placed.call.client ≢ end.client) more) ends → Makes ends (made_of asked (journal ++ more) ends)
@@ -65,7 +51,8 @@ module _ (base : Base) (lane : ℕ) (asked : ℕ → Option LastCall) (last_call
         last = w.last;
         asked_is = w.asked_is;
         seq_is = w.seq_is;
-        unrecorded = still_none journal more end.client end.seq (All-head (λ e. All (λ p. p.call.client ≢ e.client) more) end ends others)
+        unrecorded = still_unrecorded base journal more asked end.client end.seq
+            (All-head (λ e. All (λ p. p.call.client ≢ e.client) more) end ends others)
             w.unrecorded;
       } in
       let new : Placed = next_record (journal ++ more) w.last.call (outcome_of end.end) w.last.seen in
@@ -138,11 +125,7 @@ abbrev pub AreOnce : List Placed → Type 0
 AreOnce journal =
     (i j : ℕ) (a b : Placed) → slice_get journal i ≡ Some a → slice_get journal j ≡ Some b → AreOneMutation a.call b.call → i ≡ j
 
--- no record is of the call of a client with a seq
-abbrev pub HasNone : List Placed → ℕ → ℕ → Type 0
-HasNone journal client seq = (placed : Placed) → Contains journal placed → placed.call.client ≡ client → placed.call.seq ≡ seq → ⊥
-
-once_push : (journal : List Placed) (new : Placed) → AreOnce journal → HasNone journal new.call.client new.call.seq → AreOnce (journal ++ new ∷ [])
+pub once_push : (journal : List Placed) (new : Placed) → AreOnce journal → HasNone journal new.call.client new.call.seq → AreOnce (journal ++ new ∷ [])
 once_push journal new once none i j a b at_i at_j one = elim (got_cases journal new i a at_i) [
   | inl first ↦ elim (got_cases journal new j b at_j) [
     | inl second ↦ once i j a b first second one

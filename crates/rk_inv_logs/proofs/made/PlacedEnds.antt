@@ -7,10 +7,7 @@ use Rattle.rk_inv_base.proofs.Words.{All-head, All-tail, Contains-append_cases, 
 use Rattle.rk_inv_base.proofs.Words.{Contains-push_cases, filter-append, list_any_at, list_any_none, list_any, Ended, filter_kept}
 use Rattle.rk_inv_base.proofs.Words.{filter_left_out, behind_stands, first_stands, none_stands, stands_cases, ends_by_place, is_outrun_by}
 use Rattle.rk_inv_base.proofs.Words.{is_placed, placed_ends}
-use Rattle.rk_world.specs.Merge.{is_same_call}
-use Rattle.rk_inv_base.proofs.views.Lists.{all_by}
-use Rattle.rk_inv_base.proofs.calls.Records.{filter_stands}
-use Rattle.rk_inv_base.proofs.logs.Shares.{append_nil}
+use Rattle.rk_inv_logs.proofs.Words.{not-true, is_same_call, all_by, filter_stands, append_nil}
 
 -- ---- pairs
 
@@ -61,16 +58,11 @@ one_call a b is =
 -- where more stands behind ends, it has its places with them seen
 pub placed_append : (all later seen first second : List Ended) → placed_ends all later seen (first ++ second) ≡ placed_ends all later seen first ++ placed_ends all later (seen ++ first) second
 placed_append all later seen [] second = ap (λ (l : List Ended). placed_ends all later l second) (sym (append_nil seen))
-placed_append all later seen (end ∷ first) second = go (is_placed all later seen end)
-    (placed_append all later (seen ++ end ∷ []) first second
+placed_append all later seen (end ∷ first) second =
+    let more = placed_append all later (seen ++ end ∷ []) first second
     ∙ ap (λ (l : List Ended). placed_ends all later (seen ++ end ∷ []) first ++ placed_ends all later l second)
-    (append_assoc seen (end ∷ []) first))
-  where
-    go : (b : Bool) → placed_ends all later (seen ++ end ∷ []) (first ++ second) ≡ placed_ends all later (seen ++ end ∷ []) first ++ placed_ends all later (seen ++ end ∷ first) second
-        → cond b (end ∷ placed_ends all later (seen ++ end ∷ []) (first ++ second)) (placed_ends all later (seen ++ end ∷ []) (first ++ second))
-        ≡ cond b (end ∷ placed_ends all later (seen ++ end ∷ []) first) (placed_ends all later (seen ++ end ∷ []) first) ++ placed_ends all later (seen ++ end ∷ first) second
-    go true same = ap (λ (l : List Ended). end ∷ l) same
-    go false same = same
+    (append_assoc seen (end ∷ []) first) in
+    elim (cases_Bool (is_placed all later seen end)) [ inl is ↦ rw is (ap (λ (l : List Ended). end ∷ l) more) | inr is ↦ rw is more ]
 
 -- what is placed stands there, and is outrun by none
 pub record IsPlacedOf (all ends : List Ended) (end : Ended) : Type 0 where
@@ -78,11 +70,9 @@ pub record IsPlacedOf (all ends : List Ended) (end : Ended) : Type 0 where
   pub free : list_any (is_outrun_by end) all ≡ false
 
 placed_free : (all later seen : List Ended) (end : Ended) → is_placed all later seen end ≡ true → list_any (is_outrun_by end) all ≡ false
-placed_free all later seen end is = go (list_any (is_outrun_by end) all) (list_any (is_same_call end) (later ++ seen)) is
-  where
-    go : (a b : Bool) → (not a && not b) ≡ true → a ≡ false
-    go false b is = refl
-    go true b is = absurd (false≢true is)
+placed_free all later seen end is =
+    not-true (list_any (is_outrun_by end) all)
+    (and_parts (not (list_any (is_outrun_by end) all)) (not (list_any (is_same_call end) (later ++ seen))) is).0
 
 pub placed_stands : (all later seen ends : List Ended) (end : Ended) → Contains (placed_ends all later seen ends) end → IsPlacedOf all ends end
 placed_stands all later seen [] end at = absurd (none_stands end at)

@@ -1,23 +1,19 @@
 -- Of a sound view, of whose row the truth and a first part of the rest were read: the ends that are merged make just the records of the
 -- calls of that part, which leave the other rows as they were; they are known then, and reach each mutation of the row.
 use Rattle.std.proofs.Common.{◌≡◌, true, false, List, [], ◌∷◌, ◌++◌, map, ap, ◌∙◌, arith, All, AllPairs, Contains}
-use Rattle.std.proofs.lemmas.List.Kept.{AllPairs-cons}
 use Rattle.rk_inv_base.proofs.Words.{flat_map-append, All-contains, Contains-append_left, Ended, Placed, IsLegal-append, legal_back}
 use Rattle.rk_inv_base.proofs.Words.{IsLegal, Map, map_after, Entry, completions_from, ends_of, lineage_of, Row, base_map, counts}
 use Rattle.rk_inv_base.proofs.Words.{merged_ends, IsKnown, ReachAll, is_record_in, IsStaged, call_end, call_ends, record_of_last}
 use Rattle.rk_inv_base.proofs.Words.{records_of, View, rests, truths, SoundView}
+use Rattle.rk_inv_logs.proofs.Words.{AllPairs-cons, in_one_row, all_by, TellHistory, MakeRecords, journal_with, made_of, history_of}
 use Rattle.rk_model.proofs.Histories.{legal_front}
-use Rattle.rk_inv_base.proofs.rows.Apart.{in_one_row}
-use Rattle.rk_inv_base.proofs.views.Lists.{all_by}
-use Rattle.rk_inv_rows.specs.lineage.Lineages.{TellHistory}
-use Rattle.rk_inv_rows.specs.lineage.Rebuilt.{MakeRecords, journal_with, made_of}
-use Rattle.rk_inv_rows.proofs.lineage.Histories.{history_of}
 use Rattle.rk_inv_logs.proofs.apply.AppliedRest.{rest_counts}
 use Rattle.rk_inv_logs.specs.read.ReadBack.{IsReadBack}
 use Rattle.rk_inv_logs.specs.made.Made.{without_stamp}
 use Rattle.rk_inv_logs.proofs.made.Beside.{IsEndOfLast, history_beside, staged_ends}
 use Rattle.rk_inv_logs.proofs.made.MadeOf.{legal_unstamped, made_unstamped}
-use Rattle.rk_inv_logs.proofs.made.MergedMade.{Reads, lasts_known, lasts_reach, made_inside, made_last, made_merged, made_once, made_zip}
+use Rattle.rk_inv_logs.proofs.made.MergedRead.{Reads}
+use Rattle.rk_inv_logs.proofs.made.MergedMade.{lasts_known, lasts_reach, made_inside, made_last, made_merged, made_once, made_zip}
 use Rattle.rk_inv_logs.proofs.made.PlacedEnds.{Differ, first_differs, later_differ}
 
 -- what holds of all, or of each pair, holds so of a first part
@@ -59,8 +55,15 @@ module _ (v : View) (row : Row) (members : List (List Entry)) (sound : SoundView
   ends_split : call_ends (rests v row) ≡ call_ends part ++ call_ends read.left
   ends_split = ap call_ends split ∙ flat_map-append call_end part read.left
 
-  reads : Reads v.base v.lane v.asked v.journal (truths v row) part members
+  abbrev reads : Reads
   reads = record {
+    base = v.base;
+    lane = v.lane;
+    asked = v.asked;
+    journal = v.journal;
+    truth = truths v row;
+    part = read.part;
+    members = members;
     last_calls = sound.asked.last;
     recorded = sound.asked.recorded;
     after_start = sound.asked.after_start;
@@ -78,17 +81,17 @@ module _ (v : View) (row : Row) (members : List (List Entry)) (sound : SoundView
 
   -- the ends that are merged make the records of the calls of the part
   pub made_is : made_of v.asked v.journal (merged_ends members) ≡ made_of v.asked v.journal (call_ends read.part)
-  made_is = made_merged v.base v.lane v.asked v.journal (truths v row) part members reads
+  made_is = made_merged reads
 
   -- those that the staged calls will make, but for their stamps
   pub made_staged : map without_stamp (made_of v.asked v.journal (call_ends read.part)) ≡ records_of v.asked (call_ends read.part)
-  made_staged = made_unstamped v.asked (call_ends part) made (made_zip v.base v.lane v.asked v.journal (truths v row) part members reads)
+  made_staged = made_unstamped v.asked (call_ends part) made (made_zip reads)
 
   pub records_staged : map without_stamp (made_of v.asked v.journal (merged_ends members)) ≡ records_of v.asked (call_ends read.part)
   records_staged = ap (map without_stamp) made_is ∙ made_staged
 
   inside : All (λ placed. is_record_in row.range placed ≡ true) made
-  inside = made_inside v.base v.lane v.asked v.journal (truths v row) part members reads row.range ends
+  inside = made_inside reads row.range ends
 
   records_split : records_of v.asked (call_ends (rests v row)) ≡ records_of v.asked (call_ends part) ++ records_of v.asked (call_ends read.left)
   records_split = ap (records_of v.asked) ends_split
@@ -105,7 +108,7 @@ module _ (v : View) (row : Row) (members : List (List Entry)) (sound : SoundView
   records_made = record {
     inside = rw made_is inside;
     legal = rw made_is legal;
-    once = rw made_is (made_once v.base v.lane v.asked v.journal (truths v row) part members reads row.range ends sound.calls.once);
+    once = rw made_is (made_once reads row.range ends sound.calls.once);
   }
 
   -- ---- other rows
@@ -117,15 +120,15 @@ module _ (v : View) (row : Row) (members : List (List Entry)) (sound : SoundView
       (all_by (λ placed. is_record_in other.range placed ≡ false) made (λ placed at.
       in_one_row v.rows row other placed.call.table placed.call.key sound.rows.apart has stands unlike
       (All-contains (λ p. is_record_in row.range p ≡ true) made placed inside at)))
-      (made_last v.base v.lane v.asked v.journal (truths v row) part members reads row.range ends) legal (truths v other) (rests v other)
+      (made_last reads row.range ends) legal (truths v other) (rests v other)
       (counted other) (history_of v other sound stands))
 
   -- ---- the ends
 
   pub ends_known : All (IsKnown v.base (journal_with v (merged_ends members))) (ends_of (completions_from [] (merged_ends members)))
-  ends_known = rw made_is (lasts_known v.base v.lane v.asked v.journal (truths v row) part members reads row.range ends)
+  ends_known = rw made_is (lasts_known reads row.range ends)
 
   pub ends_reach : ReachAll row.range (journal_with v (merged_ends members)) (ends_of (completions_from [] (merged_ends members)))
   ends_reach = rw made_is
-      (lasts_reach v.base v.lane v.asked v.journal (truths v row) part members reads row.range ends sound.calls.once read.told_all
+      (lasts_reach reads row.range ends sound.calls.once read.told_all
       history.ends)

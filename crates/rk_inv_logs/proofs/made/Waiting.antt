@@ -1,12 +1,9 @@
 -- Ends of calls that wait for their records: no end that is known is one, and only they make records.
 use Rattle.std.proofs.Common.{◌≡◌, ℕ, Bool, true, false, not, ◌&&◌, ◌||◌, eqb, List, [], ◌∷◌, ◌++◌, filter, Option, Some, None, refl, sym}
 use Rattle.std.proofs.Common.{ap, ◌∙◌, subst, append_assoc, All, eq-eqb, eqb-true, inl, inr}
-use Rattle.std.proofs.lemmas.Bool.{not-true}
-use Rattle.rk_inv_base.proofs.Words.{and_from, and_parts, cases_Bool, cond-false, cond-true, false≢true, All-head, All-tail}
-use Rattle.rk_inv_base.proofs.Words.{list_any-append, Ended, Placed, filter_kept, filter_left_out, outcome_of, has_record, is_of_mutation}
-use Rattle.rk_inv_base.proofs.Words.{next_record, LastCall}
-use Rattle.rk_inv_base.proofs.logs.Shares.{append_nil}
-use Rattle.rk_inv_rows.specs.lineage.Rebuilt.{made_by, made_of}
+use Rattle.rk_inv_base.proofs.Words.{and_from, and_parts, cases_Bool, false≢true, All-head, All-tail, list_any-append, Ended, Placed}
+use Rattle.rk_inv_base.proofs.Words.{filter_kept, filter_left_out, outcome_of, has_record, is_of_mutation, next_record, LastCall}
+use Rattle.rk_inv_logs.proofs.Words.{not-true, append_nil, made_by, made_of}
 use Rattle.rk_inv_logs.specs.made.Made.{waits, waits_for}
 
 -- ---- one end
@@ -51,14 +48,12 @@ waits_no_more journal more client seq (Some last) is =
 -- an end makes a record where its call waits for one, and else none
 pub makes_none : (journal : List Placed) (end : Ended) (asked : Option LastCall) → waits_for journal end.client end.seq asked ≡ false → made_by journal end asked ≡ []
 makes_none journal end None is = refl
-makes_none journal end (Some last) is = cond-false (eqb last.call.seq end.seq && not (has_record journal end.client end.seq))
-    (next_record journal last.call (outcome_of end.end) last.seen ∷ []) [] is
+makes_none journal end (Some last) is = rw is refl
 
 pub makes_one : (journal : List Placed) (end : Ended) (asked : Option LastCall) (w : IsWaiting journal end.client end.seq asked) → made_by journal end asked ≡ next_record journal w.last.call (outcome_of end.end) w.last.seen ∷ []
-makes_one journal end asked w = ap (made_by journal end) w.asked_is
-    ∙ cond-true (eqb w.last.call.seq end.seq && not (has_record journal end.client end.seq))
-    (next_record journal w.last.call (outcome_of end.end) w.last.seen ∷ []) []
-    (ap (waits_for journal end.client end.seq) (sym w.asked_is) ∙ waiting_from journal end.client end.seq asked w)
+makes_one journal end asked w =
+    rw w.asked_is
+    (rw (ap (waits_for journal end.client end.seq) (sym w.asked_is) ∙ waiting_from journal end.client end.seq asked w) refl)
 
 -- ---- many
 

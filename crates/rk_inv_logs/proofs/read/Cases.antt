@@ -6,12 +6,8 @@ use Rattle.rk_inv_base.proofs.Words.{Member, Range, Entry, lineage_of, Row, item
 use Rattle.rk_inv_base.proofs.Words.{counted_of, is_member, unmarked_from, counting, own_place, Written, applied_entries, lineage_rest}
 use Rattle.rk_inv_base.proofs.Words.{lineage_truth, member_material, member_rest, member_truth, MayTakeRebuilt, member_marked}
 use Rattle.rk_inv_base.proofs.Words.{member_stored, NamedFit, FirstIsDone, IsDone, OnlyIsUnnamed, View, rests, truths, SoundView}
+use Rattle.rk_inv_logs.proofs.Words.{AreAmong, among_then, tells_among, AreReadable, sides_named, side_material, first_among}
 use Rattle.rk_tablet_map.specs.Phase.{member as member_at}
-use Rattle.rk_inv_base.proofs.views.Needed.{AreAmong, among_then, tells_among}
-use Rattle.rk_inv_tablets.specs.crash.Moves.{AreReadable}
-use Rattle.rk_inv_tablets.proofs.crash.MarksTold.{sides_named}
-use Rattle.rk_inv_tablets.proofs.crash.ReadTold.{side_material}
-use Rattle.rk_inv_tablets.proofs.crash.Unmarked.{first_among}
 use Rattle.rk_inv_logs.specs.read.ReadBack.{IsReadBack, all_of}
 use Rattle.rk_inv_logs.proofs.read.ByMember.{both_read, first_own, gather_of, last_own, only_own, only_read}
 use Rattle.rk_inv_logs.proofs.read.GivenUp.{given_up_told}
@@ -19,7 +15,7 @@ use Rattle.rk_inv_logs.proofs.read.MemberBack.{first_told, free_read, last_back,
 use Rattle.rk_inv_logs.proofs.read.ReadLists.{before_has, line_has, read_back}
 use Rattle.rk_inv_logs.proofs.read.ReadMember.{free_part, marked_of_all, side_part}
 use Rattle.rk_inv_logs.proofs.read.ReadOf.{away, dead, is_log}
-use Rattle.rk_inv_logs.proofs.read.ReadOwn.{apart, in_lineage, in_row, marked_fit, own_done, own_is, rebuilder}
+use Rattle.rk_inv_logs.proofs.read.ReadOwn.{Taken, apart, in_lineage, its_row, marked_fit, own_done, own_is, rebuilder}
 use Rattle.rk_inv_logs.proofs.read.ReadTells.{both_told, items_among, stand_among, stand_told}
 
 -- nothing tells no more than anything
@@ -48,6 +44,20 @@ module _ (v : View) (row : Row) (to place : ℕ) (ends : List Ended) (sound : So
   abbrev May : List Member → Type 0
   May lineage = MayTakeRebuilt v row lineage to place ends
 
+  abbrev pub taken : (lineage : List Member) → MayTakeRebuilt v row lineage to place ends → Taken v
+  taken lineage may = record {
+    row = row;
+    lineage = lineage;
+    to = to;
+    place = place;
+    ends = ends;
+    sound = sound;
+    readable = readable;
+    some = some;
+    few = few;
+    may = may;
+  }
+
   -- what was read is the row's truth and a first part of its rest
   abbrev pub IsBack : Type 0
   IsBack = IsReadBack (truths v row) (rests v row)
@@ -58,16 +68,16 @@ module _ (v : View) (row : Row) (to place : ℕ) (ends : List Ended) (sound : So
   conclude : (lineage : List Member) (members : List Gathered) (lists : List (List Entry)) → MayTakeRebuilt v row lineage to place ends → (v.gathers to row.tablet).members ≡ members
       → by_member (gather_of row.range to own lineage members) own ≡ lists → IsReadBack (lineage_truth v.base v.written row.range lineage) (lineage_rest v.written row.range lineage) lists → IsBack
   conclude lineage members lists may are by back =
-      let its = (rebuilder v row lineage to place ends sound some may).gather in
+      let its = (rebuilder v (taken lineage may)).gather in
       let same : by_member gather own ≡ lists =
       (λ i. by_member (record { range = its.range_is i; own = its.own_is i; lineage = its.lineage_is i; members = are i }) own) ∙ by in
       let line : lineage_of row.phase ≡ lineage = ap lineage_of may.phase_is in
-      rw (own_is v row lineage to place ends sound some may) (rw same (rw line back))
+      rw (own_is v (taken lineage may)) (rw same (rw line back))
 
   -- what a master outside the lineage has of its own counts for nothing
   own_none : (lineage : List Member) → (may : MayTakeRebuilt v row lineage to place ends) → is_member lineage to ≡ false → own ≡ []
   own_none lineage may outside = subst (λ (n : ℕ). member_material v.written row.range (member_at to n) ≡ [])
-      (own_is v row lineage to place ends sound some may) ((rebuilder v row lineage to place ends sound some may).outside outside)
+      (own_is v (taken lineage may)) ((rebuilder v (taken lineage may)).outside outside)
 
   -- where its own entries stand last, all of them are of the truth
   own_back : (lineage : List Member) → (may : MayTakeRebuilt v row lineage to place ends) → (truth : List Entry) (before : List (List Entry))
@@ -76,7 +86,7 @@ module _ (v : View) (row : Row) (to place : ℕ) (ends : List Ended) (sound : So
       → All (λ list. AreAmong list (truth ++ [])) before
       → IsReadBack truth (member_rest v.written row.range own_member) (before ++ own ∷ [])
   own_back lineage may truth before has of earlier =
-      let done : IsDone v.written row.range own_member = own_done v row lineage to place ends sound some may in
+      let done : IsDone v.written row.range own_member = own_done v (taken lineage may) in
       let rest : List Entry = member_rest v.written row.range own_member in
       rw (append-nil own) at
       (read_back truth rest before own [] [] [] [] done.rest
@@ -109,21 +119,19 @@ module _ (v : View) (row : Row) (to place : ℕ) (ends : List Ended) (sound : So
       let m : Member = g.member in
       let there : Contains gather.members g = rw are (0, omega arith, refl) in
       let truth : List Entry = lineage_truth v.base v.written row.range lineage in
-      let other : m.master ≡ to → ⊥ = away v row lineage to place ends sound readable some few may g there in
-      let gone = dead v row lineage to place ends sound readable some few may g there in
+      let other : m.master ≡ to → ⊥ = away v (taken lineage may) g there in
+      let gone = dead v (taken lineage may) g there in
       let none : own ≡ [] = own_none lineage may (or_from (m.master == to) false (ne_eqb m.master to other) refl) in
       let its : List Entry = member_truth v.written row.range m in
       let has : (e : Entry) → Contains its e → Contains truth e = λ e at. Contains-append_left its [] e at in
-      let read : List Entry = part v row lineage to place ends sound readable some few may g there in
+      let read : List Entry = part v (taken lineage may) g there in
       let unnamed : OnlyIsUnnamed v.written row.range lineage =
-      in_lineage v row lineage to place ends sound some may (OnlyIsUnnamed v.written row.range)
-      (in_row v row lineage to place ends sound some may (λ (r : Row). OnlyIsUnnamed v.written r.range (lineage_of r.phase))
-      sound.rest.unnamed) in
+      in_lineage v (taken lineage may) (OnlyIsUnnamed v.written row.range) (its_row v (taken lineage may)).unnamed in
       let w : Written = v.written m.master in
       conclude lineage (g ∷ []) (counted_of row.range g ∷ own ∷ []) may are (only_read row.range to own g other)
-      (last_back v row lineage to place ends sound readable some few may g there truth [] [] (own ∷ [])
+      (last_back v (taken lineage may) g there truth [] [] (own ∷ [])
       (tells_among (member_marked v.written row.range m) (member_material v.written row.range m)
-      (marked_fit v row lineage to place ends sound some may gone)) (none_told (truth ++ read))
+      (marked_fit v (taken lineage may) gone)) (none_told (truth ++ read))
       (stand_told (side_part row.range m.from w w.entries) (truth ++ read) (λ e at.
       Contains-append_left truth read e
       (has e
@@ -161,14 +169,12 @@ module _ (v : View) (row : Row) (to place : ℕ) (ends : List Ended) (sound : So
 
   -- the first one has nothing that is not applied
   first_done : (first last : Member) → (may : MayTakeRebuilt v row (first ∷ last ∷ []) to place ends) → IsDone v.written row.range first
-  first_done first last may = in_lineage v row (first ∷ last ∷ []) to place ends sound some may (FirstIsDone v.written row.range)
-      (in_row v row (first ∷ last ∷ []) to place ends sound some may (λ (r : Row). FirstIsDone v.written r.range (lineage_of r.phase))
-      sound.rest.done)
+  first_done first last may =
+      in_lineage v (taken (first ∷ last ∷ []) may) (FirstIsDone v.written row.range) (its_row v (taken (first ∷ last ∷ []) may)).done
 
   names_first : (first last : Member) → (may : MayTakeRebuilt v row (first ∷ last ∷ []) to place ends) → NamedFit v.written row.range (first ∷ last ∷ [])
-  names_first first last may = in_lineage v row (first ∷ last ∷ []) to place ends sound some may (NamedFit v.written row.range)
-      (in_row v row (first ∷ last ∷ []) to place ends sound some may (λ (r : Row). NamedFit v.written r.range (lineage_of r.phase))
-      sound.receives.named)
+  names_first first last may =
+      in_lineage v (taken (first ∷ last ∷ []) may) (NamedFit v.written row.range) (its_row v (taken (first ∷ last ∷ []) may)).named_items
 
   -- so all of it is of the truth
   first_in : (first last : Member) → (may : MayTakeRebuilt v row (first ∷ last ∷ []) to place ends) → (e : Entry) → Contains (member_material v.written row.range first) e → Contains (lineage_truth v.base v.written row.range (first ∷ last ∷ [])) e
@@ -181,14 +187,14 @@ module _ (v : View) (row : Row) (to place : ℕ) (ends : List Ended) (sound : So
       let m : Member = g.member in
       let there : Contains gather.members g = rw are (0, omega arith, refl) in
       let truth : List Entry = lineage_truth v.base v.written row.range lineage in
-      let other : m.master ≡ to → ⊥ = away v row lineage to place ends sound readable some few may g there in
-      let gone = dead v row lineage to place ends sound readable some few may g there in
-      let read : List Entry = part v row lineage to place ends sound readable some few may g there in
-      let fit = marked_fit v row lineage to place ends sound some may in
+      let other : m.master ≡ to → ⊥ = away v (taken lineage may) g there in
+      let gone = dead v (taken lineage may) g there in
+      let read : List Entry = part v (taken lineage may) g there in
+      let fit = marked_fit v (taken lineage may) in
       let done : IsDone v.written row.range own_member = first_done own_member m may in
       let of_own = stand_told own (truth ++ read) (λ e at. Contains-append_left truth read e (first_in own_member m may e at)) in
       conclude lineage (g ∷ []) (own ∷ counted_of row.range g ∷ []) may are (first_own row.range to own own_member g refl other)
-      (last_back v row lineage to place ends sound readable some few may g there truth own (own ∷ []) []
+      (last_back v (taken lineage may) g there truth own (own ∷ []) []
       (tells_among (member_marked v.written row.range m) (own ++ member_material v.written row.range m) (fit.1 gone)) of_own
       (sides_of_two v.written row.range own_member m (names_first own_member m may) (truth ++ read)
       (λ e at. Contains-append_left truth read e (in_first own_member m e at))) (in_last own_member m)
@@ -202,12 +208,12 @@ module _ (v : View) (row : Row) (to place : ℕ) (ends : List Ended) (sound : So
       let lineage : List Member = g.member ∷ own_member ∷ [] in
       let m : Member = g.member in
       let truth : List Entry = lineage_truth v.base v.written row.range lineage in
-      let its_marked : List Entry = marked v row lineage to place ends sound readable some few may g there in
+      let its_marked : List Entry = marked v (taken lineage may) g there in
       let all_marked : List Entry = member_marked v.written row.range m in
       let material : List Entry = member_material v.written row.range m in
       let stored : List Entry = member_stored v.logs v.written v.stored row.range own_member in
       let w : Written = v.written to in
-      let done : IsDone v.written row.range own_member = own_done v row lineage to place ends sound some may in
+      let done : IsDone v.written row.range own_member = own_done v (taken lineage may) in
       let any : (e : Entry) → Contains truth e → Contains (truth ++ []) e = λ e at. Contains-append_left truth [] e at in
       let of_stored : (e : Entry) → Contains stored e → Contains truth e =
       λ e at.
@@ -215,14 +221,10 @@ module _ (v : View) (row : Row) (to place : ℕ) (ends : List Ended) (sound : So
       (rw done.all at
       (Contains-append_left (counting row.range (unmarked_from w.marks place w.entries)) (side_material row.range own_member w) e
       (first_among w.marks row.range place _ w.entries e at))) in
-      first_told v row lineage to place ends sound readable some few may g there (truth ++ [])
-      (among_then its_marked all_marked (truth ++ [])
-      (stand_told its_marked all_marked
-      (marked_of_all row.range m.from (v.written m.master) (main v row lineage to place ends sound readable some few may g there) _
-      (is_log v row lineage to place ends sound readable some few may g there)))
-      (among_then all_marked (material ++ stored) (truth ++ [])
-      (tells_among all_marked (material ++ stored)
-      ((marked_fit v row lineage to place ends sound some may).0 (dead v row lineage to place ends sound readable some few may g there)))
+      first_told v (taken lineage may) g there (truth ++ []) (among_then its_marked all_marked (truth ++ [])
+      (stand_told its_marked all_marked (marked_of_all row.range m.from (v.written m.master) (main v (taken lineage may) g there) _
+      (is_log v (taken lineage may) g there))) (among_then all_marked (material ++ stored) (truth ++ [])
+      (tells_among all_marked (material ++ stored) ((marked_fit v (taken lineage may)).0 (dead v (taken lineage may) g there)))
       (both_told material stored (truth ++ []) (stand_told material (truth ++ []) (λ e at. any e (first_in m own_member may e at)))
       (stand_told stored (truth ++ []) (λ e at. any e (of_stored e at)))))) (λ e at. any e (first_in m own_member may e at))
 
@@ -232,10 +234,10 @@ module _ (v : View) (row : Row) (to place : ℕ) (ends : List Ended) (sound : So
       let m : Member = g.member in
       let there : Contains gather.members g = rw are (0, omega arith, refl) in
       let truth : List Entry = lineage_truth v.base v.written row.range lineage in
-      let other : m.master ≡ to → ⊥ = away v row lineage to place ends sound readable some few may g there in
+      let other : m.master ≡ to → ⊥ = away v (taken lineage may) g there in
       conclude lineage (g ∷ []) (counted_of row.range g ∷ own ∷ []) may are (last_own row.range to own g own_member other refl)
       (own_back lineage may truth (counted_of row.range g ∷ []) (in_last m own_member)
-      (read_or_last m own_member (counted_of row.range g) (truth_read v row lineage to place ends sound readable some few may g there))
+      (read_or_last m own_member (counted_of row.range g) (truth_read v (taken lineage may) g there))
       (All-cons (λ list. AreAmong list (truth ++ [])) (counted_of row.range g) [] (last_own_told g there may)
       (All-nil (λ list. AreAmong list (truth ++ [])))))
 
@@ -246,34 +248,31 @@ module _ (v : View) (row : Row) (to place : ℕ) (ends : List Ended) (sound : So
       let first : Contains gather.members a = rw are (0, omega arith, refl) in
       let last : Contains gather.members b = rw are (1, omega arith, refl) in
       let truth : List Entry = lineage_truth v.base v.written row.range lineage in
-      let first_away : a.member.master ≡ to → ⊥ = away v row lineage to place ends sound readable some few may a first in
-      let last_away : b.member.master ≡ to → ⊥ = away v row lineage to place ends sound readable some few may b last in
-      let beside : a.member.master ≢ b.member.master = apart v row lineage to place ends sound some may in
+      let first_away : a.member.master ≡ to → ⊥ = away v (taken lineage may) a first in
+      let last_away : b.member.master ≡ to → ⊥ = away v (taken lineage may) b last in
+      let beside : a.member.master ≢ b.member.master = apart v (taken lineage may) in
       let none : own ≡ [] =
       own_none lineage may
       (or_from (a.member.master == to) (is_member (b.member ∷ []) to) (ne_eqb a.member.master to first_away)
       (or_from (b.member.master == to) false (ne_eqb b.member.master to last_away) refl)) in
-      let fit = marked_fit v row lineage to place ends sound some may in
-      let read : List Entry = part v row lineage to place ends sound readable some few may b last in
+      let fit = marked_fit v (taken lineage may) in
+      let read : List Entry = part v (taken lineage may) b last in
       let all : List Entry = member_material v.written row.range a.member in
       let any : (e : Entry) → Contains truth e → Contains (truth ++ read) e = λ e at. Contains-append_left truth read e at in
       let of_first : AreAmong (counted_of row.range a) (truth ++ read) =
-      first_told v row lineage to place ends sound readable some few may a first (truth ++ read)
+      first_told v (taken lineage may) a first (truth ++ read)
       (given_up_told v row a b to place ends sound readable some few may first last (truth ++ read)
-      (λ e at. any e (first_in a.member b.member may e at))
-      (free_read v row lineage to place ends sound readable some few may b last (truth ++ read)
+      (λ e at. any e (first_in a.member b.member may e at)) (free_read v (taken lineage may) b last (truth ++ read)
       (λ e at. any e (in_last a.member b.member e at)) (λ e at. Contains-append_right truth read e at))
       (tells_among (member_marked v.written row.range a.member) (all ++ member_stored v.logs v.written v.stored row.range b.member)
-      (fit.0 (dead v row lineage to place ends sound readable some few may a first))))
-      (λ e at. any e (first_in a.member b.member may e at)) in
+      (fit.0 (dead v (taken lineage may) a first)))) (λ e at. any e (first_in a.member b.member may e at)) in
       conclude lineage (a ∷ b ∷ []) (counted_of row.range a ∷ counted_of row.range b ∷ own ∷ []) may are
       (both_read row.range to own a b first_away last_away beside)
-      (last_back v row lineage to place ends sound readable some few may b last truth all (counted_of row.range a ∷ []) (own ∷ [])
+      (last_back v (taken lineage may) b last truth all (counted_of row.range a ∷ []) (own ∷ [])
       (tells_among (member_marked v.written row.range b.member) (all ++ member_material v.written row.range b.member)
-      (fit.1 (dead v row lineage to place ends sound readable some few may b last)))
-      (stand_told all (truth ++ read) (λ e at. any e (first_in a.member b.member may e at)))
+      (fit.1 (dead v (taken lineage may) b last))) (stand_told all (truth ++ read) (λ e at. any e (first_in a.member b.member may e at)))
       (sides_of_two v.written row.range a.member b.member (names_first a.member b.member may) (truth ++ read)
       (λ e at. any e (in_first a.member b.member e at))) (in_last a.member b.member)
-      (read_or_last a.member b.member (counted_of row.range a) (truth_read v row lineage to place ends sound readable some few may a first))
+      (read_or_last a.member b.member (counted_of row.range a) (truth_read v (taken lineage may) a first))
       (All-cons (λ list. AreAmong list (truth ++ read)) (counted_of row.range a) [] of_first
       (All-nil (λ list. AreAmong list (truth ++ read)))) (All-cons (λ list. list ≡ []) own [] none (All-nil (λ list. list ≡ []))))

@@ -2,35 +2,45 @@
 -- the last one.
 use Rattle.std.proofs.Common.{◌≡◌, ◌≤◌, ◌<◌, inl, inr, ℕ, false, true, List, [], ◌∷◌, ◌++◌, length, Some, refl, ap, subst, ◌∙◌, arith}
 use Rattle.std.proofs.Common.{slice_get, take, All, Contains}
-use Rattle.rk_inv_base.proofs.Words.{slice_get-get_or, slice_get_within, Ended, Member, Entry, Row, length-ends, EntryEnd, items_in}
+use Rattle.rk_inv_base.proofs.Words.{slice_get-get_or, slice_get_within, Ended, Entry, Row, length-ends, EntryEnd, items_in}
 use Rattle.rk_inv_base.proofs.Words.{told_by, Gathered, LAST_MAIN_SEGMENT, side_read, is_marked, counts, Written, member_material}
 use Rattle.rk_inv_base.proofs.Words.{stored_of, MayTakeRebuilt, READ_BACKUP, TellsMore, member_given_up, member_marked, member_stored}
 use Rattle.rk_inv_base.proofs.Words.{stored_count, View, SoundView}
+use Rattle.rk_inv_logs.proofs.Words.{AreAmong, first_counted, AreReadable, flat_of}
 use Rattle.rk_log.specs.Cut.{ends as ends_there}
-use Rattle.rk_inv_base.proofs.views.Needed.{AreAmong, first_counted}
-use Rattle.rk_inv_tablets.specs.crash.Moves.{AreReadable}
-use Rattle.rk_inv_tablets.proofs.crash.Among.{flat_of}
 use Rattle.rk_inv_logs.proofs.read.MemberBack.{main, marked}
 use Rattle.rk_inv_logs.proofs.read.ReadMember.{IsReadLog, first_taken, free_part, marked_of_all}
 use Rattle.rk_inv_logs.proofs.read.ReadOf.{given_up, is_log, needed_in}
+use Rattle.rk_inv_logs.proofs.read.ReadOwn.{Taken}
 use Rattle.rk_inv_logs.proofs.read.ReadSame.{ends_told, items_told}
 use Rattle.rk_inv_logs.proofs.read.ReadTells.{Among, all_told, each_among, stand_among}
 
 module _ (v : View) (row : Row) (a b : Gathered) (to place : ℕ) (ends : List Ended) (sound : SoundView v) (readable : AreReadable v.logs v.written) (some : row.range.first ≤ row.range.last) (few : All (λ gathered. length gathered.main ≤ LAST_MAIN_SEGMENT) (v.gathers to row.tablet).members) (may : MayTakeRebuilt v row (a.member ∷ b.member ∷ []) to place ends) (first : Contains (v.gathers to row.tablet).members a) (last : Contains (v.gathers to row.tablet).members b) where
-  abbrev both : List Member
-  both = a.member ∷ b.member ∷ []
+  abbrev t : Taken v
+  t = record {
+    row = row;
+    lineage = a.member ∷ b.member ∷ [];
+    to = to;
+    place = place;
+    ends = ends;
+    sound = sound;
+    readable = readable;
+    some = some;
+    few = few;
+    may = may;
+  }
 
   abbrev w : Written
   w = v.written b.member.master
 
   abbrev read_of_last : List Entry
-  read_of_last = main v row both to place ends sound readable some few may b last
+  read_of_last = main v t b last
 
   abbrev marked_first : List Entry
-  marked_first = marked v row (a.member ∷ b.member ∷ []) to place ends sound readable some few may a first
+  marked_first = marked v t a first
 
   log : IsReadLog row.range b.member.from (v.written b.member.master) read_of_last (side_read b)
-  log = is_log v row both to place ends sound readable some few may b last
+  log = is_log v t b last
 
   abbrev given : List Entry
   given = member_given_up v.written row a.member
@@ -44,7 +54,7 @@ module _ (v : View) (row : Row) (a b : Gathered) (to place : ℕ) (ends : List E
       let none : EntryEnd = record { segment = 0; offset = 0 } in
       let there =
       slice_get-get_or (ends_there w.entries) n none (omega (arith, slice_get_within w.entries n entry stands, length-ends [] w.entries)) in
-      needed_in v row both to place ends sound readable some few may b last n _ there (
+      needed_in v t b last n _ there (
         refl,
         record {
           place = n;
@@ -86,12 +96,11 @@ module _ (v : View) (row : Row) (a b : Gathered) (to place : ℕ) (ends : List E
       all_marked = member_marked v.written row.range a.member
 
       of_given : (entry : Entry) → Contains marked_first entry → Contains (member_given_up v.written row a.member) entry
-      of_given entry at = given_up v row both to place ends sound readable some few may a first entry at
+      of_given entry at = given_up v t a first entry at
 
       of_all : (entry : Entry) → Contains marked_first entry → Contains (member_marked v.written row.range a.member) entry
-      of_all entry at = marked_of_all row.range a.member.from (v.written a.member.master)
-          (main v row both to place ends sound readable some few may a first) (side_read a)
-          (is_log v row both to place ends sound readable some few may a first) entry at
+      of_all entry at = marked_of_all row.range a.member.from (v.written a.member.master) (main v t a first) (side_read a)
+          (is_log v t a first) entry at
 
       first_in : {X : Type 0} (f : Entry → List X) → Among f (first_counted row.range b.member.from (v.written b.member.master) (length read_of_last)) others
       first_in f = stand_among f (first_counted row.range b.member.from w (length read_of_last)) others

@@ -3,15 +3,13 @@
 use Rattle.std.proofs.Common.{◌≡◌, ◌≤◌, ℕ, false, List, [], ◌∷◌, length, sym, ap, subst, ◌∙◌, arith, ◌==◌, ◌≢◌, map, All, inl, inr}
 use Rattle.rk_inv_base.proofs.Words.{or_parts, All-contains, Ended, Member, Row, Gathered, LAST_MAIN_SEGMENT, is_member, MayTakeRebuilt}
 use Rattle.rk_inv_base.proofs.Words.{View, rests, truths, SoundView}
+use Rattle.rk_inv_logs.proofs.Words.{contains_cases, AreReadable, differ}
 use Rattle.rk_tablet_map.specs.Phase.{member as member_at}
-use Rattle.rk_inv_base.proofs.rows.Apart.{contains_cases}
-use Rattle.rk_inv_tablets.specs.crash.Moves.{AreReadable}
 use Rattle.rk_inv_logs.specs.read.Moves.{MayTakeRebuiltFormed, read_by_member}
 use Rattle.rk_inv_logs.specs.read.ReadBack.{IsReadBack}
 use Rattle.rk_inv_logs.proofs.read.ByMember.{one_gathered, others_both, others_first, others_last, others_of, others_only, two_gathered}
-use Rattle.rk_inv_logs.proofs.read.Cases.{IsBack, both_read_back, first_own_back, last_own_back, only_own_back, only_read_back}
+use Rattle.rk_inv_logs.proofs.read.Cases.{IsBack, taken, both_read_back, first_own_back, last_own_back, only_own_back, only_read_back}
 use Rattle.rk_inv_logs.proofs.read.ReadOwn.{apart, own_stands, rebuilder}
-use Rattle.rk_inv_base.proofs.pulls.Joining.{differ}
 
 module _ (v : View) (row : Row) (to place : ℕ) (ends : List Ended) (sound : SoundView v) (readable : AreReadable v.logs v.written) (some : row.range.first ≤ row.range.last) (few : All (λ gathered. length gathered.main ≤ LAST_MAIN_SEGMENT) (v.gathers to row.tablet).members) where
   abbrev members : List Gathered
@@ -19,10 +17,10 @@ module _ (v : View) (row : Row) (to place : ℕ) (ends : List Ended) (sound : So
 
   -- those that were gathered
   members_are : (lineage : List Member) → MayTakeRebuilt v row lineage to place ends → map (λ gathered. gathered.member) (v.gathers to row.tablet).members ≡ others_of to lineage
-  members_are lineage may = (rebuilder v row lineage to place ends sound some may).gather.members_are
+  members_are lineage may = (rebuilder v (taken v row to place ends sound readable some few lineage may)).gather.members_are
 
   of_one : (only : Member) → MayTakeRebuilt v row (only ∷ []) to place ends → IsBack v row to place ends sound readable some few
-  of_one only may = elim (own_stands v row (only ∷ []) to place ends sound some may) [
+  of_one only may = elim (own_stands v (taken v row to place ends sound readable some few (only ∷ []) may)) [
     | inl outside ↦
         let away : only.master ≡ to → ⊥ = differ only.master to (or_parts (only.master == to) false outside).0 in
         let one = one_gathered members only (members_are (only ∷ []) may ∙ others_only to only away) in
@@ -36,8 +34,8 @@ module _ (v : View) (row : Row) (to place : ℕ) (ends : List Ended) (sound : So
   of_two : (first last : Member) → MayTakeRebuilt v row (first ∷ last ∷ []) to place ends → IsBack v row to place ends sound readable some few
   of_two first last may =
       let both : List Member = first ∷ last ∷ [] in
-      let beside : first.master ≢ last.master = apart v row both to place ends sound some may in
-      elim (own_stands v row both to place ends sound some may) [
+      let beside : first.master ≢ last.master = apart v (taken v row to place ends sound readable some few both may) in
+      elim (own_stands v (taken v row to place ends sound readable some few both may)) [
         | inl outside ↦
             let parts = or_parts (first.master == to) (is_member (last ∷ []) to) outside in
             let first_away : first.master ≡ to → ⊥ = differ first.master to parts.0 in
@@ -62,10 +60,10 @@ module _ (v : View) (row : Row) (to place : ℕ) (ends : List Ended) (sound : So
       ]
 
   by_lineage : (lineage : List Member) → MayTakeRebuilt v row lineage to place ends → IsBack v row to place ends sound readable some few
-  by_lineage [] may = absurd (apart v row [] to place ends sound some may)
+  by_lineage [] may = absurd (apart v (taken v row to place ends sound readable some few [] may))
   by_lineage (only ∷ []) may = of_one only may
   by_lineage (first ∷ last ∷ []) may = of_two first last may
-  by_lineage (first ∷ second ∷ third ∷ more) may = absurd (apart v row (first ∷ second ∷ third ∷ more) to place ends sound some may)
+  by_lineage (first ∷ second ∷ third ∷ more) may = absurd (apart v (taken v row to place ends sound readable some few (first ∷ second ∷ third ∷ more) may))
 
 -- so it is of a rebuild that may be taken
 pub read_of_rebuilt : (v : View) (row : Row) (lineage : List Member) (to place : ℕ) (ends : List Ended) → SoundView v → MayTakeRebuiltFormed v row lineage to place ends → IsReadBack (truths v row) (rests v row) (read_by_member v row to)

@@ -4,10 +4,7 @@ use Rattle.std.proofs.Common.{◌≡◌, List, [], ◌∷◌, ◌++◌, append_a
 use Rattle.std.proofs.Common.{inr}
 use Rattle.rk_inv_base.proofs.Words.{map-append, flat_map-append, All-contains, All-map, All-weaker, Contains-append_cases}
 use Rattle.rk_inv_base.proofs.Words.{Contains-append_left, Contains-append_right, Ended, Entry, items_in, told, told_by}
-use Rattle.rk_inv_base.proofs.rows.Apart.{contains_cases}
-use Rattle.rk_inv_base.proofs.views.Lists.{all_by}
-use Rattle.rk_inv_base.proofs.views.Needed.{AreAmong}
-use Rattle.rk_inv_tablets.proofs.crash.Among.{flat_from, flat_of}
+use Rattle.rk_inv_logs.proofs.Words.{contains_cases, all_by, AreAmong, flat_from, flat_of}
 use Rattle.rk_inv_tablets.proofs.crash.MergeTells.{all_stand_told, all_told}
 use Rattle.rk_inv_logs.specs.read.ReadBack.{IsReadBack, TellInOrder, all_of}
 use Rattle.rk_inv_logs.proofs.read.ReadTells.{Among, each_among, stand_among}

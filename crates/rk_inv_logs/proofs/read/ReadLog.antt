@@ -11,19 +11,12 @@ use Rattle.rk_inv_base.proofs.Words.{IsLawfulEntry, IsLawfulHeld, Entry, FIRST_S
 use Rattle.rk_inv_base.proofs.Words.{known_length, nothing, IsBackup, Log, bytes_of, is_held, is_side_stored, known_of, EntryEnd, Gathered}
 use Rattle.rk_inv_base.proofs.Words.{LAST_MAIN_SEGMENT, next_segment, side_read, as_entries, named, named_by, side_entries, Written, IsCopy}
 use Rattle.rk_inv_base.proofs.Words.{IsLog, is_main, segments_in, AreRead, IsGathered, IsReadPart, READ_BACKUP}
-use Rattle.rk_entry.specs.declared.entry.Entry.TheVariants as entries
-use Rattle.rk_log.proofs.Cuts.{ends_within}
-use Rattle.rk_log.proofs.LogLaws.{committed_held}
-use Rattle.rk_world.specs.Gather.{main_entries, next_side}
-use Rattle.rk_inv_base.proofs.rows.Apart.{contains_cases}
+use Rattle.rk_inv_logs.proofs.Words.{ends_within, committed_held, main_entries, next_side, contains_cases, end_some, bytes_in, bytes_main}
+use Rattle.rk_inv_logs.proofs.Words.{bytes_side, numbered_at, numbered_past, named_from, place_there, stands_front, AreFirstStored}
+use Rattle.rk_inv_logs.proofs.Words.{IsPartRead, read_none, cut_groups, spelled_none, all_at, all_groups, main_read, side_number}
 use Rattle.rk_inv_base.proofs.logs.Logs.{first_part_more}
-use Rattle.rk_inv_base.proofs.views.Needed.{end_some}
-use Rattle.rk_inv_base.proofs.logs.Segments.{bytes_in, bytes_main, bytes_side, numbered_at, numbered_past}
-use Rattle.rk_inv_tablets.proofs.crash.Among.{named_from, place_there, stands_front}
-use Rattle.rk_inv_tablets.proofs.crash.FirstRead.{AreFirstStored, IsPartRead, read_none}
-use Rattle.rk_inv_tablets.proofs.crash.Groups.{cut_groups, spelled_none}
-use Rattle.rk_inv_tablets.proofs.crash.LogRead.{all_at, all_groups, main_read, side_number}
 use Rattle.rk_inv_tablets.proofs.crash.ReadTold.{stands_there}
+use Rattle.rk_entry.specs.declared.entry.Entry.TheVariants as entries
 use Rattle.rk_inv_logs.proofs.read.ReadMain.{reached}
 
 -- ---- lists

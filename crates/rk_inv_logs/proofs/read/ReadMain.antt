@@ -5,8 +5,7 @@ use Rattle.std.proofs.Common.{sym, ap, ◌∙◌, arith, append_assoc, length-ap
 use Rattle.std.proofs.Common.{length-take-le, take-append-drop}
 use Rattle.rk_inv_base.proofs.Words.{All-head, All-tail, All-take, recursion_from_All, all_again, spelled_all, entries_of, IsLawfulEntry}
 use Rattle.rk_inv_base.proofs.Words.{spelled, Entry, EntryEnd, is_main}
-use Rattle.rk_inv_tablets.proofs.crash.FirstRead.{ArePartsRead, IsPartRead}
-use Rattle.rk_inv_tablets.proofs.crash.Groups.{ends_in, group_ends, spelled_both, spelled_first, spelled_none}
+use Rattle.rk_inv_logs.proofs.Words.{ArePartsRead, IsPartRead, ends_in, group_ends, spelled_both, spelled_first, spelled_none}
 
 -- ---- places
 

@@ -1,18 +1,15 @@
 -- What counts of a member of which first entries of the log were read, with each side segment that they name: its unmarked entries, first the
 -- applied ones, then a first part of the others; then what bears a mark; and then the side segments.
-use Rattle.std.proofs.Common.{◌≡◌, ℕ, zero, suc, ◌+◌, ◌-◌, ◌<◌, ◌≤◌, Bool, true, false, cond, List, [], ◌∷◌, ◌++◌, length, max, fold, Some}
-use Rattle.std.proofs.Common.{refl, sym, ap, subst, ◌∙◌, arith, drop, slice_get, take, Contains, flat_map, take-append-drop, inl, inr}
-use Rattle.rk_inv_base.proofs.Words.{cases_lt, cond-false, cond-true, cond_both, drop-take, take-append-le, Contains-append_cases}
+use Rattle.std.proofs.Common.{◌≡◌, ℕ, zero, suc, ◌+◌, ◌-◌, ◌<◌, ◌≤◌, true, false, List, [], ◌∷◌, ◌++◌, length, max, fold, Some, refl, sym}
+use Rattle.std.proofs.Common.{ap, subst, ◌∙◌, arith, drop, slice_get, take, Contains, flat_map, take-append-drop, inl, inr, drop-drop}
+use Rattle.std.proofs.Common.{length-take}
+use Rattle.rk_inv_base.proofs.Words.{cases_Bool, drop_all, cases_lt, cond_both, drop-take, take-append-le, Contains-append_cases}
 use Rattle.rk_inv_base.proofs.Words.{Contains-append_left, Contains-append_right, filter-append, slice_get_within, Range, Entry, is_marked}
 use Rattle.rk_inv_base.proofs.Words.{unmarked, unmarked_from, counting, counts, log_material, material_of, named, named_by, side_entries}
 use Rattle.rk_inv_base.proofs.Words.{with_number, Written, applied_entries, Mark, marked_entries}
-use Rattle.rk_inv_base.proofs.rows.Apart.{contains_cases}
-use Rattle.rk_inv_base.proofs.logs.Grows.{Extends, counting_extends, drop_extends, still_contains, unmarked_extends}
-use Rattle.rk_inv_base.proofs.pulls.Joining.{kept_stands}
-use Rattle.rk_inv_base.proofs.logs.MarkedApart.{place_of}
-use Rattle.rk_inv_base.proofs.views.Needed.{sides_extend}
-use Rattle.rk_inv_tablets.proofs.crash.Among.{stands_front}
-use Rattle.rk_inv_tablets.proofs.crash.Unmarked.{IsUnmarked, first_stands, free_place, marked_stands}
+use Rattle.rk_inv_logs.proofs.Words.{contains_cases, Extends, counting_extends, drop_extends, still_contains, unmarked_extends, kept_stands}
+use Rattle.rk_inv_logs.proofs.Words.{place_of, sides_extend, stands_front, IsUnmarked, free_place, marked_stands}
+use Rattle.rk_inv_tablets.proofs.crash.Unmarked.{first_stands}
 
 -- ---- lists
 
@@ -20,17 +17,6 @@ use Rattle.rk_inv_tablets.proofs.crash.Unmarked.{IsUnmarked, first_stands, free_
 pub none_there : {X : Type 0} (xs : List X) → ((x : X) → Contains xs x → ⊥) → xs ≡ []
 none_there [] none = refl
 none_there (x ∷ xs) none = absurd (none x (zero, omega arith, refl))
-
--- behind so many, and then so many more
-pub drop_twice : {X : Type 0} (n m : ℕ) (xs : List X) → drop m (drop n xs) ≡ drop (n + m) xs
-drop_twice {X} zero m xs = let same : m ≡ 0 + m = omega arith in ap (λ (k : ℕ). drop k xs) same
-drop_twice {X} (suc n) m [] = none m ∙ sym (none (suc n + m))
-  where
-    none : (k : ℕ) → drop {A = X} k [] ≡ []
-    none zero = refl
-    none (suc k) = refl
-drop_twice {X} (suc n) m (x ∷ xs) =
-    let same : suc (n + m) ≡ suc n + m = omega arith in drop_twice n m xs ∙ ap (λ (k : ℕ). drop k (x ∷ xs)) same
 
 -- the same for each of some elements
 pub flat_same : {X Y : Type 0} (f g : X → List Y) (xs : List X) → ((x : X) → Contains xs x → f x ≡ g x) → flat_map f xs ≡ flat_map g xs
@@ -52,13 +38,9 @@ module _ (marks : List Mark) where
   unmarked_split start (suc n) [] = refl
   unmarked_split start (suc n) (entry ∷ list) =
       let same : suc start + n ≡ start + suc n = omega arith in
-      ap (λ (later : List Entry). cond (is_marked marks start) later (entry ∷ later))
-      (unmarked_split (suc start) n list ∙ ap (λ (k : ℕ). unmarked marks (suc start) (take n list) ++ unmarked marks k (drop n list)) same)
-      ∙ kept (is_marked marks start) (unmarked marks (suc start) (take n list)) (unmarked marks (start + suc n) (drop n list))
-    where
-      kept : (b : Bool) (xs ys : List Entry) → cond b (xs ++ ys) (entry ∷ (xs ++ ys)) ≡ cond b xs (entry ∷ xs) ++ ys
-      kept true xs ys = refl
-      kept false xs ys = refl
+      let later = rw same at (unmarked_split (suc start) n list) in
+      elim (cases_Bool (is_marked marks start))
+      [ inl marked ↦ rw marked later | inr free ↦ rw free (ap (λ (l : List Entry). entry ∷ l) later) ]
 
   -- from a place on up to another, and from there on
   pub from_split : (from n : ℕ) (list : List Entry) → unmarked_from marks from list ≡ unmarked_from marks from (take n list) ++ unmarked_from marks (max from n) list
@@ -68,21 +50,15 @@ module _ (marks : List Mark) where
       let front : take m (drop from list) ≡ drop from (take n list) = elim (cases_lt n from) [
         | inl early ↦
             let none : m ≡ 0 = omega (arith, early) in
-            ap (λ (k : ℕ). take k (drop from list)) none ∙ sym (none_behind from n list early)
+            ap (λ (k : ℕ). take k (drop from list)) none ∙ sym (drop_all from (take n list) (omega (arith, early, length-take n list)))
         | inr late ↦
             let is : from + m ≡ n = omega (arith, late) in
             sym (drop-take from m list) ∙ ap (λ (k : ℕ). drop from (take k list)) is
       ] in
       unmarked_split from m (drop from list)
       ∙ ap (λ (l : List Entry). unmarked marks from l ++ unmarked marks (from + m) (drop m (drop from list))) front
-      ∙ ap (λ (l : List Entry). unmarked marks from (drop from (take n list)) ++ unmarked marks (from + m) l) (drop_twice from m list)
+      ∙ ap (λ (l : List Entry). unmarked marks from (drop from (take n list)) ++ unmarked marks (from + m) l) (drop-drop m from list)
       ∙ ap (λ (k : ℕ). unmarked marks from (drop from (take n list)) ++ unmarked marks k (drop k list)) at
-    where
-      none_behind : (from n : ℕ) (list : List Entry) → n < from → drop from (take n list) ≡ []
-      none_behind zero n list early = absurd (omega (arith, early))
-      none_behind (suc from) zero list early = refl
-      none_behind (suc from) (suc n) [] early = refl
-      none_behind (suc from) (suc n) (entry ∷ list) early = none_behind from n list (omega (arith, early))
 
   -- where marked entries name nothing, the others name all
   pub named_free : (range : Range) (start : ℕ) (list : List Entry) → ((k : ℕ) (entry : Entry) → slice_get list k ≡ Some entry → is_marked marks (start + k) ≡ true → named_by range entry ≡ []) → flat_map (named_by range) list ≡ flat_map (named_by range) (unmarked marks start list)
@@ -92,12 +68,12 @@ module _ (marks : List Mark) where
       named_free range (suc start) list (λ k e at marked.
       let same : suc start + k ≡ start + suc k = omega arith in
       none (suc k) e at (ap (is_marked marks) (sym same) ∙ marked)) in
-      cond_both (is_marked marks start) (unmarked marks (suc start) list) (entry ∷ unmarked marks (suc start) list)
-      (λ (l : List Entry). named_by range entry ++ flat_map (named_by range) list ≡ flat_map (named_by range) l)
-      (λ e.
-      let here : start + 0 ≡ start = omega arith in
-      ap (λ (l : List ℕ). l ++ flat_map (named_by range) list) (none 0 entry refl (ap (is_marked marks) here ∙ e)) ∙ later)
-      (λ e. ap (λ (l : List ℕ). named_by range entry ++ l) later)
+      elim (cases_Bool (is_marked marks start)) [
+        | inl marked ↦
+            let here : start + 0 ≡ start = omega arith in
+            rw (marked, none 0 entry refl (ap (is_marked marks) here ∙ marked)) later
+        | inr free ↦ rw free (ap (λ (l : List ℕ). named_by range entry ++ l) later)
+      ]
 
   -- an entry that bears no mark, by its place behind a first one
   abbrev IsFreeAt : ℕ → List Entry → Entry → Type 0
@@ -145,12 +121,6 @@ module _ (marks : List Mark) where
       (k j : ℕ) (a b : Entry) → slice_get list k ≡ Some a → slice_get list j ≡ Some b → is_marked marks (start + k) ≡ true
       → is_marked marks (start + j) ≡ false → counts range a ≡ true → counts range b ≡ true → j < k
 
-  -- what counts of an entry and those behind it, where it counts or not, and bears a mark or not
-  abbrev IsCountedBy : Range → ℕ → Entry → List Entry → Bool → Bool → Type 0
-  IsCountedBy range start entry list c b = cond c (entry ∷ counting range list) (counting range list)
-      ≡ counting range (cond b (unmarked marks (suc start) list) (entry ∷ unmarked marks (suc start) list)) ++ counting range
-      (cond b (entry ∷ marked_entries marks (suc start) list) (marked_entries marks (suc start) list))
-
   -- behind a marked entry that counts no unmarked one does
   none_free : (range : Range) (start : ℕ) (entry : Entry) (list : List Entry) → StandBefore range start (entry ∷ list) → counts range entry ≡ true → is_marked marks start ≡ true → counting range (unmarked marks (suc start) list) ≡ []
   none_free range start entry list before inside marked =
@@ -174,27 +144,18 @@ module _ (marks : List Mark) where
   -- so what counts are first those and then these
   pub counted_split : (range : Range) (start : ℕ) (list : List Entry) → StandBefore range start list → counting range list ≡ counting range (unmarked marks start list) ++ counting range (marked_entries marks start list)
   counted_split range start [] before = refl
-  counted_split range start (entry ∷ list) before = go (counts range entry) refl (is_marked marks start) refl
-      (counted_split range (suc start) list (stand_later range start entry list before))
-    where
-      go : (c : Bool) → counts range entry ≡ c → (b : Bool) → is_marked marks start ≡ b → counting range list ≡ counting range (unmarked marks (suc start) list) ++ counting range (marked_entries marks (suc start) list) → IsCountedBy range start entry list c b
-      go false outside true marked later =
-          later
-          ∙ ap (λ (l : List Entry). counting range (unmarked marks (suc start) list) ++ l)
-          (sym (cond-false (counts range entry) (entry ∷ counting range (marked_entries marks (suc start) list)) (counting range (marked_entries marks (suc start) list)) outside))
-      go false outside false marked later =
-          later
-          ∙ ap (λ (l : List Entry). l ++ counting range (marked_entries marks (suc start) list))
-          (sym (cond-false (counts range entry) (entry ∷ counting range (unmarked marks (suc start) list)) (counting range (unmarked marks (suc start) list)) outside))
-      go true inside true marked later =
-          let none = none_free range start entry list before inside marked in
-          ap (λ (l : List Entry). entry ∷ l) (later ∙ ap (λ (l : List Entry). l ++ counting range (marked_entries marks (suc start) list)) none)
-          ∙ sym (cond-true (counts range entry) (entry ∷ counting range (marked_entries marks (suc start) list)) (counting range (marked_entries marks (suc start) list)) inside)
-          ∙ ap (λ (l : List Entry). l ++ counting range (entry ∷ marked_entries marks (suc start) list)) (sym none)
-      go true inside false marked later =
-          ap (λ (l : List Entry). entry ∷ l) later
-          ∙ ap (λ (l : List Entry). l ++ counting range (marked_entries marks (suc start) list))
-          (sym (cond-true (counts range entry) (entry ∷ counting range (unmarked marks (suc start) list)) (counting range (unmarked marks (suc start) list)) inside))
+  counted_split range start (entry ∷ list) before =
+      let later = counted_split range (suc start) list (stand_later range start entry list before) in
+      elim (cases_Bool (counts range entry)) [
+        | inl inside ↦ elim (cases_Bool (is_marked marks start)) [
+          | inl marked ↦
+              let none = none_free range start entry list before inside marked in
+              rw (marked, inside, none) (ap (λ (l : List Entry). entry ∷ l) (rw none at later))
+          | inr free ↦ rw (free, inside) (ap (λ (l : List Entry). entry ∷ l) later)
+        ]
+        | inr outside ↦
+            elim (cases_Bool (is_marked marks start)) [ inl marked ↦ rw (marked, outside) later | inr free ↦ rw (free, outside) later ]
+      ]
 
 -- ---- what counts of entries of a log
 

@@ -7,14 +7,9 @@ use Rattle.rk_inv_base.proofs.Words.{FIRST_SIDE_SEGMENT, Rebuilding, Row, cut, e
 use Rattle.rk_inv_base.proofs.Words.{LAST_MAIN_SEGMENT, next_segment, side_read, is_marked, unmarked_from, touches, counting, counts}
 use Rattle.rk_inv_base.proofs.Words.{Written, Mark, IsLog, stored_of, IsGathered, READ_BACKUP, StandsLast, given_up_marks, marked_entries}
 use Rattle.rk_inv_base.proofs.Words.{View, SoundView}
+use Rattle.rk_inv_logs.proofs.Words.{stands_kept, behind_any, AreReadable, place_there, HasMark, mark_of, mark_says, marked_names_none}
+use Rattle.rk_inv_logs.proofs.Words.{marked_of_row, IsUnmarked, free_stands, marked_stands}
 use Rattle.rk_entry.specs.declared.entry.Entry.TheVariants as entries
-use Rattle.rk_inv_base.proofs.pulls.Joining.{stands_kept}
-use Rattle.rk_inv_base.proofs.views.Places.{behind_any}
-use Rattle.rk_inv_tablets.specs.crash.Moves.{AreReadable}
-use Rattle.rk_inv_tablets.proofs.crash.Among.{place_there}
-use Rattle.rk_inv_tablets.proofs.crash.MarkedPieces.{HasMark, mark_of}
-use Rattle.rk_inv_tablets.proofs.crash.PieceRows.{mark_says, marked_names_none, marked_of_row}
-use Rattle.rk_inv_tablets.proofs.crash.Unmarked.{IsUnmarked, free_stands, marked_stands}
 use Rattle.rk_inv_logs.proofs.read.ReadLog.{applied_read, main_first, needed_read, none_left, sides_read}
 use Rattle.rk_inv_logs.proofs.read.ReadMember.{IsReadLog, marked_part, marked_read}
 

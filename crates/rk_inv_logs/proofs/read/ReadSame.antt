@@ -1,8 +1,8 @@
 -- Items are the same or differ, and so do ends; so it is known whether one stands in a list.
 use Rattle.std.proofs.Common.{◌≡◌, ℕ, zero, ◌⊎◌, inl, inr, List, [], ◌∷◌, Option, Some, None, refl, ap, ⊎_elim, arith, Contains}
 use Rattle.rk_inv_base.proofs.Words.{cases_eq, Contains-append_right, End, Ended, Held}
+use Rattle.rk_inv_logs.proofs.Words.{contains_cases}
 use Rattle.rk_types.specs.declared.call.End.TheVariants as ends
-use Rattle.rk_inv_base.proofs.rows.Apart.{contains_cases}
 
 -- two things are the same, or differ
 abbrev pub IsSame : {X : Type 0} → X → X → Type 0

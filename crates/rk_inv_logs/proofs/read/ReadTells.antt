@@ -4,13 +4,10 @@ use Rattle.std.proofs.Common.{◌≡◌, ℕ, zero, suc, ◌<◌, ◌≤◌, tru
 use Rattle.std.proofs.Common.{slice_get, take, Contains, flat_map, take-append-drop, inl, inr}
 use Rattle.rk_inv_base.proofs.Words.{Contains-append_cases, slice_get_within, Held, Range, Entry, item_end, items_in, items_of, told_by}
 use Rattle.rk_inv_base.proofs.Words.{is_marked, unmarked_from, counts, Written}
-use Rattle.rk_entry.specs.declared.entry.Entry.TheVariants as entries
-use Rattle.rk_inv_base.proofs.rows.Apart.{contains_cases}
-use Rattle.rk_inv_base.proofs.pulls.Joining.{kept_stands}
-use Rattle.rk_inv_base.proofs.views.Needed.{AreAmong, first_counted}
-use Rattle.rk_inv_tablets.proofs.crash.Among.{flat_from, flat_of, stands_front}
+use Rattle.rk_inv_logs.proofs.Words.{contains_cases, kept_stands, AreAmong, first_counted, flat_from, flat_of, stands_front, free_place}
 use Rattle.rk_inv_tablets.proofs.crash.MergeTells.{item_told}
-use Rattle.rk_inv_tablets.proofs.crash.Unmarked.{first_stands, free_place}
+use Rattle.rk_inv_tablets.proofs.crash.Unmarked.{first_stands}
+use Rattle.rk_entry.specs.declared.entry.Entry.TheVariants as entries
 use Rattle.rk_inv_logs.proofs.read.ReadSame.{AreTold, stands_or_not}
 
 -- ---- of one kind

@@ -6,13 +6,10 @@ use Rattle.rk_inv_base.proofs.Words.{joined_in, own_to, release_to, row_for, row
 use Rattle.rk_inv_base.proofs.Words.{Stepped, delivered, delivered_to, happened, step, stepped_by, with_sends, World, with_coordinator}
 use Rattle.rk_inv_base.proofs.Words.{with_ledger, written_in, member_truth, StepError, Event, ByMaster, HasJoined, IsOf, JoinedIn, SaysOf}
 use Rattle.rk_inv_base.proofs.Words.{MayTakeJoined, row_at, view, IsSound}
+use Rattle.rk_inv_rows.proofs.Words.{Finishes, IsFinished, own_entries, found_stands, new_stands, stands_found}
 use Rattle.rk_types.specs.declared.node.Node.TheVariants as nodes
-use Rattle.rk_tablet_map.specs.Rows.{turned}
 use Rattle.rk_message.specs.declared.message.Body.TheVariants as bodies
 use Rattle.rk_world.specs.declared.event.Event.TheVariants as events
-use Rattle.rk_world.specs.Finished.{Finishes, IsFinished, own_entries}
-use Rattle.rk_inv_base.proofs.rows.Serving.{found_stands}
-use Rattle.rk_inv_base.proofs.rows.TurnedRows.{new_stands, stands_found}
 use Rattle.rk_inv_rows.proofs.finished.TargetAlone.{finished}
 
 -- an event that is not refused happened
@@ -66,8 +63,7 @@ module _ (w : World) (number : ℕ) (message : Message) (row : Row) (source targ
   -- ---- what the coordinator makes of it
 
   abbrev taken : Coordinated
-  taken =
-      answered (row_owned w.coordinator row target.master target.from) (own_to target.master row ∷ release_to source.master row ∷ [])
+  taken = answered (row_owned w.coordinator row target.master target.from) (own_to target.master row ∷ release_to source.master row ∷ [])
 
   row_is : row_for w.coordinator target.master (row_tenure row) ≡ Some row
   row_is =
@@ -97,10 +93,7 @@ module _ (w : World) (number : ℕ) (message : Message) (row : Row) (source targ
 
   owned_found : row_of (changed_rows w.coordinator.rows row.tablet row.term (Owned target.master target.from)) row.tablet ≡ Some owned
   owned_found =
-      subst
-      (λ (it : Option Row). row_of (turned it w.coordinator.rows row.tablet row.term (Owned target.master target.from)) row.tablet ≡ Some owned)
-      (sym found)
-      (stands_found _ owned (lawful_turned w.coordinator.rows row.tablet row owned found refl refl sound.rows.apart)
+      rw found (stands_found _ owned (lawful_turned w.coordinator.rows row.tablet row owned found refl refl sound.rows.apart)
       (new_stands w.coordinator.rows row.tablet row owned found))
 
   -- ---- so it finishes the migration
@@ -118,7 +111,7 @@ module _ (w : World) (number : ℕ) (message : Message) (row : Row) (source targ
   finishes stepped is =
       let made : coordinated taken ≡ stepped =
       sym delivered_is ∙ (happened_is w (events.Deliver number) (Gave None) stepped (refusal w (events.Deliver number)) is).1 in
-      let left : Leaves stepped.world = subst (λ (s : Stepped). Leaves s.world) made leaves in
+      let left : Leaves stepped.world = rw (← made) leaves in
       record {
         has_row = found;
         moving = moving;

@@ -1,6 +1,6 @@
 -- A row that moves comes to be owned by one event alone: the delivery of the Joined of its target.
-use Rattle.std.proofs.Common.{◌≡◌, ◌+◌, ℕ, false, cond, List, Option, Some, None, ◌⊎◌, refl, sym, ap, subst, ◌∙◌, ⊎_elim, inl, inr, Ok}
-use Rattle.std.proofs.Common.{is_some, Contains, option_map}
+use Rattle.std.proofs.Common.{◌≡◌, ◌+◌, ℕ, false, cond, List, Option, Some, None, ◌⊎◌, refl, sym, ap, ◌∙◌, ⊎_elim, inl, inr, Ok, is_some}
+use Rattle.std.proofs.Common.{Contains, option_map}
 use Rattle.rk_inv_base.proofs.Words.{cond_both, false≢true, All-contains, option_or, get, Member, Node, Range, Segments, number_of}
 use Rattle.rk_inv_base.proofs.Words.{add_fault, divided, lower_part, placed, replaced, row_of, upper_part, Phase, Moving, Opening, Owned}
 use Rattle.rk_inv_base.proofs.Words.{Row, Message, Backed, Called, backup_step, stored_after, Coordinator, new_row, coordinator_step}
@@ -8,20 +8,17 @@ use Rattle.rk_inv_base.proofs.Words.{told_coordinator, is_added, with_client, ma
 use Rattle.rk_inv_base.proofs.Words.{refusal, where_true, worn, rows_split_of, Stepped, backed_at, delivered, delivered_to, happened}
 use Rattle.rk_inv_base.proofs.Words.{log_bytes_of, losing, quietly, seen_in, sent_again, step, turned, with_sends, worked_at, World}
 use Rattle.rk_inv_base.proofs.Words.{has_crashed, is_backup, master_at, with_ledger, with_stored_by, Event, IsSound}
+use Rattle.rk_inv_rows.proofs.Words.{cut_fault, split_fault, split_rows, Taken, tablet_split_fault_by, tablet_split_fault_of, all_with}
+use Rattle.rk_inv_rows.proofs.Words.{found_stands, stood}
 use Rattle.rk_types.specs.declared.node.Node.TheVariants as nodes
-use Rattle.rk_tablet_map.specs.Rows.{cut_fault, split_fault, split_rows}
-use Rattle.rk_tablet_map.specs.declared.error.MapError.{MapError}
-use Rattle.rk_tablet_map.specs.declared.error.MapError.TheVariants.{Taken}
 use Rattle.rk_world.specs.declared.error.MoveError.TheVariants as moves
 use Rattle.rk_world.specs.declared.error.StepError.TheVariants as errors
 use Rattle.rk_world.specs.declared.event.Event.TheVariants as events
-use Rattle.rk_world.specs.Splits.{tablet_split_fault_by, tablet_split_fault_of}
-use Rattle.rk_inv_base.proofs.rows.AddedRows.{all_with}
-use Rattle.rk_inv_base.proofs.rows.Serving.{found_stands}
-use Rattle.rk_inv_base.proofs.rows.TurnedRows.{stood}
+use Rattle.rk_tablet_map.specs.declared.error.MapError.{MapError}
 use Rattle.rk_inv_rows.specs.finished.Deliveries.{DeliversJoined}
 use Rattle.rk_inv_rows.proofs.finished.JoinedDelivered.{happened_is}
-use Rattle.rk_inv_rows.proofs.finished.Unowned.{AreUnowned, IsJoined, IsUnowned, asked, is_owned, reported, unowned, unowned_all_noticed, unowned_changed}
+use Rattle.rk_inv_rows.proofs.finished.Unowned.{AreUnowned, IsJoined, IsUnowned, asked, is_owned, reported, unowned, unowned_all_noticed}
+use Rattle.rk_inv_rows.proofs.finished.Unowned.{unowned_changed}
 
 -- ---- what is refused
 
@@ -70,8 +67,7 @@ module _ (w : World) (row : Row) (source target : Member) (sound : IsSound w) (f
       (option_map errors.Map (add_fault coordinator.rows (new_row tablet range master)))
       (second_cause (option_map errors.Worn (worn w)) (fault_of w (events.AddTablet tablet range master)) none)) in
       all_with (IsUnowned row.tablet) (new_row tablet range master) coordinator.rows
-      (λ same. absurd (not_added (row_of coordinator.rows tablet) row (Taken tablet) _ (found_at tablet same) fits))
-      of_row
+      (λ same. absurd (not_added (row_of coordinator.rows tablet) row (Taken tablet) _ (found_at tablet same) fits)) of_row
 
   migrated : (tablet to : ℕ) → AreUnowned row.tablet (row_migrated coordinator (row_of coordinator.rows tablet) to).rows
   migrated tablet to = go (row_of coordinator.rows tablet)
@@ -94,7 +90,7 @@ module _ (w : World) (row : Row) (source target : Member) (sound : IsSound w) (f
           all_with (IsUnowned row.tablet) (upper_part r at new) (replaced number (lower_part r at) coordinator.rows) (λ same. absurd (other same))
           (λ x there.
           ⊎_elim
-          (λ (e : x ≡ lower_part r at). subst (IsUnowned row.tablet) (sym e) (of_row r (found_stands coordinator.rows number r is)))
+          (λ (e : x ≡ lower_part r at). rw e (of_row r (found_stands coordinator.rows number r is)))
           (λ (before : Contains coordinator.rows x). of_row x before)
           (stood coordinator.rows number (lower_part r at) x there))
 
@@ -220,4 +216,4 @@ module _ (w : World) (row : Row) (source target : Member) (sound : IsSound w) (f
       (number_of rows row.tablet now now_found) in
       absurd (false≢true (sym free ∙ ap is_owned owned)))
       (λ (delivers : DeliversJoined w event row target.master). delivers)
-      (subst (λ (s : Stepped). Leaves event s.world) happens.1 (event_leaves event called happens.0))
+      (rw (← happens.1) (event_leaves event called happens.0))

@@ -1,12 +1,10 @@
 -- What counts of a log for a range: items of its own entries there, and those of the side segments that its unmarked entries name.
-use Rattle.std.proofs.Common.{◌≡◌, ℕ, ◌+◌, ◌-◌, ◌≤◌, ◌<◌, true, List, [], Some, ◌⊎◌, refl, sym, ap, subst, ◌∙◌, ⊎_elim, arith, inl, inr}
-use Rattle.std.proofs.Common.{length, min, drop, filter, slice_get, take, Contains, flat_map, length-take}
+use Rattle.std.proofs.Common.{◌≡◌, ℕ, ◌+◌, ◌-◌, ◌≤◌, ◌<◌, true, List, [], Some, ◌⊎◌, refl, sym, ap, ◌∙◌, ⊎_elim, arith, inl, inr, length}
+use Rattle.std.proofs.Common.{min, drop, filter, slice_get, take, Contains, flat_map, length-take}
 use Rattle.rk_inv_base.proofs.Words.{cases_lt, drop-take, drop_all, All-contains, Contains-append_cases, Contains-append_left, Held, Range}
 use Rattle.rk_inv_base.proofs.Words.{Entry, is_in, none_stands, items_in, items_of, is_marked, unmarked, unmarked_from, counting, counts}
 use Rattle.rk_inv_base.proofs.Words.{log_material, named, named_by, side_entries, Mark, marked_entries}
-use Rattle.rk_inv_base.proofs.logs.InRest.{behind_at}
-use Rattle.rk_inv_base.proofs.logs.MarkedApart.{place_of}
-use Rattle.rk_inv_base.proofs.calls.Records.{filter_from, filter_stands, material_in}
+use Rattle.rk_inv_rows.proofs.Words.{behind_at, place_of, filter_from, filter_stands, material_in}
 use Rattle.rk_inv_rows.proofs.lineage.Among.{flat_among, from_flat, kept_among, number_from, number_to, taken_from, to_flat}
 use Rattle.rk_inv_rows.proofs.lineage.Pieces.{taken_counts, unmarked_place, unmarked_stands, unmarked_stood}
 
@@ -87,5 +85,4 @@ module _ (range : Range) (marks : List Mark) (sides : List (List Held)) (from ap
       flat_among items_in own (log_material range marks sides from front)
       (λ entry stands.
       Contains-append_left (counting range kept) (counting range (named_entries kept)) entry
-      (subst (λ (l : List Entry). Contains l entry) (sym (own_counts none)) stands))
-      item
+      (rw (own_counts none) stands)) item

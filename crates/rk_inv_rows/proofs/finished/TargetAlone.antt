@@ -1,15 +1,13 @@
 -- What a target that has joined leaves alone: the records of its source, overlaid by its own writes. Source and target together told the
 -- records of the journal, and the target alone tells them now; beside its own writes it has nothing but items of the source.
-use Rattle.std.proofs.Common.{◌≡◌, ℕ, ◌≤◌, true, ◌&&◌, eqb, leb, arith, List, [], ◌++◌, sym, ap, subst, ◌∙◌, ⊎_elim, append-nil, All}
-use Rattle.std.proofs.Common.{Contains}
-use Rattle.rk_inv_base.proofs.Words.{nat_tests, flat_map-append, All-contains, Contains-append_cases, Contains-append_left}
-use Rattle.rk_inv_base.proofs.Words.{Contains-append_right, hash_of, has, Held, Member, Range, Entry, lineage_of, Phase, Moving, Rebuilding}
-use Rattle.rk_inv_base.proofs.Words.{Row, live, IsPlain, items_in, items_of, Written, applied_entries, lineage_truth, member_truth}
-use Rattle.rk_inv_base.proofs.Words.{MayTakeJoined, NamedFit, entries_from, named_items, IsTruth, View, truths, SoundView}
+use Rattle.std.proofs.Common.{◌≡◌, ℕ, ◌≤◌, true, ◌&&◌, eqb, leb, arith, List, [], ◌++◌, sym, ap, subst, ◌∙◌, ⊎_elim, append-nil, Contains}
+use Rattle.rk_inv_base.proofs.Words.{nat_tests, flat_map-append, Contains-append_cases, Contains-append_left, Contains-append_right}
+use Rattle.rk_inv_base.proofs.Words.{hash_of, has, Held, Member, Range, Entry, lineage_of, Phase, Moving, Rebuilding, Row, live, IsPlain}
+use Rattle.rk_inv_base.proofs.Words.{items_in, items_of, Written, applied_entries, lineage_truth, member_truth, MayTakeJoined, NamedFit}
+use Rattle.rk_inv_base.proofs.Words.{entries_from, named_items, IsTruth, View, SoundView}
+use Rattle.rk_inv_rows.proofs.Words.{IsFinished, marks_none, SoundRow, row_in}
 use Rattle.rk_overlay.specs.Plain.{HaveSame}
 use Rattle.rk_overlay.proofs.Live.{live_alike, live_of_overlay}
-use Rattle.rk_world.specs.Finished.{IsFinished}
-use Rattle.rk_inv_base.proofs.logs.MarkedApart.{marks_none}
 use Rattle.rk_inv_rows.proofs.lineage.JoinedTarget.{history}
 use Rattle.rk_inv_rows.proofs.finished.OwnItems.{from_own, own_stands}
 
@@ -29,16 +27,14 @@ module _ (v : View) (row : Row) (source target : Member) (sound : SoundView v) (
   abbrev own : List Entry
   own = entries_from row.range target.from (applied_entries w)
 
-  in_row : (P : Row → Type 0) → All P v.rows → P row
-  in_row P all = All-contains P v.rows row all may.has_row
+  row_was : SoundRow v row
+  row_was = row_in v sound row may.has_row
 
   -- ---- items
 
   -- what the target names is of its source
   copied : (item : Held) → Contains (named_items row.range target.from w) item → Contains (items_of of_source) item
-  copied =
-      subst (λ (p : Phase). NamedFit v.written row.range (lineage_of p)) may.phase_is
-      (in_row (λ r. NamedFit v.written r.range (lineage_of r.phase)) sound.receives.named)
+  copied = subst (λ (p : Phase). NamedFit v.written row.range (lineage_of p)) may.phase_is row_was.named_items
 
   never : (lineage : List Member) (to : ℕ) → row.phase ≡ Rebuilding lineage to → ⊥
   never lineage to is = let same : moving ≡ Rebuilding lineage to = sym may.phase_is ∙ is in absurd (cc same)
@@ -76,7 +72,7 @@ module _ (v : View) (row : Row) (source target : Member) (sound : SoundView v) (
   was : IsTruth v.base row.range (of_source ++ (of_target ++ [])) v.journal
   was =
       subst (λ (p : Phase). IsTruth v.base row.range (lineage_truth v.base v.written row.range (lineage_of p)) v.journal) may.phase_is
-      (in_row (λ r. IsTruth v.base r.range (truths v r) v.journal) sound.truth.true)
+      row_was.truth
 
   now : IsTruth v.base row.range (of_target ++ []) v.journal
   now = (history v row source.master source.from target.master target.from sound some may).leaves
@@ -86,7 +82,7 @@ module _ (v : View) (row : Row) (source target : Member) (sound : SoundView v) (
       flat_map-append items_in of_source (of_target ++ []) ∙ ap (λ (l : List Entry). items_of of_source ++ items_of l) (append-nil of_target)
 
   plain : IsPlain both
-  plain = subst IsPlain both_are was.plain
+  plain = rw (← both_are) was.plain
 
   leaves : IsFinished row.range of_source of_target own
   leaves table key inside =

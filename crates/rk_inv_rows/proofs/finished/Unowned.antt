@@ -6,12 +6,8 @@ use Rattle.rk_inv_base.proofs.Words.{replaced, row_of, Phase, Moving, Opening, O
 use Rattle.rk_inv_base.proofs.Words.{Rebuilt, Coordinator, is_noticed, row_tenure, Coordinated, about, answered, at_term, joined_in, own_to}
 use Rattle.rk_inv_base.proofs.Words.{place_noted, question, ready_in, rebuilt_in, release_to, report, row_for, row_moved, row_owned}
 use Rattle.rk_inv_base.proofs.Words.{transfer_in, unanswered, notice_one, phase_noticed, row_noticed, row_at}
-use Rattle.rk_tablet_map.specs.Rows.{turned}
+use Rattle.rk_inv_rows.proofs.Words.{turned, same_number, all_by, found_stands, stood}
 use Rattle.rk_message.specs.declared.message.Body.TheVariants as bodies
-use Rattle.rk_inv_base.proofs.rows.Apart.{same_number}
-use Rattle.rk_inv_base.proofs.views.Lists.{all_by}
-use Rattle.rk_inv_base.proofs.rows.Serving.{found_stands}
-use Rattle.rk_inv_base.proofs.rows.TurnedRows.{stood}
 
 -- whether a phase is that of a row that is owned
 abbrev pub is_owned : Phase → Bool
@@ -35,7 +31,7 @@ unowned_changed tablet rows number term phase all new = go (row_of rows number) 
     go : (it : Option Row) → row_of rows number ≡ it → AreUnowned tablet (turned it rows number term phase)
     go None is = all
     go (Some old) is =
-        all_by (IsUnowned tablet) (replaced number (row_at old term phase) rows)
+        all_by _ (replaced number (row_at old term phase) rows)
         (λ x at.
         ⊎_elim
         (λ (e : x ≡ row_at old term phase).
@@ -174,7 +170,7 @@ module _ (coordinator : Coordinator) (row : Row) (source target : Member) (apart
       inr (record {
         sender_is = by ∙ takes;
         body_is = λ i. bodies.Joined (record { tablet = number i; term = term i });
-        heard = subst (λ (m : ℕ). is_noticed coordinator m ≡ false) (by ∙ takes) its.heard;
+        heard = rw (← (by ∙ takes)) its.heard;
       }))
       (λ (e : eqb r.tablet row.tablet ≡ false).
       inl

@@ -1,10 +1,10 @@
 -- What stands in lists that others are made of: in parts of them, in what is kept by a test, and in what each element gives.
-use Rattle.std.proofs.Common.{◌≡◌, ℕ, zero, suc, ◌≤◌, ◌<◌, Bool, true, eqb, List, [], ◌∷◌, ◌++◌, Some, sym, ap, subst, ◌∙◌, ⊎_elim, arith}
-use Rattle.std.proofs.Common.{inl, inr, drop, take, filter, fold, slice_get, ◌⊎◌, All, Contains, flat_map, eqb-true}
+use Rattle.std.proofs.Common.{◌≡◌, ℕ, zero, suc, ◌≤◌, ◌<◌, Bool, true, eqb, List, [], ◌∷◌, ◌++◌, Some, sym, ap, ◌∙◌, ⊎_elim, arith, inl}
+use Rattle.std.proofs.Common.{inr, drop, take, filter, fold, slice_get, ◌⊎◌, All, Contains, flat_map, eqb-true}
 use Rattle.rk_inv_base.proofs.Words.{cond_both, All-contains, All-contains_itself, All-drop, All-nil, All-take, Contains-append_cases}
 use Rattle.rk_inv_base.proofs.Words.{Contains-append_left, Contains-append_right, Contains-push, Contains-push_cases, Any-from_list_any}
 use Rattle.rk_inv_base.proofs.Words.{is_among, behind_stands, first_stands, none_stands, stands_cases, with_number}
-use Rattle.rk_inv_base.proofs.calls.Records.{filter_from, filter_stands}
+use Rattle.rk_inv_rows.proofs.Words.{filter_from, filter_stands, kept_stands}
 
 -- ---- parts
 
@@ -41,7 +41,7 @@ longer_stands n zero many list x more stands = absurd (none_at n stands)
 longer_stands n (suc few) zero list x more stands = absurd (omega (arith, more))
 longer_stands zero (suc few) (suc many) [] x more stands = stands
 longer_stands zero (suc few) (suc many) (y ∷ list) x more stands =
-    ⊎_elim (λ (is : y ≡ x). subst (Contains (y ∷ take many list)) is (first_stands y (take many list)))
+    ⊎_elim (λ (is : y ≡ x). rw (← is) (first_stands y (take many list)))
     (λ (behind : Contains (take few list) x).
     behind_stands y (take many list) x (longer_stands zero few many list x (omega (arith, more)) behind))
     (stands_cases y (take few list) x stands)
@@ -85,7 +85,7 @@ from_flat f (x ∷ xs) y stands =
 pub to_flat : {X Y : Type 0} (f : X → List Y) (xs : List X) (x : X) (y : Y) → Contains xs x → Contains (f x) y → Contains (flat_map f xs) y
 to_flat f [] x y stands gives = absurd (none_stands x stands)
 to_flat f (z ∷ xs) x y stands gives =
-    ⊎_elim (λ (is : z ≡ x). Contains-append_left (f z) (flat_map f xs) y (subst (λ u. Contains (f u) y) (sym is) gives))
+    ⊎_elim (λ (is : z ≡ x). Contains-append_left (f z) (flat_map f xs) y (rw is gives))
     (λ (behind : Contains xs x). Contains-append_right (f z) (flat_map f xs) y (to_flat f xs x y behind gives))
     (stands_cases z xs x stands)
 
@@ -96,18 +96,11 @@ flat_among f xs others among y stands =
 
 -- what is kept by a test passes it
 pub kept_passes : {X : Type 0} (p : X → Bool) (xs : List X) (x : X) → Contains (filter p xs) x → p x ≡ true
-kept_passes p [] x stands = absurd (none_stands x stands)
-kept_passes p (y ∷ xs) x stands =
-    cond_both (p y) (y ∷ filter p xs) (filter p xs) (λ kept. Contains kept x → p x ≡ true)
-    (λ passes at.
-    ⊎_elim (λ (is : y ≡ x). ap p (sym is) ∙ passes) (λ (later : Contains (filter p xs) x). kept_passes p xs x later)
-    (stands_cases y (filter p xs) x at))
-    (λ fails at. kept_passes p xs x at) stands
+kept_passes p xs x stands = (kept_stands p xs x stands).1
 
 -- and a test keeps more of them
 pub kept_among : {X : Type 0} (p : X → Bool) (xs others : List X) → ((x : X) → Contains xs x → Contains others x) → (x : X) → Contains (filter p xs) x → Contains (filter p others) x
-kept_among p xs others among x stands =
-    filter_stands p others x (among x (filter_from p xs x stands)) (kept_passes p xs x stands)
+kept_among p xs others among x stands = filter_stands p others x (among x (filter_from p xs x stands)) (kept_stands p xs x stands).1
 
 -- ---- numbers, each once
 
@@ -123,13 +116,12 @@ number_to some [] n stands = absurd (none_stands n stands)
 number_to some (number ∷ others) n stands =
     ⊎_elim
     (λ (is : number ≡ n).
-    subst (Contains (fold with_number (with_number some number) others)) is
-    (number_stays (with_number some number) others number
+    rw (← is) (number_stays (with_number some number) others number
     (cond_both (is_among number some) some (some ++ number ∷ []) (λ next. Contains next number)
     (λ among.
     let found = Any-from_list_any (λ (n : ℕ). eqb n number) some among in
     let there : Contains some found.1 = (found.0, found.2, found.3) in
-    subst (Contains some) (eqb-true found.1 number found.4) there)
+    rw (← eqb-true found.1 number found.4) there)
     (λ new. Contains-push some number))))
     (λ (behind : Contains others n). number_to (with_number some number) others n behind)
     (stands_cases number others n stands)
@@ -143,8 +135,7 @@ number_from some (number ∷ others) n stands =
     (λ e there. inl there)
     (λ e there.
     ⊎_elim (λ (before : Contains some n). inl before)
-    (λ (is : number ≡ n). inr (subst (Contains (number ∷ others)) is (first_stands number others)))
-    (Contains-push_cases some number n there))
-    one)
+    (λ (is : number ≡ n). inr (rw (← is) (first_stands number others)))
+    (Contains-push_cases some number n there)) one)
     (λ (later : Contains others n). inr (behind_stands number others n later))
     (number_from (with_number some number) others n stands)

@@ -1,6 +1,6 @@
 -- Where marks are taken from entries that tell nothing of a range, what bears no mark tells the same of it, and so does what bears one.
-use Rattle.std.proofs.Common.{◌≡◌, ℕ, suc, ◌+◌, Bool, true, false, cond, List, [], ◌∷◌, ◌++◌, Some, refl, sym, ap, subst, ◌∙◌, arith}
-use Rattle.std.proofs.Common.{slice_get, flat_map}
+use Rattle.std.proofs.Common.{◌≡◌, ℕ, suc, ◌+◌, Bool, true, false, cond, List, [], ◌∷◌, ◌++◌, Some, refl, sym, ap, ◌∙◌, arith, slice_get}
+use Rattle.std.proofs.Common.{flat_map}
 use Rattle.rk_inv_base.proofs.Words.{cond-false, false≢true, Range, Entry, is_marked, unmarked, counting, counts, named_by, Mark}
 use Rattle.rk_inv_base.proofs.Words.{marked_entries}
 
@@ -22,11 +22,10 @@ later_fewer range old new place entry list fewer =
     let there : (k : ℕ) → suc place + k ≡ place + suc k = λ k. omega arith in
     record {
       still = λ k marked.
-          subst (λ (n : ℕ). is_marked old n ≡ true) (sym (there k))
-          (fewer.still (suc k) (subst (λ (n : ℕ). is_marked new n ≡ true) (there k) marked));
+          rw (there k) (fewer.still (suc k) (rw (← there k) marked));
       silent = λ k e at was is.
-          fewer.silent (suc k) e at (subst (λ (n : ℕ). is_marked old n ≡ true) (there k) was)
-          (subst (λ (n : ℕ). is_marked new n ≡ false) (there k) is);
+          fewer.silent (suc k) e at (rw (← there k) was)
+          (rw (← there k) is);
     }
 
 -- what is made of entries one by one, where a silent one leaves it as it is
@@ -53,13 +52,13 @@ module _ {Y : Type 0} (range : Range) (make : List Entry → List Y) (step : Ent
   first_still : (old new : List Mark) (place : ℕ) (list : List Entry) → AreFewer range old new place list → is_marked new place ≡ true → is_marked old place ≡ true
   first_still old new place list fewer marked =
       let here : place + 0 ≡ place = omega arith in
-      subst (λ (n : ℕ). is_marked old n ≡ true) here (fewer.still 0 (subst (λ (n : ℕ). is_marked new n ≡ true) (sym here) marked))
+      rw (← here) (fewer.still 0 (rw here marked))
 
   first_silent : (old new : List Mark) (place : ℕ) (entry : Entry) (list : List Entry) → AreFewer range old new place (entry ∷ list) → is_marked old place ≡ true → is_marked new place ≡ false → IsSilent range entry
   first_silent old new place entry list fewer was is =
       let here : place + 0 ≡ place = omega arith in
-      fewer.silent 0 entry refl (subst (λ (n : ℕ). is_marked old n ≡ true) (sym here) was)
-      (subst (λ (n : ℕ). is_marked new n ≡ false) (sym here) is)
+      fewer.silent 0 entry refl (rw here was)
+      (rw here is)
 
   -- what bears no mark makes the same
   pub same_free : (old new : List Mark) (place : ℕ) (list : List Entry) → AreFewer range old new place list → make (unmarked new place list) ≡ make (unmarked old place list)

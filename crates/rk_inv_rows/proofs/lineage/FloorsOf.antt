@@ -1,9 +1,8 @@
 -- A floor depends only on which entries there are: it is as great for more of them, whatever their order.
-use Rattle.std.proofs.Common.{◌≡◌, ℕ, suc, ◌≤◌, List, [], ◌∷◌, refl, sym, subst, ⊎_elim, arith, fold, Contains}
+use Rattle.std.proofs.Common.{◌≡◌, ℕ, suc, ◌≤◌, List, [], ◌∷◌, refl, ⊎_elim, arith, fold, Contains}
 use Rattle.rk_inv_base.proofs.Words.{Entry, floor_by, floor_of}
+use Rattle.rk_inv_rows.proofs.Words.{contains_cases, floor_rises}
 use Rattle.rk_entry.specs.declared.entry.Entry.TheVariants as entries
-use Rattle.rk_inv_base.proofs.rows.Apart.{contains_cases}
-use Rattle.rk_inv_base.proofs.logs.Floors.{floor_rises}
 
 -- a floor is raised to no more than what the entry alone raises one to
 step_within : (floor bound : ℕ) (entry : Entry) → floor ≤ bound → floor_by 1 entry ≤ bound → floor_by floor entry ≤ bound
@@ -35,7 +34,7 @@ one_within floor (first ∷ list) entry least stands =
     (λ (is : first ≡ entry).
     let one = step_least floor entry least in
     let rises = floor_rises (floor_by floor entry) list in
-    subst (λ (e : Entry). floor_by 1 entry ≤ fold floor_by (floor_by floor e) list) (sym is) (omega (arith, one, rises)))
+    rw is (omega (arith, one, rises)))
     (λ (behind : Contains list entry). one_within (floor_by floor first) list entry (step_keeps floor first least) behind)
     (contains_cases first list entry stands)
 

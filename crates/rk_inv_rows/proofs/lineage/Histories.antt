@@ -1,10 +1,8 @@
 -- What a sound view says of the truth and the rest of one row, and what of them tells of one key.
-use Rattle.std.proofs.Common.{ℕ, List, ◌++◌, refl, Contains}
-use Rattle.rk_inv_base.proofs.Words.{Entry, Row, of_key, tells_of, View, truths, rests, SoundView}
+use Rattle.std.proofs.Common.{ℕ, List, ◌++◌, refl, Contains, ◌≡◌}
+use Rattle.rk_inv_base.proofs.Words.{Entry, Row, of_key, tells_of, View, truths, rests, SoundView, All-contains, HandoverFits}
+use Rattle.rk_inv_rows.proofs.Words.{filter_from, TellHistory, row_in}
 use Rattle.rk_inv_base.proofs.logs.Grows.{still_contains}
-use Rattle.rk_inv_base.proofs.calls.Records.{filter_from}
-use Rattle.rk_inv_rows.specs.lineage.Lineages.{TellHistory}
-use Rattle.rk_inv_base.proofs.views.ByRows.{row_in}
 
 -- the truth and the rest of a row tell its history
 pub history_of : (v : View) (row : Row) → SoundView v → Contains v.rows row → TellHistory v.base row.range (truths v row) (rests v row) v.journal v.asked
@@ -13,11 +11,14 @@ history_of v row sound has = record {
   above = (row_in v sound row has).above;
   ends = (row_in v sound row has).reached;
   known = (row_in v sound row has).recorded;
-  low =
-      (row_in v sound row has).low;
-  goes_on =
-      (row_in v sound row has).goes_on;
+  low = (row_in v sound row has).low;
+  goes_on = (row_in v sound row has).goes_on;
 }
+
+-- a master that keeps the row's term keeps its range
+pub range_at : (v : View) → SoundView v → (row : Row) → Contains v.rows row → (q : ℕ) → (v.handovers q row.tablet).term ≡ row.term → (v.handovers q row.tablet).range ≡ row.range
+range_at v sound row has q at =
+    (All-contains (λ r. HandoverFits r row.tablet (v.handovers q row.tablet)) v.rows row (sound.terms.kept q row.tablet) has).exact refl at
 
 -- what tells of a key is of all that counts
 pub kept_stands : (table : ℕ) (key : List ℕ) (truth rest : List Entry) (entry : Entry) → Contains (of_key table key truth) entry → Contains (truth ++ rest) entry

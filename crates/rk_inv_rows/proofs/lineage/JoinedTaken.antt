@@ -1,14 +1,12 @@
 -- A view stays sound when the target of a row that moves owns it, once its closing entry is applied.
-use Rattle.std.proofs.Common.{◌≡◌, ℕ, ◌≤◌, Bool, true, false, cond, eqb, List, [], ◌∷◌, Some, refl, sym, ap, subst, ◌∙◌, arith, inl, inr}
-use Rattle.std.proofs.Common.{All, eqb-true}
-use Rattle.rk_inv_base.proofs.Words.{false≢true, All-contains, All-tail, Member, is_serving, Role, lineage_of, Phase, Moving, Owned, Row}
-use Rattle.rk_inv_base.proofs.Words.{last_of, World, HasJoined, HasSome, MayTakeJoined, row_at, Bystander, MovingSource, MovingTarget}
-use Rattle.rk_inv_base.proofs.Words.{Owner, Post, Holds, StillCounts, bond_of, post_of, speaks, RoleFits, IsPlaced, HasItems, has_all_items}
-use Rattle.rk_inv_base.proofs.Words.{View, view, IsSound, SoundView}
+use Rattle.std.proofs.Common.{◌≡◌, ℕ, ◌≤◌, Bool, true, false, cond, eqb, [], ◌∷◌, Some, refl, sym, ap, subst, ◌∙◌, arith, inl, inr, All}
+use Rattle.std.proofs.Common.{eqb-true}
+use Rattle.rk_inv_base.proofs.Words.{false≢true, All-tail, Member, is_serving, Role, lineage_of, Phase, Moving, Owned, Row, last_of, World}
+use Rattle.rk_inv_base.proofs.Words.{HasJoined, HasSome, MayTakeJoined, row_at, Bystander, MovingSource, MovingTarget, Owner, Post, Holds}
+use Rattle.rk_inv_base.proofs.Words.{StillCounts, bond_of, post_of, speaks, RoleFits, IsPlaced, HasItems, has_all_items, View, view}
+use Rattle.rk_inv_base.proofs.Words.{IsSound, SoundView}
+use Rattle.rk_inv_rows.proofs.Words.{member as member_at, MayTakeLineage, MembersAgree, lineage_taken, row_owned_in, SoundRow, row_in}
 use Rattle.rk_transfer.specs.declared.role.Role.TheVariants as roles
-use Rattle.rk_tablet_map.specs.Phase.{member as member_at}
-use Rattle.rk_inv_rows.specs.lineage.Lineages.{MayTakeLineage, MembersAgree}
-use Rattle.rk_inv_rows.specs.lineage.Small.{lineage_taken, row_owned_in}
 use Rattle.rk_inv_rows.proofs.lineage.JoinedTarget.{floor, history, table_is, unnamed}
 use Rattle.rk_inv_rows.proofs.lineage.LineageTaken.{rows_after, view_lineage_taken}
 
@@ -43,8 +41,8 @@ module _ (v : View) (row : Row) (source sfrom target dfrom : ℕ) (sound : Sound
   last = member_at target dfrom
 
   -- what is known of the row
-  in_row : (P : Row → Type 0) → All P v.rows → P row
-  in_row P all = All-contains P v.rows row all may.has_row
+  row_was : SoundRow v row
+  row_was = row_in v sound row may.has_row
 
   in_phase : (P : Phase → Type 0) → P row.phase → P moving
   in_phase P = subst P may.phase_is
@@ -55,11 +53,10 @@ module _ (v : View) (row : Row) (source sfrom target dfrom : ℕ) (sound : Sound
   FitsPost q post = Holds (bond_of post (v.handovers q row.tablet).role) row.term (v.handovers q row.tablet).term (v.written q).applied
 
   joined_by : (q : ℕ) → eqb target q ≡ true → HasJoined (v.handovers q row.tablet).role (v.written q).applied
-  joined_by q is =
-      subst (λ (m : ℕ). HasJoined (v.handovers m row.tablet).role (v.written m).applied) (eqb-true target q is) may.joined
+  joined_by q is = rw (← eqb-true target q is) may.joined
 
   term_by : (q : ℕ) → eqb target q ≡ true → (v.handovers q row.tablet).term ≡ row.term
-  term_by q is = subst (λ (m : ℕ). (v.handovers m row.tablet).term ≡ row.term) (eqb-true target q is) may.term_is
+  term_by q is = rw (← eqb-true target q is) may.term_is
 
   -- the target is another master than the source, so the source owns nothing
   fits_by : (q : ℕ) (a b : Bool) → eqb target q ≡ b
@@ -76,8 +73,7 @@ module _ (v : View) (row : Row) (source sfrom target dfrom : ℕ) (sound : Sound
   fits q counting =
       fits_by q (eqb source q) (eqb target q) refl
       (in_phase (λ p. FitsPost q (post_of p q))
-      (in_row (λ r. StillCounts (v.live q) (v.handovers q r.tablet).term r.term → RoleFits r q (v.handovers q r.tablet) (v.written q).applied)
-      (sound.roles.fitting q) counting))
+      (row_was.fitting q counting))
 
   speaks_by : (q : ℕ) (a b : Bool) → eqb target q ≡ b
       → speaks (cond b (Owner dfrom) Bystander) (v.handovers q row.tablet) row.term ≡ true
@@ -94,9 +90,7 @@ module _ (v : View) (row : Row) (source sfrom target dfrom : ℕ) (sound : Sound
 
   -- the owner has all items
   full_by : (q : ℕ) (b : Bool) → eqb target q ≡ b → has_all_items (cond b (Owner dfrom) Bystander) (v.handovers q row.tablet) row.term ≡ true → HasItems new v.written (v.records q)
-  full_by q true its has =
-      subst (λ (m : ℕ). HasItems new v.written (v.records m)) (eqb-true target q its)
-      (table_is v row source sfrom target dfrom sound some may)
+  full_by q true its has = rw (← eqb-true target q its) (table_is v row source sfrom target dfrom sound some may)
   full_by q false its has = absurd (false≢true has)
 
   -- ---- members
@@ -105,7 +99,7 @@ module _ (v : View) (row : Row) (source sfrom target dfrom : ℕ) (sound : Sound
   members = record {
     placed =
         All-tail (IsPlaced v.written) (member_at source sfrom) (last ∷ [])
-        (in_phase (λ p. All (IsPlaced v.written) (lineage_of p)) (in_row (λ r. All (IsPlaced v.written) (lineage_of r.phase)) sound.rows.placed));
+        (in_phase (λ p. All (IsPlaced v.written) (lineage_of p)) row_was.placed);
     done = tt;
     unnamed = unnamed v row source sfrom target dfrom sound some may;
     named = tt;
@@ -137,6 +131,5 @@ module _ (v : View) (row : Row) (source sfrom target dfrom : ℕ) (sound : Sound
 pub sound_joined_taken : (w : World) (row : Row) (source sfrom target dfrom : ℕ) → IsSound w → HasSome row.range → MayTakeJoined (view w) row source sfrom target dfrom → IsSound (row_owned_in w row target dfrom)
 sound_joined_taken w row source sfrom target dfrom sound some may =
     let turned = may_be_owned (view w) row source sfrom target dfrom sound some may in
-    subst (λ (rows : List Row). SoundView (record (view w) { rows = rows }))
-    (sym (rows_after (view w) row (Owned target dfrom) (view w).handed sound turned))
+    rw (rows_after (view w) row (Owned target dfrom) (view w).handed sound turned)
     (view_joined_taken (view w) row source sfrom target dfrom sound some may)

@@ -1,27 +1,24 @@
 -- What is known of the target of a row that moves, once its closing entry is applied: what counts of its log tells all of the row.
 use Rattle.std.proofs.Common.{◌≡◌, ℕ, ◌≤◌, ◌<◌, true, List, [], ◌∷◌, ◌++◌, Option, Some, refl, sym, ap, subst, ◌∙◌, ⊎_elim, arith, inl, inr}
-use Rattle.std.proofs.Common.{append-nil, append_assoc, All, IfSome, drop, max, take, Contains, flat_map, option_map}
+use Rattle.std.proofs.Common.{append-nil, append_assoc, All, IfSome, drop, max, take, Contains, flat_map, option_map, slice_index_or}
 use Rattle.rk_inv_base.proofs.Words.{false≢true, flat_map-append, All-contains, All-weaker, Contains-append_cases, Contains-append_left}
 use Rattle.rk_inv_base.proofs.Words.{Contains-append_right, get, Held, Member, Range, map_after, is_mutation, Entry, Joined, is_in, ends_of}
 use Rattle.rk_inv_base.proofs.Words.{Handover, Role, lineage_of, Phase, Moving, Rebuilding, Row, stands_cases, live, IsPlain, base_map}
 use Rattle.rk_inv_base.proofs.Words.{Handed, items_in, items_of, told, told_by, unmarked_from, counts, joined_from, of_key, side_entries}
 use Rattle.rk_inv_base.proofs.Words.{tells_of, floor_of, has_all, Pulling, Written, applied_entries, lineage_rest, lineage_truth}
-use Rattle.rk_inv_base.proofs.Words.{member_material, member_rest, member_truth, IsKnown, IsReached, TellAll, is_record_in, AreAboveMap}
+use Rattle.rk_inv_base.proofs.Words.{member_material, member_rest, member_truth, IsReached, TellAll, is_record_in, AreAboveMap}
 use Rattle.rk_inv_base.proofs.Words.{beginning_in, target_truth, HasJoined, MayTakeJoined, HandedFits, HasArrived, HasClosing, IsOutdone}
 use Rattle.rk_inv_base.proofs.Words.{IsReceived, IsTarget, MembersFit, before_closing, beginning_of, closing_joined, copied_items}
 use Rattle.rk_inv_base.proofs.Words.{entries_from, is_granted, joined_place, scan_items, FirstIsDone, KeepTerm, IsTableOf, HandoverFits}
-use Rattle.rk_inv_base.proofs.Words.{View, truths, rests, SoundView}
+use Rattle.rk_inv_base.proofs.Words.{View, truths, rests, SoundView, IsKnown, Call}
 use Rattle.rk_entry.specs.declared.entry.Entry.TheVariants as entries
 use Rattle.rk_transfer.specs.declared.role.Role.TheVariants as roles
-use Rattle.rk_tablet_map.specs.Phase.{member as member_at}
+use Rattle.rk_inv_rows.proofs.Words.{member as member_at, all_by, marks_none, TellHistory, SoundRow, row_in}
 use Rattle.rk_sound.specs.Receives.{IsClosedAt}
 use Rattle.rk_inv_base.proofs.logs.InRange.{scan_in, truth_in}
-use Rattle.rk_inv_base.proofs.views.Lists.{all_by}
-use Rattle.rk_inv_base.proofs.logs.MarkedApart.{marks_none}
-use Rattle.rk_inv_rows.specs.lineage.Lineages.{TellHistory}
 use Rattle.rk_inv_rows.proofs.lineage.Among.{first_stand, flat_among, kept_among, later_stands, longer_stands}
 use Rattle.rk_inv_rows.proofs.lineage.FloorsOf.{floor_among}
-use Rattle.rk_inv_rows.proofs.lineage.Histories.{history_of}
+use Rattle.rk_inv_rows.proofs.lineage.Histories.{history_of, range_at}
 use Rattle.rk_inv_rows.proofs.lineage.Pieces.{joined_unmarked, unmarked_stood}
 use Rattle.rk_inv_rows.proofs.lineage.Scanned.{newest_scanned, scan_newest}
 use Rattle.rk_inv_rows.proofs.lineage.TakenOver.{HasBoth, TakesOver, above_fewer, live_over, plain_above, plain_fewer, table_over}
@@ -57,8 +54,8 @@ module _ (v : View) (row : Row) (source sfrom target dfrom : ℕ) (sound : Sound
   pulling = v.pullings target row.tablet
 
   -- what is known of the row
-  in_row : (P : Row → Type 0) → All P v.rows → P row
-  in_row P all = All-contains P v.rows row all may.has_row
+  row_was : SoundRow v row
+  row_was = row_in v sound row may.has_row
 
   in_phase : (P : Phase → Type 0) → P row.phase → P moving
   in_phase P = subst P may.phase_is
@@ -72,12 +69,11 @@ module _ (v : View) (row : Row) (source sfrom target dfrom : ℕ) (sound : Sound
   in_role P = subst P at.role_is
 
   range_is : taker.range ≡ row.range
-  range_is = (in_row (λ r. HandoverFits r row.tablet taker) (sound.terms.kept target row.tablet)).exact refl may.term_is
+  range_is = range_at v sound row may.has_row target may.term_is
 
   target_is : IsTarget row.range source (member_truth v.written row.range first) (member_material v.written row.range first) dfrom w taker pulling (get v.handed row.tablet) (v.records target)
   target_is =
-      in_phase (λ p. MembersFit row v.written v.handovers v.pullings v.records v.handed (lineage_of p))
-      (in_row (λ r. MembersFit r v.written v.handovers v.pullings v.records v.handed (lineage_of r.phase)) sound.receives.targets)
+      in_phase (λ p. MembersFit row v.written v.handovers v.pullings v.records v.handed (lineage_of p)) row_was.target
       (ap is_granted at.role_is)
 
   abbrev closing : Joined
@@ -126,8 +122,7 @@ module _ (v : View) (row : Row) (source sfrom target dfrom : ℕ) (sound : Sound
   received =
       in_role
       (λ r. IsReceived (HasArrived r pulling (scan_items from_source)) row.range (scan_items from_source) own (copied_items r pulling w.sides)
-      (v.records target))
-      target_is.received
+      (v.records target)) target_is.received
 
   copied_inside : (x : Held) → Contains copies x → is_in row.range x ≡ true
   copied_inside x stands =
@@ -148,8 +143,7 @@ module _ (v : View) (row : Row) (source sfrom target dfrom : ℕ) (sound : Sound
       kept_among (counts row.range) (unmarked_from w.marks (max dfrom w.applied) w.entries) (drop dfrom w.entries)
       (λ e stands.
       later_stands dfrom (max dfrom w.applied) w.entries e (omega arith)
-      (unmarked_stood w.marks (max dfrom w.applied) (drop (max dfrom w.applied) w.entries) e stands))
-      entry
+      (unmarked_stood w.marks (max dfrom w.applied) (drop (max dfrom w.applied) w.entries) e stands)) entry
 
   own_stands : (entry : Entry) → Contains (entries_from row.range dfrom (applied_entries w)) entry → Contains (entries_from row.range dfrom w.entries) entry
   own_stands entry =
@@ -158,7 +152,7 @@ module _ (v : View) (row : Row) (source sfrom target dfrom : ℕ) (sound : Sound
   done : member_material v.written row.range first ≡ from_source
   done =
       (in_phase (λ p. FirstIsDone v.written row.range (lineage_of p))
-      (in_row (λ r. FirstIsDone v.written r.range (lineage_of r.phase)) sound.rest.done)).all
+      row_was.done).all
 
   -- an item of its own is above each of the source's
   above_source : (x y : Held) → Contains (items_of (entries_from row.range dfrom w.entries)) x → Contains (items_of from_source) y → y.version < x.version
@@ -166,7 +160,7 @@ module _ (v : View) (row : Row) (source sfrom target dfrom : ℕ) (sound : Sound
       let all = All-contains (λ own. All (λ other. other.version < own.version) (items_of (member_material v.written row.range first)))
       (items_of (entries_from row.range dfrom w.entries)) x target_is.above x_at in
       All-contains (λ other. other.version < x.version) (items_of (member_material v.written row.range first)) y all
-      (subst (λ (l : List Entry). Contains (items_of l) y) (sym done) y_at)
+      (rw done y_at)
 
   -- what it has of its own, applied or not
   abbrev all_own : List Held
@@ -229,10 +223,10 @@ module _ (v : View) (row : Row) (source sfrom target dfrom : ℕ) (sound : Sound
   mine_stands entry = Contains-append_left mine [] entry
 
   both_now : HasBoth own copies (items_of now_truth)
-  both_now = subst (λ (l : List Entry). HasBoth own copies (items_of l)) (sym (append-nil mine)) both
+  both_now = rw (append-nil mine) both
 
   plain_old : IsPlain (items_of from_source ++ items_of now_truth)
-  plain_old = subst IsPlain (flat_map-append items_in from_source now_truth) was.leaves.plain
+  plain_old = rw (← flat_map-append items_in from_source now_truth) was.leaves.plain
 
   -- the same, with what is not applied
   items_with : items_of (old_truth ++ rest) ≡ items_of from_source ++ items_of (now_truth ++ rest)
@@ -245,8 +239,7 @@ module _ (v : View) (row : Row) (source sfrom target dfrom : ℕ) (sound : Sound
 
   both_with : HasBoth all_own copies (items_of (now_truth ++ rest))
   both_with =
-      subst (HasBoth all_own copies) (sym (flat_map-append items_in now_truth rest))
-      (record {
+      rw (flat_map-append items_in now_truth rest) (record {
         from = λ x stands.
             ⊎_elim
             (λ (applied : Contains (items_of now_truth) x).
@@ -275,17 +268,14 @@ module _ (v : View) (row : Row) (source sfrom target dfrom : ℕ) (sound : Sound
   -- ---- what the source told
 
   at_term : ((v.handovers source row.tablet).term ≡ row.term) × (taker.term ≡ row.term)
-  at_term =
-      in_phase (λ p. KeepTerm p (λ q. (v.handovers q row.tablet).term) row.term)
-      (in_row (λ r. KeepTerm r.phase (λ q. (v.handovers q r.tablet).term) r.term) sound.roles.at_term)
+  at_term = in_phase (λ p. KeepTerm p (λ q. (v.handovers q row.tablet).term) row.term) row_was.at_term
 
   abbrev given : Handed
   given = record { floor = (v.handovers source row.tablet).counter; ends = ends_of (v.completions source row.tablet) }
 
   given_is : get v.handed row.tablet ≡ Some given
   given_is =
-      in_phase (λ p. HandedFits row v.handovers v.completions v.handed (lineage_of p))
-      (in_row (λ r. HandedFits r v.handovers v.completions v.handed (lineage_of r.phase)) sound.receives.handed_on)
+      in_phase (λ p. HandedFits row v.handovers v.completions v.handed (lineage_of p)) row_was.handed_on
       (may.term_is ∙ sym at_term.0)
 
   beginning_is : beginning_of taker given ≡ beginning_in row given
@@ -301,8 +291,7 @@ module _ (v : View) (row : Row) (source sfrom target dfrom : ℕ) (sound : Sound
       let stands : Contains (drop dfrom (take at.place w.entries)) (beginning_of taker given) =
       subst (λ (o : Option Handed). IfSome o (λ h. Contains (drop dfrom (take at.place w.entries)) (beginning_of taker h))) given_is told_of in
       let less : at.place < w.applied = at.within in
-      subst (Contains now_truth) beginning_is
-      (mine_stands (beginning_of taker given)
+      rw (← beginning_is) (mine_stands (beginning_of taker given)
       (entry_stands row.range w.marks w.sides dfrom w.applied w.entries closing at.place log (beginning_of taker given)
       (longer_stands dfrom at.place w.applied w.entries (beginning_of taker given) (omega (arith, less)) stands)
       (ap (λ (range : Range). has_all range row.range) range_is ∙ has_itself row.range)))
@@ -313,46 +302,34 @@ module _ (v : View) (row : Row) (source sfrom target dfrom : ℕ) (sound : Sound
 
   given_stands : (entry : Entry) → Contains behind_given entry → Contains now_truth entry
   given_stands entry stands =
-      ⊎_elim (λ (is : beginning_in row given ≡ entry). subst (Contains now_truth) is begins) (λ (later : Contains mine entry). mine_stands entry later)
+      ⊎_elim (λ (is : beginning_in row given ≡ entry). rw (← is) begins) (λ (later : Contains mine entry). mine_stands entry later)
       (stands_cases (beginning_in row given) mine entry stands)
-
-  moving_is : target_truth v.written v.handed row moving ≡ Some behind_given
-  moving_is = ap (option_map (λ h. beginning_in row h ∷ mine)) given_is
 
   -- what is said of a row that moves is said of its target
   of_target : (P : List Entry → Type 0) → IfSome (target_truth v.written v.handed row row.phase) P → P behind_given
   of_target P said =
-      subst (λ (o : Option (List Entry)). IfSome o P) moving_is (in_phase (λ p. IfSome (target_truth v.written v.handed row p) P) said)
+      subst (λ (o : Option (List Entry)). IfSome o P) (ap (option_map (λ h. beginning_in row h ∷ mine)) given_is) (in_phase (λ p. IfSome (target_truth v.written v.handed row p) P) said)
 
   key_stands : (table : ℕ) (key : List ℕ) (entry : Entry) → Contains (of_key table key behind_given) entry → Contains (of_key table key now_truth) entry
   key_stands table key = kept_among (tells_of table key) behind_given now_truth given_stands
 
   ends : TellAll row.range v.journal now_truth
-  ends =
-      All-weaker
-      (λ placed. is_record_in row.range placed ≡ true → is_mutation placed.call.op ≡ true
-      → IsReached (told (of_key placed.call.table placed.call.key behind_given)) placed)
-      (λ placed. is_record_in row.range placed ≡ true → is_mutation placed.call.op ≡ true
-      → IsReached (told (of_key placed.call.table placed.call.key now_truth)) placed)
-      (λ placed reach inside mutates.
-      let reached = reach inside mutates in
+  ends k d within inside mutates =
+      let call : Call = (slice_index_or v.journal k d).call in
+      let reached = of_target (TellAll row.range v.journal) row_was.moving k d within inside mutates in
       record {
         end = reached.end;
         stands =
-            flat_among told_by (of_key placed.call.table placed.call.key behind_given) (of_key placed.call.table placed.call.key now_truth)
-            (key_stands placed.call.table placed.call.key) reached.end reached.stands;
+            flat_among told_by (of_key call.table call.key behind_given) (of_key call.table call.key now_truth) (key_stands call.table call.key)
+            reached.end reached.stands;
         reaches = reached.reaches;
-      })
-      v.journal
-      (of_target (TellAll row.range v.journal)
-      (in_row (λ r. IfSome (target_truth v.written v.handed r r.phase) (TellAll r.range v.journal)) sound.calls.moving))
+      }
 
   low : AreAboveMap row.range (map_after (base_map v.base) v.journal) now_truth
   low table key inside =
       let below =
       of_target (AreAboveMap row.range (map_after (base_map v.base) v.journal))
-      (in_row (λ r. IfSome (target_truth v.written v.handed r r.phase) (AreAboveMap r.range (map_after (base_map v.base) v.journal)))
-      sound.counters.moving) table key inside in
+      row_was.low_moving table key inside in
       let more = floor_among (of_key table key behind_given) (of_key table key now_truth) (key_stands table key) in
       omega (arith, below, more)
 
@@ -382,11 +359,7 @@ module _ (v : View) (row : Row) (source sfrom target dfrom : ℕ) (sound : Sound
 
   pub floor : floor_of (now_truth ++ rest) ≤ floor_of (truths v row ++ rests v row)
   floor =
-      subst
-      (λ (p : Phase). floor_of (now_truth ++ rest)
-      ≤ floor_of (lineage_truth v.base v.written row.range (lineage_of p) ++ lineage_rest v.written row.range (lineage_of p)))
-      (sym may.phase_is)
-      (floor_among (now_truth ++ rest) (old_truth ++ rest)
+      rw may.phase_is (floor_among (now_truth ++ rest) (old_truth ++ rest)
       (λ entry stands.
       ⊎_elim (λ (applied : Contains now_truth entry). Contains-append_left old_truth rest entry (now_stands entry applied))
       (λ (staged : Contains rest entry). Contains-append_right old_truth rest entry staged)

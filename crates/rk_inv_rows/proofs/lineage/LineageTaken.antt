@@ -1,16 +1,11 @@
 -- A view stays sound when a row that passes on takes another lineage, where what counts for it now tells all of it.
-use Rattle.std.proofs.Common.{◌≡◌, ℕ, true, [], ◌++◌, Option, sym, ap, subst, ⊎_elim, arith, All, IfSome, ◌⊎◌, Some, refl}
+use Rattle.std.proofs.Common.{◌≡◌, ℕ, true, [], ◌++◌, Option, ap, ⊎_elim, arith, IfSome, Some, refl}
 use Rattle.rk_inv_base.proofs.Words.{All-contains, All-weaker, IfSome_then, NumberMap, get, Call, lineage_of, changed_rows, Phase, Row}
 use Rattle.rk_inv_base.proofs.Words.{Message, Handed, is_member, last_of, AreHandedOver, IsNext, handed_by, handed_for_grant, row_at}
 use Rattle.rk_inv_base.proofs.Words.{MarkFits, RowIsRebuilt, Waits, HandoverFits, View, truths, rests, SoundView}
-use Rattle.rk_tablet_map.specs.Rows.{turned as changed}
-use Rattle.rk_inv_base.proofs.logs.InRest.{of_waiting}
-use Rattle.rk_inv_base.proofs.rows.RowReplaced.{view_replaced}
-use Rattle.rk_inv_base.proofs.rows.TurnedRows.{stands_found}
-use Rattle.rk_inv_base.proofs.views.ByRows.{row_in, SoundRow}
-use Rattle.rk_inv_rows.specs.lineage.Lineages.{MayTakeLineage}
-use Rattle.rk_inv_rows.specs.lineage.Small.{lineage_taken}
-use Rattle.rk_inv_rows.proofs.lineage.Passing.{formed_still, member_before, named_before, never_rebuilt, none_rebuilt_by, passes_by}
+use Rattle.rk_inv_rows.proofs.Words.{turned as changed, of_waiting, view_replaced, stands_found, row_in, SoundRow, MayTakeLineage}
+use Rattle.rk_inv_rows.proofs.Words.{lineage_taken}
+use Rattle.rk_inv_rows.proofs.lineage.Passing.{HasPassed, has_passed, never_rebuilt, none_rebuilt_by, passes_by, member_range}
 use Rattle.rk_inv_rows.proofs.lineage.LineageSays.{none_handed, says}
 
 module _ (v : View) (row : Row) (phase : Phase) (handed : NumberMap Handed) (sound : SoundView v) (may : MayTakeLineage v row phase handed) where
@@ -23,18 +18,12 @@ module _ (v : View) (row : Row) (phase : Phase) (handed : NumberMap Handed) (sou
   was : SoundRow v row
   was = row_in v sound row may.has_row
 
-  -- a member has the row's range: it was one, or it has the row's term
-  ranged : (q : ℕ) → (is_member (lineage_of row.phase) q ≡ true → (v.handovers q row.tablet).range ≡ row.range) → is_member (lineage_of phase) q ≡ true → (v.handovers q row.tablet).range ≡ row.range
-  ranged q before inside =
-      ⊎_elim before
-      (λ (at : (v.handovers q row.tablet).term ≡ row.term).
-      (All-contains (λ r. HandoverFits r row.tablet (v.handovers q row.tablet)) v.rows row (sound.terms.kept q row.tablet) may.has_row).exact
-      refl at)
-      (member_before row.phase phase (λ m. (v.handovers m row.tablet).term) row.term q may.passes may.at_term inside)
+  passed : HasPassed v row row.phase phase
+  passed = has_passed v row phase handed may
 
   -- no message hands over for the row now
   nothing_handed : (P : Handed → Type 0) (n : ℕ) (m : Message) → get v.wire n ≡ Some m → IfSome (handed_by new v.handovers m.body) P
-  nothing_handed P n m there = rw (none_handed v row phase handed may m.from m.to m.body (was.says n m there)) tt
+  nothing_handed P n m there = rw (none_handed v row phase handed passed m.from m.to m.body (was.says n m there)) tt
 
   -- a number is next behind what counts now, where it was
   next_still : (number : ℕ) → IsNext (truths v row ++ rests v row) number → IsNext (truths v new ++ rests v new) number
@@ -47,8 +36,7 @@ module _ (v : View) (row : Row) (phase : Phase) (handed : NumberMap Handed) (sou
       (λ (none : rests v row ≡ []).
       absurd
       (of_waiting (λ entry. ⊥) v.rows (v.handovers q) v.written q n call wait
-      (subst (λ (r : Row). All (λ entry. ⊥) (rests v r)) (sym is) (subst (All (λ entry. ⊥)) (sym none) (λ k d within. omega (arith, within))))))
-      may.last
+      (rw (is, none) (λ k d within. omega (arith, within))))) may.last
 
   -- the row is not rebuilt
   unrebuilt : RowIsRebuilt new phase (truths v new) v.logs v.written v.stored v.handovers v.completions v.gathers v.merged v.records v.live
@@ -59,13 +47,13 @@ module _ (v : View) (row : Row) (phase : Phase) (handed : NumberMap Handed) (sou
 
   holds : SoundRow now new
   holds = record {
-    named = λ q is. was.named q (named_before row.phase phase q may.passes is);
+    named = λ q is. was.named q (passed.named q is);
     begun = was.begun;
-    formed = formed_still row.phase phase may.passes was.formed;
+    formed = passed.formed was.formed;
     placed = may.members.placed;
     sent = λ n m there. let fits = was.sent n m there in record { within = fits.within; below = fits.below };
     fitting = may.fits;
-    ranged = λ q counting. ranged q (was.ranged q counting);
+    ranged = λ q counting. member_range v row phase sound may.has_row passed q (was.ranged q counting);
     at_term = may.at_term;
     truth = may.history.leaves;
     above = may.history.above;
@@ -89,14 +77,11 @@ module _ (v : View) (row : Row) (phase : Phase) (handed : NumberMap Handed) (sou
     handed_on = may.members.handed_on;
     named_items = may.members.named;
     rebuilt = unrebuilt;
-    marks = λ q.
-        All-weaker (λ mark. mark.tablet ≡ row.tablet → MarkFits row q (v.handovers q row.tablet) (v.live q) (v.written q) mark)
-        (λ mark. mark.tablet ≡ row.tablet → MarkFits new q (v.handovers q row.tablet) (v.live q) (v.written q) mark)
-        (λ mark fits its.
-        let rebuilt = (fits its).rebuilt in absurd (never_rebuilt row.phase phase may.passes rebuilt.0 rebuilt.1 rebuilt.2))
-        (v.written q).marks (was.marks q);
+    marks = λ q k d within its.
+        let rebuilt = (was.marks q k d within its).rebuilt in
+        absurd (never_rebuilt row.phase phase may.passes rebuilt.0 rebuilt.1 rebuilt.2);
     pieces = was.pieces;
-    says = λ n m there. says v row phase handed may m.from m.to m.body (was.sent n m there) (was.says n m there);
+    says = λ n m there. says v row phase handed passed m.from m.to m.body (was.sent n m there) (was.says n m there);
   }
 
   pub view_lineage_taken : SoundView now

@@ -3,8 +3,7 @@ use Rattle.std.proofs.Common.{◌≡◌, ℕ, Bool, true, false, cond, ◌&&◌,
 use Rattle.std.proofs.Common.{◌∙◌, ⊎_elim, arith, inl, append-nil, append_assoc, All, IfSome, length, not, slice_get}
 use Rattle.rk_inv_base.proofs.Words.{false≢true, All-push, All-weaker, Ended, Placed, IsRisingAbove, lane_of_key, outcome_of, has_record}
 use Rattle.rk_inv_base.proofs.Words.{next_record, IsAfterStart, LastCall, IsLastCall, WasAsked, IsAfterSeen, View, AskedOf}
-use Rattle.rk_inv_base.proofs.calls.MoreRecords.{asked_still, got_cases, is_request_still, request_says_still, rising_push}
-use Rattle.rk_inv_rows.specs.lineage.Rebuilt.{made_by, made_of}
+use Rattle.rk_inv_rows.proofs.Words.{asked_still, got_cases, is_request_still, request_says_still, rising_push, made_by, made_of}
 
 -- what each such record keeps, all of them keep
 module _ (asked : ℕ → Option LastCall) (P : List Placed → Type 0) (keeps : (journal : List Placed) (end : Ended) (last : LastCall) → asked end.client ≡ Some last → P journal → P (journal ++ next_record journal last.call (outcome_of end.end) last.seen ∷ [])) where
@@ -14,13 +13,13 @@ module _ (asked : ℕ → Option LastCall) (P : List Placed → Type 0) (keeps :
     where
       go : (b : Bool) → P (journal ++ cond b (next_record journal last.call (outcome_of end.end) last.seen ∷ []) [])
       go true = keeps journal end last is was
-      go false = subst P (sym (append-nil journal)) was
+      go false = rw (append-nil journal) was
 
   pub made_keeps : (journal : List Placed) (ends : List Ended) → P journal → P (journal ++ made_of asked journal ends)
   made_keeps journal [] was = subst P (sym (append-nil journal)) was
   made_keeps journal (end ∷ ends) was =
       let made : List Placed = made_by journal end (asked end.client) in
-      subst P (append_assoc journal made (made_of asked (journal ++ made) ends))
+      rw (← append_assoc journal made (made_of asked (journal ++ made) ends))
       (made_keeps (journal ++ made) ends (one_keeps journal end (asked end.client) refl was))
 
 module _ (v : View) (sound_asked : AskedOf v) where
@@ -67,8 +66,7 @@ module _ (v : View) (sound_asked : AskedOf v) where
             (λ placed. WasAsked (v.asked placed.call.client) (journal ++ new ∷ []) placed.call)
             (λ placed. asked_still journal (new ∷ []) (v.asked placed.call.client) placed.call) journal was.recorded)
             (subst (λ (o : Option LastCall). WasAsked o (journal ++ new ∷ []) last.call) (sym (own_last end.client last is)) (inl refl));
-        after_start =
-            All-push (λ placed. IsAfterStart v.base placed.call) journal new was.after_start (last_is end.client last is).after;
+        after_start = All-push (λ placed. IsAfterStart v.base placed.call) journal new was.after_start (last_is end.client last is).after;
         once = λ i j a b at_i at_j one.
             ⊎_elim
             (λ (first : slice_get journal i ≡ Some a).

@@ -1,36 +1,29 @@
 -- What the invariant says of another row, of its lineage and of what is rebuilt and marked of it, stays where the marks of a tablet are
 -- taken away.
 use Rattle.std.proofs.Common.{◌≡◌, ℕ, ◌+◌, ◌≤◌, Bool, true, false, cond, ◌&&◌, eqb, List, [], ◌∷◌, ◌++◌, Option, Some, None, refl, sym, ap}
-use Rattle.std.proofs.Common.{subst, ◌∙◌, ⊎_elim, All, IfSome, drop, filter, nat_le, nat_lt, not, slice_get, take, Contains, flat_map}
-use Rattle.std.proofs.Common.{option_map, eqb-true}
+use Rattle.std.proofs.Common.{subst, ◌∙◌, ⊎_elim, All, IfSome, drop, filter, nat_le, nat_lt, not, slice_get, take, Contains, option_map}
+use Rattle.std.proofs.Common.{eqb-true}
 use Rattle.rk_inv_base.proofs.Words.{and_parts, cases_Bool, false_from_ne_true, false≢true, All-contains, All-filter, All-weaker}
-use Rattle.rk_inv_base.proofs.Words.{IfSome_then, get, meets, Held, Member, Node, Range, Entry, at_hash, batch_at, next_token, Handover}
-use Rattle.rk_inv_base.proofs.Words.{lineage_of, Phase, Moving, Rebuilding, Row, known_of, EntryEnd, BATCH_BYTES, Body, Got, Pulled}
-use Rattle.rk_inv_base.proofs.Words.{CopySegment, items_of, first_of, is_mark_of, is_marked, unmarked, unmarked_from, touches, as_entries}
-use Rattle.rk_inv_base.proofs.Words.{counting, counts, own_place, Written, member_material, member_truth, Mark, Merged, beginning_in}
-use Rattle.rk_inv_base.proofs.Words.{target_truth, stored_of, CopyIn, GotAgrees, IsFromSource, PulledAgrees, SaysOf, HasOwnRange}
-use Rattle.rk_inv_base.proofs.Words.{IsMergedOf, IsOfRange, IsPieceOf, IsRebuilder, MarkFits, MarkedFit, NeededOf, NeedsEnd, READ_BACKUP}
-use Rattle.rk_inv_base.proofs.Words.{RowIsRebuilt, StandsLast, TellNoMore, TellsMore, marked_entries, member_given_up, member_marked}
-use Rattle.rk_inv_base.proofs.Words.{member_stored, merged_place, stored_count, IsTarget, MembersFit, NamedFit, scan_items, FirstIsDone}
-use Rattle.rk_inv_base.proofs.Words.{IsDone, HasItems, IsTableOf, View, SoundView}
-use Rattle.rk_outside.specs.Segments.{bytes_of as copied_bytes}
+use Rattle.rk_inv_base.proofs.Words.{IfSome_then, get, meets, Held, Member, Node, Range, Entry, Handover, lineage_of, Phase, Moving}
+use Rattle.rk_inv_base.proofs.Words.{Rebuilding, Row, known_of, EntryEnd, Body, Got, Pulled, CopySegment, first_of, is_mark_of, is_marked}
+use Rattle.rk_inv_base.proofs.Words.{unmarked, unmarked_from, touches, counting, counts, own_place, Written, member_material, member_truth}
+use Rattle.rk_inv_base.proofs.Words.{Mark, Merged, beginning_in, target_truth, stored_of, CopyIn, GotAgrees, PulledAgrees, SaysOf}
+use Rattle.rk_inv_base.proofs.Words.{HasOwnRange, IsMergedOf, IsOfRange, IsPieceOf, IsRebuilder, MarkFits, MarkedFit, NeededOf, NeedsEnd}
+use Rattle.rk_inv_base.proofs.Words.{READ_BACKUP, RowIsRebuilt, StandsLast, TellNoMore, marked_entries, member_given_up, member_marked}
+use Rattle.rk_inv_base.proofs.Words.{member_stored, merged_place, stored_count, IsTarget, MembersFit, NamedFit, FirstIsDone, IsDone}
+use Rattle.rk_inv_base.proofs.Words.{HasItems, IsTableOf, View, SoundView}
+use Rattle.rk_inv_rows.proofs.Words.{member as member_at, key_outside, all_by, apart_either, place_of, if_master, Misses, none_touches}
+use Rattle.rk_inv_rows.proofs.Words.{one_weaker, part_weaker, filter_stands, marks_taken}
 use Rattle.rk_entry.specs.declared.entry.Entry.TheVariants as entries
 use Rattle.rk_message.specs.declared.message.Body.TheVariants as bodies
-use Rattle.rk_tablet_map.specs.Phase.{member as member_at}
+use Rattle.rk_outside.specs.Segments.{bytes_of as copied_bytes}
 use Rattle.rk_sound.specs.Rebuilds.{IsNeeded}
-use Rattle.rk_inv_base.proofs.rows.Apart.{key_outside}
-use Rattle.rk_inv_base.proofs.views.Lists.{all_by}
-use Rattle.rk_inv_base.proofs.logs.MarkedApart.{apart_either, place_of}
-use Rattle.rk_inv_base.proofs.wire.Messages.{if_master}
-use Rattle.rk_inv_base.proofs.logs.Missed.{Misses, none_touches}
-use Rattle.rk_inv_base.proofs.views.Needed.{one_weaker, part_weaker}
-use Rattle.rk_inv_base.proofs.calls.Records.{filter_stands}
-use Rattle.rk_inv_rows.specs.lineage.Small.{marks_taken}
 use Rattle.rk_inv_rows.proofs.lineage.Among.{taken_from}
 use Rattle.rk_inv_rows.proofs.lineage.FewerMarks.{free_counts}
 use Rattle.rk_inv_rows.proofs.lineage.Pieces.{unmarked_place, unmarked_stands}
 use Rattle.rk_inv_rows.proofs.lineage.Untouched.{each_misses}
-use Rattle.rk_inv_rows.proofs.lineage.MarksTaken.{apart, fewer, marked_kept, material_kept, named_kept, rest_kept, silent_apart, taken_of, truth_kept}
+use Rattle.rk_inv_rows.proofs.lineage.MarksTaken.{apart, fewer, marked_kept, material_kept, named_kept, rest_kept, silent_apart, taken_of}
+use Rattle.rk_inv_rows.proofs.lineage.MarksTaken.{truth_kept}
 
 -- what is kept by two tests is kept by one that asks for both
 both_kept : {X : Type 0} (p keep : X → Bool) (xs : List X) → ((x : X) → p x ≡ true → keep x ≡ true) → filter p (filter keep xs) ≡ filter p xs
@@ -76,9 +69,8 @@ module _ (v : View) (row : Row) (sound : SoundView v) (has_row : Contains v.rows
 
   pub named_beside : (l : List Member) → NamedFit v.written other.range l → NamedFit now.written other.range l
   named_beside (first ∷ last ∷ []) fit = λ item stands.
-      subst (λ (l : List Entry). Contains (items_of l) item) (sym (truth_as first))
-      (fit item
-      (subst (λ (l : List Held). Contains l item) (named_kept v row sound has_row other has_other unlike some last.master last.from) stands))
+      rw (truth_as first) (fit item
+      (rw (← named_kept v row sound has_row other has_other unlike some last.master last.from) stands))
   named_beside _ fit = tt
 
   pub target_beside : (phase : Phase) → target_truth now.written v.handed other phase ≡ target_truth v.written v.handed other phase
@@ -91,7 +83,7 @@ module _ (v : View) (row : Row) (sound : SoundView v) (has_row : Contains v.rows
     where
       go : (o : Option Member) → IfSome o (λ m. IsTableOf other.range (member_truth v.written other.range m) records) → IfSome o (λ m. IsTableOf other.range (member_truth now.written other.range m) records)
       go None has = tt
-      go (Some m) has = subst (λ (t : List Entry). IsTableOf other.range t records) (sym (truth_as m)) has
+      go (Some m) has = rw (truth_as m) has
 
   abbrev TargetIn : (ℕ → Written) → (source target : Member) → List Entry → List Entry → Type 0
   TargetIn written source target truth material =
@@ -115,9 +107,8 @@ module _ (v : View) (row : Row) (sound : SoundView v) (has_row : Contains v.rows
 
   pub members_beside : (l : List Member) → Members v.written l → Members now.written l
   members_beside (source ∷ target ∷ []) fit = λ granted.
-      subst (λ (t : List Entry). TargetIn now.written source target t (member_material now.written other.range source)) (sym (truth_as source))
-      (subst (TargetIn now.written source target (member_truth v.written other.range source)) (sym (material_as source))
-      (target_as source target (member_truth v.written other.range source) (member_material v.written other.range source) (fit granted)))
+      rw (truth_as source, material_as source)
+      (target_as source target (member_truth v.written other.range source) (member_material v.written other.range source) (fit granted))
   members_beside _ fit = tt
 
   -- ---- what has to be read
@@ -161,7 +152,7 @@ module _ (v : View) (row : Row) (sound : SoundView v) (has_row : Contains v.rows
     stands = is.stands;
     unmarked = free_before q place entry is.stands is.in_range is.unmarked;
     in_range = is.in_range;
-    tells = subst (λ (l : List Entry). TellsMore given_up (own ++ l) entry) (first_counted q from place) is.tells;
+    tells = rw (← first_counted q from place) is.tells;
   }
 
   needs_end : (given_up own : List Entry) (q from : ℕ) (end : EntryEnd) → NeedsEnd other.range given_up own from (now.written q) end → NeedsEnd other.range given_up own from (v.written q) end
@@ -175,12 +166,8 @@ module _ (v : View) (row : Row) (sound : SoundView v) (has_row : Contains v.rows
   pub needed_beside : (l : List Member) (q : ℕ) (end : EntryEnd) → NeededOf other now.written l q end → NeededOf other v.written l q end
   needed_beside (first ∷ last ∷ []) q end is = (
     is.0,
-    subst (λ (own : List Entry). NeedsEnd other.range (member_given_up v.written other first) own last.from (v.written last.master) end)
-        (material_as first)
-        (subst
-        (λ (given_up : List Entry). NeedsEnd other.range given_up (member_material now.written other.range first) last.from (v.written last.master) end)
-        (given_up_as first)
-        (needs_end (member_given_up now.written other first) (member_material now.written other.range first) last.master last.from end is.1)),
+    rw (← material_as first, ← given_up_as first)
+        (needs_end (member_given_up now.written other first) (member_material now.written other.range first) last.master last.from end is.1),
   )
   needed_beside _ q end none = none
 
@@ -195,18 +182,13 @@ module _ (v : View) (row : Row) (sound : SoundView v) (has_row : Contains v.rows
   pub marked_fit_beside : (l : List Member) → MarkedFit v.logs v.written v.stored v.live other.range l → MarkedFit v.logs now.written v.stored v.live other.range l
   marked_fit_beside [] fit = tt
   marked_fit_beside (only ∷ []) fit = λ dead.
-      subst (TellNoMore (member_marked now.written other.range only)) (sym (material_as only))
-      (subst (λ (l : List Entry). TellNoMore l (member_material v.written other.range only)) (sym (marked_as only)) (fit dead))
+      rw (material_as only, marked_as only) (fit dead)
   marked_fit_beside (first ∷ last ∷ more) fit = (
     λ dead.
-        subst (TellNoMore (member_marked now.written other.range first))
-        (λ i. sym (material_as first) i ++ sym (stored_as last) i)
-        (subst
-        (λ (l : List Entry). TellNoMore l (member_material v.written other.range first ++ member_stored v.logs v.written v.stored other.range last))
-        (sym (marked_as first)) (fit.0 dead)),
+        subst (TellNoMore (member_marked now.written other.range first)) (λ i. sym (material_as first) i ++ sym (stored_as last) i)
+        (rw (marked_as first) (fit.0 dead)),
     λ dead.
-        subst (TellNoMore (member_marked now.written other.range last))
-        (λ i. sym (material_as first) i ++ sym (material_as last) i)
+        subst (TellNoMore (member_marked now.written other.range last)) (λ i. sym (material_as first) i ++ sym (material_as last) i)
         (subst
         (λ (l : List Entry). TellNoMore l (member_material v.written other.range first ++ member_material v.written other.range last))
         (sym (marked_as last)) (fit.1 dead)),
@@ -258,19 +240,17 @@ module _ (v : View) (row : Row) (sound : SoundView v) (has_row : Contains v.rows
         range_is = is.range_is;
         gather = is.gather;
         read =
-            All-weaker _ _
-            (λ gathered.
+            All-weaker _ _ (λ gathered.
             one_weaker (NeededOf other v.written l gathered.member.master) (NeededOf other now.written l gathered.member.master)
             (known_of (v.logs gathered.member.master) READ_BACKUP) (stored_of v.stored gathered.member.master READ_BACKUP) gathered
             (needed_beside l gathered.member.master))
             (v.gathers to other.tablet).members is.read;
         placed = is.placed;
-        merged =
-            IfSome_then (merged_place (v.handovers to other.tablet).role) is.merged (λ entry. merged_as to from own entry);
+        merged = IfSome_then (merged_place (v.handovers to other.tablet).role) is.merged (λ entry. merged_as to from own entry);
         items = is.items;
         sides = λ item stands.
             is.sides item
-            (subst (λ (l : List Held). Contains l item) (named_kept v row sound has_row other has_other unlike some to from) stands);
+            (rw (← named_kept v row sound has_row other has_other unlike some to from) stands);
         outside = is.outside;
       }
 
@@ -282,8 +262,7 @@ module _ (v : View) (row : Row) (sound : SoundView v) (has_row : Contains v.rows
   rebuilt_beside truth (Rebuilding l to) fit =
       let own : Member = member_at to (own_place (v.handovers to other.tablet).role) in (
         λ at.
-            subst (RebuilderIn now.written l to truth) (sym (material_as own))
-            (rebuilder_as l to truth (member_material v.written other.range own) (fit.0 at)),
+            rw (material_as own) (rebuilder_as l to truth (member_material v.written other.range own) (fit.0 at)),
         marked_fit_beside l fit.1,
       )
   rebuilt_beside truth _ fit = tt
@@ -318,8 +297,7 @@ module _ (v : View) (row : Row) (sound : SoundView v) (has_row : Contains v.rows
       (cases_Bool (is_marked (old_marks q) (mark.first + is.k)))))
 
   abbrev MarkIn : (ℕ → Written) → ℕ → Mark → Type 0
-  MarkIn written q mark =
-      mark.tablet ≡ other.tablet → MarkFits other q (v.handovers q other.tablet) (v.live q) (written q) mark
+  MarkIn written q mark = mark.tablet ≡ other.tablet → MarkFits other q (v.handovers q other.tablet) (v.live q) (written q) mark
 
   pub marks_beside : (q : ℕ) → All (MarkIn v.written q) (old_marks q) → All (MarkIn now.written q) (new_marks q)
   marks_beside q all =
@@ -347,10 +325,7 @@ module _ (v : View) (row : Row) (sound : SoundView v) (has_row : Contains v.rows
 
   pulled_as : (l : List Member) (from : Node) (q : ℕ) (message : Pulled) → Pulls v.written l from q message → Pulls now.written l from q message
   pulled_as (source ∷ target ∷ []) from q message agrees = λ here lives is.
-      subst
-      (λ (t : List Entry). IsFromSource source from (as_entries (batch_at message.token BATCH_BYTES (scan_items t))) message.entries
-      × (message.next ≡ next_token message.token BATCH_BYTES (scan_items t)))
-      (sym (truth_as source)) (agrees here lives is)
+      rw (truth_as source) (agrees here lives is)
   pulled_as _ from q message agrees = tt
 
   abbrev Gets : (ℕ → Written) → List Member → Node → ℕ → Got → Type 0
@@ -358,10 +333,7 @@ module _ (v : View) (row : Row) (sound : SoundView v) (has_row : Contains v.rows
 
   got_as : (l : List Member) (from : Node) (q : ℕ) (message : Got) → Gets v.written l from q message → Gets now.written l from q message
   got_as (source ∷ target ∷ []) from q message agrees = λ here lives is.
-      subst
-      (λ (t : List Entry).
-      IsFromSource source from (as_entries (flat_map (λ hash. at_hash hash (scan_items t)) message.hashes)) message.entries)
-      (sym (truth_as source)) (agrees here lives is)
+      rw (truth_as source) (agrees here lives is)
   got_as _ from q message agrees = tt
 
   copy_as : (phase : Phase) (copy : CopySegment) → CopyIn other phase v.logs v.written v.stored v.live copy → CopyIn other phase v.logs now.written v.stored v.live copy
@@ -374,19 +346,16 @@ module _ (v : View) (row : Row) (sound : SoundView v) (has_row : Contains v.rows
   copy_as _ copy said = tt
 
   abbrev SaysIn : (ℕ → Written) → Node → Node → Body → Type 0
-  SaysIn written from to body =
-      SaysOf other v.logs written v.stored v.handovers v.completions v.merged v.live v.handed from to body
+  SaysIn written from to body = SaysOf other v.logs written v.stored v.handovers v.completions v.merged v.live v.handed from to body
 
   pub says_beside : (from to : Node) (body : Body) → SaysIn v.written from to body → SaysIn now.written from to body
   says_beside from to (bodies.Pulled message) said = (
     said.0,
-    if_master to (λ q. Pulls v.written (lineage_of other.phase) from q message) (λ q. Pulls now.written (lineage_of other.phase) from q message)
-        (λ q. pulled_as (lineage_of other.phase) from q message) said.1,
+    if_master to _ _ (λ q. pulled_as (lineage_of other.phase) from q message) said.1,
   )
   says_beside from to (bodies.Got message) said = (
     said.0,
-    if_master to (λ q. Gets v.written (lineage_of other.phase) from q message) (λ q. Gets now.written (lineage_of other.phase) from q message)
-        (λ q. got_as (lineage_of other.phase) from q message) said.1,
+    if_master to _ _ (λ q. got_as (lineage_of other.phase) from q message) said.1,
   )
   says_beside from to (bodies.Copy copy) said = λ is. copy_as other.phase copy (said is)
   says_beside from to body said = said

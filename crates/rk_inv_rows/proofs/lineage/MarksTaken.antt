@@ -1,18 +1,13 @@
 -- Where the marks of a row's tablet are taken away, all that is said of another row by what masters have written stays: what bore them is
 -- of the row's range alone.
-use Rattle.std.proofs.Common.{◌≡◌, ℕ, ◌+◌, ◌≤◌, Bool, true, false, ◌&&◌, ◌||◌, eqb, List, [], ◌∷◌, ◌++◌, Some, refl, sym, ap, subst, ◌∙◌}
-use Rattle.std.proofs.Common.{⊎_elim, arith, drop, filter, fold, max, nat_le, nat_lt, not, slice_get, Contains, flat_map, eqb-true, le-leb}
-use Rattle.std.proofs.Common.{lt-ltb}
+use Rattle.std.proofs.Common.{◌≡◌, ℕ, ◌+◌, ◌≤◌, Bool, true, false, ◌&&◌, ◌||◌, eqb, List, [], ◌∷◌, ◌++◌, Some, refl, sym, ap, ◌∙◌, ⊎_elim}
+use Rattle.std.proofs.Common.{arith, drop, filter, fold, max, nat_le, nat_lt, not, slice_get, Contains, flat_map, eqb-true, le-leb, lt-ltb}
 use Rattle.rk_inv_base.proofs.Words.{and_from, and_parts, cases_Bool, false≢true, list_any, meets, Member, Range, Entry, is_in, lineage_of}
 use Rattle.rk_inv_base.proofs.Words.{Precedes, Row, stands_cases, items_of, is_mark_of, is_marked, unmarked_from, counting, material_of}
 use Rattle.rk_inv_base.proofs.Words.{named, side_entries, with_number, applied_entries, lineage_rest, lineage_truth, member_material}
 use Rattle.rk_inv_base.proofs.Words.{member_rest, member_truth, Mark, IsOfRange, member_marked, named_items, View, truths, rests, SoundView}
+use Rattle.rk_inv_rows.proofs.Words.{one_precedes, same_number, apart_either, entry_apart, place_of, any_kept, filter_stands, marks_taken}
 use Rattle.rk_entry.specs.declared.entry.Entry.TheVariants as entries
-use Rattle.rk_inv_base.proofs.rows.Apart.{one_precedes, same_number}
-use Rattle.rk_inv_base.proofs.logs.MarkedApart.{apart_either, entry_apart, place_of}
-use Rattle.rk_inv_base.proofs.views.Needed.{any_kept}
-use Rattle.rk_inv_base.proofs.calls.Records.{filter_stands}
-use Rattle.rk_inv_rows.specs.lineage.Small.{marks_taken}
 use Rattle.rk_inv_rows.proofs.lineage.Among.{taken_from}
 use Rattle.rk_inv_rows.proofs.lineage.Pieces.{IsCovered, covered_by, covered_of}
 use Rattle.rk_inv_rows.proofs.lineage.FewerMarks.{AreFewer, IsSilent, free_counts, free_names, marked_counts}
@@ -86,7 +81,7 @@ module _ (v : View) (row : Row) (sound : SoundView v) (has_row : Contains v.rows
       let taken = taken_by q place was is in
       let of = covered_of v sound q place entry at taken.covered in
       let same : of.row ≡ row = same_number v.rows of.row row sound.rows.apart of.stands has_row (of.number ∙ taken.tablet) in
-      subst (λ (r : Row). IsOfRange r.range entry) same of.of
+      rw (← same) of.of
 
   -- ---- another row
 

@@ -1,19 +1,21 @@
--- What is known of a row that passes on: of its old phase and its new one, where source and target keep the row's term.
-use Rattle.std.proofs.Common.{◌≡◌, ℕ, ◌<◌, Bool, true, false, ◌||◌, cond, eqb, List, Option, Some, refl, sym, ap, subst, ◌∙◌, ⊎_elim, arith}
-use Rattle.std.proofs.Common.{inl, inr, ◌⊎◌, eq-eqb, eqb-true}
-use Rattle.rk_inv_base.proofs.Words.{false≢true, Ended, Member, Node, Segments, Completions, Handover, Role, lineage_of, Phase, Owned}
-use Rattle.rk_inv_base.proofs.Words.{Opening, Moving, Rebuilding, Row, Log, Grant, Transfer, CopySegment, ReadSegment, Rebuilt, Handed}
-use Rattle.rk_inv_base.proofs.Words.{is_member, names, Written, is_opening, is_wanting, HasSource, HasLineage, IsClosing, IsOnlyRebuilder}
-use Rattle.rk_inv_base.proofs.Words.{IsOwnedBy, IsOwnedByOther, IsOwner, IsRebuiltBy, IsMovingOrOwned, GrantIn, ReadyIn, TransferIn}
-use Rattle.rk_inv_base.proofs.Words.{JoinedIn, RebuiltIn, ReadIn, CopyIn, InvitedTarget, OpeningSource, ReadyTarget, MovingSource}
-use Rattle.rk_inv_base.proofs.Words.{MovingTarget, Owner, Bystander, Post, Holds, bond_of, post_of, KeepTerm, RoleFits, IsFormed}
+-- What is known of a row that takes another phase at its own term: of both phases, and of masters that keep the row's term then. So it is of
+-- a row whose tablet passes on.
+use Rattle.std.proofs.Common.{◌≡◌, ℕ, Bool, true, false, ◌||◌, cond, eqb, List, ◌∷◌, Option, Some, refl, sym, ap, subst, ◌∙◌, ⊎_elim, inl}
+use Rattle.std.proofs.Common.{inr, ◌⊎◌, eq-eqb, eqb-true, Contains}
+use Rattle.rk_inv_base.proofs.Words.{false≢true, or_right, NumberMap, Ended, Member, Node, Completions, Handover, Role, lineage_of, Phase}
+use Rattle.rk_inv_base.proofs.Words.{Owned, Opening, Moving, Rebuilding, Row, Grant, Transfer, CopySegment, ReadSegment, Rebuilt, Handed}
+use Rattle.rk_inv_base.proofs.Words.{is_member, names, is_opening, is_wanting, HasSource, HasLineage, IsClosing, IsOnlyRebuilder, IsOwnedBy}
+use Rattle.rk_inv_base.proofs.Words.{IsOwnedByOther, IsOwner, IsRebuiltBy, IsMovingOrOwned, GrantIn, ReadyIn, TransferIn, JoinedIn}
+use Rattle.rk_inv_base.proofs.Words.{RebuiltIn, ReadIn, CopyIn, InvitedTarget, OpeningSource, ReadyTarget, MovingSource, MovingTarget}
+use Rattle.rk_inv_base.proofs.Words.{Owner, Bystander, Post, Holds, bond_of, post_of, KeepTerm, IsFormed, View, SoundView}
+use Rattle.rk_inv_rows.proofs.Words.{member as member_at, MayTakeLineage}
 use Rattle.rk_transfer.specs.declared.role.Role.TheVariants as roles
 use Rattle.rk_inv_rows.specs.lineage.Passing.{BeginsToMove, HasMoved, PassesOn}
+use Rattle.rk_inv_rows.proofs.lineage.Histories.{range_at}
 
 -- this holds wherever a row begins to move, and wherever it has moved
 abbrev pub WhereBegun : (Phase → Phase → Type 0) → Type 0
-WhereBegun P =
-    (source sfrom target dfrom : ℕ) → P (Opening source sfrom target (Some dfrom)) (Moving source sfrom target dfrom)
+WhereBegun P = (source sfrom target dfrom : ℕ) → P (Opening source sfrom target (Some dfrom)) (Moving source sfrom target dfrom)
 
 abbrev pub WhereMoved : (Phase → Phase → Type 0) → Type 0
 WhereMoved P = (source sfrom target dfrom : ℕ) → P (Moving source sfrom target dfrom) (Owned target dfrom)
@@ -23,14 +25,49 @@ pub passes_by : (P : Phase → Phase → Type 0) (old new : Phase) → WhereBegu
 passes_by P old new begins ends passes =
     ⊎_elim
     (λ (b : BeginsToMove old new).
-    subst (λ (was : Phase). P was new) (sym b.was)
-    (subst (P (Opening b.source b.sfrom b.target (Some b.dfrom))) (sym b.is) (begins b.source b.sfrom b.target b.dfrom)))
+    rw (b.was, b.is) (begins b.source b.sfrom b.target b.dfrom))
     (λ (b : HasMoved old new).
-    subst (λ (was : Phase). P was new) (sym b.was)
-    (subst (P (Moving b.source b.sfrom b.target b.dfrom)) (sym b.is) (ends b.source b.sfrom b.target b.dfrom)))
-    passes
+    rw (b.was, b.is) (ends b.source b.sfrom b.target b.dfrom)) passes
 
--- ---- posts
+-- ---- what is known
+
+-- a row took another phase at its term. Nobody owned it, no target was invited, and who was to act for it keeps the row's term; a second
+-- member keeps it too, where the row had not moved
+pub record HasPassed (v : View) (row : Row) (old new : Phase) : Type 0 where
+  pub formed : IsFormed old → IsFormed new
+  pub named : (q : ℕ) → names new q ≡ true → names old q ≡ true
+  pub member :
+      (q : ℕ) → is_member (lineage_of new) q ≡ true
+      → (is_member (lineage_of old) q ≡ true) ⊎ ((v.handovers q row.tablet).term ≡ row.term)
+  pub second :
+      (source target : Member) (more : List Member) → lineage_of new ≡ source ∷ target ∷ more
+      → (IsMovingOrOwned old → ⊥) × ((v.handovers target.master row.tablet).term ≡ row.term)
+  pub invited : (q : ℕ) → post_of old q ≡ InvitedTarget → ⊥
+  pub owned : (q : ℕ) → IsOwnedBy old q → ⊥
+  pub released : (q : ℕ) → IsOwnedByOther old q → ⊥
+  pub closing : (q : ℕ) → IsClosing old q → (v.handovers q row.tablet).term ≡ row.term
+  pub rebuilds : (q : ℕ) → IsRebuiltBy old q → (v.handovers q row.tablet).term ≡ row.term
+  pub only : (q : ℕ) → IsOnlyRebuilder (post_of old q) → (v.handovers q row.tablet).term ≡ row.term
+  pub owner :
+      (q : ℕ) → IsOwner (post_of old q) (v.handovers q row.tablet).term row.term → (v.handovers q row.tablet).term ≡ row.term
+  pub granted :
+      (q : ℕ) (given : Option Handed) (grant : Grant) → v.live q ≡ true → is_wanting (v.handovers q row.tablet).role ≡ true
+      → GrantIn (lineage_of old) given q grant → ⊥
+  pub source : (q : ℕ) → HasSource old q → HasSource new q
+  pub moved : IsMovingOrOwned new
+  pub opens_not : is_opening new ≡ false
+  pub lineage : (members : List Member) → HasLineage new members
+  pub ready : (h : Handover) (q place : ℕ) → ReadyIn new h row.term q place
+  pub transfer : (h : Handover) (kept : Completions) (q : ℕ) (transfer : Transfer) → TransferIn new h kept row.term q transfer
+  pub joined : (h : Handover) (applied q : ℕ) → JoinedIn old h applied row.term q → JoinedIn new h applied row.term q
+  pub rebuilt :
+      (q : ℕ) (ends : List Ended) (report : Rebuilt)
+      → RebuiltIn old (v.handovers q row.tablet) ends (v.written q).applied row.term q report
+      → RebuiltIn new (v.handovers q row.tablet) ends (v.written q).applied row.term q report
+  pub read : (to : Node) (read : ReadSegment) → ReadIn new v.live to read
+  pub copy : (x : Row) (copy : CopySegment) → CopyIn x new v.logs v.written v.stored v.live copy
+
+-- ---- a tablet that passes on
 
 -- what holds of either post holds of one that is chosen by a test
 post_by : (P : Post → Type 0) (a b : Bool) (one other third : Post) → P one → P other → P third → P (cond a one (cond b other third))
@@ -38,117 +75,110 @@ post_by P true b one other third first second last = first
 post_by P false true one other third first second last = second
 post_by P false false one other third first second last = last
 
--- no target is invited
-pub none_invited : (old new : Phase) (master : ℕ) → PassesOn old new → post_of old master ≡ InvitedTarget → ⊥
-none_invited old new master =
-    passes_by (λ was is. post_of was master ≡ InvitedTarget → ⊥) old new
-    (λ source sfrom target dfrom.
-    post_by (λ post. post ≡ InvitedTarget → ⊥) (eqb source master) (eqb target master) OpeningSource (ReadyTarget dfrom) Bystander
-    (λ is. absurd (cc is)) (λ is. absurd (cc is)) (λ is. absurd (cc is)))
-    (λ source sfrom target dfrom.
-    post_by (λ post. post ≡ InvitedTarget → ⊥) (eqb source master) (eqb target master) MovingSource (MovingTarget dfrom) Bystander
-    (λ is. absurd (cc is)) (λ is. absurd (cc is)) (λ is. absurd (cc is)))
+-- an owner does not wait for a grant
+owner_wants : (place term own applied : ℕ) (role : Role) → Holds (bond_of (Owner place) role) term own applied → is_wanting role ≡ true → ⊥
+owner_wants place term own applied (roles.Wanting from) fits wants = fits
+owner_wants place term own applied role fits wants = false≢true wants
 
--- none is to rebuild what was its own
-none_rebuilds : (old new : Phase) (master : ℕ) → PassesOn old new → IsOnlyRebuilder (post_of old master) → ⊥
-none_rebuilds old new master =
-    passes_by (λ was is. IsOnlyRebuilder (post_of was master) → ⊥) old new
-    (λ source sfrom target dfrom.
-    post_by (λ post. IsOnlyRebuilder post → ⊥) (eqb source master) (eqb target master) OpeningSource (ReadyTarget dfrom) Bystander
-    (λ only. only) (λ only. only) (λ only. only))
-    (λ source sfrom target dfrom.
-    post_by (λ post. IsOnlyRebuilder post → ⊥) (eqb source master) (eqb target master) MovingSource (MovingTarget dfrom) Bystander
-    (λ only. only) (λ only. only) (λ only. only))
+module _ (v : View) (row : Row) where
+  abbrev terms : ℕ → ℕ
+  terms q = (v.handovers q row.tablet).term
 
--- who owned the tablet keeps the row's term
-pub owner_at : (old new : Phase) (terms : ℕ → ℕ) (term master own : ℕ) → PassesOn old new → KeepTerm new terms term → IsOwner (post_of old master) own term → terms master ≡ term
-owner_at old new terms term master own =
-    passes_by (λ was is. KeepTerm is terms term → IsOwner (post_of was master) own term → terms master ≡ term) old new
-    (λ source sfrom target dfrom at owns. opened (eqb source master) (eqb target master) source dfrom refl at.0 owns)
-    (λ source sfrom target dfrom at owns.
-    absurd
-    (post_by (λ post. IsOwner post own term → ⊥) (eqb source master) (eqb target master) MovingSource (MovingTarget dfrom) Bystander
-    (λ none. none) (λ none. none) (λ none. none) owns))
-  where
-    opened : (a b : Bool) (source dfrom : ℕ) → eqb source master ≡ a → terms source ≡ term → IsOwner (cond a OpeningSource (cond b (ReadyTarget dfrom) Bystander)) own term → terms master ≡ term
-    opened true b source dfrom is at owns = ap terms (sym (eqb-true source master is)) ∙ at
-    opened false true source dfrom is at owns = absurd owns
-    opened false false source dfrom is at owns = absurd owns
+  -- what a living master has fits its post in a phase
+  abbrev LivingFit : Phase → Type 0
+  LivingFit phase = (q : ℕ) → v.live q ≡ true → Holds (bond_of (post_of phase q) (v.handovers q row.tablet).role) row.term (terms q) (v.written q).applied
 
--- so does who is asked to close
-closing_at : (old new : Phase) (terms : ℕ → ℕ) (term master : ℕ) → PassesOn old new → KeepTerm new terms term → IsClosing old master → terms master ≡ term
-closing_at old new terms term master =
-    passes_by (λ was is. KeepTerm is terms term → IsClosing was master → terms master ≡ term) old new
-    (λ source sfrom target dfrom at is. ap terms (sym is) ∙ at.0)
-    (λ source sfrom target dfrom at none. absurd none)
+  abbrev Passed : Phase → Phase → Type 0
+  Passed old new = KeepTerm new terms row.term → LivingFit new → HasPassed v row old new
 
--- so no master below it follows a Close
-pub none_closes : (old new : Phase) (terms : ℕ → ℕ) (term master order : ℕ) → PassesOn old new → KeepTerm new terms term → terms master < order → ((order ≡ term) × IsClosing old master) ⊎ ((order < term) × IsOnlyRebuilder (post_of old master)) → ⊥
-none_closes old new terms term master order passes at below follows =
-    ⊎_elim
-    (λ (asked : (order ≡ term) × IsClosing old master).
-    let same : order ≡ term = asked.0 in
-    let own = closing_at old new terms term master passes at asked.1 in omega (arith, below, same, own))
-    (λ (heir : (order < term) × IsOnlyRebuilder (post_of old master)). none_rebuilds old new master passes heir.1)
-    follows
+  begun : WhereBegun Passed
+  begun source sfrom target dfrom at fits = record {
+    formed = λ formed. formed;
+    named = λ q there. there;
+    member = λ q inside. inside_moved q (eqb source q) (eqb target q) refl inside;
+    second = λ first last more is. (
+      λ none. none,
+      let same : member_at target dfrom ≡ last = cc is in ap (λ (m : Member). terms m.master) (sym same) ∙ at.1,
+    );
+    invited = λ q.
+        post_by (λ post. post ≡ InvitedTarget → ⊥) (eqb source q) (eqb target q) OpeningSource (ReadyTarget dfrom) Bystander
+        (λ is. absurd (cc is)) (λ is. absurd (cc is)) (λ is. absurd (cc is));
+    owned = λ q none. none;
+    released = λ q none. none;
+    closing = λ q is. ap terms (sym is) ∙ at.0;
+    rebuilds = λ q none. absurd none;
+    only = λ q.
+        post_by (λ post. IsOnlyRebuilder post → terms q ≡ row.term) (eqb source q) (eqb target q) OpeningSource (ReadyTarget dfrom) Bystander
+        (λ none. absurd none) (λ none. absurd none) (λ none. absurd none);
+    owner = λ q. owned_it q (eqb source q) (eqb target q) refl;
+    granted = λ q given grant lives wants none. none;
+    source = λ q has. has;
+    moved = tt;
+    opens_not = refl;
+    lineage = λ members. tt;
+    ready = λ h q place. tt;
+    transfer = λ h kept q transfer. tt;
+    joined = λ h applied q none. absurd none;
+    rebuilt = λ q ends report none. absurd none;
+    read = λ to read. tt;
+    copy = λ x copy. tt;
+  }
+    where
+      inside_moved : (q : ℕ) (a b : Bool) → eqb target q ≡ b → (a || (b || false)) ≡ true → ((a || false) ≡ true) ⊎ (terms q ≡ row.term)
+      inside_moved q true b is inside = inl refl
+      inside_moved q false true is inside = inr (ap terms (sym (eqb-true target q is)) ∙ at.1)
+      inside_moved q false false is inside = absurd (cc inside)
 
--- a member of the new lineage was one of the old one, or keeps the row's term
-pub member_before : (old new : Phase) (terms : ℕ → ℕ) (term master : ℕ) → PassesOn old new → KeepTerm new terms term → is_member (lineage_of new) master ≡ true → (is_member (lineage_of old) master ≡ true) ⊎ (terms master ≡ term)
-member_before old new terms term master =
-    passes_by
-    (λ was is. KeepTerm is terms term → is_member (lineage_of is) master ≡ true
-    → (is_member (lineage_of was) master ≡ true) ⊎ (terms master ≡ term)) old new
-    (λ source sfrom target dfrom at inside. moved (eqb source master) (eqb target master) target refl at.1 inside)
-    (λ source sfrom target dfrom at inside. inl (owned (eqb source master) (eqb target master) inside))
-  where
-    moved : (a b : Bool) (target : ℕ) → eqb target master ≡ b → terms target ≡ term → (a || (b || false)) ≡ true → ((a || false) ≡ true) ⊎ (terms master ≡ term)
-    moved true b target is at inside = inl refl
-    moved false true target is at inside = inr (ap terms (sym (eqb-true target master is)) ∙ at)
-    moved false false target is at inside = absurd (cc inside)
+      owned_it : (q : ℕ) (a b : Bool) → eqb source q ≡ a → IsOwner (cond a OpeningSource (cond b (ReadyTarget dfrom) Bystander)) (terms q) row.term → terms q ≡ row.term
+      owned_it q true b is owns = ap terms (sym (eqb-true source q is)) ∙ at.0
+      owned_it q false true is owns = absurd owns
+      owned_it q false false is owns = absurd owns
 
-    owned : (a b : Bool) → (b || false) ≡ true → (a || (b || false)) ≡ true
-    owned true b inside = refl
-    owned false b inside = inside
+  moved : WhereMoved Passed
+  moved source sfrom target dfrom at fits = record {
+    formed = λ formed. tt;
+    named = λ q there. or_right (eqb source q) (eqb target q) there;
+    member = λ q inside. inl (or_right (eqb source q) (eqb target q || false) inside);
+    second = λ first last more is. absurd (cc is);
+    invited = λ q.
+        post_by (λ post. post ≡ InvitedTarget → ⊥) (eqb source q) (eqb target q) MovingSource (MovingTarget dfrom) Bystander
+        (λ is. absurd (cc is)) (λ is. absurd (cc is)) (λ is. absurd (cc is));
+    owned = λ q none. none;
+    released = λ q none. none;
+    closing = λ q none. absurd none;
+    rebuilds = λ q none. absurd none;
+    only = λ q.
+        post_by (λ post. IsOnlyRebuilder post → terms q ≡ row.term) (eqb source q) (eqb target q) MovingSource (MovingTarget dfrom) Bystander
+        (λ none. absurd none) (λ none. absurd none) (λ none. absurd none);
+    owner = λ q.
+        post_by (λ post. IsOwner post (terms q) row.term → terms q ≡ row.term) (eqb source q) (eqb target q) MovingSource (MovingTarget dfrom)
+        Bystander (λ none. absurd none) (λ none. absurd none) (λ none. absurd none);
+    granted = λ q given grant lives wants granted.
+        let h : Handover = v.handovers q row.tablet in
+        owner_wants dfrom row.term h.term (v.written q).applied h.role
+        (subst (λ (b : Bool). Holds (bond_of (cond b (Owner dfrom) Bystander) h.role) row.term h.term (v.written q).applied)
+        (eq-eqb target q granted.0) (fits q lives)) wants;
+    source = λ q has. tt;
+    moved = tt;
+    opens_not = refl;
+    lineage = λ members. tt;
+    ready = λ h q place. tt;
+    transfer = λ h kept q transfer. tt;
+    joined = λ h applied q told. told.0;
+    rebuilt = λ q ends report none. absurd none;
+    read = λ to read. tt;
+    copy = λ x copy. tt;
+  }
 
--- ---- phases
+  -- a row that may take another lineage has passed
+  pub has_passed : (phase : Phase) (handed : NumberMap Handed) → MayTakeLineage v row phase handed → HasPassed v row row.phase phase
+  has_passed phase handed may = passes_by Passed row.phase phase begun moved may.passes may.at_term (λ q lives. may.fits q (inl lives))
 
-pub formed_still : (old new : Phase) → PassesOn old new → IsFormed old → IsFormed new
-formed_still old new =
-    passes_by (λ was is. IsFormed was → IsFormed is) old new (λ source sfrom target dfrom formed. formed) (λ source sfrom target dfrom formed. tt)
+-- a member of its lineage now has its range: it was one, or keeps its term
+pub member_range : (v : View) (row : Row) (phase : Phase) → SoundView v → Contains v.rows row → HasPassed v row row.phase phase → (q : ℕ) → (is_member (lineage_of row.phase) q ≡ true → (v.handovers q row.tablet).range ≡ row.range) → is_member (lineage_of phase) q ≡ true → (v.handovers q row.tablet).range ≡ row.range
+member_range v row phase sound has passed q was inside = ⊎_elim was (range_at v sound row has q) (passed.member q inside)
 
--- a master that is named was named
-pub named_before : (old new : Phase) (master : ℕ) → PassesOn old new → names new master ≡ true → names old master ≡ true
-named_before old new master =
-    passes_by (λ was is. names is master ≡ true → names was master ≡ true) old new (λ source sfrom target dfrom there. there)
-    (λ source sfrom target dfrom there. either (eqb source master) (eqb target master) there)
-  where
-    either : (a b : Bool) → b ≡ true → (a || b) ≡ true
-    either true b is = refl
-    either false b is = is
-
-pub source_stays : (old new : Phase) (master : ℕ) → PassesOn old new → HasSource old master → HasSource new master
-source_stays old new master =
-    passes_by (λ was is. HasSource was master → HasSource is master) old new (λ source sfrom target dfrom has. has)
-    (λ source sfrom target dfrom has. tt)
-
-pub has_moved : (old new : Phase) → PassesOn old new → IsMovingOrOwned new
-has_moved old new =
-    passes_by (λ was is. IsMovingOrOwned is) old new (λ source sfrom target dfrom. tt) (λ source sfrom target dfrom. tt)
-
-pub none_opens : (old new : Phase) → PassesOn old new → is_opening new ≡ false
-none_opens old new =
-    passes_by (λ was is. is_opening is ≡ false) old new (λ source sfrom target dfrom. refl) (λ source sfrom target dfrom. refl)
-
-pub none_owned : (old new : Phase) (master : ℕ) → PassesOn old new → IsOwnedBy old master → ⊥
-none_owned old new master =
-    passes_by (λ was is. IsOwnedBy was master → ⊥) old new (λ source sfrom target dfrom owned. owned)
-    (λ source sfrom target dfrom owned. owned)
-
-pub none_released : (old new : Phase) (master : ℕ) → PassesOn old new → IsOwnedByOther old master → ⊥
-none_released old new master =
-    passes_by (λ was is. IsOwnedByOther was master → ⊥) old new (λ source sfrom target dfrom owned. owned)
-    (λ source sfrom target dfrom owned. owned)
-
+-- no living master rebuilt it
 pub none_rebuilt_by : (old new : Phase) (master : ℕ) → PassesOn old new → IsRebuiltBy old master → ⊥
 none_rebuilt_by old new master =
     passes_by (λ was is. IsRebuiltBy was master → ⊥) old new (λ source sfrom target dfrom by. by) (λ source sfrom target dfrom by. by)
@@ -157,54 +187,3 @@ pub never_rebuilt : (old new : Phase) → PassesOn old new → (lineage : List M
 never_rebuilt old new =
     passes_by (λ was is. (lineage : List Member) (to : ℕ) → was ≡ Rebuilding lineage to → ⊥) old new
     (λ source sfrom target dfrom lineage to is. absurd (cc is)) (λ source sfrom target dfrom lineage to is. absurd (cc is))
-
--- ---- what messages say
-
-pub ready_goes : (old new : Phase) (handover : Handover) (term master place : ℕ) → PassesOn old new → ReadyIn new handover term master place
-ready_goes old new handover term master place =
-    passes_by (λ was is. ReadyIn is handover term master place) old new (λ source sfrom target dfrom. tt) (λ source sfrom target dfrom. tt)
-
-pub transfer_goes : (old new : Phase) (handover : Handover) (completions : Completions) (term master : ℕ) (transfer : Transfer) → PassesOn old new → TransferIn new handover completions term master transfer
-transfer_goes old new handover completions term master transfer =
-    passes_by (λ was is. TransferIn is handover completions term master transfer) old new (λ source sfrom target dfrom. tt)
-    (λ source sfrom target dfrom. tt)
-
-pub joined_goes : (old new : Phase) (handover : Handover) (applied term master : ℕ) → PassesOn old new → JoinedIn old handover applied term master → JoinedIn new handover applied term master
-joined_goes old new handover applied term master =
-    passes_by (λ was is. JoinedIn was handover applied term master → JoinedIn is handover applied term master) old new
-    (λ source sfrom target dfrom told. absurd told) (λ source sfrom target dfrom told. told.0)
-
-pub none_rebuilt : (old new : Phase) (handover : Handover) (ends : List Ended) (applied term master : ℕ) (rebuilt : Rebuilt) → PassesOn old new → RebuiltIn old handover ends applied term master rebuilt → ⊥
-none_rebuilt old new handover ends applied term master rebuilt =
-    passes_by (λ was is. RebuiltIn was handover ends applied term master rebuilt → ⊥) old new
-    (λ source sfrom target dfrom told. told) (λ source sfrom target dfrom told. told)
-
-pub any_lineage : (old new : Phase) (lineage : List Member) → PassesOn old new → HasLineage new lineage
-any_lineage old new lineage =
-    passes_by (λ was is. HasLineage is lineage) old new (λ source sfrom target dfrom. tt) (λ source sfrom target dfrom. tt)
-
-pub any_read : (old new : Phase) (live : ℕ → Bool) (receiver : Node) (read : ReadSegment) → PassesOn old new → ReadIn new live receiver read
-any_read old new live receiver read =
-    passes_by (λ was is. ReadIn is live receiver read) old new (λ source sfrom target dfrom. tt) (λ source sfrom target dfrom. tt)
-
-pub any_copy : (row : Row) (old new : Phase) (logs : ℕ → Log) (written : ℕ → Written) (stored : ℕ → Segments) (live : ℕ → Bool) (copy : CopySegment) → PassesOn old new → CopyIn row new logs written stored live copy
-any_copy row old new logs written stored live copy =
-    passes_by (λ was is. CopyIn row is logs written stored live copy) old new (λ source sfrom target dfrom. tt)
-    (λ source sfrom target dfrom. tt)
-
--- an owner does not wait for a grant
-owner_wants : (place term own applied : ℕ) (role : Role) → Holds (bond_of (Owner place) role) term own applied → is_wanting role ≡ true → ⊥
-owner_wants place term own applied (roles.Wanting from) fits wants = fits
-owner_wants place term own applied role fits wants = false≢true wants
-
--- no Grant is taken: one member alone waits for none, and of two the last does not wait where it owns the tablet
-pub none_granted : (old : Phase) (row : Row) (h : Option Handed) (master : ℕ) (handover : Handover) (applied : ℕ) (grant : Grant) → PassesOn old row.phase → RoleFits row master handover applied → is_wanting handover.role ≡ true → GrantIn (lineage_of old) h master grant → ⊥
-none_granted old row h master handover applied grant =
-    passes_by
-    (λ was is. Holds (bond_of (post_of is master) handover.role) row.term handover.term applied → is_wanting handover.role ≡ true
-    → GrantIn (lineage_of was) h master grant → ⊥) old row.phase
-    (λ source sfrom target dfrom fits wants none. none)
-    (λ source sfrom target dfrom fits wants granted.
-    let here : eqb target master ≡ true = eq-eqb target master granted.0 in
-    owner_wants dfrom row.term handover.term applied handover.role
-    (subst (λ (b : Bool). Holds (bond_of (cond b (Owner dfrom) Bystander) handover.role) row.term handover.term applied) here fits) wants)

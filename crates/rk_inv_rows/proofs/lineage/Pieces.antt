@@ -1,14 +1,11 @@
 -- What bears a mark in a log is of a row that is rebuilt: no Joined does, and it counts for no other row.
 use Rattle.std.proofs.Common.{◌≡◌, ℕ, zero, suc, ◌+◌, ◌-◌, ◌≤◌, ◌<◌, Bool, true, false, ◌&&◌, cond, List, [], ◌∷◌, Option, Some, None, refl}
-use Rattle.std.proofs.Common.{sym, ap, subst, ◌∙◌, ⊎_elim, arith, drop, is_some, nat_le, nat_lt, slice_get, take, Contains, leb-true}
-use Rattle.std.proofs.Common.{ltb-true}
+use Rattle.std.proofs.Common.{sym, ap, ◌∙◌, ⊎_elim, arith, drop, is_some, nat_le, nat_lt, slice_get, take, Contains, leb-true, ltb-true}
 use Rattle.rk_inv_base.proofs.Words.{and_parts, false_from_ne_true, false≢true, All-contains, Any-from_list_any, Range, Entry, Joined}
 use Rattle.rk_inv_base.proofs.Words.{number_of, row_of, Row, behind_stands, first_stands, stands_cases, is_marked, unmarked, counting}
 use Rattle.rk_inv_base.proofs.Words.{counts, Mark, HasOwnRange, IsOfRange, marked_entries, View, SoundView}
+use Rattle.rk_inv_rows.proofs.Words.{in_piece, found_stands, row_in}
 use Rattle.rk_entry.specs.declared.entry.Entry.TheVariants as entries
-use Rattle.rk_inv_base.proofs.logs.MarkedApart.{in_piece}
-use Rattle.rk_inv_base.proofs.rows.Serving.{found_stands}
-use Rattle.rk_inv_base.proofs.views.ByRows.{row_in}
 
 -- an entry is of the range of the row of a tablet
 pub record IsOfRow (rows : List Row) (tablet : ℕ) (entry : Entry) : Type 0 where
@@ -120,13 +117,12 @@ taken_counts range marks place n list none = same_counts range marks place (take
 -- what is left without a mark stood there
 pub unmarked_stood : (marks : List Mark) (place : ℕ) (list : List Entry) (entry : Entry) → Contains (unmarked marks place list) entry → Contains list entry
 unmarked_stood marks place [] entry stands = stands
-unmarked_stood marks place (first ∷ list) entry stands =
-    go (is_marked marks place) (unmarked_stood marks (suc place) list entry) stands
+unmarked_stood marks place (first ∷ list) entry stands = go (is_marked marks place) (unmarked_stood marks (suc place) list entry) stands
   where
     go : (b : Bool) → (Contains (unmarked marks (suc place) list) entry → Contains list entry) → Contains (cond b (unmarked marks (suc place) list) (first ∷ unmarked marks (suc place) list)) entry → Contains (first ∷ list) entry
     go true behind stands = behind_stands first list entry (behind stands)
     go false behind stands =
-        ⊎_elim (λ (is : first ≡ entry). subst (Contains (first ∷ list)) is (first_stands first list))
+        ⊎_elim (λ (is : first ≡ entry). rw (← is) (first_stands first list))
         (λ (later : Contains (unmarked marks (suc place) list) entry).
         behind_stands first list entry (behind later))
         (stands_cases first (unmarked marks (suc place) list) entry stands)
@@ -137,10 +133,7 @@ unmarked_stands marks place k [] entry at free = absurd (cc at)
 unmarked_stands marks place zero (first ∷ list) entry at free =
     let here : place + 0 ≡ place = omega arith in
     let is : first ≡ entry = cc at in
-    subst
-    (λ (b : Bool). Contains (cond b (unmarked marks (suc place) list) (first ∷ unmarked marks (suc place) list)) entry)
-    (sym (ap (is_marked marks) (sym here) ∙ free))
-    (subst (Contains (first ∷ unmarked marks (suc place) list)) is (first_stands first (unmarked marks (suc place) list)))
+    rw (ap (is_marked marks) (sym here) ∙ free, ← is) (first_stands first (unmarked marks (suc place) list))
 unmarked_stands marks place (suc k) (first ∷ list) entry at free =
     let there : place + suc k ≡ suc place + k = omega arith in
     let later = unmarked_stands marks (suc place) k list entry at (ap (is_marked marks) (sym there) ∙ free) in

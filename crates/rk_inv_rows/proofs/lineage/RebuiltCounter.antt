@@ -6,11 +6,8 @@ use Rattle.rk_inv_base.proofs.Words.{Ended, Held, Member, Entry, Owned, Row, new
 use Rattle.rk_inv_base.proofs.Words.{stands_cases, newest_items_are, newest_items, items_of, Gather, by_member, is_of_lineage, material_by}
 use Rattle.rk_inv_base.proofs.Words.{as_entries, copies_of, floor_by, floor_of, has_version, merge, member_material, member_truth, Merged}
 use Rattle.rk_inv_base.proofs.Words.{IsNext, MayTakeRebuilt, row_at, closing_carried, View, rests, truths, SoundView}
+use Rattle.rk_inv_rows.proofs.Words.{member as member_at, floor_above, floor_rises, filter_from, marks_taken}
 use Rattle.rk_entry.specs.declared.entry.Entry.TheVariants as entries
-use Rattle.rk_tablet_map.specs.Phase.{member as member_at}
-use Rattle.rk_inv_base.proofs.logs.Floors.{floor_above, floor_rises}
-use Rattle.rk_inv_base.proofs.calls.Records.{filter_from}
-use Rattle.rk_inv_rows.specs.lineage.Small.{marks_taken}
 use Rattle.rk_inv_rows.proofs.lineage.Among.{to_flat}
 use Rattle.rk_inv_rows.proofs.lineage.FloorsOf.{floor_within, one_within}
 use Rattle.rk_inv_rows.proofs.lineage.RebuiltMaterial.{merged_is, now_done, own_done, truth_from}
@@ -18,7 +15,7 @@ use Rattle.rk_inv_rows.proofs.lineage.RebuiltMaterial.{merged_is, now_done, own_
 mapped_stands : {X Y : Type 0} (f : X → Y) (xs : List X) (x : X) → Contains xs x → Contains (map f xs) (f x)
 mapped_stands f [] x stands = absurd (none_stands x stands)
 mapped_stands {X} {Y} f (y ∷ xs) x stands =
-    ⊎_elim (λ (is : y ≡ x). subst (Contains (f y ∷ map f xs)) (ap f is) (first_stands (f y) (map f xs)))
+    ⊎_elim (λ (is : y ≡ x). rw (← ap f is) (first_stands (f y) (map f xs)))
     (λ (behind : Contains xs x). behind_stands (f y) (map f xs) (f x) (mapped_stands f xs x behind))
     (stands_cases y xs x stands)
 
@@ -55,7 +52,7 @@ copies_within bound (item ∷ items) entry least each stands =
     ⊎_elim
     (λ (is : entries.Held item ≡ entry).
     let less = each item (first_stands item items) in
-    subst (λ (e : Entry). floor_by 1 e ≤ bound) is (omega (arith, less, least)))
+    rw (← is) (omega (arith, less, least)))
     (λ (behind : Contains (as_entries items) entry).
     copies_within bound items entry least (λ x there. each x (behind_stands item items x there)) behind)
     (stands_cases (entries.Held item) (as_entries items) entry stands)
@@ -99,7 +96,7 @@ module _ (v : View) (row : Row) (lineage : List Member) (to place : ℕ) (ends :
       (λ (last : Contains (closing_carried (v.handovers to row.tablet) (merge own (by_member gather own)) ∷ []) entry).
       ⊎_elim
       (λ (is : closing_carried (v.handovers to row.tablet) (merge own (by_member gather own)) ≡ entry).
-      let low = least in subst (λ (e : Entry). floor_by 1 e ≤ floor_of all) is (omega (arith, low)))
+      let low = least in rw (← is) (omega (arith, low)))
       (λ (none : Contains [] entry). absurd (none_stands entry none))
       (stands_cases (closing_carried (v.handovers to row.tablet) (merge own (by_member gather own))) [] entry last))
       (Contains-append_cases (as_entries (copies_of (items_of own) (items_of all)))
@@ -122,9 +119,7 @@ module _ (v : View) (row : Row) (lineage : List Member) (to place : ℕ) (ends :
   next_now =
       let done = now_done v row lineage to place ends sound some may in
       let truth : List Entry = truths now (row_at row row.term (Owned to place)) in
-      subst (λ (rest : List Entry). IsNext (truth ++ rest) counter) (sym done.rest)
-      (subst (λ (n : ℕ). floor_of (truth ++ []) ≤ n) (sym counter_is)
-      (floor_within (floor_of all) (truth ++ []) least
+      rw (done.rest, counter_is) (floor_within (floor_of all) (truth ++ []) least
       (λ entry stands.
       ⊎_elim
       (λ (first : Contains truth entry).
@@ -132,4 +127,4 @@ module _ (v : View) (row : Row) (lineage : List Member) (to place : ℕ) (ends :
       (λ (none : Contains [] entry). absurd (none_stands entry none))
       (Contains-append_cases (member_truth now.written row.range own_member) [] entry first))
       (λ (none : Contains [] entry). absurd (none_stands entry none))
-      (Contains-append_cases truth [] entry stands))))
+      (Contains-append_cases truth [] entry stands)))

@@ -10,21 +10,17 @@ use Rattle.rk_inv_base.proofs.Words.{as_entries, counting, counts, named, named_
 use Rattle.rk_inv_base.proofs.Words.{applied_entries, member_material, member_truth, Mark, HasRebuilt, MayTakeRebuilt, HasOwnRange}
 use Rattle.rk_inv_base.proofs.Words.{IsMergedOf, IsOfRange, IsPieceOf, MarkFits, RowIsRebuilt, closing_carried, merged_place, IsDone}
 use Rattle.rk_inv_base.proofs.Words.{HandoverFits, View, truths, SoundView}
+use Rattle.rk_inv_rows.proofs.Words.{member as member_at, in_one_row, one_precedes, behind_at, in_piece, place_of, Misses, none_touches}
+use Rattle.rk_inv_rows.proofs.Words.{any_kept, filter_from, filter_stands, marks_taken, SoundRow, row_in, kept_stands}
 use Rattle.rk_entry.specs.declared.entry.Entry.TheVariants as entries
 use Rattle.rk_transfer.specs.declared.role.Role.TheVariants as roles
-use Rattle.rk_tablet_map.specs.Phase.{member as member_at}
-use Rattle.rk_inv_base.proofs.rows.Apart.{in_one_row, one_precedes}
-use Rattle.rk_inv_base.proofs.logs.InRest.{behind_at}
-use Rattle.rk_inv_base.proofs.logs.MarkedApart.{in_piece, place_of}
-use Rattle.rk_inv_base.proofs.logs.Missed.{Misses, none_touches}
-use Rattle.rk_inv_base.proofs.views.Needed.{any_kept}
-use Rattle.rk_inv_base.proofs.calls.Records.{filter_from, filter_stands}
-use Rattle.rk_inv_rows.specs.lineage.Small.{marks_taken}
-use Rattle.rk_inv_rows.proofs.lineage.Among.{flat_among, from_flat, kept_among, kept_passes, later_all, number_from, number_to, place_in, taken_at, taken_from, taken_within, to_flat}
+use Rattle.rk_inv_rows.proofs.lineage.Among.{flat_among, from_flat, kept_among, later_all, number_from, number_to, place_in, taken_at}
+use Rattle.rk_inv_rows.proofs.lineage.Among.{taken_from, taken_within, to_flat}
 use Rattle.rk_inv_rows.proofs.lineage.MarksTaken.{taken_by}
 use Rattle.rk_inv_rows.proofs.lineage.Pieces.{IsCovered, covered_by, covered_of, unmarked_place, unmarked_stands}
 use Rattle.rk_inv_rows.proofs.lineage.TargetMaterial.{has_itself, meets_itself}
 use Rattle.rk_inv_rows.proofs.lineage.Untouched.{done_settled, each_misses}
+use Rattle.rk_inv_rows.proofs.lineage.Histories.{range_at}
 
 -- a role has rebuilt a tablet, with its closing entry at a place that is applied
 pub record RebuiltAt (role : Role) (applied from : ℕ) : Type 0 where
@@ -48,8 +44,8 @@ module _ (v : View) (row : Row) (lineage : List Member) (to place : ℕ) (ends :
   own_member = member_at to place
 
   -- what is known of the row
-  in_row : (P : Row → Type 0) → All P v.rows → P row
-  in_row P all = All-contains P v.rows row all may.has_row
+  row_was : SoundRow v row
+  row_was = row_in v sound row may.has_row
 
   in_phase : (P : Phase → Type 0) → P row.phase → P (Rebuilding lineage to)
   in_phase P = subst P may.phase_is
@@ -72,23 +68,18 @@ module _ (v : View) (row : Row) (lineage : List Member) (to place : ℕ) (ends :
       let fit =
       in_phase
       (λ p. RowIsRebuilt row p (truths v row) v.logs v.written v.stored v.handovers v.completions v.gathers v.merged v.records v.live)
-      (in_row
-      (λ r. RowIsRebuilt r r.phase (truths v r) v.logs v.written v.stored v.handovers v.completions v.gathers v.merged v.records v.live)
-      sound.rebuilds.rebuilt) in
+      row_was.rebuilt in
       in_role RebuiltBy (fit.0 may.term_is).merged
 
   abbrev piece : IsPieceOf row.tablet place builder merged_is.merged w at.entry
   piece = merged_is.piece
-
-  range_is : builder.range ≡ row.range
-  range_is = (in_row (λ r. HandoverFits r row.tablet builder) (sound.terms.kept to row.tablet)).exact refl may.term_is
 
   -- nothing of the range stands behind what is applied
   pub settled : list_any (touches row.range) (drop w.applied w.entries) ≡ false
   settled =
       let missed : All (Misses row.range) (drop (suc at.entry) w.entries) =
       each_misses row.range (drop (suc at.entry) w.entries)
-      (subst (λ (range : Range). list_any (touches range) (drop (suc at.entry) w.entries) ≡ false) range_is piece.last) in
+      (subst (λ (range : Range). list_any (touches range) (drop (suc at.entry) w.entries) ≡ false) (range_at v sound row may.has_row to may.term_is) piece.last) in
       let less : at.entry < w.applied = at.within in
       none_touches row.range (drop w.applied w.entries)
       (later_all (Misses row.range) (suc at.entry) w.applied w.entries (omega (arith, less)) missed)
@@ -99,9 +90,7 @@ module _ (v : View) (row : Row) (lineage : List Member) (to place : ℕ) (ends :
       let fit =
       in_phase
       (λ p. RowIsRebuilt row p (truths v row) v.logs v.written v.stored v.handovers v.completions v.gathers v.merged v.records v.live)
-      (in_row
-      (λ r. RowIsRebuilt r r.phase (truths v r) v.logs v.written v.stored v.handovers v.completions v.gathers v.merged v.records v.live)
-      sound.rebuilds.rebuilt) in
+      row_was.rebuilt in
       in_role (λ r. own_place r ≤ length w.entries) (fit.0 may.term_is).placed
 
   -- a mark of the tablet covers what is applied alone
@@ -137,11 +126,10 @@ module _ (v : View) (row : Row) (lineage : List Member) (to place : ℕ) (ends :
   piece_of_row entry stands =
       let own : HasOwnRange row.range w.entries mark =
       All-contains (λ m. m.tablet ≡ row.tablet → HasOwnRange row.range w.entries m) w.marks mark
-      (in_row (λ r. All (λ m. m.tablet ≡ r.tablet → HasOwnRange r.range w.entries m) w.marks) (sound.rebuilds.pieces to)) piece.marked
+      (row_was.pieces to) piece.marked
       piece.tablet_is in
       let all : All (IsOfRange row.range) pieces =
-      subst (All (IsOfRange row.range)) piece.stands
-      (subst (λ (n : ℕ). All (IsOfRange row.range) (take (n - mark.first) (drop mark.first w.entries))) piece.past_is own) in
+      rw (← piece.stands, ← piece.past_is) own in
       All-contains (IsOfRange row.range) pieces entry all stands
 
   -- so it counts, and names no side segment
@@ -178,19 +166,16 @@ module _ (v : View) (row : Row) (lineage : List Member) (to place : ℕ) (ends :
       taken_from w.applied w.entries (place + k) entry (place_of (applied_entries w) place k (place + k) entry refl stands)
 
   still : (n : ℕ) → is_marked new_marks n ≡ true → is_marked old_marks n ≡ true
-  still n =
-      any_kept (λ m. nat_le m.first n && nat_lt n m.past) (λ m. not (is_mark_of row.tablet row.term m)) old_marks
+  still n = any_kept (λ m. nat_le m.first n && nat_lt n m.past) (λ m. not (is_mark_of row.tablet row.term m)) old_marks
 
   -- where a mark of the tablet covered an entry, that is one of the piece
   covered_piece : (n : ℕ) (entry : Entry) → slice_get w.entries n ≡ Some entry → (covered : IsCovered old_marks n) → covered.mark.tablet ≡ row.tablet → Contains pieces entry
   covered_piece n entry stands covered tablet =
       let is : covered.mark ≡ mark =
       All-contains (λ other. other.tablet ≡ row.tablet → other ≡ mark) old_marks covered.mark piece.alone covered.stands tablet in
-      let first : mark.first ≤ n = subst (λ (m : Mark). m.first ≤ n) is covered.first in
-      let past : n < mark.past = subst (λ (m : Mark). n < m.past) is covered.past in
-      subst (λ (l : List Entry). Contains l entry) piece.stands
-      (subst (λ (p : ℕ). Contains (take (p - mark.first) (drop mark.first w.entries)) entry) piece.past_is
-      (in_piece w.entries mark.first mark.past n entry first past stands))
+      let first : mark.first ≤ n = rw (← is) covered.first in
+      let past : n < mark.past = rw (← is) covered.past in
+      rw (← piece.stands, ← piece.past_is) (in_piece w.entries mark.first mark.past n entry first past stands)
 
   from_either : (entry : Entry) → Contains free_now entry → Contains free_before entry ⊎ Contains pieces entry
   from_either entry stands =
@@ -227,10 +212,10 @@ module _ (v : View) (row : Row) (lineage : List Member) (to place : ℕ) (ends :
   -- a mark that is left is of another tablet
   left_apart : (m : Mark) → Contains new_marks m → m.tablet ≡ row.tablet → ⊥
   left_apart m stands its =
-      let kept = kept_passes (λ m. not (is_mark_of row.tablet row.term m)) old_marks m stands in
+      let kept = (kept_stands (λ m. not (is_mark_of row.tablet row.term m)) old_marks m stands).1 in
       let fits : MarkFits row to builder (v.live to) w m =
       All-contains (λ m. m.tablet ≡ row.tablet → MarkFits row to builder (v.live to) w m) old_marks m
-      (in_row (λ r. All (λ m. m.tablet ≡ r.tablet → MarkFits r to (v.handovers to r.tablet) (v.live to) w m) w.marks) (sound.rebuilds.marks to))
+      (row_was.marks to)
       (filter_from (λ m. not (is_mark_of row.tablet row.term m)) old_marks m stands) its in
       let both : is_mark_of row.tablet row.term m ≡ true =
       and_from (eqb m.tablet row.tablet) (nat_le m.term row.term) (eq-eqb m.tablet row.tablet its) (le-leb m.term row.term fits.within) in
@@ -256,7 +241,7 @@ module _ (v : View) (row : Row) (lineage : List Member) (to place : ℕ) (ends :
   piece_stands : (entry : Entry) → Contains pieces entry → Contains free_now entry
   piece_stands entry inside =
       let there : Contains (take (suc at.entry - mark.first) (drop mark.first w.entries)) entry =
-      subst (λ (l : List Entry). Contains l entry) (sym piece.stands) inside in
+      rw piece.stands inside in
       let found = place_in (take (suc at.entry - mark.first) (drop mark.first w.entries)) entry there in
       let j : ℕ = found.0 in
       let within : j < suc at.entry - mark.first = taken_within (suc at.entry - mark.first) (drop mark.first w.entries) j entry found.1 in
@@ -310,7 +295,7 @@ module _ (v : View) (row : Row) (lineage : List Member) (to place : ℕ) (ends :
       (λ (mine : Contains free_before entry).
       inl
       (Contains-append_left (counting row.range free_before) (counting row.range (sides_of free_before)) entry
-      (filter_stands (counts row.range) free_before entry mine (kept_passes (counts row.range) free_now entry main))))
+      (filter_stands (counts row.range) free_before entry mine (kept_stands (counts row.range) free_now entry main).1)))
       (λ (inside : Contains pieces entry). inr inside)
       (from_either entry (filter_from (counts row.range) free_now entry main)))
       (λ (side : Contains (counting row.range (sides_of free_now)) entry).

@@ -1,53 +1,40 @@
 -- A view stays sound when the master that rebuilt a row owns it, where the records that are made of what it told go on lawfully.
 use Rattle.std.proofs.Common.{◌≡◌, ℕ, ◌≤◌, ◌<◌, Bool, true, false, cond, ◌&&◌, ◌||◌, eqb, List, [], ◌∷◌, ◌++◌, Option, Some, refl, sym, ap}
 use Rattle.std.proofs.Common.{subst, ◌∙◌, ⊎_elim, arith, inl, inr, All, drop, is_some, length, max, nat_le, nat_lt, not, ◌⊎◌, Contains}
-use Rattle.std.proofs.Common.{eq-eqb, eqb-true, le-leb}
+use Rattle.std.proofs.Common.{eq-eqb, eqb-true, le-leb, slice_index_or}
 use Rattle.rk_inv_base.proofs.Words.{and_from, cases_Bool, false_from_ne_true, false≢true, All-append, All-cons, All-contains, All-filter}
 use Rattle.rk_inv_base.proofs.Words.{All-nil, All-weaker, IfSome_then, list_any, hash_of, has, Call, Ended, Placed, Member, Node, Range}
 use Rattle.rk_inv_base.proofs.Words.{is_at_parts, Map, is_at, map_after, map_with, last_version, is_mutation, Entry, ends_of, Role}
 use Rattle.rk_inv_base.proofs.Words.{lawful_turned, lineage_of, changed_rows, is_covered, row_of, Phase, Owned, Rebuilding, Row, Body}
-use Rattle.rk_inv_base.proofs.Words.{base_map, told, is_member, last_of, is_mark_of, is_marked, touches, of_key, names, has_key, Mark}
+use Rattle.rk_inv_base.proofs.Words.{base_map, told, is_member, last_of, is_mark_of, is_marked, touches, of_key, has_key, Mark}
 use Rattle.rk_inv_base.proofs.Words.{AreHandedOver, IsKnown, IsReached, IsStagedEnd, ReachAll, TellAll, is_record_in, AreAboveMap, IsNext}
 use Rattle.rk_inv_base.proofs.Words.{handed_by, handed_for_grant, target_truth, HasRebuilt, IsRebuiltBy, HasSome, MayTakeRebuilt, row_at}
 use Rattle.rk_inv_base.proofs.Words.{Bystander, FormerMember, Owner, Post, Holds, StillCounts, bond_of, post_of, rebuilder_post, speaks}
-use Rattle.rk_inv_base.proofs.Words.{HasOwnRange, MarkFits, RowIsRebuilt, IsBare, wanted_place, EachHasCall, OnlyIsUnnamed, Waits, IsPlaced}
-use Rattle.rk_inv_base.proofs.Words.{HasItems, has_all_items, HandoverFits, View, truths, rests, SoundView, CoverOf, LogsOf}
-use Rattle.rk_entry.specs.declared.entry.Entry.TheVariants as entries
+use Rattle.rk_inv_base.proofs.Words.{HasOwnRange, MarkFits, IsBare, wanted_place, EachHasCall, OnlyIsUnnamed, Waits, IsPlaced, HasItems}
+use Rattle.rk_inv_base.proofs.Words.{has_all_items, HandoverFits, View, truths, rests, SoundView, CoverOf, LogsOf, RowIsRebuilt}
+use Rattle.rk_inv_base.proofs.Words.{map_after-append, cond_both}
 use Rattle.rk_transfer.specs.declared.role.Role.TheVariants as roles
-use Rattle.rk_tablet_map.specs.Phase.{member as member_at}
-use Rattle.rk_tablet_map.specs.Rows.{turned as changed}
-use Rattle.rk_inv_base.proofs.rows.Apart.{in_one_row, same_number}
-use Rattle.rk_inv_base.proofs.views.Cover.{covered_by}
-use Rattle.rk_inv_base.proofs.pulls.Joining.{differ}
-use Rattle.rk_inv_base.proofs.views.Lists.{all_by, all_in}
-use Rattle.rk_inv_base.proofs.logs.Missed.{Misses, joined_none, map_elsewhere}
-use Rattle.rk_inv_base.proofs.calls.MoreRecords.{known_still, says_still}
-use Rattle.rk_inv_base.proofs.views.Needed.{any_kept}
+use Rattle.rk_inv_rows.proofs.Words.{member as member_at, turned as changed, in_one_row, same_number, covered_by, differ, all_by, all_in}
+use Rattle.rk_inv_rows.proofs.Words.{Misses, joined_none, map_elsewhere, known_still, says_still, any_kept, filter_from, all_turned}
+use Rattle.rk_inv_rows.proofs.Words.{stands_found, stands_still, TellHistory, MayOwnRebuilt, made_of, rebuilt_taken, cover_replaced}
+use Rattle.rk_inv_rows.proofs.Words.{covered_replaced, known_replaced, none_for_owned, row_in, IsNextOf, SaysIn, SoundBeside, SoundRow}
+use Rattle.rk_inv_rows.proofs.Words.{each_row, view_by_rows, kept_stands}
 use Rattle.rk_inv_base.proofs.views.Places.{behind_any}
 use Rattle.rk_inv_base.proofs.calls.Rebuilders.{last_member}
-use Rattle.rk_inv_base.proofs.calls.Records.{filter_from}
 use Rattle.rk_inv_base.proofs.calls.Rest.{own_touches}
 use Rattle.rk_inv_base.proofs.rows.Speakers.{quiet_says}
-use Rattle.rk_inv_base.proofs.rows.TurnedRows.{all_turned, stands_found, stands_still}
-use Rattle.rk_inv_rows.specs.lineage.Lineages.{TellHistory}
-use Rattle.rk_inv_rows.specs.lineage.Rebuilt.{MayOwnRebuilt, made_of}
-use Rattle.rk_inv_rows.specs.lineage.Small.{rebuilt_taken}
-use Rattle.rk_inv_rows.proofs.lineage.Among.{kept_passes, later_all}
+use Rattle.rk_inv_rows.proofs.lineage.Among.{later_all}
 use Rattle.rk_inv_rows.proofs.lineage.MadeRecords.{made_asked, made_rising, made_seen}
-use Rattle.rk_inv_rows.proofs.lineage.MarksBeside.{done_beside, items_beside, marks_beside, members_beside, named_beside, pieces_beside, rebuilt_beside, says_beside, target_beside}
+use Rattle.rk_inv_rows.proofs.lineage.MarksBeside.{done_beside, items_beside, marks_beside, members_beside, named_beside, pieces_beside}
+use Rattle.rk_inv_rows.proofs.lineage.MarksBeside.{rebuilt_beside, says_beside, target_beside}
 use Rattle.rk_inv_rows.proofs.lineage.MarksTaken.{rests_kept, taken_by, truths_kept}
 use Rattle.rk_inv_base.proofs.rows.OtherRows.{all_others}
-use Rattle.rk_inv_base.proofs.rows.RowReplaced.{cover_replaced, covered_replaced, known_replaced}
-use Rattle.rk_inv_base.proofs.views.ByRows.{none_for_owned, row_in, IsNextOf, SaysIn, SoundBeside, SoundRow, each_row, view_by_rows}
 use Rattle.rk_inv_rows.proofs.lineage.RebuiltCounter.{next_now}
 use Rattle.rk_inv_rows.proofs.lineage.RebuiltMaterial.{placed_within, settled, taken_applied}
-use Rattle.rk_inv_rows.proofs.lineage.RebuiltSays.{member_here, says_owned}
+use Rattle.rk_inv_rows.proofs.lineage.LineageSays.{says}
+use Rattle.rk_inv_rows.proofs.lineage.RebuiltSays.{member_here, rebuilt_passes}
 use Rattle.rk_inv_rows.proofs.lineage.Untouched.{each_misses}
-
--- a map after two histories, one after the other
-map_appended : (start : Map) (first second : List Placed) → map_after start (first ++ second) ≡ map_after (map_after start first) second
-map_appended start [] second = refl
-map_appended start (placed ∷ first) second = map_appended (map_with start placed) first second
+use Rattle.rk_inv_rows.proofs.lineage.Passing.{HasPassed, member_range}
 
 -- a master that has rebuilt a tablet fits the post of its owner
 rebuilt_owns : (role : Role) (place term own applied : ℕ) → HasRebuilt role applied place → own ≡ term → Holds (bond_of (Owner place) role) term own applied
@@ -89,6 +76,9 @@ module _ (v : View) (row : Row) (lineage : List Member) (to place : ℕ) (ends :
   was : SoundRow v row
   was = row_in v sound row has_row
 
+  passed : HasPassed v row row.phase owned
+  passed = rebuilt_passes v row lineage to place ends sound taken
+
   truth_as : (r : Row) → Contains v.rows r → (r.tablet ≡ row.tablet → ⊥) → truths now r ≡ truths v r
   truth_as r has unlike = truths_kept v row sound has_row r has unlike (some_of r has)
 
@@ -99,22 +89,13 @@ module _ (v : View) (row : Row) (lineage : List Member) (to place : ℕ) (ends :
   Tells r truth rest = TellHistory v.base r.range truth rest journal v.asked
 
   history : (r : Row) → Contains v.rows r → (r.tablet ≡ row.tablet → ⊥) → Tells r (truths now r) (rests now r)
-  history r has unlike =
-      subst (λ (t : List Entry). Tells r t (rests now r)) (sym (truth_as r has unlike))
-      (subst (Tells r (truths v r)) (sym (rest_as r has unlike)) (may.others r has unlike))
+  history r has unlike = rw (truth_as r has unlike, rest_as r has unlike) (may.others r has unlike)
 
   covered : (table hash : ℕ) → is_covered now.rows table hash ≡ is_covered v.rows table hash
   covered = covered_replaced v row new sound has_row refl refl
 
   known : (number : ℕ) → is_some (row_of now.rows number) ≡ is_some (row_of v.rows number)
   known = known_replaced v row new sound has_row refl refl
-
-  here_is : (q : ℕ) (P : Bool → Type 0) → (to ≡ q → P true) → P false → P (eqb to q)
-  here_is q P here others = go (eqb to q) refl
-    where
-      go : (b : Bool) → eqb to q ≡ b → P b
-      go true is = here (eqb-true to q is)
-      go false is = others
 
   -- ---- no record is of another row
 
@@ -143,7 +124,7 @@ module _ (v : View) (row : Row) (lineage : List Member) (to place : ℕ) (ends :
   hand_more : (r : Row) → Contains v.rows r → (r.tablet ≡ row.tablet → ⊥) → (l : List Ended) → AreHandedOver v.base r.range v.journal l → AreHandedOver v.base r.range journal l
   hand_more r has unlike l over = record {
     reached = reach_more r has unlike l over.reached;
-    known = All-weaker (IsKnown v.base v.journal) (IsKnown v.base journal) (known_still v.journal made v.base) l over.known;
+    known = All-weaker _ _ (known_still v.journal made v.base) l over.known;
   }
 
   abbrev map_of : List Placed → Map
@@ -151,9 +132,9 @@ module _ (v : View) (row : Row) (lineage : List Member) (to place : ℕ) (ends :
 
   map_as : (r : Row) → Contains v.rows r → (r.tablet ≡ row.tablet → ⊥) → (table : ℕ) (key : List ℕ) → has_key r.range table key ≡ true → map_of journal table key ≡ map_of v.journal table key
   map_as r stood unlike table key inside =
-      ap (λ (m : Map). m table key) (map_appended (base_map v.base) v.journal made)
+      ap (λ (m : Map). m table key) (map_after-append (base_map v.base) v.journal made)
       ∙ map_elsewhere (map_of v.journal) made table key
-      (all_by (λ placed. is_at table key placed ≡ false) made
+      (all_by _ made
       (λ placed stands.
       false_from_ne_true (is_at table key placed)
       (λ at.
@@ -168,10 +149,6 @@ module _ (v : View) (row : Row) (lineage : List Member) (to place : ℕ) (ends :
       omega (arith, below, same)
 
   -- ---- nodes, rows, terms, cover
-
-  named_before : (q : ℕ) → names owned q ≡ true → names row.phase q ≡ true
-  named_before q is =
-      ap (λ (p : Phase). names p q) taken.phase_is ∙ ap (λ (b : Bool). b || is_member lineage q) is
 
   abbrev stays : Mark → Bool
   stays mark = not (is_mark_of row.tablet row.term mark)
@@ -196,7 +173,7 @@ module _ (v : View) (row : Row) (lineage : List Member) (to place : ℕ) (ends :
   -- ---- posts
 
   rebuilt_here : (q : ℕ) → to ≡ q → HasRebuilt (v.handovers q row.tablet).role (v.written q).applied place
-  rebuilt_here q is = subst (λ (m : ℕ). HasRebuilt (v.handovers m row.tablet).role (v.written m).applied place) is taken.rebuilt
+  rebuilt_here q is = rw (← is) taken.rebuilt
 
   term_here : (q : ℕ) → to ≡ q → (v.handovers q row.tablet).term ≡ row.term
   term_here q is = ap (λ (m : ℕ). (v.handovers m row.tablet).term) (sym is) ∙ taken.term_is
@@ -212,8 +189,7 @@ module _ (v : View) (row : Row) (lineage : List Member) (to place : ℕ) (ends :
   fits_by q false false is held = held
 
   fitted : (q : ℕ) → StillCounts (v.live q) (v.handovers q row.tablet).term row.term → FitsPost q (post_of (Rebuilding lineage to) q)
-  fitted q counting =
-      in_phase (λ p. FitsPost q (post_of p q)) (was.fitting q counting)
+  fitted q counting = in_phase (λ p. FitsPost q (post_of p q)) (was.fitting q counting)
 
   fits : (q : ℕ) → StillCounts (v.live q) (v.handovers q row.tablet).term row.term → FitsPost q (post_of owned q)
   fits q counting = fits_by q (eqb to q) (is_member lineage q) refl (fitted q counting)
@@ -241,8 +217,7 @@ module _ (v : View) (row : Row) (lineage : List Member) (to place : ℕ) (ends :
     where
       go : (b : Bool) → eqb to q ≡ b → FitsPost q (cond b (Owner place) Bystander) → speaks (cond b (Owner place) Bystander) (v.handovers q row.tablet) row.term ≡ true → P q
       go true is fit says = subst P (eqb-true to q is) here
-      go false is fit says =
-          absurd (quiet_says Bystander (v.handovers q row.tablet) row.term (v.written q).applied tt fit says)
+      go false is fit says = absurd (quiet_says Bystander (v.handovers q row.tablet) row.term (v.written q).applied tt fit says)
 
   -- a staged end of the row is a record's now
   staged_end : (q n : ℕ) (end : Ended) → Contains (ends_of (v.completions q n)) end → IsStagedEnd v.rows (rests v) q n (v.handovers q n).term end → IsKnown v.base journal end ⊎ IsStagedEnd now.rows (rests now) q n (v.handovers q n).term end
@@ -250,13 +225,12 @@ module _ (v : View) (row : Row) (lineage : List Member) (to place : ℕ) (ends :
       ⊎_elim
       (λ (its : eqb s.row.tablet row.tablet ≡ true).
       let is : s.row ≡ row = same_number v.rows s.row row sound.rows.apart s.stands has_row (eqb-true s.row.tablet row.tablet its) in
-      let by : IsRebuiltBy s.row.phase q = subst (λ (p : Phase). IsRebuiltBy p q) (sym s.rebuilt) refl in
-      let here : to ≡ q = in_phase (λ p. IsRebuiltBy p q) (subst (λ (r : Row). IsRebuiltBy r.phase q) is by) in
+      let by : IsRebuiltBy s.row.phase q = rw s.rebuilt refl in
+      let here : to ≡ q = in_phase (λ p. IsRebuiltBy p q) (rw (← is) by) in
       let number : n ≡ row.tablet = sym s.number ∙ ap (λ (r : Row). r.tablet) is in
       inl
       (All-contains (IsKnown v.base journal) (ends_of (v.completions to row.tablet)) end may.known
-      (subst (λ (m : ℕ). Contains (ends_of (v.completions m row.tablet)) end) (sym here)
-      (subst (λ (m : ℕ). Contains (ends_of (v.completions q m)) end) number stands))))
+      (rw (here, ← number) stands)))
       (λ (other : eqb s.row.tablet row.tablet ≡ false).
       let unlike = differ s.row.tablet row.tablet other in
       inr
@@ -265,7 +239,7 @@ module _ (v : View) (row : Row) (lineage : List Member) (to place : ℕ) (ends :
         stands =
             ⊎_elim (λ (is : s.row ≡ row). absurd (unlike (ap (λ (r : Row). r.tablet) is))) (λ (there : Contains now.rows s.row). there)
             (stands_still v.rows row.tablet row new s.row found s.stands);
-        told = subst (λ (l : List Entry). Contains (told l) end) (sym (rest_as s.row s.stands unlike)) s.told;
+        told = rw (rest_as s.row s.stands unlike) s.told;
         number = s.number;
         rebuilt = s.rebuilt;
         at_term = s.at_term;
@@ -275,9 +249,7 @@ module _ (v : View) (row : Row) (lineage : List Member) (to place : ℕ) (ends :
   -- ---- counters
 
   next_as : (r : Row) → Contains v.rows r → (r.tablet ≡ row.tablet → ⊥) → (number : ℕ) → IsNext (truths v r ++ rests v r) number → IsNext (truths now r ++ rests now r) number
-  next_as r has unlike number next =
-      subst (λ (t : List Entry). IsNext (t ++ rests now r) number) (sym (truth_as r has unlike))
-      (subst (λ (l : List Entry). IsNext (truths v r ++ l) number) (sym (rest_as r has unlike)) next)
+  next_as r has unlike number next = rw (truth_as r has unlike, rest_as r has unlike) next
 
   -- ---- what waits
 
@@ -291,18 +263,17 @@ module _ (v : View) (row : Row) (lineage : List Member) (to place : ℕ) (ends :
   none_waits q n call lives wait is =
       let last : last_of lineage ≡ Some wait.last =
       in_phase (λ p. last_of (lineage_of p) ≡ Some wait.last)
-      (subst (λ (r : Row). last_of (lineage_of r.phase) ≡ Some wait.last) is wait.is_last) in
+      (rw (← is) wait.is_last) in
       let here : to ≡ q =
       eqb-true to q
       (member_here lineage to q (v.handovers q row.tablet).role row.term (v.handovers q row.tablet).term (v.written q).applied
       (last_member lineage wait.last q last wait.here) (fitted q (inl lives))) in
       let touched : touches row.range wait.entry ≡ true =
-      own_touches row.range call wait.entry wait.own (subst (λ (r : Row). has_key r.range call.table call.key ≡ true) is wait.in_row) in
+      own_touches row.range call wait.entry wait.own (rw (← is) wait.in_row) in
       let any : list_any (touches row.range) (drop (v.written q).applied (v.written q).entries) ≡ true =
       behind_any (touches row.range) (v.written q).entries (v.written q).applied n wait.entry wait.behind wait.stands touched in
       let none : list_any (touches row.range) (drop (v.written q).applied (v.written q).entries) ≡ false =
-      subst (λ (m : ℕ). list_any (touches row.range) (drop (v.written m).applied (v.written m).entries) ≡ false) here
-      (settled v row lineage to place ends sound (some_of row has_row) taken) in
+      rw (← here) (settled v row lineage to place ends sound (some_of row has_row) taken) in
       false≢true (sym none ∙ any)
 
   free_still : (q n : ℕ) → is_marked (v.written q).marks n ≡ false → is_marked (now.written q).marks n ≡ false
@@ -342,10 +313,9 @@ module _ (v : View) (row : Row) (lineage : List Member) (to place : ℕ) (ends :
       let fit = mark_of q mark stands its in
       let here : to ≡ q =
       in_phase (λ p. IsRebuiltBy p q)
-      (subst (λ (p : Phase). IsRebuiltBy p q) (sym (fit.by_rebuilder (fit.present lives)).0) refl) in
-      subst (λ (m : ℕ). mark.past ≤ (v.written m).applied) here
-      (taken_applied v row lineage to place ends sound (some_of row has_row) taken mark
-      (subst (λ (m : ℕ). Contains (v.written m).marks mark) (sym here) stands) its)
+      (rw (fit.by_rebuilder (fit.present lives)).0 refl) in
+      rw (← here) (taken_applied v row lineage to place ends sound (some_of row has_row) taken mark
+      (rw here stands) its)
 
   found_calls : (q : ℕ) → v.live q ≡ true → EachHasCall (v.calls q) (v.written q) → EachHasCall (v.calls q) (now.written q)
   found_calls q lives each n entry behind stands is_call free =
@@ -365,9 +335,9 @@ module _ (v : View) (row : Row) (lineage : List Member) (to place : ℕ) (ends :
 
   full : (q : ℕ) → has_all_items (post_of owned q) (v.handovers q row.tablet) row.term ≡ true → HasItems new now.written (v.records q)
   full q =
-      here_is q (λ b. has_all_items (cond b (Owner place) Bystander) (v.handovers q row.tablet) row.term ≡ true → HasItems new now.written (v.records q))
-      (λ here is. subst (λ (m : ℕ). HasItems new now.written (v.records m)) here may.full)
-      (λ none. absurd (false≢true none))
+      cond_both (eqb to q) (Owner place) Bystander
+      (λ post. has_all_items post (v.handovers q row.tablet) row.term ≡ true → HasItems new now.written (v.records q))
+      (λ here is. rw (← eqb-true to q here) may.full) (λ away none. absurd (false≢true none))
 
   bare_as : (q : ℕ) (range : Range) (from : ℕ) → IsBare range from (v.written q) (v.records q) → IsBare range from (now.written q) (v.records q)
   bare_as q range from bare = record { placed = bare.placed; nothing = bare.nothing; empty = bare.empty }
@@ -379,14 +349,14 @@ module _ (v : View) (row : Row) (lineage : List Member) (to place : ℕ) (ends :
       let both : is_mark_of row.tablet row.term mark ≡ true =
       and_from (eqb mark.tablet row.tablet) (nat_le mark.term row.term) (eq-eqb mark.tablet row.tablet its)
       (le-leb mark.term row.term fit.within) in
-      false≢true (ap not (sym both) ∙ kept_passes stays (v.written q).marks mark stands)
+      false≢true (ap not (sym both) ∙ (kept_stands stays (v.written q).marks mark stands).1)
 
   -- ---- the whole
 
   -- what holds of the row
   holds : SoundRow now new
   holds = record {
-    named = λ q is. was.named q (named_before q is);
+    named = λ q is. was.named q (passed.named q is);
     begun = was.begun;
     formed = tt;
     placed =
@@ -394,12 +364,7 @@ module _ (v : View) (row : Row) (lineage : List Member) (to place : ℕ) (ends :
         (placed_within v row lineage to place ends sound (some_of row has_row) taken) (All-nil (IsPlaced now.written));
     sent = λ n m there. let fits = was.sent n m there in record { within = fits.within; below = fits.below };
     fitting = fits;
-    ranged = λ q counting.
-        here_is q (λ b. (b || false) ≡ true → (v.handovers q row.tablet).range ≡ row.range)
-        (λ here inside.
-        (All-contains (λ r. HandoverFits r row.tablet (v.handovers q row.tablet)) v.rows row (sound.terms.kept q row.tablet) has_row).exact
-        refl (term_here q here))
-        (λ none. absurd (false≢true none));
+    ranged = λ q counting. member_range v row owned sound has_row passed q (was.ranged q counting);
     at_term = tt;
     truth = may.history.leaves;
     above = may.history.above;
@@ -434,7 +399,7 @@ module _ (v : View) (row : Row) (lineage : List Member) (to place : ℕ) (ends :
         all_by (λ mark. mark.tablet ≡ row.tablet → HasOwnRange row.range (v.written q).entries mark) (now.written q).marks
         (λ mark stands its. absurd (none_left q mark stands its));
     says = λ n m there.
-        says_as m.from m.to m.body (says_owned v row lineage to place ends sound taken m.from m.to m.body (was.sent n m there) (was.says n m there));
+        says_as m.from m.to m.body (says v row owned v.handed passed m.from m.to m.body (was.sent n m there) (was.says n m there));
   }
     where
       -- what is said of a row that is owned reads no marks
@@ -502,14 +467,13 @@ module _ (v : View) (row : Row) (lineage : List Member) (to place : ℕ) (ends :
     crashed = sound.nodes.crashed;
     left = sound.nodes.left;
     rows_apart = lawful_turned v.rows row.tablet row new found refl refl sound.rows.apart;
-    covered =
-        All-weaker (λ entry. is_covered v.rows entry.call.table (hash_of entry.call.key) ≡ true)
-        (λ entry. is_covered now.rows entry.call.table (hash_of entry.call.key) ≡ true)
-        (λ entry lies. covered entry.call.table (hash_of entry.call.key) ∙ lies) journal
-        (All-append (λ entry. is_covered v.rows entry.call.table (hash_of entry.call.key) ≡ true) v.journal made sound.rows.covered
-        (All-weaker (λ placed. is_record_in row.range placed ≡ true)
-        (λ entry. is_covered v.rows entry.call.table (hash_of entry.call.key) ≡ true)
-        (λ placed inside. covered_by v.rows row placed.call.table (hash_of placed.call.key) has_row inside) made may.records.inside));
+    covered = λ k d within.
+        let call : Call = (slice_index_or journal k d).call in
+        covered call.table (hash_of call.key)
+        ∙ All-append (λ entry. is_covered v.rows entry.call.table (hash_of entry.call.key) ≡ true) v.journal made sound.rows.covered
+        (λ j e stands.
+        let call : Call = (slice_index_or made j e).call in
+        covered_by v.rows row call.table (hash_of call.key) has_row (may.records.inside j e stands)) k d within;
     kept = λ q n.
         all_turned (λ other. HandoverFits other n (v.handovers q n)) v.rows row new row.tablet has_row
         (λ fits. record { within = fits.within; below = fits.below; exact = fits.exact }) (sound.terms.kept q n);

@@ -1,12 +1,12 @@
 -- A lane stays sound when a rebuild is taken, where the records that its ends make go on lawfully.
-use Rattle.std.proofs.Common.{◌≡◌, ℕ, Bool, true, false, cond, ◌&&◌, eqb, List, [], ◌∷◌, ◌++◌, Option, Some, None, refl, sym, ap, subst}
-use Rattle.std.proofs.Common.{◌∙◌, append-nil, append_assoc, filter, fold, not}
-use Rattle.rk_inv_base.proofs.Words.{Ended, Placed, Member, Row, outcome_of, has_record, next_record, Ledger, asked_by, marks_of, with_ends}
-use Rattle.rk_inv_base.proofs.Words.{is_mark_of, World, with_ledger, LastCall, Mark, view, IsSound, SoundView}
+use Rattle.std.proofs.Common.{◌≡◌, ℕ, Bool, true, false, cond, ◌&&◌, eqb, List, [], ◌∷◌, ◌++◌, Option, Some, None, refl, sym, ap, ◌∙◌}
+use Rattle.std.proofs.Common.{append-nil, append_assoc, filter, fold, not, subst}
+use Rattle.rk_inv_base.proofs.Words.{Ended, Placed, Member, Row, outcome_of, has_record, next_record, Ledger, asked_by, with_ends}
+use Rattle.rk_inv_base.proofs.Words.{is_mark_of, World, LastCall, Mark, view, IsSound, SoundView, marks_of, with_ledger}
+use Rattle.rk_inv_rows.proofs.Words.{MayOwnRebuilt, made_by, made_of, rebuilt_taken_in}
 use Rattle.rk_world.specs.Ledger.{with_end, with_end_of, without_marks}
-use Rattle.rk_inv_rows.specs.lineage.Rebuilt.{MayOwnRebuilt, made_by, made_of, rebuilt_taken_in}
-use Rattle.rk_inv_rows.specs.lineage.Small.{row_owned_in}
 use Rattle.rk_inv_rows.proofs.lineage.RebuiltTaken.{rows_rebuilt, view_rebuilt_taken}
+use Rattle.rk_inv_rows.specs.lineage.Small.{row_owned_in}
 
 -- a ledger with this journal
 abbrev with_journal : Ledger → List Placed → Ledger
@@ -41,10 +41,8 @@ kept_either {X} p q (x ∷ xs) = go (p x) (q x) refl refl (kept_either p q xs)
         ap (λ (b : Bool). cond b (x ∷ filter p (filter q xs)) (filter p (filter q xs))) first
         ∙ ap (λ (l : List X). x ∷ l) later
         ∙ sym (ap (λ (b : Bool). cond b (x ∷ filter q (filter p xs)) (filter q (filter p xs))) second)
-    go true false first second later =
-        later ∙ sym (ap (λ (b : Bool). cond b (x ∷ filter q (filter p xs)) (filter q (filter p xs))) second)
-    go false true first second later =
-        ap (λ (b : Bool). cond b (x ∷ filter p (filter q xs)) (filter p (filter q xs))) first ∙ later
+    go true false first second later = later ∙ sym (ap (λ (b : Bool). cond b (x ∷ filter q (filter p xs)) (filter q (filter p xs))) second)
+    go false true first second later = ap (λ (b : Bool). cond b (x ∷ filter p (filter q xs)) (filter p (filter q xs))) first ∙ later
     go false false first second later = later
 
 pub sound_rebuilt_taken : (w : World) (row : Row) (lineage : List Member) (to place : ℕ) (ends : List Ended) → IsSound w → MayOwnRebuilt (view w) row lineage to place ends → IsSound (rebuilt_taken_in w row to place ends)

@@ -1,22 +1,20 @@
 -- A view stays sound when a row moves, once its source is frozen and has told what it hands over, and its target waits at its place.
-use Rattle.std.proofs.Common.{◌≡◌, ℕ, ◌≤◌, Bool, true, false, cond, eqb, List, [], ◌∷◌, ◌++◌, Option, Some, None, refl, sym, ap, subst, ◌∙◌}
-use Rattle.std.proofs.Common.{arith, inl, inr, append-nil, All, IfSome, drop, filter, Contains, flat_map, option_map, eq-eqb, eqb-true}
+use Rattle.std.proofs.Common.{◌≡◌, ℕ, ◌≤◌, Bool, true, false, cond, eqb, List, [], ◌∷◌, ◌++◌, Some, None, refl, sym, ap, subst, ◌∙◌, arith}
+use Rattle.std.proofs.Common.{inl, inr, append-nil, All, IfSome, drop, filter, Contains, flat_map, option_map, eq-eqb, eqb-true}
 use Rattle.rk_inv_base.proofs.Words.{cond_both, false≢true, All-contains, All-cons, All-head, All-nil, All-weaker, list_any, get_other}
-use Rattle.rk_inv_base.proofs.Words.{get_same, NumberMap, get, insert, Ended, Member, Range, map_after, is_mutation, Entry, is_in, ends_of}
-use Rattle.rk_inv_base.proofs.Words.{Handover, Role, lineage_of, Phase, Opening, Moving, Row, base_map, Handed, items_of, first_of, touches}
-use Rattle.rk_inv_base.proofs.Words.{of_key, side_entries, floor_of, is_idle, World, lineage_rest, lineage_truth, member_truth}
-use Rattle.rk_inv_base.proofs.Words.{AreHandedOver, IsReached, ReachAll, TellAll, is_record_in, AreAboveMap, IsNext, beginning_in}
-use Rattle.rk_inv_base.proofs.Words.{is_wanting, target_truth, HasSome, row_at, Bystander, MovingSource, MovingTarget, OpeningSource, Post}
-use Rattle.rk_inv_base.proofs.Words.{ReadyTarget, Holds, StillCounts, bond_of, post_of, speaks, IsBare, is_granted, wanted_place, IsDone}
-use Rattle.rk_inv_base.proofs.Words.{RoleFits, IsPlaced, HasItems, IsTableOf, has_all_items, HandoverFits, View, view, truths, rests}
-use Rattle.rk_inv_base.proofs.Words.{IsSound, SoundView}
+use Rattle.rk_inv_base.proofs.Words.{get_same, NumberMap, get, insert, Member, map_after, is_mutation, Entry, is_in, Handover, Role}
+use Rattle.rk_inv_base.proofs.Words.{lineage_of, Phase, Opening, Moving, Row, base_map, Handed, items_of, first_of, touches, of_key}
+use Rattle.rk_inv_base.proofs.Words.{side_entries, floor_of, is_idle, World, lineage_rest, lineage_truth, member_truth, AreHandedOver}
+use Rattle.rk_inv_base.proofs.Words.{IsReached, ReachAll, TellAll, is_record_in, AreAboveMap, IsNext, beginning_in, is_wanting}
+use Rattle.rk_inv_base.proofs.Words.{target_truth, HasSome, row_at, Bystander, MovingSource, MovingTarget, OpeningSource, Post, ReadyTarget}
+use Rattle.rk_inv_base.proofs.Words.{Holds, StillCounts, bond_of, post_of, speaks, IsBare, is_granted, wanted_place, IsDone, RoleFits}
+use Rattle.rk_inv_base.proofs.Words.{IsPlaced, HasItems, IsTableOf, has_all_items, HandoverFits, View, view, truths, rests, IsSound}
+use Rattle.rk_inv_base.proofs.Words.{SoundView}
+use Rattle.rk_inv_rows.proofs.Words.{member as member_at, MayMove, MayBeLeft, MayTakeLineage, MembersAgree, TellHistory, lineage_taken}
+use Rattle.rk_inv_rows.proofs.Words.{row_moved_in, SoundRow, row_in}
 use Rattle.rk_transfer.specs.declared.role.Role.TheVariants as roles
-use Rattle.rk_tablet_map.specs.Phase.{member as member_at}
-use Rattle.rk_sound.specs.Moves.{MayMove}
-use Rattle.rk_inv_rows.specs.lineage.Lineages.{MayBeLeft, MayTakeLineage, MembersAgree, TellHistory}
-use Rattle.rk_inv_rows.specs.lineage.Small.{lineage_taken, row_moved_in}
 use Rattle.rk_inv_rows.proofs.lineage.FloorsOf.{floor_among}
-use Rattle.rk_inv_rows.proofs.lineage.Histories.{history_of, kept_stands}
+use Rattle.rk_inv_rows.proofs.lineage.Histories.{history_of, kept_stands, range_at}
 use Rattle.rk_inv_rows.proofs.lineage.LineageTaken.{rows_after, view_lineage_taken}
 use Rattle.rk_inv_rows.proofs.lineage.Untouched.{done_settled, names_none, rest_none, truth_none}
 
@@ -47,37 +45,24 @@ module _ (v : View) (row : Row) (source sfrom target dfrom : ℕ) (given : Hande
   giver = v.handovers source row.tablet
 
   -- what is known of the row
-  in_row : (P : Row → Type 0) → All P v.rows → P row
-  in_row P all = All-contains P v.rows row all may.has_row
+  row_was : SoundRow v row
+  row_was = row_in v sound row may.has_row
 
   in_phase : (P : Phase → Type 0) → P row.phase → P opened
   in_phase P = subst P may.phase_is
 
   -- ---- the target has nothing
 
-  target_range : (v.handovers target row.tablet).range ≡ row.range
-  target_range =
-      (in_row (λ r. HandoverFits r row.tablet (v.handovers target row.tablet)) (sound.terms.kept target row.tablet)).exact refl
-      may.waiting.term_is
-
   bare : IsBare row.range dfrom (v.written target) (v.records target)
   bare =
-      subst (λ (range : Range). IsBare range dfrom (v.written target) (v.records target)) target_range
-      (waits_at (v.handovers target row.tablet).role dfrom
+      rw (← range_at v sound row may.has_row target may.waiting.term_is) (waits_at (v.handovers target row.tablet).role dfrom
       (λ from. IsBare (v.handovers target row.tablet).range from (v.written target) (v.records target)) may.waiting.role_is
       (sound.receives.bare target row.tablet))
 
   -- ---- the source has told all
 
-  settled : list_any (touches row.range) (drop (v.written source).applied (v.written source).entries) ≡ false
-  settled =
-      in_row
-      (λ r. StillCounts (v.live source) (v.handovers source r.tablet).term r.term → is_idle (v.handovers source r.tablet).role ≡ true
-      → list_any (touches r.range) (drop (v.written source).applied (v.written source).entries) ≡ false)
-      (sound.rest.idle source) (inr may.term_is) (ap is_idle may.frozen)
-
   done : IsDone v.written row.range first
-  done = done_settled v.written row.range first some settled
+  done = done_settled v.written row.range first some (row_was.idle source (inr may.term_is) (ap is_idle may.frozen))
 
   -- ---- truth and rest are what they were
 
@@ -93,14 +78,10 @@ module _ (v : View) (row : Row) (source sfrom target dfrom : ℕ) (given : Hande
   rest_is = rest_none v.written row.range last some bare.nothing ∙ sym rest_was
 
   history : TellHistory v.base row.range (truths v new) (rests v new) v.journal v.asked
-  history =
-      subst (λ (t : List Entry). TellHistory v.base row.range t (rests v new) v.journal v.asked) (sym truth_is)
-      (subst (λ (r : List Entry). TellHistory v.base row.range (truths v row) r v.journal v.asked) (sym rest_is)
-      (history_of v row sound may.has_row))
+  history = rw (truth_is, rest_is) (history_of v row sound may.has_row)
 
   floor_is : floor_of (truths v new ++ rests v new) ≡ floor_of (truths v row ++ rests v row)
-  floor_is =
-      ap (λ (t : List Entry). floor_of (t ++ rests v new)) truth_is ∙ ap (λ (r : List Entry). floor_of (truths v row ++ r)) rest_is
+  floor_is = ap (λ (t : List Entry). floor_of (t ++ rests v new)) truth_is ∙ ap (λ (r : List Entry). floor_of (truths v row ++ r)) rest_is
 
   floor : floor_of (truths v new ++ rests v new) ≤ floor_of (truths v row ++ rests v row)
   floor = omega (arith, floor_is)
@@ -111,16 +92,10 @@ module _ (v : View) (row : Row) (source sfrom target dfrom : ℕ) (given : Hande
   FitsPost q post = Holds (bond_of post (v.handovers q row.tablet).role) row.term (v.handovers q row.tablet).term (v.written q).applied
 
   source_fits : (q : ℕ) → eqb source q ≡ true → FitsPost q MovingSource
-  source_fits q is =
-      subst (λ (m : ℕ). FitsPost m MovingSource) (eqb-true source q is)
-      (subst (λ (role : Role). Holds (bond_of MovingSource role) row.term giver.term (v.written source).applied) (sym may.frozen) may.term_is)
+  source_fits q is = rw (← eqb-true source q is, may.frozen) may.term_is
 
   target_fits : (q : ℕ) → eqb target q ≡ true → FitsPost q (MovingTarget dfrom)
-  target_fits q is =
-      subst (λ (m : ℕ). FitsPost m (MovingTarget dfrom)) (eqb-true target q is)
-      (subst
-      (λ (role : Role). Holds (bond_of (MovingTarget dfrom) role) row.term (v.handovers target row.tablet).term (v.written target).applied)
-      (sym may.waiting.role_is) (may.waiting.term_is, refl))
+  target_fits q is = rw (← eqb-true target q is, may.waiting.role_is) (may.waiting.term_is, refl)
 
   fits_by : (q : ℕ) (a b : Bool) → eqb source q ≡ a → eqb target q ≡ b
       → FitsPost q (cond a OpeningSource (cond b (ReadyTarget dfrom) Bystander))
@@ -133,8 +108,7 @@ module _ (v : View) (row : Row) (source sfrom target dfrom : ℕ) (given : Hande
   fits q counting =
       fits_by q (eqb source q) (eqb target q) refl refl
       (in_phase (λ p. FitsPost q (post_of p q))
-      (in_row (λ r. StillCounts (v.live q) (v.handovers q r.tablet).term r.term → RoleFits r q (v.handovers q r.tablet) (v.written q).applied)
-      (sound.roles.fitting q) counting))
+      (row_was.fitting q counting))
 
   speaks_by : (h : Handover) (a b : Bool) → speaks (cond a MovingSource (cond b (MovingTarget dfrom) Bystander)) h row.term ≡ true → speaks (cond a OpeningSource (cond b (ReadyTarget dfrom) Bystander)) h row.term ≡ true
   speaks_by h true b says = refl
@@ -155,8 +129,7 @@ module _ (v : View) (row : Row) (source sfrom target dfrom : ℕ) (given : Hande
   full : (q : ℕ) → v.live q ≡ true → has_all_items (post_of moving q) (v.handovers q row.tablet) row.term ≡ true → HasItems new v.written (v.records q)
   full q lives has =
       in_phase (λ p. IfSome (first_of (lineage_of p)) (λ m. IsTableOf row.range (member_truth v.written row.range m) (v.records q)))
-      (in_row (λ r. has_all_items (post_of r.phase q) (v.handovers q r.tablet) r.term ≡ true → HasItems r v.written (v.records q))
-      (sound.records.items q lives)
+      (row_was.items q lives
       (ap (λ (p : Phase). has_all_items (post_of p q) (v.handovers q row.tablet) row.term) may.phase_is
       ∙ full_by (v.handovers q row.tablet) (eqb source q) (eqb target q) has))
 
@@ -170,7 +143,7 @@ module _ (v : View) (row : Row) (source sfrom target dfrom : ℕ) (given : Hande
     placed =
         All-cons (IsPlaced v.written) first (last ∷ [])
         (All-head (IsPlaced v.written) first []
-        (in_phase (λ p. All (IsPlaced v.written) (lineage_of p)) (in_row (λ r. All (IsPlaced v.written) (lineage_of r.phase)) sound.rows.placed)))
+        (in_phase (λ p. All (IsPlaced v.written) (lineage_of p)) row_was.placed))
         (All-cons (IsPlaced v.written) last [] bare.placed (All-nil (IsPlaced v.written)));
     done = done;
     unnamed = tt;
@@ -194,36 +167,19 @@ module _ (v : View) (row : Row) (source sfrom target dfrom : ℕ) (given : Hande
       (eq-eqb source source refl)
 
   reached : ReachAll row.range v.journal given.ends
-  reached =
-      subst (ReachAll row.range v.journal) (sym may.ends_are)
-      (in_row
-      (λ r. StillCounts (v.live source) (v.handovers source r.tablet).term r.term
-      → speaks (post_of r.phase source) (v.handovers source r.tablet) r.term ≡ true
-      → ReachAll r.range v.journal (ends_of (v.completions source r.tablet)))
-      (sound.calls.answering source) (inr may.term_is) speaks_still)
+  reached = rw may.ends_are (row_was.answering source (inr may.term_is) speaks_still)
 
   next : IsNext (truths v row ++ rests v row) given.floor
-  next =
-      subst (IsNext (truths v row ++ rests v row)) (sym may.floor_is)
-      (in_row
-      (λ r. StillCounts (v.live source) (v.handovers source r.tablet).term r.term
-      → speaks (post_of r.phase source) (v.handovers source r.tablet) r.term ≡ true
-      → IsNext (truths v r ++ rests v r) (v.handovers source r.tablet).counter)
-      (sound.counters.counted source) (inr may.term_is) speaks_still)
+  next = rw may.floor_is (row_was.counted source (inr may.term_is) speaks_still)
 
   -- what the target begins with tells all ends, and is above all versions
   ends : TellAll row.range v.journal (beginning_in new given ∷ [])
-  ends =
-      All-weaker
-      (λ placed. is_record_in row.range placed ≡ true → is_mutation placed.call.op ≡ true → IsReached given.ends placed)
-      (λ placed. is_record_in row.range placed ≡ true → is_mutation placed.call.op ≡ true → IsReached (given.ends ++ []) placed)
-      (λ placed reach inside mutates.
-      subst (λ (l : List Ended). IsReached l placed) (sym (append-nil given.ends)) (reach inside mutates)) v.journal reached
+  ends k d within inside mutates = rw (append-nil given.ends) (reached k d within inside mutates)
 
   low : AreAboveMap row.range (map_after (base_map v.base) v.journal) (beginning_in new given ∷ [])
   low table key inside =
       let below =
-      in_row (λ r. AreAboveMap r.range (map_after (base_map v.base) v.journal) (truths v r)) sound.counters.low table key inside in
+      row_was.low table key inside in
       let fewer : floor_of (of_key table key (truths v row)) ≤ floor_of (truths v row ++ rests v row) =
       floor_among (of_key table key (truths v row)) (truths v row ++ rests v row)
       (λ entry stands. kept_stands table key (truths v row) (rests v row) entry stands) in
@@ -243,13 +199,12 @@ module _ (v : View) (row : Row) (source sfrom target dfrom : ℕ) (given : Hande
 
   left : MayBeLeft v new noted
   left = record {
-    ends = subst (λ (o : Option (List Entry)). IfSome o (TellAll row.range v.journal)) (sym target_is) ends;
-    low =
-        subst (λ (o : Option (List Entry)). IfSome o (AreAboveMap row.range (map_after (base_map v.base) v.journal))) (sym target_is) low;
+    ends = rw target_is ends;
+    low = rw target_is low;
     granted =
         cond_both (is_wanting (v.handovers target row.tablet).role) (get noted row.tablet) None (λ o. IfSome o HandsOver)
         (λ wants.
-        subst (λ (o : Option Handed). IfSome o HandsOver) (sym given_is) (record { reached = reached; known = may.known }, behind))
+        rw given_is (record { reached = reached; known = may.known }, behind))
         (λ none. tt);
   }
 
@@ -278,6 +233,5 @@ pub sound_moved : (w : World) (row : Row) (source sfrom target dfrom : ℕ) (giv
 sound_moved w row source sfrom target dfrom given sound some may =
     let turned = may_be_moved (view w) row source sfrom target dfrom given sound some may in
     let noted : NumberMap Handed = insert (view w).handed row.tablet given in
-    subst (λ (rows : List Row). SoundView (record (view w) { rows = rows; handed = noted }))
-    (sym (rows_after (view w) row (Moving source sfrom target dfrom) noted sound turned))
+    rw (rows_after (view w) row (Moving source sfrom target dfrom) noted sound turned)
     (view_moved (view w) row source sfrom target dfrom given sound some may)

@@ -1,9 +1,9 @@
 -- The scan of entries has the newest item of each key, unless that is a tombstone, and nothing else.
-use Rattle.std.proofs.Common.{◌≡◌, Bool, true, false, List, [], ◌∷◌, Some, sym, subst, ◌∙◌, ⊎_elim, filter, fold, is_some, Contains}
+use Rattle.std.proofs.Common.{◌≡◌, Bool, true, false, List, [], ◌∷◌, Some, sym, ◌∙◌, ⊎_elim, filter, fold, is_some, Contains}
 use Rattle.rk_inv_base.proofs.Words.{cases_Bool, Held, Entry, with_item, behind_stands, first_stands, none_stands, stands_cases, is_of_from}
 use Rattle.rk_inv_base.proofs.Words.{is_of_parts, newest_items_are, newest, newest_items, items_of, scan_items}
+use Rattle.rk_inv_rows.proofs.Words.{filter_from, filter_stands, other_put, put_all_from, put_stands}
 use Rattle.rk_table.specs.Items.{is_at}
-use Rattle.rk_inv_base.proofs.calls.Records.{filter_from, filter_stands, other_put, put_all_from, put_stands}
 
 -- no other item of a key is among some
 abbrev pub IsAlone : List Held → Held → Type 0
@@ -18,7 +18,7 @@ put_stays done (y ∷ items) x alone stands =
     (λ (same : is_at y.table y.key x ≡ true).
     let parts = is_of_parts y.table y.key x same in
     let is : y ≡ x = alone y (first_stands y items) (is_of_from x.table x.key y (sym parts.0) (sym parts.1)) in
-    subst (Contains (with_item y done)) is (put_stands y done))
+    rw (← is) (put_stands y done))
     (λ (other : is_at y.table y.key x ≡ false). other_put y done x stands other)
     (cases_Bool (is_at y.table y.key x)))
 
@@ -29,7 +29,7 @@ put_each done (y ∷ items) x alone stands =
     ⊎_elim
     (λ (is : y ≡ x).
     put_stays (with_item y done) items x (λ z at. alone z (behind_stands y items z at))
-    (subst (Contains (with_item y done)) is (put_stands y done)))
+    (rw (← is) (put_stands y done)))
     (λ (behind : Contains items x). put_each (with_item y done) items x (λ z at. alone z (behind_stands y items z at)) behind)
     (stands_cases y items x stands)
 

@@ -5,8 +5,7 @@ use Rattle.rk_inv_base.proofs.Words.{cases_Bool, false≢true, All-contains, Con
 use Rattle.rk_inv_base.proofs.Words.{Contains-append_right, Contains-push, Contains-push_cases, Held, Range, is_in, IsInScanOrder}
 use Rattle.rk_inv_base.proofs.Words.{newest_found, newest_is, newest_none, is_of_from, is_of_parts, live, record_of, is_of, newest, IsPlain}
 use Rattle.rk_inv_base.proofs.Words.{AreAbove, IsAboveAll, IsFound, IsOutdone}
-use Rattle.rk_inv_base.proofs.views.Lists.{all_by}
-use Rattle.rk_inv_base.proofs.calls.Records.{in_by_key, stands_is_found}
+use Rattle.rk_inv_rows.proofs.Words.{all_by, in_by_key, stands_is_found}
 
 -- ---- plain lists, and items above those before them
 
@@ -58,7 +57,7 @@ above_fewer few many (item ∷ items) among above = (
   above_fewer (few ++ item ∷ []) (many ++ item ∷ []) items
       (λ x stands.
       ⊎_elim (λ (before : Contains few x). Contains-append_left many (item ∷ []) x (among x before))
-      (λ (is : item ≡ x). subst (Contains (many ++ item ∷ [])) is (Contains-push many item))
+      (λ (is : item ≡ x). rw (← is) (Contains-push many item))
       (Contains-push_cases few item x stands)) above.1,
 )
 
@@ -187,7 +186,7 @@ module _ (range : Range) (target records : List Held) (has : HasRecords range ta
                 let is : there.there ≡ item =
                 one_record item there.there stands there.stands
                 (is_of_from item.table item.key there.there (its.0 ∙ mine.0) (its.1 ∙ mine.1)) in
-                subst (λ (h : Held). other.version ≤ h.version) is there.as_new;
+                rw (← is) there.as_new;
           })
 
       back : newest target item.table item.key ≡ Some item → Contains records item
@@ -199,5 +198,4 @@ module _ (range : Range) (target records : List Held) (has : HasRecords range ta
           has.come there.there there.stands (in_by_key range item there.there there.same_key ∙ in_range) in
           let most : there.there.version ≤ item.version = best.greatest there.there back there.same_key in
           let least : item.version ≤ there.there.version = there.as_new in
-          subst (Contains records)
-          (has.plain there.there item back best.stands its.0 its.1 (omega (arith, most, least))) there.stands
+          rw (← has.plain there.there item back best.stands its.0 its.1 (omega (arith, most, least))) there.stands

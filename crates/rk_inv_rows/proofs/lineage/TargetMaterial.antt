@@ -6,11 +6,9 @@ use Rattle.rk_inv_base.proofs.Words.{cond-true, cond_both, nat_tests, drop-take,
 use Rattle.rk_inv_base.proofs.Words.{Contains-append_right, filter-append, meets, Held, Range, Entry, Joined, is_in, none_stands}
 use Rattle.rk_inv_base.proofs.Words.{stands_cases, items_in, items_of, is_marked, unmarked, unmarked_from, counting, counts, is_joined_in}
 use Rattle.rk_inv_base.proofs.Words.{joined_from, log_material, named, named_by, side_entries, has_all, Mark, marked_entries}
+use Rattle.rk_inv_rows.proofs.Words.{behind_at, taken, filter_from, filter_stands, kept_stands}
 use Rattle.rk_entry.specs.declared.entry.Entry.TheVariants as entries
-use Rattle.rk_inv_base.proofs.logs.InRest.{behind_at}
-use Rattle.rk_inv_base.proofs.logs.MarkedApart.{taken}
-use Rattle.rk_inv_base.proofs.calls.Records.{filter_from, filter_stands}
-use Rattle.rk_inv_rows.proofs.lineage.Among.{first_stand, from_flat, kept_passes, number_from, number_to, taken_at, to_flat}
+use Rattle.rk_inv_rows.proofs.lineage.Among.{first_stand, from_flat, number_from, number_to, taken_at, to_flat}
 use Rattle.rk_inv_rows.proofs.lineage.Pieces.{taken_counts, unmarked_stands, unmarked_stood}
 use Rattle.rk_inv_rows.proofs.lineage.TakenOver.{HasBoth}
 
@@ -109,7 +107,7 @@ module _ (range : Range) (marks : List Mark) (sides : List (List Held)) (from ap
   numbers_to : (n : ℕ) → Contains closing.segments n → Contains (flat_map (named_by range) kept) n
   numbers_to n stands =
       to_flat (named_by range) kept (entries.Joined closing) n closing_kept
-      (subst (λ (l : List ℕ). Contains l n) (sym (cond-true (meets closing.range range) closing.segments [] closes)) stands)
+      (rw (cond-true (meets closing.range range) closing.segments [] closes) stands)
 
   -- no Joined of the range stands behind what is applied
   pub none_behind_applied : joined_from range (max from applied) list ≡ []
@@ -150,7 +148,7 @@ module _ (range : Range) (marks : List Mark) (sides : List (List Held)) (from ap
   pub entry_stands : (entry : Entry) → Contains (drop from front) entry → counts range entry ≡ true → Contains material entry
   entry_stands entry stands counted =
       Contains-append_left (counting range kept) (counting range named_entries) entry
-      (subst (λ (l : List Entry). Contains l entry) (sym counts_all) (filter_stands (counts range) (drop from front) entry stands counted))
+      (rw counts_all (filter_stands (counts range) (drop from front) entry stands counted))
 
   from_either : (x : Held) → Contains (items_of material) x → Contains own x ⊎ Contains copies x
   from_either x stands =
@@ -159,7 +157,7 @@ module _ (range : Range) (marks : List Mark) (sides : List (List Held)) (from ap
       ⊎_elim
       (λ (here : Contains (counting range kept) entry).
       inl
-      (to_flat items_in (counting range (drop from front)) entry x (subst (λ (l : List Entry). Contains l entry) counts_all here) found.2))
+      (to_flat items_in (counting range (drop from front)) entry x (rw (← counts_all) here) found.2))
       (λ (side : Contains (counting range named_entries) entry).
       let at = from_flat (side_entries sides) (named range kept) entry (filter_from (counts range) named_entries entry side) in
       let number : Contains closing.segments at.0 =
@@ -176,7 +174,7 @@ module _ (range : Range) (marks : List Mark) (sides : List (List Held)) (from ap
       let found = from_flat items_in (counting range (drop from front)) x stands in
       to_flat items_in material found.0 x
       (entry_stands found.0 (filter_from (counts range) (drop from front) found.0 found.1)
-      (kept_passes (counts range) (drop from front) found.0 found.1)) found.2
+      (kept_stands (counts range) (drop from front) found.0 found.1).1) found.2
 
   copies_stand : (x : Held) → is_in range x ≡ true → Contains copies x → Contains (items_of material) x
   copies_stand x inside stands =

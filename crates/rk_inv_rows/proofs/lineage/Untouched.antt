@@ -4,7 +4,7 @@ use Rattle.std.proofs.Common.{drop, fold, max, All, flat_map, take-append-drop}
 use Rattle.rk_inv_base.proofs.Words.{or_parts, flat_map-append, All-nil, All-cons, filter-append, list_any, Member, Range, Entry, is_marked}
 use Rattle.rk_inv_base.proofs.Words.{unmarked, unmarked_from, touches, counting, material_of, named, named_by, side_entries, with_number}
 use Rattle.rk_inv_base.proofs.Words.{Written, applied_entries, member_rest, member_truth, Mark, IsDone}
-use Rattle.rk_inv_base.proofs.logs.Missed.{Misses, all_names_none, counting_none, drop_missed, material_none, unmarked_missed}
+use Rattle.rk_inv_rows.proofs.Words.{Misses, all_names_none, counting_none, drop_missed, material_none, unmarked_missed}
 use Rattle.rk_inv_rows.proofs.lineage.Among.{first_all, later_all}
 
 -- where none passes a test, each does not

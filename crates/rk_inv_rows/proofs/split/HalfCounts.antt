@@ -4,9 +4,9 @@ use Rattle.std.proofs.Common.{nat_lt, slice_index_or, ◌-◌, All, flat_map}
 use Rattle.rk_inv_base.proofs.Words.{cond_both, false≢true, All-append, All-cons, All-drop, All-head, All-map, All-nil, All-tail, All-take}
 use Rattle.rk_inv_base.proofs.Words.{All-weaker, filter-append, hash_of, Held, Member, Range, Entry, FIRST_SIDE_SEGMENT, is_marked}
 use Rattle.rk_inv_base.proofs.Words.{unmarked, unmarked_from, as_entries, counting, counts, material_of, named, named_by, side_entries}
-use Rattle.rk_inv_base.proofs.Words.{with_number, Written, applied_entries, member_material, member_rest, member_truth, Mark}
+use Rattle.rk_inv_base.proofs.Words.{with_number, Written, applied_entries, member_rest, member_truth, Mark}
+use Rattle.rk_inv_rows.proofs.Words.{IsHalf, IsOfWhole}
 use Rattle.rk_entry.specs.declared.entry.Entry.TheVariants as entries
-use Rattle.rk_inv_rows.specs.split.Halves.{IsHalf, IsOfWhole}
 use Rattle.rk_inv_rows.proofs.split.Ranges.{all_of_whole, in_whole, meets_same}
 
 -- ---- lists
@@ -24,8 +24,7 @@ filter_finer {X} p q (x ∷ xs) all = go (p x) (q x) refl refl (filter_finer p q
         ap (λ (rest : List X). x ∷ rest) later
         ∙ ap (λ (c : Bool). cond c (x ∷ filter p (filter q xs)) (filter p (filter q xs))) (sym ea)
     go true false ea eb later = absurd (false≢true (sym eb ∙ here ea))
-    go false true ea eb later =
-        later ∙ ap (λ (c : Bool). cond c (x ∷ filter p (filter q xs)) (filter p (filter q xs))) (sym ea)
+    go false true ea eb later = later ∙ ap (λ (c : Bool). cond c (x ∷ filter p (filter q xs)) (filter p (filter q xs))) (sym ea)
     go false false ea eb later = later
 
 -- what holds of entries holds of those without a mark
@@ -56,8 +55,7 @@ module _ (whole half : Range) (is : IsHalf whole half) where
   -- ---- side segments
 
   names_same : (entry : Entry) → IsOfWhole whole entry → named_by half entry ≡ named_by whole entry
-  names_same (entries.Joined joined) of =
-      ap (λ (b : Bool). cond b joined.segments []) (meets_same whole half is joined.range of)
+  names_same (entries.Joined joined) of = ap (λ (b : Bool). cond b joined.segments []) (meets_same whole half is joined.range of)
   names_same _ of = refl
 
   all_names_same : (list : List Entry) → All (IsOfWhole whole) list → flat_map (named_by half) list ≡ flat_map (named_by whole) list
@@ -80,7 +78,7 @@ module _ (whole half : Range) (is : IsHalf whole half) where
       each items = λ k d within. tt
 
   all_sides_whole : (sides : List (List Held)) (numbers : List ℕ) → AreOfWhole (flat_map (side_entries sides) numbers)
-  all_sides_whole sides [] = All-nil (IsOfWhole whole)
+  all_sides_whole sides [] = All-nil _
   all_sides_whole sides (number ∷ numbers) =
       All-append (IsOfWhole whole) (side_entries sides number) (flat_map (side_entries sides) numbers) (sides_whole sides number) (all_sides_whole sides numbers)
 
@@ -100,9 +98,6 @@ module _ (whole half : Range) (is : IsHalf whole half) where
   module _ (written : ℕ → Written) (m : Member) (wholes : All (IsOfWhole whole) (written m.master).entries) where
     abbrev w : Written
     w = written m.master
-
-    pub half_material : member_material written half m ≡ counting half (member_material written whole m)
-    half_material = material_half w.sides (unmarked_from w.marks m.from w.entries) (free_whole w.marks m.from w.entries wholes)
 
     pub half_truth : member_truth written half m ≡ counting half (member_truth written whole m)
     half_truth =

@@ -6,14 +6,11 @@ use Rattle.rk_inv_base.proofs.Words.{Phase, Owned, Row, base_map, items_of, told
 use Rattle.rk_inv_base.proofs.Words.{side_entries, has_all, Written, applied_entries, lineage_rest, lineage_truth, member_rest}
 use Rattle.rk_inv_base.proofs.Words.{member_truth, IsKnown, TellAll, AreAboveMap, IsNext, IsOfWholeRows, AreAbove, IsRest, IsTableOf}
 use Rattle.rk_inv_base.proofs.Words.{IsTruth, View, truths, rests, SoundView}
+use Rattle.rk_inv_rows.proofs.Words.{member as member_at, all_by, IsHalf, IsOfWhole, row_in}
 use Rattle.rk_entry.specs.declared.entry.Entry.TheVariants as entries
-use Rattle.rk_tablet_map.specs.Phase.{member as member_at}
-use Rattle.rk_inv_base.proofs.views.Lists.{all_by}
-use Rattle.rk_inv_rows.specs.split.Halves.{IsHalf, IsOfWhole}
 use Rattle.rk_inv_rows.proofs.split.HalfCounts.{half_rest, half_truth}
 use Rattle.rk_inv_rows.proofs.split.HalfRests.{rest_half, tells_half, truth_half}
 use Rattle.rk_inv_rows.proofs.split.HalfTells.{above_half, above_kept, items_kept, next_kept, table_half}
-use Rattle.rk_inv_base.proofs.views.ByRows.{row_in}
 
 -- what all entries tell, those that count tell of it
 told_kept : (P : Ended → Type 0) (range : Range) (list : List Entry) → All P (told list) → All P (told (counting range list))
@@ -48,7 +45,7 @@ module _ (v : View) (sound : SoundView v) (row half : Row) (has : Contains v.row
   of_whole _ wholes = tt
 
   pub wholes : (q : ℕ) → All (IsOfWhole row.range) (v.written q).entries
-  wholes q = All-weaker (IsOfWholeRows v.rows) (IsOfWhole row.range) of_whole (v.written q).entries (sound.cover.wholes q)
+  wholes q = All-weaker _ _ of_whole (v.written q).entries (sound.cover.wholes q)
 
   -- the truth and the rest of a row of this phase
   truth_is : (x : Row) → x.phase ≡ Owned owner from → truths v x ≡ member_truth v.written x.range own
@@ -69,14 +66,12 @@ module _ (v : View) (sound : SoundView v) (row half : Row) (has : Contains v.row
       ∙ ap (counting half.range) (sym (rest_is row phase_is))
 
   counted : All (λ entry. counts row.range entry ≡ true) (truths v row)
-  counted =
-      subst (All (λ entry. counts row.range entry ≡ true)) (sym (truth_is row phase_is)) (truth_counts v.written row.range own)
+  counted = rw (truth_is row phase_is) (truth_counts v.written row.range own)
 
   -- so the parts that are said of a row's truth and rest are said of the half
   pub truth_of_half : IsTruth v.base half.range (truths v half) v.journal
   truth_of_half =
-      subst (λ (list : List Entry). IsTruth v.base half.range list v.journal) (sym truths_half)
-      (truth_half row.range half.range is v.base (truths v row) v.journal
+      rw truths_half (truth_half row.range half.range is v.base (truths v row) v.journal
       (row_in v sound row has).truth)
 
   pub order_of_half : AreAbove (items_of (truths v half)) (items_of (rests v half))
@@ -89,27 +84,23 @@ module _ (v : View) (sound : SoundView v) (row half : Row) (has : Contains v.row
 
   pub reached_of_half : TellAll half.range v.journal (truths v half)
   reached_of_half =
-      subst (TellAll half.range v.journal) (sym truths_half)
-      (tells_half row.range half.range is v.journal (truths v row) counted
+      rw truths_half (tells_half row.range half.range is v.journal (truths v row) counted
       (row_in v sound row has).reached)
 
   pub recorded_of_half : All (IsKnown v.base v.journal) (told (truths v half))
   recorded_of_half =
-      subst (λ (list : List Entry). All (IsKnown v.base v.journal) (told list)) (sym truths_half)
-      (told_kept (IsKnown v.base v.journal) half.range (truths v row)
+      rw truths_half (told_kept (IsKnown v.base v.journal) half.range (truths v row)
       (row_in v sound row has).recorded)
 
   pub low_of_half : AreAboveMap half.range (map_after (base_map v.base) v.journal) (truths v half)
   low_of_half =
-      subst (AreAboveMap half.range (map_after (base_map v.base) v.journal)) (sym truths_half)
-      (above_half row.range half.range is (map_after (base_map v.base) v.journal) (truths v row) counted
+      rw truths_half (above_half row.range half.range is (map_after (base_map v.base) v.journal) (truths v row) counted
       (row_in v sound row has).low)
 
   -- a number that is next for the row is next for the half
   pub next_of_half : (number : ℕ) → IsNext (truths v row ++ rests v row) number → IsNext (truths v half ++ rests v half) number
   next_of_half number next =
-      subst (λ (list : List Entry). IsNext list number)
-      (filter-append (counts half.range) (truths v row) (rests v row) ∙ (λ i. sym truths_half i ++ sym rests_half i))
+      rw (← (filter-append (counts half.range) (truths v row) (rests v row) ∙ (λ i. sym truths_half i ++ sym rests_half i)))
       (next_kept (counts half.range) (truths v row ++ rests v row) number next)
 
   pub rest_of_half : IsRest v.base half.range (truths v half) (rests v half) v.journal v.asked
@@ -121,5 +112,5 @@ module _ (v : View) (sound : SoundView v) (row half : Row) (has : Contains v.row
   -- records that have the newest items of the row have those of the half
   pub table_of_half : (records : List Held) → IsTableOf row.range (member_truth v.written row.range own) records → IsTableOf half.range (member_truth v.written half.range own) records
   table_of_half records all =
-      subst (λ (list : List Entry). IsTableOf half.range list records) (sym (half_truth row.range half.range is v.written own (wholes owner)))
+      rw (half_truth row.range half.range is v.written own (wholes owner))
       (table_half row.range half.range is (member_truth v.written row.range own) records all)

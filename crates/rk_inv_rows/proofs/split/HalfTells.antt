@@ -1,17 +1,14 @@
 -- What counts for a half of a range tells of each key there what counts for the whole does.
-use Rattle.std.proofs.Common.{◌≡◌, ℕ, ◌≤◌, ◌<◌, Bool, true, false, eqb, List, [], ◌∷◌, ◌++◌, filter, fold, Option, Some, refl, sym, ap}
-use Rattle.std.proofs.Common.{subst, ◌∙◌, ⊎_elim, arith, ◌↔◌, bytes_eq, All, Contains, eqb-true, append-nil}
+use Rattle.std.proofs.Common.{◌≡◌, ℕ, ◌≤◌, ◌<◌, Bool, true, false, eqb, List, [], ◌∷◌, ◌++◌, filter, fold, refl, sym, ap, ◌∙◌, ⊎_elim}
+use Rattle.std.proofs.Common.{arith, bytes_eq, All, eqb-true, append-nil}
 use Rattle.rk_inv_base.proofs.Words.{and_parts, cases_Bool, cond-false, cond-true, cond_both, false≢true, All-filter, All-weaker}
 use Rattle.rk_inv_base.proofs.Words.{filter-append, bytes_eq-Decides, hash_of, Held, Range, Map, Entry, is_in, is_of_parts, is_of, newest}
 use Rattle.rk_inv_base.proofs.Words.{none_found, IsPlain, items_of, counting, counts, of_key, tells_of, floor_by, floor_of, has_key}
-use Rattle.rk_inv_base.proofs.Words.{AreAboveMap, IsNext, AreAbove, IsTableOf}
+use Rattle.rk_inv_base.proofs.Words.{AreAboveMap, IsNext, AreAbove, IsTableOf, false_from_ne_true}
+use Rattle.rk_inv_rows.proofs.Words.{live as live_items, record_of as live_of, floor_step, kept_stands, IsHalf}
 use Rattle.rk_entry.specs.declared.entry.Entry.TheVariants as entries
-use Rattle.rk_overlay.specs.Live.{live as live_items, record_of as live_of}
 use Rattle.rk_overlay.specs.Newest.{Found, newest_from, with_newer}
 use Rattle.rk_overlay.proofs.Folds.{newest_from-same}
-use Rattle.rk_inv_base.proofs.logs.Floors.{floor_step}
-use Rattle.rk_inv_base.proofs.pulls.Joining.{kept_stands}
-use Rattle.rk_inv_rows.specs.split.Halves.{IsHalf}
 use Rattle.rk_inv_rows.proofs.split.HalfCounts.{filter_finer}
 use Rattle.rk_inv_rows.proofs.split.Ranges.{all_of_half, in_whole}
 
@@ -54,8 +51,7 @@ newest_kept range table key found (item ∷ items) inside =
     (λ e. newest_kept range table key (with_newer found item) items inside)
     (λ e.
     let other : is_of table key item ≡ false =
-    ⊎_elim (λ (its : is_of table key item ≡ true). absurd (false≢true (sym e ∙ in_by_key range table key item its inside)))
-    (λ (other : is_of table key item ≡ false). other) (cases_Bool (is_of table key item)) in
+    false_from_ne_true (is_of table key item) (λ its. false≢true (sym e ∙ in_by_key range table key item its inside)) in
     newest_kept range table key found items inside
     ∙ newest_from-same found (with_newer found item) items table key
     (sym (cond-false (is_of table key item) _ (found table key) other)))
@@ -72,12 +68,10 @@ above_kept p before (item ∷ items) above =
     cond_both (p item) (item ∷ filter p items) (filter p items) (AreAbove (filter p before))
     (λ e. (
       All-filter p (λ (other : Held). is_of item.table item.key other ≡ true → other.version < item.version) before above.0,
-      subst (λ (list : List Held). AreAbove list (filter p items))
-          (filter-append p before (item ∷ []) ∙ ap (λ (last : List Held). filter p before ++ last) (cond-true (p item) (item ∷ []) [] e)) later,
+      rw (← (filter-append p before (item ∷ []) ∙ ap (λ (last : List Held). filter p before ++ last) (cond-true (p item) (item ∷ []) [] e))) later,
     ))
     (λ e.
-    subst (λ (list : List Held). AreAbove list (filter p items))
-    (filter-append p before (item ∷ []) ∙ ap (λ (last : List Held). filter p before ++ last) (cond-false (p item) (item ∷ []) [] e) ∙ append-nil (filter p before))
+    rw (← (filter-append p before (item ∷ []) ∙ ap (λ (last : List Held). filter p before ++ last) (cond-false (p item) (item ∷ []) [] e) ∙ append-nil (filter p before)))
     later)
 
 -- ---- floors
@@ -116,8 +110,7 @@ module _ (whole half : Range) (is : IsHalf whole half) where
   pub of_key_half : (table : ℕ) (key : List ℕ) (list : List Entry) → has_key half table key ≡ true → All (λ entry. counts whole entry ≡ true) list → of_key table key (counting half list) ≡ of_key table key list
   of_key_half table key list inside all =
       sym (filter_finer (tells_of table key) (counts half) list
-      (All-weaker (λ entry. counts whole entry ≡ true) (λ entry. tells_of table key entry ≡ true → counts half entry ≡ true)
-      (tells_half table key inside) list all))
+      (All-weaker _ _ (tells_half table key inside) list all))
 
   -- so floors of its keys are as they were
   pub above_half : (map : Map) (list : List Entry) → All (λ entry. counts whole entry ≡ true) list → AreAboveMap whole map list → AreAboveMap half map (counting half list)
@@ -135,7 +128,6 @@ module _ (whole half : Range) (is : IsHalf whole half) where
   -- records that have the newest items of the whole have those of the half
   pub table_half : (list : List Entry) (records : List Held) → IsTableOf whole list records → IsTableOf half (counting half list) records
   table_half list records all item inside =
-      subst (λ (found : Option Held). Contains records item ↔ (found ≡ Some item))
-      (sym (ap (λ (items : List Held). newest items item.table item.key) (items_kept half list)
-      ∙ newest_kept half item.table item.key none_found (items_of list) inside))
+      rw (ap (λ (items : List Held). newest items item.table item.key) (items_kept half list)
+      ∙ newest_kept half item.table item.key none_found (items_of list) inside)
       (all item (in_whole whole half is item.table (hash_of item.key) inside))

@@ -1,16 +1,15 @@
 -- The targets and rebuilds of a view whose row is split, and what its messages say.
-use Rattle.std.proofs.Common.{◌≡◌, ℕ, ◌+◌, ◌≤◌, ◌<◌, true, [], ◌∷◌, eqb, sym, ap, subst, ◌∙◌, ⊎_elim, arith, inl, inr, IfSome, is_some, All}
+use Rattle.std.proofs.Common.{◌≡◌, ℕ, ◌+◌, ◌≤◌, ◌<◌, true, [], ◌∷◌, eqb, sym, ap, ◌∙◌, ⊎_elim, arith, inl, inr, IfSome, is_some, All}
 use Rattle.std.proofs.Common.{ne_eqb}
 use Rattle.rk_inv_base.proofs.Words.{cases_eq, cond_both, All-contains, ⊤, get, meets, Node, Range, Handover, row_of, Owned, Rebuilding}
-use Rattle.rk_inv_base.proofs.Words.{Row, Grant, Prepare, Tenure, Body, Got, Pulled, Rebuild, is_member, Mark, is_wanting, AsksFor}
-use Rattle.rk_inv_base.proofs.Words.{IsOnlyRebuilder, IsOwner, SaysOf, PrepareFits, CloseFits, GrantAgrees, IfMaster, OwnFits, ReleaseFits}
-use Rattle.rk_inv_base.proofs.Words.{RebuildFits, IsOf, Bystander, Owner, MarkFits, tenure_in, View}
-use Rattle.rk_inv_base.proofs.views.Lists.{all_by}
-use Rattle.rk_inv_base.proofs.wire.Messages.{by_master, if_master}
-use Rattle.rk_inv_rows.specs.split.Halves.{IsHalf}
-use Rattle.rk_inv_rows.proofs.split.Splitting.{split_row, Splitting, Halved, row, unknown_new, at_most_row, low_half_of, high_half_of, Serves, IsOfHalves, post_now, half_met, no_owner, new_apart, by}
+use Rattle.rk_inv_base.proofs.Words.{Row, Grant, Prepare, Tenure, Body, Rebuild, is_member, Mark, is_wanting, AsksFor, IsOnlyRebuilder}
+use Rattle.rk_inv_base.proofs.Words.{IsOwner, SaysOf, PrepareFits, CloseFits, GrantAgrees, IfMaster, OwnFits, ReleaseFits, RebuildFits}
+use Rattle.rk_inv_base.proofs.Words.{IsOf, Bystander, Owner, MarkFits, tenure_in, View}
+use Rattle.rk_inv_rows.proofs.Words.{all_by, by_master, if_master, IsHalf}
 use Rattle.rk_types.specs.declared.node.Node.TheVariants as nodes
 use Rattle.rk_message.specs.declared.message.Body.TheVariants as bodies
+use Rattle.rk_inv_rows.proofs.split.Splitting.{split_row, Splitting, Halved, row, unknown_new, at_most_row, low_half_of, high_half_of}
+use Rattle.rk_inv_rows.proofs.split.Splitting.{Serves, IsOfHalves, post_now, half_met, no_owner, new_apart, by}
 
 module _ (v : View) (cut : Splitting v) (after : Halved v cut) where
   open cut use {tablet, range, term, owner, from, at, new, sound, has_row}
@@ -71,10 +70,6 @@ module _ (v : View) (cut : Splitting v) (after : Halved v cut) where
     owner_still q own t t' =
         cond_both (eqb owner q) (Owner from) Bystander (λ post. IsOwner post own t → IsOwner post own t') (λ e it. tt) (λ e it. absurd it)
 
-    any_master : (to : Node) (P : ℕ → Type 0) → ((q : ℕ) → P q) → IfMaster to P
-    any_master (nodes.Master q) P all = all q
-    any_master _ P all = tt
-
     only_owner : (q : ℕ) → is_member (record { master = owner; from = from } ∷ []) q ≡ true → owner ≡ q
     only_owner q inside =
         ⊎_elim (λ (same : owner ≡ q). same) (λ (apart : owner ≡ q → ⊥). absurd (no_owner v cut q (ne_eqb owner q apart) inside)) (cases_eq owner q)
@@ -103,7 +98,7 @@ module _ (v : View) (cut : Splitting v) (after : Halved v cut) where
           let of = spoke its in
           let few = of.2 in
           let same = kept_old q of.1 (omega (arith, less, few)) in
-          let follows = fits.may_follow of.0 lives (subst (λ (h : Handover). h.term < tenure.term) same less) in
+          let follows = fits.may_follow of.0 lives (rw (← same) less) in
           absurd (⊎_elim (λ (now : (tenure.term ≡ term) × ⊥). now.1)
           (λ (heir : (tenure.term < term) × IsOnlyRebuilder (post_now v cut q)). no_heir q 0 0 heir.1) follows);
     }
@@ -117,7 +112,7 @@ module _ (v : View) (cut : Splitting v) (after : Halved v cut) where
           let of = spoke its in
           let few = of.2 in
           let same = kept_old q of.1 (omega (arith, is, few)) in
-          subst (λ (h : Handover). IsOwner (post_now v cut q) h.term (term + 1)) (sym same)
+          rw same
           (owner_still q (v.handovers q tablet).term term (term + 1) (fits.owner of.0 lives (sym (ap (λ (h : Handover). h.term) same) ∙ is)));
     }
 
@@ -128,7 +123,7 @@ module _ (v : View) (cut : Splitting v) (after : Halved v cut) where
           let of = spoke its in
           let few = of.2 in
           let same = kept_old q of.1 (omega (arith, less, few)) in
-          fits.outside of.0 lives (subst (λ (h : Handover). h.term ≤ tenure.term) same less);
+          fits.outside of.0 lives (rw (← same) less);
     }
 
     rebuild_half : (q : ℕ) (rebuild : Rebuild) → SpokeOf rebuild.tenure → RebuildFits (row v cut) (v.handovers q tablet) (v.live q) q rebuild → RebuildFits half (handovers' q n) (v.live q) q rebuild
@@ -139,7 +134,7 @@ module _ (v : View) (cut : Splitting v) (after : Halved v cut) where
           let of = spoke its in
           let few = of.2 in
           let same = kept_old q of.1 (omega (arith, less, few)) in
-          let ordered = fits.ordered of.0 lives (subst (λ (h : Handover). h.term < rebuild.tenure.term) same less) in
+          let ordered = fits.ordered of.0 lives (rw (← same) less) in
           absurd (ordered.1);
     }
 
@@ -155,33 +150,22 @@ module _ (v : View) (cut : Splitting v) (after : Halved v cut) where
     }
 
     pub says_half : (src to : Node) (body : Body) → IfSome (tenure_in body) SpokeOf → SaysBefore (row v cut) src to body → SaysNow half src to body
-    says_half src to (bodies.Prepare prepare) spoke says =
-        if_master to (λ q. PrepareFits (row v cut) (v.handovers q tablet) (v.live q) q prepare) (λ q. PrepareFits half (handovers' q n) (v.live q) q prepare)
-        (λ q. prepare_half q prepare spoke) says
+    says_half src to (bodies.Prepare prepare) spoke says = if_master to _ _ (λ q. prepare_half q prepare spoke) says
     says_half src to (bodies.Ready ready) spoke says = by_master src _ _ (λ q said is. absurd (gone ready.tenure spoke is)) says
-    says_half src to (bodies.Close tenure) spoke says =
-        if_master to (λ q. CloseFits (row v cut) (v.handovers q tablet) (v.live q) q tenure) (λ q. CloseFits half (handovers' q n) (v.live q) q tenure)
-        (λ q. close_half q tenure spoke) says
+    says_half src to (bodies.Close tenure) spoke says = if_master to _ _ (λ q. close_half q tenure spoke) says
     says_half src to (bodies.Transfer transfer) spoke says = by_master src _ _ (λ q said is. absurd (gone transfer.tenure spoke is)) says
     says_half src to (bodies.Grant grant) spoke says = (
       λ is. tt,
-      if_master to (λ q. GrantAgrees (row v cut) (v.handovers q tablet) (v.live q) (get v.handed tablet) q grant)
-          (λ q. GrantAgrees half (handovers' q n) (v.live q) (get v.handed n) q grant) (λ q. grant_half q grant spoke) says.1,
+      if_master to _ _ (λ q. grant_half q grant spoke) says.1,
     )
-    says_half src to (bodies.Pull pull) spoke says = (λ is. tt, by_master src _ (λ q. ⊤) (λ q said. tt) says.1)
-    says_half src to (bodies.Pulled pulled) spoke says = (λ is. tt, any_master to (λ q. ⊤) (λ q. tt))
-    says_half src to (bodies.Want want) spoke says = (λ is. tt, by_master src _ (λ q. ⊤) (λ q said. tt) says.1)
-    says_half src to (bodies.Got got) spoke says = (λ is. tt, any_master to (λ q. ⊤) (λ q. tt))
+    says_half src to (bodies.Pull pull) spoke says = (λ is. tt, by_master src _ _ (λ q said. tt) says.1)
+    says_half src to (bodies.Pulled pulled) spoke says = (λ is. tt, if_master to _ _ (λ q said. tt) says.1)
+    says_half src to (bodies.Want want) spoke says = (λ is. tt, by_master src _ _ (λ q said. tt) says.1)
+    says_half src to (bodies.Got got) spoke says = (λ is. tt, if_master to _ _ (λ q said. tt) says.1)
     says_half src to (bodies.Joined tenure) spoke says = by_master src _ _ (λ q said is. absurd (gone tenure spoke is)) says
-    says_half src to (bodies.Own tenure) spoke says =
-        if_master to (λ q. OwnFits (row v cut) (v.handovers q tablet) (v.live q) q tenure) (λ q. OwnFits half (handovers' q n) (v.live q) q tenure)
-        (λ q. own_half q tenure spoke) says
-    says_half src to (bodies.Release tenure) spoke says =
-        if_master to (λ q. ReleaseFits (row v cut) (v.handovers q tablet) (v.live q) q tenure) (λ q. ReleaseFits half (handovers' q n) (v.live q) q tenure)
-        (λ q. release_half q tenure spoke) says
-    says_half src to (bodies.Rebuild rebuild) spoke says =
-        if_master to (λ q. RebuildFits (row v cut) (v.handovers q tablet) (v.live q) q rebuild) (λ q. RebuildFits half (handovers' q n) (v.live q) q rebuild)
-        (λ q. rebuild_half q rebuild spoke) says
+    says_half src to (bodies.Own tenure) spoke says = if_master to _ _ (λ q. own_half q tenure spoke) says
+    says_half src to (bodies.Release tenure) spoke says = if_master to _ _ (λ q. release_half q tenure spoke) says
+    says_half src to (bodies.Rebuild rebuild) spoke says = if_master to _ _ (λ q. rebuild_half q rebuild spoke) says
     says_half src to (bodies.Read read) spoke says = λ is. tt
     says_half src to (bodies.Copy copy) spoke says = λ is. tt
     says_half src to (bodies.Rebuilt rebuilt) spoke says = by_master src _ _ (λ q said is. absurd (gone rebuilt.tenure spoke is)) says

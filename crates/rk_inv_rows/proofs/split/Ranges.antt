@@ -1,14 +1,12 @@
 -- Laws of a half of a range.
 use Rattle.std.proofs.Common.{◌≡◌, ℕ, ◌≤◌, Bool, true, false, ◌&&◌, arith, eqb, leb, refl, sym}
 use Rattle.rk_inv_base.proofs.Words.{nat_tests, has, meets, Range, has_all}
-use Rattle.rk_inv_base.proofs.rows.Serving.{meets_either}
-use Rattle.rk_inv_rows.specs.split.Halves.{IsHalf}
+use Rattle.rk_inv_rows.proofs.Words.{meets_either, IsHalf}
 
 module _ (whole half : Range) (is : IsHalf whole half) where
   -- what is in a half is in the whole
   pub in_whole : (table hash : ℕ) → has half table hash ≡ true → has whole table hash ≡ true
-  in_whole table hash inside =
-      go whole.table whole.first whole.last half.table half.first half.last is.table is.first is.last inside
+  in_whole table hash inside = go whole.table whole.first whole.last half.table half.first half.last is.table is.first is.last inside
     where
       go : (s f l t g m : ℕ) → t ≡ s → f ≤ g → m ≤ l → (eqb t table && leb g hash && leb hash m) ≡ true → (eqb s table && leb f hash && leb hash l) ≡ true
       go s f l t g m same low high inside = grind (arith, nat_tests)

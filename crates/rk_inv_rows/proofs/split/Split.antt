@@ -1,21 +1,17 @@
 -- A lane stays sound when an owned row is split in two.
 use Rattle.std.proofs.Common.{◌≡◌, ℕ, ◌+◌, Bool, true, false, cond, List, Option, Some, None, eqb, is_some, refl, sym, ap, subst, ◌∙◌}
-use Rattle.std.proofs.Common.{⊎_elim, inl, not, Contains, eq-eqb}
-use Rattle.rk_inv_base.proofs.Words.{cases_Bool, cases_eq, cond-false, cond-true, false≢true, or_left, All-contains, Range, lineage_of}
-use Rattle.rk_inv_base.proofs.Words.{changed_rows, divided, is_split, row_of, Owned, Row, marks_of, is_member, Master, tablet_at}
-use Rattle.rk_inv_base.proofs.Words.{with_tablet, range_below, range_from, has_parts, owner_split, row_split, rows_split_of, with_half}
-use Rattle.rk_inv_base.proofs.Words.{with_halves, with_split, Tablet, World, has_crashed, lives, master_at, tablet_in, with_coordinator}
-use Rattle.rk_inv_base.proofs.Words.{with_master, written_by, StillCounts, View, view, IsSound, SoundView}
-use Rattle.rk_tablet_map.specs.declared.error.MapError.TheVariants.{BadSplit}
-use Rattle.rk_tablet_map.specs.Rows.{cut_fault, turned}
-use Rattle.rk_world.specs.Splits.{tablet_split, with_rows_split}
-use Rattle.rk_sound.specs.Moves.{MaySplit}
+use Rattle.std.proofs.Common.{⊎_elim, inl, not, eq-eqb}
+use Rattle.rk_inv_base.proofs.Words.{cases_Bool, cases_eq, cond-false, cond-true, false≢true, or_left, Range, changed_rows, divided}
+use Rattle.rk_inv_base.proofs.Words.{is_split, row_of, Owned, Row, marks_of, Master, tablet_at, with_tablet, range_below, range_from}
+use Rattle.rk_inv_base.proofs.Words.{has_parts, owner_split, with_half, with_halves, with_split, Tablet, World, has_crashed, lives}
+use Rattle.rk_inv_base.proofs.Words.{master_at, tablet_in, with_coordinator, with_master, written_by, View, view, IsSound, SoundView}
+use Rattle.rk_inv_base.proofs.Words.{false_from_ne_true}
+use Rattle.rk_inv_rows.proofs.Words.{BadSplit, cut_fault, turned, tablet_split, with_rows_split, MaySplit, stands_found, as_half, lower_row}
+use Rattle.rk_inv_rows.proofs.Words.{rows_halved, row_split_in, upper_row}
 use Rattle.rk_inv_base.proofs.views.Masters.{master_other, master_same, same_of_all, tablet_apart, tablet_here}
-use Rattle.rk_inv_base.proofs.rows.TurnedRows.{stands_found}
-use Rattle.rk_inv_rows.specs.split.Small.{as_half, lower_row, rows_halved, row_split_in, upper_row}
 use Rattle.rk_inv_rows.proofs.split.RowSplit.{view_row_split}
-use Rattle.rk_inv_rows.proofs.split.Splitting.{Has, High, Low, Old, Beside, IsOfHalves, Serves, Splitting}
-use Rattle.rk_inv_rows.proofs.split.SplitRows.{found, lower_found, unknown, upper_found}
+use Rattle.rk_inv_rows.proofs.split.Splitting.{Has, High, Low, Old, Beside, IsOfHalves, Serves, Splitting, found, lower_found, new_apart}
+use Rattle.rk_inv_rows.proofs.split.Splitting.{split_row, upper_found}
 
 -- why a split is not refused: no row has the number, and both parts have a hash
 may_cut : (row : Row) (taken : Option Row) (at new : ℕ) → cut_fault (Some row) taken at new ≡ None → (is_some taken ≡ false) × (is_split row.range at ≡ true)
@@ -27,7 +23,7 @@ may_cut row None at new is = (refl, go (is_split row.range at) refl is)
     go false e is = absurd (cc is)
 
 module _ (w : World) (cut : Splitting (view w)) where
-  open cut use {tablet, range, term, owner, from, at, new, sound, has_row, free, splits}
+  open cut use {tablet, range, term, owner, from, at, new, splits}
 
   abbrev v : View
   v = view w
@@ -44,11 +40,11 @@ module _ (w : World) (cut : Splitting (view w)) where
       let first : List Row = divided (Some row) rows tablet at new in
       let second : List Row = turned (Some (record (lower_row row at) { term = term })) first tablet (term + 1) (Owned owner from) in
       ap (λ (f : Option Row). changed_rows (changed_rows (divided f rows tablet at new) tablet (term + 1) (Owned owner from)) new (term + 1) (Owned owner from))
-      (found rows row at new sound.rows.apart has_row free splits)
+      (found v cut)
       ∙ ap (λ (f : Option Row). changed_rows (turned f first tablet (term + 1) (Owned owner from)) new (term + 1) (Owned owner from))
-      (lower_found rows row at new sound.rows.apart has_row free splits)
+      (lower_found v cut)
       ∙ ap (λ (f : Option Row). turned f second new (term + 1) (Owned owner from))
-      (upper_found rows row at new sound.rows.apart has_row free splits)
+      (upper_found v cut)
 
   abbrev Changed : World → View
   Changed x = record v {
@@ -99,16 +95,13 @@ module _ (w : World) (cut : Splitting (view w)) where
   abbrev after : World
   after = with_master w owner (with_halves (master_at w owner) tablet (tablet_at (master_at w owner) tablet) at new (term + 1))
 
-  new_apart : new ≡ tablet → ⊥
-  new_apart is = unknown rows row at new sound.rows.apart has_row free splits tablet (ap is_some (found rows row at new sound.rows.apart has_row free splits)) (sym is)
-
   of_owner : (q n : ℕ) → q ≡ owner → tablet_in after q n ≡ tablet_at changed n
   of_owner q n is = ap (λ (x : Master). tablet_at x n) (master_same w owner changed q is)
 
   at_tablet : (q : ℕ) → q ≡ owner → tablet_in after q tablet ≡ below
   at_tablet q is =
       of_owner q tablet is
-      ∙ tablet_apart (with_tablet m tablet below) new above tablet (λ e. new_apart (sym e))
+      ∙ tablet_apart (with_tablet m tablet below) new above tablet (λ e. new_apart v cut (sym e))
       ∙ tablet_here m tablet below
 
   at_new : (q : ℕ) → q ≡ owner → tablet_in after q new ≡ above
@@ -129,11 +122,7 @@ module _ (w : World) (cut : Splitting (view w)) where
     serves q is = (ap v.live is ∙ lives_on, is)
 
     kept_range : (tablet_in w owner tablet).handover.range ≡ range
-    kept_range =
-        All-contains
-        (λ (r : Row). StillCounts (v.live owner) (v.handovers owner r.tablet).term r.term → is_member (lineage_of r.phase) owner ≡ true
-        → (v.handovers owner r.tablet).range ≡ r.range) rows row (sound.roles.ranged owner) has_row
-        (inl lives_on) (or_left (eqb owner owner) false (eq-eqb owner owner refl))
+    kept_range = (split_row v cut).ranged owner (inl lives_on) (or_left (eqb owner owner) false (eq-eqb owner owner refl))
 
     abbrev HasNow : ℕ → ℕ → Type 0
     HasNow q n = Has v cut q n ((view after).handovers q n)
@@ -202,8 +191,7 @@ module _ (w : World) (cut : Splitting (view w)) where
       where
         alive : has_crashed w owner ≡ false
         alive =
-            ⊎_elim (λ (e : has_crashed w owner ≡ true). absurd (false≢true (sym (ap not e) ∙ lives_on))) (λ (e : has_crashed w owner ≡ false). e)
-            (cases_Bool (has_crashed w owner))
+            false_from_ne_true (has_crashed w owner) (λ e. false≢true (sym (ap not e) ∙ lives_on))
 
     seen_live : view (with_coordinator after (with_rows_split w.coordinator row at new)) ≡ Changed after
     seen_live i = record (Changed after) {
@@ -222,8 +210,7 @@ module _ (w : World) (cut : Splitting (view w)) where
 
   dead_sound : has_crashed w owner ≡ true → IsSound (row_split_in w row at new)
   dead_sound crashed =
-      subst (λ (x : World). IsSound (with_coordinator x (with_rows_split w.coordinator row at new)))
-      (sym (cond-true (has_crashed w owner) w (with_master w owner (with_split m tablet at new (term + 1))) crashed))
+      rw (cond-true (has_crashed w owner) w (with_master w owner (with_split m tablet at new (term + 1))) crashed)
       (subst SoundView (λ i. record v { rows = sym rows_are i }) (dead_split (ap not crashed)))
 
   pub split_sound : IsSound (row_split_in w row at new)
@@ -240,8 +227,7 @@ row_sound w row at new sound may =
     let fault : cut_fault (Some row) (row_of rows new) at new ≡ None =
     ap (λ (f : Option Row). cut_fault f (row_of rows new) at new) (sym (stands_found rows row sound.rows.apart may.has_row)) ∙ may.fits in
     let fits = may_cut row (row_of rows new) at new fault in
-    subst (λ (r : Row). IsSound (row_split_in w r at new)) row_is
-    (split_sound w (record {
+    rw (← row_is) (split_sound w (record {
       tablet = row.tablet;
       range = row.range;
       term = row.term;
@@ -250,12 +236,11 @@ row_sound w row at new sound may =
       at = at;
       new = new;
       sound = sound;
-      has_row = subst (Contains rows) (sym row_is) may.has_row;
+      has_row = rw row_is may.has_row;
       free = fits.0;
       splits = fits.1;
     }))
 
 pub sound_split : (w : World) (row : Row) (at new : ℕ) → IsSound w → MaySplit (view w) row at new → IsSound (tablet_split w row.tablet at new)
 sound_split w row at new sound may =
-    subst (λ (f : Option Row). IsSound (with_coordinator (row_split w f at new) (rows_split_of w.coordinator f at new)))
-    (sym (stands_found w.coordinator.rows row sound.rows.apart may.has_row)) (row_sound w row at new sound may)
+    rw (stands_found w.coordinator.rows row sound.rows.apart may.has_row) (row_sound w row at new sound may)

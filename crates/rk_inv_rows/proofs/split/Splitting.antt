@@ -1,18 +1,17 @@
--- An owned row that is split, with its halves, and what masters have of tablets before and after.
-use Rattle.std.proofs.Common.{◌≡◌, ℕ, ◌+◌, ◌≤◌, Bool, true, false, cond, ◌||◌, List, [], ◌∷◌, Option, Some, None, eqb, refl, sym, ap, subst}
-use Rattle.std.proofs.Common.{◌∙◌, ⊎_elim, arith, ◌⊎◌, inl, is_some, All, Contains, eq-eqb, ne_eqb}
-use Rattle.rk_inv_base.proofs.Words.{cases_Bool, false≢true, or_left, or_right, All-contains, has, meets, Ended, Range, Completions}
-use Rattle.rk_inv_base.proofs.Words.{Handover, IsTabletMap, Precedes, is_covered, is_split, row_of, Owned, Row, Gather, is_member}
-use Rattle.rk_inv_base.proofs.Words.{is_absent, Pulling, Bystander, Owner, Post, Holds, StillCounts, bond_of, View, SoundView}
-use Rattle.rk_inv_base.proofs.rows.Apart.{one_precedes}
-use Rattle.rk_inv_base.proofs.rows.Serving.{meets_either}
-use Rattle.rk_inv_base.proofs.rows.TurnedRows.{stands_found}
+-- An owned row that is split, with its halves: the rows then, and what masters have of tablets before and after.
+use Rattle.std.proofs.Common.{◌≡◌, ℕ, ◌+◌, ◌-◌, ◌<◌, ◌≤◌, Bool, true, false, cond, ◌||◌, ◌&&◌, List, [], ◌∷◌, Option, Some, None, eqb, leb}
+use Rattle.std.proofs.Common.{refl, sym, ap, subst, ◌∙◌, ⊎_elim, arith, ◌⊎◌, inl, is_some, nat_le, nat_lt, All, Contains, eq-eqb, ne_eqb}
+use Rattle.std.proofs.Common.{leb-true, ltb-true}
+use Rattle.rk_inv_base.proofs.Words.{and_parts, cases_Bool, cases_eq, false≢true, nat_tests, or_left, or_right, All-contains, has, meets}
+use Rattle.rk_inv_base.proofs.Words.{Ended, Range, Completions, Handover, lawful_turned, IsTabletMap, Precedes, is_covered, is_split}
+use Rattle.rk_inv_base.proofs.Words.{lower_part, placed, replaced, row_of, upper_part, Owned, Row, Gather, is_member, is_absent, Pulling}
+use Rattle.rk_inv_base.proofs.Words.{Bystander, Owner, Post, Holds, StillCounts, bond_of, View, SoundView}
+use Rattle.rk_inv_rows.proofs.Words.{one_precedes, meets_either, IsHalf, as_half, lower_row, rows_halved, upper_row, SoundRow, row_in}
+use Rattle.rk_inv_rows.proofs.Words.{known_placed, new_placed, stands_placed, stood_placed, same_number, all_by, covered_turned}
+use Rattle.rk_inv_rows.proofs.Words.{known_turned, new_stands, stands_found, stands_still, stood}
 use Rattle.rk_inv_base.proofs.rows.BeforeTurn.{at_most}
-use Rattle.rk_inv_rows.specs.split.Halves.{IsHalf}
-use Rattle.rk_inv_rows.specs.split.Small.{as_half, lower_row, rows_halved, upper_row}
+use Rattle.rk_tablet_map.proofs.Lawful.{covered_split, lawful_split}
 use Rattle.rk_inv_rows.proofs.split.Ranges.{meets_whole}
-use Rattle.rk_inv_rows.proofs.split.SplitRows.{covered_halved, each_halved, halves_apart, halves_apart_turned, known_halved, lower_half, lower_stands, other, others_stand, unknown, upper_half, upper_stands}
-use Rattle.rk_inv_base.proofs.views.ByRows.{SoundRow, row_in}
 
 -- an owned row of a sound view that may be split at a hash, with the number of its upper half
 pub record Splitting (v : View) : Type 0 where
@@ -27,6 +26,10 @@ pub record Splitting (v : View) : Type 0 where
   pub has_row : Contains v.rows (record { tablet = tablet; range = range; term = term; phase = Owned owner from })
   pub free : is_some (row_of v.rows new) ≡ false
   pub splits : is_split range at ≡ true
+
+-- what is the one row or something else is the latter where it has another number
+unless_same : {P : Type 0} (x y : Row) → (x.tablet ≡ y.tablet → ⊥) → (x ≡ y) ⊎ P → P
+unless_same {P} x y apart = ⊎_elim (λ (same : x ≡ y). absurd (apart (ap (λ (r : Row). r.tablet) same))) (λ (there : P). there)
 
 module _ (v : View) (cut : Splitting v) where
   open cut use {tablet, range, term, owner, from, at, new, sound, has_row, free, splits}
@@ -52,37 +55,118 @@ module _ (v : View) (cut : Splitting v) where
   pub in_row : (P : Row → Type 0) → All P v.rows → P row
   in_row P all = All-contains P v.rows row all has_row
 
-  pub each : (P : Row → Type 0) → P low → P high → ((x : Row) → Contains v.rows x → (x.tablet ≡ tablet → ⊥) → P x) → All P rows'
-  each P = each_halved v.rows row at new map has_row free splits P
+  -- ---- the rows, one change after the other
 
-  pub kept : (P : Row → Type 0) → P low → P high → All P v.rows → All P rows'
-  kept P first second all = each P first second (λ x has unlike. All-contains P v.rows x all has)
+  -- the parts at the row's term
+  abbrev first : Row
+  first = lower_part row at
+
+  abbrev second : Row
+  second = upper_part row at new
+
+  abbrev shrunk : List Row
+  shrunk = replaced tablet first v.rows
+
+  abbrev divided : List Row
+  divided = placed second shrunk
+
+  abbrev risen : List Row
+  risen = replaced tablet low divided
+
+  pub found : row_of v.rows tablet ≡ Some row
+  found = stands_found v.rows row map has_row
+
+  -- no row has the new number
+  pub unknown_new : (n : ℕ) → is_some (row_of v.rows n) ≡ true → n ≡ new → ⊥
+  unknown_new n known is = false≢true (sym free ∙ ap (λ (n : ℕ). is_some (row_of v.rows n)) (sym is) ∙ known)
 
   pub none_new : (x : Row) → Contains v.rows x → x.tablet ≡ new → ⊥
-  none_new = other v.rows row at new map has_row free splits
+  none_new x there = unknown_new x.tablet (ap is_some (stands_found v.rows x map there))
 
-  pub unknown_new : (n : ℕ) → is_some (row_of v.rows n) ≡ true → n ≡ new → ⊥
-  unknown_new = unknown v.rows row at new map has_row free splits
+  pub new_apart : new ≡ tablet → ⊥
+  new_apart is = none_new row has_row (sym is)
 
-  pub low_half : IsHalf range low.range
-  low_half = lower_half v.rows row at new map has_row free splits
+  divided_map : IsTabletMap divided
+  divided_map = lawful_split v.rows tablet at new row found free splits map
 
-  pub high_half : IsHalf range high.range
-  high_half = upper_half v.rows row at new map has_row free splits
+  pub lower_found : row_of divided tablet ≡ Some first
+  lower_found = stands_found divided first divided_map (stands_placed second first shrunk (new_stands v.rows tablet row first found))
 
+  risen_map : IsTabletMap risen
+  risen_map = lawful_turned divided tablet first low lower_found refl refl divided_map
+
+  pub upper_found : row_of risen new ≡ Some second
+  upper_found =
+      stands_found risen second risen_map
+      (unless_same second first new_apart (stands_still divided tablet first low second lower_found (new_placed second shrunk)))
+
+  pub halved_map : IsTabletMap rows'
+  halved_map = lawful_turned risen new second high upper_found refl refl risen_map
+
+  pub high_stands : Contains rows' high
+  high_stands = new_stands risen new second high upper_found
+
+  pub low_stands : Contains rows' low
+  low_stands =
+      unless_same low second (λ same. new_apart (sym same))
+      (stands_still risen new second high low upper_found (new_stands divided tablet first low lower_found))
+
+  -- each other row stands
+  pub other_stands : (x : Row) → Contains v.rows x → (x.tablet ≡ tablet → ⊥) → Contains rows' x
+  other_stands x there unlike =
+      let one : Contains shrunk x = unless_same x row unlike (stands_still v.rows tablet row first x found there) in
+      let two : Contains risen x =
+      unless_same x first unlike (stands_still divided tablet first low x lower_found (stands_placed second x shrunk one)) in
+      unless_same x second (none_new x there) (stands_still risen new second high x upper_found two)
+
+  -- what stands is a half, or stood before
+  stood_before : (x : Row) → Contains rows' x → (x.tablet ≡ tablet → ⊥) → (x.tablet ≡ new → ⊥) → Contains v.rows x
+  stood_before x there unlike other =
+      let one : Contains risen x = unless_same x high other (stood risen new high x there) in
+      let two : Contains divided x = unless_same x low unlike (stood divided tablet low x one) in
+      let three : Contains shrunk x = unless_same x second other (stood_placed second x shrunk two) in
+      unless_same x first unlike (stood v.rows tablet first x three)
+
+  -- what holds of both halves and of each other row holds of each
+  pub each : (P : Row → Type 0) → P low → P high → ((x : Row) → Contains v.rows x → (x.tablet ≡ tablet → ⊥) → P x) → All P rows'
+  each P of_low of_high others =
+      all_by P rows'
+      (λ x there.
+      ⊎_elim
+      (λ (same : x.tablet ≡ tablet). rw (same_number rows' x low halved_map there low_stands same) of_low)
+      (λ (unlike : x.tablet ≡ tablet → ⊥).
+      ⊎_elim
+      (λ (same : x.tablet ≡ new). rw (same_number rows' x high halved_map there high_stands same) of_high)
+      (λ (other : x.tablet ≡ new → ⊥). others x (stood_before x there unlike other) unlike)
+      (cases_eq x.tablet new))
+      (cases_eq x.tablet tablet))
+
+  pub kept : (P : Row → Type 0) → P low → P high → All P v.rows → All P rows'
+  kept P of_low of_high all = each P of_low of_high (λ x has unlike. All-contains P v.rows x all has)
+
+  -- the same hashes are covered
   pub covered_same : (table hash : ℕ) → is_covered rows' table hash ≡ is_covered v.rows table hash
-  covered_same = covered_halved v.rows row at new map has_row free splits
+  covered_same table hash =
+      covered_turned risen new second high upper_found refl table hash
+      ∙ covered_turned divided tablet first low lower_found refl table hash
+      ∙ covered_split v.rows tablet at new row table hash found splits
+
+  -- and the same numbers known, and the new one
+  known_now : (n : ℕ) → is_some (row_of rows' n) ≡ (eqb new n || is_some (row_of v.rows n))
+  known_now n =
+      known_turned risen new second high upper_found refl n
+      ∙ known_turned divided tablet first low lower_found refl n
+      ∙ known_placed second shrunk n
+      ∙ ap (λ (b : Bool). eqb new n || b) (known_turned v.rows tablet row first found refl n)
 
   pub known_on : (n : ℕ) → is_some (row_of v.rows n) ≡ true → is_some (row_of rows' n) ≡ true
-  known_on n known =
-      known_halved v.rows row at new map has_row free splits n ∙ or_right (eqb new n) (is_some (row_of v.rows n)) known
+  known_on n known = known_now n ∙ or_right (eqb new n) (is_some (row_of v.rows n)) known
 
   pub known_new : is_some (row_of rows' new) ≡ true
-  known_new =
-      known_halved v.rows row at new map has_row free splits new ∙ or_left (eqb new new) (is_some (row_of v.rows new)) (eq-eqb new new refl)
+  known_new = known_now new ∙ or_left (eqb new new) (is_some (row_of v.rows new)) (eq-eqb new new refl)
 
   pub known_low : is_some (row_of rows' tablet) ≡ true
-  known_low = known_on tablet (ap is_some (stands_found v.rows row map has_row))
+  known_low = known_on tablet (ap is_some found)
 
   pub still_none : (n : ℕ) → row_of rows' n ≡ None → row_of v.rows n ≡ None
   still_none n none = go (row_of v.rows n) (known_on n)
@@ -98,24 +182,31 @@ module _ (v : View) (cut : Splitting v) where
       go None is = refl
       go (Some x) is = absurd (cc is)
 
+  -- ---- ranges
+
+  within : (range.first < at) × (at ≤ range.last)
+  within =
+      let parts = and_parts (nat_lt range.first at) (nat_le at range.last) splits in
+      (ltb-true range.first at parts.0, leb-true at range.last parts.1)
+
+  pub low_half : IsHalf range low.range
+  low_half = record { table = refl; first = omega arith; last = omega (arith, within.1); some = omega (arith, within.0) }
+
+  pub high_half : IsHalf range high.range
+  high_half = record { table = refl; first = omega (arith, within.0); last = omega arith; some = within.1 }
+
   -- the halves stand beside each other and beside the other rows
   pub low_apart : meets low.range high.range ≡ false
-  low_apart = halves_apart v.rows row at new map has_row free splits
+  low_apart = go range.table range.first range.last at within.0
+    where
+      go : (t f l at : ℕ) → f < at → (eqb t t && leb f l && leb at (at - 1)) ≡ false
+      go t f l at first = grind (arith, nat_tests)
 
   pub high_apart : meets high.range low.range ≡ false
-  high_apart = halves_apart_turned v.rows row at new map has_row free splits
-
-  pub low_stands : Contains rows' low
-  low_stands = lower_stands v.rows row at new map has_row free splits
-
-  pub high_stands : Contains rows' high
-  high_stands = upper_stands v.rows row at new map has_row free splits
-
-  pub other_stands : (x : Row) → Contains v.rows x → (x.tablet ≡ tablet → ⊥) → Contains rows' x
-  other_stands = others_stand v.rows row at new map has_row free splits
-
-  pub new_apart : new ≡ tablet → ⊥
-  new_apart is = none_new row has_row (sym is)
+  high_apart = go range.table range.first range.last at within.0
+    where
+      go : (t f l at : ℕ) → f < at → (eqb t t && leb at (at - 1) && leb f l) ≡ false
+      go t f l at first = grind (arith, nat_tests)
 
   -- what meets a half meets the row
   pub half_met : (half a : Range) → IsHalf range half → meets half a ≡ true → meets range a ≡ true
@@ -252,7 +343,7 @@ module _ (v : View) (cut : Splitting v) (after : Halved v cut) where
   by_has : (P : Handover → Type 0) (q n : ℕ) (h : Handover) → Has v cut q n h → (Beside v cut q n → P (v.handovers q n)) → AtLow v cut P q n → AtHigh v cut P q n → P h
   by_has P q n h (Old is unlike) old first second = subst P (sym is) (old unlike)
   by_has P q n h (Low serves its is) old first second = subst P (sym is) (first serves its)
-  by_has P q n h (High serves its is) old first second = subst P (sym is) (second serves its)
+  by_has P q n h (High serves its is) old first second = rw is (second serves its)
 
   pub by : (P : Handover → Type 0) (q n : ℕ) → (Beside v cut q n → P (v.handovers q n)) → AtLow v cut P q n → AtHigh v cut P q n → P (handovers' q n)
   by P q n = by_has P q n (handovers' q n) (halved q n)
@@ -271,10 +362,10 @@ module _ (v : View) (cut : Splitting v) (after : Halved v cut) where
       by (λ h. Counts v cut q h → P (post_now v cut q) h) q n
       (λ unlike counts.
       let few : (v.handovers q n).term ≤ term =
-      ⊎_elim (λ (e : n ≡ tablet). subst (λ (m : ℕ). (v.handovers q m).term ≤ term) (sym e) (at_most_row v cut q))
+      ⊎_elim (λ (e : n ≡ tablet). rw e (at_most_row v cut q))
       (λ (e : n ≡ new). let none : (v.handovers q n).term ≡ 0 = ap (λ (m : ℕ). (v.handovers q m).term) e ∙ term_none v cut q in omega (arith, none)) its in
       let lives = lives_now v cut q (v.handovers q n).term few counts in
       let away = not_owner v cut q n unlike lives its in
-      subst (λ (b : Bool). P (cond b (Owner from) Bystander) (v.handovers q n)) (sym away) (old lives away))
-      (λ serves it _. subst (λ (b : Bool). P (cond b (Owner from) Bystander) (low_half_of v cut q)) (sym (eq-eqb owner q (sym serves.1))) (first serves it))
-      (λ serves it _. subst (λ (b : Bool). P (cond b (Owner from) Bystander) (high_half_of v cut q)) (sym (eq-eqb owner q (sym serves.1))) (second serves it))
+      rw away (old lives away))
+      (λ serves it _. rw (eq-eqb owner q (sym serves.1)) (first serves it))
+      (λ serves it _. rw (eq-eqb owner q (sym serves.1)) (second serves it))

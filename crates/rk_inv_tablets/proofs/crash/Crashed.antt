@@ -7,7 +7,7 @@ use Rattle.rk_inv_base.proofs.Words.{list_any-append, Member, Node, lineage_of, 
 use Rattle.rk_inv_base.proofs.Words.{ReadSegment, LAST_MAIN_SEGMENT, is_member, World, has_crashed, lives, Mark, SaysOf, PulledAgrees}
 use Rattle.rk_inv_base.proofs.Words.{GotAgrees, ReadIn, CopyIn, StillCounts, MarkFits, MarkedFit, RowIsRebuilt, AreApart, IsFormed, put}
 use Rattle.rk_inv_base.proofs.Words.{View, view, truths, rests, CallsOf, CountersOf, MessagesOf, IsSound, NodesOf, RebuildsOf, RestOf}
-use Rattle.rk_inv_base.proofs.Words.{RolesOf, SoundView, TablesOf}
+use Rattle.rk_inv_base.proofs.Words.{RolesOf, SoundView, TablesOf, false_from_ne_true}
 use Rattle.rk_inv_tablets.proofs.Words.{put_by, put_is, put_other, if_master, MayCrashFormed}
 use Rattle.rk_message.specs.declared.message.Body.TheVariants as bodies
 use Rattle.rk_world.specs.World.{with_crash}
@@ -92,9 +92,6 @@ module _ (v : View) (master : ℕ) (sound : SoundView v) (may : MayCrashFormed v
     are_last = λ q lives. sound.rest.are_last q (lived q lives);
     found = λ q lives. sound.rest.found q (lived q lives);
   }
-
-  tables : TablesOf now
-  tables = record { ordered = sound.records.ordered; items = λ q lives. sound.records.items q (lived q lives) }
 
   -- ---- messages
 
@@ -204,13 +201,10 @@ module _ (v : View) (master : ℕ) (sound : SoundView v) (may : MayCrashFormed v
       -- so the other one was dead
       other_dead : (a b : ℕ) → (a ≡ b → ⊥) → is_member lineage a ≡ true → is_member lineage b ≡ true → v.live a ≡ true → v.live b ≡ false
       other_dead a b apart first second lives =
-          ⊎_elim
-          (λ (both : v.live b ≡ true).
-          absurd (apart
+          false_from_ne_true (v.live b)
+          (λ both. apart
           (sym (rebuilds_it v sound may.readable row has some lineage to a is first lives)
-          ∙ rebuilds_it v sound may.readable row has some lineage to b is second both)))
-          (λ (dead : v.live b ≡ false). dead)
-          (cases_Bool (v.live b))
+          ∙ rebuilds_it v sound may.readable row has some lineage to b is second both))
 
     marks_told : (lineage : List Member) (to : ℕ) → row.phase ≡ Rebuilding lineage to → AreApart lineage → MarkedFit v.logs v.written v.stored v.live row.range lineage → MarkedFit v.logs v.written v.stored now.live row.range lineage
     marks_told (only ∷ []) to is formed fit = λ dead.
@@ -250,11 +244,8 @@ module _ (v : View) (master : ℕ) (sound : SoundView v) (may : MayCrashFormed v
     rebuilt = λ k d within.
         rebuilt_on (at k d) (Contains-get_or v.rows k d within) (at k d).phase refl (sound.rows.formed k d within)
         (sound.rebuilds.rebuilt k d within);
-    marks = λ q k d within.
-        All-weaker
-        (λ mark. mark.tablet ≡ (at k d).tablet → MarkFits (at k d) q (v.handovers q (at k d).tablet) (v.live q) (v.written q) mark)
-        (λ mark. mark.tablet ≡ (at k d).tablet → MarkFits (at k d) q (v.handovers q (at k d).tablet) (now.live q) (v.written q) mark)
-        (λ mark fits its. mark_fits (at k d) q mark (fits its)) (v.written q).marks (sound.rebuilds.marks q k d within);
+    marks = λ q k d within j m stands its.
+        mark_fits (at k d) q (slice_index_or (v.written q).marks j m) (sound.rebuilds.marks q k d within j m stands its);
     pieces = sound.rebuilds.pieces;
   }
 
@@ -271,7 +262,7 @@ module _ (v : View) (master : ℕ) (sound : SoundView v) (may : MayCrashFormed v
     calls = calls;
     counters = counters;
     rest = rest;
-    records = tables;
+    records = record { ordered = sound.records.ordered; items = λ q lives. sound.records.items q (lived q lives) };
     receives = sound.receives;
     rebuilds = rebuilds;
     messages = messages;

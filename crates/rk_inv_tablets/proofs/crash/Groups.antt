@@ -6,6 +6,7 @@ use Rattle.rk_inv_base.proofs.Words.{cond_both, get_or_push, length-map, map-app
 use Rattle.rk_inv_base.proofs.Words.{in_last, with_bytes, cut, end_of, ends_after, ends, EntryEnd}
 use Rattle.rk_inv_tablets.proofs.Words.{last_of, cut_after}
 use Rattle.rk_entry.specs.Entries.{spelled_all}
+pub use Rattle.rk_log.proofs.CutLaws.{spelled_one}
 
 -- ---- spellings
 
@@ -20,10 +21,6 @@ spelled_first entry list = refl
 pub spelled_both : (list more : List Entry) → spelled_all (list ++ more) ≡ spelled_all list ++ spelled_all more
 unfolding spelled_all
 spelled_both list more = flat_map-append spelled list more
-
-pub spelled_one : (entry : Entry) → spelled_all (entry ∷ []) ≡ spelled entry
-unfolding spelled_all
-spelled_one entry = append-nil (spelled entry)
 
 -- ---- groups
 

@@ -18,7 +18,6 @@ use Rattle.rk_inv_tablets.proofs.Words.{extended_among, sides_extend, AreReadabl
 use Rattle.rk_entry.specs.declared.entry.Entry.TheVariants as entries
 use Rattle.rk_transfer.specs.declared.role.Role.TheVariants as roles
 use Rattle.rk_inv_base.proofs.views.Places.{behind_any}
-use Rattle.rk_inv_tablets.proofs.crash.Among.{flat_from, flat_of, place_there}
 use Rattle.rk_inv_tablets.proofs.crash.MarkedPieces.{HasMark, mark_of}
 use Rattle.rk_inv_tablets.proofs.crash.MergeTells.{IsToldBy, all_stand_told, all_told, held_told, read_all, read_told, stands_told}
 use Rattle.rk_inv_tablets.proofs.crash.MergeTells.{told_through}
@@ -27,6 +26,8 @@ use Rattle.rk_inv_tablets.proofs.crash.PieceRows.{mark_says, marked_of_row}
 use Rattle.rk_inv_tablets.proofs.crash.ReadTold.{AreMarksTold, count_stored, counted_told, side_material}
 use Rattle.rk_inv_tablets.proofs.crash.Unmarked.{IsUnmarked, first_among, first_stands, free_place, free_stands, marked_stands}
 use Rattle.rk_inv_tablets.proofs.crash.Unmarked.{taken_extends}
+use Rattle.rk_inv_tablets.proofs.ready.Outside.{rebuilder_is, only_post, first_post, last_post}
+use Rattle.rk_inv_tablets.proofs.ready.OwnItems.{at_place, flat_from, flat_stands}
 
 -- ---- places
 
@@ -48,9 +49,6 @@ place_of_last _ place term kept applied fits merged = absurd (false≢true merge
 -- the post of a member that rebuilds
 same_test : (n : ℕ) → (n == n) ≡ true
 same_test n = eq-eqb n n refl
-
-post_here : (lineage : List Member) (to : ℕ) → post_of (Rebuilding lineage to) to ≡ rebuilder_post lineage to
-post_here lineage to = cond-true (to == to) (rebuilder_post lineage to) (cond (is_member lineage to) FormerMember Bystander) (same_test to)
 
 -- ---- what is read of other members
 
@@ -115,7 +113,7 @@ sides_named range m w entry at =
       found.0,
       found.1,
       stands_kept (is_in range) (items_of (flat_map (side_entries w.sides) numbers)) found.0
-          (flat_of items_in (flat_map (side_entries w.sides) numbers) entry found.0 kept.0 its) inside,
+          (flat_stands items_in (flat_map (side_entries w.sides) numbers) entry found.0 kept.0 its) inside,
     )
 
 -- ---- what counts of a member
@@ -161,7 +159,7 @@ before_piece range w mark from entry some last is inside =
     ⊎_elim (λ (before : is.place < mark.first). before)
     (λ (behind : mark.first ≤ is.place).
     let all : List Entry = unmarked_from w.marks mark.first w.entries in
-    let there = place_there all entry (free_stands w.marks mark.first w.entries entry (record { place = is.place; behind = behind; stands = is.stands; free = is.free })) in
+    let there = at_place all entry (free_stands w.marks mark.first w.entries entry (record { place = is.place; behind = behind; stands = is.stands; free = is.free })) in
     absurd (false≢true (sym last ∙ behind_any (touches range) all 0 there.0 entry (omega arith) there.1 (counts_touches range entry some inside))))
     (cases_lt is.place mark.first)
 
@@ -189,7 +187,7 @@ module _ (v : View) (sound : SoundView v) (readable : AreReadable v.logs v.writt
   -- what its role is to its post
   role_fits : (lineage : List Member) (q : ℕ) → row.phase ≡ Rebuilding lineage q → v.live q ≡ true → Holds (bond_of (rebuilder_post lineage q) (v.handovers q row.tablet).role) row.term (v.handovers q row.tablet).term (v.written q).applied
   role_fits lineage q is lives =
-      rw (← (ap (λ (phase : Phase). post_of phase q) is ∙ post_here lineage q)) ((row_in v sound row has).fitting q
+      rw (← (ap (λ (phase : Phase). post_of phase q) is ∙ rebuilder_is lineage q)) ((row_in v sound row has).fitting q
       (inl lives))
 
   -- a living member is the one that rebuilds
@@ -247,7 +245,7 @@ module _ (v : View) (sound : SoundView v) (readable : AreReadable v.logs v.writt
       place : (v.handovers only.master row.tablet).term ≡ row.term → has_merged (v.handovers only.master row.tablet).role ≡ true → own_place (v.handovers only.master row.tablet).role ≡ only.from
       place at merged =
           place_of_only (v.handovers only.master row.tablet).role only.from row.term (v.handovers only.master row.tablet).term (v.written only.master).applied
-          (rw (← cond-true (only.master == only.master) (OnlyRebuilder only.from) OutsideRebuilder (same_test only.master))
+          (rw (← only_post only only.master refl)
           (role_fits (only ∷ []) only.master is lives))
           at merged
 
@@ -296,7 +294,7 @@ module _ (v : View) (sound : SoundView v) (readable : AreReadable v.logs v.writt
           place_of_first (v.handovers first.master row.tablet).role first.from row.term (v.handovers first.master row.tablet).term (v.written first.master).applied
           (subst
           (λ (post : Post). Holds (bond_of post (v.handovers first.master row.tablet).role) row.term (v.handovers first.master row.tablet).term (v.written first.master).applied)
-          (cond-true (first.master == first.master) (FirstRebuilder first.from) _ (same_test first.master))
+          (first_post first last first.master refl)
           (role_fits both first.master is lives)) merged
 
       fit : MarkedFit v.logs v.written v.stored v.live row.range both
@@ -370,8 +368,7 @@ module _ (v : View) (sound : SoundView v) (readable : AreReadable v.logs v.writt
       last_place : has_merged (v.handovers last.master row.tablet).role ≡ true → own_place (v.handovers last.master row.tablet).role ≡ last.from
       last_place merged =
           place_of_last (v.handovers last.master row.tablet).role last.from row.term (v.handovers last.master row.tablet).term (v.written last.master).applied
-          (rw (← (cond-false (first.master == last.master) (FirstRebuilder first.from) _ (ne_eqb first.master last.master apart)
-          ∙ cond-true (last.master == last.master) (LastRebuilder last.from) OutsideRebuilder (same_test last.master)))
+          (rw (← last_post first last last.master apart refl)
           (role_fits both last.master is lives)) merged
 
       fits : MarkedFit v.logs v.written v.stored v.live row.range both

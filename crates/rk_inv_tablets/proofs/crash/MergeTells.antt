@@ -8,10 +8,10 @@ use Rattle.rk_inv_base.proofs.Words.{ended_of, ends_of, is_later, noted, Complet
 use Rattle.rk_inv_base.proofs.Words.{item_end, items_in, items_of, told, told_by, Gather, Gathered, by_member, counted_of, is_of_lineage}
 use Rattle.rk_inv_base.proofs.Words.{material_by, as_entries, ends_by_place, first_told, floor_by, floor_of, has_version, is_placed, merge}
 use Rattle.rk_inv_base.proofs.Words.{merged_ends, placed_ends, TellNoMore, closing_carried}
-use Rattle.rk_inv_tablets.proofs.Words.{contains_cases, all_by, all_flat}
+use Rattle.rk_inv_tablets.proofs.Words.{contains_cases, all_by, all_flat, floor_first}
 use Rattle.rk_entry.specs.declared.entry.Entry.TheVariants as entries
 use Rattle.rk_inv_base.proofs.logs.Floors.{floor_above, floor_append, floor_rises, floor_step}
-use Rattle.rk_inv_tablets.proofs.crash.Among.{flat_of}
+use Rattle.rk_inv_tablets.proofs.ready.OwnItems.{flat_stands}
 
 -- an entry tells nothing that these do not
 pub record IsToldBy (others : List Entry) (entry : Entry) : Type 0 where
@@ -32,10 +32,6 @@ floors_under floor bound (entry ∷ list) low each =
     floors_under (floor_by floor entry) bound list (floor_under floor bound entry low (All-head Low entry list each))
     (All-tail Low entry list each)
 
--- a floor is at least 1
-floor_some : (list : List Entry) → 1 ≤ floor_of list
-floor_some list = floor_append 1 [] list
-
 -- entries tell nothing that others do not, where none of them does
 pub all_told : (list others : List Entry) → All (IsToldBy others) list → TellNoMore list others
 all_told list others each = record {
@@ -47,7 +43,7 @@ all_told list others each = record {
       all_flat (Contains (told others)) told_by list
       (All-weaker (IsToldBy others) (λ e. All (Contains (told others)) (told_by e)) (λ e its. its.ends) list each);
   floor =
-      floors_under 1 (floor_of others) list (floor_some others)
+      floors_under 1 (floor_of others) list (floor_first others)
       (All-weaker (IsToldBy others) (λ e. floor_by 1 e ≤ floor_of others) (λ e its. its.floor) list each);
 }
 
@@ -72,7 +68,7 @@ held_told others item at = record {
   ends = All-cons (Contains (told others)) (item_end item) [] (item_told others item at) (All-nil _);
   floor =
       let above = floor_above others item at in
-      let some = floor_some others in omega (arith, above, some);
+      let some = floor_first others in omega (arith, above, some);
 }
 
 -- the newest items are items
@@ -191,7 +187,7 @@ piece_told own members handover others tells =
       ends =
           closing_each (Contains (told others)) members
           (rw (told_flat members) tells.ends);
-      floor = let low = tells.floor in let some = floor_some others in omega (arith, low, some);
+      floor = let low = tells.floor in let some = floor_first others in omega (arith, low, some);
     }
 
 -- ---- entries that stand among others
@@ -218,8 +214,8 @@ floor_stands floor (first ∷ list) entry some at =
 -- an entry that stands among others is told by them
 pub stands_told : (others : List Entry) (entry : Entry) → Contains others entry → IsToldBy others entry
 stands_told others entry at = record {
-  items = all_by _ (items_in entry) (λ item its. flat_of items_in others entry item at its);
-  ends = all_by _ (told_by entry) (λ end its. flat_of told_by others entry end at its);
+  items = all_by _ (items_in entry) (λ item its. flat_stands items_in others entry item at its);
+  ends = all_by _ (told_by entry) (λ end its. flat_stands told_by others entry end at its);
   floor = floor_stands 1 others entry (omega arith) at;
 }
 

@@ -6,15 +6,18 @@ use Rattle.rk_inv_base.proofs.Words.{cases_Bool, cond_both, All-append, All-cont
 use Rattle.rk_inv_base.proofs.Words.{IsBackup, Log, is_side_stored, known_of, EntryEnd, Gathered, LAST_MAIN_SEGMENT, counted_of, side_read}
 use Rattle.rk_inv_base.proofs.Words.{is_marked, unmarked_from, counting, counts, material_of, named, named_by, side_entries, Written, IsLog}
 use Rattle.rk_inv_base.proofs.Words.{segments_in, stored_of, IsGathered, READ_BACKUP, member_stored, stored_count, View, SoundView}
+use Rattle.rk_inv_base.proofs.Words.{false_from_ne_true}
 use Rattle.rk_inv_tablets.proofs.Words.{all_by, kept_stands, stands_kept, place_of, AreReadable}
 use Rattle.rk_entry.specs.declared.entry.Entry.TheVariants as entries
-use Rattle.rk_inv_tablets.proofs.crash.Among.{flat_from, flat_of, named_from, named_of, place_there, stands_front}
+use Rattle.rk_inv_tablets.proofs.crash.Among.{named_from, named_of, stands_front}
 use Rattle.rk_inv_tablets.proofs.crash.FirstRead.{AreFirstStored}
 use Rattle.rk_inv_tablets.proofs.crash.LogRead.{main_read, side_number, side_stands}
 use Rattle.rk_inv_tablets.proofs.crash.MarkedPieces.{mark_of}
 use Rattle.rk_inv_tablets.proofs.crash.MergeTells.{IsToldBy}
 use Rattle.rk_inv_tablets.proofs.crash.PieceRows.{marked_names_none}
 use Rattle.rk_inv_tablets.proofs.crash.Unmarked.{first_stands, free_stands}
+use Rattle.rk_inv_tablets.proofs.ready.OwnItems.{at_place, flat_from, flat_stands, stands_at}
+pub use Rattle.rk_inv_tablets.proofs.ready.OwnItems.{stands_at as stands_there}
 
 -- what counts of the side segments that a member's unmarked entries name
 abbrev pub side_material : Range → Member → Written → List Entry
@@ -25,12 +28,6 @@ named_in : (range : Range) (entry : Entry) (n : ℕ) → Contains (named_by rang
 named_in range (entries.Joined joined) n =
     cond_both _ joined.segments [] (λ numbers. Contains numbers n → Contains joined.segments n) (λ e at. at) (λ e at. absurd (omega (arith, at.1)))
 named_in range _ n = λ at. at
-
--- what stands at a place stands in the list
-pub stands_there : {X : Type 0} (xs : List X) (k : ℕ) (x : X) → slice_get xs k ≡ Some x → Contains xs x
-stands_there [] k x at = absurd (cc at)
-stands_there (y ∷ xs) zero x at = let same : y ≡ x = cc at in (zero, omega arith, same)
-stands_there (y ∷ xs) (suc k) x at = let there = stands_there xs k x at in (suc there.0, omega (arith, there.1), there.2)
 
 -- how many first entries of a member's log backup 1 stores
 abbrev pub count_stored : View → Member → ℕ
@@ -107,19 +104,16 @@ module _ (v : View) (sound : SoundView v) (readable : AreReadable v.logs v.writt
             all_by _ (counting range (drop m.from main))
             (λ entry at.
             let kept_one = kept_stands (counts range) (drop m.from main) entry at in
-            let there = place_there (drop m.from main) entry kept_one.0 in
+            let there = at_place (drop m.from main) entry kept_one.0 in
             one_told entry (place_read there.0 entry there.1) kept_one.1)
 
         -- an entry that names a side segment bears no mark
         free_names : (place : ℕ) (entry : Entry) (n : ℕ) → slice_get w.entries place ≡ Some entry → Contains (named_by range entry) n → is_marked w.marks place ≡ false
         free_names place entry n at names =
-            ⊎_elim
-            (λ (marked : is_marked w.marks place ≡ true).
-            let none : named_by range entry ≡ [] =
+            false_from_ne_true (is_marked w.marks place)
+            (λ marked. let none : named_by range entry ≡ [] =
             marked_names_none v sound m.master place entry at (mark_of w.marks place marked) range in
-            absurd (none_there n (subst (λ (l : List ℕ). Contains l n) none names)))
-            (λ (free : is_marked w.marks place ≡ false). free)
-            (cases_Bool (is_marked w.marks place))
+            none_there n (subst (λ (l : List ℕ). Contains l n) none names))
           where
             none_there : (n : ℕ) → Contains [] n → ⊥
             none_there n at = omega (arith, at.1)
@@ -128,13 +122,13 @@ module _ (v : View) (sound : SoundView v) (readable : AreReadable v.logs v.writt
         side_told : (number : ℕ) (entry : Entry) → Contains (named range (drop m.from main)) number → Contains (side_read gathered number) entry → counts range entry ≡ true → IsToldBy others entry
         side_told number entry named_it at inside =
             let by = named_from range (drop m.from main) number named_it in
-            let there = place_there (drop m.from main) by.0 by.1 in
+            let there = at_place (drop m.from main) by.0 by.1 in
             let placed = place_read there.0 by.0 there.1 in
             let free = free_names placed.place by.0 number placed.stands by.2 in
             let stored : is_side_stored log number ≡ true =
             All-contains (λ (segment : ℕ). is_side_stored log segment ≡ true) (segments_in by.0) number
             (All-contains (λ (e : Entry). All (λ segment. is_side_stored log segment ≡ true) (segments_in e)) w.entries by.0 kept.named
-            (stands_there w.entries placed.place by.0 placed.stands))
+            (stands_at w.entries placed.place by.0 placed.stands))
             (named_in range by.0 number by.2) in
             let room = readable.room m.master in
             let its : Contains (side_entries w.sides number) entry =
@@ -145,7 +139,7 @@ module _ (v : View) (sound : SoundView v) (readable : AreReadable v.logs v.writt
             let numbers : List ℕ = named range (unmarked_from w.marks m.from w.entries) in
             All-contains (IsToldBy others) (side_material row.range m w) entry sides_told
             (stands_kept (counts range) (flat_map (side_entries w.sides) numbers) entry
-            (flat_of (side_entries w.sides) numbers number entry (named_of range (unmarked_from w.marks m.from w.entries) by.0 number unmarked by.2) its)
+            (flat_stands (side_entries w.sides) numbers number entry (named_of range (unmarked_from w.marks m.from w.entries) by.0 number unmarked by.2) its)
             inside)
 
         all_told : All (IsToldBy others) (material_of row.range (side_read gathered) (drop m.from main))

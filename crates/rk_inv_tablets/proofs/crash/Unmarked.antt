@@ -4,6 +4,8 @@ use Rattle.std.proofs.Common.{slice_get, take, Contains, take-append-drop}
 use Rattle.rk_inv_base.proofs.Words.{cond_both, false≢true, Contains-append_right, Range, Entry, is_marked, unmarked, unmarked_from}
 use Rattle.rk_inv_base.proofs.Words.{counting, counts, Mark, marked_entries}
 use Rattle.rk_inv_tablets.proofs.Words.{contains_cases, Extends, counting_extends, still_contains, behind_at, stands_kept, place_of}
+use Rattle.rk_inv_tablets.proofs.ready.OwnItems.{at_front}
+pub use Rattle.rk_inv_tablets.proofs.ready.OwnItems.{at_front as taken_at}
 
 -- an entry that bears no mark, at its place from some place on
 pub record IsUnmarked (marks : List Mark) (from : ℕ) (list : List Entry) (entry : Entry) : Type 0 where
@@ -88,13 +90,6 @@ module _ (marks : List Mark) where
       let found = behind_at list from place entry behind at in
       marked_at range from (drop from list) found.0 entry found.1 (ap (is_marked marks) found.2 ∙ marked) inside
 
--- what stands at one of the first places stands there among the first
-pub taken_at : {X : Type 0} (xs : List X) (n k : ℕ) (x : X) → k < n → slice_get xs k ≡ Some x → slice_get (take n xs) k ≡ Some x
-taken_at [] n k x less at = absurd (cc at)
-taken_at (y ∷ xs) zero k x less at = absurd (omega (arith, less))
-taken_at (y ∷ xs) (suc n) zero x less at = at
-taken_at (y ∷ xs) (suc n) (suc k) x less at = taken_at xs n k x (omega (arith, less)) at
-
 -- so an entry that counts and bears no mark is among those of the first ones
 pub first_stands : (marks : List Mark) (range : Range) (from count : ℕ) (list : List Entry) (entry : Entry) → (is : IsUnmarked marks from list entry) → is.place < count → counts range entry ≡ true → Contains (counting range (unmarked_from marks from (take count list))) entry
 first_stands marks range from count list entry is before inside =
@@ -103,7 +98,7 @@ first_stands marks range from count list entry is before inside =
     (free_stands marks from first entry (record {
       place = is.place;
       behind = is.behind;
-      stands = taken_at list count is.place entry before is.stands;
+      stands = at_front list count is.place entry before is.stands;
       free = is.free;
     }))
     inside

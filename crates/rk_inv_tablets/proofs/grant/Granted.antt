@@ -1,34 +1,369 @@
--- A lane stays sound when a target that waits for a row's tablet is granted it.
-use Rattle.std.proofs.Common.{◌≡◌, ℕ, true, List, [], ◌∷◌, length, refl, sym, ap, ◌∙◌, subst, All, append-nil}
-use Rattle.rk_inv_base.proofs.Words.{All-weaker, IfSome_then, meets, Member, completions_from, Handover, lineage_of, Row, Known, Grant}
-use Rattle.rk_inv_base.proofs.Words.{carried_entry, first_of, is_member, Master, with_appended, is_absent, Tablet, pulling_from}
-use Rattle.rk_inv_base.proofs.Words.{without_merged, World, master_at, tablet_in, Written, StillCounts, post_of, RoleFits, HandoverFits}
-use Rattle.rk_inv_base.proofs.Words.{View, view, truths, rests, CoverOf, IsSound, SoundView, target_truth, flat_map-append, items_in}
-use Rattle.rk_inv_base.proofs.Words.{items_of, is_idle, false≢true, may_have_staged}
-use Rattle.rk_inv_tablets.proofs.Words.{view_by_rows, SoundRow, SoundBeside, put_same, view_master, tablet_apart, tablet_here, terms_look}
-use Rattle.rk_inv_tablets.proofs.Words.{all_items_same, MayGrantFormed, as_granted, granted, tablet_granted_in, IsSettledIn, IsBareOf}
+-- A lane stays sound when a target that waits for a row's tablet is granted it: it speaks for the row from now on, by what its source told,
+-- begins to pull, and does not rebuild the row yet.
+use Rattle.std.proofs.Common.{◌≡◌, ℕ, ◌⊎◌, Bool, true, false, ◌&&◌, cond, eqb, List, [], ◌∷◌, ◌++◌, Option, Some, None, refl, sym, ap, ◌∙◌}
+use Rattle.std.proofs.Common.{subst, ⊎_elim, inl, arith, IfSome, All, Contains, zero, suc, ◌≤◌, length, filter, drop, take, ◌<◌, append-nil}
+use Rattle.rk_inv_base.proofs.Words.{and_right, cond-false, cond-true, flat_map-append, All-weaker, Contains-append_left, get, Ended}
+use Rattle.rk_inv_base.proofs.Words.{Member, Carried, Entry, completions_from, ends_of, Handover, lineage_of, Row, Body, Handed, told}
+use Rattle.rk_inv_base.proofs.Words.{told_by, second_of, AreHandedOver, IsKnown, IsStagedEnd, ReachAll, IsNext, handed_by, handed_for_grant}
+use Rattle.rk_inv_base.proofs.Words.{is_waiting, is_waiting_at, is_wanting, second_has, post_of, speaks, StillCounts, View, truths, rests}
+use Rattle.rk_inv_base.proofs.Words.{CallsOf, false≢true, or_from, or_parts, drop-append-le, take-append-le, All-nil, Contains-append_right}
+use Rattle.rk_inv_base.proofs.Words.{list_any_at, list_any, Held, Range, is_in, Grant, items_of, carried_entry, touches, counts}
+use Rattle.rk_inv_base.proofs.Words.{is_joined_in, Tablet, pulling_from, Written, member_material, member_truth, HandedFits, HasArrived}
+use Rattle.rk_inv_base.proofs.Words.{IsBare, IsHandedBy, IsReceived, IsTarget, MembersFit, NamedFit, entries_from, named_items, scan_items}
+use Rattle.rk_inv_base.proofs.Words.{with_one_more, All-contains, Phase, Rebuilding, Mark, HasOwnRange, MarkFits, RowIsRebuilt, has_merged}
+use Rattle.rk_inv_base.proofs.Words.{IfSome_then, meets, Known, first_of, is_member, Master, with_appended, is_absent, without_merged}
+use Rattle.rk_inv_base.proofs.Words.{World, master_at, tablet_in, RoleFits, HandoverFits, view, CoverOf, IsSound, SoundView, target_truth}
+use Rattle.rk_inv_base.proofs.Words.{items_in, is_idle, may_have_staged}
+use Rattle.rk_inv_tablets.proofs.Words.{calls_more, speaker_is, waiting_at, CountsFor, SpeaksFor, not_all, named_stays, joined_same}
+use Rattle.rk_inv_tablets.proofs.Words.{AreBelow, own_push, as_granted, applied_within, joins_beside, IsRebuilderIn, all_by, view_by_rows}
+use Rattle.rk_inv_tablets.proofs.Words.{SoundRow, SoundBeside, put_same, view_master, tablet_apart, tablet_here, terms_look, all_items_same}
+use Rattle.rk_inv_tablets.proofs.Words.{MayGrantFormed, granted, tablet_granted_in, IsSettledIn, IsBareOf}
+use Rattle.rk_message.specs.declared.message.Body.TheVariants as bodies
+use Rattle.rk_inv_tablets.proofs.grant.Ends.{carried_next, rising_noted, carried_rest}
+use Rattle.rk_inv_tablets.proofs.grant.Granting.{Granting, entry, master, now, of_handover, old, rest_here, taker, row_was, grow, tablet}
+use Rattle.rk_inv_tablets.proofs.grant.Granting.{turned, bare, of_written, ranged, same_term, settled, target_placed, waits, applied_same}
+use Rattle.rk_inv_tablets.proofs.grant.Granting.{by_role, seen_same}
+use Rattle.rk_inv_tablets.proofs.grow.Turned.{of_tablet, seen_apart}
+use Rattle.rk_inv_tablets.proofs.grow.Grown.{truth_same, rests_same, row_cases, material_other, some, SameFirst, rest_other, rebuilds_other}
+use Rattle.rk_inv_tablets.proofs.grow.Grown.{marked_more, target_same, placed_more, done_more, says_more, cover_more, waits_more}
+use Rattle.rk_inv_tablets.proofs.grow.Grown.{found_more, bare_more, rows_more, truths_same}
+use Rattle.rk_entry.specs.declared.entry.Entry.TheVariants as entries
+use Rattle.rk_transfer.specs.declared.role.Role.TheVariants as roles
+use Rattle.rk_table.proofs.Tokens.{passed_first}
 use Rattle.rk_world.specs.Handovers.{tablet_granted}
-use Rattle.rk_inv_tablets.proofs.grant.Granting.{Granting, applied_same, by_role, entry, master, now, of_handover, ranged, same_term}
-use Rattle.rk_inv_tablets.proofs.grant.Granting.{seen_same, tablet, taker, grow, row_was, turned, rest_here}
-use Rattle.rk_inv_tablets.proofs.grow.Grown.{target_same, placed_more, done_more, says_more, cover_more, waits_more, found_more, bare_more}
-use Rattle.rk_inv_tablets.proofs.grow.Grown.{rows_more, truth_same, truths_same}
-use Rattle.rk_inv_tablets.proofs.grant.GrantedCalls.{answers, none_kept, none_sent, counts_on, given, known_on}
-use Rattle.rk_inv_tablets.proofs.grant.GrantedReceives.{members_here, handed_here, names_here}
-use Rattle.rk_inv_tablets.proofs.grant.Ends.{carried_rest}
-use Rattle.rk_inv_tablets.proofs.grant.GrantedRebuilds.{first_same, rebuilt_here, marks_here, pieces_here}
 use Rattle.rk_inv_tablets.proofs.grant.GrantedMessages.{says_here}
-use Rattle.rk_inv_tablets.proofs.grow.Turned.{seen_apart, of_tablet}
+
+-- ---- lists of which none passes a test
+
+pub none_filtered : {X : Type 0} (p t : X → Bool) → ((x : X) → t x ≡ false → p x ≡ false) → (xs : List X) → list_any t xs ≡ false → filter p xs ≡ []
+none_filtered p t weaker [] none = refl
+none_filtered p t weaker (x ∷ xs) none =
+    let parts = or_parts (t x) (list_any t xs) none in
+    cond-false (p x) (x ∷ filter p xs) (filter p xs) (weaker x parts.0) ∙ none_filtered p t weaker xs parts.1
+
+pub none_first : {X : Type 0} (t : X → Bool) (n : ℕ) (xs : List X) → list_any t xs ≡ false → list_any t (take n xs) ≡ false
+none_first t (suc n) (x ∷ xs) none =
+    let parts = or_parts (t x) (list_any t xs) none in
+    or_from (t x) (list_any t (take n xs)) parts.0 (none_first t n xs parts.1)
+none_first t _ _ none = refl
+
+pub none_between : {X : Type 0} (t : X → Bool) (from n : ℕ) (xs : List X) → list_any t (drop from xs) ≡ false → list_any t (drop from (take n xs)) ≡ false
+none_between t zero n xs none = none_first t n xs none
+none_between t (suc from) (suc n) (x ∷ xs) none = none_between t from n xs none
+none_between t (suc from) _ _ none = refl
+
+-- nothing stands in an empty list
+pub none_there : {X : Type 0} (xs : List X) (x : X) → xs ≡ [] → Contains xs x → ⊥
+none_there {X} xs x none at =
+    let empty : Contains [] x = subst (λ (list : List X). Contains list x) none at in omega (arith, empty.1)
+
+-- ---- what does not touch a range
+
+-- does not count for it, where it is not empty
+pub touched : (range : Range) → range.first ≤ range.last → (e : Entry) → touches range e ≡ false → counts range e ≡ false
+touched range some (entries.Carried carried) none = not_all carried.range range none some
+touched range some (entries.Joined joined) none = refl
+touched range some _ none = none
+
+-- ---- a target begins
+
+-- a target that made ready at a place, and has nothing that is not applied, begins with the entry that it appends
+module _ (range : Range) (source : ℕ) (truth material : List Entry) (from : ℕ) (w : Written) (before : Handover) (grant : Grant) (table : List Held) (applies : w.applied ≤ length w.entries) (occupied : range.first ≤ range.last) (ready : IsBare range from w table) where
+  abbrev new : Entry
+  new = carried_entry before grant
+
+  -- none of its own entries is applied
+  own_none : entries_from range from (take w.applied (w.entries ++ new ∷ [])) ≡ []
+  own_none =
+      ap (entries_from range from) (take-append-le w.applied w.entries (new ∷ []) applies)
+      ∙ none_filtered (counts range) (touches range) (touched range occupied) (drop from (take w.applied w.entries))
+      (none_between (touches range) from w.applied w.entries ready.nothing)
+
+  -- nothing has arrived
+  abbrev Arrived : Held → Type 0
+  Arrived = HasArrived roles.Receiving (pulling_from grant.source) (scan_items truth)
+
+  unarrived : (item : Held) → Arrived item → ⊥
+  unarrived item arrived = ⊎_elim (λ at. none_there _ item (passed_first (scan_items truth)) at) (λ e. false≢true e) (arrived refl)
+
+  received : IsReceived Arrived range (scan_items truth) (items_of (entries_from range from (take w.applied (w.entries ++ new ∷ [])))) [] table
+  received = record {
+    within = λ item at. absurd (none_there [] item refl at);
+    copied = λ item at arrived. absurd (unarrived item arrived);
+    come = λ item at inside.
+        absurd (false≢true (sym ready.empty ∙ list_any_at (is_in range) table at.0 item at.1 (ap (is_in range) at.2 ∙ inside)));
+    found = λ item come.
+        absurd
+        (⊎_elim
+        (λ (at : Contains (items_of (entries_from range from (take w.applied (w.entries ++ new ∷ [])))) item).
+        none_there _ item (ap items_of own_none) at)
+        (λ (there : Contains (scan_items truth) item × Arrived item). unarrived item there.1) come);
+  }
+
+  pub target_begins : before.range ≡ range → grant.source ≡ source → list_any (touches range) (drop w.applied w.entries) ≡ false
+      → IsTarget range source truth material from (with_one_more w new) (as_granted grant.floor before) (pulling_from grant.source)
+      (Some (record { floor = grant.floor; ends = grant.ends })) table
+  target_begins range_is source_is settled = record {
+    from_source = source_is;
+    workers = refl;
+    pulled = λ joins. absurd (false≢true joins);
+    received = received;
+    above =
+        own_push range from w.entries new ready.placed (AreBelow (items_of material))
+        (rw (none_filtered (counts range) (touches range) (touched range occupied) (drop from w.entries) ready.nothing) (All-nil _))
+        (λ inside. All-nil _);
+    told =
+        rw (drop-append-le from w.entries (new ∷ []) ready.placed)
+        (Contains-append_right (drop from w.entries) (new ∷ []) new (0, omega arith, refl));
+    early =
+        ap (λ (list : List Entry). list_any (touches range) (drop w.applied list)) (take-append-le from w.entries (new ∷ []) ready.placed)
+        ∙ none_between (touches range) w.applied from w.entries settled;
+    closing =
+        joined_same range from w.entries new refl
+        ∙ none_filtered (is_joined_in range) (touches range) (joins_beside range) (drop from w.entries) ready.nothing;
+  }
 
 module _ (v : View) (a : Granting v) where
+  -- ---- what the source told
+
+  -- what is noted for the row is what the grant tells
+  noted : handed_for_grant a.row v.handovers v.handed ≡ Some (record { floor = a.grant.floor; ends = a.grant.ends })
+  noted =
+      ap (λ (members : List Member). cond (is_waiting (second_has v.handovers a.row (second_of members))) (get v.handed a.row.tablet) None)
+      a.may.may.lineage_is
+      ∙ cond-true (is_wanting (old v a).role) (get v.handed a.row.tablet) None (ap is_wanting a.may.may.waiting)
+      ∙ a.may.may.told
+
+  pub given : AreHandedOver v.base a.row.range v.journal a.grant.ends
+  given =
+      subst (λ (o : Option Handed). IfSome o (λ h. AreHandedOver v.base a.row.range v.journal h.ends)) noted
+      (row_was v a).ends_granted
+
+  low : IsNext (truths v a.row ++ rests v a.row) a.grant.floor
+  low =
+      subst (λ (o : Option Handed). IfSome o (λ h. IsNext (truths v a.row ++ rests v a.row) h.floor)) noted
+      (row_was v a).floor_granted
+
+  -- ---- what is handed over
+
+  -- of the row nothing is, since its target waits no more and the row does not open
+  none_waits : is_waiting (second_has (now v a).handovers a.row (second_of (lineage_of a.row.phase))) ≡ false
+  none_waits =
+      ap (λ (members : List Member). is_waiting (second_has (now v a).handovers a.row (second_of members))) a.may.may.lineage_is
+      ∙ of_handover v a (λ (h : Handover). is_wanting h.role ≡ false) (master v a) a.row.tablet (λ at its. refl) (λ apart. absurd (apart refl refl))
+
+  pub none_kept : handed_for_grant a.row (now v a).handovers v.handed ≡ None
+  none_kept =
+      cond-false (is_waiting (second_has (now v a).handovers a.row (second_of (lineage_of a.row.phase)))) (get v.handed a.row.tablet) None none_waits
+
+  pub none_sent : (body : Body) → handed_by a.row (now v a).handovers body ≡ None
+  none_sent (bodies.Transfer transfer) =
+      ap
+      (λ (opens : Bool). cond (opens && eqb transfer.tenure.tablet a.row.tablet && eqb transfer.tenure.term a.row.term)
+      (Some (record { floor = transfer.floor; ends = transfer.ends })) None)
+      (taker v a).moved
+  none_sent (bodies.Grant grant) =
+      let member = second_has (now v a).handovers a.row (second_of (lineage_of a.row.phase)) in
+      cond-false (eqb grant.tenure.tablet a.row.tablet && is_waiting_at member grant.tenure.term)
+      (Some (record { floor = grant.floor; ends = grant.ends })) None
+      (and_right (eqb grant.tenure.tablet a.row.tablet) (is_waiting_at member grant.tenure.term) (waiting_at member grant.tenure.term none_waits))
+  none_sent _ = refl
+
+  -- ---- what is staged
+
+  -- what is staged now tells what it told
+  tells : (r : Row) (end : Ended) → Contains v.rows r → Contains (told (rests v r)) end → Contains (told (rests (now v a) r)) end
+  tells r end has there =
+      ⊎_elim
+      (λ (its : r ≡ a.row).
+      let rest : List Entry = rests v a.row in
+      rw (its, rest_here v a, flat_map-append told_by rest (entry v a ∷ []))
+      (Contains-append_left (told rest) (told (entry v a ∷ [])) end (rw (← its) there)))
+      (λ (apart : r.tablet ≡ a.row.tablet → ⊥).
+      rw (rests_same v (grow v a) r has apart) there)
+      (row_cases v (grow v a) r has)
+
+  more : CallsOf (record v { written = (now v a).written }) (truths v) (rests (now v a))
+  more =
+      calls_more v (truths v) (rests v) (rests (now v a)) (now v a).written a.sound.calls tells
+      (truth_same v (grow v a))
+
+  -- the completions of the target are the ends that its source told
+  kept : ends_of (completions_from [] a.grant.ends) ≡ a.grant.ends
+  kept = rising_noted a.grant.ends a.may.rising
+
+  -- each end that a master keeps is known, or staged
+  pub known_on : (q r : ℕ) → v.live q ≡ true → All (λ end. IsKnown v.base v.journal end ⊎ IsStagedEnd v.rows (rests (now v a)) q r ((now v a).handovers q r).term end) (ends_of ((now v a).completions q r))
+  known_on q r lives =
+      of_tablet v (now v a) (master v a) a.row.tablet (tablet v a) (turned v a)
+      (λ q r t. All (λ end. IsKnown v.base v.journal end ⊎ IsStagedEnd v.rows (rests (now v a)) q r t.handover.term end) (ends_of t.completions))
+      q r
+      (let Known : Ended → Type 0 = λ end.
+      IsKnown v.base v.journal end ⊎ IsStagedEnd v.rows (rests (now v a)) (master v a) a.row.tablet (old v a).term end in
+      subst (All Known) (sym kept) (All-weaker (IsKnown v.base v.journal) Known (λ end known. inl known) a.grant.ends given.known))
+      (λ apart. more.known q r lives)
+
+  -- ---- who speaks
+
+  pub answers : (q : ℕ) → CountsFor (now v a) a.row q → SpeaksFor (now v a) a.row q → ReachAll a.row.range v.journal (ends_of ((now v a).completions q a.row.tablet))
+  answers q =
+      of_tablet v (now v a) (master v a) a.row.tablet (tablet v a) (turned v a)
+      (λ q r t. StillCounts (v.live q) t.handover.term a.row.term → speaks (post_of a.row.phase q) t.handover a.row.term ≡ true
+      → ReachAll a.row.range v.journal (ends_of t.completions))
+      q a.row.tablet (λ counts says. rw kept given.reached) (λ apart. (row_was v a).answering q)
+
+  -- only the target counts
+  pub counts_on : (q : ℕ) → CountsFor (now v a) a.row q → SpeaksFor (now v a) a.row q → IsNext (truths v a.row ++ rests (now v a) a.row) ((now v a).handovers q a.row.tablet).counter
+  counts_on q =
+      of_handover v a
+      (λ h. StillCounts (v.live q) h.term a.row.term → speaks (post_of a.row.phase q) h a.row.term ≡ true
+      → IsNext (truths v a.row ++ rests (now v a) a.row) h.counter)
+      q a.row.tablet
+      (λ at its counts says.
+      let carried : Carried = record {
+        range = (old v a).range;
+        term = (old v a).term;
+        floor = a.grant.floor;
+        ends = a.grant.ends;
+      } in
+      rw (rest_here v a) (carried_next (truths v a.row) (rests v a.row) carried a.grant.floor (omega arith) low))
+      (λ apart counts says.
+      absurd
+      (apart
+      (speaker_is a.row q (v.handovers q a.row.tablet) (v.written q).applied ((row_was v a).fitting q counts) says ∙ sym (taker v a).speaks) refl))
+
+  -- ---- the target begins
+
+  -- a target of a row has this
+  abbrev Targets : Row → Member → Member → Written → Tablet → Type 0
+  Targets x source target w t =
+      IsTarget x.range source.master (member_truth v.written x.range source) (member_material v.written x.range source) target.from w
+      t.handover t.pulling (get v.handed x.tablet) (v.records target.master)
+
+  -- the target that is granted its tablet
+  target_here : Targets a.row a.source a.target ((now v a).written (master v a)) (tablet v a)
+  target_here =
+      let truth : List Entry = member_truth v.written a.row.range a.source in
+      let material : List Entry = member_material v.written a.row.range a.source in
+      let w : Written = v.written (master v a) in
+      let table : List Held = v.records (master v a) in
+      rw a.may.may.told (of_written v a
+      (λ (w : Written). IsTarget a.row.range a.source.master truth material a.target.from w (tablet v a).handover (tablet v a).pulling
+      (Some (record { floor = a.grant.floor; ends = a.grant.ends })) table)
+      (master v a)
+      (λ at.
+      target_begins a.row.range a.source.master truth material a.target.from w (old v a) a.grant table (applied_within (v.logs (master v a)) w _ (a.sound.logs.each (master v a)))
+      (some v (grow v a) a.row a.may.may.has_row) (subst (λ (range : Range). IsBare range a.target.from w table) (ranged v a) (bare v a)) (ranged v a)
+      a.may.may.source_is (settled v a))
+      (λ apart. absurd (apart refl)))
+
+  abbrev written : ℕ → Written
+  written = (now v a).written
+
+  -- so the members of the row fit each other
+  pub members_here : MembersFit a.row written (now v a).handovers (now v a).pullings v.records v.handed (lineage_of a.row.phase)
+  members_here =
+      rw a.may.may.lineage_is (λ granted.
+      rw (truth_same v (grow v a) a.row.range a.source, material_other v (grow v a) a.row.range a.source (taker v a).apart)
+      (of_tablet v (now v a) (master v a) a.row.tablet (tablet v a) (turned v a) (λ q r t. Targets a.row a.source a.target (written q) t)
+      (master v a) a.row.tablet target_here (λ apart. absurd (apart refl refl))))
+
+  -- the source is another master
+  pub handed_here : HandedFits a.row (now v a).handovers (now v a).completions v.handed (lineage_of a.row.phase)
+  handed_here =
+      let was : HandedFits a.row v.handovers v.completions v.handed (a.source ∷ a.target ∷ []) =
+      subst (HandedFits a.row v.handovers v.completions v.handed) a.may.may.lineage_is (row_was v a).handed_on in
+      rw a.may.may.lineage_is (λ term.
+      of_tablet v (now v a) (master v a) a.row.tablet (tablet v a) (turned v a)
+      (λ q r t. q ≡ a.source.master → IsHandedBy (get v.handed a.row.tablet) t.handover t.completions) a.source.master a.row.tablet
+      (λ at. absurd ((taker v a).apart (sym at)))
+      (λ apart at. was (sym (same_term v a (master v a) a.row.tablet) ∙ term ∙ same_term v a a.source.master a.row.tablet)) refl)
+
+  -- what the target names is what it was
+  pub names_here : NamedFit written a.row.range (lineage_of a.row.phase)
+  names_here =
+      let was : NamedFit v.written a.row.range (a.source ∷ a.target ∷ []) =
+      subst (NamedFit v.written a.row.range) a.may.may.lineage_is (row_was v a).named_items in
+      rw a.may.may.lineage_is (λ item there.
+      rw (truth_same v (grow v a) a.row.range a.source) (was item
+      (rw (← (of_written v a
+      (λ (w : Written). named_items a.row.range a.target.from w ≡ named_items a.row.range a.target.from (v.written (master v a))) (master v a)
+      (λ at. named_stays a.row.range a.target.from (v.written (master v a)) (entry v a) refl (target_placed v a)) (λ apart. refl))) there)))
+
+  -- ---- rebuilds
+
+  -- of two members the first one is not the master
+  pub first_same : SameFirst v (grow v a) a.row.range (lineage_of a.row.phase)
+  first_same first last others two =
+      let both : first ∷ last ∷ others ≡ a.source ∷ a.target ∷ [] = sym two ∙ a.may.may.lineage_is in
+      let one : first ≡ a.source = cc both in
+      let away : first.master ≡ master v a → ⊥ = λ at. (taker v a).apart (ap (λ (m : Member). m.master) (sym one) ∙ at) in (
+        rest_other v (grow v a) a.row.range first away,
+        material_other v (grow v a) a.row.range first away,
+      )
+
+  -- ---- marks
+
+  -- the master has no mark of the row
+  none_marked : (q : ℕ) (mark : Mark) → q ≡ master v a → Contains (v.written q).marks mark → mark.tablet ≡ a.row.tablet → ⊥
+  none_marked q mark at there its =
+      let fit =
+      All-contains (λ m. m.tablet ≡ a.row.tablet → MarkFits a.row q (v.handovers q a.row.tablet) (v.live q) (v.written q) m)
+      (v.written q).marks mark ((row_was v a).marks q) there its in
+      let by = fit.by_rebuilder (fit.present (ap v.live at ∙ a.may.may.lives)) in
+      false≢true (sym (ap has_merged (waits v a q a.row.tablet at refl)) ∙ by.2)
+
+  -- so what holds of each mark of the row at another master holds of all
+  marked_by : (P : Written → Mark → Type 0) (q : ℕ) → All (λ mark. mark.tablet ≡ a.row.tablet → P (v.written q) mark) (v.written q).marks → All (λ mark. mark.tablet ≡ a.row.tablet → P (written q) mark) (written q).marks
+  marked_by P q was =
+      of_written v a (λ (w : Written). All (λ mark. mark.tablet ≡ a.row.tablet → P w mark) w.marks) q
+      (λ at.
+      all_by (λ mark. mark.tablet ≡ a.row.tablet → P (with_one_more (v.written q) (entry v a)) mark) (v.written q).marks
+      (λ mark there its. absurd (none_marked q mark at there its)))
+      (λ apart. was)
+
+  pub marks_here : (q : ℕ) → All (λ mark. mark.tablet ≡ a.row.tablet → MarkFits a.row q ((now v a).handovers q a.row.tablet) (v.live q) (written q) mark) (written q).marks
+  marks_here q =
+      marked_by (MarkFits a.row q ((now v a).handovers q a.row.tablet) (v.live q)) q
+      (of_tablet v (now v a) (master v a) a.row.tablet (tablet v a) (turned v a)
+      (λ q r t. All (λ mark. mark.tablet ≡ a.row.tablet → MarkFits a.row q t.handover (v.live q) (v.written q) mark) (v.written q).marks) q a.row.tablet
+      (all_by
+      (λ mark. mark.tablet ≡ a.row.tablet → MarkFits a.row (master v a) (tablet v a).handover (v.live (master v a)) (v.written (master v a)) mark)
+      (v.written (master v a)).marks (λ mark there its. absurd (none_marked (master v a) mark refl there its)))
+      (λ apart. (row_was v a).marks q))
+
+  pub pieces_here : (q : ℕ) → All (λ mark. mark.tablet ≡ a.row.tablet → HasOwnRange a.row.range (written q).entries mark) (written q).marks
+  pieces_here q = marked_by (λ w mark. HasOwnRange a.row.range w.entries mark) q ((row_was v a).pieces q)
+
+  -- ---- masters that rebuild
+
+  abbrev IsRebuiltIn : View → Phase → Type 0
+  IsRebuiltIn w phase =
+      RowIsRebuilt a.row phase (truths v a.row) w.logs w.written v.stored w.handovers w.completions w.gathers w.merged v.records v.live
+
+  pub rebuilt_here : (phase : Phase) → a.row.phase ≡ phase → IsRebuiltIn v phase → IsRebuiltIn (now v a) phase
+  rebuilt_here (Rebuilding lineage to) is fit = (
+    of_tablet v (now v a) (master v a) a.row.tablet (tablet v a) (turned v a)
+        (λ q r t. t.handover.term ≡ a.row.term
+        → IsRebuilderIn (now v a).logs written v.stored a.row lineage q (truths v a.row) t.handover t.completions t.gather t.merged_ends (v.records q))
+        to a.row.tablet
+        (λ term. let less : (old v a).term < a.row.term = (taker v a).behind lineage to is in absurd (omega (arith, less, term)))
+        (λ apart term.
+        rebuilds_other v (grow v a) a.row a.may.may.has_row lineage to is (v.handovers to a.row.tablet)
+        (v.completions to a.row.tablet) (v.gathers to a.row.tablet) (v.merged to a.row.tablet) (λ at. apart at refl) (fit.0 term)),
+    marked_more v (grow v a) a.row.range lineage
+        (λ first last others two. first_same first last others (ap lineage_of is ∙ two)) fit.1,
+  )
+  rebuilt_here _ is fit = tt
+
+  -- ---- the whole
+
   -- a tablet is absent, and has its range, as before
   absent_same : (q r : ℕ) → is_absent ((now v a).handovers q r).role ≡ is_absent (v.handovers q r).role
   absent_same = by_role v a is_absent refl
 
   range_same : (q r : ℕ) → ((now v a).handovers q r).range ≡ (v.handovers q r).range
   range_same = seen_same v a (λ h. h.range) (λ h is. refl)
-
-  abbrev written : ℕ → Written
-  written = (now v a).written
 
   truths_now : truths (now v a) a.row ≡ truths v a.row
   truths_now = truths_same v (grow v a) a.row
@@ -65,18 +400,18 @@ module _ (v : View) (a : Granting v) where
         reached = rw truths_now was.reached;
         recorded = rw truths_now was.recorded;
         moving = rw target_now was.moving;
-        answering = answers v a;
-        ends_granted = rw (none_kept v a) tt;
-        ends_sent = λ n m there. rw (none_sent v a m.body) tt;
+        answering = answers;
+        ends_granted = rw none_kept tt;
+        ends_sent = λ n m there. rw (none_sent m.body) tt;
         low = rw truths_now was.low;
         low_moving = rw target_now was.low_moving;
-        counted = λ q counts says. rw truths_now (counts_on v a q counts says);
-        floor_granted = rw (none_kept v a) tt;
-        floor_sent = λ n m there. rw (none_sent v a m.body) tt;
+        counted = λ q counts says. rw truths_now (counts_on q counts says);
+        floor_granted = rw none_kept tt;
+        floor_sent = λ n m there. rw (none_sent m.body) tt;
         goes_on =
             rw (truths_now, rest_here v a)
-            (carried_rest v.base a.row.range (truths v a.row) (rests v a.row) v.journal v.asked _ (given v a).known was.goes_on);
-        done = done_more v (grow v a) a.row.range (lineage_of a.row.phase) (first_same v a) was.done;
+            (carried_rest v.base a.row.range (truths v a.row) (rests v a.row) v.journal v.asked _ given.known was.goes_on);
+        done = done_more v (grow v a) a.row.range (lineage_of a.row.phase) first_same was.done;
         unnamed = rw a.may.may.lineage_is tt;
         idle = λ q.
             of_handover v a
@@ -92,12 +427,12 @@ module _ (v : View) (a : Granting v) where
             (same_term v a q a.row.tablet))
             ∙ has))
             (λ member table. rw (truth_same v (grow v a) a.row.range member) table);
-        target = members_here v a;
-        handed_on = handed_here v a;
-        named_items = names_here v a;
-        rebuilt = rw truths_now (rebuilt_here v a a.row.phase refl was.rebuilt);
-        marks = marks_here v a;
-        pieces = pieces_here v a;
+        target = members_here;
+        handed_on = handed_here;
+        named_items = names_here;
+        rebuilt = rw truths_now (rebuilt_here a.row.phase refl was.rebuilt);
+        marks = marks_here;
+        pieces = pieces_here;
         says = λ n m there.
             says_here v a m.from m.to m.body
             (says_more v (grow v a) a.row a.may.may.has_row m.from m.to m.body (was.says n m there));
@@ -132,9 +467,8 @@ module _ (v : View) (a : Granting v) where
     covered = a.sound.rows.covered;
     kept = λ q r.
         of_handover v a (λ h. All (λ x. HandoverFits x r h) v.rows) q r
-        (λ at its.
-        All-weaker (λ x. HandoverFits x r (v.handovers q r)) (λ x. HandoverFits x r (as_granted a.grant.floor (v.handovers q r)))
-        (λ x fits. record { within = fits.within; below = fits.below; exact = fits.exact }) v.rows (a.sound.terms.kept q r))
+        (λ at its k d within.
+        let fits = a.sound.terms.kept q r k d within in record { within = fits.within; below = fits.below; exact = fits.exact })
         (λ apart. a.sound.terms.kept q r);
     begun = λ q r there.
         rw (same_term v a q r) (a.sound.terms.begun q r (sym (absent_same q r) ∙ there));
@@ -148,7 +482,7 @@ module _ (v : View) (a : Granting v) where
     rising = a.sound.truth.rising;
     seen = a.sound.truth.seen;
     once = a.sound.calls.once;
-    known = known_on v a;
+    known = known_on;
     waiting = λ q lives k c there.
         waits_more v (grow v a) (now v a).handovers
         (λ q r staged. of_handover v a (λ h. may_have_staged h.role ≡ true) q r (λ at its. refl) (λ apart. staged)) q k c

@@ -1,11 +1,12 @@
 -- What a target that waits for its grant is to its row, and what its post says of it once it was granted.
 use Rattle.std.proofs.Common.{◌≡◌, ℕ, ◌<◌, true, false, cond, List, [], ◌∷◌, refl, sym, ap, ◌∙◌, subst, ⊎_elim, ◌==◌, eq-eqb, eqb-true}
 use Rattle.std.proofs.Common.{ne_eqb}
-use Rattle.rk_inv_base.proofs.Words.{cases_Bool, cond-true, cond-false, or_left, or_right, Member, lineage_of, Phase, Moving, Rebuilding}
-use Rattle.rk_inv_base.proofs.Words.{is_member, is_opening, Post, FirstRebuilder, FormerMember, LastRebuilder, MovingSource, MovingTarget}
+use Rattle.rk_inv_base.proofs.Words.{cases_Bool, cond-true, cond-false, Member, lineage_of, Phase, Moving, Rebuilding, is_member}
+use Rattle.rk_inv_base.proofs.Words.{is_opening, Post, FirstRebuilder, FormerMember, LastRebuilder, MovingSource, MovingTarget}
 use Rattle.rk_inv_base.proofs.Words.{OutsideRebuilder, Bystander, bond_of, post_of, rebuilder_post, Holds, IsFormed}
-use Rattle.rk_inv_tablets.proofs.Words.{speaker_of}
 use Rattle.rk_transfer.specs.declared.role.Role.TheVariants as roles
+use Rattle.rk_inv_tablets.proofs.Words.{speaker_of}
+use Rattle.rk_inv_tablets.proofs.ready.Outside.{second_member, last_post}
 
 -- a master is the second of two members of a lineage, and may take a grant: it is another one than the first, its post takes a target
 -- that pulls, and it alone may speak for the row, which does not open; where it is to rebuild the row, it keeps a smaller term
@@ -15,12 +16,6 @@ pub record IsTaker (phase : Phase) (source master term own applied : ℕ) : Type
   pub speaks : master ≡ speaker_of phase
   pub moved : is_opening phase ≡ false
   pub behind : (lineage : List Member) (to : ℕ) → phase ≡ Rebuilding lineage to → own < term
-
--- the second of two members is one of them
-second_member : (source target : Member) → is_member (source ∷ target ∷ []) target.master ≡ true
-second_member source target =
-    or_right (source.master == target.master) (is_member (target ∷ []) target.master)
-    (or_left (target.master == target.master) false (eq-eqb target.master target.master refl))
 
 module _ (term own applied from : ℕ) where
   -- a master with this post waits for its grant, and with this one it may take it
@@ -60,10 +55,7 @@ module _ (term own applied from : ℕ) where
       let lineage : List Member = source ∷ target ∷ [] in
       let q : ℕ = target.master in
       let others : Post = cond (is_member lineage q) FormerMember Bystander in
-      let heir : rebuilder_post lineage q ≡ LastRebuilder target.from =
-      cond-false (source.master == q) (FirstRebuilder source.from) (cond (q == q) (LastRebuilder target.from) OutsideRebuilder)
-      (ne_eqb source.master q formed)
-      ∙ cond-true (q == q) (LastRebuilder target.from) OutsideRebuilder (eq-eqb q q refl) in
+      let heir : rebuilder_post lineage q ≡ LastRebuilder target.from = last_post source target q formed refl in
       ⊎_elim
       (λ (e : (to == q) ≡ true).
       let post : post_of (Rebuilding lineage to) q ≡ LastRebuilder target.from =
@@ -80,7 +72,7 @@ module _ (term own applied from : ℕ) where
       (λ (e : (to == q) ≡ false).
       let post : post_of (Rebuilding lineage to) q ≡ FormerMember =
       cond-false (to == q) (rebuilder_post lineage q) others e
-      ∙ cond-true (is_member lineage q) FormerMember Bystander (second_member source target) in
+      ∙ cond-true (is_member lineage q) FormerMember Bystander (second_member source target []) in
       let never : Waits FormerMember = subst Waits post waits in
       absurd never)
       (cases_Bool (to == q))

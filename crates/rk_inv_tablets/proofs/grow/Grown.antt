@@ -1,7 +1,7 @@
 -- The law of longer logs: where a living master's log has more behind it, all of one row's range, each other row has what it had; and so
 -- has what stands beside rows. So a change by which a master appends entries is shown by what is to hold of their row.
 use Rattle.std.proofs.Common.{◌≡◌, ◌<◌, ◌≤◌, ◌-◌, ◌⊎◌, ℕ, suc, max, true, false, List, [], ◌∷◌, ◌++◌, length, refl, sym, ap, ◌∙◌, subst}
-use Rattle.std.proofs.Common.{⊎_elim, arith, is_some, slice_get, drop, take, All, Contains, length-append, inl, inr}
+use Rattle.std.proofs.Common.{⊎_elim, arith, is_some, slice_get, drop, take, All, Contains, length-append, inl, inr, slice_index_or}
 use Rattle.rk_inv_base.proofs.Words.{IsReadPart, cases_eq, cases_lt, cases_Bool, both_ways, false≢true, All-append, All-contains, All-head}
 use Rattle.rk_inv_base.proofs.Words.{All-tail, All-weaker, IfSome_then, hash_of, has_all, meets, Call, Member, Node, Range, Entry, Handover}
 use Rattle.rk_inv_base.proofs.Words.{is_absent, lineage_of, row_of, Phase, Rebuilding, Row, Known, Log, known_of, EntryEnd, Body}
@@ -12,18 +12,17 @@ use Rattle.rk_inv_base.proofs.Words.{HasOwnRange, IsOfRange, IsPieceOf, IsRebuil
 use Rattle.rk_inv_base.proofs.Words.{READ_BACKUP, RowIsRebuilt, marked_entries, member_marked, member_stored, merged_place, stored_count}
 use Rattle.rk_inv_base.proofs.Words.{IsBare, MembersFit, NamedFit, FirstIsDone, EachHasCall, OnlyIsUnnamed, Waits, IsPlaced, IsEntryWithin}
 use Rattle.rk_inv_base.proofs.Words.{IsOfWholeRows, View, truths, rests, SoundView, CoverOf, LogsOf, slice_get_front, joined_from}
-use Rattle.rk_inv_base.proofs.Words.{Completions, Gather, Ended, take-append-le, get}
+use Rattle.rk_inv_base.proofs.Words.{Completions, Gather, Ended, take-append-le, get, slice_get_within, false_from_ne_true}
+use Rattle.rk_entry.specs.declared.entry.Entry.TheVariants as entries
+use Rattle.rk_message.specs.declared.message.Body.TheVariants as bodies
 use Rattle.rk_inv_tablets.proofs.Words.{member as member_at, truth_by, truth_is, piece_push, IsRebuilderIn, former_gone, mark_same}
 use Rattle.rk_inv_tablets.proofs.Words.{IsBareOf, waits_then, applied_within, Extends, extends_behind, tells_extended, rows_apart}
 use Rattle.rk_inv_tablets.proofs.Words.{same_number, meets_either, stands_found, target_truth_same, SaysIn, SoundRow, row_in, covered_by}
 use Rattle.rk_inv_tablets.proofs.Words.{all_by, needed_member, part_weaker, rebuilder_weaker, SeenTablet, alone, row_kept, seen_at}
 use Rattle.rk_inv_tablets.proofs.Words.{by_master, if_master}
-use Rattle.rk_entry.specs.declared.entry.Entry.TheVariants as entries
-use Rattle.rk_message.specs.declared.message.Body.TheVariants as bodies
 use Rattle.rk_outside.specs.Segments.{bytes_of as copied_bytes}
-use Rattle.rk_inv_tablets.proofs.grow.MoreLog.{HasMore, LeavesRange, has_itself, joined_more, leaves_itself, leaves_more, target_leaves}
-use Rattle.rk_inv_tablets.proofs.grow.MoreLog.{touched_more}
-use Rattle.rk_inv_tablets.proofs.merge.Pieces.{at_front, at_within}
+use Rattle.rk_inv_tablets.proofs.grow.MoreLog.{HasMore, LeavesRange, has_itself, joined_more, leaves_more, target_leaves, touched_more}
+use Rattle.rk_inv_tablets.proofs.merge.Pieces.{at_front}
 
 -- these are logs, and this is written, where a living master that has a row's tablet appended to its log what is of the row's range
 pub record Growing (v : View) : Type 0 where
@@ -79,18 +78,11 @@ module _ (v : View) (grow : Growing v) where
   -- rows of other tablets do not meet it
   pub far : (x : Row) → Contains v.rows x → (x.tablet ≡ row.tablet → ⊥) → meets row.range x.range ≡ false
   far x has apart =
-      ⊎_elim
-      (λ (met : meets row.range x.range ≡ true). absurd (rows_apart v row x grow.sound grow.has_row has (λ same. apart (sym same)) met))
-      (λ (e : meets row.range x.range ≡ false). e)
-      (cases_Bool (meets row.range x.range))
+      false_from_ne_true (meets row.range x.range) (λ met. rows_apart v row x grow.sound grow.has_row has (λ same. apart (sym same)) met)
 
   -- what they see of each log is what they saw
   leaves : (x : Row) → Contains v.rows x → (x.tablet ≡ row.tablet → ⊥) → (q : ℕ) → LeavesRange x.range (v.written q) (written q)
   leaves x has apart q = leaves_more row x.range (far x has apart) (some x has) (v.written q) (written q) (grow.more q)
-
-  -- and so is what any row sees of another master's
-  leaves_other : (x : Row) (q : ℕ) → (q ≡ master → ⊥) → LeavesRange x.range (v.written q) (written q)
-  leaves_other x q away = rw (grow.others q away) (leaves_itself x.range (v.written q))
 
   -- a dead master is not the one that appends
   pub dead_apart : (q : ℕ) → v.live q ≡ false → q ≡ master → ⊥
@@ -252,12 +244,12 @@ module _ (v : View) (grow : Growing v) where
             term_is = was.term_is;
             behind = was.behind;
             alone =
-                All-weaker (λ m. Contains w.marks m ⊎ (m.tablet ≡ row.tablet)) (λ m. m.tablet ≡ x.tablet → m ≡ was.mark)
-                (λ m either its.
+                λ k d inside its.
                 ⊎_elim
-                (λ (old : Contains w.marks m). All-contains (λ m. m.tablet ≡ x.tablet → m ≡ was.mark) w.marks m was.alone old its)
-                (λ (new : m.tablet ≡ row.tablet). absurd (apart (sym its ∙ new))) either)
-                (written to).marks more.marks;
+                (λ (old : Contains w.marks (slice_index_or (written to).marks k d)).
+                All-contains (λ m. m.tablet ≡ x.tablet → m ≡ was.mark) w.marks _ was.alone old its)
+                (λ (new : (slice_index_or (written to).marks k d).tablet ≡ row.tablet). absurd (apart (sym its ∙ new)))
+                (more.marks k d inside);
             stands =
                 ap (λ (list : List Entry). take (suc entry - was.mark.first) (drop was.mark.first list)) more.entries
                 ∙ piece_push was.mark.first (suc entry) w.entries more.list (omega (arith, past, was.past_is)) ∙ was.stands;
@@ -533,7 +525,7 @@ module _ (v : View) (grow : Growing v) where
         stands =
             ap (λ (l : List Entry). slice_get l k) more.entries ∙ slice_get_front (v.written q).entries more.list k was.entry was.stands;
         own = was.own;
-        unmarked = more.marked k (at_within (v.written q).entries k was.entry was.stands) ∙ was.unmarked;
+        unmarked = more.marked k (slice_get_within (v.written q).entries k was.entry was.stands) ∙ was.unmarked;
         row = was.row;
         has_row = was.has_row;
         in_row = was.in_row;

@@ -8,14 +8,13 @@ use Rattle.rk_inv_base.proofs.Words.{All-tail, All-weaker, Contains-append_left,
 use Rattle.rk_inv_base.proofs.Words.{Held, Range, Entry, is_in, Handover, Row, Handed, items_of, is_marked, unmarked_from, touches}
 use Rattle.rk_inv_base.proofs.Words.{counting, counts, is_joined_in, joined_from, log_material, material_of, named_by, side_entries}
 use Rattle.rk_inv_base.proofs.Words.{with_number, Pulling, Written, applied_entries, Mark, IsOfRange, IsTarget, is_call_entry, named_items}
-use Rattle.rk_inv_base.proofs.Words.{with_one_more, has_all, nat_tests}
+use Rattle.rk_inv_base.proofs.Words.{with_one_more, has_all, nat_tests, slice_get_within, list_any_none}
 use Rattle.rk_inv_tablets.proofs.Words.{Extends, counting_extends, take_extends, apart_either, entry_apart, unless_marked}
 use Rattle.rk_inv_tablets.proofs.Words.{unmarked_from_last, unmarked_from_none, with_piece}
 use Rattle.rk_entry.specs.declared.entry.Entry.TheVariants as entries
 use Rattle.rk_inv_tablets.proofs.grow.Targets.{IsBeside, target_marked, target_more}
-use Rattle.rk_inv_tablets.proofs.merge.OfRange.{joins_none, none_passes, touches_none}
-use Rattle.rk_inv_tablets.proofs.merge.Pieces.{at_within, from_front, from_piece, from_taken, kept_more, marked_before, marked_in}
-use Rattle.rk_inv_tablets.proofs.merge.Pieces.{none_more}
+use Rattle.rk_inv_tablets.proofs.merge.OfRange.{joins_none, touches_none}
+use Rattle.rk_inv_tablets.proofs.merge.Pieces.{from_front, from_piece, from_taken, kept_more, marked_before, marked_in, none_more}
 
 -- a range has all of itself
 pub has_itself : (range : Range) → has_all range range ≡ true
@@ -68,7 +67,7 @@ more_itself row w = record {
       All-weaker (Contains w.marks) (λ mark. Contains w.marks mark ⊎ (mark.tablet ≡ row.tablet)) (λ mark there. inl there) w.marks
       (All-contains_itself w.marks);
   marked = λ k within. refl;
-  fresh = λ k entry past stands own free. absurd (omega (arith, past, at_within w.entries k entry stands));
+  fresh = λ k entry past stands own free. absurd (omega (arith, past, slice_get_within w.entries k entry stands));
   truth = λ range from. refl;
   free = λ from. record {
     few = [];
@@ -98,7 +97,7 @@ module _ (row : Row) (w : Written) (entry : Entry) (applies : w.applied ≤ leng
     marked = λ k within. refl;
     fresh = λ k other past stands call free.
         ⊎_elim
-        (λ (before : slice_get w.entries k ≡ Some other). omega (arith, past, at_within w.entries k other before))
+        (λ (before : slice_get w.entries k ≡ Some other). omega (arith, past, slice_get_within w.entries k other before))
         (λ (last : (k ≡ length w.entries) × (entry ≡ other)). false≢true (sym own ∙ ap is_call_entry last.1 ∙ call))
         (slice_get_push_cases w.entries entry other k stands);
     truth = λ range from.
@@ -134,7 +133,7 @@ module _ (row : Row) (w : Written) (list : List Entry) (mark : Mark) (applies : 
     marks = All-push (λ other. Contains w.marks other ⊎ (other.tablet ≡ row.tablet)) w.marks mark (more_itself row w).marks (inr its);
     marked = λ k within. marked_before w.marks mark k (omega (arith, within, first));
     fresh = λ k entry behind stands call free.
-        let within = at_within (w.entries ++ list) k entry stands in
+        let within = slice_get_within (w.entries ++ list) k entry stands in
         let size = length-append w.entries list in
         false≢true (sym free ∙ marked_in w.marks mark k (omega (arith, behind, first)) (omega (arith, within, size, first, past)));
     truth = λ range from.
@@ -177,28 +176,19 @@ pub record LeavesRange (range : Range) (old new : Written) : Type 0 where
       → list_any (touches range) (unmarked_from new.marks from new.entries) ≡ false
   pub named : (from : ℕ) → named_items range from new ≡ named_items range from old
 
-pub leaves_itself : (range : Range) (w : Written) → LeavesRange range w w
-leaves_itself range w = record {
-  material = λ from. refl;
-  rest = λ from. refl;
-  touched = λ from none. none;
-  behind = λ from none. none;
-  named = λ from. refl;
-}
-
 -- no Joined of any range is new
 pub joined_more : (row : Row) (old new : Written) → HasMore row old new → (range : Range) (from : ℕ) → joined_from range from new.entries ≡ joined_from range from old.entries
 joined_more row old new more range from =
     ap (joined_from range from) more.entries
     ∙ kept_more (is_joined_in range) from old.entries more.list
-    (none_passes (is_joined_in range) more.list
+    (list_any_none (is_joined_in range) more.list
     (All-weaker _ _ (joins_none row.range range) more.list more.inside))
 
 module _ (row : Row) (range : Range) (far : meets row.range range ≡ false) where
   -- no entry of the row's range touches the other one
   untouched : (list : List Entry) → All (IsOfRange row.range) list → list_any (touches range) list ≡ false
   untouched list of =
-      none_passes (touches range) list
+      list_any_none (touches range) list
       (All-weaker _ _ (touches_none row.range range far (apart_either row.range range far)) list of)
 
   pub touched_more : (old new : Written) → HasMore row old new → (from : ℕ) → list_any (touches range) (drop from old.entries) ≡ false → list_any (touches range) (drop from new.entries) ≡ false
@@ -220,7 +210,7 @@ module _ (row : Row) (range : Range) (far : meets row.range range ≡ false) (so
   uncounted : (list few : List Entry) → All (IsOfRange row.range) few → counting range (list ++ few) ≡ counting range list
   uncounted list few of =
       kept_more (counts range) 0 list few
-      (none_passes (counts range) few
+      (list_any_none (counts range) few
       (All-weaker (IsBeside range) (λ e. counts range e ≡ false) (λ e its. its.uncounted) few (beside few of)))
 
   unnamed : (list few : List Entry) → All (IsOfRange row.range) few → flat_map (named_by range) (list ++ few) ≡ flat_map (named_by range) list

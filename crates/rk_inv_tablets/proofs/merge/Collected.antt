@@ -8,17 +8,17 @@ use Rattle.rk_inv_base.proofs.Words.{Gather, Gathered, LAST_MAIN_SEGMENT, by_mem
 use Rattle.rk_inv_base.proofs.Words.{counting, names, IsMaster, own_place, Written, member_material, stored_of, OnlyRebuilder}
 use Rattle.rk_inv_base.proofs.Words.{FirstRebuilder, LastRebuilder, OutsideRebuilder, FormerMember, Bystander, Holds, bond_of, post_of}
 use Rattle.rk_inv_base.proofs.Words.{rebuilder_post, IsGathered, MarkedFit, NeededOf, READ_BACKUP, RowIsRebuilt, TellNoMore}
-use Rattle.rk_inv_base.proofs.Words.{closing_carried, member_marked, member_stored, AreApart, IsFormed, View, truths}
+use Rattle.rk_inv_base.proofs.Words.{closing_carried, member_marked, member_stored, AreApart, IsFormed, View, truths, false_from_ne_true}
 use Rattle.rk_inv_tablets.proofs.Words.{member as member_at, contains_cases, kept_stands, each_member, members_by, all_by, former_gone}
 use Rattle.rk_inv_tablets.proofs.Words.{IsToldIn, own_entries, row_in}
 use Rattle.rk_transfer.specs.declared.role.Role.TheVariants as roles
-use Rattle.rk_inv_tablets.proofs.crash.Among.{flat_of}
 use Rattle.rk_inv_tablets.proofs.crash.MergeTells.{IsToldBy, all_stand_told, all_told, piece_told, read_all, read_told, stands_told}
 use Rattle.rk_inv_tablets.proofs.crash.MergeTells.{told_through}
 use Rattle.rk_inv_tablets.proofs.crash.ReadTold.{AreMarksTold, counted_told, side_material}
 use Rattle.rk_inv_tablets.proofs.crash.Unmarked.{first_among, marked_stands}
 use Rattle.rk_inv_tablets.proofs.merge.MaterialTold.{all_material, material_told}
 use Rattle.rk_inv_tablets.proofs.merge.Merging.{Merging, fit, gathers, merged, old, own_is, piece, rebuilder, rebuilt, some}
+use Rattle.rk_inv_tablets.proofs.ready.OwnItems.{flat_stands}
 
 -- ---- who rebuilds
 
@@ -63,7 +63,7 @@ module _ (v : View) (range : Range) (lineage : List Member) where
   pub member_told : (m : Member) → Contains lineage m → All (IsToldBy materials) (member_material v.written range m)
   member_told m has =
       all_stand_told (member_material v.written range m) materials
-      (λ e at. flat_of (member_material v.written range) lineage m e has at)
+      (λ e at. flat_stands (member_material v.written range) lineage m e has at)
 
   -- nor does what a backup stores of it
   pub stored_told : (m : Member) → Contains lineage m → All (IsToldBy materials) (member_stored v.logs v.written v.stored range m)
@@ -71,7 +71,7 @@ module _ (v : View) (range : Range) (lineage : List Member) where
       let w : Written = v.written m.master in
       all_stand_told (member_stored v.logs v.written v.stored range m) materials
       (λ e at.
-      flat_of (member_material v.written range) lineage m e has
+      flat_stands (member_material v.written range) lineage m e has
       (Contains-append_left (counting range (unmarked_from w.marks m.from w.entries)) (side_material range m w) e
       (first_among w.marks range m.from _ w.entries e at)))
 
@@ -81,7 +81,7 @@ module _ (v : View) (range : Range) (lineage : List Member) where
       let w : Written = v.written m.master in
       all_stand_told (side_material range m w) materials
       (λ e at.
-      flat_of (member_material v.written range) lineage m e has
+      flat_stands (member_material v.written range) lineage m e has
       (Contains-append_right (counting range (unmarked_from w.marks m.from w.entries)) (side_material range m w) e at))
 
 -- what tells no more than some tells no more than what tells these
@@ -184,11 +184,8 @@ module _ (v : View) (a : Merging v) where
 
   dead : (m : Member) → Contains lineage m → (m.master ≡ a.master → ⊥) → v.live m.master ≡ false
   dead m has away =
-      ⊎_elim
-      (λ (lives : v.live m.master ≡ true).
-      absurd (former_gone v a.sound.roles a.row a.has_row lineage a.master m.master (rebuilt v a).1 lives away (is_one m has)))
-      (λ (e : v.live m.master ≡ false). e)
-      (cases_Bool (v.live m.master))
+      false_from_ne_true (v.live m.master)
+      (λ lives. former_gone v a.sound.roles a.row a.has_row lineage a.master m.master (rebuilt v a).1 lives away (is_one m has))
 
   backed : (m : Member) → Contains lineage m → IsBackup (v.logs m.master) READ_BACKUP
   backed m has =

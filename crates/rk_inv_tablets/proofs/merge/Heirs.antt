@@ -1,6 +1,6 @@
 -- A master that gathers for a tablet is the one that rebuilds its row, and keeps the row's term.
 use Rattle.std.proofs.Common.{◌≡◌, ℕ, ◌<◌, true, cond, List, Option, Some, None, refl, sym, ap, ◌∙◌, inr, arith, ◌==◌, ◌||◌, ◌&&◌, nat_lt}
-use Rattle.std.proofs.Common.{eqb-true, ltb-true}
+use Rattle.std.proofs.Common.{Bool, false, eqb-true, ltb-true}
 use Rattle.rk_inv_base.proofs.Words.{cond_both, false≢true, Member, is_serving, Handover, Role, Phase, Owned, Opening, Moving, Rebuilding}
 use Rattle.rk_inv_base.proofs.Words.{is_member, is_gathering, is_rebuilding, Post, Owner, OpeningSource, MovingSource, MovingTarget}
 use Rattle.rk_inv_base.proofs.Words.{OnlyRebuilder, FirstRebuilder, LastRebuilder, OutsideRebuilder, FormerMember, Bystander, bond_of}
@@ -40,35 +40,32 @@ module _ (term own applied from : ℕ) where
   of_target None holds = holds
   of_target (Some place) holds = holds
 
+  -- what holds of three posts holds of one that is chosen by two tests
+  of_three : (P : Post → Type 0) (a b : Bool) (one other third : Post) → P one → P other → P third → P (cond a one (cond b other third))
+  of_three P true b one other third first second last = first
+  of_three P false true one other third first second last = second
+  of_three P false false one other third first second last = last
+
   -- so the row is rebuilt by it
   pub gathering_rebuilds : (phase : Phase) (q : ℕ) → Gathers (post_of phase q) → (lineage : List Member) × (phase ≡ Rebuilding lineage q)
-  gathering_rebuilds (Owned owner place) q =
-      cond_both (owner == q) (Owner place) Bystander (λ post. Gathers post → (lineage : List Member) × (Owned owner place ≡ Rebuilding lineage q))
-      (λ e holds. absurd holds) (λ e holds. absurd holds)
-  gathering_rebuilds (Opening source sfrom target dfrom) q =
-      cond_both (source == q) OpeningSource (cond (target == q) (target_post dfrom) Bystander)
-      (λ post. Gathers post → (lineage : List Member) × (Opening source sfrom target dfrom ≡ Rebuilding lineage q))
-      (λ e holds. absurd holds)
-      (λ e.
-      cond_both (target == q) (target_post dfrom) Bystander
-      (λ post. Gathers post → (lineage : List Member) × (Opening source sfrom target dfrom ≡ Rebuilding lineage q))
-      (λ e holds. absurd (of_target dfrom holds)) (λ e holds. absurd holds))
-  gathering_rebuilds (Moving source sfrom target dfrom) q =
-      cond_both (source == q) MovingSource (cond (target == q) (MovingTarget dfrom) Bystander)
-      (λ post. Gathers post → (lineage : List Member) × (Moving source sfrom target dfrom ≡ Rebuilding lineage q))
-      (λ e holds. absurd holds)
-      (λ e.
-      cond_both (target == q) (MovingTarget dfrom) Bystander
-      (λ post. Gathers post → (lineage : List Member) × (Moving source sfrom target dfrom ≡ Rebuilding lineage q))
-      (λ e holds. absurd holds) (λ e holds. absurd holds))
-  gathering_rebuilds (Rebuilding lineage to) q =
+  gathering_rebuilds (Owned owner place) q holds =
+      absurd (of_three (λ post. Gathers post → ⊥) (owner == q) false (Owner place) Bystander Bystander (λ no. no) (λ no. no) (λ no. no) holds)
+  gathering_rebuilds (Opening source sfrom target dfrom) q holds =
+      absurd
+      (of_three (λ post. Gathers post → ⊥) (source == q) (target == q) OpeningSource (target_post dfrom) Bystander (λ no. no) (of_target dfrom)
+      (λ no. no) holds)
+  gathering_rebuilds (Moving source sfrom target dfrom) q holds =
+      absurd
+      (of_three (λ post. Gathers post → ⊥) (source == q) (target == q) MovingSource (MovingTarget dfrom) Bystander (λ no. no) (λ no. no)
+      (λ no. no) holds)
+  gathering_rebuilds (Rebuilding lineage to) q holds =
       cond_both (to == q) (rebuilder_post lineage q) (cond (is_member lineage q) FormerMember Bystander)
       (λ post. Gathers post → (other : List Member) × (Rebuilding lineage to ≡ Rebuilding other q))
       (λ e holds. (lineage, ap (λ (n : ℕ). Rebuilding lineage n) (eqb-true to q e)))
-      (λ e.
-      cond_both (is_member lineage q) FormerMember Bystander
-      (λ post. Gathers post → (other : List Member) × (Rebuilding lineage to ≡ Rebuilding other q))
-      (λ e holds. absurd holds) (λ e holds. absurd holds))
+      (λ e holds.
+      absurd
+      (of_three (λ post. Gathers post → ⊥) (is_member lineage q) false FormerMember Bystander Bystander (λ no. no) (λ no. no) (λ no. no) holds))
+      holds
 
 -- for rows and messages it goes on as it was
 pub merged_goes_on : (from place : ℕ) → GoesOn (roles.Rebuilding from None) (roles.Rebuilding from (Some place))

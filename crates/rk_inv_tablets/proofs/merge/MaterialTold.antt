@@ -7,26 +7,17 @@ use Rattle.rk_inv_base.proofs.Words.{is_joined_in, joined_from, named, named_by,
 use Rattle.rk_inv_base.proofs.Words.{member_material, member_rest, member_truth, NamedFit, FirstIsDone, OnlyIsUnnamed, AreApart}
 use Rattle.rk_inv_tablets.proofs.Words.{contains_cases, behind_at, kept_stands, stands_kept}
 use Rattle.rk_entry.specs.declared.entry.Entry.TheVariants as entries
-use Rattle.rk_inv_tablets.proofs.crash.Among.{flat_from, flat_of, named_from, named_of}
+use Rattle.rk_inv_tablets.proofs.crash.Among.{named_from, named_of}
 use Rattle.rk_inv_tablets.proofs.crash.MarksTold.{sides_named}
 use Rattle.rk_inv_tablets.proofs.crash.MergeTells.{item_told}
-use Rattle.rk_inv_tablets.proofs.crash.ReadTold.{side_material, stands_there}
-use Rattle.rk_inv_tablets.proofs.crash.Unmarked.{first_stands, free_place, free_stands, taken_at}
+use Rattle.rk_inv_tablets.proofs.crash.ReadTold.{side_material}
+use Rattle.rk_inv_tablets.proofs.crash.Unmarked.{first_stands, free_place, free_stands}
+use Rattle.rk_inv_tablets.proofs.ready.OwnItems.{flat_from, flat_stands, stands_at, at_front, names_joined}
+use Rattle.rk_inv_tablets.proofs.grant.Granted.{none_there}
 
 -- ---- lists
 
--- nothing stands where nothing is
-none_stands : {X : Type 0} (xs : List X) (x : X) → xs ≡ [] → Contains xs x → ⊥
-none_stands {X} xs x none at = let empty : Contains [] x = subst (λ (list : List X). Contains list x) none at in omega (arith, empty.1)
-
 -- ---- side segments
-
--- an entry that names a segment for a range is a Joined of it
-names_joined : (range : Range) (e : Entry) (n : ℕ) → Contains (named_by range e) n → is_joined_in range e ≡ true
-names_joined range (entries.Joined joined) n =
-    cond_both (meets joined.range range) joined.segments [] (λ numbers. Contains numbers n → meets joined.range range ≡ true) (λ met at. met)
-    (λ apart at. absurd (none_stands [] n refl at))
-names_joined range _ n = λ at. absurd (none_stands [] n refl at)
 
 -- ---- the last member
 
@@ -65,15 +56,15 @@ module _ (written : ℕ → Written) (range : Range) (m : Member) where
       (λ (applied : is.place < w.applied).
       let there : Contains sure by.0 =
       free_stands w.marks m.from (take w.applied w.entries) by.0
-      (record { place = is.place; behind = is.behind; stands = taken_at w.entries w.applied is.place by.0 applied is.stands; free = is.free }) in
+      (record { place = is.place; behind = is.behind; stands = at_front w.entries w.applied is.place by.0 applied is.stands; free = is.free }) in
       Contains-append_right (counting range sure) (counting range (flat_map (side_entries w.sides) (named range sure))) e
       (stands_kept (counts range) (flat_map (side_entries w.sides) (named range sure)) e
-      (flat_of (side_entries w.sides) (named range sure) of.0 e (named_of range sure by.0 of.0 there by.2) of.2) kept.1))
+      (flat_stands (side_entries w.sides) (named range sure) of.0 e (named_of range sure by.0 of.0 there by.2) of.2) kept.1))
       (λ (waits : w.applied ≤ is.place).
       let found = behind_at w.entries (max m.from w.applied) is.place by.0 (omega (arith, is.behind, waits)) is.stands in
-      let behind : Contains (drop (max m.from w.applied) w.entries) by.0 = stands_there (drop (max m.from w.applied) w.entries) found.0 by.0 found.1 in
+      let behind : Contains (drop (max m.from w.applied) w.entries) by.0 = stands_at (drop (max m.from w.applied) w.entries) found.0 by.0 found.1 in
       absurd
-      (none_stands (joined_from range (max m.from w.applied) w.entries) by.0 none
+      (none_there (joined_from range (max m.from w.applied) w.entries) by.0 none
       (stands_kept (is_joined_in range) (drop (max m.from w.applied) w.entries) by.0 behind (names_joined range by.0 of.0 by.2))))
       (cases_lt is.place w.applied)
 
@@ -92,12 +83,12 @@ module _ (base : Base) (written : ℕ → Written) (range : Range) where
   -- an entry of a member's truth tells of the lineage's
   of_truth : (lineage : List Member) (first : Member) (more : List Member) → lineage ≡ first ∷ more → (m : Member) → Contains lineage m → (e : Entry) → Contains (member_truth written range m) e → (end : Ended) → Contains (told_by e) end → Contains (told (lineage_truth base written range (first ∷ more))) end
   of_truth lineage first more is m has e at end its =
-      flat_of told_by (flat_map (member_truth written range) (first ∷ more)) e end
-      (flat_of (member_truth written range) (first ∷ more) m e (subst (λ (members : List Member). Contains members m) is has) at) its
+      flat_stands told_by (flat_map (member_truth written range) (first ∷ more)) e end
+      (flat_stands (member_truth written range) (first ∷ more) m e (subst (λ (members : List Member). Contains members m) is has) at) its
 
   -- so what all members have written tells nothing more
   pub material_told : (lineage : List Member) → AreApart lineage → FirstIsDone written range lineage → OnlyIsUnnamed written range lineage → NamedFit written range lineage → (end : Ended) → Contains (told (all_material written range lineage)) end → IsToldOf base written range lineage end
-  material_told [] apart done unnamed names end at = absurd (none_stands [] end refl at)
+  material_told [] apart done unnamed names end at = absurd (none_there [] end refl at)
   material_told (only ∷ []) apart done unnamed names end at =
       let found = flat_from told_by (all_material written range (only ∷ [])) end at in
       let of = flat_from (member_material written range) (only ∷ []) found.0 found.1 in
@@ -111,14 +102,14 @@ module _ (base : Base) (written : ℕ → Written) (range : Range) where
       (λ (main : Contains (counting range (unmarked_from w.marks only.from w.entries)) found.0).
       ⊎_elim truth
       (λ (waits : Contains (member_rest written range only) found.0).
-      inr (flat_of told_by (member_rest written range only) found.0 end waits found.2))
+      inr (flat_stands told_by (member_rest written range only) found.0 end waits found.2))
       (main_stands written range only found.0 main))
       (λ (side : Contains (side_material range only w) found.0). truth (side_stands written range only unnamed found.0 side))
       (Contains-append_cases (counting range (unmarked_from w.marks only.from w.entries)) (side_material range only w) found.0 there)
     where
       one_of : (only m : Member) → Contains (only ∷ []) m → only ≡ m
       one_of only m at =
-          ⊎_elim (λ (same : only ≡ m). same) (λ (later : Contains [] m). absurd (none_stands [] m refl later)) (contains_cases only [] m at)
+          ⊎_elim (λ (same : only ≡ m). same) (λ (later : Contains [] m). absurd (none_there [] m refl later)) (contains_cases only [] m at)
   material_told (first ∷ last ∷ []) apart done unnamed names end at =
       let both : List Member = first ∷ last ∷ [] in
       let found = flat_from told_by (all_material written range both) end at in
@@ -134,7 +125,7 @@ module _ (base : Base) (written : ℕ → Written) (range : Range) where
       (rw (← done.all) there) end found.2))
       (λ (later : Contains (last ∷ []) of.0).
       let same : last ≡ of.0 =
-      ⊎_elim (λ (same : last ≡ of.0). same) (λ (none : Contains [] of.0). absurd (none_stands [] of.0 refl none))
+      ⊎_elim (λ (same : last ≡ of.0). same) (λ (none : Contains [] of.0). absurd (none_there [] of.0 refl none))
       (contains_cases last [] of.0 later) in
       let there : Contains (member_material written range last) found.0 =
       subst (λ (m : Member). Contains (member_material written range m) found.0) (sym same) of.2 in
@@ -144,7 +135,7 @@ module _ (base : Base) (written : ℕ → Written) (range : Range) where
       (λ (its : Contains (member_truth written range last) found.0).
       inl (of_truth both first (last ∷ []) refl last is_last found.0 its end found.2))
       (λ (waits : Contains (member_rest written range last) found.0).
-      inr (flat_of told_by (member_rest written range last) found.0 end waits found.2))
+      inr (flat_stands told_by (member_rest written range last) found.0 end waits found.2))
       (main_stands written range last found.0 main))
       (λ (side : Contains (side_material range last w) found.0).
       let item = sides_named range last w found.0 side in
@@ -152,7 +143,7 @@ module _ (base : Base) (written : ℕ → Written) (range : Range) where
       let tells : Contains (told (member_truth written range first)) (item_end item.0) = item_told (member_truth written range first) item.0 true_of in
       let by : Contains (item_end item.0 ∷ []) end = subst (λ (e : Entry). Contains (told_by e) end) (sym item.1) found.2 in
       let is_end : item_end item.0 ≡ end =
-      ⊎_elim (λ (same : item_end item.0 ≡ end). same) (λ (none : Contains [] end). absurd (none_stands [] end refl none))
+      ⊎_elim (λ (same : item_end item.0 ≡ end). same) (λ (none : Contains [] end). absurd (none_there [] end refl none))
       (contains_cases (item_end item.0) [] end by) in
       let source = flat_from told_by (member_truth written range first) (item_end item.0) tells in
       inl (of_truth both first (last ∷ []) refl first is_first source.0 source.1 end

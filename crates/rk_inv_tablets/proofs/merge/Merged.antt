@@ -1,24 +1,321 @@
--- A view stays sound when a rebuild merges what it gathered.
-use Rattle.std.proofs.Common.{◌++◌, ◌≡◌, ℕ, true, List, length, refl, sym, ap, ◌∙◌}
-use Rattle.rk_inv_base.proofs.Words.{IfSome_then, has, lineage_of, Known, first_of, Written, post_of, View, truths, rests, SoundView}
-use Rattle.rk_inv_base.proofs.Words.{target_truth, handed_for_grant, handed_by, StillCounts, is_idle, false≢true, TermsOf, may_have_staged}
-use Rattle.rk_inv_tablets.proofs.Words.{view_by_rows, CountsFor, SoundRow, SoundBeside, still_counts, handed_for_grant_alike}
-use Rattle.rk_inv_tablets.proofs.Words.{handed_by_alike, cover_looks, all_items_same, terms_looks, role_looks, terms_look, IsSettledIn}
-use Rattle.rk_inv_tablets.proofs.Words.{IsBareOf}
-use Rattle.rk_inv_tablets.proofs.merge.Merging.{Merging, applied_same, looks, now, rests_same, row_was, of_handover, by_role, tablet}
-use Rattle.rk_inv_tablets.proofs.merge.Merging.{turned}
+-- A view stays sound when a rebuild merges what it gathered: its piece bears the only mark of the tablet there, its master does not speak for
+-- the row and is no target, and the ends that it keeps are told by the truth or the rest of the row.
+use Rattle.std.proofs.Common.{◌≡◌, ℕ, zero, suc, ◌-◌, List, [], ◌∷◌, ◌++◌, filter, length, refl, sym, ap, ◌∙◌, ⊎_elim, arith, length-append}
+use Rattle.std.proofs.Common.{All, drop, take, flat_map, true, cond, subst, inr, ◌==◌, ne_eqb, ◌⊎◌, Some, inl, Contains, eq-eqb}
+use Rattle.rk_inv_base.proofs.Words.{take-append-le, All-push, Contains-append_right, list_any, Range, Entry, is_in, completions_from}
+use Rattle.rk_inv_base.proofs.Words.{lineage_of, Phase, Rebuilding, known_of, items_of, Gather, by_member, touches, named, side_entries}
+use Rattle.rk_inv_base.proofs.Words.{merge, own_place, Written, Mark, stored_of, HasOwnRange, IsPieceOf, IsRebuilder, MarkFits, NeededOf}
+use Rattle.rk_inv_base.proofs.Words.{READ_BACKUP, RowIsRebuilt, named_items, View, truths, cases_eq, cond-false, cond-true, false≢true, get}
+use Rattle.rk_inv_base.proofs.Words.{Member, Handover, is_member, member_material, member_truth, Post, Bystander, FormerMember, Holds}
+use Rattle.rk_inv_base.proofs.Words.{bond_of, post_of, rebuilder_post, HandedFits, IsHandedBy, IsTarget, MembersFit, NamedFit, is_granted}
+use Rattle.rk_inv_base.proofs.Words.{RoleFits, IsFormed, All-contains, All-weaker, Ended, ends_of, is_serving, told, is_rebuilding, IsKnown}
+use Rattle.rk_inv_base.proofs.Words.{IsStagedEnd, ReachAll, IsNext, is_wanting, speaks, StillCounts, rests, CallsOf, Tablet, IfSome_then}
+use Rattle.rk_inv_base.proofs.Words.{has, Known, first_of, SoundView, target_truth, handed_for_grant, handed_by, is_idle, TermsOf}
+use Rattle.rk_inv_base.proofs.Words.{may_have_staged}
+use Rattle.rk_inv_tablets.proofs.Words.{member as member_at, put2_here, IsRebuilderIn, all_by, drop_all, with_piece, former_never, AreAlike}
+use Rattle.rk_inv_tablets.proofs.Words.{calls_alike, IsHeir, heir_post, IsToldIn, CountsFor, SpeaksFor, view_by_rows, SoundRow, SoundBeside}
+use Rattle.rk_inv_tablets.proofs.Words.{still_counts, handed_for_grant_alike, handed_by_alike, cover_looks, all_items_same, terms_looks}
+use Rattle.rk_inv_tablets.proofs.Words.{role_looks, terms_look, IsSettledIn, IsBareOf}
+use Rattle.rk_world.specs.Marks.{unmarked as unmarked_entries}
+use Rattle.rk_inv_tablets.proofs.merge.Merging.{Merging, closing, first, free_same, inside, mark, material_same, merged, mine, new, now}
+use Rattle.rk_inv_tablets.proofs.merge.Merging.{of_written, old, own_is, past_is, piece, piece_length, rebuilder, rebuilt, term_is}
+use Rattle.rk_inv_tablets.proofs.merge.Merging.{unmarked, within, rest_same, tablet, turned, row_was, looks, new_role, of_handover, role_is}
+use Rattle.rk_inv_tablets.proofs.merge.Merging.{sides_same, by_role, gathers, applied_same, rests_same}
+use Rattle.rk_inv_tablets.proofs.merge.Pieces.{drop_first, from_piece, take_whole}
+use Rattle.rk_inv_tablets.proofs.grow.Grown.{SameFirst, marked_more, rebuilds_now, rebuilds_other, truth_same, target_same, placed_more}
+use Rattle.rk_inv_tablets.proofs.grow.Grown.{done_more, unnamed_more, cover_more, waits_more, found_more, bare_more, rows_more, truths_same}
 use Rattle.rk_inv_tablets.proofs.merge.MergedLogs.{grow}
-use Rattle.rk_inv_tablets.proofs.grow.Grown.{target_same, placed_more, done_more, unnamed_more, cover_more, waits_more, found_more}
-use Rattle.rk_inv_tablets.proofs.grow.Grown.{bare_more, rows_more, truth_same, truths_same}
-use Rattle.rk_inv_tablets.proofs.merge.MergedCalls.{answers, alike, counts_on, known_now}
-use Rattle.rk_inv_tablets.proofs.merge.MergedRebuilds.{first_same, rebuilt_here, marks_here, pieces_here}
-use Rattle.rk_inv_tablets.proofs.merge.MergedReceives.{members_here, handed_here, names_here}
+use Rattle.rk_inv_tablets.proofs.grow.Turned.{of_tablet, seen_apart}
+use Rattle.rk_inv_tablets.proofs.ready.Outside.{second_member}
+use Rattle.rk_inv_tablets.proofs.merge.Collected.{collected}
+use Rattle.rk_inv_tablets.proofs.merge.Heirs.{heir_quiet}
 use Rattle.rk_inv_tablets.proofs.merge.MergedMessages.{says_here}
-use Rattle.rk_inv_tablets.proofs.grow.Turned.{seen_apart}
 
 module _ (v : View) (a : Merging v) where
   abbrev written : ℕ → Written
   written = (now v a).written
+
+  -- what a log with the piece names in side segments is what it named
+  names_piece : (range : Range) (from q : ℕ) → q ≡ a.master → named_items range from (with_piece (v.written q) (piece v a) (mark v a)) ≡ named_items range from (v.written q)
+  names_piece range from q at =
+      let w : Written = v.written q in
+      ap (λ (list : List Entry). filter (is_in range) (items_of (flat_map (side_entries w.sides) (named range list))))
+      (from_piece w.marks (mark v a) from w.entries (piece v a) (ap (λ (n : ℕ). length (v.written n).entries) at) (omega (arith, past_is v a)))
+
+  -- ---- the master, for its own row
+
+  -- the piece of its merge
+  piece_here : IsPieceOf a.row.tablet (own_place (old v a).role) (new v a) (merged v a) (with_piece (v.written a.master) (piece v a) (mark v a)) (closing v a)
+  piece_here =
+      let w : Written = v.written a.master in
+      let size : length (piece v a) ≡ suc (length (merged v a).copies) = piece_length (old v a) (merged v a) in
+      record {
+        mark = mark v a;
+        marked = Contains-append_right w.marks (mark v a ∷ []) (mark v a) (zero, omega arith, refl);
+        past_is = refl;
+        tablet_is = refl;
+        term_is = refl;
+        behind = (rebuilder v a).placed;
+        alone =
+            All-push (λ (m : Mark). m.tablet ≡ a.row.tablet → m ≡ mark v a) w.marks (mark v a)
+            (all_by (λ (m : Mark). m.tablet ≡ a.row.tablet → m ≡ mark v a) w.marks (λ m stands its. absurd (unmarked v a m stands its))) (λ its. refl);
+        stands =
+            ap (take (suc (closing v a) - first v a)) (drop_first w.entries (piece v a))
+            ∙ take_whole (suc (closing v a) - first v a) (piece v a) (omega (arith, size));
+        last =
+            ap (list_any (touches (old v a).range))
+            (drop_all (suc (closing v a)) (w.entries ++ piece v a) (omega (arith, size, length-append w.entries (piece v a))));
+      }
+
+  -- the master rebuilds its row, with this of the row, where it has written this
+  abbrev RebuildsHere : Written → Type 0
+  RebuildsHere w =
+      IsRebuilder a.row (rebuilt v a).0 a.master (truths v a.row) (mine v a) (NeededOf a.row v.written (rebuilt v a).0)
+      (λ q. known_of (v.logs q) READ_BACKUP) (λ q. stored_of v.stored q READ_BACKUP) w (new v a) (completions_from [] (merged v a).ends)
+      (v.gathers a.master a.row.tablet) (merged v a).ends (v.records a.master)
+
+  rebuilder_here : RebuildsHere (with_piece (v.written a.master) (piece v a) (mark v a))
+  rebuilder_here =
+      let w : Written = v.written a.master in
+      let was = rebuilder v a in
+      let gather : Gather = v.gathers a.master a.row.tablet in
+      record {
+        range_is = was.range_is;
+        gather = was.gather;
+        read = was.read;
+        placed = omega (arith, was.placed, length-append w.entries (piece v a));
+        merged = record {
+          gathered_all = a.may.may.gathered;
+          merged = merged v a;
+          merged_is = ap (λ (own : List Entry). merge own (by_member gather own)) (own_is v a);
+          ends_are = refl;
+          piece = piece_here;
+          counter = refl;
+          completions = refl;
+        };
+        items = rw (take-append-le w.applied w.entries (piece v a) (within v a a.master)) was.items;
+        sides = rw (names_piece a.row.range (own_place (old v a).role) a.master refl) was.sides;
+        outside = was.outside;
+      }
+
+  -- ---- each master that rebuilds the row at its term
+
+  pub first_same : SameFirst v (grow v a) a.row.range (lineage_of a.row.phase)
+  first_same first last others two = (rest_same v a a.row.range first, material_same v a a.row.range first)
+
+  abbrev IsRebuiltIn : View → Phase → Type 0
+  IsRebuiltIn w phase =
+      RowIsRebuilt a.row phase (truths v a.row) w.logs w.written v.stored w.handovers w.completions w.gathers w.merged v.records v.live
+
+  pub rebuilt_here : (phase : Phase) → a.row.phase ≡ phase → IsRebuiltIn v phase → IsRebuiltIn (now v a) phase
+  rebuilt_here (Rebuilding lineage to) is fit = (
+    of_tablet v (now v a) a.master a.row.tablet (tablet v a) (turned v a)
+        (λ q r t. t.handover.term ≡ a.row.term
+        → IsRebuilderIn (now v a).logs written v.stored a.row lineage q (truths v a.row) t.handover t.completions t.gather t.merged_ends (v.records q))
+        to a.row.tablet
+        (λ term.
+        let both : Rebuilding (rebuilt v a).0 a.master ≡ Rebuilding lineage to = sym (rebuilt v a).1 ∙ is in
+        let members : (rebuilt v a).0 ≡ lineage = cc both in
+        rw (← members)
+        (rebuilds_now v (grow v a) a.row a.has_row (rebuilt v a).0 a.master (rebuilt v a).1 (new v a) (completions_from [] (merged v a).ends)
+        (v.gathers a.master a.row.tablet) (merged v a).ends (material_same v a a.row.range (member_at a.master (own_place (old v a).role)))
+        (of_written v a RebuildsHere a.master (λ at. rebuilder_here) (λ away. absurd (away refl)))))
+        (λ apart term.
+        rebuilds_other v (grow v a) a.row a.has_row lineage to is (v.handovers to a.row.tablet) (v.completions to a.row.tablet)
+        (v.gathers to a.row.tablet) (v.merged to a.row.tablet) (λ at. apart at refl) (fit.0 term)),
+    marked_more v (grow v a) a.row.range lineage (λ first last others two. first_same first last others (ap lineage_of is ∙ two)) fit.1,
+  )
+  rebuilt_here _ is fit = tt
+
+  -- ---- marks
+
+  -- the new one fits the row
+  mark_new : MarkFits a.row a.master (new v a) (v.live a.master) ((now v a).written a.master) (mark v a)
+  mark_new =
+      let w : Written = v.written a.master in
+      let phase : a.row.phase ≡ Rebuilding (lineage_of a.row.phase) a.master =
+      (rebuilt v a).1 ∙ ap (λ (p : Phase). Rebuilding (lineage_of p) a.master) (sym (rebuilt v a).1) in
+      record {
+        rebuilt = ((rebuilt v a).0, a.master, (rebuilt v a).1);
+        within = omega (arith, term_is v a);
+        present = λ lives. term_is v a;
+        by_rebuilder = λ its. (phase, term_is v a, refl);
+        behind =
+            ap (list_any (touches a.row.range))
+            (free_same v a a.master (first v a)
+            ∙ ap (λ (list : List Entry). unmarked_entries w.marks (first v a) list) (drop_all (first v a) w.entries (omega arith)));
+      }
+
+  -- so what holds of each mark of the row at another master, and of the new one, holds of all
+  marked_by : (P : ℕ → Written → Mark → Type 0) (q : ℕ) → P a.master (written a.master) (mark v a) → All (λ m. m.tablet ≡ a.row.tablet → P q (v.written q) m) (v.written q).marks → All (λ m. m.tablet ≡ a.row.tablet → P q (written q) m) (written q).marks
+  marked_by P q here was =
+      ⊎_elim
+      (λ (at : q ≡ a.master).
+      rw at (of_written v a (λ (w : Written). All (λ m. m.tablet ≡ a.row.tablet → P a.master (written a.master) m) w.marks) a.master
+      (λ _.
+      let its : Mark → Type 0 = λ m. m.tablet ≡ a.row.tablet → P a.master (written a.master) m in
+      All-push its (v.written a.master).marks (mark v a)
+      (all_by its (v.written a.master).marks (λ m stands same. absurd (unmarked v a m stands same))) (λ same. here))
+      (λ away. absurd (away refl))))
+      (λ (apart : q ≡ a.master → ⊥).
+      rw ((grow v a).others q apart) was)
+      (cases_eq q a.master)
+
+  pub marks_here : (q : ℕ) → All (λ m. m.tablet ≡ a.row.tablet → MarkFits a.row q ((now v a).handovers q a.row.tablet) (v.live q) (written q) m) (written q).marks
+  marks_here q =
+      marked_by (λ q w m. MarkFits a.row q ((now v a).handovers q a.row.tablet) (v.live q) w m) q
+      (rw (put2_here v.handovers a.master a.row.tablet (new v a) a.master a.row.tablet refl refl) mark_new)
+      (of_tablet v (now v a) a.master a.row.tablet (tablet v a) (turned v a)
+      (λ q r t. All (λ m. m.tablet ≡ a.row.tablet → MarkFits a.row q t.handover (v.live q) (v.written q) m) (v.written q).marks) q a.row.tablet
+      (all_by (λ m. m.tablet ≡ a.row.tablet → MarkFits a.row a.master (new v a) (v.live a.master) (v.written a.master) m)
+      (v.written a.master).marks (λ m stands same. absurd (unmarked v a m stands same)))
+      (λ apart. (row_was v a).marks q))
+
+  pub pieces_here : (q : ℕ) → All (λ m. m.tablet ≡ a.row.tablet → HasOwnRange a.row.range (written q).entries m) (written q).marks
+  pieces_here q =
+      marked_by (λ q w m. HasOwnRange a.row.range w.entries m) q
+      (of_written v a (λ (w : Written). HasOwnRange a.row.range w.entries (mark v a)) a.master
+      (λ at.
+      let size : length (piece v a) ≡ suc (length (merged v a).copies) = piece_length (old v a) (merged v a) in
+      let whole : take ((mark v a).past - first v a) (drop (first v a) ((v.written a.master).entries ++ piece v a)) ≡ piece v a =
+      ap (take ((mark v a).past - first v a)) (drop_first (v.written a.master).entries (piece v a))
+      ∙ take_whole ((mark v a).past - first v a) (piece v a) (omega (arith, size)) in
+      rw whole (inside v a))
+      (λ away. absurd (away refl)))
+      ((row_was v a).pieces q)
+
+  -- ---- targets
+
+  pub members_here : (lineage : List Member) → MembersFit a.row v.written v.handovers v.pullings v.records v.handed lineage → MembersFit a.row written (now v a).handovers v.pullings v.records v.handed lineage
+  members_here (source ∷ target ∷ []) fit =
+      let q : ℕ = target.master in
+      let r : ℕ = a.row.tablet in
+      of_handover v a
+      (λ h. is_granted h.role ≡ true
+      → IsTarget a.row.range source.master (member_truth written a.row.range source) (member_material written a.row.range source) target.from (written q) h
+      (v.pullings q r) (get v.handed r) (v.records q))
+      q r
+      (λ at its granted. absurd (false≢true (sym (ap is_granted (new_role v a (v.handovers q r) (role_is v a q r at its))) ∙ granted)))
+      (λ apart granted.
+      rw (truth_same v (grow v a) a.row.range source, material_same v a a.row.range source, (grow v a).others q (λ at. apart at refl))
+      (fit granted))
+  members_here _ fit = tt
+
+  -- the row's own members, the first of which rebuilds it, do not keep one term
+  terms_differ : (source target : Member) → lineage_of a.row.phase ≡ source ∷ target ∷ [] → source.master ≡ a.master → (v.handovers target.master a.row.tablet).term ≡ (v.handovers source.master a.row.tablet).term → ⊥
+  terms_differ source target two at term =
+      let lineage : List Member = source ∷ target ∷ [] in
+      let q : ℕ = target.master in
+      let h : Handover = v.handovers q a.row.tablet in
+      let is : a.row.phase ≡ Rebuilding lineage a.master =
+      (rebuilt v a).1 ∙ ap (λ (members : List Member). Rebuilding members a.master) (sym (ap lineage_of (rebuilt v a).1) ∙ two) in
+      let formed : IsFormed (Rebuilding lineage a.master) =
+      subst IsFormed is (row_was v a).formed in
+      let own : h.term ≡ a.row.term = term ∙ ap (λ (n : ℕ). (v.handovers n a.row.tablet).term) at ∙ term_is v a in
+      let fits : RoleFits a.row q h (v.written q).applied =
+      (row_was v a).fitting q (inr own) in
+      let post : post_of (Rebuilding lineage a.master) q ≡ FormerMember =
+      cond-false (a.master == q) (rebuilder_post lineage q) (cond (is_member lineage q) FormerMember Bystander)
+      (ne_eqb a.master q (λ same. formed (at ∙ same)))
+      ∙ cond-true (is_member lineage q) FormerMember Bystander (second_member source target []) in
+      former_never h.role a.row.term h.term (v.written q).applied
+      (subst (λ (post : Post). Holds (bond_of post h.role) a.row.term h.term (v.written q).applied) post
+      (subst (λ (phase : Phase). Holds (bond_of (post_of phase q) h.role) a.row.term h.term (v.written q).applied) is fits))
+
+  pub handed_here : (lineage : List Member) → lineage_of a.row.phase ≡ lineage → HandedFits a.row v.handovers v.completions v.handed lineage → HandedFits a.row (now v a).handovers (now v a).completions v.handed lineage
+  handed_here (source ∷ target ∷ []) is fit = λ term.
+      let q : ℕ = source.master in
+      let r : ℕ = a.row.tablet in
+      let before : (v.handovers target.master r).term ≡ (v.handovers q r).term =
+      sym (looks v a target.master r).term ∙ term ∙ (looks v a q r).term in
+      of_tablet v (now v a) a.master r (tablet v a) (turned v a) (λ n r t. q ≡ n → IsHandedBy (get v.handed a.row.tablet) t.handover t.completions) q r
+      (λ at. absurd (terms_differ source target is at before))
+      (λ apart at. fit before) refl
+  handed_here _ is fit = tt
+
+  -- what the last of two members names is what it was
+  pub names_same : (range : Range) (from q : ℕ) → named_items range from ((now v a).written q) ≡ named_items range from (v.written q)
+  names_same range from q i =
+      filter (is_in range) (items_of (flat_map (side_entries (sides_same v a q i)) (named range (free_same v a q from i))))
+
+  pub names_here : (lineage : List Member) → NamedFit v.written a.row.range lineage → NamedFit written a.row.range lineage
+  names_here (first ∷ last ∷ []) fit = λ item there.
+      rw (truth_same v (grow v a) a.row.range first) (fit item (rw (← names_same a.row.range last.from last.master) there))
+  names_here _ fit = tt
+
+  -- ---- calls and counters
+
+  -- tablets answer as before
+  pub alike : AreAlike v.handovers (now v a).handovers
+  alike q r = record {
+    same_serving = by_role v a is_serving refl q r;
+    same_rebuilding = by_role v a is_rebuilding refl q r;
+    same_wanting = by_role v a is_wanting refl q r;
+    same_term = (looks v a q r).term;
+  }
+
+  -- the master is to rebuild its row
+  pub heir : IsHeir (post_of a.row.phase a.master)
+  heir =
+      let lineage : List Member = (rebuilt v a).0 in
+      rw (rebuilt v a).1 (subst IsHeir
+      (sym (cond-true (a.master == a.master) (rebuilder_post lineage a.master)
+      (cond (is_member lineage a.master) FormerMember Bystander) (eq-eqb a.master a.master refl)))
+      (heir_post lineage a.master))
+
+  -- so it does not speak for it
+  quiet : speaks (post_of a.row.phase a.master) (new v a) a.row.term ≡ true → ⊥
+  quiet =
+      heir_quiet (post_of a.row.phase a.master) (new v a) a.row.term (gathers v a).0 (Some (closing v a)) heir
+      (new_role v a (old v a) (gathers v a).1) (term_is v a)
+
+  -- an end of the row's truth is known, and one of its rest is staged
+  told_known : (end : Ended) → IsToldIn v a.row end → IsKnown v.base v.journal end ⊎ IsStagedEnd v.rows (rests v) a.master a.row.tablet (old v a).term end
+  told_known end =
+      ⊎_elim
+      (λ (at : Contains (told (truths v a.row)) end).
+      inl (All-contains (IsKnown v.base v.journal) (told (truths v a.row)) end
+      (row_was v a).recorded at))
+      (λ (at : Contains (told (rests v a.row)) end).
+      inr (record {
+        row = a.row;
+        stands = a.has_row;
+        told = at;
+        number = refl;
+        rebuilt = (rebuilt v a).1 ∙ ap (λ (phase : Phase). Rebuilding (lineage_of phase) a.master) (sym (rebuilt v a).1);
+        at_term = term_is v a;
+      }))
+
+  before : CallsOf (record v { handovers = (now v a).handovers }) (truths v) (rests v)
+  before = calls_alike v (truths v) (rests v) (now v a).handovers a.sound.calls alike
+
+  -- each end that a master keeps now is known, or staged
+  pub known_now : (q r : ℕ) → v.live q ≡ true → All (λ end. IsKnown v.base v.journal end ⊎ IsStagedEnd v.rows (rests v) q r ((now v a).handovers q r).term end) (ends_of ((now v a).completions q r))
+  known_now q r lives =
+      let Known : ℕ → ℕ → ℕ → Ended → Type 0 = λ q r term end.
+      IsKnown v.base v.journal end ⊎ IsStagedEnd v.rows (rests v) q r term end in
+      of_tablet v (now v a) a.master a.row.tablet (tablet v a) (turned v a) (λ q r t. All (Known q r t.handover.term) (ends_of t.completions)) q r
+      (All-weaker _ _ told_known (ends_of (completions_from [] (merged v a).ends)) (collected v a))
+      (λ apart.
+      rw (← (ap (λ (t : Tablet). t.handover.term) ((turned v a).apart q r apart))) (before.known q r lives))
+
+  -- ---- who speaks
+
+  pub answers : (q : ℕ) → CountsFor (now v a) a.row q → SpeaksFor (now v a) a.row q → ReachAll a.row.range v.journal (ends_of ((now v a).completions q a.row.tablet))
+  answers q =
+      of_tablet v (now v a) a.master a.row.tablet (tablet v a) (turned v a)
+      (λ q r t. StillCounts (v.live q) t.handover.term a.row.term → speaks (post_of a.row.phase q) t.handover a.row.term ≡ true
+      → ReachAll a.row.range v.journal (ends_of t.completions))
+      q a.row.tablet (λ counts says. absurd (quiet says)) (λ apart. (row_was v a).answering q)
+
+  pub counts_on : (q : ℕ) → CountsFor (now v a) a.row q → SpeaksFor (now v a) a.row q → IsNext (truths v a.row ++ rests v a.row) ((now v a).handovers q a.row.tablet).counter
+  counts_on q =
+      of_tablet v (now v a) a.master a.row.tablet (tablet v a) (turned v a)
+      (λ q r t. StillCounts (v.live q) t.handover.term a.row.term → speaks (post_of a.row.phase q) t.handover a.row.term ≡ true
+      → IsNext (truths v a.row ++ rests v a.row) t.handover.counter)
+      q a.row.tablet (λ counts says. absurd (quiet says)) (λ apart. (row_was v a).counted q)
+
+  -- ---- the whole
 
   truths_now : truths (now v a) a.row ≡ truths v a.row
   truths_now = truths_same v (grow v a) a.row
@@ -59,20 +356,20 @@ module _ (v : View) (a : Merging v) where
         reached = rw truths_now was.reached;
         recorded = rw truths_now was.recorded;
         moving = rw target_now was.moving;
-        answering = answers v a;
-        ends_granted = rw (handed_for_grant_alike a.row v.handovers (now v a).handovers v.handed (alike v a)) was.ends_granted;
-        ends_sent = λ n m there. rw (handed_by_alike a.row v.handovers (now v a).handovers m.body (alike v a)) (was.ends_sent n m there);
+        answering = answers;
+        ends_granted = rw (handed_for_grant_alike a.row v.handovers (now v a).handovers v.handed alike) was.ends_granted;
+        ends_sent = λ n m there. rw (handed_by_alike a.row v.handovers (now v a).handovers m.body alike) (was.ends_sent n m there);
         low = rw truths_now was.low;
         low_moving = rw target_now was.low_moving;
-        counted = λ q counts says. rw both_now (counts_on v a q counts says);
+        counted = λ q counts says. rw both_now (counts_on q counts says);
         floor_granted =
-            rw (handed_for_grant_alike a.row v.handovers (now v a).handovers v.handed (alike v a))
+            rw (handed_for_grant_alike a.row v.handovers (now v a).handovers v.handed alike)
             (IfSome_then (handed_for_grant a.row v.handovers v.handed) was.floor_granted (λ h next. rw both_now next));
         floor_sent = λ n m there.
-            rw (handed_by_alike a.row v.handovers (now v a).handovers m.body (alike v a))
+            rw (handed_by_alike a.row v.handovers (now v a).handovers m.body alike)
             (IfSome_then (handed_by a.row v.handovers m.body) (was.floor_sent n m there) (λ h next. rw both_now next));
         goes_on = rw (truths_now, rests_now) was.goes_on;
-        done = done_more v (grow v a) a.row.range (lineage_of a.row.phase) (first_same v a) was.done;
+        done = done_more v (grow v a) a.row.range (lineage_of a.row.phase) first_same was.done;
         unnamed = unnamed_more v (grow v a) a.row.range (lineage_of a.row.phase) was.unnamed;
         idle = λ q.
             of_handover v a
@@ -87,12 +384,12 @@ module _ (v : View) (a : Merging v) where
             (looks v a q a.row.tablet).term)
             ∙ has))
             (λ member table. rw (truth_same v (grow v a) a.row.range member) table);
-        target = members_here v a (lineage_of a.row.phase) was.target;
-        handed_on = handed_here v a (lineage_of a.row.phase) refl was.handed_on;
-        named_items = names_here v a (lineage_of a.row.phase) was.named_items;
-        rebuilt = rw truths_now (rebuilt_here v a a.row.phase refl was.rebuilt);
-        marks = marks_here v a;
-        pieces = pieces_here v a;
+        target = members_here (lineage_of a.row.phase) was.target;
+        handed_on = handed_here (lineage_of a.row.phase) refl was.handed_on;
+        named_items = names_here (lineage_of a.row.phase) was.named_items;
+        rebuilt = rw truths_now (rebuilt_here a.row.phase refl was.rebuilt);
+        marks = marks_here;
+        pieces = pieces_here;
         says = says_here v a;
       }
 
@@ -121,7 +418,7 @@ module _ (v : View) (a : Merging v) where
     seen = a.sound.truth.seen;
     once = a.sound.calls.once;
     known = λ q r lives.
-        rw (rests_same v a) (known_now v a q r lives);
+        rw (rests_same v a) (known_now q r lives);
     waiting = λ q lives k c there.
         waits_more v (grow v a) (now v a).handovers (λ q r staged. by_role v a may_have_staged refl q r ∙ staged) q k c
         (a.sound.rest.waiting q lives k c there);

@@ -4,10 +4,10 @@ use Rattle.std.proofs.Common.{arith, append_assoc, length-append, ◌==◌, All,
 use Rattle.rk_inv_base.proofs.Words.{and_left, and_right, cond-false, All-weaker, filter-append, Member, Entry, Row, Log, with_entry}
 use Rattle.rk_inv_base.proofs.Words.{EntryEnd, counting, Written, Mark, NeededOf, given_up_marks, marked_entries, member_given_up}
 use Rattle.rk_inv_base.proofs.Words.{stored_count, View, cases_eq, is_absent, is_side_stored, All-nil}
-use Rattle.rk_inv_tablets.proofs.Words.{put_other, put_by, same_number, stored_push, kept_within, with_entries, with_piece}
+use Rattle.rk_inv_tablets.proofs.Words.{put_other, put_by, same_number, stored_push, kept_within, with_entries, with_piece, marked_none}
 use Rattle.rk_inv_tablets.proofs.merge.Merging.{Merging, first, inside, mark, material_same, now, of_written, old, past_is, piece}
 use Rattle.rk_inv_tablets.proofs.merge.Merging.{rebuilder, term_is, within, gathers, marked}
-use Rattle.rk_inv_tablets.proofs.merge.Pieces.{marked_from_more, marked_past}
+use Rattle.rk_inv_tablets.proofs.merge.Pieces.{marked_from_more}
 use Rattle.rk_inv_tablets.proofs.grow.Grown.{Growing}
 use Rattle.rk_inv_tablets.proofs.merge.LogsMore.{logs_more}
 use Rattle.rk_inv_tablets.proofs.merge.OfRange.{segments_none}
@@ -58,7 +58,7 @@ module _ (v : View) (a : Merging v) where
       ∙ ap (counting x.range)
       (marked_from_more kept first.from w.entries (piece v a)
       (λ k behind.
-      marked_past kept k
+      marked_none kept k
       (All-weaker (λ m. m.past ≤ length w.entries) (λ m. m.past ≤ k) (λ m past. omega (arith, past, behind)) kept
       (kept_within (λ m. m.tablet == x.tablet && nat_lt m.term x.term) w.marks (length w.entries) (marked v a first.master))))))
       (λ apart. refl)

@@ -31,10 +31,6 @@ module _ (v : View) (a : Merging v) where
     merged = (now v a).merged;
   }
 
-  -- tablets look as they did
-  looks_alone : AllLook (now v a).written (now v a).written v.handovers (now v a).handovers
-  looks_alone = record { each = looks v a; applied = λ q. refl; truths = λ range member. refl }
-
   -- a master that merged has told no Rebuilt before
   rebuilt_on : (q applied : ℕ) (report : Rebuilt) → RebuiltIn a.row.phase (v.handovers q a.row.tablet) (v.merged q a.row.tablet) applied a.row.term q report → RebuiltIn a.row.phase (v.handovers q a.row.tablet) ((now v a).merged q a.row.tablet) applied a.row.term q report
   rebuilt_on q applied report says =
@@ -58,7 +54,8 @@ module _ (v : View) (a : Merging v) where
   pub says_here : EachIn (λ n m. SaysIn (now v a) a.row m.from m.to m.body) v.wire
   says_here n m there =
       All-head (λ x. SaysIn (now v a) x m.from m.to m.body) a.row []
-      ((messages_looks kept (now v a).logs (now v a).written (now v a).handovers looks_alone (λ q. refl) (λ x lineage q dead end needed. needed)
+      ((messages_looks kept (now v a).logs (now v a).written (now v a).handovers
+      (record { each = looks v a; applied = λ q. refl; truths = λ range member. refl }) (λ q. refl) (λ x lineage q dead end needed. needed)
       (record {
         of_rows = λ n m there.
             All-cons (λ x. SaysIn kept x m.from m.to m.body) a.row []

@@ -5,7 +5,7 @@ use Rattle.rk_inv_base.proofs.Words.{cases_Bool, false≢true, length-map, All-c
 use Rattle.rk_inv_base.proofs.Words.{Phase, Rebuilding, Row, is_marked, unmarked_from, as_entries, counting, counts, material_of, named_by}
 use Rattle.rk_inv_base.proofs.Words.{side_entries, with_number, own_place, Written, lineage_rest, member_material, member_rest, Mark}
 use Rattle.rk_inv_base.proofs.Words.{Merged, Holds, bond_of, post_of, IsOfRange, MarkFits, RowIsRebuilt, closing_carried, has_merged, View}
-use Rattle.rk_inv_base.proofs.Words.{truths, rests, SoundView, Tablet, completions_from}
+use Rattle.rk_inv_base.proofs.Words.{truths, rests, SoundView, Tablet, completions_from, false_from_ne_true}
 use Rattle.rk_inv_tablets.proofs.Words.{member as member_at, put_by, put2_by, put2_here, put2_other, applied_within, place_of}
 use Rattle.rk_inv_tablets.proofs.Words.{IsRebuilderIn, LooksAs, looks_same, MayMergeFormed, as_merged, merge_in, merged_view, own_entries}
 use Rattle.rk_inv_tablets.proofs.Words.{piece_entries, piece_mark, with_piece, row_in, SoundRow}
@@ -161,11 +161,8 @@ module _ (v : View) (a : Merging v) where
   uncounted : (place : ℕ) (e : Entry) → slice_get (v.written a.master).entries place ≡ Some e → is_marked (v.written a.master).marks place ≡ true → counts a.row.range e ≡ false
   uncounted place e at is =
       let found : HasMark (v.written a.master).marks place = mark_of (v.written a.master).marks place is in
-      ⊎_elim
-      (λ (its : counts a.row.range e ≡ true).
-      absurd (unmarked found.mark found.here (marked_of_row v a.sound a.master place e at found a.row a.has_row some its)))
-      (λ (none : counts a.row.range e ≡ false). none)
-      (cases_Bool (counts a.row.range e))
+      false_from_ne_true (counts a.row.range e)
+      (λ its. unmarked found.mark found.here (marked_of_row v a.sound a.master place e at found a.row a.has_row some its))
 
   -- ---- what is merged
 

@@ -27,12 +27,6 @@ touches_none a b apart back (entries.Held held) of = key_outside b a held.table 
 touches_none a b apart back (entries.Carried carried) of = subst (λ (range : Range). meets range b ≡ false) (sym of) apart
 touches_none a b apart back _ of = absurd of
 
--- nothing passes of a list where each element fails
-pub none_passes : {X : Type 0} (p : X → Bool) (xs : List X) → All (λ x. p x ≡ false) xs → list_any p xs ≡ false
-none_passes p [] fails = refl
-none_passes p (x ∷ xs) fails =
-    or_from (p x) (list_any p xs) (All-head (λ x. p x ≡ false) x xs fails) (none_passes p xs (All-tail (λ x. p x ≡ false) x xs fails))
-
 -- ---- what counts for a range is of it
 
 -- an entry counts for a range

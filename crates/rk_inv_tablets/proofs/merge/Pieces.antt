@@ -5,17 +5,14 @@ use Rattle.std.proofs.Common.{flat_map, le-leb, le-ltb, lt-ltb}
 use Rattle.rk_inv_base.proofs.Words.{cases_lt, cond-false, cond-true, cond_both, and_left, and_right, or_from, or_left, or_parts, or_right}
 use Rattle.rk_inv_base.proofs.Words.{drop-append-le, take-append-le, All-head, All-tail, list_any, Range, Entry, is_marked, unmarked}
 use Rattle.rk_inv_base.proofs.Words.{unmarked_from, counting, counts, named_by, Mark, marked_entries}
-use Rattle.rk_inv_tablets.proofs.Words.{drop_all}
+use Rattle.rk_inv_tablets.proofs.Words.{drop_all, lt-leb}
 
 -- ---- one more mark
 
 -- a place before it is marked as it was
 pub marked_before : (marks : List Mark) (mark : Mark) (k : ℕ) → k < mark.first → is_marked (marks ++ mark ∷ []) k ≡ is_marked marks k
 marked_before [] mark k less =
-    or_from (leb mark.first k && ltb k mark.past) false (and_left (leb mark.first k) (ltb k mark.past) (lt-leb-no k mark.first less)) refl
-  where
-    lt-leb-no : (k first : ℕ) → k < first → leb first k ≡ false
-    lt-leb-no k first less = grind arith
+    or_from (leb mark.first k && ltb k mark.past) false (and_left (leb mark.first k) (ltb k mark.past) (lt-leb mark.first k less)) refl
 marked_before (other ∷ marks) mark k less =
     ap (λ (b : Bool). (leb other.first k && ltb k other.past) || b) (marked_before marks mark k less)
 
@@ -125,14 +122,6 @@ from_taken marks mark from n list piece first past =
 
 -- ---- marked entries
 
--- marks that end before a place mark nothing there
-pub marked_past : (marks : List Mark) (place : ℕ) → All (λ mark. mark.past ≤ place) marks → is_marked marks place ≡ false
-marked_past [] place within = refl
-marked_past (mark ∷ marks) place within =
-    or_from (leb mark.first place && ltb place mark.past) (is_marked marks place)
-    (and_right (leb mark.first place) (ltb place mark.past) (le-ltb place mark.past (All-head (λ m. m.past ≤ place) mark marks within)))
-    (marked_past marks place (All-tail (λ m. m.past ≤ place) mark marks within))
-
 -- where nothing is marked from a place on, no entry there is
 pub marked_behind : (marks : List Mark) (place : ℕ) (list : List Entry) → ((k : ℕ) → place ≤ k → is_marked marks k ≡ false) → marked_entries marks place list ≡ []
 marked_behind marks place [] none = refl
@@ -219,12 +208,6 @@ kept_more p (suc from) [] [] none = refl
 kept_more {X} p (suc from) [] (y ∷ ys) none =
     kept_more p from [] ys (or_parts (p y) (list_any p ys) none).1 ∙ ap (filter p) (drop_all {X = X} from [] (omega arith))
 kept_more p (suc from) (x ∷ xs) ys none = kept_more p from xs ys none
-
--- what stands at a place is within the list, and stands in its first part if the place is there
-pub at_within : {X : Type 0} (xs : List X) (k : ℕ) (x : X) → slice_get xs k ≡ Some x → k < length xs
-at_within [] k x at = absurd (cc at)
-at_within (y ∷ xs) zero x at = omega arith
-at_within (y ∷ xs) (suc k) x at = omega (arith, at_within xs k x at)
 
 pub at_front : {X : Type 0} (xs ys : List X) (k : ℕ) (x : X) → k < length xs → slice_get (xs ++ ys) k ≡ Some x → slice_get xs k ≡ Some x
 at_front [] ys k x less at = absurd (omega (arith, less))

@@ -82,11 +82,8 @@ module _ (v : View) (row : Row) (master : ℕ) (lineage : List Member) (sound : 
   abbrev own : Tablet
   own = as_begun master (order_of row lineage) place (tablet_seen v master row.tablet)
 
-  lineage_apart : AreApart lineage
-  lineage_apart = subst IsFormed is (row_in v sound row has).formed
-
   begins : MayBeginBy v row master sound has lives below lineage is (own_member lineage master)
-  begins = begins_by v row master sound has lives below lineage is lineage_apart
+  begins = begins_by v row master sound has lives below lineage is (subst IsFormed is (row_in v sound row has).formed)
 
   order : MayTakeOrder v master row.tablet row.term row.range
   order = record {

@@ -16,7 +16,7 @@ use Rattle.rk_inv_tablets.proofs.Words.{contains_cases, truth_in, kept_stands, s
 use Rattle.rk_inv_tablets.proofs.Words.{IsHeir, heir_post, behind_first, begins_from, items_left, row_in}
 use Rattle.rk_transfer.specs.declared.role.Role.TheVariants as roles
 use Rattle.rk_inv_tablets.proofs.ready.Left.{none_left}
-use Rattle.rk_inv_tablets.proofs.ready.Outside.{rebuilder_is, second_member}
+use Rattle.rk_inv_tablets.proofs.ready.Outside.{rebuilder_is, second_member, only_post, first_post, last_post}
 use Rattle.rk_inv_tablets.proofs.ready.OwnItems.{flat_from, flat_stands, named_counts, named_from}
 use Rattle.rk_inv_tablets.proofs.ready.TakenUp.{IsTakenUp, applied_behind, applied_counts, bare_takes, named_applied, named_of, table_comes}
 use Rattle.rk_inv_tablets.proofs.ready.TakenUp.{table_finds, unmarked_behind}
@@ -102,8 +102,7 @@ module _ (v : View) (row : Row) (master : ℕ) (sound : SoundView v) (has : Cont
   only_takes : (only : Member) → lineage ≡ only ∷ [] → only.master ≡ master → IsTakenUp v row master only.from (v.records master)
   only_takes only shape here =
       let post : rebuilder_post lineage master ≡ OnlyRebuilder only.from =
-      ap (λ (members : List Member). rebuilder_post members master) shape
-      ∙ cond-true (only.master == master) (OnlyRebuilder only.from) OutsideRebuilder (eq-eqb only.master master here) in
+      ap (λ (members : List Member). rebuilder_post members master) shape ∙ only_post only master here in
       let unnamed : OnlyIsUnnamed v.written range (only ∷ []) =
       subst (OnlyIsUnnamed v.written range) (lineage_is ∙ shape)
       (row_in v sound row has).unnamed in
@@ -116,9 +115,7 @@ module _ (v : View) (row : Row) (master : ℕ) (sound : SoundView v) (has : Cont
   first_takes : (first last : Member) → lineage ≡ first ∷ last ∷ [] → first.master ≡ master → IsTakenUp v row master first.from (v.records master)
   first_takes first last shape here =
       let post : rebuilder_post lineage master ≡ FirstRebuilder first.from =
-      ap (λ (members : List Member). rebuilder_post members master) shape
-      ∙ cond-true (first.master == master) (FirstRebuilder first.from)
-      (cond (last.master == master) (LastRebuilder last.from) OutsideRebuilder) (eq-eqb first.master master here) in
+      ap (λ (members : List Member). rebuilder_post members master) shape ∙ first_post first last master here in
       let done : IsDone v.written range first =
       subst (FirstIsDone v.written range) (lineage_is ∙ shape)
       (row_in v sound row has).done in
@@ -268,10 +265,7 @@ module _ (v : View) (row : Row) (master : ℕ) (sound : SoundView v) (has : Cont
     where
       post : rebuilder_post lineage master ≡ LastRebuilder last.from
       post =
-          ap (λ (members : List Member). rebuilder_post members master) shape
-          ∙ cond-false (first.master == master) (FirstRebuilder first.from)
-          (cond (last.master == master) (LastRebuilder last.from) OutsideRebuilder) (ne_eqb first.master master apart)
-          ∙ cond-true (last.master == master) (LastRebuilder last.from) OutsideRebuilder (eq-eqb last.master master here)
+          ap (λ (members : List Member). rebuilder_post members master) shape ∙ last_post first last master apart here
 
       member : is_member lineage master ≡ true
       member = rw (← here) (ap (λ (members : List Member). is_member members last.master) shape ∙ second_member first last [])
@@ -319,8 +313,7 @@ module _ (v : View) (row : Row) (master : ℕ) (sound : SoundView v) (has : Cont
       only_begins : (only : Member) → lineage ≡ only ∷ [] → only.master ≡ master → MayBeginBy (Some only)
       only_begins only shape here =
           let post : rebuilder_post lineage master ≡ OnlyRebuilder only.from =
-          ap (λ (members : List Member). rebuilder_post members master) shape
-          ∙ cond-true (only.master == master) (OnlyRebuilder only.from) OutsideRebuilder (eq-eqb only.master master here) in
+          ap (λ (members : List Member). rebuilder_post members master) shape ∙ only_post only master here in
           record {
             takes = only_takes only shape here;
             placed = member_placed only here (rw shape (0, omega arith, refl));
@@ -331,9 +324,7 @@ module _ (v : View) (row : Row) (master : ℕ) (sound : SoundView v) (has : Cont
       first_begins : (first last : Member) → lineage ≡ first ∷ last ∷ [] → first.master ≡ master → MayBeginBy (Some first)
       first_begins first last shape here =
           let post : rebuilder_post lineage master ≡ FirstRebuilder first.from =
-          ap (λ (members : List Member). rebuilder_post members master) shape
-          ∙ cond-true (first.master == master) (FirstRebuilder first.from)
-          (cond (last.master == master) (LastRebuilder last.from) OutsideRebuilder) (eq-eqb first.master master here) in
+          ap (λ (members : List Member). rebuilder_post members master) shape ∙ first_post first last master here in
           record {
             takes = first_takes first last shape here;
             placed = member_placed first here (rw shape (0, omega arith, refl));
@@ -344,10 +335,7 @@ module _ (v : View) (row : Row) (master : ℕ) (sound : SoundView v) (has : Cont
       last_begins : (first last : Member) → lineage ≡ first ∷ last ∷ [] → (first.master ≡ master → ⊥) → last.master ≡ master → MayBeginBy (Some last)
       last_begins first last shape away here =
           let post : rebuilder_post lineage master ≡ LastRebuilder last.from =
-          ap (λ (members : List Member). rebuilder_post members master) shape
-          ∙ cond-false (first.master == master) (FirstRebuilder first.from)
-          (cond (last.master == master) (LastRebuilder last.from) OutsideRebuilder) (ne_eqb first.master master away)
-          ∙ cond-true (last.master == master) (LastRebuilder last.from) OutsideRebuilder (eq-eqb last.master master here) in
+          ap (λ (members : List Member). rebuilder_post members master) shape ∙ last_post first last master away here in
           record {
             takes = last_takes first last shape away here;
             placed =

@@ -3,7 +3,7 @@ use Rattle.std.proofs.Common.{◌≡◌, ℕ, ◌<◌, ◌≤◌, Bool, true, fa
 use Rattle.std.proofs.Common.{◌&&◌, not, All, Contains, ne_eqb}
 use Rattle.rk_inv_base.proofs.Words.{and_parts, cases_Bool, cases_eq, cond_both, All-contains, meets, Held, Range, Handover, lineage_of}
 use Rattle.rk_inv_base.proofs.Words.{Row, given_up, is_member, is_absent, Tablet, IsAboveKept, post_of, RoleFits, put, HandoverFits}
-use Rattle.rk_inv_base.proofs.Words.{IsBelowOthers, View, SoundView}
+use Rattle.rk_inv_base.proofs.Words.{IsBelowOthers, View, SoundView, false_from_ne_true}
 use Rattle.rk_inv_tablets.proofs.Words.{apart_either, put_here, put_other, outside_post, meets_either, others_given_up, tablet_seen, row_in}
 use Rattle.rk_inv_tablets.proofs.ready.Outside.{outside_absent}
 use Rattle.rk_inv_tablets.proofs.ready.Yielding.{StaysSo, Yields, YieldsBeside}
@@ -57,27 +57,21 @@ module _ (v : View) (master number term : ℕ) (range : Range) (sound : SoundVie
     -- and the master is no member of it
     pub no_member : meets (v.handovers master x.tablet).range range ≡ true → is_member (lineage_of x.phase) master ≡ false
     no_member met =
-        ⊎_elim
-        (λ (member : is_member (lineage_of x.phase) master ≡ true).
-        absurd (may.outside x has other (ap (λ (r : Range). meets r range) (sym (member_range x has member)) ∙ met) member))
-        (λ (outside : is_member (lineage_of x.phase) master ≡ false). outside)
-        (cases_Bool (is_member (lineage_of x.phase) master))
+        false_from_ne_true (is_member (lineage_of x.phase) master)
+        (λ member. may.outside x has other (ap (λ (r : Range). meets r range) (sym (member_range x has member)) ∙ met) member)
 
     -- a row of which the master is a member, or whose term it keeps, does not meet the order's range
     pub beside_order : (is_member (lineage_of x.phase) master ≡ true) ⊎ ((v.handovers master x.tablet).term ≡ x.term) → meets range x.range ≡ false
     beside_order counts =
         let h : Handover = v.handovers master x.tablet in
+        false_from_ne_true (meets range x.range)
+        (λ met. let back : meets x.range range ≡ true = meets_either range x.range met in
         ⊎_elim
-        (λ (met : meets range x.range ≡ true).
-        let back : meets x.range range ≡ true = meets_either range x.range met in
-        absurd (⊎_elim
         (λ (member : is_member (lineage_of x.phase) master ≡ true). may.outside x has other back member)
         (λ (at : h.term ≡ x.term).
         let same : h.range ≡ x.range = (kept x has).exact refl at in
         let above = row_above (ap (λ (r : Range). meets r range) same ∙ back) in
-        omega (arith, above, at)) counts))
-        (λ (apart : meets range x.range ≡ false). apart)
-        (cases_Bool (meets range x.range))
+        omega (arith, above, at)) counts)
 
   -- ---- a tablet that is given up
 

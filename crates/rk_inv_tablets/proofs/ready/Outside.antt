@@ -1,9 +1,10 @@
 -- Masters that are not of a row's lineage: what they may have of the tablet below the row's term, and what it may become.
 use Rattle.std.proofs.Common.{◌≡◌, ℕ, ◌<◌, ◌≤◌, Bool, true, false, List, ◌∷◌, cond, eqb, refl, ⊎_elim, arith, ◌&&◌, ◌||◌, nat_lt, eq-eqb}
+use Rattle.std.proofs.Common.{[], ◌∙◌, ne_eqb}
 use Rattle.rk_inv_base.proofs.Words.{both_ways, cases_eq, cond-true, false≢true, or_left, or_right, nat_tests, Member, is_serving, Handover}
 use Rattle.rk_inv_base.proofs.Words.{Role, Rebuilding, is_member, is_idle, is_rebuilding, Post, InvitedTarget, ReadyTarget, OnlyRebuilder}
 use Rattle.rk_inv_base.proofs.Words.{FirstRebuilder, LastRebuilder, OutsideRebuilder, FormerMember, Bystander, rebuilder_post, post_of}
-use Rattle.rk_inv_base.proofs.Words.{bond_of, Holds, speaks, has_all_items}
+use Rattle.rk_inv_base.proofs.Words.{bond_of, Holds, speaks, has_all_items, cond-false}
 use Rattle.rk_inv_tablets.proofs.Words.{IsOutside, heir_outside, IsHeir, heir_post}
 use Rattle.rk_transfer.specs.declared.role.Role.TheVariants as roles
 
@@ -53,6 +54,21 @@ rebuilder_is lineage master =
     cond-true (eqb master master) (rebuilder_post lineage master) (cond (is_member lineage master) FormerMember Bystander)
     (eq-eqb master master refl)
 
+-- what the only member of a lineage is to its row, and what the first and the last of two are
+pub only_post : (only : Member) (q : ℕ) → only.master ≡ q → rebuilder_post (only ∷ []) q ≡ OnlyRebuilder only.from
+only_post only q here = cond-true (eqb only.master q) (OnlyRebuilder only.from) OutsideRebuilder (eq-eqb only.master q here)
+
+pub first_post : (first last : Member) (q : ℕ) → first.master ≡ q → rebuilder_post (first ∷ last ∷ []) q ≡ FirstRebuilder first.from
+first_post first last q here =
+    cond-true (eqb first.master q) (FirstRebuilder first.from) (cond (eqb last.master q) (LastRebuilder last.from) OutsideRebuilder)
+    (eq-eqb first.master q here)
+
+pub last_post : (first last : Member) (q : ℕ) → (first.master ≡ q → ⊥) → last.master ≡ q → rebuilder_post (first ∷ last ∷ []) q ≡ LastRebuilder last.from
+last_post first last q apart here =
+    cond-false (eqb first.master q) (FirstRebuilder first.from) (cond (eqb last.master q) (LastRebuilder last.from) OutsideRebuilder)
+    (ne_eqb first.master q apart)
+    ∙ cond-true (eqb last.master q) (LastRebuilder last.from) OutsideRebuilder (eq-eqb last.master q here)
+
 pub quiet_behind : (lineage : List Member) (master : ℕ) (role : Role) (term own applied : ℕ) → is_member lineage master ≡ false → is_quiet role ≡ true → Holds (bond_of (post_of (Rebuilding lineage master) master) role) term own applied → own < term
 quiet_behind lineage master role term own applied outside quiet holds =
     heir_waits (rebuilder_post lineage master) role term own applied (heir_outside lineage master outside) (heir_post lineage master) quiet
@@ -81,20 +97,9 @@ outside_idle post (roles.Wanting from) term own applied outside below holds = re
 outside_idle (ReadyTarget place) role term own applied outside below holds = absurd (ready_never place role term own applied below holds)
 outside_idle OutsideRebuilder (roles.Rebuilding from entry) term own applied outside below holds =
     let e : own ≡ term = holds in absurd (omega (arith, below, e))
-outside_idle OutsideRebuilder roles.Serving term own applied outside below holds = absurd holds
-outside_idle OutsideRebuilder roles.Receiving term own applied outside below holds = absurd holds
-outside_idle OutsideRebuilder (roles.Joining entry) term own applied outside below holds = absurd holds
-outside_idle OutsideRebuilder roles.Closing term own applied outside below holds = absurd holds
-outside_idle InvitedTarget roles.Serving term own applied outside below holds = absurd holds
-outside_idle InvitedTarget roles.Receiving term own applied outside below holds = absurd holds
-outside_idle InvitedTarget (roles.Joining entry) term own applied outside below holds = absurd holds
-outside_idle InvitedTarget roles.Closing term own applied outside below holds = absurd holds
-outside_idle InvitedTarget (roles.Rebuilding from entry) term own applied outside below holds = absurd holds
-outside_idle Bystander roles.Serving term own applied outside below holds = absurd holds
-outside_idle Bystander roles.Receiving term own applied outside below holds = absurd holds
-outside_idle Bystander (roles.Joining entry) term own applied outside below holds = absurd holds
-outside_idle Bystander roles.Closing term own applied outside below holds = absurd holds
-outside_idle Bystander (roles.Rebuilding from entry) term own applied outside below holds = absurd holds
+outside_idle OutsideRebuilder role term own applied outside below holds = absurd holds
+outside_idle InvitedTarget role term own applied outside below holds = absurd holds
+outside_idle Bystander role term own applied outside below holds = absurd holds
 outside_idle _ role term own applied outside below holds = absurd outside
 
 -- it may give the tablet up

@@ -53,7 +53,7 @@ number_stands some (number ∷ others) n at =
     (λ (later : Contains others n). number_stands (with_number some number) others n later)
     (contains_cases number others n at)
 
-number_from : (some others : List ℕ) (n : ℕ) → Contains (fold with_number some others) n → Contains some n ⊎ Contains others n
+pub number_from : (some others : List ℕ) (n : ℕ) → Contains (fold with_number some others) n → Contains some n ⊎ Contains others n
 number_from some [] n at = inl at
 number_from some (number ∷ others) n at =
     ⊎_elim
@@ -90,7 +90,7 @@ held_counts range (entries.Held held) item inside at =
 held_counts range _ item inside at = absurd (omega (arith, at.1))
 
 -- one that names a segment is a Joined of the range
-names_joined : (range : Range) (entry : Entry) (n : ℕ) → Contains (named_by range entry) n → is_joined_in range entry ≡ true
+pub names_joined : (range : Range) (entry : Entry) (n : ℕ) → Contains (named_by range entry) n → is_joined_in range entry ≡ true
 names_joined range (entries.Held held) n at = absurd (omega (arith, at.1))
 names_joined range (entries.Refused refused) n at = absurd (omega (arith, at.1))
 names_joined range (entries.Carried carried) n at = absurd (omega (arith, at.1))

@@ -6,6 +6,7 @@ use Rattle.rk_inv_base.proofs.Words.{order_without, without, Handover, lineage_o
 use Rattle.rk_inv_base.proofs.Words.{with_others_given_up, is_member, Master, tablet_at, touches, with_tablet, without_items, Tablet}
 use Rattle.rk_inv_base.proofs.Words.{with_handover, without_merged, World, log_in, master_at, tablet_in, with_master, AsksFor, Holds}
 use Rattle.rk_inv_base.proofs.Words.{bond_of, post_of, IsBare, RoleFits, HandoverFits, IsBelowOthers, View, view, IsSound, SoundView}
+use Rattle.rk_inv_base.proofs.Words.{false_from_ne_true}
 use Rattle.rk_inv_tablets.proofs.Words.{MayPrepare, same_number, stays, stood, outside_post, stands_found, as_wanting, prepared}
 use Rattle.rk_inv_tablets.proofs.Words.{prepared_tablets, tablet_prepared_in, tablet_seen}
 use Rattle.rk_transfer.specs.Handover.{prepared as handover_prepared}
@@ -65,10 +66,7 @@ module _ (v : View) (row : Row) (master : ℕ) (prepare : Prepare) (sound : Soun
 
   outside : is_member (lineage_of row.phase) master ≡ false
   outside =
-      ⊎_elim
-      (λ (member : is_member (lineage_of row.phase) master ≡ true). absurd (not_asked row may.has_row (inl may.tablet_is) member))
-      (λ (away : is_member (lineage_of row.phase) master ≡ false). away)
-      (cases_Bool (is_member (lineage_of row.phase) master))
+      false_from_ne_true (is_member (lineage_of row.phase) master) (λ member. not_asked row may.has_row (inl may.tablet_is) member)
 
   old_fits : RoleFits row master old (v.written master).applied
   old_fits = rw may.tablet_is (fits v master number term range sound order row may.has_row)

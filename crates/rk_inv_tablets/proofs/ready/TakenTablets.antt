@@ -5,19 +5,10 @@ use Rattle.rk_inv_base.proofs.Words.{and_left, cases_eq, cond_both, cond-false, 
 use Rattle.rk_inv_base.proofs.Words.{given_up, with_others_given_up, marks_of, Master, tablet_at, with_tablet, Tablet, no_tablet, World}
 use Rattle.rk_inv_base.proofs.Words.{master_at, tablet_in, with_master, written_by, put, view}
 use Rattle.rk_inv_tablets.proofs.Words.{master_other, master_same, same_of_all, same_of_each, tablet_apart, tablet_here, put_here, put_is}
-use Rattle.rk_inv_tablets.proofs.Words.{put_other, others_given_up, tablets_taken}
+use Rattle.rk_inv_tablets.proofs.Words.{put_other, others_given_up, tablets_taken, found_changed}
 use Rattle.rk_types.specs.NumberMap.{changed_each}
 
 -- ---- other tablets are given up
-
--- what is found in a map where each thing was changed
-found_changed : {X Y : Type 0} (change : ℕ → X → Y) (things : NumberMap X) (q : ℕ) → get (changed_each change things) q ≡ option_map (change q) (get things q)
-found_changed change [] q = refl
-found_changed {X = X} {Y = Y} change (first ∷ rest) q =
-    elim (eq_by_cmp nat_cmp q first.0) as (λ b. eq_by_cmp nat_cmp q first.0 ≡ b → cond b (Some (change first.0 first.1)) (get (changed_each change rest) q) ≡ option_map (change q) (cond b (Some first.1) (get rest q))) [
-      | true ↦ λ is. ap (λ (n : ℕ). Some (change n first.1)) (sym (same_number q first.0 is))
-      | false ↦ λ apart. found_changed change rest q
-    ] refl
 
 module _ (master : Master) (number : ℕ) (range : Range) where
   -- what becomes of a tablet

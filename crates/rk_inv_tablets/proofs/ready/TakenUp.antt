@@ -6,7 +6,7 @@ use Rattle.rk_inv_base.proofs.Words.{and_parts, cases_Bool, cases_lt, false≢tr
 use Rattle.rk_inv_base.proofs.Words.{Entry, is_in, number_of, row_of, Row, newest_is, newest_none, is_of_from, newest_own, is_of, newest}
 use Rattle.rk_inv_base.proofs.Words.{items_in, items_of, is_marked, unmarked_from, touches, is_joined_in, joined_from, log_material}
 use Rattle.rk_inv_base.proofs.Words.{material_of, named, side_entries, Written, applied_entries, Mark, HasOwnRange, IsOfRange, MarkFits}
-use Rattle.rk_inv_base.proofs.Words.{applied_from, IsBare, IsFound, named_items, IsTableOf, View, truths, SoundView}
+use Rattle.rk_inv_base.proofs.Words.{applied_from, IsBare, IsFound, named_items, IsTableOf, View, truths, SoundView, false_from_ne_true}
 use Rattle.rk_inv_tablets.proofs.Words.{in_one_row, AreIn, IsIn, behind_at, kept_stands, stands_kept, in_piece, place_of, found_stands}
 use Rattle.rk_inv_tablets.proofs.Words.{row_in}
 use Rattle.rk_entry.specs.declared.entry.Entry.TheVariants as entries
@@ -97,18 +97,15 @@ module _ (v : View) (row : Row) (master : ℕ) (sound : SoundView v) (has : Cont
   -- so an entry that bears an item of the row has no mark
   bare_at : (place : ℕ) (e : Entry) → slice_get w.entries place ≡ Some e → bears row.range e ≡ true → is_marked w.marks place ≡ false
   bare_at place e at bearing =
-      ⊎_elim
-      (λ (marked : is_marked w.marks place ≡ true).
-      let found = Any-from_list_any (λ (mark : Mark). nat_le mark.first place && nat_lt place mark.past) w.marks marked in
+      false_from_ne_true (is_marked w.marks place)
+      (λ marked. let found = Any-from_list_any (λ (mark : Mark). nat_le mark.first place && nat_lt place mark.past) w.marks marked in
       let mark : Mark = found.1 in
       let stands : Contains w.marks mark = (found.0, found.2, found.3) in
       let parts = and_parts (nat_le mark.first place) (nat_lt place mark.past) found.4 in
-      absurd (of_piece mark e stands
+      of_piece mark e stands
       (in_piece w.entries mark.first mark.past place e (leb-true mark.first place parts.0) (ltb-true place mark.past parts.1) at)
       (row_of v.rows mark.tablet) refl
-      (All-contains (λ m. is_some (row_of v.rows m.tablet) ≡ true) w.marks mark (sound.cover.marks master) stands) bearing))
-      (λ (bare : is_marked w.marks place ≡ false). bare)
-      (cases_Bool (is_marked w.marks place))
+      (All-contains (λ m. is_some (row_of v.rows m.tablet) ≡ true) w.marks mark (sound.cover.marks master) stands) bearing)
 
   -- ---- what counts of its own, from a place on
 

@@ -1,17 +1,253 @@
--- A view stays sound when a master yields.
-use Rattle.std.proofs.Common.{◌≤◌, ◌≡◌, Contains, true, refl, All, false, is_some}
-use Rattle.rk_inv_base.proofs.Words.{All-weaker, View, SoundView, Row, Handed, AreHandedOver, StillCounts, RoleFits, is_member, lineage_of}
-use Rattle.rk_inv_base.proofs.Words.{speaks, post_of, ReachAll, ends_of, is_idle, HandoverFits, is_absent, row_of, may_have_staged}
-use Rattle.rk_inv_base.proofs.Words.{IsInScanOrder}
-use Rattle.rk_inv_tablets.proofs.Words.{IsNextOf, SoundRow, SoundBeside, waits_for, view_by_rows, row_in, IsSettledIn, formed_apart, all_by}
-use Rattle.rk_inv_tablets.proofs.ready.Yielding.{Yielding, cover, yielded, by_row, term_kept, by, apart_still, of_records, member_range}
-use Rattle.rk_inv_tablets.proofs.ready.YieldedCalls.{silent, for_grant_on, by_message_on, settled, end_known, stages}
-use Rattle.rk_inv_tablets.proofs.ready.YieldedRecords.{items_on, members, told, row_rebuilt, marks_on, bare_on}
+-- A view stays sound when a master yields: of a row that it is a member of, or whose term it keeps, it has all its records still.
+use Rattle.std.proofs.Common.{◌≡◌, ℕ, true, List, [], ◌∷◌, cond, refl, sym, ap, ◌∙◌, subst, ⊎_elim, inl, inr, arith, ◌==◌, Contains, ne_eqb}
+use Rattle.std.proofs.Common.{All, ◌≤◌, false, is_some}
+use Rattle.rk_inv_base.proofs.Words.{All-weaker, both_ways, cond-false, cond-true, false≢true, All-contains, filter_passes, IfSome_then}
+use Rattle.rk_inv_base.proofs.Words.{get, Ended, Held, Member, Entry, is_in, Handover, lineage_of, Phase, Rebuilding, Row, Gather, first_of}
+use Rattle.rk_inv_base.proofs.Words.{is_member, own_place, Pulling, applied_entries, member_truth, IsRebuiltBy, Bystander, FormerMember}
+use Rattle.rk_inv_base.proofs.Words.{Holds, Post, bond_of, post_of, rebuilder_post, MarkFits, RowIsRebuilt, HandedFits, MembersFit}
+use Rattle.rk_inv_base.proofs.Words.{is_granted, named_items, scan_items, wanted_place, RoleFits, AreApart, HasItems, has_all_items, View}
+use Rattle.rk_inv_base.proofs.Words.{truths, SoundView, Handed, AreHandedOver, StillCounts, speaks, ReachAll, ends_of, is_idle}
+use Rattle.rk_inv_base.proofs.Words.{HandoverFits, is_absent, row_of, may_have_staged, IsInScanOrder}
+use Rattle.rk_inv_tablets.proofs.Words.{IsIn, applied_in, scan_in, target_in, truth_in, put_here, IsRebuilderIn, former_never, IsBareOf}
+use Rattle.rk_inv_tablets.proofs.Words.{IsTargetIn, outside_post, heir_post, row_in, IsNextOf, SoundRow, SoundBeside, waits_for}
+use Rattle.rk_inv_tablets.proofs.Words.{view_by_rows, IsSettledIn, formed_apart, all_by}
+use Rattle.rk_inv_base.proofs.roles.ItemsDropped.{has_all_member}
+use Rattle.rk_inv_tablets.proofs.ready.Left.{found_kept, none_remains, rebuild_kept, received_kept, table_kept}
+use Rattle.rk_inv_tablets.proofs.ready.Outside.{begun_lacks, first_member, outside_lacks, rebuilder_is, second_member}
+use Rattle.rk_inv_tablets.proofs.ready.Yielding.{Begins, IsBeside, StandsBy, Yielding, by, by_row, of_records, of_tablet, yielded}
+use Rattle.rk_inv_tablets.proofs.ready.Yielding.{member_keeps, of_lineage, cover, term_kept, apart_still, member_range, silent}
+use Rattle.rk_inv_tablets.proofs.ready.Yielding.{for_grant_on, by_message_on, settled, end_known, stages}
 use Rattle.rk_inv_tablets.proofs.ready.YieldedMessages.{says_on}
 
 module _ (v : View) (a : Yielding v) where
   abbrev now : View
   now = yielded v a
+
+  -- what the master has of a row's tablet then
+  abbrev new : Row → Handover
+  new x = (a.tablets x.tablet).handover
+
+  -- ---- records
+
+  -- the master is not said to have all items of what it yielded
+  lacks : (x : Row) → IsBeside v a x → has_all_items (post_of x.phase a.master) (new x) x.term ≡ true → ⊥
+  lacks x beside all =
+      ⊎_elim
+      (λ (stands : StandsBy x a.master (new x)).
+      outside_lacks (post_of x.phase a.master) (new x) x.term (outside_post x.phase a.master stands.outside) all)
+      (λ (begins : Begins x a.master (new x)).
+      begun_lacks (rebuilder_post begins.lineage a.master) (new x) x.term (heir_post begins.lineage a.master) begins.term_is
+      (rw (← (ap (λ (phase : Phase). post_of phase a.master) begins.phase_is ∙ rebuilder_is begins.lineage a.master)) all)) beside.kind
+
+  -- a master has all items of a row, in these records, if it is said to
+  abbrev HasAll : Row → ℕ → Handover → List Held → Type 0
+  HasAll x q h items = has_all_items (post_of x.phase q) h x.term ≡ true → HasItems x v.written items
+
+  items_left : (x : Row) → Contains v.rows x → HasAll x a.master (v.handovers a.master x.tablet) (v.records a.master) → HasAll x a.master (v.handovers a.master x.tablet) a.records
+  items_left x has was all =
+      let member : is_member (lineage_of x.phase) a.master ≡ true =
+      has_all_member x.phase a.master x.term (v.handovers a.master x.tablet) all in
+      IfSome_then (first_of (lineage_of x.phase)) (was all)
+      (λ found.
+      table_kept x.range (v.records a.master) a.records a.left.stood (a.left.stays x has (inl member))
+      (member_truth v.written x.range found))
+
+  pub items_on : (x : Row) → Contains v.rows x → (q : ℕ) → HasAll x q (v.handovers q x.tablet) (v.records q) → HasAll x q (now.handovers q x.tablet) (now.records q)
+  items_on x has q was =
+      by_row v a (λ x q h. HasAll x q h (now.records q)) x has q (λ beside was all. absurd (lacks x beside all))
+      (of_records v a (λ q items. HasAll x q (v.handovers q x.tablet) items) q (items_left x has) was)
+
+  -- ---- targets
+
+  -- a target of a row that was granted the tablet, with these records
+  abbrev IsGranted : Row → Member → Member → ℕ → Handover → Pulling → List Held → Type 0
+  IsGranted x source target q h p items =
+      q ≡ target.master → is_granted h.role ≡ true → IsTargetIn v.written x source target h p (get v.handed x.tablet) items
+
+  -- so it is in these of a view
+  abbrev IsGrantedIn : View → Row → Member → Member → Type 0
+  IsGrantedIn w x source target =
+      IsGranted x source target target.master (w.handovers target.master x.tablet) (w.pullings target.master x.tablet)
+      (w.records target.master)
+
+  target_left : (x : Row) (source target : Member) (h : Handover) (p : Pulling) → Contains v.rows x → is_member (lineage_of x.phase) a.master ≡ true → IsGranted x source target a.master h p (v.records a.master) → IsGranted x source target a.master h p a.records
+  target_left x source target h p has member granted at role =
+      let was = granted at role in
+      let truth : List Entry = member_truth v.written x.range source in
+      record {
+        from_source = was.from_source;
+        workers = was.workers;
+        pulled = was.pulled;
+        received =
+            received_kept x.range (v.records a.master) a.records a.left.stood (a.left.stays x has (inl member)) _ (scan_items truth) _ _
+            (scan_in x.range truth (truth_in v.written x.range source))
+            (target_in x.range target.from (applied_entries (v.written target.master))) was.received;
+        above = was.above;
+        told = was.told;
+        early = was.early;
+        closing = was.closing;
+      }
+
+  -- a master that was granted a tablet of whose row it is a member yields none in which it still is
+  ungranted : (x : Row) → IsBeside v a x → is_member (lineage_of x.phase) a.master ≡ true → is_granted (new x).role ≡ true → ⊥
+  ungranted x beside member granted =
+      ⊎_elim
+      (λ (stands : StandsBy x a.master (new x)). false≢true (sym stands.outside ∙ member))
+      (λ (begins : Begins x a.master (new x)). both_ways (is_granted (new x).role) (ap is_granted begins.role_is) granted) beside.kind
+
+  targets_on : (x : Row) → Contains v.rows x → (source target : Member) → lineage_of x.phase ≡ source ∷ target ∷ [] → IsGrantedIn v x source target → IsGrantedIn now x source target
+  targets_on x has source target two was =
+      let member : (q : ℕ) → q ≡ target.master → is_member (lineage_of x.phase) q ≡ true = λ q at.
+      of_lineage v a x (source ∷ target ∷ []) two q
+      (rw at (second_member source target [])) in
+      of_tablet v a (λ q h p g e. IsGranted x source target q h p (now.records q)) target.master x.tablet
+      (λ yields was at granted. absurd (ungranted x (yields.beside x has refl) (member a.master at) granted))
+      (of_records v a (λ q items. IsGranted x source target q (v.handovers q x.tablet) (v.pullings q x.tablet) items) target.master
+      (λ was at.
+      target_left x source target (v.handovers a.master x.tablet) (v.pullings a.master x.tablet) has (member a.master at) was at) was)
+
+  pub members : (x : Row) → Contains v.rows x → (lineage : List Member) → lineage_of x.phase ≡ lineage → MembersFit x v.written v.handovers v.pullings v.records v.handed lineage → MembersFit x v.written now.handovers now.pullings now.records v.handed lineage
+  members x has (source ∷ target ∷ []) is fit = targets_on x has source target is (λ at. fit) refl
+  members x has _ is fit = tt
+
+  -- a member that another one rebuilds beside keeps no term of the row
+  former_behind : (x : Row) → Contains v.rows x → (lineage : List Member) (to q : ℕ) → x.phase ≡ Rebuilding lineage to → is_member (lineage_of x.phase) q ≡ true → (q ≡ to → ⊥) → (v.handovers q x.tablet).term ≡ x.term → ⊥
+  former_behind x has lineage to q is member away term =
+      let h : Handover = v.handovers q x.tablet in
+      let inside : is_member lineage q ≡ true =
+      ap (λ (phase : Phase). is_member (lineage_of phase) q) (sym is) ∙ member in
+      let post : post_of (Rebuilding lineage to) q ≡ FormerMember =
+      cond-false (to == q) (rebuilder_post lineage q) (cond (is_member lineage q) FormerMember Bystander) (ne_eqb to q (λ same. away (sym same)))
+      ∙ cond-true (is_member lineage q) FormerMember Bystander inside in
+      let fits : RoleFits x q h (v.written q).applied =
+      (row_in v a.sound x has).fitting q (inr term) in
+      former_never h.role x.term h.term (v.written q).applied
+      (subst (λ (post : Post). Holds (bond_of post h.role) x.term h.term (v.written q).applied) post
+      (subst (λ (phase : Phase). Holds (bond_of (post_of phase q) h.role) x.term h.term (v.written q).applied) is fits))
+
+  -- where a member begins to rebuild a row, no other one has the row's term
+  begins_alone : (x : Row) → Contains v.rows x → (q r : ℕ) → (r ≡ q → ⊥) → is_member (lineage_of x.phase) r ≡ true → Begins x q (now.handovers q x.tablet) → (now.handovers r x.tablet).term ≡ x.term → ⊥
+  begins_alone x has q r away member begins term =
+      ⊎_elim
+      (λ (same : now.handovers r x.tablet ≡ v.handovers r x.tablet).
+      former_behind x has begins.lineage q r begins.phase_is member away (ap (λ (h : Handover). h.term) (sym same) ∙ term))
+      (λ (also : Begins x r (now.handovers r x.tablet)).
+      away (subst (λ (phase : Phase). IsRebuiltBy phase q) also.phase_is
+      (rw begins.phase_is refl)))
+      (member_keeps v a x has r member)
+
+  -- what a source told is what it keeps, while source and target have one term
+  pub told : (x : Row) → Contains v.rows x → (lineage : List Member) → lineage_of x.phase ≡ lineage → AreApart lineage → HandedFits x v.handovers v.completions v.handed lineage → HandedFits x now.handovers v.completions v.handed lineage
+  told x has (source ∷ target ∷ []) is apart fit = λ term.
+      let s : Handover = now.handovers source.master x.tablet in
+      let t : Handover = now.handovers target.master x.tablet in
+      let first : is_member (lineage_of x.phase) source.master ≡ true =
+      of_lineage v a x (source ∷ target ∷ []) is source.master (first_member source (target ∷ [])) in
+      let second : is_member (lineage_of x.phase) target.master ≡ true =
+      of_lineage v a x (source ∷ target ∷ []) is target.master (second_member source target []) in
+      ⊎_elim
+      (λ (still : t ≡ v.handovers target.master x.tablet).
+      ⊎_elim
+      (λ (same : s ≡ v.handovers source.master x.tablet).
+      rw same (fit (ap (λ (h : Handover). h.term) (sym still) ∙ term ∙ ap (λ (h : Handover). h.term) same)))
+      (λ (begins : Begins x source.master s).
+      absurd (begins_alone x has source.master target.master (λ at. apart (sym at)) second begins (term ∙ begins.term_is)))
+      (member_keeps v a x has source.master first))
+      (λ (begins : Begins x target.master t).
+      absurd (begins_alone x has target.master source.master apart first begins (sym term ∙ begins.term_is)))
+      (member_keeps v a x has target.master second)
+  told x has (source ∷ target ∷ third ∷ more) is apart fit = absurd apart
+  told x has _ is apart fit = tt
+
+  -- the records that the master has
+  records_are : now.records a.master ≡ a.records
+  records_are = put_here v.records a.master a.records a.master refl
+
+  -- a master that made ready for a tablet has as little of it as before
+  pub bare_on : (q r : ℕ) → IsBareOf (v.handovers q r) (v.written q) (v.records q) → IsBareOf (now.handovers q r) (v.written q) (now.records q)
+  bare_on q r was =
+      by v a (λ q h. IsBareOf h (v.written q) (now.records q)) q r
+      (λ yields was. rw records_are yields.bare)
+      (of_records v a (λ q items. IsBareOf (v.handovers q r) (v.written q) items) q
+      (λ was.
+      IfSome_then (wanted_place (v.handovers a.master r).role) was
+      (λ from bare. record {
+        placed = bare.placed;
+        nothing = bare.nothing;
+        empty = none_remains (is_in (v.handovers a.master r).range) (v.records a.master) a.records a.left.stood bare.empty;
+      })) was)
+
+  -- ---- rebuilds
+
+  -- a master rebuilds a row, with these records, if it keeps the row's term
+  abbrev IsRebuilder : Row → List Member → ℕ → Handover → Gather → List Ended → List Held → Type 0
+  IsRebuilder x lineage q h g e items =
+      x.phase ≡ Rebuilding lineage q → h.term ≡ x.term
+      → IsRebuilderIn v.logs v.written v.stored x lineage q (truths v x) h (v.completions q x.tablet) g e items
+
+  abbrev WasRebuilder : Row → List Member → ℕ → List Held → Type 0
+  WasRebuilder x lineage q = IsRebuilder x lineage q (v.handovers q x.tablet) (v.gathers q x.tablet) (v.merged q x.tablet)
+
+  rebuilder_left : (x : Row) (lineage : List Member) → Contains v.rows x → WasRebuilder x lineage a.master (v.records a.master) → WasRebuilder x lineage a.master a.records
+  rebuilder_left x lineage has fit is term =
+      let was = fit is term in
+      let from : ℕ = own_place (v.handovers a.master x.tablet).role in
+      let stays : (item : Held) → is_in x.range item ≡ true → Contains (v.records a.master) item → Contains a.records item =
+      a.left.stays x has (inr term) in
+      record {
+        range_is = was.range_is;
+        gather = was.gather;
+        read = was.read;
+        placed = was.placed;
+        merged = was.merged;
+        items =
+            rebuild_kept x.range (v.records a.master) a.records a.left.stood stays (truths v x) _
+            (applied_in x.range from (v.written a.master)) was.items;
+        sides = λ item named.
+            let both = was.sides item named in (
+              both.0,
+              found_kept x.range (v.records a.master) a.records a.left.stood stays item
+                  (All-contains (IsIn x.range) (named_items x.range from (v.written a.master)) item
+                  (filter_passes (is_in x.range) _) named) both.1,
+            );
+        outside = was.outside;
+      }
+
+  rebuilder_on : (x : Row) (lineage : List Member) (to : ℕ) → Contains v.rows x → WasRebuilder x lineage to (v.records to) → IsRebuilder x lineage to (now.handovers to x.tablet) (now.gathers to x.tablet) (now.merged to x.tablet) (now.records to)
+  rebuilder_on x lineage to has was =
+      of_tablet v a (λ q h p g e. IsRebuilder x lineage q h g e (now.records q)) to x.tablet
+      (λ yields was is term.
+      rw records_are (yields.rebuilds x lineage has refl is term))
+      (of_records v a (λ q items. WasRebuilder x lineage q items) to (rebuilder_left x lineage has) was)
+
+  abbrev IsRebuiltIn : View → Row → Phase → Type 0
+  IsRebuiltIn w x phase =
+      RowIsRebuilt x phase (truths v x) w.logs w.written w.stored w.handovers w.completions w.gathers w.merged w.records w.live
+
+  pub row_rebuilt : (x : Row) → Contains v.rows x → (phase : Phase) → x.phase ≡ phase → IsRebuiltIn v x phase → IsRebuiltIn now x phase
+  row_rebuilt x has (Rebuilding lineage to) is fit = (rebuilder_on x lineage to has (λ _. fit.0) is, fit.1)
+  row_rebuilt x has _ is fit = tt
+
+  -- and each mark fits its row still
+  pub marks_on : (x : Row) → Contains v.rows x → (q : ℕ) → All (λ mark. mark.tablet ≡ x.tablet → MarkFits x q (v.handovers q x.tablet) (v.live q) (v.written q) mark) (v.written q).marks → All (λ mark. mark.tablet ≡ x.tablet → MarkFits x q (now.handovers q x.tablet) (v.live q) (v.written q) mark) (v.written q).marks
+  marks_on x has q =
+      by_row v a (λ x q h. All (λ mark. mark.tablet ≡ x.tablet → MarkFits x q h (v.live q) (v.written q) mark) (v.written q).marks) x has q
+      (λ beside.
+      All-weaker (λ mark. mark.tablet ≡ x.tablet → MarkFits x a.master (v.handovers a.master x.tablet) (v.live a.master) (v.written a.master) mark)
+      (λ mark. mark.tablet ≡ x.tablet → MarkFits x a.master (new x) (v.live a.master) (v.written a.master) mark)
+      (λ mark was its.
+      let fit = was its in record {
+        rebuilt = fit.rebuilt;
+        within = fit.within;
+        present = fit.present;
+        by_rebuilder = λ of_term.
+            let told = fit.by_rebuilder of_term in
+            let term = told.1 in absurd (omega (arith, beside.below, term));
+        behind = fit.behind;
+      })
+      (v.written a.master).marks)
+
+  -- ---- the whole
 
   -- of each row holds what did
   module _ (x : Row) (has : Contains v.rows x) where
@@ -63,12 +299,12 @@ module _ (v : View) (a : Yielding v) where
           by_row v a
           (λ x q h. StillCounts (v.live q) h.term x.term → is_idle h.role ≡ true → IsSettledIn x.range (v.written q)) x has q
           (λ beside old counts idles. settled v a x has beside idles) (was.idle q);
-      items = λ q lives. items_on v a x has q (was.items q lives);
-      target = members v a x has (lineage_of x.phase) refl was.target;
-      handed_on = told v a x has (lineage_of x.phase) refl (formed_apart x.phase was.formed) was.handed_on;
+      items = λ q lives. items_on x has q (was.items q lives);
+      target = members x has (lineage_of x.phase) refl was.target;
+      handed_on = told x has (lineage_of x.phase) refl (formed_apart x.phase was.formed) was.handed_on;
       named_items = was.named_items;
-      rebuilt = row_rebuilt v a x has x.phase refl was.rebuilt;
-      marks = λ q. marks_on v a x has q (was.marks q);
+      rebuilt = row_rebuilt x has x.phase refl was.rebuilt;
+      marks = λ q. marks_on x has q (was.marks q);
       pieces = was.pieces;
       says = λ n m there. says_on v a x has m.from m.to m.body (was.says n m there);
     }
@@ -106,7 +342,7 @@ module _ (v : View) (a : Yielding v) where
     are_last = a.sound.rest.are_last;
     found = a.sound.rest.found;
     ordered = λ q. of_records v a (λ q items. IsInScanOrder items) q (λ old. a.left.ordered) (a.sound.records.ordered q);
-    bare = λ q r. bare_on v a q r (a.sound.receives.bare q r);
+    bare = λ q r. bare_on q r (a.sound.receives.bare q r);
     others = a.sound.messages.others;
     asked = a.sound.asked;
   }

@@ -8,8 +8,8 @@ use Rattle.rk_inv_base.proofs.Words.{ByMaster}
 use Rattle.rk_inv_tablets.proofs.Words.{by_master, if_master, SaysIn}
 use Rattle.rk_message.specs.declared.message.Body.TheVariants as bodies
 use Rattle.rk_inv_tablets.proofs.ready.Outside.{second_member}
-use Rattle.rk_inv_tablets.proofs.ready.YieldedCalls.{member_keeps, of_lineage}
-use Rattle.rk_inv_tablets.proofs.ready.Yielding.{Begins, IsBeside, Yielding, by_row, of_tablet, yielded}
+use Rattle.rk_inv_tablets.proofs.ready.Yielding.{Begins, IsBeside, Yielding, by_row, of_tablet, yielded, member_keeps, of_lineage}
+use Rattle.rk_inv_base.proofs.wire.Messages.{prepare_rises, close_rises, release_rises, rebuild_rises}
 
 module _ (v : View) (a : Yielding v) where
   abbrev now : View
@@ -24,26 +24,6 @@ module _ (v : View) (a : Yielding v) where
 
   -- ---- orders and reports
 
-  prepare_on : (x : Row) → IsBeside v a x → (live : Bool) (prepare : Prepare) → PrepareFits x (old x) live a.master prepare → PrepareFits x (new x) live a.master prepare
-  prepare_on x beside live prepare fits = record {
-    range = fits.range;
-    invited = λ is lives below. fits.invited is lives (omega (arith, below, beside.grows));
-    members = λ asks lives member. omega (arith, fits.members asks lives member, beside.grows);
-  }
-
-  close_on : (x : Row) → IsBeside v a x → (live : Bool) (tenure : Tenure) → CloseFits x (old x) live a.master tenure → CloseFits x (new x) live a.master tenure
-  close_on x beside live tenure fits = record {
-    source = fits.source;
-    may_follow = λ same lives below. fits.may_follow same lives (omega (arith, below, beside.grows));
-  }
-
-  rebuild_on : (x : Row) → IsBeside v a x → (live : Bool) (rebuild : Rebuild) → RebuildFits x (old x) live a.master rebuild → RebuildFits x (new x) live a.master rebuild
-  rebuild_on x beside live rebuild fits = record {
-    range = fits.range;
-    lineage = fits.lineage;
-    ordered = λ same lives below. fits.ordered same lives (omega (arith, below, beside.grows));
-  }
-
   own_on : (x : Row) → IsBeside v a x → (live : Bool) (tenure : Tenure) → OwnFits x (old x) live a.master tenure → OwnFits x (new x) live a.master tenure
   own_on x beside live tenure fits = record {
     owned = fits.owned;
@@ -52,12 +32,6 @@ module _ (v : View) (a : Yielding v) where
         let reached = fits.reached same lives in
         let term : (new x).term ≡ (old x).term = omega (arith, reached, at, beside.grows) in
         rw term (fits.owner same lives (sym term ∙ at));
-  }
-
-  release_on : (x : Row) → IsBeside v a x → (live : Bool) (tenure : Tenure) → ReleaseFits x (old x) live a.master tenure → ReleaseFits x (new x) live a.master tenure
-  release_on x beside live tenure fits = record {
-    owned = fits.owned;
-    outside = λ same lives within. fits.outside same lives (omega (arith, within, beside.grows));
   }
 
   grant_on : (x : Row) → IsBeside v a x → (live : Bool) (handed : Option Handed) (grant : Grant) → GrantAgrees x (old x) live handed a.master grant → GrantAgrees x (new x) live handed a.master grant
@@ -130,12 +104,12 @@ module _ (v : View) (a : Yielding v) where
   -- what a message says of a row it says still
   pub says_on : (x : Row) → Contains v.rows x → (from to : Node) (body : Body) → SaysIn v x from to body → SaysIn now x from to body
   says_on x has from to (bodies.Prepare prepare) says =
-      for_master (λ q h. PrepareFits x h (v.live q) q prepare) x has to (λ beside. prepare_on x beside (v.live a.master) prepare) says
+      for_master (λ q h. PrepareFits x h (v.live q) q prepare) x has to (λ beside. prepare_rises x (old x) (new x) (v.live a.master) a.master beside.grows prepare) says
   says_on x has from to (bodies.Ready ready) says =
       from_master (λ q h. IsOf x ready.tenure → ReadyIn x.phase h x.term q ready.place) x has from
       (λ beside told is. ready_on x beside x.phase ready.place (told is)) says
   says_on x has from to (bodies.Close tenure) says =
-      for_master (λ q h. CloseFits x h (v.live q) q tenure) x has to (λ beside. close_on x beside (v.live a.master) tenure) says
+      for_master (λ q h. CloseFits x h (v.live q) q tenure) x has to (λ beside. close_rises x (old x) (new x) (v.live a.master) a.master beside.grows tenure) says
   says_on x has from to (bodies.Transfer transfer) says =
       from_master (λ q h. IsOf x transfer.tenure → TransferIn x.phase h (v.completions q x.tablet) x.term q transfer) x has from
       (λ beside told is. transfer_on x beside x.phase refl (v.completions a.master x.tablet) transfer (told is)) says
@@ -166,9 +140,9 @@ module _ (v : View) (a : Yielding v) where
   says_on x has from to (bodies.Own tenure) says =
       for_master (λ q h. OwnFits x h (v.live q) q tenure) x has to (λ beside. own_on x beside (v.live a.master) tenure) says
   says_on x has from to (bodies.Release tenure) says =
-      for_master (λ q h. ReleaseFits x h (v.live q) q tenure) x has to (λ beside. release_on x beside (v.live a.master) tenure) says
+      for_master (λ q h. ReleaseFits x h (v.live q) q tenure) x has to (λ beside. release_rises x (old x) (new x) (v.live a.master) a.master beside.grows tenure) says
   says_on x has from to (bodies.Rebuild rebuild) says =
-      for_master (λ q h. RebuildFits x h (v.live q) q rebuild) x has to (λ beside. rebuild_on x beside (v.live a.master) rebuild) says
+      for_master (λ q h. RebuildFits x h (v.live q) q rebuild) x has to (λ beside. rebuild_rises x (old x) (new x) (v.live a.master) a.master beside.grows rebuild) says
   says_on x has from to (bodies.Rebuilt rebuilt) says =
       by_master from _ _ (λ q told is. rebuilt_on x.phase x has q (v.written q).applied rebuilt (told is)) says
   says_on x has from to _ says = says

@@ -11,7 +11,7 @@ use Rattle.rk_inv_base.proofs.Words.{with_handover, World, master_at, tablet_in,
 use Rattle.rk_inv_base.proofs.Words.{bond_of, post_of, MembersFit, is_granted, View, view, IsSound, SoundView}
 use Rattle.rk_inv_tablets.proofs.Words.{covered_by, IsIn, truth_in, IsSecond, joining_second, scanned, all_by, tablet_apart, tablet_here}
 use Rattle.rk_inv_tablets.proofs.Words.{put_here, put_same, put2_same, found_stands, view_master, MaySealThere, as_joining, as_sealed}
-use Rattle.rk_inv_tablets.proofs.Words.{sealed, side_lists_sealed_in, sides_cut, with_side_items, with_sides, row_in}
+use Rattle.rk_inv_tablets.proofs.Words.{sealed, side_lists_sealed_in, sides_cut, with_side_items, with_sides, row_in, items_again}
 use Rattle.rk_transfer.specs.declared.role.Role.TheVariants as roles
 use Rattle.rk_types.specs.declared.held.TheConstants.{SEGMENT_BYTES}
 use Rattle.rk_world.specs.SideLogs.{cut_items, with_side_item}
@@ -50,11 +50,6 @@ sealed_all [] = refl
 sealed_all (items ∷ sides) =
     flat_map-append (λ (list : List Held). list) (cut_items items) (sealed_sides sides)
     ∙ (λ i. cut_all [] items i ++ sealed_all sides i)
-
--- the items of entries that are items
-items_again : (items : List Held) → items_of (as_entries items) ≡ items
-items_again [] = refl
-items_again (item ∷ items) = ap (λ (list : List Held). item ∷ list) (items_again items)
 
 items_all : (lists : List (List Held)) → items_of (flat_map as_entries lists) ≡ all_of lists
 items_all [] = refl

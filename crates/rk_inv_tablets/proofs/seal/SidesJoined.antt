@@ -1,24 +1,27 @@
 -- A view stays sound when a target that has pulled all takes what it copied from side segments, and joins.
-use Rattle.std.proofs.Common.{◌≡◌, ℕ, ◌<◌, ◌⊎◌, true, List, [], ◌∷◌, ◌++◌, Option, None, refl, sym, ap, ◌∙◌, subst, ⊎_elim, inl, inr, arith}
-use Rattle.std.proofs.Common.{IfSome, drop, nat_lt, slice_index_or, take, Contains, flat_map, lt-ltb}
-use Rattle.rk_inv_base.proofs.Words.{All-weaker, Contains-append_left, Contains-get_or, IfSome_then, get, Call, Held, Member, Range, Entry}
-use Rattle.rk_inv_base.proofs.Words.{end, passed, is_serving, Handover, Role, lineage_of, Phase, Rebuilding, Row, Handed, items_of}
-use Rattle.rk_inv_base.proofs.Words.{side_entries, is_idle, is_rebuilding, may_have_staged, Pulling, Written, applied_entries}
-use Rattle.rk_inv_base.proofs.Words.{member_material, member_truth, IsNext, is_wanting, Post, MovingTarget, LastRebuilder, Holds, bond_of}
-use Rattle.rk_inv_base.proofs.Words.{post_of, MarkFits, RowIsRebuilt, has_merged, HandedFits, HasArrived, HasClosing, IsHandedBy, IsTarget}
-use Rattle.rk_inv_base.proofs.Words.{MembersFit, before_closing, beginning_of, closing_joined, copied_items, entries_from, is_granted}
-use Rattle.rk_inv_base.proofs.Words.{joined_place, scan_items, Waits, View, truths, rests, CallsOf, CountersOf, MessagesOf, ReceivesOf}
-use Rattle.rk_inv_base.proofs.Words.{RebuildsOf, RestOf, SoundView, TablesOf}
-use Rattle.rk_inv_tablets.proofs.Words.{AreAlike, handed_by_alike, handed_for_grant_alike, speaks_alike, still_counts, same_number}
-use Rattle.rk_inv_tablets.proofs.Words.{calls_alike, cover_looks, stands_kept, messages_looks, put2_by, IsRebuilderIn, mark_same, IsBareOf}
-use Rattle.rk_inv_tablets.proofs.Words.{roles_looks, AllLook, GoesOn, LooksAs, looks_same, all_items_same, terms_looks, as_joining}
-use Rattle.rk_inv_tablets.proofs.Words.{as_sealed, sides_joined, row_in}
+use Rattle.std.proofs.Common.{◌≡◌, ◌++◌, ℕ, ◌<◌, ◌⊎◌, true, List, [], ◌∷◌, Option, None, refl, sym, ap, ◌∙◌, subst, ⊎_elim, inl, inr, arith}
+use Rattle.std.proofs.Common.{drop, nat_lt, slice_index_or, take, Contains, flat_map, lt-ltb}
+use Rattle.rk_inv_base.proofs.Words.{Contains-append_left, IfSome_then, get, Held, Member, Range, Entry, end, passed, is_serving, Handover}
+use Rattle.rk_inv_base.proofs.Words.{lineage_of, Phase, Rebuilding, Row, Handed, items_of, side_entries, is_idle, is_rebuilding}
+use Rattle.rk_inv_base.proofs.Words.{may_have_staged, Pulling, Written, applied_entries, member_material, member_truth, is_wanting, Post}
+use Rattle.rk_inv_base.proofs.Words.{MovingTarget, LastRebuilder, Holds, bond_of, post_of, RowIsRebuilt, has_merged, HandedFits, HasArrived}
+use Rattle.rk_inv_base.proofs.Words.{HasClosing, IsHandedBy, IsTarget, MembersFit, before_closing, beginning_of, closing_joined}
+use Rattle.rk_inv_base.proofs.Words.{copied_items, entries_from, is_granted, joined_place, scan_items, wanted_place, Role, View}
+use Rattle.rk_inv_base.proofs.Words.{truths, rests, SoundView, TermsOf}
 use Rattle.rk_transfer.specs.declared.role.Role.TheVariants as roles
+use Rattle.rk_inv_tablets.proofs.Words.{AreAlike, handed_by_alike, handed_for_grant_alike, speaks_alike, still_counts, calls_alike, cover_looks}
+use Rattle.rk_inv_tablets.proofs.Words.{stands_kept, put2_by, put2_other, IsRebuilderIn, mark_same, IsBareOf, role_looks, terms_look, AllLook}
+use Rattle.rk_inv_tablets.proofs.Words.{GoesOn, all_items_same, terms_looks, as_joining, as_sealed, sides_joined, row_in, waits_for}
+use Rattle.rk_inv_tablets.proofs.Words.{CountsFor, SoundBeside, SoundRow, SpeaksFor, view_by_rows}
 use Rattle.rk_types.specs.declared.hashing.TheConstants.{BUCKETS}
 use Rattle.rk_table.proofs.InOrder.{bucket_below_end}
 use Rattle.rk_table.specs.Order.{item_bucket}
 use Rattle.rk_table.specs.Scans.{before_bucket, of_bucket}
 use Rattle.rk_inv_base.proofs.pulls.Replayed.{receiving_behind}
+use Rattle.rk_inv_base.proofs.rows.RowAppended.{StaysAs}
+use Rattle.rk_inv_base.proofs.views.Seen.{looks_same}
+use Rattle.rk_inv_base.proofs.views.OwnTablet.{rows_but_one}
+use Rattle.rk_inv_base.proofs.wire.Messages.{says_of_looks}
 
 -- ---- roles
 
@@ -102,8 +105,14 @@ module _ (v : View) (row : Row) (master : ℕ) (numbers : List ℕ) (sound : Sou
   abbrev now : View
   now = sides_joined v master row.tablet numbers
 
+  abbrev number : ℕ
+  number = row.tablet
+
   abbrev old : Handover
   old = v.handovers master row.tablet
+
+  was : SoundRow v row
+  was = row_in v sound row has_row
 
   of_handover : (P : Handover → Type 0) (q r : ℕ) → (q ≡ master → r ≡ row.tablet → P (as_joining (v.handovers q r))) → ((q ≡ master → r ≡ row.tablet → ⊥) → P (v.handovers q r)) → P (now.handovers q r)
   of_handover P q r here was = put2_by v.handovers master row.tablet as_joining P q r here was
@@ -111,107 +120,47 @@ module _ (v : View) (row : Row) (master : ℕ) (numbers : List ℕ) (sound : Sou
   of_pulling : (P : Pulling → Type 0) (q r : ℕ) → (q ≡ master → r ≡ row.tablet → P (as_sealed numbers (v.pullings q r))) → ((q ≡ master → r ≡ row.tablet → ⊥) → P (v.pullings q r)) → P (now.pullings q r)
   of_pulling P q r here was = put2_by v.pullings master row.tablet (as_sealed numbers) P q r here was
 
+  -- ---- the tablet
+
   receives_it : (q r : ℕ) → q ≡ master → r ≡ row.tablet → (v.handovers q r).role ≡ roles.Receiving
   receives_it q r at its = ap (λ (n : ℕ). (v.handovers n r).role) at ∙ ap (λ (n : ℕ). (v.handovers master n).role) its ∙ receiving
 
-  -- what does not tell the two roles apart is the same of each tablet
-  seen_same : {X : Type 0} (f : Handover → X) → ((h : Handover) → h.role ≡ roles.Receiving → f (as_joining h) ≡ f h) → (q r : ℕ) → f (now.handovers q r) ≡ f (v.handovers q r)
-  seen_same {X} f same q r =
-      of_handover (λ (h : Handover). f h ≡ f (v.handovers q r)) q r (λ at its. same (v.handovers q r) (receives_it q r at its)) (λ apart. refl)
+  joins_as : (h : Handover) → h.role ≡ roles.Receiving → StaysAs h (as_joining h)
+  joins_as h is = record {
+    looks = record { term = refl; range = refl; role = rw is joins_goes_on; counter = λ frozen. refl };
+    alike = record {
+      same_serving = ap is_serving (sym is);
+      same_rebuilding = ap is_rebuilding (sym is);
+      same_wanting = ap is_wanting (sym is);
+      same_term = refl;
+    };
+    idle = ap is_idle (sym is);
+    merged = ap has_merged (sym is);
+    granted = ap is_granted (sym is);
+    stages = ap may_have_staged (sym is);
+    wanted = ap wanted_place (sym is);
+  }
 
-  by_role : {X : Type 0} (f : Role → X) → f (roles.Joining None) ≡ f roles.Receiving → (q r : ℕ) → f (now.handovers q r).role ≡ f (v.handovers q r).role
-  by_role f same = seen_same (λ h. f h.role) (λ h is. same ∙ sym (ap f is))
+  -- each tablet stays as it was
+  each : (q r : ℕ) → StaysAs (v.handovers q r) (now.handovers q r)
+  each q r =
+      of_handover (StaysAs (v.handovers q r)) q r (λ at its. joins_as (v.handovers q r) (receives_it q r at its))
+      (λ apart. assumption (looks_same (v.handovers q r)))
 
   alike : AreAlike v.handovers now.handovers
-  alike q r = record {
-    same_serving = by_role is_serving refl q r;
-    same_rebuilding = by_role is_rebuilding refl q r;
-    same_wanting = by_role is_wanting refl q r;
-    same_term = seen_same (λ h. h.term) (λ h is. refl) q r;
-  }
+  alike q r = (each q r).alike
+
+  counter_same : (q r : ℕ) → (now.handovers q r).counter ≡ (v.handovers q r).counter
+  counter_same q r = of_handover (λ h. h.counter ≡ (v.handovers q r).counter) q r (λ at its. refl) (λ apart. refl)
 
   looks : AllLook v.written v.written v.handovers now.handovers
-  looks = record {
-    each = λ q r.
-        of_handover (LooksAs (v.handovers q r)) q r
-        (λ at its. record {
-          term = refl;
-          range = refl;
-          role = rw (receives_it q r at its) joins_goes_on;
-          counter = λ frozen. refl;
-        })
-        (λ apart. looks_same (v.handovers q r));
-    applied = λ q. refl;
-    truths = λ range member. refl;
-  }
+  looks = record { each = λ q r. (each q r).looks; applied = λ q. refl; truths = λ range member. refl }
 
-  -- ---- calls and counters
+  counted : (q : ℕ) → CountsFor now row q → CountsFor v row q
+  counted q = still_counts (v.live q) (v.handovers q number).term (now.handovers q number).term row.term (alike q number).same_term
 
-  calls : CallsOf now (truths v) (rests v)
-  calls = calls_alike v (truths v) (rests v) now.handovers sound.calls alike
-
-  abbrev Floors : Row → Option Handed → Type 0
-  Floors x given = IfSome given (λ h. IsNext (truths v x ++ rests v x) h.floor)
-
-  counters : CountersOf now (truths v) (rests v)
-  counters = record {
-    low = sound.counters.low;
-    moving = sound.counters.moving;
-    counted = λ q k d inside counts says.
-        let x : Row = slice_index_or v.rows k d in
-        rw (seen_same (λ h. h.counter) (λ h is. refl) q x.tablet) (sound.counters.counted q k d inside
-        (still_counts (v.live q) (v.handovers q x.tablet).term (now.handovers q x.tablet).term x.term (alike q x.tablet).same_term counts)
-        (sym (speaks_alike (post_of x.phase q) x.term (v.handovers q x.tablet) (now.handovers q x.tablet) (alike q x.tablet)) ∙ says));
-    handed_on = λ k d inside.
-        let x : Row = slice_index_or v.rows k d in
-        rw (handed_for_grant_alike x v.handovers now.handovers v.handed alike) (sound.counters.handed_on k d inside);
-    sent = λ n m found k d inside.
-        let x : Row = slice_index_or v.rows k d in
-        rw (handed_by_alike x v.handovers now.handovers m.body alike) (sound.counters.sent n m found k d inside);
-  }
-
-  records : TablesOf now
-  records = record {
-    ordered = sound.records.ordered;
-    items = λ q lives k d inside has.
-        let x : Row = slice_index_or v.rows k d in
-        sound.records.items q lives k d inside
-        (sym (all_items_same (post_of x.phase q) (now.handovers q x.tablet) (v.handovers q x.tablet) x.term (looks.each q x.tablet).term) ∙ has);
-  }
-
-  -- ---- what is staged
-
-  waits_on : (q k : ℕ) (c : Call) → Waits v.rows (v.handovers q) (v.written q) q k c → Waits v.rows (now.handovers q) (v.written q) q k c
-  waits_on q k c was = record {
-    behind = was.behind;
-    entry = was.entry;
-    stands = was.stands;
-    own = was.own;
-    unmarked = was.unmarked;
-    row = was.row;
-    has_row = was.has_row;
-    in_row = was.in_row;
-    last = was.last;
-    is_last = was.is_last;
-    here = was.here;
-    from = was.from;
-    may_stage = by_role may_have_staged refl q was.row.tablet ∙ was.may_stage;
-  }
-
-  rest : RestOf now (truths v) (rests v)
-  rest = record {
-    goes_on = sound.rest.goes_on;
-    done = sound.rest.done;
-    unnamed = sound.rest.unnamed;
-    idle = λ q k d inside counts idles.
-        let x : Row = slice_index_or v.rows k d in
-        sound.rest.idle q k d inside
-        (still_counts (v.live q) (v.handovers q x.tablet).term (now.handovers q x.tablet).term x.term (alike q x.tablet).same_term counts)
-        (sym (by_role is_idle refl q x.tablet) ∙ idles);
-    waiting = λ q lives k c is. waits_on q k c (sound.rest.waiting q lives k c is);
-    are_last = sound.rest.are_last;
-    found = sound.rest.found;
-  }
+  spoke : (q : ℕ) → SpeaksFor now row q → SpeaksFor v row q
+  spoke q says = sym (speaks_alike (post_of row.phase q) row.term (v.handovers q number) (now.handovers q number) (alike q number)) ∙ says
 
   -- ---- rebuilds
 
@@ -221,60 +170,36 @@ module _ (v : View) (row : Row) (master : ℕ) (numbers : List ℕ) (sound : Sou
       receiving_behind lineage master row.term old.term (v.written master).applied
       (rw (← receiving)
       (subst (λ (phase : Phase). Holds (bond_of (post_of phase master) old.role) row.term old.term (v.written master).applied) is
-      ((row_in v sound row has_row).fitting master (inl lives))))
+      (was.fitting master (inl lives))))
 
-  abbrev IsBy : Row → List Member → ℕ → Handover → Type 0
-  IsBy x lineage to h =
-      IsRebuilderIn v.logs v.written v.stored x lineage to (truths v x) h (v.completions to x.tablet) (v.gathers to x.tablet) (v.merged to x.tablet) (v.records to)
+  abbrev IsBy : List Member → ℕ → Handover → Type 0
+  IsBy lineage to h =
+      IsRebuilderIn v.logs v.written v.stored row lineage to (truths v row) h (v.completions to number) (v.gathers to number) (v.merged to number) (v.records to)
 
-  rebuilder_on : (x : Row) → Contains v.rows x → (lineage : List Member) (to : ℕ) → x.phase ≡ Rebuilding lineage to → (v.handovers to x.tablet).term ≡ x.term → IsBy x lineage to (v.handovers to x.tablet) → IsBy x lineage to (now.handovers to x.tablet)
-  rebuilder_on x has lineage to is term was =
-      of_handover (IsBy x lineage to) to x.tablet
-      (λ at its.
-      let same : x ≡ row = same_number v.rows x row sound.rows.apart has has_row its in
-      let less : old.term < row.term =
-      behind lineage (ap (λ (r : Row). r.phase) (sym same) ∙ is ∙ ap (λ (q : ℕ). Rebuilding lineage q) at) in
-      let own : old.term ≡ row.term =
-      sym (ap (λ (q : ℕ). (v.handovers q row.tablet).term) at) ∙ sym (ap (λ (n : ℕ). (v.handovers to n).term) its) ∙ term ∙ ap (λ (r : Row). r.term) same in
-      absurd (omega (arith, less, own)))
-      (λ apart. was)
+  abbrev IsRebuiltIn : View → Phase → Type 0
+  IsRebuiltIn w phase =
+      RowIsRebuilt row phase (truths v row) v.logs v.written v.stored w.handovers v.completions v.gathers v.merged v.records v.live
 
-  abbrev IsRebuiltIn : View → Row → Phase → Type 0
-  IsRebuiltIn w x phase =
-      RowIsRebuilt x phase (truths v x) v.logs v.written v.stored w.handovers v.completions v.gathers v.merged v.records v.live
-
-  rebuilt_on : (x : Row) → Contains v.rows x → (phase : Phase) → x.phase ≡ phase → IsRebuiltIn v x phase → IsRebuiltIn now x phase
-  rebuilt_on x has (Rebuilding lineage to) is fit = (
+  rebuilt_on : (phase : Phase) → row.phase ≡ phase → IsRebuiltIn v phase → IsRebuiltIn now phase
+  rebuilt_on (Rebuilding lineage to) is fit = (
     λ term.
-        let at : (v.handovers to x.tablet).term ≡ x.term = sym (alike to x.tablet).same_term ∙ term in
-        rebuilder_on x has lineage to is at (fit.0 at),
+        let own : (v.handovers to number).term ≡ row.term = sym (alike to number).same_term ∙ term in
+        of_handover (IsBy lineage to) to number
+        (λ at its.
+        let less : old.term < row.term = behind lineage (is ∙ ap (λ (q : ℕ). Rebuilding lineage q) at) in
+        let here : old.term ≡ row.term = rw (← at) own in
+        absurd (omega (arith, less, here)))
+        (λ apart. fit.0 own),
     fit.1,
   )
-  rebuilt_on x has _ is fit = tt
-
-  rebuilds : RebuildsOf now (truths v)
-  rebuilds = record {
-    rebuilt = λ k d inside.
-        let x : Row = slice_index_or v.rows k d in
-        rebuilt_on x (Contains-get_or v.rows k d inside) x.phase refl (sound.rebuilds.rebuilt k d inside);
-    marks = λ q k d inside.
-        let x : Row = slice_index_or v.rows k d in
-        All-weaker (λ mark. mark.tablet ≡ x.tablet → MarkFits x q (v.handovers q x.tablet) (v.live q) (v.written q) mark)
-        (λ mark. mark.tablet ≡ x.tablet → MarkFits x q (now.handovers q x.tablet) (v.live q) (v.written q) mark)
-        (λ mark fits its.
-        let fit = fits its in
-        mark_same x q (v.handovers q x.tablet) (now.handovers q x.tablet) (v.live q) (v.written q) (v.written q) mark (alike q x.tablet).same_term
-        (by_role has_merged refl q x.tablet) fit.behind fit)
-        (v.written q).marks (sound.rebuilds.marks q k d inside);
-    pieces = sound.rebuilds.pieces;
-  }
+  rebuilt_on _ is fit = tt
 
   -- ---- targets
 
-  abbrev IsTargetBy : Row → Member → Member → Handover → Pulling → Type 0
-  IsTargetBy x source target h pulling =
-      IsTarget x.range source.master (member_truth v.written x.range source) (member_material v.written x.range source) target.from (v.written target.master) h
-      pulling (get v.handed x.tablet) (v.records target.master)
+  abbrev IsTargetBy : Member → Member → Handover → Pulling → Type 0
+  IsTargetBy source target h pulling =
+      IsTarget row.range source.master (member_truth v.written row.range source) (member_material v.written row.range source) target.from
+      (v.written target.master) h pulling (get v.handed number) (v.records target.master)
 
   copies_of : (q r : ℕ) → q ≡ master → r ≡ row.tablet → HaveCopies (v.written q) (v.pullings q r) numbers
   copies_of q r at its = rw (at, its) copies
@@ -282,59 +207,122 @@ module _ (v : View) (row : Row) (master : ℕ) (numbers : List ℕ) (sound : Sou
   ends_of : (q r : ℕ) → q ≡ master → r ≡ row.tablet → (v.pullings q r).token ≡ end
   ends_of q r at its = ap (λ (n : ℕ). (v.pullings n r).token) at ∙ ap (λ (n : ℕ). (v.pullings master n).token) its ∙ at_end
 
-  members_on : (x : Row) (lineage : List Member) → MembersFit x v.written v.handovers v.pullings v.records v.handed lineage → MembersFit x v.written now.handovers now.pullings v.records v.handed lineage
-  members_on x (source ∷ target ∷ []) fit = λ granted.
+  members_on : (lineage : List Member) → MembersFit row v.written v.handovers v.pullings v.records v.handed lineage → MembersFit row v.written now.handovers now.pullings v.records v.handed lineage
+  members_on (source ∷ target ∷ []) fit = λ granted.
       let q : ℕ = target.master in
-      let was : IsTargetBy x source target (v.handovers q x.tablet) (v.pullings q x.tablet) = fit (sym (by_role is_granted refl q x.tablet) ∙ granted) in
-      of_handover (λ (h : Handover). IsTargetBy x source target h (now.pullings q x.tablet)) q x.tablet
+      let was : IsTargetBy source target (v.handovers q number) (v.pullings q number) = fit (sym (each q number).granted ∙ granted) in
+      of_handover (λ (h : Handover). IsTargetBy source target h (now.pullings q number)) q number
       (λ at its.
-      of_pulling (IsTargetBy x source target (as_joining (v.handovers q x.tablet))) q x.tablet
+      of_pulling (IsTargetBy source target (as_joining (v.handovers q number))) q number
       (λ _ _.
-      target_joins x.range source.master (member_truth v.written x.range source) (member_material v.written x.range source) target.from (v.written q)
-      (v.handovers q x.tablet) (v.pullings q x.tablet) (get v.handed x.tablet) (v.records q) numbers (receives_it q x.tablet at its) (ends_of q x.tablet at its)
-      (copies_of q x.tablet at its) was)
+      target_joins row.range source.master (member_truth v.written row.range source) (member_material v.written row.range source) target.from
+      (v.written q) (v.handovers q number) (v.pullings q number) (get v.handed number) (v.records q) numbers (receives_it q number at its)
+      (ends_of q number at its) (copies_of q number at its) was)
       (λ apart. absurd (apart at its)))
-      (λ apart.
-      of_pulling (IsTargetBy x source target (v.handovers q x.tablet)) q x.tablet (λ at its. absurd (apart at its)) (λ _. was))
-  members_on x _ fit = tt
+      (λ apart. of_pulling (IsTargetBy source target (v.handovers q number)) q number (λ at its. absurd (apart at its)) (λ _. was))
+  members_on _ fit = tt
 
-  told_on : (x : Row) (lineage : List Member) → HandedFits x v.handovers v.completions v.handed lineage → HandedFits x now.handovers v.completions v.handed lineage
-  told_on x (source ∷ target ∷ []) fit = λ term.
-      let was = fit (sym (alike target.master x.tablet).same_term ∙ term ∙ (alike source.master x.tablet).same_term) in
-      of_handover (λ (h : Handover). IsHandedBy (get v.handed x.tablet) h (v.completions source.master x.tablet)) source.master x.tablet
+  told_on : (lineage : List Member) → HandedFits row v.handovers v.completions v.handed lineage → HandedFits row now.handovers v.completions v.handed lineage
+  told_on (source ∷ target ∷ []) fit = λ term.
+      let was = fit (sym (alike target.master number).same_term ∙ term ∙ (alike source.master number).same_term) in
+      of_handover (λ (h : Handover). IsHandedBy (get v.handed number) h (v.completions source.master number)) source.master number
       (λ at its. was) (λ apart. was)
-  told_on x _ fit = tt
+  told_on _ fit = tt
 
-  receives : ReceivesOf now
-  receives = record {
-    targets = λ k d inside.
-        let x : Row = slice_index_or v.rows k d in members_on x (lineage_of x.phase) (sound.receives.targets k d inside);
-    handed_on = λ k d inside.
-        let x : Row = slice_index_or v.rows k d in told_on x (lineage_of x.phase) (sound.receives.handed_on k d inside);
+  -- ---- the whole
+
+  here : SoundRow now row
+  here = record {
+    named = was.named;
+    begun = was.begun;
+    formed = was.formed;
+    placed = was.placed;
+    sent = was.sent;
+    fitting = λ q counts.
+        role_looks row q (v.handovers q number) (now.handovers q number) (v.written q).applied (v.written q).applied (each q number).looks refl
+        (was.fitting q (counted q counts));
+    ranged = λ q counts member. (each q number).looks.range ∙ was.ranged q (counted q counts) member;
+    at_term =
+        terms_look row.phase (λ q. (v.handovers q number).term) (λ q. (now.handovers q number).term) row.term
+        (λ q. (alike q number).same_term) was.at_term;
+    truth = was.truth;
+    above = was.above;
+    reached = was.reached;
+    recorded = was.recorded;
+    moving = was.moving;
+    answering = λ q counts says. was.answering q (counted q counts) (spoke q says);
+    ends_granted = rw (handed_for_grant_alike row v.handovers now.handovers v.handed alike) was.ends_granted;
+    ends_sent = λ n m there. rw (handed_by_alike row v.handovers now.handovers m.body alike) (was.ends_sent n m there);
+    low = was.low;
+    low_moving = was.low_moving;
+    counted = λ q counts says. rw (counter_same q number) (was.counted q (counted q counts) (spoke q says));
+    floor_granted = rw (handed_for_grant_alike row v.handovers now.handovers v.handed alike) was.floor_granted;
+    floor_sent = λ n m there. rw (handed_by_alike row v.handovers now.handovers m.body alike) (was.floor_sent n m there);
+    goes_on = was.goes_on;
+    done = was.done;
+    unnamed = was.unnamed;
+    idle = λ q counts idles. was.idle q (counted q counts) (sym (each q number).idle ∙ idles);
+    items = λ q alive has.
+        was.items q alive
+        (sym (all_items_same (post_of row.phase q) (now.handovers q number) (v.handovers q number) row.term (alike q number).same_term) ∙ has);
+    target = members_on (lineage_of row.phase) was.target;
+    handed_on = told_on (lineage_of row.phase) was.handed_on;
+    named_items = was.named_items;
+    rebuilt = rebuilt_on row.phase refl was.rebuilt;
+    marks = λ q j m stands its.
+        let fit = was.marks q j m stands its in
+        mark_same row q (v.handovers q number) (now.handovers q number) (v.live q) (v.written q) (v.written q)
+        (slice_index_or (v.written q).marks j m) (alike q number).same_term (each q number).merged fit.behind fit;
+    pieces = was.pieces;
+    says = λ n m there.
+        says_of_looks v v.logs v.written now.handovers looks (λ q. refl) (λ x lineage q dead end needed. needed) row m.from m.to m.body
+        (was.says n m there);
+  }
+
+  terms : TermsOf now
+  terms = terms_looks v.rows v.handovers now.handovers v.wire sound.terms looks.each
+
+  beside : SoundBeside now
+  beside = record {
+    numbered = sound.nodes.numbered;
+    backed = sound.nodes.backed;
+    known_backups = sound.nodes.known;
+    crashed = sound.nodes.crashed;
+    left = sound.nodes.left;
+    rows_apart = sound.rows.apart;
+    covered = sound.rows.covered;
+    kept = terms.kept;
+    begun = terms.begun;
+    apart = terms.apart;
+    cover = cover_looks v.rows v.written v.handovers now.handovers v.records v.wire sound.cover looks.each;
+    has_row = λ q r lives there. sound.roles.known q r lives (sym (each q r).looks.role.absent ∙ there);
+    logs = sound.logs;
+    legal = sound.truth.legal;
+    rising = sound.truth.rising;
+    seen = sound.truth.seen;
+    once = sound.calls.once;
+    known = (calls_alike v (truths v) (rests v) now.handovers sound.calls alike).known;
+    waiting = λ q lives k c there.
+        let wait = sound.rest.waiting q lives k c there in
+        waits_for v.rows v.rows (v.handovers q) (now.handovers q) (v.written q) q k c wait wait.row wait.has_row wait.in_row wait.is_last
+        ((each q wait.row.tablet).stages ∙ wait.may_stage);
+    are_last = sound.rest.are_last;
+    found = sound.rest.found;
+    ordered = sound.records.ordered;
     bare = λ q r.
         of_handover (λ (h : Handover). IsBareOf h (v.written q) (v.records q)) q r (λ at its. tt) (λ apart. sound.receives.bare q r);
-    named = sound.receives.named;
-  }
-
-  messages : MessagesOf now
-  messages = messages_looks v v.logs v.written now.handovers looks (λ q. refl) (λ x lineage q dead end needed. needed) sound.messages
-
-  pub view_sides_joined : SoundView now
-  view_sides_joined = record {
-    nodes = sound.nodes;
-    rows = sound.rows;
-    terms = terms_looks v.rows v.handovers now.handovers v.wire sound.terms looks.each;
-    cover = cover_looks v.rows v.written v.handovers now.handovers v.records v.wire sound.cover looks.each;
-    roles = roles_looks v.rows v.handovers now.handovers v.written v.written v.live sound.roles looks.each looks.applied;
-    logs = sound.logs;
-    truth = sound.truth;
-    order = sound.order;
-    calls = calls;
-    counters = counters;
-    rest = rest;
-    records = records;
-    receives = receives;
-    rebuilds = rebuilds;
-    messages = messages;
+    others = sound.messages.others;
     asked = sound.asked;
   }
+
+  pub view_sides_joined : SoundView now
+  view_sides_joined =
+      view_by_rows now beside
+      (rows_but_one v now row sound has_row (λ seen. refl)
+      (λ q r other i. record {
+        handover = sym (put2_other v.handovers master number (as_joining old) q r (λ at its. other its)) i;
+        completions = v.completions q r;
+        pulling = sym (put2_other v.pullings master number (as_sealed numbers (v.pullings master number)) q r (λ at its. other its)) i;
+        gather = v.gathers q r;
+        merged = v.merged q r;
+      }) here)

@@ -4,12 +4,10 @@ use Rattle.std.proofs.Common.{Option, None, Some, IfSome, Result, Ok, Err, refl,
 use Rattle.std.proofs.Common.{mod-lt, w8, w16, w32, w64, position, option_map, nat_lt, not}
 use Rattle.rk_inv_wellformed.proofs.Words.{byte_len, get_or_past, All-get_or, cases_lt, cond-true, cond_both, nat_tests, All-append}
 use Rattle.rk_inv_wellformed.proofs.Words.{All-cons, All-head, All-nil, All-tail, All-weaker, value_fault, Ended, Range, LONGEST_KEY}
-use Rattle.rk_inv_wellformed.proofs.Words.{LONGEST_VALUE, kind_of, IsLawfulEntry, Entry, key_fault, End, is_marked}
-use Rattle.std.specs.Int.{Width, byte_at, bytes_high_first}
-use Rattle.std.specs.List.{position_or_len}
-use Rattle.rk_types.specs.Text.{bad_byte, text_fault}
+use Rattle.rk_inv_wellformed.proofs.Words.{LONGEST_VALUE, kind_of, IsLawfulEntry, Entry, key_fault, End, is_marked, lt-ltb, not-true}
+use Rattle.rk_inv_wellformed.proofs.Words.{Width, byte_at, bytes_high_first, position_or_len, bad_byte, text_fault, FIRST_TEXT_BYTE}
+use Rattle.rk_inv_wellformed.proofs.Words.{LAST_TEXT_BYTE, fields_bytes, item_value_bytes, mark_bytes}
 use Rattle.rk_types.specs.declared.text.TextError.TheVariants.{Byte, Length}
-use Rattle.rk_types.specs.declared.text.TheConstants.{FIRST_TEXT_BYTE, LAST_TEXT_BYTE}
 use Rattle.rk_entry.proofs.EntryLaws.{entry_takes, one_spelled}
 use Rattle.rk_entry.proofs.StandLaws.{entries_of-cons, entries_of-none}
 use Rattle.rk_entry.proofs.Tools.{IsBytes}
@@ -18,8 +16,7 @@ use Rattle.rk_entry.specs.Entries.{entries_of, entries_within, spelled_all}
 use Rattle.rk_entry.specs.Lists.{ends_bytes, segments_bytes}
 use Rattle.rk_entry.specs.Numbers.{number_bytes}
 use Rattle.rk_entry.specs.Reading.{read_entry}
-use Rattle.rk_entry.specs.Spelling.{carried_bytes, fields_bytes, front_bytes, head_bytes, held_bytes, item_value_bytes, joined_bytes}
-use Rattle.rk_entry.specs.Spelling.{mark_bytes, refused_bytes, spelled}
+use Rattle.rk_entry.specs.Spelling.{refused_bytes, spelled, carried_bytes, front_bytes, head_bytes, held_bytes, joined_bytes}
 use Rattle.rk_entry.specs.Texts.{key_bytes, value_bytes}
 use Rattle.rk_entry.specs.declared.error.DecodeError.{DecodeError}
 use Rattle.rk_entry.specs.declared.head.Head.{Head}
@@ -47,25 +44,18 @@ number_are : (w : Width) (n : ℕ) → AreBytes (number_bytes w n)
 unfolding number_bytes
 number_are w n = digits_bytes (byte_len w) n
 
-below_test : (a b : ℕ) → a < b → nat_lt a b ≡ true
-below_test a b below = grind (arith, nat_tests)
-
-fails_where : (b : Bool) → not b ≡ true → b ≡ false
-fails_where true is = absurd (cc is)
-fails_where false is = refl
-
 -- where no place is found none passes
 none_passes : (p : ℕ → Bool) (xs : List ℕ) → (position_or_len p xs < length xs → ⊥) → All (λ x. p x ≡ false) xs
 none_passes p [] none = All-nil _
 none_passes p (x ∷ xs) none = cond_both (not (p x)) (1 + position_or_len p xs) 0
     (λ (place : ℕ). (place < length (x ∷ xs) → ⊥) → All (λ x. p x ≡ false) (x ∷ xs))
-    (λ is beyond. All-cons (λ x. p x ≡ false) x xs (fails_where (p x) is) (none_passes p xs (λ below. beyond (omega arith))))
+    (λ is beyond. All-cons (λ x. p x ≡ false) x xs (not-true (p x) is) (none_passes p xs (λ below. beyond (omega arith))))
     (λ is beyond. absurd (beyond (omega arith))) none
 
 none_found : (p : ℕ → Bool) (xs : List ℕ) → position p xs ≡ None → All (λ x. p x ≡ false) xs
 none_found p xs none = none_passes p xs
     (λ below.
-    let found : position p xs ≡ Some (position_or_len p xs) = cond-true _ _ _ (below_test (position_or_len p xs) (length xs) below) in
+    let found : position p xs ≡ Some (position_or_len p xs) = cond-true _ _ _ (lt-ltb (position_or_len p xs) (length xs) below) in
     absurd (cc (sym found ∙ none)))
 
 -- a byte of a text
@@ -100,19 +90,13 @@ end_are : (end : Ended) → AreBytes (end_bytes end)
 unfolding end_bytes
 end_are end = both_bytes _ _ (number_are w32 end.client) (both_bytes _ _ (number_are w64 end.seq) (op_end end.end))
 
-each_end : (list : List Ended) → All (λ end. AreBytes (end_bytes end)) list
-each_end list = all_each (λ end. AreBytes (end_bytes end)) list end_are
-
-each_number : (list : List ℕ) → All (λ n. AreBytes (number_bytes w32 n)) list
-each_number list = all_each (λ n. AreBytes (number_bytes w32 n)) list (number_are w32)
-
 ends_are : (list : List Ended) → AreBytes (ends_bytes list)
 unfolding ends_bytes
-ends_are list = all_flat (λ byte. byte < 256) end_bytes list (each_end list)
+ends_are list = all_flat (λ byte. byte < 256) end_bytes list (all_each (λ end. AreBytes (end_bytes end)) list end_are)
 
 segments_are : (list : List ℕ) → AreBytes (segments_bytes list)
 unfolding segments_bytes
-segments_are list = all_flat (λ byte. byte < 256) (number_bytes w32) list (each_number list)
+segments_are list = all_flat (λ byte. byte < 256) (number_bytes w32) list (all_each (λ n. AreBytes (number_bytes w32 n)) list (number_are w32))
 
 range_are : (range : Range) → AreBytes (range_bytes range)
 unfolding range_bytes
@@ -167,11 +151,12 @@ below_length list all place =
     (λ (past : length list ≤ place). subst (λ (n : ℕ). n < 256) (sym (get_or_past list place 0 past)) (lit< tt))
     (cases_lt place (length list))
 
-spelled_cons : (entry : Entry) (list : List Entry) → spelled_all (entry ∷ list) ≡ spelled entry ++ spelled_all list
+-- entries one after the other are spelled so
+pub spelled_cons : (entry : Entry) (list : List Entry) → spelled_all (entry ∷ list) ≡ spelled entry ++ spelled_all list
 unfolding spelled_all
 spelled_cons entry list = refl
 
-spelled_nil : spelled_all [] ≡ []
+pub spelled_nil : spelled_all [] ≡ []
 unfolding spelled_all
 spelled_nil = refl
 

@@ -1,9 +1,8 @@
 -- Each entry that a master leaves of its own fits a segment: an item, a refusal, what a target was granted or a rebuild merged.
 use Rattle.std.proofs.Common.{IfSome, ◌≡◌, ◌≤◌, ◌+◌, ℕ, List, length, Option, None, Some, arith}
 use Rattle.rk_inv_wellformed.proofs.Words.{value_fault, Held, SEGMENT_BYTES, LONGEST_KEY, LONGEST_VALUE, spelled_count, kind_of, spelled}
-use Rattle.rk_inv_wellformed.proofs.Words.{Entry, MOST_BASE_CLIENTS, MOST_CLIENTS, key_fault, text_within, is_marked, Refused}
+use Rattle.rk_inv_wellformed.proofs.Words.{Entry, MOST_BASE_CLIENTS, MOST_CLIENTS, key_fault, text_within, is_marked, Refused, mark_count}
 use Rattle.rk_entry.specs.Lengths.{value_count}
-use Rattle.rk_entry.specs.Spelling.{mark_count}
 use Rattle.rk_entry.specs.declared.entry.Carried.{Carried}
 use Rattle.rk_entry.specs.declared.kind.Kind.{Kind}
 use Rattle.rk_inv_wellformed.proofs.maps.{either_way}

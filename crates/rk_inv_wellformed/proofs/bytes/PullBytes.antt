@@ -1,22 +1,21 @@
 -- How many bytes a master has after it took a batch, or the items that it asked for first: no more than before and what came, and an entry
 -- that closes where all has come.
-use Rattle.std.proofs.Common.{◌≡◌, ◌≤◌, ◌<◌, ◌+◌, ◌%◌, ◌&&◌, ℕ, List, [], ◌∷◌, ◌++◌, fold, length, map, nat_le, sum, Option, None, Some}
-use Rattle.std.proofs.Common.{refl, sym, subst, ap, ⊎_elim, arith, length-append, slice_index_or, slice_set, sum_by, flat_map}
-use Rattle.rk_inv_wellformed.proofs.Words.{cases_lt, sum-map, sum_by-append, sum_by-cons, in_order_insert, spelled_of, IsInOrder, NumberMap}
-use Rattle.rk_inv_wellformed.proofs.Words.{get_or, Held, SEGMENT_BYTES, Token, held_spelled, spelled, Entry, found, is_newer, joined}
-use Rattle.rk_inv_wellformed.proofs.Words.{Handover, Got, Pulled, items_of, Master, log_bytes, tablet_at, unsealed_bytes, with_item}
+use Rattle.std.proofs.Common.{◌≡◌, ◌≤◌, ◌<◌, ◌+◌, ◌%◌, ◌&&◌, ℕ, List, [], ◌∷◌, ◌++◌, fold, length, map, nat_le, sum, refl, sym, subst, ap}
+use Rattle.std.proofs.Common.{⊎_elim, arith, length-append, slice_index_or, slice_set, sum_by, flat_map}
+use Rattle.rk_inv_wellformed.proofs.Words.{cases_lt, sum-map, sum_by-append, sum_by-cons, in_order_insert, spelled_of, IsInOrder}
+use Rattle.rk_inv_wellformed.proofs.Words.{NumberMap, get_or, Held, SEGMENT_BYTES, Token, held_spelled, spelled, Entry, found, is_newer}
+use Rattle.rk_inv_wellformed.proofs.Words.{Got, Pulled, items_of, Master, log_bytes, tablet_at, unsealed_bytes, with_item}
 use Rattle.rk_inv_wellformed.proofs.Words.{with_side_segment, with_tablet, as_entries, replay, token_passed, with_pulling, sealed_sides}
-use Rattle.rk_inv_wellformed.proofs.Words.{Tablet, no_tablet, with_handover, closing_entry, joined_entry, Worked, got, is_batch, no_hashes}
-use Rattle.rk_inv_wellformed.proofs.Words.{end, batch_taken, got_taken, is_token, item_replayed, joining_at, joining_by, next_sides}
-use Rattle.rk_inv_wellformed.proofs.Words.{pulled_all, pulled_taken, replay_one, sealing, with_pulled, is_receiving_at, with_side_item}
-use Rattle.rk_inv_wellformed.proofs.Words.{with_appended}
-use Rattle.std.proofs.lemmas.List.{set_past}
-use Rattle.std.proofs.lemmas.List.Sums.{sum_by-set}
+use Rattle.rk_inv_wellformed.proofs.Words.{Tablet, no_tablet, with_handover, joined_entry, Worked, got, is_batch, no_hashes, end}
+use Rattle.rk_inv_wellformed.proofs.Words.{batch_taken, got_taken, is_token, item_replayed, joining_by, next_sides, pulled_all}
+use Rattle.rk_inv_wellformed.proofs.Words.{pulled_taken, replay_one, sealing, with_pulled, is_receiving_at, with_side_item, with_appended}
+use Rattle.rk_inv_wellformed.proofs.Words.{set_past, sum_by-set}
 use Rattle.rk_entry.specs.Entries.{spelled_all}
 use Rattle.rk_inv_wellformed.proofs.bytes.LogBytes.{bytes_appended, bytes_put, none_pulled}
 use Rattle.rk_inv_wellformed.proofs.bytes.TurnBytes.{CLOSING_BYTES, joined_short}
 use Rattle.rk_inv_wellformed.proofs.maps.{either_way}
 use Rattle.rk_inv_wellformed.proofs.masters.Sealing.{items_spelled, sides_tablets, sum_pushed}
+use Rattle.rk_inv_wellformed.proofs.masters.Changes.{closing_is, joining_is}
 
 -- ---- items
 
@@ -142,30 +141,20 @@ sides_bytes (items ∷ pieces) master =
 
 -- ---- a target that has all
 
-closing_has : {bytes : ℕ} (id : ℕ) {master : Master} (tablet : Tablet) (moved : Option Handover)
-    → unsealed_bytes tablet ≡ unsealed_bytes (tablet_at master id) → tablet.pulling.sealed ≡ []
-    → HasBytes bytes master → HasBytes (bytes + CLOSING_BYTES) (closing_entry master id tablet moved)
-closing_has {bytes} id tablet None same none has = more_has bytes (bytes + CLOSING_BYTES) (omega arith) has
-closing_has {bytes} id {master} tablet (Some handover) same none has =
-    let now = with_tablet master id (with_handover tablet handover) in
-    let put = same_has bytes id master (with_handover tablet handover) same has in
-    let fits : log_bytes (with_appended now (joined_entry tablet)) ≤ bytes + CLOSING_BYTES =
-    omega (arith, put.fits, bytes_appended now (joined_entry tablet), joined_short tablet, ap (λ (list : List ℕ). length list) none) in
-    assumption put
-
-joining_at_has : {bytes : ℕ} (id : ℕ) {master : Master} (tablet : Tablet) (moved : Option Handover)
-    → unsealed_bytes tablet ≡ unsealed_bytes (tablet_at master id) → HasBytes bytes master → HasBytes bytes (joining_at master id tablet moved)
-joining_at_has id tablet None same has = has
-joining_at_has {bytes} id {master} tablet (Some handover) same has = same_has bytes id master (with_handover tablet handover) same has
-
 joining_has : {bytes : ℕ} (id : ℕ) (master : Master) (tablet : Tablet) (numbers : List ℕ) → unsealed_bytes tablet ≡ unsealed_bytes (tablet_at master id)
     → tablet.pulling.sealed ≡ numbers
     → HasBytes bytes master → HasBytes (bytes + CLOSING_BYTES) (joining_by master id tablet numbers)
-joining_has id master tablet [] same is has =
-    closing_has id tablet (joined tablet.handover tablet.handover.term (Some (length master.log.entries))) same is has
+joining_has {bytes} id master tablet [] same none has =
+    closing_is (HasBytes (bytes + CLOSING_BYTES)) master id tablet (more_has bytes (bytes + CLOSING_BYTES) (omega arith) has) (length master.log.entries)
+    (λ r is.
+    let now = with_tablet master id (with_handover tablet (record tablet.handover { role = r })) in
+    let put = same_has bytes id master (with_handover tablet (record tablet.handover { role = r })) same has in
+    let fits : log_bytes (with_appended now (joined_entry tablet)) ≤ bytes + CLOSING_BYTES =
+    omega (arith, put.fits, bytes_appended now (joined_entry tablet), joined_short tablet, ap (λ (list : List ℕ). length list) none) in
+    assumption put)
 joining_has {bytes} id master tablet (number ∷ numbers) same is has =
-    let moved = joined tablet.handover tablet.handover.term None in
-    more_has bytes (bytes + CLOSING_BYTES) (omega arith) (joining_at_has id tablet moved same has)
+    more_has bytes (bytes + CLOSING_BYTES) (omega arith) (joining_is (HasBytes bytes) master id tablet has
+    (λ r joins. same_has bytes id master (with_handover tablet (record tablet.handover { role = r })) same has))
 
 module _ (bytes id : ℕ) (master : Master) (has : HasBytes bytes master) where
   abbrev it : Tablet

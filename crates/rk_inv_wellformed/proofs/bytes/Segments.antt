@@ -1,16 +1,14 @@
 -- The segments of a log whose entries fit a segment: each has at most the bytes that a segment may have, its number fits four bytes,
 -- and so does what a backup is to be sent of it.
-use Rattle.std.proofs.Common.{◌≡◌, ◌≤◌, ◌<◌, ◌+◌, ◌-◌, ◌^◌, ℕ, suc, Bool, true, false, not, All, List, [], ◌∷◌, ◌++◌, length, refl, arith}
-use Rattle.std.proofs.Common.{length-append, length-drop, leb, find, sum_by, IfSome, w32, option_map, leb-false, leb-true}
+use Rattle.std.proofs.Common.{◌≡◌, ◌≤◌, ◌<◌, ◌+◌, ◌-◌, ◌^◌, ℕ, suc, true, not, All, List, [], ◌∷◌, ◌++◌, length, arith, length-append}
+use Rattle.std.proofs.Common.{length-drop, leb, find, sum_by, IfSome, w32, option_map, leb-false, leb-true}
 use Rattle.rk_inv_wellformed.proofs.Words.{cond_both, and_parts, All-append, All-cons, All-head, All-nil, All-push, All-set, All-tail}
 use Rattle.rk_inv_wellformed.proofs.Words.{All-weaker, SEGMENT_BYTES, IsNumber, spelled, Entry, FIRST_SIDE_SEGMENT, cut, Log, pending}
 use Rattle.rk_inv_wellformed.proofs.Words.{segments, PlacedBytes, IsFormedSide, MOST_BYTES, NumberedBytes, cut_after, last_of, with_bytes}
-use Rattle.rk_inv_wellformed.proofs.Words.{Known, known_of, numbered, segment_bytes}
-use Rattle.rk_log.proofs.Cuts.{cut_filled, length-le-bytes}
-use Rattle.rk_log.specs.Known.{is_whole, known_length}
-use Rattle.rk_log.specs.Log.{missing}
+use Rattle.rk_inv_wellformed.proofs.Words.{Known, known_of, numbered, segment_bytes, not-true, cut_filled, length-le-bytes, is_whole}
+use Rattle.rk_inv_wellformed.proofs.Words.{known_length, missing}
 use Rattle.rk_inv_wellformed.proofs.maps.{all_find, find_passes, by_found}
-use Rattle.rk_inv_wellformed.proofs.masters.Waiting.{FitsSegment}
+use Rattle.rk_inv_wellformed.proofs.bytes.EntryBytes.{FitsSegment}
 
 -- bytes that a segment may have
 abbrev pub FitsBytes : List ℕ → Type 0
@@ -79,16 +77,12 @@ pub record IsToldPiece (piece : PlacedBytes) : Type 0 where
 
 missing_told : (known : Known) (segment : NumberedBytes) → IsTold segment → not (is_whole known segment) ≡ true → IsToldPiece (missing known segment)
 missing_told known segment told lacks =
-    let below : known_length known segment.number < length segment.bytes = leb-false (length segment.bytes) (known_length known segment.number) (not_whole (is_whole known segment) lacks) in
+    let below : known_length known segment.number < length segment.bytes = leb-false (length segment.bytes) (known_length known segment.number) (not-true (is_whole known segment) lacks) in
     record {
       segment = told.number;
       at = record { least_is = omega arith; fits = omega (arith, told.few) };
       ends = omega (arith, told.few, length-drop (known_length known segment.number) segment.bytes);
     }
-  where
-    not_whole : (b : Bool) → not b ≡ true → b ≡ false
-    not_whole true is = absurd (cc is)
-    not_whole false is = refl
 
 -- what a backup is to be sent can be told
 pub pending_told : (log : Log) (backup : ℕ) → All IsTold (segments log) → IfSome (pending log backup) IsToldPiece

@@ -1,12 +1,10 @@
 -- How great a log is: it has no more entries than bytes.
 use Rattle.std.proofs.Common.{◌≡◌, ◌≤◌, ◌<◌, ◌^◌, ℕ, List, [], ◌∷◌, ◌++◌, length, refl, ap, sym, ◌∙◌, arith, w64, flat_map, sum_by}
-use Rattle.rk_inv_wellformed.proofs.Words.{sum_by-cons, IsNumber, spelled, Entry, cut, Limits, Master, log_bytes}
+use Rattle.rk_inv_wellformed.proofs.Words.{sum_by-cons, IsNumber, spelled, Entry, cut, Master, log_bytes, MOST_BYTES, concat}
+use Rattle.rk_inv_wellformed.proofs.Words.{spelled_some}
 use Rattle.std.proofs.lemmas.List.Concat.{length-flat_map}
-use Rattle.std.specs.List.{concat}
 use Rattle.rk_entry.specs.Entries.{spelled_all}
 use Rattle.rk_log.proofs.CutLaws.{cut_whole}
-use Rattle.rk_log.proofs.Cuts.{spelled_some}
-use Rattle.rk_inv_wellformed.proofs.masters.Work.{HasRoomFor}
 
 -- lists one after the other
 joined : (segments : List (List ℕ)) → concat segments ≡ flat_map (λ (s : List ℕ). s) segments
@@ -38,5 +36,5 @@ pub below_fits : (count bytes : ℕ) → count ≤ bytes → bytes < 2 ^ 30 → 
 below_fits count bytes few room = omega arith
 
 -- so each place of its log can be spelled
-pub place_fits : (limits : Limits) (master : Master) → HasRoomFor limits master → IsNumber w64 0 (length master.log.entries)
-place_fits limits master room = below_fits (length master.log.entries) (log_bytes master) (entries_few master) room.bytes
+pub place_fits : (master : Master) → log_bytes master < MOST_BYTES → IsNumber w64 0 (length master.log.entries)
+place_fits master room = below_fits (length master.log.entries) (log_bytes master) (entries_few master) room

@@ -1,28 +1,27 @@
 -- How many bytes a master has after a message: for a request, a grant and a rebuild an entry more, what the message brings, and at most
 -- as many again as before for each tablet that changes.
 use Rattle.std.proofs.Common.{◌≤◌, ◌<◌, ◌+◌, ◌*◌, ◌==◌, ℕ, [], length, Option, None, Some, refl, ap, arith}
-use Rattle.rk_inv_wellformed.proofs.Words.{cond_both, All-weaker, hash_of, IsInOrder, Call, Node, completions_from, closed, frozen}
-use Rattle.rk_inv_wellformed.proofs.Words.{Handover, Role, overreach, Grant, Prepare, Tenure, Body, Pull, Want, IsFormedMaster}
-use Rattle.rk_inv_wellformed.proofs.Words.{MOST_BASE_CLIENTS, IsClient, IsFormedBody, IsFormedEnd, IsFormedGrant, Limits, Master}
-use Rattle.rk_inv_wellformed.proofs.Words.{is_settled, log_bytes, tablet_at, unsealed_bytes, with_tablet, without_items, backup_message}
-use Rattle.rk_inv_wellformed.proofs.Words.{client_message, order, peer_message, told_master, IsLawfulCall, range_below, range_from}
-use Rattle.rk_inv_wellformed.proofs.Words.{MOST_CLIENTS, call_of, choice_of, chosen, counted_up, item_of, with_staged, with_wanted}
+use Rattle.rk_inv_wellformed.proofs.Words.{cond_both, hash_of, IsInOrder, Call, Node, completions_from, closed, frozen, Handover, Role}
+use Rattle.rk_inv_wellformed.proofs.Words.{overreach, Grant, Prepare, Tenure, Body, IsFormedMaster, IsFormedBody, IsFormedGrant, Limits}
+use Rattle.rk_inv_wellformed.proofs.Words.{Master, is_settled, log_bytes, tablet_at, unsealed_bytes, with_tablet, without_items}
+use Rattle.rk_inv_wellformed.proofs.Words.{backup_message, client_message, order, peer_message, told_master, IsLawfulCall, range_below}
+use Rattle.rk_inv_wellformed.proofs.Words.{range_from, call_of, choice_of, chosen, counted_up, item_of, with_staged, with_wanted}
 use Rattle.rk_inv_wellformed.proofs.Words.{is_frozen_at, MOST_BYTES, has_parts, with_half, with_halves, with_split, Tablet, pulling_from}
-use Rattle.rk_inv_wellformed.proofs.Words.{with_handover, without_merged, freezing, Worked, Choice, Wants, Writes, Refuses, granted, owned}
-use Rattle.rk_inv_wellformed.proofs.Words.{prepared, released, refusal_of, LONGEST_LEFT, brought_by, Entry}
+use Rattle.rk_inv_wellformed.proofs.Words.{with_handover, without_merged, freezing, Worked, Choice, Wants, Writes, Refuses, granted}
+use Rattle.rk_inv_wellformed.proofs.Words.{owned, prepared, released, refusal_of, LONGEST_LEFT, brought_by, Entry, with_call, pull_taken}
+use Rattle.rk_inv_wellformed.proofs.Words.{want_taken}
 use Rattle.rk_world.specs.Handovers as handovers
-use Rattle.rk_world.specs.Master.{with_call}
-use Rattle.rk_world.specs.Pulls.{pull_taken, want_taken}
 use Rattle.rk_inv_wellformed.proofs.bytes.EntryBytes.{carried_fits, held_fits, refused_fits}
 use Rattle.rk_inv_wellformed.proofs.bytes.LogBytes.{bytes_appended, bytes_given_up, bytes_with_tablet, pulls_none, unsealed_at_most}
 use Rattle.rk_inv_wellformed.proofs.bytes.PullBytes.{got_bytes, pulled_bytes}
 use Rattle.rk_inv_wellformed.proofs.bytes.RebuildBytes.{copy_bytes, rebuild_bytes}
 use Rattle.rk_inv_wellformed.proofs.bytes.Sizes.{below_fits, entries_few}
 use Rattle.rk_inv_wellformed.proofs.bytes.TurnBytes.{stored_thrice}
-use Rattle.rk_inv_wellformed.proofs.maps.{either_way, rising_within}
+use Rattle.rk_inv_wellformed.proofs.maps.{either_way}
 use Rattle.rk_inv_wellformed.proofs.masters.Requests.{IsFormedChoice, choice_formed}
 use Rattle.rk_inv_wellformed.proofs.masters.Tablets.{tablet_with_same}
 use Rattle.rk_inv_wellformed.proofs.masters.Work.{AreLimits}
+use Rattle.rk_inv_wellformed.proofs.masters.Handovers.{formed_ends_few}
 
 same_unsealed : (master : Master) (id : ℕ) (tablet : Tablet) → unsealed_bytes tablet ≤ log_bytes master → log_bytes (with_tablet master id tablet) ≤ log_bytes master + log_bytes master
 same_unsealed master id tablet few = omega (arith, few, bytes_with_tablet master id tablet)
@@ -122,17 +121,8 @@ module _ (master : Master) (below : log_bytes master < MOST_BYTES) where
   granting_fits : {limits : Limits} {grant : Grant} (moved : Option Handover) → AreLimits limits → IsFormedGrant limits grant → BytesFit (handovers.granting master grant moved).master
   granting_fits None are told = kept
   granting_fits {limits} {grant} (Some handover) are told =
-      omega (arith, below, are, bytes_with_tablet, pulls_none granted_tablet grant.source refl, bytes_appended, carried_fits (record { range = handover.range; term = handover.term; floor = grant.floor; ends = grant.ends }) few)
+      omega (arith, below, are, bytes_with_tablet, pulls_none granted_tablet grant.source refl, bytes_appended, carried_fits (record { range = handover.range; term = handover.term; floor = grant.floor; ends = grant.ends }) (formed_ends_few grant.ends are told.told))
     where
-      few : length grant.ends ≤ MOST_CLIENTS + MOST_BASE_CLIENTS
-      few =
-          omega (
-            arith,
-            are.clients,
-            rising_within grant.ends limits.clients told.told.rising
-                (All-weaker (IsFormedEnd limits) (λ end. IsClient limits end.client) (λ end formed. formed.client) grant.ends told.told.each),
-          )
-
       granted_tablet : Tablet
       granted_tablet = record (without_merged (tablet_at master grant.tenure.tablet)) {
         handover = handover;
@@ -177,20 +167,14 @@ module _ (master : Master) (below : log_bytes master < MOST_BYTES) where
       )
   order_fits _ are formed says = kept
 
-  pull_fits : (sender : Node) (pull : Pull) → BytesFit (pull_taken master sender pull).master
-  pull_fits sender pull =
-      either_way WorkedFits (is_frozen_at (tablet_at master pull.tenure.tablet) pull.tenure.term) kept kept
-
-  want_fits : (sender : Node) (want : Want) → BytesFit (want_taken master sender want).master
-  want_fits sender want =
-      either_way WorkedFits (is_frozen_at (tablet_at master want.tenure.tablet) want.tenure.term) kept kept
-
   peer_fits : (sender : ℕ) (body : Body) → IsInOrder master.tablets
       → log_bytes (peer_message master (Node.Master sender) body).master ≤ 3 * log_bytes master + LONGEST_LEFT + brought_by master body
   peer_fits sender (Body.Pull pull) ordered =
-      risen (Body.Pull pull) (pull_taken master (Node.Master sender) pull).master (pull_fits (Node.Master sender) pull)
+      risen (Body.Pull pull) (pull_taken master (Node.Master sender) pull).master
+      (either_way WorkedFits (is_frozen_at (tablet_at master pull.tenure.tablet) pull.tenure.term) kept kept)
   peer_fits sender (Body.Want want) ordered =
-      risen (Body.Want want) (want_taken master (Node.Master sender) want).master (want_fits (Node.Master sender) want)
+      risen (Body.Want want) (want_taken master (Node.Master sender) want).master
+      (either_way WorkedFits (is_frozen_at (tablet_at master want.tenure.tablet) want.tenure.term) kept kept)
   peer_fits sender (Body.Pulled pulled) ordered = omega (arith, pulled_bytes master pulled ordered)
   peer_fits sender (Body.Got message) ordered = omega (arith, got_bytes master message ordered)
   peer_fits sender other ordered = risen other master kept

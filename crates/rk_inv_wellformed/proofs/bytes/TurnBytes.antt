@@ -1,23 +1,24 @@
 -- How many bytes a master has after its turn: no more than before; and after what a backup tells: no more than before and the entries by
 -- which tablets close that wait for their side segments.
-use Rattle.std.proofs.Common.{not, map, List, ◌&&◌, ◌≡◌, ◌≤◌, ◌+◌, ◌*◌, ℕ, length, max, nat_lt, All, [], ◌∷◌, Option, None, Some, refl, sym}
-use Rattle.std.proofs.Common.{ap, subst, ◌∙◌, ⊎_elim, arith, sum_by}
+use Rattle.std.proofs.Common.{not, map, List, ◌&&◌, ◌≡◌, ◌≤◌, ◌+◌, ◌*◌, ℕ, length, max, All, [], ◌∷◌, Option, None, Some, refl, sym, ap}
+use Rattle.std.proofs.Common.{subst, ◌∙◌, ⊎_elim, arith, sum_by}
 use Rattle.rk_inv_wellformed.proofs.Words.{cases_eq, length-map, All-head, All-tail, All-weaker, sum-map, sum_by-cons, in_order_insert}
 use Rattle.rk_inv_wellformed.proofs.Words.{in_order_changed, IsInOrder, NumberMap, get, Call, Ended, Held, spelled_count, spelled_all}
-use Rattle.rk_inv_wellformed.proofs.Words.{kind_of, spelled, Entry, frozen, joined, Handover, Role, Overreach, Stored, apply_entries}
-use Rattle.rk_inv_wellformed.proofs.Words.{apply_entry, newly_held, noting, stored_taken, with_applied, with_ended, with_entry_item}
-use Rattle.rk_inv_wellformed.proofs.Words.{with_noted, told_by, IsFormedMaster, IsFormedSide, side_waits, next_reading, Limits, Master}
-use Rattle.rk_inv_wellformed.proofs.Words.{is_settled, log_bytes, tablet_at, unsealed_bytes, with_tablet, with_known, order, duties}
-use Rattle.rk_inv_wellformed.proofs.Words.{master_turn, reading_duty, tablet_duty, with_outstanding, as_entries, has_key, is_absent, Tablet}
-use Rattle.rk_inv_wellformed.proofs.Words.{with_handover, freezing, all_going_on, closing_entry, going_on_in, is_sealed_stored}
-use Rattle.rk_inv_wellformed.proofs.Words.{joined_entry, Worked, side_waits_in, with_appended}
+use Rattle.rk_inv_wellformed.proofs.Words.{kind_of, spelled, Entry, Role, Overreach, Stored, apply_entries, apply_entry, newly_held}
+use Rattle.rk_inv_wellformed.proofs.Words.{noting, stored_taken, with_applied, with_ended, with_entry_item, with_noted, told_by}
+use Rattle.rk_inv_wellformed.proofs.Words.{IsFormedMaster, IsFormedSide, side_waits, Limits, Master, log_bytes, tablet_at, unsealed_bytes}
+use Rattle.rk_inv_wellformed.proofs.Words.{with_tablet, with_known, order, duties, master_turn, tablet_duty, with_outstanding, as_entries}
+use Rattle.rk_inv_wellformed.proofs.Words.{has_key, is_absent, Tablet, with_handover, all_going_on, going_on_in, joined_entry}
+use Rattle.rk_inv_wellformed.proofs.Words.{side_waits_in, with_appended}
 use Rattle.rk_types.specs.Held.{spelled_of}
 use Rattle.rk_inv_wellformed.proofs.bytes.EntryBytes.{mark_few}
 use Rattle.rk_inv_wellformed.proofs.bytes.LogBytes.{bytes_appended, bytes_put, bytes_changed}
 use Rattle.rk_inv_wellformed.proofs.bytes.Sizes.{side_bytes}
-use Rattle.rk_inv_wellformed.proofs.maps.{by_found, either_way, All_pairs}
+use Rattle.rk_inv_wellformed.proofs.maps.{either_way, All_pairs}
 use Rattle.rk_inv_wellformed.proofs.masters.Commits.{noted_waits}
 use Rattle.rk_inv_wellformed.proofs.masters.Sealing.{items_spelled}
+use Rattle.rk_inv_wellformed.proofs.masters.Turns.{duty_is}
+use Rattle.rk_inv_wellformed.proofs.masters.Changes.{going_on_in_is}
 use Rattle.rk_inv_wellformed.proofs.masters.Tablets.{tablet_found, tablet_with_other, tablet_with_same}
 
 -- ---- a turn
@@ -59,17 +60,8 @@ put_keeps id tablet new others {master} equal keeps = record {
 
 duty_keeps : {bytes : ℕ} (id : ℕ) (tablet : Tablet) (others : NumberMap Tablet) {master : Master} (role : Role)
     → TurnKeeps bytes ((id, tablet) ∷ others) master → TurnKeeps bytes others (tablet_duty master id tablet role).master
-duty_keeps id tablet others Role.Receiving keeps = put_keeps id tablet (with_outstanding tablet) others refl keeps
-duty_keeps {bytes} id tablet others {master} (Role.Joining (Some entry)) keeps =
-    let left = turn_behind id tablet others keeps in
-    either_way (λ (worked : Worked). TurnKeeps bytes others worked.master) (nat_lt entry master.applied) left left
-duty_keeps {bytes} id tablet others {master} (Role.Rebuilding from None) keeps =
-    by_found (λ reading. TurnKeeps bytes others (reading_duty master id tablet reading).master) (next_reading tablet.gather)
-    (λ none. turn_behind id tablet others keeps) (λ some is. turn_behind id tablet others keeps)
-duty_keeps {bytes} id tablet others {master} (Role.Rebuilding from (Some entry)) keeps =
-    let left = turn_behind id tablet others keeps in
-    either_way (λ (worked : Worked). TurnKeeps bytes others worked.master) (nat_lt entry master.applied) left left
-duty_keeps id tablet others _ keeps = turn_behind id tablet others keeps
+duty_keeps {bytes} id tablet others {master} role keeps = duty_is (TurnKeeps bytes others) master id tablet role (turn_behind id tablet others keeps)
+    (put_keeps id tablet (with_outstanding tablet) others refl keeps)
 
 duties_bytes : {bytes : ℕ} (tablets : NumberMap Tablet) {master : Master} → TurnKeeps bytes tablets master
     → log_bytes (duties master tablets).master ≤ bytes
@@ -129,13 +121,6 @@ applied_keeps bytes count (entry ∷ list) master keeps =
     applied_keeps bytes count list (apply_entry master entry).master
     (ended_keeps_bytes master.applied (get master.calls master.applied) (told_by entry) (entry_keeps entry keeps))
 
-freezing_keeps : {bytes : ℕ} (id : ℕ) (tablet : Tablet) (others : NumberMap Tablet) {master : Master} (moved : Option Handover)
-    → TurnKeeps bytes ((id, tablet) ∷ others) master → TurnKeeps bytes others (freezing master id tablet moved)
-freezing_keeps id tablet others None keeps = turn_behind id tablet others keeps
-freezing_keeps {bytes} id tablet others {master} (Some handover) keeps =
-    either_way (TurnKeeps bytes others) (is_settled master tablet.handover.range)
-    (put_keeps id tablet (with_handover tablet handover) others refl keeps) (turn_behind id tablet others keeps)
-
 -- the bytes that a closing entry has for each side segment that is waited for, at most
 abbrev pub CLOSING_BYTES : ℕ
 CLOSING_BYTES = 46
@@ -151,37 +136,22 @@ more_bytes bytes more {master = master} no_fewer keeps =
     let fits : log_bytes master ≤ more = omega (arith, no_fewer, keeps.fits) in
     assumption
 
-closing_keeps : {bytes : ℕ} (id : ℕ) (tablet : Tablet) (others : NumberMap Tablet) {master : Master} (moved : Option Handover)
-    → TurnKeeps bytes ((id, tablet) ∷ others) master
-    → TurnKeeps (bytes + CLOSING_BYTES * max 1 (length tablet.pulling.sealed)) others (closing_entry master id tablet moved)
-closing_keeps {bytes} id tablet others None keeps = more_bytes bytes
-    (bytes + CLOSING_BYTES * max 1 (length tablet.pulling.sealed)) (omega arith) (turn_behind id tablet others keeps)
-closing_keeps {bytes} id tablet others {master} (Some handover) keeps =
-    let put = put_keeps id tablet (with_handover tablet handover) others refl keeps in
-    let now = with_tablet master id (with_handover tablet handover) in
-    let fits : log_bytes (with_appended now (joined_entry tablet)) ≤ bytes + CLOSING_BYTES * max 1 (length tablet.pulling.sealed) =
-    omega (arith, put.fits, bytes_appended now (joined_entry tablet), joined_short tablet) in
-    assumption put
-
--- a tablet for which nothing goes on
-idle_keeps : {bytes : ℕ} (id : ℕ) (tablet : Tablet) (others : NumberMap Tablet) {master : Master} → TurnKeeps bytes ((id, tablet) ∷ others) master
-    → TurnKeeps (bytes + CLOSING_BYTES * 0) others master
-idle_keeps {bytes} id tablet others keeps =
-    more_bytes bytes (bytes + CLOSING_BYTES * 0) (omega arith) (turn_behind id tablet others keeps)
-
 -- what was waited for at a tablet goes on
 going_on_keeps : {bytes : ℕ} (id : ℕ) (tablet : Tablet) (others : NumberMap Tablet) {master : Master} (role : Role)
     → TurnKeeps bytes ((id, tablet) ∷ others) master
     → TurnKeeps (bytes + CLOSING_BYTES * side_waits_in role tablet.pulling.sealed) others (going_on_in master id tablet role)
-going_on_keeps {bytes} id tablet others Role.Closing keeps =
-    more_bytes bytes (bytes + CLOSING_BYTES * 0) (omega arith)
-    (freezing_keeps id tablet others (frozen tablet.handover tablet.handover.term) keeps)
-going_on_keeps {bytes} id tablet others {master} (Role.Joining None) keeps =
-    let more = bytes + CLOSING_BYTES * max 1 (length tablet.pulling.sealed) in
-    either_way (TurnKeeps more others) (is_sealed_stored master tablet)
-    (closing_keeps id tablet others (joined tablet.handover tablet.handover.term (Some (length master.log.entries))) keeps)
-    (more_bytes bytes more (omega arith) (turn_behind id tablet others keeps))
-going_on_keeps id tablet others _ keeps = idle_keeps id tablet others keeps
+going_on_keeps {bytes} id tablet others {master} role keeps =
+    let more = bytes + CLOSING_BYTES * side_waits_in role tablet.pulling.sealed in
+    going_on_in_is (TurnKeeps more others) master id tablet (more_bytes bytes more (omega arith) (turn_behind id tablet others keeps)) role
+    (λ r is. more_bytes bytes more (omega arith)
+    (put_keeps id tablet (with_handover tablet (record tablet.handover { role = r })) others refl keeps))
+    (λ joins r is.
+    let put = put_keeps id tablet (with_handover tablet (record tablet.handover { role = r })) others refl keeps in
+    let now = with_tablet master id (with_handover tablet (record tablet.handover { role = r })) in
+    let waits = ap (λ (role : Role). side_waits_in role tablet.pulling.sealed) joins in
+    let fits : log_bytes (with_appended now (joined_entry tablet)) ≤ more =
+    omega (arith, put.fits, bytes_appended now (joined_entry tablet), joined_short tablet, waits) in
+    assumption put)
 
 -- at each of these tablets a closing entry has its bytes for what is waited for
 going_on_bytes : (tablets : NumberMap Tablet) {bytes : ℕ} {master : Master} → TurnKeeps bytes tablets master

@@ -1,30 +1,39 @@
--- What the coordinator makes of a message, of its turn and of a tablet that begins to move: where the coordinator is well formed, it
--- stays so, all that it sends is well formed, and what its rows covered is covered.
-use Rattle.std.proofs.Common.{◌≡◌, ◌≤◌, ◌+◌, ℕ, w8, w32, w64, Bool, ◌==◌, List, [], ◌∷◌, ◌++◌, All, IfSome, find, Option, None, Some, refl}
-use Rattle.std.proofs.Common.{arith, unwrap_or}
-use Rattle.rk_inv_wellformed.proofs.Words.{All-cons, All-head, All-nil, All-tail, recursion_from_All, All-weaker, AllByRecursion}
-use Rattle.rk_inv_wellformed.proofs.Words.{each_insert, in_order_insert, get_or, has, Ended, Member, Node, Range, IsLawfulEnd}
-use Rattle.rk_inv_wellformed.proofs.Words.{IsLawfulRange, IsNumber, add_fault, row_of, Phase, Moving, Opening, Owned, Rebuilding, Row}
-use Rattle.rk_inv_wellformed.proofs.Words.{IsLawfulBody, Tenure, Body, Message, Rebuilt, Coordinator, with_row, coordinator_step}
-use Rattle.rk_inv_wellformed.proofs.Words.{coordinator_turn, IsFormedCoordinator, IsFormedRow, AreOfDistinctClients, IsFormedBody}
-use Rattle.rk_inv_wellformed.proofs.Words.{IsFormedEnd, IsFormedEnds, IsFormedMember, IsFormedMessage, IsFormedTenure, IsThere, Limits}
-use Rattle.rk_inv_wellformed.proofs.Words.{tablet_migrated, IsMaster, World, member, row_with, IsLawfulTenure, Ready, Transfer, Handed}
-use Rattle.rk_inv_wellformed.proofs.Words.{is_noticed, Coordinated, about, joined_in, located, question, ready_in, rebuilt_in, report}
-use Rattle.rk_inv_wellformed.proofs.Words.{row_duty, row_for, told_again, told_coordinator, transfer_in, IsFormedHanded, IsWellFormed}
-use Rattle.rk_inv_wellformed.proofs.Words.{limits_of, IsFormedNumber}
-use Rattle.rk_message.specs.Calls.{IsLawfulOwner}
-use Rattle.rk_message.specs.Fields.{IsAnyRange}
+-- What the coordinator makes of a message, of its turn and of a tablet that begins to move, is added or split: where the coordinator is well
+-- formed, it stays so, all that it sends is well formed, and what its rows covered is covered; and so is the master of such a tablet.
+use Rattle.std.proofs.Common.{◌≡◌, ◌≤◌, ◌+◌, ℕ, w8, w32, w64, Bool, ◌==◌, List, [], ◌∷◌, All, IfSome, find, length, Option, None, Some}
+use Rattle.std.proofs.Common.{refl, arith, ◌<◌, true, false, cond, is_some, nat_le, nat_lt, sym, ap, subst, unwrap_or, option_map}
+use Rattle.std.proofs.Common.{leb-true, ltb-true}
+use Rattle.rk_inv_wellformed.proofs.Words.{All-cons, All-nil, recursion_from_All, All-weaker, AllByRecursion, each_insert}
+use Rattle.rk_inv_wellformed.proofs.Words.{in_order_insert, get_or, has, Member, Node, Range, IsLawfulRange, IsNumber, add_fault, row_of}
+use Rattle.rk_inv_wellformed.proofs.Words.{Phase, Moving, Opening, Owned, Rebuilding, Row, IsLawfulBody, Tenure, Body, Message, Rebuilt}
+use Rattle.rk_inv_wellformed.proofs.Words.{Coordinator, with_row, coordinator_step, coordinator_turn, IsFormedCoordinator, IsFormedRow}
+use Rattle.rk_inv_wellformed.proofs.Words.{AreOfDistinctClients, IsFormedBody, IsFormedEnd, IsFormedMember, IsFormedMessage}
+use Rattle.rk_inv_wellformed.proofs.Words.{IsFormedTenure, IsThere, Limits, tablet_migrated, IsMaster, World, member, row_with, Ready}
+use Rattle.rk_inv_wellformed.proofs.Words.{Transfer, Handed, is_noticed, Coordinated, about, joined_in, located, question, ready_in}
+use Rattle.rk_inv_wellformed.proofs.Words.{rebuilt_in, report, row_duty, row_for, told_again, told_coordinator, transfer_in}
+use Rattle.rk_inv_wellformed.proofs.Words.{IsFormedHanded, IsWellFormed, limits_of, IsFormedNumber, and_parts, nat_tests, get, new_row}
+use Rattle.rk_inv_wellformed.proofs.Words.{IsFormedMaster, IsFormedTablet, Master, tablet_at, range_below, refusal, where_true, has_parts}
+use Rattle.rk_inv_wellformed.proofs.Words.{rows_split, with_half, with_halves, with_split, with_added, Tablet, no_tablet, has_crashed}
+use Rattle.rk_inv_wellformed.proofs.Words.{number_of, changed_rows, split_fault, split_rows, Role, StepError, Event, IsFormedGathered}
+use Rattle.rk_inv_wellformed.proofs.Words.{cond_both, IsLawfulOwner, IsAnyRange, from_coordinator, owner_of, row_tenure, with_handed}
+use Rattle.rk_inv_wellformed.proofs.Words.{with_phase, answered, at_term, own_to, release_to, unanswered, IsFormedTransfer, migrating}
+use Rattle.rk_inv_wellformed.proofs.Words.{row_migrated, rows_split_of, tablet_split_fault, tablet_split_fault_by, tablet_split_fault_of}
+use Rattle.rk_inv_wellformed.proofs.Words.{with_rows_split}
 use Rattle.rk_message.specs.Rebuilding.{IsLawfulMember}
-use Rattle.rk_world.specs.Coordinator.{from_coordinator, owner_of, row_tenure, with_handed, with_phase, with_term}
-use Rattle.rk_world.specs.CoordinatorStep.{answered, at_term, own_to, release_to, unanswered}
-use Rattle.rk_world.specs.Limits.{IsFormedTransfer}
-use Rattle.rk_world.specs.Migrations.{migrating, row_migrated}
+use Rattle.rk_world.specs.declared.error.MoveError.{MoveError}
 use Rattle.rk_inv_wellformed.proofs.coordinator.Rows.{AreFormedRows, AreTermsUpTo, Cover, IsFormedPhase, all_found, all_placed}
-use Rattle.rk_inv_wellformed.proofs.coordinator.Rows.{covered_changed, covered_placed, formed_changed_rows, formed_placed, phase_of_formed}
-use Rattle.rk_inv_wellformed.proofs.coordinator.Rows.{terms_below, terms_changed}
+use Rattle.rk_inv_wellformed.proofs.coordinator.Rows.{covered_changed, covered_placed, formed_changed_rows, formed_placed}
+use Rattle.rk_inv_wellformed.proofs.coordinator.Rows.{phase_of_formed, terms_below, terms_changed, IsKnown, covered_split_rows}
+use Rattle.rk_inv_wellformed.proofs.coordinator.Rows.{formed_split_rows, known_changed, known_split, lawful_below, lawful_from}
+use Rattle.rk_inv_wellformed.proofs.coordinator.Rows.{placed_has, term_changed, terms_split_rows}
+use Rattle.rk_inv_wellformed.proofs.masters.Work.{number_fits, tenure_fits, AreLimits}
 use Rattle.rk_inv_wellformed.proofs.lanes.Worlds.{terms_within}
-use Rattle.rk_inv_wellformed.proofs.maps.{all_flat, all_front, all_last, by_found, either_way, found_has, each_or}
-use Rattle.rk_inv_wellformed.proofs.masters.Work.{AreLimits}
+use Rattle.rk_inv_wellformed.proofs.masters.Handovers.{ends_are_lawful}
+use Rattle.rk_inv_wellformed.proofs.maps.{all_flat, by_found, either_way, found_has, each_or}
+use Rattle.rk_inv_wellformed.proofs.lanes.Events.{has_no_fault, no_inner, no_second}
+use Rattle.rk_inv_wellformed.proofs.masters.Changes.{formed_with_tablet}
+use Rattle.rk_inv_wellformed.proofs.masters.MergedOnce.{none_twice}
+use Rattle.rk_inv_wellformed.proofs.masters.Tablets.{formed_tablet, IsFormedHandover, rest_at, none_waits}
 
 -- ---- coordinators
 
@@ -35,11 +44,6 @@ pub record HasRowRoom (limits : Limits) (coordinator : Coordinator) : Type 0 whe
 -- the terms of the rows of a well formed lane have stood
 pub rows_have_room : {w : World} → IsWellFormed w → HasRowRoom (limits_of w) w.coordinator
 rows_have_room {w} formed = record { terms = terms_within w w.top formed.standing }
-
--- what the coordinator makes of something is well formed
-pub record IsFormedAnswer (limits : Limits) (coordinated : Coordinated) : Type 0 where
-  pub coordinator : IsFormedCoordinator limits coordinated.coordinator
-  pub sends : All (IsFormedMessage limits) coordinated.sends
 
 -- a coordinator after something that leaves the masters and those that were noticed, and what the rows cover
 pub record Keeps (after before : Coordinator) : Type 0 where
@@ -60,9 +64,9 @@ pub formed_with_rows : {limits : Limits} {coordinator : Coordinator} {rows : Lis
 formed_with_rows {rows} new formed = assumption
 
 -- a coordinator with a row at another phase
-formed_with_phase : {limits : Limits} {coordinator : Coordinator} (row : Row) {phase : Phase} → 1 ≤ row.term → IsFormedPhase limits phase → IsFormedCoordinator limits coordinator → IsFormedCoordinator limits (with_phase coordinator row phase)
-formed_with_phase row first there formed =
-    formed_with_rows (formed_changed_rows row.tablet row.term first there (rows_of_formed formed)) formed
+formed_with_phase : {limits : Limits} {coordinator : Coordinator} (row : Row) (phase : Phase) → 1 ≤ row.term → IsFormedPhase limits phase → IsFormedCoordinator limits coordinator → IsFormedCoordinator limits (with_phase coordinator row phase)
+formed_with_phase row phase first there formed =
+    formed_with_rows (formed_changed_rows row.tablet row.term phase first there (rows_of_formed formed)) formed
 
 -- a coordinator that has noted what a source told
 formed_with_handed : {limits : Limits} {coordinator : Coordinator} (tablet : ℕ) {handed : Handed} → IsFormedHanded limits handed → IsFormedCoordinator limits coordinator → IsFormedCoordinator limits (with_handed coordinator tablet handed)
@@ -72,41 +76,12 @@ formed_with_handed {limits} {coordinator} tablet {handed} told formed =
       each_insert (λ number other. IsFormedHanded limits other) coordinator.handed tablet handed formed.handed told,
     )
 
--- ---- members that are there
-
-module _ (limits : Limits) where
-  -- one member
-  pub one_named : (a : Member) → IsFormedMember limits a → All (IsFormedMember limits) (a ∷ [])
-  one_named a first = All-cons (IsFormedMember limits) a [] first (All-nil _)
-
-  -- two members
-  pub two_named : (a b : Member) → IsFormedMember limits a → IsFormedMember limits b → All (IsFormedMember limits) (a ∷ b ∷ [])
-  two_named a b first second = All-cons (IsFormedMember limits) a (b ∷ []) first (one_named b second)
-
-  -- the first of all
-  pub first_named : (a : Member) (rest : List Member) → All (IsFormedMember limits) (a ∷ rest) → IsFormedMember limits a
-  first_named a rest all = All-head (IsFormedMember limits) a rest all
-
-  -- the second
-  pub second_named : (a b : Member) (rest : List Member) → All (IsFormedMember limits) (a ∷ b ∷ rest) → IsFormedMember limits b
-  second_named a b rest all = All-head (IsFormedMember limits) b rest (All-tail (IsFormedMember limits) a (b ∷ rest) all)
-
-  -- the last
-  pub last_named : (lineage : List Member) (a : Member) → All (IsFormedMember limits) (lineage ++ a ∷ []) → IsFormedMember limits a
-  last_named lineage a all = all_last (IsFormedMember limits) lineage a all
-
-  -- all but the last
-  pub before_last : (lineage : List Member) (a : Member) → All (IsFormedMember limits) (lineage ++ a ∷ []) → All (IsFormedMember limits) lineage
-  before_last lineage a all = all_front (IsFormedMember limits) lineage (a ∷ []) all
-
-  -- the owner that a phase tells is there
-  owner_is_there : (phase : Phase) → IsFormedPhase limits phase → IfSome (owner_of phase) (IsMaster limits.masters)
-  owner_is_there (Owned master from) there = (first_named (member master from) [] there.named).master
-  owner_is_there (Opening source sfrom target dfrom) there =
-      (first_named (member source sfrom) (member target (unwrap_or dfrom 0) ∷ []) there.named).master
-  owner_is_there (Moving source sfrom target dfrom) there =
-      (second_named (member source sfrom) (member target dfrom) [] there.named).master
-  owner_is_there (Rebuilding lineage to) there = tt
+-- the owner that a phase tells is there
+owner_is_there : (limits : Limits) (phase : Phase) → IsFormedPhase limits phase → IfSome (owner_of phase) (IsMaster limits.masters)
+owner_is_there limits (Owned master from) there = there.master
+owner_is_there limits (Opening source sfrom target dfrom) there = there.0.master
+owner_is_there limits (Moving source sfrom target dfrom) there = there.1.master
+owner_is_there limits (Rebuilding lineage to) there = tt
 
 -- ---- numbers and ranges that can be spelled
 
@@ -128,16 +103,7 @@ formed_tenure {limits} {row} stood =
     let term : IsFormedNumber limits row.term = omega (arith, stood.formed.term, stood.term) in
     assumption
 
--- ends of calls of clients
-lawful_ends : {limits : Limits} {ends : List Ended} → IsFormedEnds limits ends → AllByRecursion IsLawfulEnd ends
-lawful_ends {limits} {ends} told =
-    recursion_from_All IsLawfulEnd ends (All-weaker (IsFormedEnd limits) IsLawfulEnd (λ end formed. formed.lawful) ends told.each)
-
 module _ (limits : Limits) (are : AreLimits limits) where
-  -- a number that has stood
-  fits_below_top : (number : ℕ) → number ≤ limits.top → IsNumber w64 0 number
-  fits_below_top number below = omega (arith, are)
-
   -- a master that is there
   fits_master : (least : ℕ) {master : ℕ} → least ≤ 1 → IsMaster limits.masters master → IsNumber w8 least master
   fits_master least few there = omega (arith, there, are)
@@ -153,11 +119,6 @@ module _ (limits : Limits) (are : AreLimits limits) where
       (All-weaker (IsFormedMember limits) IsLawfulMember
       (λ m formed. (fits_master 0 (omega arith) formed.master, formed.from)) lineage members)
 
-  -- a tenure
-  lawful_tenure : {tenure : Tenure} → IsFormedTenure limits tenure → IsLawfulTenure tenure
-  lawful_tenure {tenure} formed =
-      (record { least_is = omega arith; fits = formed.tablet.fits }, fits_below_top tenure.term formed.term.last)
-
   -- ---- what the coordinator sends
 
   -- a message of the coordinator
@@ -172,13 +133,13 @@ module _ (limits : Limits) (are : AreLimits limits) where
   formed_own : {master : ℕ} {row : Row} → IsMaster limits.masters master → HasTenure limits row → IsFormedMessage limits (own_to master row)
   formed_own {master} {row} there stood =
       let tenure = formed_tenure stood in
-      sent_to (Node.Master master) (Body.Own (row_tenure row)) there (lawful_tenure tenure) tenure
+      sent_to (Node.Master master) (Body.Own (row_tenure row)) there (tenure_fits are tenure) tenure
 
   -- or that another one owns it
   formed_release : {master : ℕ} {row : Row} → IsMaster limits.masters master → HasTenure limits row → IsFormedMessage limits (release_to master row)
   formed_release {master} {row} there stood =
       let tenure = formed_tenure stood in
-      sent_to (Node.Master master) (Body.Release (row_tenure row)) there (lawful_tenure tenure) tenure
+      sent_to (Node.Master master) (Body.Release (row_tenure row)) there (tenure_fits are tenure) tenure
 
   -- the answer to a look-up
   formed_located : (sender : Node) (found : Option Row) → IsThere limits sender → IfSome found (HasTenure limits) → All (IsFormedMessage limits) (located sender found)
@@ -193,6 +154,11 @@ module _ (limits : Limits) (are : AreLimits limits) where
 
 -- ---- what it makes of a message
 
+-- a look-up is answered once at most
+located_one : (sender : Node) (found : Option Row) → length (located sender found) ≤ 2
+located_one sender None = omega arith
+located_one sender (Some row) = omega arith
+
 -- a coordinator that may send: it is well formed, and its terms have stood
 record MaySend (limits : Limits) (coordinator : Coordinator) : Type 0 where
   are : AreLimits limits
@@ -205,13 +171,15 @@ pub record IsTaken (limits : Limits) (rebuilt : Rebuilt) : Type 0 where
   pub ends : All (IsFormedEnd limits) rebuilt.ends
   pub once : AreOfDistinctClients rebuilt.ends
 
--- an answer that is well formed, as is the rebuild that it takes; the coordinator after it has what it had before, and its terms have
--- stood
+-- an answer of two messages at most that is well formed, as is the rebuild that it takes; the coordinator after it has what it had
+-- before, and its terms have stood
 pub record Answers (limits : Limits) (before : Coordinator) (coordinated : Coordinated) : Type 0 where
-  pub answer : IsFormedAnswer limits coordinated
+  pub coordinator : IsFormedCoordinator limits coordinated.coordinator
+  pub sends : All (IsFormedMessage limits) coordinated.sends
   pub keeps : Keeps coordinated.coordinator before
   pub room : HasRowRoom limits coordinated.coordinator
   pub rebuilt : IfSome coordinated.rebuilt (IsTaken limits)
+  pub few : length coordinated.sends ≤ 2
 
 -- the row at the term of a tenure, if it is there
 row_at_term : (limits : Limits) (tenure : Tenure) (found : Option Row) → IfSome found (HasTenure limits) → IfSome (at_term tenure found) (HasTenure limits)
@@ -220,17 +188,19 @@ row_at_term limits tenure (Some row) stood = either_way (λ found. IfSome found 
 
 module _ (limits : Limits) (coordinator : Coordinator) (may : MaySend limits coordinator) where
   -- nothing changes
-  same_answer : (sends : List Message) → All (IsFormedMessage limits) sends → Answers limits coordinator (answered coordinator sends)
-  same_answer sends all = record {
-    answer = record { coordinator = may.formed; sends = all };
+  same_answer : (sends : List Message) → All (IsFormedMessage limits) sends → length sends ≤ 2 → Answers limits coordinator (answered coordinator sends)
+  same_answer sends all few = record {
+    coordinator = may.formed;
+    sends = all;
     keeps = keeps_all coordinator;
     room = may.room;
     rebuilt = tt;
+    few = few;
   }
 
   -- nothing changes, and nothing is sent
   no_answer : Answers limits coordinator (unanswered coordinator)
-  no_answer = same_answer [] (All-nil _)
+  no_answer = same_answer [] (All-nil _) (omega arith)
 
   -- with a row at another phase it has what it had
   phase_keeps : (row : Row) (phase : Phase) → Keeps (with_phase coordinator row phase) coordinator
@@ -247,36 +217,33 @@ module _ (limits : Limits) (coordinator : Coordinator) (may : MaySend limits coo
   }
 
   -- a row is at another phase
-  turned_answer : {row : Row} (phase : Phase) (sends : List Message) → HasTenure limits row → IsFormedPhase limits phase → All (IsFormedMessage limits) sends → Answers limits coordinator (answered (with_phase coordinator row phase) sends)
-  turned_answer {row} phase sends stood there all = record {
-    answer = record { coordinator = formed_with_phase row stood.formed.term there may.formed; sends = all };
+  turned_answer : {row : Row} (phase : Phase) (sends : List Message) → HasTenure limits row → IsFormedPhase limits phase → All (IsFormedMessage limits) sends → length sends ≤ 2 → Answers limits coordinator (answered (with_phase coordinator row phase) sends)
+  turned_answer {row} phase sends stood there all few = record {
+    coordinator = formed_with_phase row phase stood.formed.term there may.formed;
+    sends = all;
     keeps = phase_keeps row phase;
     room = phase_room phase stood;
     rebuilt = tt;
+    few = few;
   }
 
   -- a row is at another phase, and what a source told is noted
   moved_answer : {row : Row} (phase : Phase) (handed : Handed) → HasTenure limits row → IsFormedPhase limits phase → IsFormedHanded limits handed → Answers limits coordinator (unanswered (with_handed (with_phase coordinator row phase) row.tablet handed))
   moved_answer {row} phase handed stood there told = record {
-    answer = record {
-      coordinator = formed_with_handed row.tablet told (formed_with_phase row stood.formed.term there may.formed);
-      sends = All-nil _;
-    };
+    coordinator = formed_with_handed row.tablet told (formed_with_phase row phase stood.formed.term there may.formed);
+    sends = All-nil _;
     keeps = record { masters = refl; noticed = refl; covers = (phase_keeps row phase).covers };
     room = record { terms = (phase_room phase stood).terms };
     rebuilt = tt;
+    few = omega arith;
   }
 
   -- the target is ready
   ready_answers : (sender : ℕ) (message : Ready) {row : Row} (phase : Phase) → IsNumber w64 0 message.place → HasTenure limits row → IsFormedPhase limits phase → Answers limits coordinator (ready_in coordinator sender message row phase)
   ready_answers sender message (Opening source sfrom target None) place stood there =
-      let old = first_named limits (member source sfrom) (member target 0 ∷ []) there.named in
-      let own = second_named limits (member source sfrom) (member target 0) [] there.named in
-      let at_place : IsFormedMember limits (member target message.place) = record { master = own.master; from = place } in
       either_way (Answers limits coordinator) (sender == target)
-      (turned_answer (Opening source sfrom target (Some message.place)) [] stood
-      (record { named = two_named limits (member source sfrom) (member target message.place) old at_place; few = there.few })
-      (All-nil _))
+      (turned_answer (Opening source sfrom target (Some message.place)) [] stood (there.0, record { master = there.1.master; from = place })
+      (All-nil _) (omega arith))
       no_answer
   ready_answers sender message _ place stood there = no_answer
 
@@ -284,43 +251,34 @@ module _ (limits : Limits) (coordinator : Coordinator) (may : MaySend limits coo
   transfer_answers : (sender : ℕ) {message : Transfer} {row : Row} (phase : Phase) → IsFormedTransfer limits message → HasTenure limits row → IsFormedPhase limits phase → Answers limits coordinator (transfer_in coordinator sender message row phase)
   transfer_answers sender {message} (Opening source sfrom target (Some dfrom)) told stood there =
       either_way (Answers limits coordinator) (sender == source)
-      (moved_answer (Moving source sfrom target dfrom) (record { floor = message.floor; ends = message.ends }) stood
-      (record { named = there.named; few = omega arith }) (record { floor = told.floor; told = told.told }))
+      (moved_answer (Moving source sfrom target dfrom) (record { floor = message.floor; ends = message.ends }) stood there
+      (record { floor = told.floor; told = told.told }))
       no_answer
   transfer_answers sender _ told stood there = no_answer
 
   -- the owner is told again
   again_answers : (sender : ℕ) {row : Row} {master : ℕ} → IsMaster limits.masters master → HasTenure limits row → Answers limits coordinator (told_again coordinator sender row master)
   again_answers sender {row} {master} there stood = either_way (Answers limits coordinator) (sender == master)
-      (same_answer (own_to master row ∷ []) (only_message limits may.are (formed_own limits may.are there stood))) no_answer
+      (same_answer (own_to master row ∷ []) (only_message limits may.are (formed_own limits may.are there stood)) (omega arith)) no_answer
 
   -- the target has all
   joined_answers : (sender : ℕ) {row : Row} (phase : Phase) → HasTenure limits row → IsFormedPhase limits phase → Answers limits coordinator (joined_in coordinator sender row phase)
   joined_answers sender {row} (Moving source sfrom target dfrom) stood there =
-      let old = first_named limits (member source sfrom) (member target dfrom ∷ []) there.named in
-      let own = second_named limits (member source sfrom) (member target dfrom) [] there.named in
       either_way (Answers limits coordinator) (sender == target)
-      (turned_answer (Owned target dfrom) (own_to target row ∷ release_to source row ∷ []) stood
-      (record { named = one_named limits (member target dfrom) own; few = omega arith })
-      (All-cons (IsFormedMessage limits) (own_to target row) (release_to source row ∷ [])
-      (formed_own limits may.are own.master stood)
-      (only_message limits may.are (formed_release limits may.are old.master stood))))
+      (turned_answer (Owned target dfrom) (own_to target row ∷ release_to source row ∷ []) stood there.1
+      (All-cons (IsFormedMessage limits) (own_to target row) (release_to source row ∷ []) (formed_own limits may.are there.1.master stood)
+      (only_message limits may.are (formed_release limits may.are there.0.master stood))) (omega arith))
       no_answer
-  joined_answers sender (Owned master from) stood there =
-      again_answers sender (first_named limits (member master from) [] there.named).master stood
+  joined_answers sender (Owned master from) stood there = again_answers sender there.master stood
   joined_answers sender _ stood there = no_answer
 
   -- the tablet is rebuilt
   rebuilt_answers : (sender : ℕ) (message : Rebuilt) {row : Row} (phase : Phase) → IsNumber w64 0 message.place → IsTaken limits message → HasTenure limits row → IsFormedPhase limits phase → Answers limits coordinator (rebuilt_in coordinator sender message row phase)
   rebuilt_answers sender message {row} (Rebuilding lineage to) place told stood there =
-      let rebuilder = (last_named limits lineage (member to 0) there.named).master in
-      let at_place : IsFormedMember limits (member to message.place) = assumption in
-      let owned = turned_answer (Owned to message.place) (own_to to row ∷ []) stood
-      (record { named = one_named limits (member to message.place) at_place; few = omega arith })
-      (only_message limits may.are (formed_own limits may.are rebuilder stood)) in
+      let owned = turned_answer (Owned to message.place) (own_to to row ∷ []) stood (record { master = there.1; from = place })
+      (only_message limits may.are (formed_own limits may.are there.1 stood)) (omega arith) in
       either_way (Answers limits coordinator) (sender == to) (assumption (told, owned)) no_answer
-  rebuilt_answers sender message (Owned master from) place told stood there =
-      again_answers sender (first_named limits (member master from) [] there.named).master stood
+  rebuilt_answers sender message (Owned master from) place told stood there = again_answers sender there.master stood
   rebuilt_answers sender message _ place told stood there = no_answer
 
   -- ---- the row that a message speaks of
@@ -330,34 +288,31 @@ module _ (limits : Limits) (coordinator : Coordinator) (may : MaySend limits coo
   found_row test = found_has (HasTenure limits) test coordinator.rows
       (λ k d within. record { formed = may.formed.rows k d within; term = may.room.terms k d within })
 
-  -- so has that which a master may speak of
-  row_spoken_of : (sender : ℕ) (tenure : Tenure) → IfSome (row_for coordinator sender tenure) (HasTenure limits)
-  row_spoken_of sender tenure = either_way (λ found. IfSome found (HasTenure limits)) (is_noticed coordinator sender) tt
-      (row_at_term limits tenure (row_of coordinator.rows tenure.tablet) (found_row (λ row. row.tablet == tenure.tablet)))
-
-  -- what is made of a message about such a row
-  about_answers : (taken : Row → Coordinated) (found : Option Row) → IfSome found (HasTenure limits) → ((row : Row) → HasTenure limits row → IsFormedPhase limits row.phase → Answers limits coordinator (taken row)) → Answers limits coordinator (about coordinator taken found)
-  about_answers taken None stood each = no_answer
-  about_answers taken (Some row) stood each = each row stood (phase_of_formed stood.formed)
+  -- what is made of a message about the row that its sender may speak of, if it is there
+  speaks : (sender : ℕ) (tenure : Tenure) (taken : Row → Coordinated)
+      → ((row : Row) → HasTenure limits row → IsFormedPhase limits row.phase → Answers limits coordinator (taken row))
+      → Answers limits coordinator (about coordinator taken (row_for coordinator sender tenure))
+  speaks sender tenure taken each = go (row_for coordinator sender tenure)
+      (either_way (λ found. IfSome found (HasTenure limits)) (is_noticed coordinator sender) tt
+      (row_at_term limits tenure (row_of coordinator.rows tenure.tablet) (found_row (λ row. row.tablet == tenure.tablet))))
+    where
+      go : (found : Option Row) → IfSome found (HasTenure limits) → Answers limits coordinator (about coordinator taken found)
+      go None stood = no_answer
+      go (Some row) stood = each row stood (phase_of_formed stood.formed)
 
   -- ---- any message
 
   -- what a master sent
   report_answers : (sender : ℕ) (body : Body) → IsLawfulBody body → IsFormedBody limits (Node.Master sender) body → Answers limits coordinator (report coordinator sender body)
-  report_answers sender (Body.Ready message) lawful says =
-      about_answers (λ row. ready_in coordinator sender message row row.phase) (row_for coordinator sender message.tenure)
-      (row_spoken_of sender message.tenure) (λ row stood there. ready_answers sender message row.phase lawful.1 stood there)
-  report_answers sender (Body.Transfer message) lawful says =
-      about_answers (λ row. transfer_in coordinator sender message row row.phase) (row_for coordinator sender message.tenure)
-      (row_spoken_of sender message.tenure) (λ row stood there. transfer_answers sender row.phase says stood there)
-  report_answers sender (Body.Joined tenure) lawful says =
-      about_answers (λ row. joined_in coordinator sender row row.phase) (row_for coordinator sender tenure)
-      (row_spoken_of sender tenure) (λ row stood there. joined_answers sender row.phase stood there)
-  report_answers sender (Body.Rebuilt message) lawful says =
-      about_answers (λ row. rebuilt_in coordinator sender message row row.phase) (row_for coordinator sender message.tenure)
-      (row_spoken_of sender message.tenure)
-      (λ row stood there.
-      rebuilt_answers sender message row.phase lawful.place (assumption) stood there)
+  report_answers sender (Body.Ready message) lawful says = speaks sender message.tenure
+      (λ row. ready_in coordinator sender message row row.phase) (λ row stood there. ready_answers sender message row.phase lawful.1 stood there)
+  report_answers sender (Body.Transfer message) lawful says = speaks sender message.tenure
+      (λ row. transfer_in coordinator sender message row row.phase) (λ row stood there. transfer_answers sender row.phase says stood there)
+  report_answers sender (Body.Joined tenure) lawful says = speaks sender tenure
+      (λ row. joined_in coordinator sender row row.phase) (λ row stood there. joined_answers sender row.phase stood there)
+  report_answers sender (Body.Rebuilt message) lawful says = speaks sender message.tenure
+      (λ row. rebuilt_in coordinator sender message row row.phase)
+      (λ row stood there. rebuilt_answers sender message row.phase lawful.place (assumption) stood there)
   report_answers sender _ lawful says = no_answer
 
   -- what a client sent
@@ -366,6 +321,7 @@ module _ (limits : Limits) (coordinator : Coordinator) (may : MaySend limits coo
       same_answer (located (Node.Client client) (row_with coordinator.rows lookup.table lookup.hash))
       (formed_located limits may.are (Node.Client client) (row_with coordinator.rows lookup.table lookup.hash) there
       (found_row (λ row. has row.range lookup.table lookup.hash)))
+      (located_one (Node.Client client) (row_with coordinator.rows lookup.table lookup.hash))
   question_answers client _ there = no_answer
 
   -- by its sender
@@ -399,37 +355,27 @@ module _ (limits : Limits) (coordinator : Coordinator) (may : MaySend limits coo
   formed_duty (Owned master from) stood there = All-nil _
   formed_duty {row} (Opening source sfrom target None) stood there =
       let tenure = formed_tenure stood in
-      let to = (second_named limits (member source sfrom) (member target 0) [] there.named).master in
-      duty_sent (Body.Prepare (record { tenure = row_tenure row; range = row.range })) to
-      (lawful_tenure limits may.are tenure, any_range stood.formed.range) (tenure, stood.formed.range)
+      duty_sent (Body.Prepare (record { tenure = row_tenure row; range = row.range })) there.1.master
+      (tenure_fits may.are tenure, any_range stood.formed.range) (tenure, stood.formed.range)
   formed_duty {row} (Opening source sfrom target (Some dfrom)) stood there =
       let tenure = formed_tenure stood in
-      let to = (first_named limits (member source sfrom) (member target dfrom ∷ []) there.named).master in
-      duty_sent (Body.Close (row_tenure row)) to (lawful_tenure limits may.are tenure) tenure
+      duty_sent (Body.Close (row_tenure row)) there.0.master (tenure_fits may.are tenure) tenure
   formed_duty {row} (Moving source sfrom target dfrom) stood there =
       let tenure = formed_tenure stood in
-      let to = (second_named limits (member source sfrom) (member target dfrom) [] there.named).master in
-      let from = (first_named limits (member source sfrom) (member target dfrom ∷ []) there.named).master in
       let handed = get_or (record { floor = 1; ends = [] }) coordinator.handed row.tablet in
       let told = handed_is_formed row.tablet (omega (arith, stood.term, stood.formed.term)) in
-      duty_sent (Body.Grant (record { tenure = row_tenure row; source = source; floor = handed.floor; ends = handed.ends })) to (
-        lawful_tenure limits may.are tenure,
-        fits_master limits may.are 0 (omega arith) from,
-        fits_below_top limits may.are handed.floor told.floor.last,
-        lawful_ends told.told,
+      duty_sent (Body.Grant (record { tenure = row_tenure row; source = source; floor = handed.floor; ends = handed.ends })) there.1.master (
+        tenure_fits may.are tenure,
+        fits_master limits may.are 0 (omega arith) there.0.master,
+        number_fits 0 handed.floor may.are (omega arith) told.floor.last,
+        ends_are_lawful limits handed.ends told.told.each,
       )
-      (assumption)
+      (assumption there)
   formed_duty {row} (Rebuilding lineage to) stood there =
       let tenure = formed_tenure stood in
-      let members = before_last limits lineage (member to 0) there.named in
-      duty_sent (Body.Rebuild (record { tenure = row_tenure row; range = row.range; lineage = lineage }))
-      (last_named limits lineage (member to 0) there.named).master
-      (record {
-        tenure = lawful_tenure limits may.are tenure;
-        range = any_range stood.formed.range;
-        lineage = lawful_lineage limits may.are lineage members;
-      })
-      (assumption)
+      duty_sent (Body.Rebuild (record { tenure = row_tenure row; range = row.range; lineage = lineage })) there.1
+      (record { tenure = tenure_fits may.are tenure; range = any_range stood.formed.range; lineage = lawful_lineage limits may.are lineage there.0 })
+      (assumption there)
 
 -- what a well formed coordinator, whose terms have stood, sends on its turn
 pub formed_coordinator_turn : {limits : Limits} {coordinator : Coordinator} → AreLimits limits → IsFormedCoordinator limits coordinator → HasRowRoom limits coordinator → All (IsFormedMessage limits) (coordinator_turn coordinator)
@@ -446,34 +392,30 @@ pub record IsFormedChange (limits : Limits) (before after : Coordinator) : Type 
   pub keeps : Keeps after before
   pub terms : (most : ℕ) → AreTermsUpTo most before.rows → AreTermsUpTo (most + 1) after.rows
 
+-- so it is with other rows that are well formed, cover what was covered, and whose terms rose by one at most
+pub rows_change : {limits : Limits} {coordinator : Coordinator} {rows : List Row} → IsFormedCoordinator limits coordinator → AreFormedRows limits rows
+    → Cover rows coordinator.rows → ((most : ℕ) → AreTermsUpTo most coordinator.rows → AreTermsUpTo (most + 1) rows)
+    → IsFormedChange limits coordinator (record coordinator { rows = rows })
+rows_change formed new covers terms =
+    record { formed = formed_with_rows new formed; keeps = record { masters = refl; noticed = refl; covers = covers }; terms = terms }
+
 module _ (limits : Limits) (coordinator : Coordinator) (formed : IsFormedCoordinator limits coordinator) where
   -- nothing changes
   no_change : IsFormedChange limits coordinator coordinator
-  no_change = record {
-    formed = formed;
-    keeps = keeps_all coordinator;
-    terms = λ most all. terms_below most (most + 1) coordinator.rows (omega arith) all;
-  }
-
-  -- a row that is found is at the next term and another phase
-  next_term : (row : Row) (tablet : ℕ) (phase : Phase) → row_of coordinator.rows tablet ≡ Some row → IsFormedPhase limits phase → IsFormedChange limits coordinator (with_term coordinator row phase)
-  next_term row tablet phase found there = record {
-    formed = formed_with_rows
-        (formed_changed_rows row.tablet (row.term + 1) (omega arith) there (rows_of_formed formed)) formed;
-    keeps = record { masters = refl; noticed = refl; covers = covered_changed coordinator.rows row.tablet (row.term + 1) phase };
-    terms = λ most all.
-        let below : row.term ≤ most = all_found (λ r. r.term ≤ most) row tablet coordinator.rows found all in
-        terms_changed (most + 1) coordinator.rows row.tablet (row.term + 1) phase (omega arith)
-        (terms_below most (most + 1) coordinator.rows (omega arith) all);
-  }
+  no_change = rows_change formed (rows_of_formed formed) (λ table hash covered. covered)
+      (λ most all. terms_below most (most + 1) coordinator.rows (omega arith) all)
 
   -- a row, at its phase, begins to move
   migrating_changes : (row : Row) (tablet : ℕ) {to : ℕ} (phase : Phase) → row_of coordinator.rows tablet ≡ Some row → IsFormedPhase limits phase → IsMaster limits.masters to → IsFormedChange limits coordinator (migrating coordinator row phase to)
   migrating_changes row tablet {to} (Owned master from) found there target =
-      let own = first_named limits (member master from) [] there.named in
       let new : IsFormedMember limits (member to 0) = record { master = target; from = record { least_is = omega arith; fits = omega arith } } in
-      next_term row tablet (Opening master from to None) found
-      (record { named = two_named limits (member master from) (member to 0) own new; few = omega arith })
+      let phase = Opening master from to None in
+      rows_change formed (formed_changed_rows row.tablet (row.term + 1) phase (omega arith) (there, new) (rows_of_formed formed))
+      (covered_changed coordinator.rows row.tablet (row.term + 1) phase)
+      (λ most all.
+      let below : row.term ≤ most = all_found (λ r. r.term ≤ most) row tablet coordinator.rows found all in
+      terms_changed (most + 1) coordinator.rows row.tablet (row.term + 1) phase (omega arith)
+      (terms_below most (most + 1) coordinator.rows (omega arith) all))
   migrating_changes row tablet _ found there target = no_change
 
   -- a tablet begins to move to a master that is there
@@ -485,11 +427,151 @@ module _ (limits : Limits) (coordinator : Coordinator) (formed : IsFormedCoordin
 
   -- a row at the first term is added, where that is not refused
   pub formed_with_row : {row : Row} → add_fault coordinator.rows row ≡ None → IsFormedRow limits row → row.term ≡ 1 → IsFormedChange limits coordinator (with_row coordinator row)
-  formed_with_row {row} none new first = record {
-    formed = formed_with_rows (formed_placed none new (rows_of_formed formed)) formed;
-    keeps = record { masters = refl; noticed = refl; covers = covered_placed row coordinator.rows };
-    terms = λ most all.
-        let below : row.term ≤ most + 1 = omega arith in
-        all_placed (λ r. r.term ≤ most + 1) row coordinator.rows below
-        (terms_below most (most + 1) coordinator.rows (omega arith) all);
-  }
+  formed_with_row {row} none new first =
+      rows_change formed (formed_placed none new (rows_of_formed formed)) (covered_placed row coordinator.rows)
+      (λ most all.
+      let below : row.term ≤ most + 1 = omega arith in
+      all_placed (λ r. r.term ≤ most + 1) row coordinator.rows below
+      (terms_below most (most + 1) coordinator.rows (omega arith) all))
+
+-- ---- the rows
+
+-- a split that is not refused is one that the rows allow
+rows_allow : (coordinator : Coordinator) (row : Row) (phase : Phase) (at new : ℕ) → tablet_split_fault_by coordinator row phase at new ≡ None → split_fault coordinator.rows row.tablet at new ≡ None
+rows_allow coordinator row (Owned master from) at new none = no_inner MoveError.Map (split_fault coordinator.rows row.tablet at new) none
+rows_allow coordinator row _ at new none = absurd (cc none)
+
+module _ (limits : Limits) (coordinator : Coordinator) (formed : IsFormedCoordinator limits coordinator) where
+  -- a row that is found is split
+  with_rows_split_changes : (tablet : ℕ) (row : Row) (at new : ℕ) → row_of coordinator.rows tablet ≡ Some row → split_fault coordinator.rows row.tablet at new ≡ None → IsNumber w32 1 new → IsFormedChange limits coordinator (with_rows_split coordinator row at new)
+  with_rows_split_changes tablet row at new found none number = rows_change formed
+      (formed_changed_rows new (row.term + 1) row.phase (omega arith) phase
+      (formed_changed_rows row.tablet (row.term + 1) row.phase (omega arith) phase
+      (formed_split_rows limits coordinator.rows row.tablet at new number none (rows_of_formed formed))))
+      (λ table hash covered.
+      covered_changed lower new (row.term + 1) row.phase table hash (covered_changed parts row.tablet (row.term + 1) row.phase
+      table hash (covered_split_rows coordinator.rows row.tablet at new none table hash covered)))
+      (λ most all.
+      let below : row.term ≤ most = all_found (λ r. r.term ≤ most) row tablet coordinator.rows found all in
+      terms_changed (most + 1) lower new (row.term + 1) row.phase (omega arith)
+      (terms_changed (most + 1) parts row.tablet (row.term + 1) row.phase (omega arith)
+      (terms_split_rows (most + 1) coordinator.rows row.tablet at new
+      (terms_below most (most + 1) coordinator.rows (omega arith) all))))
+    where
+      parts : List Row
+      parts = split_rows coordinator.rows row.tablet at new
+
+      lower : List Row
+      lower = changed_rows parts row.tablet (row.term + 1) row.phase
+
+      phase : IsFormedPhase limits row.phase
+      phase = phase_of_formed (all_found (IsFormedRow limits) row tablet coordinator.rows found formed.rows)
+
+  -- a tablet is split, where that is not refused
+  pub formed_rows_split : (tablet at new : ℕ) → tablet_split_fault coordinator tablet at new ≡ None → IsNumber w32 1 new → IsFormedChange limits coordinator (rows_split coordinator tablet at new)
+  formed_rows_split tablet at new none number =
+      by_found (λ found. tablet_split_fault_of coordinator found at new ≡ None → IsFormedChange limits coordinator (rows_split_of coordinator found at new))
+      (row_of coordinator.rows tablet) (λ nothing fault. absurd (cc fault))
+      (λ row found fault. with_rows_split_changes tablet row at new found (rows_allow coordinator row row.phase at new fault) number) none
+
+-- the term that both rows have then has stood, where those of all rows have
+pub split_term_stood : (limits : Limits) (coordinator : Coordinator) (tablet at new : ℕ) (row : Row) → row_of coordinator.rows tablet ≡ Some row → HasRowRoom limits (rows_split coordinator tablet at new) → IsFormedNumber limits (row.term + 1)
+split_term_stood limits coordinator tablet at new row found room = record {
+  first = omega arith;
+  last = term_changed limits.top lower new (row.term + 1) row.phase
+      (known_changed parts row.tablet (row.term + 1) row.phase new (known_split coordinator.rows row.tablet at new known))
+      (subst (λ (o : Option Row). AreTermsUpTo limits.top (rows_split_of coordinator o at new).rows) found room.terms);
+}
+  where
+    parts : List Row
+    parts = split_rows coordinator.rows row.tablet at new
+
+    lower : List Row
+    lower = changed_rows parts row.tablet (row.term + 1) row.phase
+
+    known : IsKnown coordinator.rows row.tablet
+    known = subst (IsKnown coordinator.rows) (sym (number_of coordinator.rows tablet row found)) (ap is_some found)
+
+-- and 1 has stood where a new row has
+pub one_has_stood : (limits : Limits) (coordinator : Coordinator) (row : Row) → row.term ≡ 1 → HasRowRoom limits (with_row coordinator row) → 1 ≤ limits.top
+one_has_stood limits coordinator row first room =
+    let below : row.term ≤ limits.top = placed_has (λ r. r.term ≤ limits.top) row coordinator.rows room.terms in
+    omega arith
+
+-- ---- the master
+
+-- a handover that serves
+serving_formed : {limits : Limits} {source : ℕ} {range : Range} {term counter : ℕ} → IsLawfulRange range → IsFormedNumber limits term
+    → IsFormedNumber limits counter → IsFormedHandover limits source (record { role = Role.Serving; term = term; range = range; counter = counter })
+serving_formed {limits} {source} lawful term counter =
+    record { term = term; place = omega arith; range = lawful; counter = counter; source_is = λ receives. absurd (cc receives) }
+
+-- a half of a tablet, under its own number or a new one
+half_is_formed : {limits : Limits} {number half : ℕ} {tablet : Tablet} {range : Range} {term : ℕ} → IsNumber w32 1 half → IsLawfulRange range → IsFormedNumber limits term → IsFormedTablet limits number tablet → IsFormedTablet limits half (with_half tablet range term)
+half_is_formed {limits} {tablet} {range} {term} is lawful stood old =
+    formed_tablet (with_half tablet range term) is (serving_formed lawful stood old.counter)
+    (assumption (old, All-nil (IsFormedGathered limits), All-nil (IsFormedEnd limits), none_twice))
+
+-- what has parts is split above its first hash, and not above its last
+parts_above : (range : Range) (at : ℕ) → has_parts range at ≡ true → range.first < at
+parts_above range at parted = ltb-true range.first at (and_parts (nat_lt range.first at) (nat_le at range.last) parted).0
+
+parts_within : (range : Range) (at : ℕ) → has_parts range at ≡ true → at ≤ range.last
+parts_within range at parted = leb-true at range.last (and_parts (nat_lt range.first at) (nat_le at range.last) parted).1
+
+-- a tablet that is not known has no parts
+nothing_parts : (at : ℕ) → has_parts no_tablet.handover.range at ≡ false
+nothing_parts at = grind (arith, nat_tests)
+
+module _ (limits : Limits) (number : ℕ) (master : Master) (formed : IsFormedMaster limits number master) where
+  -- both halves of a tablet that is known
+  with_halves_is_formed : (tablet : ℕ) (it : Tablet) (at new term : ℕ) → has_parts it.handover.range at ≡ true → IsNumber w32 1 new → IsFormedNumber limits term → IsFormedTablet limits tablet it → IsFormedMaster limits number (with_halves master tablet it at new term)
+  with_halves_is_formed tablet it at new term parted is stood old =
+      let range = it.handover.range in
+      let above = parts_above range at parted in
+      let within = parts_within range at parted in
+      let below = with_half it (range_below range at) term in
+      formed_with_tablet (formed_with_tablet formed
+      (half_is_formed old.number_is (lawful_below range at above within old.range) stood old)
+      (none_waits Role.Serving [] _ (λ sealed. refl)))
+      (half_is_formed is (lawful_from range at above within old.range) stood old) (none_waits Role.Serving [] _ (λ sealed. refl))
+
+  -- the master serves both halves of a tablet, at a term that has stood, where both have a hash
+  pub formed_with_split : (tablet at new term : ℕ) → IsNumber w32 1 new → IsFormedNumber limits term → IsFormedMaster limits number (with_split master tablet at new term)
+  formed_with_split tablet at new term is stood =
+      by_found (λ found. IsFormedMaster limits number (split_of (unwrap_or found no_tablet))) (get master.tablets tablet)
+      (λ none. subst (λ (b : Bool). IsFormedMaster limits number (cond b (with_halves master tablet no_tablet at new term) master))
+      (sym (nothing_parts at)) formed)
+      (λ it found. cond_both _ _ _ (IsFormedMaster limits number)
+      (λ both. with_halves_is_formed tablet it at new term both is stood (formed.tablets tablet it found)) (λ one. formed))
+    where
+      split_of : Tablet → Master
+      split_of it = cond (has_parts it.handover.range at) (with_halves master tablet it at new term) master
+
+-- a tablet that is served from the start
+abbrev served : Tablet → Range → Tablet
+served tablet range = record tablet {
+  handover = record { role = Role.Serving; term = 1; range = range; counter = 1 };
+}
+
+-- a master serves a tablet that is added, where 1 has stood, as its term and its counter are
+pub formed_with_added : {limits : Limits} {number : ℕ} {master : Master} {tablet : ℕ} {range : Range} → 1 ≤ limits.top → IsNumber w32 1 tablet → IsLawfulRange range → IsFormedMaster limits number master → IsFormedMaster limits number (with_added master tablet range)
+formed_with_added {limits} {number} {master} {tablet} {range} some is lawful formed =
+    let one : IsFormedNumber limits 1 = omega (arith, some) in
+    formed_with_tablet formed
+    (formed_tablet (served (tablet_at master tablet) range) is (serving_formed lawful one one) (assumption (rest_at limits number master tablet formed)))
+    (none_waits Role.Serving [] _ (λ sealed. refl))
+
+-- ---- in a lane
+
+-- a split that is not refused in a lane
+pub split_allowed : (w : World) (tablet at new : ℕ) → refusal w (Event.Split tablet at new) ≡ None → tablet_split_fault w.coordinator tablet at new ≡ None
+split_allowed w tablet at new none =
+    no_inner StepError.Move (tablet_split_fault w.coordinator tablet at new) (has_no_fault w (Event.Split tablet at new) none)
+
+-- a tablet whose addition is not refused
+pub added_allowed : (w : World) (tablet : ℕ) (range : Range) (master : ℕ) → refusal w (Event.AddTablet tablet range master) ≡ None → add_fault w.coordinator.rows (new_row tablet range master) ≡ None
+added_allowed w tablet range master none =
+    let fault = add_fault w.coordinator.rows (new_row tablet range master) in
+    no_inner StepError.Map fault (no_second (where_true (has_crashed w master) (StepError.Dead master))
+    (option_map StepError.Map fault) (has_no_fault w (Event.AddTablet tablet range master) none))

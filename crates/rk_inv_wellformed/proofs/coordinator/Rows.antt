@@ -1,18 +1,17 @@
 -- Rows of a tablet map that are well formed stay so when one of them takes another term and phase, when one is added and when one is
 -- split. They cover then what they covered, and their terms stay below what bounds the old ones and the new.
 use Rattle.std.proofs.Common.{◌≡◌, ◌≤◌, ◌<◌, ℕ, w32, Bool, true, false, ◌||◌, cond, ◌==◌, nat_le, nat_lt, List, [], ◌∷◌, All, length}
-use Rattle.std.proofs.Common.{Option, None, Some, is_some, refl, sym, ap, subst, ◌∙◌, arith, eqb-true, leb-true, ltb-true}
+use Rattle.std.proofs.Common.{Option, None, Some, is_some, refl, sym, ap, subst, ◌∙◌, arith, eqb-true, leb-true, ltb-true, unwrap_or}
 use Rattle.rk_inv_wellformed.proofs.Words.{and_parts, All-cons, All-head, All-nil, All-tail, All-weaker, has, Range, IsLawfulRange}
-use Rattle.rk_inv_wellformed.proofs.Words.{IsNumber, IsTabletMap, add_fault, is_covered, row_of, Phase, Row, new_row, IsFormedRow, named_in}
-use Rattle.rk_inv_wellformed.proofs.Words.{IsFormedMember, Limits, IsMaster, range_below, range_from, number_of, changed_rows, split_fault}
-use Rattle.rk_inv_wellformed.proofs.Words.{split_rows, cond_both}
+use Rattle.rk_inv_wellformed.proofs.Words.{IsNumber, IsTabletMap, add_fault, is_covered, row_of, Phase, Row, new_row, IsFormedRow}
+use Rattle.rk_inv_wellformed.proofs.Words.{named_in, IsFormedMember, Limits, IsMaster, range_below, range_from, number_of, changed_rows}
+use Rattle.rk_inv_wellformed.proofs.Words.{split_fault, split_rows, cond_both, All-push, Member, Moving, Opening, Owned, Rebuilding}
+use Rattle.rk_inv_wellformed.proofs.Words.{member, eqb-false, or_right, IsNew, covered_split, lawful_placed, lawful_split, lawful_turned}
+use Rattle.rk_inv_wellformed.proofs.Words.{lineage_of, cut_fault, divided, is_split, lower_part, meets_any, placed, replaced, upper_part}
 use Rattle.std.proofs.Math.Nat.{le_trans}
-use Rattle.std.proofs.lemmas.Bool.{eqb-false, or_right}
-use Rattle.rk_tablet_map.proofs.Lawful.{IsNew, covered_split, lawful_placed, lawful_split, lawful_turned}
-use Rattle.rk_tablet_map.specs.Phase.{lineage_of}
-use Rattle.rk_tablet_map.specs.Rows.{cut_fault, divided, is_split, lower_part, meets_any, placed, replaced, turned, upper_part}
 use Rattle.rk_tablet_map.specs.declared.error.MapError.TheVariants.{BadSplit, Overlap, Taken}
-use Rattle.rk_inv_wellformed.proofs.maps.{all_find, by_found, either_way}
+use Rattle.rk_tablet_map.specs.Rows.{turned}
+use Rattle.rk_inv_wellformed.proofs.maps.{all_find, all_front, all_last, by_found, either_way}
 
 -- ---- what all rows have
 
@@ -111,10 +110,13 @@ covered_placed row (first ∷ rest) table hash covered =
 
 -- ---- rows that are well formed
 
--- a phase names masters that are there, and its lineage has at most two members
-pub record IsFormedPhase (limits : Limits) (phase : Phase) : Type 0 where
-  pub named : All (IsFormedMember limits) (named_in phase)
-  pub few : length (lineage_of phase) ≤ 2
+-- a phase whose masters are there, and whose lineage has at most two members
+abbrev pub IsFormedPhase : Limits → Phase → Type 0
+IsFormedPhase limits (Owned master from) = IsFormedMember limits (member master from)
+IsFormedPhase limits (Opening source sfrom target dfrom) =
+    IsFormedMember limits (member source sfrom) × IsFormedMember limits (member target (unwrap_or dfrom 0))
+IsFormedPhase limits (Moving source sfrom target dfrom) = IsFormedMember limits (member source sfrom) × IsFormedMember limits (member target dfrom)
+IsFormedPhase limits (Rebuilding lineage to) = All (IsFormedMember limits) lineage × IsMaster limits.masters to × (length lineage ≤ 2)
 
 -- rows that are a tablet map, each of them well formed
 pub record AreFormedRows (limits : Limits) (rows : List Row) : Type 0 where
@@ -130,25 +132,61 @@ pub terms_below : (most greater : ℕ) (rows : List Row) → most ≤ greater �
 terms_below most greater rows less all =
     All-weaker (λ row. row.term ≤ most) (λ row. row.term ≤ greater) (λ row below. le_trans below less) rows all
 
+-- one member that is there, and two of them
+pub one_named : (limits : Limits) (a : Member) → IsFormedMember limits a → All (IsFormedMember limits) (a ∷ [])
+one_named limits a it = All-cons (IsFormedMember limits) a [] it (All-nil (IsFormedMember limits))
+
+pub two_named : (limits : Limits) (a b : Member) → IsFormedMember limits a → IsFormedMember limits b → All (IsFormedMember limits) (a ∷ b ∷ [])
+two_named limits a b first second = All-cons (IsFormedMember limits) a (b ∷ []) first (one_named limits b second)
+
+both_named : (limits : Limits) (a b : Member) → All (IsFormedMember limits) (a ∷ b ∷ []) → IsFormedMember limits a × IsFormedMember limits b
+both_named limits a b all =
+    (All-head (IsFormedMember limits) a (b ∷ []) all, All-head (IsFormedMember limits) b [] (All-tail (IsFormedMember limits) a (b ∷ []) all))
+
 -- the phase of a row that is well formed
 pub phase_of_formed : {limits : Limits} {row : Row} → IsFormedRow limits row → IsFormedPhase limits row.phase
-phase_of_formed formed = assumption
+phase_of_formed {limits} {row} formed = go row.phase formed.named formed.few
+  where
+    go : (phase : Phase) → All (IsFormedMember limits) (named_in phase) → length (lineage_of phase) ≤ 2 → IsFormedPhase limits phase
+    go (Owned master from) named few = All-head (IsFormedMember limits) (member master from) [] named
+    go (Opening source sfrom target dfrom) named few = both_named limits (member source sfrom) (member target (unwrap_or dfrom 0)) named
+    go (Moving source sfrom target dfrom) named few = both_named limits (member source sfrom) (member target dfrom) named
+    go (Rebuilding lineage to) named few = (
+      all_front (IsFormedMember limits) lineage (member to 0 ∷ []) named,
+      (all_last (IsFormedMember limits) lineage (member to 0) named).master,
+      few,
+    )
+
+-- and what such a phase names
+phase_named : (limits : Limits) (phase : Phase) → IsFormedPhase limits phase → All (IsFormedMember limits) (named_in phase) × (length (lineage_of phase) ≤ 2)
+phase_named limits (Owned master from) there = (one_named limits (member master from) there, omega arith)
+phase_named limits (Opening source sfrom target dfrom) there =
+    (two_named limits (member source sfrom) (member target (unwrap_or dfrom 0)) there.0 there.1, omega arith)
+phase_named limits (Moving source sfrom target dfrom) there =
+    (two_named limits (member source sfrom) (member target dfrom) there.0 there.1, omega arith)
+phase_named limits (Rebuilding lineage to) there =
+    (All-push (IsFormedMember limits) lineage (member to 0) there.0 (record { master = there.1; from = omega arith }), there.2)
 
 -- a row at another term and phase
-abbrev at_phase : Row → ℕ → Phase → Row
+abbrev pub at_phase : Row → ℕ → Phase → Row
 at_phase row term phase = record row { term = term; phase = phase }
 
 -- ---- another term and phase
 
+-- a row that is well formed is at another term, from 1 on, and another phase
+pub formed_at_phase : {limits : Limits} {row : Row} {term : ℕ} {phase : Phase} → 1 ≤ term → IsFormedPhase limits phase → IsFormedRow limits row
+    → IsFormedRow limits (at_phase row term phase)
+formed_at_phase {limits} {phase = phase} first there formed = assumption (phase_named limits phase there)
+
 -- rows of which one takes another term, from 1 on, and another phase
-pub formed_changed_rows : {limits : Limits} {rows : List Row} (tablet term : ℕ) {phase : Phase} → 1 ≤ term → IsFormedPhase limits phase → AreFormedRows limits rows → AreFormedRows limits (changed_rows rows tablet term phase)
-formed_changed_rows {limits} {rows} tablet term {phase} first there formed =
+pub formed_changed_rows : {limits : Limits} {rows : List Row} (tablet term : ℕ) (phase : Phase) → 1 ≤ term → IsFormedPhase limits phase → AreFormedRows limits rows → AreFormedRows limits (changed_rows rows tablet term phase)
+formed_changed_rows {limits} {rows} tablet term phase first there formed =
     by_found (λ found. AreFormedRows limits (turned found rows tablet term phase)) (row_of rows tablet) (λ none. formed)
     (λ row found.
     let old = all_found (IsFormedRow limits) row tablet rows found formed.each in
     assumption (
       lawful_turned rows tablet row (at_phase row term phase) found refl refl formed.map,
-      all_replaced (IsFormedRow limits) (at_phase row term phase) tablet rows (assumption) formed.each,
+      all_replaced (IsFormedRow limits) (at_phase row term phase) tablet rows (formed_at_phase first there old) formed.each,
     ))
 
 -- they cover what they covered

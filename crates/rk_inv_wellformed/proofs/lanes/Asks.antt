@@ -1,24 +1,152 @@
--- A lane stays well formed when a client asks there and when it takes an answer, and the client's session may act then.
+-- What a client sends on its turn is well formed, and its session may act after its turn and after each answer; and a lane stays well formed
+-- when a client asks there and when it takes an answer.
 use Rattle.std.proofs.Common.{◌≡◌, ◌≤◌, ◌++◌, ℕ, Bool, true, false, ◌||◌, ◌&&◌, [], ◌∷◌, All, Option, None, Some, is_some, refl, sym, ap}
-use Rattle.std.proofs.Common.{subst, ◌∙◌, ⊎_elim, slice_get, IfSome, Ok, not, unwrap_or, ◌==◌, option_map, eqb-true}
-use Rattle.rk_inv_wellformed.proofs.Words.{and_parts, cases_eq, All-cons, All-nil, option_or, get_other, get_same, get, Call, Body, Message}
-use Rattle.rk_inv_wellformed.proofs.Words.{Visited, accept, ask, ClientTurn, Session, session_accept, IsFormedLedger, IsWellFormed, Ledger}
-use Rattle.rk_inv_wellformed.proofs.Words.{asked_by, is_added, seen_of, IsFormedMessage, Limits, limits_of, IsLawfulCall, MayAct}
-use Rattle.rk_inv_wellformed.proofs.Words.{where_true, worn, HasRoom, with_sends, World, with_all_sent, with_ledger, StepError, LastCall}
-use Rattle.rk_inv_wellformed.proofs.Words.{Taken, accept_by, accepting, ask_by, asking, asking_by, fits_with, is_asked_here, ledger_asked}
-use Rattle.rk_inv_wellformed.proofs.Words.{ledger_requested, ledger_taken, untouched, call_lane, range_of, turn_by, IsFormedLast}
-use Rattle.rk_inv_wellformed.proofs.Words.{with_accepted, with_asked, accept_refusal, ask_refusal, worn_session, cond_both}
-use Rattle.rk_world.specs.Calls.{is_asked, is_call, is_last, is_next}
-use Rattle.rk_world.specs.Client.{turn_of}
-use Rattle.rk_world.specs.Journal.{is_accepted}
-use Rattle.rk_world.specs.Premises.{IsAfterStart}
+use Rattle.std.proofs.Common.{subst, ◌∙◌, ⊎_elim, slice_get, IfSome, Ok, not, unwrap_or, ◌==◌, option_map, eqb-true, ◌<◌, max, List}
+use Rattle.std.proofs.Common.{arith, filter, w64}
+use Rattle.rk_inv_wellformed.proofs.Words.{and_parts, cases_eq, All-cons, All-nil, option_or, get_other, get_same, get, Call, Body}
+use Rattle.rk_inv_wellformed.proofs.Words.{Message, Visited, accept, ask, ClientTurn, Session, session_accept, IsFormedLedger}
+use Rattle.rk_inv_wellformed.proofs.Words.{IsWellFormed, Ledger, asked_by, is_added, seen_of, IsFormedMessage, Limits, limits_of}
+use Rattle.rk_inv_wellformed.proofs.Words.{IsLawfulCall, MayAct, where_true, worn, HasRoom, with_sends, World, with_all_sent, with_ledger}
+use Rattle.rk_inv_wellformed.proofs.Words.{StepError, LastCall, Taken, accept_by, accepting, ask_by, asking, asking_by, fits_with}
+use Rattle.rk_inv_wellformed.proofs.Words.{is_asked_here, ledger_asked, ledger_requested, ledger_taken, untouched, call_lane, range_of}
+use Rattle.rk_inv_wellformed.proofs.Words.{turn_by, IsFormedLast, with_accepted, with_asked, accept_refusal, ask_refusal, worn_session}
+use Rattle.rk_inv_wellformed.proofs.Words.{cond_both, All-append, All-filter, All-push, All-set, meets, Answer, Outcome, Node, IsNumber}
+use Rattle.rk_inv_wellformed.proofs.Words.{IsLawfulBody, IsClient, IsFormedBody, IsMaster, MOST_NUMBER, Reply, IsCached, not-false}
+use Rattle.rk_inv_wellformed.proofs.Words.{is_asked, is_call, is_last, is_next, turn_of, MOST_REQUESTS, accepted_by, accepted_of}
+use Rattle.rk_inv_wellformed.proofs.Words.{answer_accepted, done, has_call, located_accepted, looking_up, owned_range, ranges_in}
+use Rattle.rk_inv_wellformed.proofs.Words.{receipt_of, requesting, turn_to, with_range, without_range, Accepted, is_accepted}
+use Rattle.rk_inv_wellformed.proofs.Words.{IsAfterStart}
+use Rattle.rk_message.specs.declared.calls.Located.{Located}
 use Rattle.rk_inv_wellformed.proofs.lanes.Events.{does_not_hold, no_second}
 use Rattle.rk_inv_wellformed.proofs.lanes.Ledgers.{formed_accepted, formed_asked, formed_requested, last_stamp_accepted}
-use Rattle.rk_inv_wellformed.proofs.lanes.Sessions.{MayActWithin, acts_accepted, cached_of, formed_turn}
 use Rattle.rk_inv_wellformed.proofs.lanes.Works.{top_rises, formed_after_change}
 use Rattle.rk_inv_wellformed.proofs.lanes.Worlds.{HasClientsOf, added_is_client, kept_with_all_sent, kept_with_ledger, more_limits}
-use Rattle.rk_inv_wellformed.proofs.lanes.Worlds.{counters_in, seen_within, stamps_seen, terms_in, top_is_limit, formed_as, formed_standing}
-use Rattle.rk_inv_wellformed.proofs.maps.{all_in_map, by_found, either_way}
+use Rattle.rk_inv_wellformed.proofs.lanes.Worlds.{counters_in, seen_within, stamps_seen, terms_in, top_is_limit, formed_as}
+use Rattle.rk_inv_wellformed.proofs.lanes.Worlds.{formed_standing}
+use Rattle.rk_inv_wellformed.proofs.maps.{all_in_map, by_found, either_way, all_at, found_has}
+use Rattle.rk_inv_wellformed.proofs.masters.Work.{from_zero64, hash_fits}
+
+-- ---- hashes and cached ranges
+
+module _ (count : ℕ) (session : Session) (may : MayAct count session) where
+  -- what is cached of a lane is lawful
+  cached_in : (lane : ℕ) → All (IsCached count) (ranges_in session lane)
+  cached_in lane = all_at (All (IsCached count)) session.ranges lane [] (All-nil _) may.cached
+
+  -- and what is cached of a call
+  pub cached_of : (call : Call) → IfSome (range_of session call) (IsCached count)
+  cached_of call = found_has (IsCached count) (has_call call) (ranges_in session (call_lane call)) (cached_in (call_lane call))
+
+  -- a session may act with other ranges that are lawful
+  acts_with_ranges : (ranges : List (List Located)) (requests : ℕ) → All (All (IsCached count)) ranges → MayAct count (record session { ranges = ranges; requests = requests })
+  acts_with_ranges ranges requests cached = assumption
+
+  -- and without the range of a call
+  acts_without : (call : Call) → MayAct count (record (without_range session call) { requests = 0 })
+  acts_without call = acts_with_ranges (without_range session call).ranges 0
+      (All-set (All (IsCached count)) session.ranges (call_lane call)
+      (filter (λ located. not (has_call call located)) (ranges_in session (call_lane call)))
+      (All-filter (λ located. not (has_call call located)) (IsCached count) (ranges_in session (call_lane call)) (cached_in (call_lane call)))
+      may.cached)
+
+-- ---- turns
+
+-- what a client does on its turn is well formed: its message, and its session may act
+pub record IsFormedTurn (limits : Limits) (turned : ClientTurn) : Type 0 where
+  pub message : IsFormedMessage limits turned.message
+  pub session : MayAct limits.masters turned.session
+
+-- a session that may act within limits: its client is one of theirs, and what it has seen keeps to them
+pub record MayActWithin (limits : Limits) (session : Session) : Type 0 where
+  pub may : MayAct limits.masters session
+  pub client : IsClient limits session.client
+  pub seen : session.seen ≤ limits.top
+  pub top : limits.top < MOST_NUMBER
+
+module _ (limits : Limits) (session : Session) (within : MayActWithin limits session) (call : Call) (lawful : IsLawfulCall call) where
+  -- the client asks where the key is
+  formed_lookup : IsFormedTurn limits (looking_up session call)
+  formed_lookup = record {
+    message = record { from = within.may.client; to = tt; lawful = (from_zero64 lawful.table, hash_fits call.key); says = tt };
+    session = acts_without limits.masters session within.may call;
+  }
+
+  -- the client sends a request to an owner that is there
+  formed_request : {located : Located} {master : ℕ} → IsCached limits.masters located → IsMaster limits.masters master → IsFormedTurn limits (requesting session call located.tablet master)
+  formed_request {located} cached there =
+      let seen : IsNumber w64 0 session.seen = omega (arith, within.seen, within.top) in
+      record {
+        message = record {
+          from = within.may.client;
+          to = there;
+          lawful = (cached.tablet, from_zero64 lawful.seq, seen, (from_zero64 lawful.table, lawful.key, lawful.op));
+          says = record { call = assumption (within, lawful); seen = within.seen; client_is = within.client };
+        };
+        session = assumption within;
+      }
+
+  formed_to : {located : Located} (owner : Option ℕ) → IsCached limits.masters located → IfSome owner (IsMaster limits.masters) → IsFormedTurn limits (turn_to session call located.tablet owner)
+  formed_to None cached there = formed_lookup
+  formed_to (Some master) cached there = formed_request cached there
+
+  -- the turn of a client with this call, by the range that it cached
+  pub formed_turn : (found : Option Located) → IfSome found (IsCached limits.masters) → IsFormedTurn limits (turn_by session call found)
+  formed_turn None cached = formed_lookup
+  formed_turn (Some located) cached =
+      either_way (IsFormedTurn limits) (session.requests == MOST_REQUESTS) formed_lookup (formed_to located.owner cached cached.owner)
+
+-- ---- answers
+
+module _ (limits : Limits) (session : Session) (may : MayAct limits.masters session) where
+  owned_cached : {located : Located} (owner : Option ℕ) → IsCached limits.masters located → All (IsCached limits.masters) (owned_range located owner)
+  owned_cached None cached = All-nil _
+  owned_cached {located} (Some owner) cached = All-cons (IsCached limits.masters) located [] cached (All-nil _)
+
+  -- the client learns where a range is
+  acts_located : (call : Call) (located : Located) → IsCached limits.masters located → MayAct limits.masters (located_accepted session call located).session
+  acts_located call located cached = either_way (λ (accepted : Accepted). MayAct limits.masters accepted.session) (has_call call located)
+      (acts_with_ranges limits.masters session may (with_range session (call_lane call) located).ranges 0
+      (All-set (All (IsCached limits.masters)) session.ranges (call_lane call)
+      (filter (λ other. not (meets other.range located.range)) (ranges_in session (call_lane call)) ++ owned_range located located.owner)
+      (All-append (IsCached limits.masters) (filter (λ other. not (meets other.range located.range)) (ranges_in session (call_lane call))) (owned_range located located.owner)
+      (All-filter (λ other. not (meets other.range located.range)) (IsCached limits.masters) (ranges_in session (call_lane call)) (cached_in limits.masters session may (call_lane call)))
+      (owned_cached located.owner cached))
+      may.cached))
+      may
+
+  -- the call is answered
+  acts_done : (call : Call) (reply : Reply) (outcome : Outcome) → MayAct limits.masters (done session call reply outcome)
+  acts_done call reply outcome = record {
+    client = may.client;
+    call = tt;
+    own = tt;
+    seen =
+        All-push (λ receipt. receipt.stamp ≤ max session.seen reply.stamp) session.receipts (receipt_of call reply outcome)
+        (λ place other within. risen _ session.seen reply.stamp (may.seen place other within)) (omega arith);
+    cached = may.cached;
+  }
+    where
+      risen : (n seen stamp : ℕ) → n ≤ seen → n ≤ max seen stamp
+      risen n seen stamp below = omega arith
+
+  acts_answered : (call : Call) (reply : Reply) (answer : Answer) → MayAct limits.masters (answer_accepted session call reply answer).session
+  acts_answered call reply (Answer.Done outcome) = acts_done call reply outcome
+  acts_answered call reply (Answer.Moved tablet) = acts_without limits.masters session may call
+  acts_answered call reply (Answer.NotYet key) = may
+
+  acts_by : (from : Node) (call : Call) (body : Body) → IsLawfulBody body → IsFormedBody limits from body → MayAct limits.masters (accepted_by session call body).session
+  acts_by from call (Body.Located located) lawful says = acts_located call located (assumption (lawful, says))
+  acts_by from call (Body.Reply reply) lawful says = either_way (λ (accepted : Accepted). MayAct limits.masters accepted.session)
+      (reply.seq == call.seq) (acts_answered call reply reply.answer) may
+  acts_by from call body lawful says = may
+
+  acts_of : (from : Node) (outstanding : Option Call) (body : Body) → IsLawfulBody body → IsFormedBody limits from body → MayAct limits.masters (accepted_of session outstanding body).session
+  acts_of from None body lawful says = may
+  acts_of from (Some call) body lawful says = acts_by from call body lawful says
+
+  -- a session may act once it took what a well formed message says
+  pub acts_accepted : (from : Node) (body : Body) → IsLawfulBody body → IsFormedBody limits from body → MayAct limits.masters (session_accept session body).session
+  acts_accepted from body lawful says = acts_of from session.outstanding body lawful says
 
 -- what becomes of a lane and a session is well formed
 pub record IsFormedVisit (w : World) (visited : Visited) : Type 0 where
@@ -143,14 +271,10 @@ or_second false b either first = either
 
 -- the client of a turn that is not refused was added
 asker_is_added : (w : World) (session : Session) → ask_refusal w session ≡ None → is_added w.ledger session.client ≡ true
-asker_is_added w session none = added (is_added w.ledger session.client)
+asker_is_added w session none = not-false (is_added w.ledger session.client)
     (does_not_hold (not (is_added w.ledger session.client)) (StepError.Stranger session.client)
     (no_second (option_map StepError.Worn (option_or (worn w) (worn_session session session.outstanding)))
     (where_true (not (is_added w.ledger session.client)) (StepError.Stranger session.client)) none))
-  where
-    added : (b : Bool) → not b ≡ false → b ≡ true
-    added true is = refl
-    added false is = absurd (cc is)
 
 -- a lane stays well formed when a client asks there, and its session may act
 pub formed_asking : {w : World} {session : Session} → MayAct w.coordinator.masters session → IfSome session.outstanding (IsAfterStart w.base) → ask_refusal w session ≡ None → HasRoom (asking w session session.outstanding).world → IsWellFormed w → IsFormedVisit w (asking w session session.outstanding)

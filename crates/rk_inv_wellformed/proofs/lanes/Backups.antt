@@ -1,18 +1,16 @@
 -- What a backup answers is well formed: the entries that a copy spells are those of a log.
 use Rattle.std.proofs.Common.{◌≡◌, ◌-◌, ◌==◌, ℕ, suc, List, [], ◌∷◌, ◌++◌, All, length, Option, None, Some, refl, ap, subst, sym, ◌∙◌}
 use Rattle.std.proofs.Common.{append-nil, arith, flat_map, eqb-true}
-use Rattle.rk_inv_wellformed.proofs.Words.{flat_map-append, cond_both, All-append, All-cons, All-head, All-map, All-nil, All-push, All-set}
-use Rattle.rk_inv_wellformed.proofs.Words.{All-tail, All-weaker, Held, Node, entries_of, IsLawfulEntry, spelled, Entry, cut, segments}
-use Rattle.rk_inv_wellformed.proofs.Words.{IsLawfulBody, Body, Called, backup_step, IsFormedMaster, IsFormedBody, IsFormedEntry}
-use Rattle.rk_inv_wellformed.proofs.Words.{IsFormedHeld, IsFormedMessage, IsThere, Limits, Master, as_entries, IsMaster, MayCome, cut_after}
-use Rattle.rk_inv_wellformed.proofs.Words.{has_room, in_last, last_of, with_bytes, numbered, ReadSegment, Append, Appended, append_step}
-use Rattle.rk_inv_wellformed.proofs.Words.{master_message, read_step}
-use Rattle.std.specs.Option.{option_map_or}
+use Rattle.rk_inv_wellformed.proofs.Words.{flat_map-append, cond_both, All-append, All-cons, All-head, All-map, All-nil, All-push}
+use Rattle.rk_inv_wellformed.proofs.Words.{All-set, All-tail, All-weaker, Held, Node, entries_of, IsLawfulEntry, spelled, Entry, cut}
+use Rattle.rk_inv_wellformed.proofs.Words.{segments, IsLawfulBody, Body, Called, backup_step, IsFormedMaster, IsFormedBody, IsFormedEntry}
+use Rattle.rk_inv_wellformed.proofs.Words.{IsFormedHeld, IsFormedMessage, IsThere, Limits, Master, as_entries, IsMaster, MayCome}
+use Rattle.rk_inv_wellformed.proofs.Words.{cut_after, has_room, in_last, last_of, with_bytes, numbered, ReadSegment, Append, Appended}
+use Rattle.rk_inv_wellformed.proofs.Words.{append_step, master_message, read_step, option_map_or, segment_of, Gave, common_front, copied}
 use Rattle.rk_outside.specs.Segments.{bytes_of as read_bytes}
 use Rattle.rk_entry.specs.Entries.{spelled_all}
-use Rattle.rk_log.specs.Log.{bytes_of, segment_of}
-use Rattle.rk_world.specs.Backup.{Gave, common_front, copied}
-use Rattle.rk_inv_wellformed.proofs.bytes.Bytes.{entries_nil, read_front}
+use Rattle.rk_log.specs.Log.{bytes_of}
+use Rattle.rk_inv_wellformed.proofs.bytes.Bytes.{entries_nil, read_front, spelled_nil}
 use Rattle.rk_inv_wellformed.proofs.maps.{all_at, all_find, all_given, by_found}
 use Rattle.rk_inv_wellformed.proofs.masters.Work.{AreLimits}
 
@@ -24,17 +22,13 @@ pub record Spells (P : Entry → Type 0) (bytes : List ℕ) : Type 0 where
   pub each : All P list
   pub is : bytes ≡ spelled_all list
 
-spelled_none : spelled_all [] ≡ []
-unfolding spelled_all
-spelled_none = refl
-
 spelled_push : (list : List Entry) (entry : Entry) → spelled_all (list ++ entry ∷ []) ≡ spelled_all list ++ spelled entry
 unfolding spelled_all
 spelled_push list entry =
     flat_map-append spelled list (entry ∷ []) ∙ ap (λ (l : List ℕ). flat_map spelled list ++ l) (append-nil (spelled entry))
 
 spells_none : (P : Entry → Type 0) → Spells P []
-spells_none P = record { list = []; each = All-nil P; is = sym spelled_none }
+spells_none P = record { list = []; each = All-nil P; is = sym spelled_nil }
 
 spells_more : (P : Entry → Type 0) (bytes : List ℕ) (entry : Entry) → P entry → Spells P bytes → Spells P (bytes ++ spelled entry)
 spells_more P bytes entry it spells = record {

@@ -2,19 +2,16 @@
 -- sent again.
 use Rattle.std.proofs.Common.{◌≡◌, ◌≤◌, ◌<◌, ℕ, zero, suc, ◌+◌, Bool, true, false, ◌||◌, cond, [], ◌∷◌, ◌++◌, length, Option, None, Some}
 use Rattle.std.proofs.Common.{is_some, refl, ap, subst, ◌∙◌, ⊎_elim, arith, option_map, nat_eq, nat_le, not, ◌&&◌, leb-false}
-use Rattle.rk_inv_wellformed.proofs.Words.{and_parts, cases_eq, All-cons, All-nil, list_any-append, nat_eq_equiv, list_any, range_with_len}
-use Rattle.rk_inv_wellformed.proofs.Words.{option_or, get_other, get_same, get, without_message, Called, IsWellFormed, is_added}
-use Rattle.rk_inv_wellformed.proofs.Words.{with_client, IsFormedMessage, limits_of, MayHappen, MOST_CLIENTS, WORN_NUMBER, comes_anyway}
-use Rattle.rk_inv_wellformed.proofs.Words.{refusal, where_true, worn, IsCalmEvent, happened, sent_again, World, bytes_of_logs, has_crashed}
-use Rattle.rk_inv_wellformed.proofs.Words.{with_crash, with_ledger, with_top, with_wire, StepError, Event, too_great, cond_both}
-use Rattle.std.proofs.lemmas.Bool.{or_from}
-use Rattle.rk_world.specs.Refusals.{WORN_BYTES, fault_of}
-use Rattle.rk_world.specs.Runs.{lives_another}
-use Rattle.rk_world.specs.World.{lives}
+use Rattle.rk_inv_wellformed.proofs.Words.{and_parts, cases_eq, All-cons, All-nil, list_any-append, nat_eq_equiv, list_any}
+use Rattle.rk_inv_wellformed.proofs.Words.{range_with_len, option_or, get_other, get_same, get, without_message, Called, IsWellFormed}
+use Rattle.rk_inv_wellformed.proofs.Words.{is_added, with_client, IsFormedMessage, limits_of, MayHappen, MOST_CLIENTS, WORN_NUMBER}
+use Rattle.rk_inv_wellformed.proofs.Words.{comes_anyway, refusal, where_true, worn, IsCalmEvent, happened, sent_again, World}
+use Rattle.rk_inv_wellformed.proofs.Words.{bytes_of_logs, has_crashed, with_crash, with_ledger, with_top, with_wire, StepError, Event}
+use Rattle.rk_inv_wellformed.proofs.Words.{too_great, cond_both, not-false, not-true, or_from, WORN_BYTES, fault_of, lives_another, lives}
 use Rattle.rk_inv_wellformed.proofs.lanes.Ledgers.{formed_client}
-use Rattle.rk_inv_wellformed.proofs.lanes.Wires.{wire_forgotten}
+use Rattle.rk_inv_wellformed.proofs.lanes.Worlds.{wire_forgotten, HasClientsOf, SomeIsLeft, kept_with_crash, kept_with_ledger}
+use Rattle.rk_inv_wellformed.proofs.lanes.Worlds.{kept_with_wire, more_limits}
 use Rattle.rk_inv_wellformed.proofs.lanes.Works.{formed_losing, formed_sending_old, top_rises, formed_after_change, more_topped}
-use Rattle.rk_inv_wellformed.proofs.lanes.Worlds.{HasClientsOf, SomeIsLeft, kept_with_crash, kept_with_ledger, kept_with_wire, more_limits}
 use Rattle.rk_inv_wellformed.proofs.maps.{by_found, either_way}
 
 -- ---- what is not refused
@@ -42,6 +39,11 @@ does_not_hold false cause none = refl
 pub has_no_fault : (w : World) (event : Event) → refusal w event ≡ None → fault_of w event ≡ None
 has_no_fault w event none = either_way (λ (cause : Option StepError). cause ≡ None → fault_of w event ≡ None) (comes_anyway event) (λ it. it)
     (λ it. no_second (option_map StepError.Worn (worn w)) (fault_of w event) it) none
+
+-- a crash whose notice is not refused has come
+pub crash_came : (w : World) (master : ℕ) → refusal w (Event.Notice master) ≡ None → has_crashed w master ≡ true
+crash_came w master none = not-false (has_crashed w master)
+    (does_not_hold (not (has_crashed w master)) (StepError.Alive master) (has_no_fault w (Event.Notice master) none))
 
 -- a number that is not too great is below the limit
 pub not_too_great : (limit number : ℕ) → too_great limit number ≡ None → number < limit
@@ -130,13 +132,9 @@ left_after w master another =
       there = omega (arith, other.low, other.high);
       lives = list_any-append (λ dead. nat_eq dead other.passing) w.crashed (master ∷ [])
           ∙ or_from (has_crashed w other.passing) (nat_eq master other.passing || false)
-          (not_true (has_crashed w other.passing) parts.0)
-          (or_from (nat_eq master other.passing) false (nat_eq_equiv.symm master other.passing ∙ not_true (nat_eq other.passing master) parts.1) refl);
+          (not-true (has_crashed w other.passing) parts.0)
+          (or_from (nat_eq master other.passing) false (nat_eq_equiv.symm master other.passing ∙ not-true (nat_eq other.passing master) parts.1) refl);
     }
-  where
-    not_true : (b : Bool) → not b ≡ true → b ≡ false
-    not_true true is = absurd (cc is)
-    not_true false is = refl
 
 -- it stays so when a master crashes while another one lives
 pub formed_crashed : {w : World} (master : ℕ) (called : Called) → MayHappen w (Event.Crash master) → IsCalmEvent w (Event.Crash master) → IsWellFormed w → IsWellFormed (happened w (Event.Crash master) called).world

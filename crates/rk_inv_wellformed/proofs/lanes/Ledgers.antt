@@ -2,16 +2,14 @@
 -- asks or has a request saved.
 use Rattle.std.proofs.Common.{◌≡◌, ◌≤◌, ◌<◌, ℕ, zero, suc, ◌+◌, true, false, cond, List, [], ◌∷◌, ◌++◌, length, fold, All, Option, None}
 use Rattle.std.proofs.Common.{Some, is_some, refl, sym, ap, ◌∙◌, arith, slice_get, slice_set, IfSome, not, ◌&&◌, ◌==◌, w32, nat_cmp}
-use Rattle.std.proofs.Common.{length-set}
-use Rattle.rk_inv_wellformed.proofs.Words.{length_push, All-push, All-set, each_insert, in_order_insert, NumberMap, IsInOrder, get, insert}
-use Rattle.rk_inv_wellformed.proofs.Words.{Call, Ended, Outcome, IsNumber, Message, Rebuilt, outcome_of, IsFormedLedger, last_stamp, Ledger}
-use Rattle.rk_inv_wellformed.proofs.Words.{asked_by, is_added, seen_of, with_client, with_rebuilt, IsFormedMessage, Limits, MOST_CLIENTS}
-use Rattle.rk_inv_wellformed.proofs.Words.{LastCall, Served, Placed, is_mutation, Base, IsFormedLast, next_record, with_accepted}
-use Rattle.rk_inv_wellformed.proofs.Words.{with_all_served, with_asked, with_end, with_ends, with_record, with_served}
-use Rattle.std.specs.Cmp.{nat_cmp_total}
-use Rattle.std.specs.FinMap.Entries.{length-put}
-use Rattle.rk_world.specs.Journal.{accepted_at, as_accepted, has_record, last_stamp_from}
-use Rattle.rk_world.specs.Ledger.{with_end_of, with_marks, with_request, without_marks}
+use Rattle.std.proofs.Common.{length-set, Bool}
+use Rattle.rk_inv_wellformed.proofs.Words.{length_push, All-push, All-set, each_insert, in_order_insert, NumberMap, IsInOrder, get}
+use Rattle.rk_inv_wellformed.proofs.Words.{insert, Call, Ended, Outcome, IsNumber, Message, Rebuilt, outcome_of, IsFormedLedger}
+use Rattle.rk_inv_wellformed.proofs.Words.{last_stamp, Ledger, asked_by, is_added, seen_of, with_client, with_rebuilt, IsFormedMessage}
+use Rattle.rk_inv_wellformed.proofs.Words.{Limits, MOST_CLIENTS, LastCall, Served, Placed, is_mutation, Base, IsFormedLast, next_record}
+use Rattle.rk_inv_wellformed.proofs.Words.{with_accepted, with_all_served, with_asked, with_end, with_ends, with_record, with_served}
+use Rattle.rk_inv_wellformed.proofs.Words.{nat_cmp_total, length-put, accepted_at, as_accepted, has_record, last_stamp_from, with_end_of}
+use Rattle.rk_inv_wellformed.proofs.Words.{with_marks, with_request, without_marks}
 use Rattle.rk_world.specs.declared.work.Mark.{Mark}
 use Rattle.rk_inv_wellformed.proofs.maps.{all_got, by_found, either_way, fold_keeps}
 
@@ -147,15 +145,11 @@ clients_rebuilt ledger (Some rebuilt) =
 
 -- ---- clients that come and ask
 
--- a map has as many numbers with another thing under a number that it had
-length_kept : {X : Type 0} (things : NumberMap X) (number : ℕ) (thing : X) → IsInOrder things → is_some (get things number) ≡ true → length (insert things number thing) ≡ length things
-length_kept things number thing order there =
-    length-put nat_cmp nat_cmp_total number thing things order ∙ ap (λ b. cond b (length things) (length things + 1)) there
-
--- and one more with a new one
-length_more : {X : Type 0} (things : NumberMap X) (number : ℕ) (thing : X) → IsInOrder things → is_some (get things number) ≡ false → length (insert things number thing) ≡ length things + 1
-length_more things number thing order new =
-    length-put nat_cmp nat_cmp_total number thing things order ∙ ap (λ b. cond b (length things) (length things + 1)) new
+-- a map has as many things with another one under a number that it had, and one more with a new one
+length_put : {X : Type 0} (things : NumberMap X) (number : ℕ) (thing : X) (there : Bool) → IsInOrder things → is_some (get things number) ≡ there
+    → length (insert things number thing) ≡ cond there (length things) (length things + 1)
+length_put things number thing there order is =
+    length-put nat_cmp nat_cmp_total number thing things order ∙ ap (λ b. cond b (length things) (length things + 1)) is
 
 -- what is well formed of a client: its number, and its last call, if there is one
 abbrev IsFormedClient : Base → ℕ → ℕ → Option LastCall → Type 0
@@ -165,7 +159,7 @@ module _ (limits : Limits) (base : Base) (lane : ℕ) where
   -- a client comes that was not added, where others are fewer than there may be
   pub formed_client : {ledger : Ledger} {client : ℕ} → IsNumber w32 1 client → is_added ledger client ≡ false → length ledger.clients < MOST_CLIENTS → IsFormedLedger limits base lane ledger → IsFormedLedger limits base lane (with_client ledger client)
   formed_client {ledger} {client} number new few formed =
-      let fewer : length (insert ledger.clients client None) ≤ MOST_CLIENTS = omega (arith, few, length_more ledger.clients client None formed.clients_order new) in
+      let fewer : length (insert ledger.clients client None) ≤ MOST_CLIENTS = omega (arith, few, length_put ledger.clients client None false formed.clients_order new) in
       assumption (
         in_order_insert ledger.clients client None formed.clients_order,
         each_insert (IsFormedClient base lane) ledger.clients client None formed.clients (number, tt),
@@ -175,7 +169,7 @@ module _ (limits : Limits) (base : Base) (lane : ℕ) where
   pub formed_asked : {ledger : Ledger} {client : ℕ} {asked : LastCall} → IsNumber w32 1 client → is_added ledger client ≡ true → IsFormedLast base lane client asked → IsFormedLedger limits base lane ledger → IsFormedLedger limits base lane (with_asked ledger client asked)
   formed_asked {ledger} {client} {asked} number there last formed =
       let few : length (insert ledger.clients client (Some asked)) ≤ MOST_CLIENTS =
-      omega (arith, formed.few, length_kept ledger.clients client (Some asked) formed.clients_order there) in
+      omega (arith, formed.few, length_put ledger.clients client (Some asked) true formed.clients_order there) in
       assumption (
         in_order_insert ledger.clients client (Some asked) formed.clients_order,
         each_insert (IsFormedClient base lane) ledger.clients client (Some asked) formed.clients (number, last),

@@ -1,13 +1,12 @@
 -- What keeps to limits keeps to wider ones: a greater greatest number, and more clients.
-use Rattle.std.proofs.Common.{◌≡◌, ◌≤◌, ℕ, List, All, Option, None, Some, subst, arith, IfSome, length, flat_map, true}
+use Rattle.std.proofs.Common.{◌≡◌, ◌≤◌, ◌+◌, ℕ, List, All, Option, None, Some, refl, subst, arith, IfSome, length, flat_map, true}
 use Rattle.rk_inv_wellformed.proofs.Words.{All-weaker, each_weaker, Call, Ended, Held, Member, Node, entries_of, Entry, ends_of, Row}
 use Rattle.rk_inv_wellformed.proofs.Words.{Traffic, Request, Tenure, Body, Message, Coordinator, items_of, IsFormedCall}
 use Rattle.rk_inv_wellformed.proofs.Words.{IsFormedCoordinator, IsFormedGathered, IsFormedLedger, IsFormedMaster, IsFormedPulling}
 use Rattle.rk_inv_wellformed.proofs.Words.{IsFormedRow, IsFormedTablet, IsFormedWire, named_in, Gathered, Ledger, IsClient, IsFormedBody}
 use Rattle.rk_inv_wellformed.proofs.Words.{IsFormedEnd, IsFormedEnds, IsFormedEntry, IsFormedHeld, IsFormedMember, IsFormedMessage}
 use Rattle.rk_inv_wellformed.proofs.Words.{IsFormedNumber, IsFormedTenure, IsThere, Limits, Master, IsMaster, Pulling, Tablet, bytes_of}
-use Rattle.rk_inv_wellformed.proofs.Words.{Base, Handed, IsFormedHanded, is_receiving}
-use Rattle.rk_world.specs.Limits.{IsFormedRequestOf}
+use Rattle.rk_inv_wellformed.proofs.Words.{Base, Handed, IsFormedHanded, is_receiving, IsFormedRequestOf}
 
 -- limits are as wide as others: the masters and backups are the same, the greatest number is no smaller, and no client is missing
 pub record IsMore (a b : Limits) : Type 0 where
@@ -15,6 +14,17 @@ pub record IsMore (a b : Limits) : Type 0 where
   pub backups : a.backups ≡ b.backups
   pub top : a.top ≤ b.top
   pub clients : (client : ℕ) → IsClient a client → IsClient b client
+
+-- limits are as wide as themselves
+pub more_self : (limits : Limits) → IsMore limits limits
+more_self limits = record { masters = refl; backups = refl; top = omega arith; clients = λ client is. is }
+
+-- limits whose greatest number is one more: a counter that rises, or a floor that is merged, may be that
+abbrev pub raised : Limits → Limits
+raised limits = record limits { top = limits.top + 1 }
+
+pub more_raised : (limits : Limits) → IsMore limits (raised limits)
+more_raised limits = record { masters = refl; backups = refl; top = omega arith; clients = λ client is. is }
 
 module _ (a b : Limits) (more : IsMore a b) where
   -- ---- what limits are made of

@@ -1,15 +1,12 @@
 -- A new lane is well formed and has room, and a new session may act, also once it asked its next call.
-use Rattle.std.proofs.Common.{◌≡◌, ◌≤◌, ℕ, zero, suc, List, [], ◌∷◌, length, map, replicate, sum, All, Option, None, Some, refl, ap, subst}
-use Rattle.std.proofs.Common.{arith, w32, flat_map}
+use Rattle.std.proofs.Common.{◌≡◌, ◌≤◌, ℕ, zero, suc, List, [], ◌∷◌, length, map, replicate, sum, All, Option, None, Some, refl, ap}
+use Rattle.std.proofs.Common.{subst, arith, w32, flat_map}
 use Rattle.rk_inv_wellformed.proofs.Words.{All-cons, All-map, All-nil, sum_by-cons, range_with_len, EachIn, IsInOrder, IsNumber}
 use Rattle.rk_inv_wellformed.proofs.Words.{IsInScanOrder, MOST_BACKUPS, Session, IsFormedMaster, IsWellFormed, Limits, limits_of, Master}
 use Rattle.rk_inv_wellformed.proofs.Words.{log_bytes, new_master, IsLawfulCall, MOST_MASTERS, MayAct, HasRoom, counters_of, Op, Known}
-use Rattle.rk_inv_wellformed.proofs.Words.{nothing, IsCached, HasRoomIn}
-use Rattle.std.proofs.lemmas.List.Elements.{All-replicate}
+use Rattle.rk_inv_wellformed.proofs.Words.{nothing, IsCached, HasRoomIn, All-replicate, LANES, busy, new_session, next_call}
+use Rattle.rk_inv_wellformed.proofs.Words.{session_calling, new_masters, new_world}
 use Rattle.std.specs.List.Sorted.{IsStrictlySortedBy}
-use Rattle.rk_types.specs.declared.hashing.TheConstants.{LANES}
-use Rattle.rk_world.specs.Client.{busy, new_session, next_call, session_calling}
-use Rattle.rk_world.specs.World.{new_masters, new_world}
 use Rattle.rk_inv_wellformed.proofs.maps.{all_flat, all_each, found_numbered, numbers_are, with_numbers}
 
 -- ---- a lane

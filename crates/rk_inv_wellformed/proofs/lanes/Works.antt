@@ -1,23 +1,64 @@
--- A lane stays well formed when a master, the coordinator or a backup has worked, where its work is well formed within the limits after
--- it.
-use Rattle.std.proofs.Common.{◌≡◌, ◌≤◌, ◌<◌, ℕ, true, List, length, map, All, Option, None, Some, refl, sym, subst, arith}
-use Rattle.rk_inv_wellformed.proofs.Words.{get_same, get, Node, Segments, Body, Message, Rebuilt, Backed, Called, backup_step, stored_after}
-use Rattle.rk_inv_wellformed.proofs.Words.{Coordinator, IsFormedLedger, IsFormedMaster, IsWellFormed, last_stamp, Ledger, is_added}
-use Rattle.rk_inv_wellformed.proofs.Words.{with_rebuilt, IsFormedMessage, Limits, limits_of, Master, master_step, master_turn, IsMaster}
-use Rattle.rk_inv_wellformed.proofs.Words.{MOST_CLIENTS, filled, HasRoom, MOST_NUMBER, Stepped, backed_at, log_bytes_of, losing, quietly}
-use Rattle.rk_inv_wellformed.proofs.Words.{seen_in, to_backup, to_master, turned, with_sends, worked_at, Worked, World, is_backup}
-use Rattle.rk_inv_wellformed.proofs.Words.{master_at, with_all_sent, with_coordinator, with_ledger, with_master, with_stored_by, with_top}
-use Rattle.rk_inv_wellformed.proofs.Words.{ledger_after, cond_both}
-use Rattle.rk_world.specs.Limits.{limits_at}
+-- What an event makes of a lane, by who takes part in it; and a lane stays well formed when a master, the coordinator or a backup has worked,
+-- where its work is well formed within the limits after it.
+use Rattle.std.proofs.Common.{◌≡◌, ◌≤◌, ◌<◌, ℕ, true, List, [], length, map, All, Option, None, refl, sym, subst, arith, ◌+◌, Some}
+use Rattle.rk_inv_wellformed.proofs.Words.{get_same, Segments, Message, Rebuilt, Backed, Coordinator, IsFormedLedger, IsFormedMaster}
+use Rattle.rk_inv_wellformed.proofs.Words.{IsWellFormed, last_stamp, Ledger, is_added, with_rebuilt, IsFormedMessage, Limits, limits_of}
+use Rattle.rk_inv_wellformed.proofs.Words.{Master, IsMaster, MOST_CLIENTS, filled, HasRoom, MOST_NUMBER, Stepped, backed_at, losing}
+use Rattle.rk_inv_wellformed.proofs.Words.{quietly, with_sends, worked_at, Worked, World, master_at, with_all_sent, with_coordinator}
+use Rattle.rk_inv_wellformed.proofs.Words.{with_ledger, with_master, with_top, ledger_after, All-nil, NumberMap, get, insert, Node}
+use Rattle.rk_inv_wellformed.proofs.Words.{Called, IsThere, backup_step, stored_after, delivered, delivered_to, log_bytes_of, seen_in}
+use Rattle.rk_inv_wellformed.proofs.Words.{master_step, has_crashed, is_backup, with_stored_by, owner_split, row_split, with_split, Phase}
+use Rattle.rk_inv_wellformed.proofs.Words.{Owned, Row, brought_by, limits_at, to_coordinator}
+use Rattle.rk_inv_wellformed.specs.Brought.{brought_in, brought_to}
 use Rattle.rk_inv_wellformed.proofs.lanes.Ledgers.{clients_rebuilt, clients_served, formed_ledger_after, formed_rebuilt}
-use Rattle.rk_inv_wellformed.proofs.lanes.More.{IsMore, more_coordinator, more_master, more_message, more_messages}
-use Rattle.rk_inv_wellformed.proofs.lanes.Wires.{all_filled}
-use Rattle.rk_inv_wellformed.proofs.lanes.Worlds.{HasClientsOf, IsFormedWorld, MayCoordinate, formed_topped, formed_within}
+use Rattle.rk_inv_wellformed.proofs.lanes.More.{IsMore, more_coordinator, more_master, more_master_number, more_messages, more_self}
+use Rattle.rk_inv_wellformed.proofs.lanes.Worlds.{all_filled, HasClientsOf, IsFormedWorld, MayCoordinate, formed_topped, formed_within}
 use Rattle.rk_inv_wellformed.proofs.lanes.Worlds.{kept_with_all_sent, kept_with_coordinator, kept_with_ledger, kept_with_master}
 use Rattle.rk_inv_wellformed.proofs.lanes.Worlds.{limits_with, master_of, more_limits, room_of_master, stamp_within, terms_within}
 use Rattle.rk_inv_wellformed.proofs.lanes.Worlds.{top_is_limit, formed_as, formed_standing}
-use Rattle.rk_inv_wellformed.proofs.maps.{by_found, either_way}
-use Rattle.rk_inv_wellformed.proofs.masters.Work.{AreLimits, HasRoomFor, IsFormedWork}
+use Rattle.rk_inv_wellformed.proofs.maps.{either_way, by_found}
+use Rattle.rk_inv_wellformed.proofs.masters.Work.{AreLimits, HasRoomFor, IsFormedWork, MOST_AT_ONCE}
+
+-- a message is delivered: it is lost or says nothing, or a master, the coordinator or a backup works; P is told how many bytes it brings
+module _ (w : World) (called : Called) (formed : IsWellFormed w) (P : ℕ → World → Type 0) (loses : (bytes : ℕ) → P bytes (losing w).world)
+    (works : (message : Message) (master : ℕ) → IsMaster w.coordinator.masters master → IsFormedMessage (limits_of w) message
+    → P (brought_by (master_at w master) message.body) (worked_at w master (seen_in message.body) (master_step (master_at w master) message)).world)
+    (coordinates : (message : Message) → IsFormedMessage (limits_of w) message → P 0 (to_coordinator w message).world)
+    (backs : (message : Message) (backup : ℕ) (backups : NumberMap Segments) → IsThere (limits_of w) (Node.Backup backup)
+    → IsFormedMessage (limits_of w) message
+    → P 0 (backed_at (record w { backups = backups }) (backup_step backup message.from message.body (log_bytes_of w) called)).world) where
+  received_is : (message : Message) (to : Node) → message.to ≡ to → IsFormedMessage (limits_of w) message
+      → P (brought_to w to message.body) (delivered_to w message to called).world
+  received_is message (Node.Client client) is told = loses 0
+  received_is message Node.Coordinator is told = coordinates message told
+  received_is message (Node.Master master) is told =
+      either_way (λ (stepped : Stepped). P (brought_by (master_at w master) message.body) stepped.world) (has_crashed w master) (loses _)
+      (works message master (subst (IsThere (limits_of w)) is told.to) told)
+  received_is message (Node.Backup backup) is told =
+      let there = subst (IsThere (limits_of w)) is told.to in
+      let backed = backup_step backup message.from message.body (log_bytes_of w) called in
+      let store : Segments → Segments = λ segments. stored_after segments message.from message.body called in
+      either_way (λ (stepped : Stepped). P 0 stepped.world) (is_backup w backup)
+      (by_found (λ found. P 0 (backed_at (with_stored_by w backup store found) backed).world) (get w.backups backup)
+      (λ none. backs message backup w.backups there told)
+      (λ segments some. backs message backup (insert w.backups backup (store segments)) there told))
+      (loses 0)
+
+  pub delivered_is : (number : ℕ) → P (brought_in w (get w.wire.messages number)) (delivered w (get w.wire.messages number) called).world
+  delivered_is number = by_found (λ found. P (brought_in w found) (delivered w found called).world) (get w.wire.messages number) (λ none. loses 0)
+      (λ message is. received_is message message.to refl (formed.wire.each number message is))
+
+-- a tablet is split at its owner, if that is there and lives
+pub split_is : (P : World → Type 0) (w : World) (found : Option Row) (at new : ℕ) → P w
+    → ((row : Row) (master from : ℕ) → found ≡ Some row → row.phase ≡ Owned master from
+    → P (with_master w master (with_split (master_at w master) row.tablet at new (row.term + 1))))
+    → P (row_split w found at new)
+split_is P w found at new stays splits =
+    by_found (λ there. P (row_split w there at new)) found (λ none. stays) (λ row is. owner row row.phase refl is)
+  where
+    owner : (row : Row) (phase : Phase) → row.phase ≡ phase → found ≡ Some row → P (owner_split w row.tablet phase at new (row.term + 1))
+    owner row (Owned master from) is there = either_way P (has_crashed w master) stays (splits row master from there is)
+    owner row _ is there = stays
 
 -- a ledger with the same clients has the clients
 same_clients : (ledger later : Ledger) → later.clients ≡ ledger.clients → HasClientsOf later ledger
@@ -60,12 +101,6 @@ formed_sending_old {w} messages all formed =
 
 -- ---- a master has worked
 
--- what a master that is well formed makes is, where it has room within the limits
-abbrev pub WorkIsFormed : Limits → ℕ → Master → Worked → Type 0
-WorkIsFormed limits number master worked =
-    AreLimits limits → IsMaster limits.masters number → IsFormedMaster limits number master → HasRoomFor limits worked.master
-    → IsFormedWork limits number worked
-
 module _ (w : World) (number seen : ℕ) (worked : Worked) where
   -- the world after it
   abbrev pub after_work : World
@@ -88,21 +123,12 @@ module _ (w : World) (number seen : ℕ) (worked : Worked) where
       (same_clients w.ledger (ledger_after w.ledger number seen worked) same_after)
       (top_rises (with_all_sent now_worked filled_sends))
 
-  -- they are limits that a lane may have
-  pub limits_worked : IsWellFormed w → HasRoom after_work → AreLimits (limits_of after_work)
-  limits_worked formed room =
-      limits_with w w.coordinator (ledger_after w.ledger number seen worked) after_work.top refl
-      (subst (λ clients. length clients ≤ MOST_CLIENTS) (sym same_after) formed.ledger.few) room.number formed
-
-  -- the master has room in the world after it
-  pub room_worked : HasRoom after_work → HasRoomFor (limits_of after_work) worked.master
-  room_worked room =
-      room_of_master after_work number worked.master (get_same w.masters number worked.master number refl)
-      (top_is_limit (with_all_sent now_worked filled_sends)) room
-
-  -- and the world after it is well formed
-  pub formed_worked : IsMaster w.coordinator.masters number → IsFormedWork (limits_of after_work) number worked → HasRoom after_work → IsWellFormed w → IsWellFormed after_work
-  formed_worked there work room formed = formed_topped
+  -- and the world after it is well formed, where the work of a well formed master is within limits in which that has room
+  pub formed_worked : IsMaster w.coordinator.masters number
+      → (AreLimits (limits_of after_work) → IsFormedMaster (limits_of after_work) number (master_at w number)
+      → HasRoomFor (limits_of after_work) worked.master → IsFormedWork (limits_of after_work) number MOST_AT_ONCE worked)
+      → HasRoom after_work → IsWellFormed w → IsWellFormed after_work
+  formed_worked there works room formed = formed_topped
       (kept_with_all_sent (limits_of after_work) now_worked
       (kept_with_ledger (limits_of after_work) (with_master w number worked.master)
       (kept_with_master (limits_of after_work) w before there work.master)
@@ -114,6 +140,15 @@ module _ (w : World) (number seen : ℕ) (worked : Worked) where
       before : IsFormedWorld (limits_of after_work) w
       before = formed_within more_worked formed
 
+      limits : AreLimits (limits_of after_work)
+      limits = limits_with w w.coordinator (ledger_after w.ledger number seen worked) after_work.top refl
+          (subst (λ clients. length clients ≤ MOST_CLIENTS) (sym same_after) formed.ledger.few) room.number formed
+
+      work : IsFormedWork (limits_of after_work) number MOST_AT_ONCE worked
+      work = works limits (more_master (limits_of w) (limits_of after_work) more_worked (master_of w number there formed))
+          (room_of_master after_work number worked.master (get_same w.masters number worked.master number refl)
+          (top_is_limit (with_all_sent now_worked filled_sends)) room)
+
       ledger : IsFormedLedger (limits_of after_work) w.base w.lane (ledger_after w.ledger number seen worked)
       ledger = formed_ledger_after (limits_of after_work) w.base w.lane seen worked.served worked.marked before.ledger
 
@@ -122,46 +157,6 @@ module _ (w : World) (number seen : ℕ) (worked : Worked) where
           let last = stamp_within after_work after_work.top (top_is_limit (with_all_sent now_worked filled_sends)) in
           let room_left = room.number in
           omega arith
-
-  -- so it is where the work of a well formed master is well formed within limits in which it has room
-  pub formed_by_work : IsMaster w.coordinator.masters number → WorkIsFormed (limits_of after_work) number (master_at w number) worked → HasRoom after_work → IsWellFormed w → IsWellFormed after_work
-  formed_by_work there works room formed = formed_worked there (works (limits_worked formed room) there
-      (more_master (limits_of w) (limits_of after_work) more_worked (master_of w number there formed)) (room_worked room))
-      room formed
-
--- what a master makes of a message, in any lane
-abbrev pub StepIsFormed : ℕ → Master → Message → Type 0
-StepIsFormed number master message =
-    (limits : Limits) → AreLimits limits → IsMaster limits.masters number → IsFormedMaster limits number master → IsFormedMessage limits message →
-    HasRoomFor limits (master_step master message).master → IsFormedWork limits number (master_step master message)
-
--- a lane stays well formed when a message reaches a master
-pub formed_to_master : {w : World} {number : ℕ} {message : Message} → IsMaster w.coordinator.masters number → IsFormedMessage (limits_of w) message → StepIsFormed number (master_at w number) message → HasRoom (to_master w number message).world → IsWellFormed w → IsWellFormed (to_master w number message).world
-formed_to_master {w} {number} {message} there says works room formed =
-    cond_both _ _ _ (λ (stepped : Stepped). HasRoom stepped.world → IsWellFormed stepped.world) (λ crashed room_left. formed_losing formed)
-    (λ living room_left. formed_by_work w number seen worked there
-    (λ limits there master fits. works (limits_of after) limits there master
-    (more_message (limits_of w) (limits_of after) (more_worked w number seen worked) message says) fits)
-    room_left formed) room
-  where
-    seen : ℕ
-    seen = seen_in message.body
-
-    worked : Worked
-    worked = master_step (master_at w number) message
-
-    after : World
-    after = after_work w number seen worked
-
--- what a master makes of its turn, in any lane
-abbrev pub TurnIsFormed : ℕ → Master → Type 0
-TurnIsFormed number master = (limits : Limits) → WorkIsFormed limits number master (master_turn master)
-
--- and when a master takes its turn
-pub formed_master_turn : {w : World} {number : ℕ} → IsMaster w.coordinator.masters number → TurnIsFormed number (master_at w number) → HasRoom (turned w (Node.Master number)).world → IsWellFormed w → IsWellFormed (turned w (Node.Master number)).world
-formed_master_turn {w} {number} there works room formed =
-    formed_by_work w number 0 (master_turn (master_at w number)) there (works (limits_of (turned w (Node.Master number)).world))
-    room formed
 
 -- ---- the coordinator has worked
 
@@ -198,56 +193,40 @@ module _ (w : World) (coordinator : Coordinator) (rebuilt : Option Rebuilt) (sen
       let more = more_coordinated new.masters in
       formed_coordinated (may_still more new) (more_messages (limits_of w) (limits_of after_coordinated) more sends all) formed
 
--- ---- a master and the coordinator are so, as once a tablet was added or split
+-- ---- the coordinator changes, and a master may with it, as once a tablet was added or split
 
-module _ (w : World) (number : ℕ) (master : Master) (coordinator : Coordinator) where
-  -- the world after it
-  abbrev pub after_both : World
-  after_both = (quietly (with_coordinator (with_master w number master) coordinator)).world
+module _ (w : World) (coordinator : Coordinator) (formed : IsWellFormed w)
+    (may : (limits : Limits) → IsMore (limits_of w) limits → MayCoordinate limits w coordinator) where
+  same_masters : w.coordinator.masters ≡ coordinator.masters
+  same_masters = (may (limits_of w) (more_self (limits_of w))).masters
 
-  -- its limits are wider
-  pub more_with_both : w.coordinator.masters ≡ coordinator.masters → IsMore (limits_of w) (limits_of after_both)
-  more_with_both same = more_limits w coordinator w.ledger after_both.top same (λ client added. added)
-      (top_rises (with_coordinator (with_master w number master) coordinator))
+  -- a lane stays well formed where the coordinator may stand in it within all wider limits
+  pub formed_by_rows : IsWellFormed (quietly (with_coordinator w coordinator)).world
+  formed_by_rows = formed_coordinated w coordinator None [] (may _ (more_coordinated w coordinator None [] same_masters)) (All-nil _) formed
 
-  -- each term is within them
-  pub terms_with_both : All (λ row. row.term ≤ after_both.top) coordinator.rows
-  terms_with_both =
-      terms_within after_both after_both.top (top_is_limit (with_coordinator (with_master w number master) coordinator))
-
-  -- and the world after it is well formed
-  pub formed_with_both : IsMaster w.coordinator.masters number → IsFormedMaster (limits_of after_both) number master → MayCoordinate (limits_of after_both) w coordinator → IsWellFormed w → IsWellFormed after_both
-  formed_with_both there new_master new formed =
-      formed_after_change (with_coordinator (with_master w number master) coordinator) (more_with_both new.masters)
-      (λ before. kept_with_coordinator _ (with_master w number master)
-      (kept_with_master _ w before (subst (λ (count : ℕ). IsMaster count number) new.masters there) new_master) coordinator (assumption new))
+  -- and where a master is well formed then, once the terms of all rows have stood
+  pub formed_by_both : (number : ℕ) (master : Master) → IsMaster w.coordinator.masters number
+      → ((limits : Limits) → IsMore (limits_of w) limits → All (λ row. row.term ≤ limits.top) coordinator.rows → IsFormedMaster limits number master)
+      → IsWellFormed (quietly (with_coordinator (with_master w number master) coordinator)).world
+  formed_by_both number master there serves =
+      let now = with_coordinator (with_master w number master) coordinator in
+      let limits = limits_of (with_top now) in
+      let more = more_limits w coordinator w.ledger (with_top now).top same_masters (λ client added. added) (top_rises now) in
+      let new = may limits more in
+      formed_after_change now more
+      (λ before. kept_with_coordinator limits (with_master w number master)
+      (kept_with_master limits w before (more_master_number (limits_of w) limits more number there)
+      (serves limits more (terms_within (with_top now) (with_top now).top (top_is_limit now))))
+      coordinator (assumption new))
       formed
 
 -- ---- a backup has worked
 
--- a lane stays well formed when a backup stores more
-pub formed_stored : {w : World} (backup : ℕ) (store : Segments → Segments) (found : Option Segments) → IsWellFormed w → IsWellFormed (with_stored_by w backup store found)
-formed_stored backup store None formed = formed
-formed_stored backup store (Some segments) formed = formed_standing (assumption (formed_as formed)) formed.standing
+-- a lane stays well formed when backups store more
+pub formed_with_backups : {w : World} (backups : NumberMap Segments) → IsWellFormed w → IsWellFormed (record w { backups = backups })
+formed_with_backups backups formed = formed_standing (assumption (formed_as formed)) formed.standing
 
--- and when it answers what is well formed
+-- and when one answers what is well formed
 pub formed_backed : {w : World} (backed : Backed) → All (IsFormedMessage (limits_of w)) backed.sends → IsWellFormed w → IsWellFormed (backed_at w backed).world
 formed_backed {w} backed all formed =
     either_way (λ (stepped : Stepped). IsWellFormed stepped.world) backed.lost (formed_losing formed) (formed_sending_old backed.sends all formed)
-
--- so it does when a message reaches a backup that answers what is well formed
-pub formed_to_backup : {w : World} (backup : ℕ) (sender : Node) (body : Body) (called : Called) → All (IsFormedMessage (limits_of w)) (backup_step backup sender body (log_bytes_of w) called).sends → IsWellFormed w → IsWellFormed (to_backup w backup sender body called).world
-formed_to_backup {w} backup sender body called all formed =
-    either_way (λ (stepped : Stepped). IsWellFormed stepped.world) (is_backup w backup)
-    (formed_backed backed (subst (λ limits. All (IsFormedMessage limits) backed.sends) same_limits all)
-    (formed_stored backup store (get w.backups backup) formed))
-    (formed_losing formed)
-  where
-    store : Segments → Segments
-    store segments = stored_after segments sender body called
-
-    backed : Backed
-    backed = backup_step backup sender body (log_bytes_of w) called
-
-    same_limits : limits_of w ≡ limits_of (with_stored_by w backup store (get w.backups backup))
-    same_limits = by_found (λ found. limits_of w ≡ limits_of (with_stored_by w backup store found)) (get w.backups backup) (λ none. refl) (λ some is. refl)

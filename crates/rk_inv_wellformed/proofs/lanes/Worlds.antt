@@ -1,34 +1,108 @@
--- A world that keeps to limits: what is well formed keeps to wider limits, and so do the changes of a lane; a world that keeps to the
--- limits that its greatest number gives it is well formed.
-use Rattle.std.proofs.Common.{◌≡◌, ◌≤◌, ◌<◌, ℕ, suc, max, true, false, ◌||◌, cond, List, [], ◌∷◌, ◌++◌, length, map, All, Option, Some}
-use Rattle.std.proofs.Common.{is_some, refl, sym, ap, subst, ◌∙◌, ⊎_elim, arith, nat_eq, unwrap_or, flat_map, nat_cmp, length-append, ◌+◌}
-use Rattle.rk_inv_wellformed.proofs.Words.{All-head, All-push, All-tail, All-weaker, list_any-append, nat_eq_equiv, unsigned_tied, list_any}
-use Rattle.rk_inv_wellformed.proofs.Words.{range_with_len, eq_by_cmp, each_insert, hash_of, EachIn, NumberMap, get, numbers, is_among}
-use Rattle.rk_inv_wellformed.proofs.Words.{is_covered, Row, MOST_BACKUPS, Traffic, Message, Coordinator, IsFormedCoordinator}
-use Rattle.rk_inv_wellformed.proofs.Words.{IsFormedLedger, IsFormedMaster, IsFormedWire, IsWellFormed, MOST_BASE_CLIENTS, last_stamp}
-use Rattle.rk_inv_wellformed.proofs.Words.{Ledger, is_added, seen_of, IsClient, IsFormedMessage, Limits, limits_of, Master, log_bytes}
-use Rattle.rk_inv_wellformed.proofs.Words.{new_master, IsMaster, MOST_MASTERS, MOST_CLIENTS, HasRoom, MOST_NUMBER, World, counters_of}
-use Rattle.rk_inv_wellformed.proofs.Words.{has_crashed, master_at, standing, with_all_sent, with_coordinator, with_crash, with_ledger}
-use Rattle.rk_inv_wellformed.proofs.Words.{with_master, with_top, with_wire, SomeLives, greatest, each_weaker, MOST_BYTES}
-use Rattle.std.proofs.lemmas.Bool.{cases_Bool, or_left, or_right}
-use Rattle.rk_world.specs.Limits.{base_clients, limits_at}
+-- A world that keeps to limits: what is well formed keeps to wider limits, and so do the changes of a lane, of its wire too; a world that
+-- keeps to the limits that its greatest number gives it is well formed.
+use Rattle.std.proofs.Common.{◌≡◌, ◌≤◌, ◌<◌, ℕ, suc, max, true, false, ◌||◌, List, [], ◌∷◌, ◌++◌, length, map, All, Option, Some, is_some}
+use Rattle.std.proofs.Common.{refl, sym, ap, subst, ◌∙◌, ⊎_elim, arith, nat_eq, unwrap_or, flat_map, length-append, ◌+◌, fold, None}
+use Rattle.std.proofs.Common.{slice_get, w64}
+use Rattle.rk_inv_wellformed.proofs.Words.{All-push, All-weaker, list_any-append, list_any, range_with_len, each_insert, hash_of, EachIn}
+use Rattle.rk_inv_wellformed.proofs.Words.{NumberMap, get, numbers, is_among, is_covered, Row, MOST_BACKUPS, Traffic, Message}
+use Rattle.rk_inv_wellformed.proofs.Words.{Coordinator, IsFormedCoordinator, IsFormedLedger, IsFormedMaster, IsFormedWire, IsWellFormed}
+use Rattle.rk_inv_wellformed.proofs.Words.{MOST_BASE_CLIENTS, last_stamp, Ledger, is_added, seen_of, IsClient, IsFormedMessage, Limits}
+use Rattle.rk_inv_wellformed.proofs.Words.{limits_of, Master, log_bytes, new_master, IsMaster, MOST_MASTERS, MOST_CLIENTS, HasRoom}
+use Rattle.rk_inv_wellformed.proofs.Words.{MOST_NUMBER, World, counters_of, has_crashed, master_at, standing, with_all_sent}
+use Rattle.rk_inv_wellformed.proofs.Words.{with_coordinator, with_crash, with_ledger, with_master, with_top, with_wire, SomeLives}
+use Rattle.rk_inv_wellformed.proofs.Words.{greatest, each_weaker, MOST_BYTES, All-map, in_order_insert, Answer, Node, IsNumber}
+use Rattle.rk_inv_wellformed.proofs.Words.{IsLawfulBody, without_message, Body, IsFormedBody, filled, Served, each_less, in_order_remove}
+use Rattle.rk_inv_wellformed.proofs.Words.{remove_less, remove, Placed, with_message, Reply, cases_Bool, or_left, or_right, base_clients}
+use Rattle.rk_inv_wellformed.proofs.Words.{limits_at, IsLawfulReply, filled_body, filled_reply, place_of, reply_at, reply_with}
+use Rattle.std.proofs.lemmas.Option.{slice_get_within}
 use Rattle.rk_inv_wellformed.proofs.lanes.More.{IsMore, more_coordinator, more_ledger, more_master, more_master_number, more_wire}
-use Rattle.rk_inv_wellformed.proofs.lanes.Wires.{wire_of_all}
 use Rattle.rk_inv_wellformed.proofs.maps.{all_in_map, below_greatest, within_sum_of, all_back, all_before, all_front, all_given, by_found}
-use Rattle.rk_inv_wellformed.proofs.maps.{found_in_range, numbers_kept}
-use Rattle.rk_inv_wellformed.proofs.masters.Work.{AreLimits, HasRoomFor}
+use Rattle.rk_inv_wellformed.proofs.maps.{among_numbers, found_in_range, numbers_kept, all_got, fold_keeps_all}
+use Rattle.rk_inv_wellformed.proofs.masters.Work.{AreLimits, HasLogRoom, HasRoomFor}
+use Rattle.rk_inv_wellformed.proofs.lanes.Ledgers.{AreStamps}
+use Rattle.rk_inv_wellformed.proofs.coordinator.Rows.{Cover}
+
+-- ---- the wire
+
+module _ (limits : Limits) where
+  -- the wire after another message that is well formed
+  pub wire_sent : {wire : Traffic} {message : Message} → IsFormedWire limits wire → IsFormedMessage limits message → IsFormedWire limits (with_message message wire)
+  wire_sent {wire} {message} formed new = record {
+    order = in_order_insert wire.messages (wire.sent + 1) message formed.order;
+    numbered = each_insert (λ n other. (1 ≤ n) × (n ≤ wire.sent + 1)) wire.messages (wire.sent + 1) message
+        (each_weaker (λ n other. (1 ≤ n) × (n ≤ wire.sent)) (λ n other. (1 ≤ n) × (n ≤ wire.sent + 1)) wire.messages
+        (λ n other given. omega (arith, given)) formed.numbered)
+        (omega arith);
+    each = each_insert (λ n other. IsFormedMessage limits other) wire.messages (wire.sent + 1) message formed.each new;
+  }
+
+  -- the wire after messages that are well formed
+  pub wire_of_all : (messages : List Message) {wire : Traffic} → IsFormedWire limits wire → All (IsFormedMessage limits) messages → IsFormedWire limits (fold (λ now message. with_message message now) wire messages)
+  wire_of_all messages {wire} formed all = fold_keeps_all (IsFormedWire limits) (IsFormedMessage limits) (λ now message. with_message message now)
+      messages wire formed all (λ now message before new. wire_sent before new)
+
+  -- the wire after a message was forgotten
+  pub wire_forgotten : {wire : Traffic} (number : ℕ) → IsFormedWire limits wire → IsFormedWire limits (without_message number wire)
+  wire_forgotten {wire} number formed = record {
+    order = in_order_remove wire.messages number formed.order;
+    numbered = each_less _ (remove wire.messages number) wire.messages (remove_less wire.messages number) formed.numbered;
+    each = each_less _ (remove wire.messages number) wire.messages (remove_less wire.messages number) formed.each;
+  }
+
+-- ---- replies with stamps and places
+
+-- a number that is below a number that fits
+fitting : (n top : ℕ) → n ≤ top → top < MOST_NUMBER → IsNumber w64 0 n
+fitting n top below room = record { least_is = omega arith; fits = omega arith }
+
+-- a reply with stamp and place of a record is lawful, where the greatest stamp fits
+filled_with : (journal : List Placed) (reply : Reply) (place : ℕ) (found : Option Placed) → slice_get journal place ≡ found → AreStamps journal → last_stamp journal < MOST_NUMBER → IsLawfulReply reply → IsLawfulReply (reply_with reply place found)
+filled_with journal reply place None found are room lawful = lawful
+filled_with journal reply place (Some placed) found are room lawful =
+    let within = slice_get_within journal place placed found in
+    let count = are.records in (
+      lawful.0,
+      fitting placed.stamp (last_stamp journal) (all_got (λ one. one.stamp ≤ last_stamp journal) journal place placed found are.stamps) room,
+      fitting place (last_stamp journal) (omega arith) room,
+      lawful.3,
+    )
+
+filled_at : {journal : List Placed} (reply : Reply) (place : Option ℕ) → AreStamps journal → last_stamp journal < MOST_NUMBER → IsLawfulReply reply → IsLawfulReply (reply_at journal reply place)
+filled_at reply None are room lawful = lawful
+filled_at {journal} reply (Some place) are room lawful =
+    filled_with journal reply place (slice_get journal place) refl are room lawful
+
+module _ (journal : List Placed) (served : List Served) (are : AreStamps journal) (room : last_stamp journal < MOST_NUMBER) where
+  lawful_reply : (client : ℕ) (reply : Reply) (answer : Answer) → IsLawfulReply reply → IsLawfulReply (filled_reply journal served client reply answer)
+  lawful_reply client reply (Answer.Done outcome) lawful =
+      filled_at reply (place_of journal served client reply.seq) are room lawful
+  lawful_reply client reply _ lawful = lawful
+
+  lawful_body : (to : Node) (body : Body) → IsLawfulBody body → IsLawfulBody (filled_body journal served to body)
+  lawful_body (Node.Client client) (Body.Reply reply) lawful = lawful_reply client reply reply.answer lawful
+  lawful_body (Node.Client client) body lawful = lawful
+  lawful_body to body lawful = lawful
+
+  says_body : (limits : Limits) (from to : Node) (body : Body) → IsFormedBody limits from body → IsFormedBody limits from (filled_body journal served to body)
+  says_body limits from (Node.Client client) (Body.Reply reply) says = says
+  says_body limits from (Node.Client client) body says = says
+  says_body limits from to body says = says
+
+  -- a message stays well formed when stamp and place are filled in
+  pub formed_filled : (limits : Limits) (message : Message) → IsFormedMessage limits message → IsFormedMessage limits (filled journal served message)
+  formed_filled limits message formed = record {
+    from = formed.from;
+    to = formed.to;
+    lawful = lawful_body message.to message.body formed.lawful;
+    says = says_body limits message.from message.to message.body formed.says;
+  }
+
+  -- and so do all messages
+  pub all_filled : (limits : Limits) (messages : List Message) → All (IsFormedMessage limits) messages → All (IsFormedMessage limits) (map (filled journal served) messages)
+  all_filled limits messages all = All-map (IsFormedMessage limits) (filled journal served) messages
+      (All-weaker (IsFormedMessage limits) (λ message. IsFormedMessage limits (filled journal served message)) (formed_filled limits) messages all)
 
 -- ---- clients
-
--- a number is among those of a map where something stands under it
-pub among_numbers : {X : Type 0} (things : NumberMap X) (number : ℕ) → is_among number (numbers things) ≡ is_some (get things number)
-among_numbers [] number = refl
-among_numbers (first ∷ rest) number =
-    ap (λ b. b || is_among number (numbers rest)) (nat_eq_equiv.symm first.0 number ∙ sym (unsigned_tied number first.0))
-    ∙ (elim (eq_by_cmp nat_cmp number first.0) as (λ b. (b || is_among number (numbers rest)) ≡ is_some (cond b (Some first.1) (get rest number))) [
-      | true ↦ refl
-      | false ↦ among_numbers rest number
-    ])
 
 -- a map has as many numbers as things
 length_numbers : {X : Type 0} (things : NumberMap X) → length (numbers things) ≡ length things
@@ -107,21 +181,14 @@ counters_in w = flat_map (λ entry. counters_of entry.1) w.masters
 module _ (w : World) (limit : ℕ) (all : IsLimit limit w) where
   -- how many messages were sent
   pub sent_within : w.wire.sent ≤ limit
-  sent_within =
-      All-head (λ (n : ℕ). n ≤ limit) w.wire.sent (last_stamp w.ledger.journal ∷ ((stamps_seen w ++ terms_in w) ++ counters_in w)) all
-
-  from_stamp : All (λ n. n ≤ limit) (last_stamp w.ledger.journal ∷ ((stamps_seen w ++ terms_in w) ++ counters_in w))
-  from_stamp =
-      All-tail (λ (n : ℕ). n ≤ limit) w.wire.sent (last_stamp w.ledger.journal ∷ ((stamps_seen w ++ terms_in w) ++ counters_in w)) all
+  sent_within = all 0 0 (omega arith)
 
   -- the last stamp
   pub stamp_within : last_stamp w.ledger.journal ≤ limit
-  stamp_within =
-      All-head (λ (n : ℕ). n ≤ limit) (last_stamp w.ledger.journal) ((stamps_seen w ++ terms_in w) ++ counters_in w) from_stamp
+  stamp_within = all 1 0 (omega arith)
 
   from_seen : All (λ n. n ≤ limit) ((stamps_seen w ++ terms_in w) ++ counters_in w)
-  from_seen =
-      All-tail (λ (n : ℕ). n ≤ limit) (last_stamp w.ledger.journal) ((stamps_seen w ++ terms_in w) ++ counters_in w) from_stamp
+  from_seen place other within = all (suc (suc place)) other (omega arith)
 
   from_terms : All (λ n. n ≤ limit) (stamps_seen w ++ terms_in w)
   from_terms = all_front (λ (n : ℕ). n ≤ limit) (stamps_seen w ++ terms_in w) (counters_in w) from_seen
@@ -213,10 +280,6 @@ formed_as {w} formed = formed_within (record { masters = refl; backups = refl; t
 abbrev pub CoversBase : World → List Row → Type 0
 CoversBase w rows = All (λ item. is_covered rows item.table (hash_of item.key) ≡ true) w.base.items
 
--- rows still cover what others covered
-abbrev pub StillCovers : List Row → List Row → Type 0
-StillCovers later rows = (table hash : ℕ) → is_covered rows table hash ≡ true → is_covered later table hash ≡ true
-
 -- a coordinator that may stand in a lane: it is well formed within limits and counts the lane's masters, who was noticed has crashed,
 -- and the rows cover what the history starts from
 pub record MayCoordinate (limits : Limits) (w : World) (coordinator : Coordinator) : Type 0 where
@@ -226,14 +289,14 @@ pub record MayCoordinate (limits : Limits) (w : World) (coordinator : Coordinato
   pub base : CoversBase w coordinator.rows
 
 -- rows that cover what was covered cover what the history starts from
-pub base_covered : {w : World} (rows : List Row) → StillCovers rows w.coordinator.rows → IsWellFormed w → CoversBase w rows
+pub base_covered : {w : World} (rows : List Row) → Cover rows w.coordinator.rows → IsWellFormed w → CoversBase w rows
 base_covered {w} rows covers formed =
     All-weaker (λ item. is_covered w.coordinator.rows item.table (hash_of item.key) ≡ true) (λ item. is_covered rows item.table (hash_of item.key) ≡ true)
     (λ item covered. covers item.table (hash_of item.key) covered) w.base.items formed.base
 
 module _ (limits : Limits) (w : World) (coordinator : Coordinator) where
   -- so it may where it noticed no more masters than before, and covers what was covered
-  pub may_coordinate : IsFormedCoordinator limits coordinator → w.coordinator.masters ≡ coordinator.masters → coordinator.noticed ≡ w.coordinator.noticed → StillCovers coordinator.rows w.coordinator.rows → IsWellFormed w → MayCoordinate limits w coordinator
+  pub may_coordinate : IsFormedCoordinator limits coordinator → w.coordinator.masters ≡ coordinator.masters → coordinator.noticed ≡ w.coordinator.noticed → Cover coordinator.rows w.coordinator.rows → IsWellFormed w → MayCoordinate limits w coordinator
   may_coordinate new masters noticed covers formed = assumption (
     subst (All (λ master. has_crashed w master ≡ true)) (sym noticed) formed.noticed,
     base_covered coordinator.rows covers formed,
@@ -294,3 +357,9 @@ pub room_at : (w : World) (number : ℕ) → IsMaster w.coordinator.masters numb
 room_at w number there formed room =
     found_there w number there formed (λ found. HasRoomFor (limits_of w) (unwrap_or found (new_master number [])))
     (λ master is. room_of_master w number master is formed.standing room)
+
+-- a master of a lane with room has room for its log
+pub log_room_at : {w : World} {number : ℕ} → IsMaster w.coordinator.masters number → IsWellFormed w → HasRoom w → HasLogRoom (master_at w number)
+log_room_at {w} {number} there formed room =
+    let fits = room_at w number there formed room in
+    record { room = fits.room; bytes = fits.bytes }

@@ -1,7 +1,8 @@
 -- What holds of all numbers of lists and of maps by number holds of each: none is above the greatest, and none above the sum.
 use Rattle.std.proofs.Common.{◌≡◌, ◌≤◌, ℕ, max, List, [], ◌∷◌, map, fold, sum, All, Some, sym, ap, subst, arith, sum_by, nat_cmp, Option}
-use Rattle.rk_inv_wellformed.proofs.Words.{All-cons, All-head, All-nil, All-tail, sum-map, sum_by-cons, eq_by_cmp, NumberMap, get, greatest}
-use Rattle.rk_inv_wellformed.proofs.maps.Lists.{either_way}
+use Rattle.rk_inv_wellformed.proofs.Words.{All-cons, All-nil, sum-map, sum_by-cons, eq_by_cmp, NumberMap, get, greatest}
+use Rattle.rk_inv_wellformed.proofs.maps.Lists.{either_way, fold_keeps_all}
+use Rattle.rk_inv_wellformed.proofs.maps.Maps.{each_from_pairs}
 
 -- ---- the greatest of numbers
 
@@ -22,24 +23,16 @@ each_below start (first ∷ rest) =
 pub below_greatest : (numbers : List ℕ) → All (λ n. n ≤ greatest numbers) numbers
 below_greatest numbers = each_below 0 numbers
 
-greatest_from : (limit start : ℕ) (numbers : List ℕ) → start ≤ limit → All (λ n. n ≤ limit) numbers → fold max start numbers ≤ limit
-greatest_from limit start [] low all = low
-greatest_from limit start (first ∷ rest) low all =
-    let it = All-head (λ (n : ℕ). n ≤ limit) first rest all in
-    greatest_from limit (max start first) rest (omega arith) (All-tail (λ n. n ≤ limit) first rest all)
-
 -- and the greatest is not above what none is above
 pub greatest_within : (limit : ℕ) (numbers : List ℕ) → All (λ n. n ≤ limit) numbers → greatest numbers ≤ limit
-greatest_within limit numbers all = greatest_from limit 0 numbers (omega arith) all
+greatest_within limit numbers all =
+    fold_keeps_all (λ n. n ≤ limit) (λ n. n ≤ limit) max numbers 0 (omega arith) all (λ most n below within. omega arith)
 
 -- ---- maps by number
 
 -- what holds of each thing of a map holds of the one that is found
 pub all_in_map : {X : Type 0} (P : X → Type 0) (things : NumberMap X) (number : ℕ) (thing : X) → get things number ≡ Some thing → All (λ entry. P entry.1) things → P thing
-all_in_map P [] number thing found all = absurd (cc found)
-all_in_map {X} P (first ∷ rest) number thing found all = either_way (λ (there : Option X). there ≡ Some thing → P thing) (eq_by_cmp nat_cmp number first.0)
-    (λ same. let is : first.1 ≡ thing = cc same in subst P is (All-head (λ entry. P entry.1) first rest all))
-    (λ later. all_in_map P rest number thing later (All-tail (λ entry. P entry.1) first rest all)) found
+all_in_map P things number thing found all = each_from_pairs (λ number thing. P thing) things all number thing found
 
 -- what is found counts in the sum
 pub within_sum : {X : Type 0} (size : X → ℕ) (things : NumberMap X) (number : ℕ) (thing : X) → get things number ≡ Some thing → size thing ≤ sum_by (λ entry. size entry.1) things

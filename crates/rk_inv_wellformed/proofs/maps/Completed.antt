@@ -2,7 +2,7 @@
 use Rattle.std.proofs.Common.{◌≤◌, ℕ, T, All, List, [], ◌∷◌, is_lt, nat_cmp}
 use Rattle.rk_inv_wellformed.proofs.Words.{cond_both, All-head, All-map, All-tail, below_all, in_order_insert, IsInOrder, get, insert}
 use Rattle.rk_inv_wellformed.proofs.Words.{Ended, Completions, completions_from, ended_of, ends_of, noted, RiseAbove, Completion}
-use Rattle.rk_done.specs.Completions.{is_later}
+use Rattle.rk_inv_wellformed.proofs.Words.{is_later}
 use Rattle.rk_inv_wellformed.proofs.maps.Lists.{all_before, either_way}
 use Rattle.rk_inv_wellformed.proofs.maps.Maps.{All_insert, first, is_below, second}
 

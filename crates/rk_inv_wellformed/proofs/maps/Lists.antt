@@ -1,7 +1,11 @@
 -- Lists: what holds of each element of a list stays so where the list is joined, parted, changed, found in or folded over.
 use Rattle.std.proofs.Common.{◌≡◌, ℕ, zero, suc, Bool, true, false, cond, List, [], ◌∷◌, ◌++◌, map, fold, All, Option, None, Some, IfSome}
-use Rattle.std.proofs.Common.{flat_map, refl, subst, find, slice_get, slice_index_or, arith, filter, length, ◌≤◌, ◌<◌, ◌+◌}
+use Rattle.std.proofs.Common.{flat_map, refl, subst, find, slice_get, slice_index_or, arith, filter, length, length-append, ◌≤◌, ◌<◌, ◌+◌}
+use Rattle.std.proofs.Common.{sym, ◌∙◌}
 use Rattle.rk_inv_wellformed.proofs.Words.{All-append, All-cons, All-head, All-nil, All-tail, All-weaker, range_with_len}
+use Rattle.std.proofs.lemmas.Option.{get_or_from_slice_get, slice_get_within}
+use Rattle.std.proofs.lemmas.List.Folds.{find_at}
+use Rattle.std.specs.List.{position_or_len}
 
 -- ---- one of two
 
@@ -49,27 +53,18 @@ all_before P change (first ∷ rest) all =
 
 -- what holds of all elements holds of the one at a place
 pub all_got : {X : Type 0} (P : X → Type 0) (list : List X) (place : ℕ) (x : X) → slice_get list place ≡ Some x → All P list → P x
-all_got P [] place x found all = absurd (cc found)
-all_got P (first ∷ rest) zero x found all =
-    let is : first ≡ x = cc found in
-    subst P is (All-head P first rest all)
-all_got P (first ∷ rest) (suc place) x found all = all_got P rest place x found (All-tail P first rest all)
+all_got P list place x found all = subst P (get_or_from_slice_get list place x x found) (all place x (slice_get_within list place x found))
 
 -- what holds of all elements holds of the last
 pub all_last : {X : Type 0} (P : X → Type 0) (list : List X) (last : X) → All P (list ++ last ∷ []) → P last
 all_last P list last all = All-head P last [] (all_back P list (last ∷ []) all)
 
 -- what a test finds has what each element has
-pub found_has : {X : Type 0} (P : X → Type 0) (p : X → Bool) (xs : List X) → All P xs → IfSome (find p xs) P
-found_has P p [] each = tt
-found_has P p (y ∷ ys) each =
-    elim (p y) as (λ b. IfSome (cond b (Some y) (find p ys)) P) [
-      | true ↦ All-head P y ys each
-      | false ↦ found_has P p ys (All-tail P y ys each)
-    ]
-
 pub all_find : {X : Type 0} (P : X → Type 0) (p : X → Bool) (xs : List X) (x : X) → All P xs → find p xs ≡ Some x → P x
-all_find {X} P p xs x each found = subst (λ (there : Option X). IfSome there P) found (found_has P p xs each)
+all_find P p xs x each found = all_got P xs (position_or_len p xs) x (sym (find_at p xs) ∙ found) each
+
+pub found_has : {X : Type 0} (P : X → Type 0) (p : X → Bool) (xs : List X) → All P xs → IfSome (find p xs) P
+found_has P p xs each = by_found (λ found. IfSome found P) (find p xs) (λ is. tt) (λ x is. all_find P p xs x each is)
 
 -- it passes the test
 pub find_passes : {X : Type 0} (p : X → Bool) (xs : List X) (x : X) → find p xs ≡ Some x → p x ≡ true
@@ -116,3 +111,22 @@ pub all_at : {X : Type 0} (P : X → Type 0) (xs : List X) (place : ℕ) (none :
 all_at P [] place none it all = it
 all_at P (x ∷ xs) zero none it all = All-head P x xs all
 all_at P (x ∷ xs) (suc place) none it all = all_at P xs place none it (All-tail P x xs all)
+
+-- what gives at most one of each gives no more than there are
+pub one_of_each : {X Y : Type 0} (give : X → List Y) (list : List X) → ((x : X) → length (give x) ≤ 1) → length (flat_map give list) ≤ length list
+one_of_each give [] one = omega arith
+one_of_each give (first ∷ rest) one =
+    omega (arith, one first, one_of_each give rest one, length-append (give first) (flat_map give rest))
+
+-- things whose numbers rise are no more than there are numbers between the least and the greatest
+pub few_rising : {X : Type 0} (number : X → ℕ) (Rise : List X → Type 0)
+    → ((x : X) (xs : List X) → Rise (x ∷ xs) → All (λ y. number x + 1 ≤ number y) xs × Rise xs)
+    → (least most : ℕ) (list : List X) → Rise list → least ≤ most → All (λ x. least ≤ number x) list → All (λ x. number x < most) list
+    → length list + least ≤ most
+few_rising number Rise behind least most [] rise some low high = omega arith
+few_rising number Rise behind least most (x ∷ xs) rise some low high =
+    let from = All-head (λ x. least ≤ number x) x xs low in
+    let to = All-head (λ x. number x < most) x xs high in
+    let later = behind x xs rise in
+    let rest = few_rising number Rise behind (number x + 1) most xs later.1 (omega arith) later.0 (All-tail (λ x. number x < most) x xs high) in
+    omega arith

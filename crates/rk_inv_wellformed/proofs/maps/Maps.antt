@@ -1,10 +1,10 @@
 -- Maps by number: what each thing of a map has, each of its pairs has, and the other way round; and a map where each thing changed.
-use Rattle.std.proofs.Common.{option_map, ap, ◌≡◌, ◌<◌, ℕ, Bool, true, false, ◌&&◌, cond, T, All, [], ◌∷◌, Some, IfSome, refl, sym, subst}
-use Rattle.std.proofs.Common.{◌∙◌, arith, eq-eqb, ne_eqb, find, is_lt, nat_cmp, unwrap_or, Equal, Less, Greater}
+use Rattle.std.proofs.Common.{option_map, ap, ◌≡◌, ◌<◌, ◌≤◌, ◌+◌, ℕ, Bool, true, false, ◌&&◌, cond, T, All, [], ◌∷◌, Some, IfSome, refl}
+use Rattle.std.proofs.Common.{sym, subst, ◌∙◌, arith, eq-eqb, ne_eqb, find, is_lt, length, nat_cmp, unwrap_or, Equal, Less, Greater}
 use Rattle.rk_inv_wellformed.proofs.Words.{cond-false, ranked, cond-true, All-cons, All-head, All-nil, All-tail, unsigned_tied, below_all}
 use Rattle.rk_inv_wellformed.proofs.Words.{by_order, eq_by_cmp, EachIn, IsInOrder, NumberMap, changed_each, get, get_or, insert}
-use Rattle.rk_types.proofs.NumberMaps.{same_number}
-use Rattle.rk_inv_wellformed.proofs.maps.Lists.{all_find, by_found}
+use Rattle.rk_inv_wellformed.proofs.Words.{same_number}
+use Rattle.rk_inv_wellformed.proofs.maps.Lists.{all_find, by_found, few_rising}
 
 -- ---- maps
 
@@ -59,6 +59,24 @@ module _ {X : Type 0} where
   -- what stands behind the first pair of a map in order is in order
   pub order_tail : (thing : ℕ × X) (things : NumberMap X) → IsInOrder (thing ∷ things) → IsInOrder things
   order_tail thing things order = second (below_all nat_cmp thing.0 things) _ order
+
+  -- the numbers behind one that is below all are greater
+  all_above : (n : ℕ) (things : NumberMap X) → T (below_all nat_cmp n things) → All (λ thing. n + 1 ≤ thing.0) things
+  all_above n [] below = All-nil _
+  all_above n (thing ∷ things) below =
+      let less = is_below n thing.0 (first (is_lt (nat_cmp n thing.0)) (below_all nat_cmp n things) below) in
+      All-cons (λ thing. n + 1 ≤ thing.0) thing things (omega arith)
+      (all_above n things (second (is_lt (nat_cmp n thing.0)) (below_all nat_cmp n things) below))
+
+  -- a map in order has no more things than numbers below the greatest
+  pub few_in_order : (most : ℕ) (things : NumberMap X) → IsInOrder things → All (λ thing. thing.0 < most) things → length things ≤ most
+  few_in_order most things order high =
+      omega (
+        arith,
+        few_rising (λ (thing : ℕ × X). thing.0) IsInOrder
+            (λ thing things order. (all_above thing.0 things (first (below_all nat_cmp thing.0 things) _ order), order_tail thing things order))
+            0 most things order (omega arith) (λ place other within. omega arith) high,
+      )
 
   -- in a map in order each pair has what each thing has
   pub All_pairs : (Fits : ℕ → X → Type 0) (things : NumberMap X) → IsInOrder things → EachIn Fits things → All (λ pair. Fits pair.0 pair.1) things

@@ -1,55 +1,52 @@
--- Ends of rising clients that are all among some clients are no more than these.
-use Rattle.std.proofs.Common.{◌≡◌, ◌≤◌, ◌<◌, ◌+◌, ◌==◌, ◌||◌, ℕ, Bool, false, true, cond, nat_lt, List, [], ◌∷◌, All, length, refl, subst}
-use Rattle.std.proofs.Common.{sym, arith, eqb-true}
-use Rattle.rk_inv_wellformed.proofs.Words.{nat_tests, All-head, All-tail, Ended, is_among, RiseAbove}
-use Rattle.rk_inv_wellformed.proofs.maps.Lists.{either_way}
+-- Ends of distinct clients that are all among some clients are no more than these; and so are ends of rising clients.
+use Rattle.std.proofs.Common.{◌≡◌, ◌≤◌, ◌||◌, ℕ, true, false, nat_eq, List, [], ◌∷◌, map, length, All, refl, sym, subst, ◌∙◌, arith}
+use Rattle.std.proofs.Common.{eqb-true, ne_eqb}
+use Rattle.rk_inv_wellformed.proofs.Words.{length-map, All-head, All-tail, AllByRecursion, nat_eq_equiv, list_any, Ended, is_among}
+use Rattle.rk_inv_wellformed.proofs.Words.{AreOfDistinctClients, RiseAbove, IsDistinct-cons}
+use Rattle.std.proofs.lemmas.Map.Made.{length-le_from_is_member}
+use Rattle.std.specs.List.{IsDistinct}
 
--- how many of the numbers are above this one
-abbrev above : ℕ → List ℕ → ℕ
-above least [] = 0
-above least (n ∷ numbers) = cond (nat_lt least n) 1 0 + above least numbers
+among_turned : (number : ℕ) (numbers : List ℕ) → is_among number numbers ≡ list_any (nat_eq number) numbers
+among_turned number [] = refl
+among_turned number (first ∷ rest) = cc (nat_eq_equiv.symm first number, among_turned number rest)
 
-above_few : (least : ℕ) (numbers : List ℕ) → above least numbers ≤ length numbers
-above_few least [] = omega arith
-above_few least (n ∷ numbers) =
-    let rest = above_few least numbers in
-    either_way (λ (one : ℕ). one + above least numbers ≤ length (n ∷ numbers)) (nat_lt least n) (omega arith) (omega arith)
+client_among : (list : List Ended) (clients : List ℕ) (client : ℕ) → All (λ end. is_among end.client clients ≡ true) list → list_any (nat_eq client) (map (λ end. end.client) list) ≡ true → list_any (nat_eq client) clients ≡ true
+client_among [] clients client all is = absurd (cc is)
+client_among (end ∷ list) clients client all is =
+    elim (nat_eq client end.client) as (λ b. nat_eq client end.client ≡ b → (b || list_any (nat_eq client) (map (λ end. end.client) list)) ≡ true → list_any (nat_eq client) clients ≡ true) [
+      | true ↦ λ same here.
+          sym (among_turned client clients) ∙ subst (λ (n : ℕ). is_among n clients ≡ true) (sym (eqb-true client end.client same))
+          (All-head (λ (end : Ended). is_among end.client clients ≡ true) end list all)
+      | false ↦ λ other later.
+          client_among list clients client (All-tail (λ (end : Ended). is_among end.client clients ≡ true) end list all) later
+    ] refl is
 
--- fewer are above a greater number
-one_less : (a b : Bool) (n least next : ℕ) → least < next → nat_lt least n ≡ a → nat_lt next n ≡ b → cond b 1 0 ≤ cond a 1 0
-one_less false true n least next up is_a is_b = grind (arith, nat_tests)
-one_less true b n least next up is_a is_b = either_way (λ (one : ℕ). one ≤ 1) b (omega arith) (omega arith)
-one_less false false n least next up is_a is_b = omega arith
+-- ends of distinct clients that are all among some clients are no more than these
+pub once_few : (list : List Ended) (clients : List ℕ) → AreOfDistinctClients list → All (λ end. is_among end.client clients ≡ true) list → length list ≤ length clients
+once_few list clients once all =
+    let few = length-le_from_is_member nat_eq_equiv (map (λ end. end.client) list) clients once (λ client. client_among list clients client all) in
+    let count = length-map list (λ end. end.client) in
+    omega arith
 
-above_less : (least next : ℕ) (numbers : List ℕ) → least < next → above next numbers ≤ above least numbers
-above_less least next [] up = omega arith
-above_less least next (n ∷ numbers) up =
-    omega (arith, above_less least next numbers up, one_less (nat_lt least n) (nat_lt next n) n least next up refl refl)
+-- ---- ends that rise
 
--- and one less where the greater number is among them
-here_counts : (least next : ℕ) → least < next → 1 + cond (nat_lt next next) 1 0 ≤ cond (nat_lt least next) 1 0
-here_counts least next up = grind (arith, nat_tests)
+none_distinct : IsDistinct nat_eq []
+unfolding IsDistinct
+none_distinct = tt
 
-above_among : (least next : ℕ) (numbers : List ℕ) → least < next → is_among next numbers ≡ true → 1 + above next numbers ≤ above least numbers
-above_among least next [] up among = absurd (cc among)
-above_among least next (n ∷ numbers) up among =
-    elim (n == next) as (λ b. (n == next) ≡ b → (b || is_among next numbers) ≡ true → 1 + above next (n ∷ numbers) ≤ above least (n ∷ numbers)) [
-      | true ↦ λ is found.
-          subst (λ k. 1 + above next (k ∷ numbers) ≤ above least (k ∷ numbers)) (sym (eqb-true n next is))
-          (omega (arith, above_less least next numbers up, here_counts least next up))
-      | false ↦ λ apart later.
-          omega (arith, above_among least next numbers up later, one_less (nat_lt least n) (nat_lt next n) n least next up refl refl)
-    ] refl among
+-- an end is of another client than those that rise above it
+apart_above : (client least : ℕ) (list : List Ended) → client ≤ least → RiseAbove least list
+    → AllByRecursion (λ other. nat_eq client other ≡ false) (map (λ end. end.client) list)
+apart_above client least [] low rise = tt
+apart_above client least (end ∷ list) low (up, rise) =
+    (ne_eqb client end.client (λ same. omega (arith, low, up, same)), apart_above client end.client list (omega (arith, low, up)) rise)
 
-within_above : (least : ℕ) (ends : List Ended) (numbers : List ℕ) → RiseAbove least ends → All (λ end. is_among end.client numbers ≡ true) ends → length ends ≤ above least numbers
-within_above least [] numbers rise all = omega arith
-within_above least (end ∷ ends) numbers (up, rise) all =
-    omega (
-      arith,
-      within_above end.client ends numbers rise (All-tail (λ (e : Ended). is_among e.client numbers ≡ true) end ends all),
-      above_among least end.client numbers up (All-head (λ (e : Ended). is_among e.client numbers ≡ true) end ends all),
-    )
+-- so ends that rise are of distinct clients
+rise_distinct : (least : ℕ) (list : List Ended) → RiseAbove least list → AreOfDistinctClients list
+rise_distinct least [] rise = none_distinct
+rise_distinct least (end ∷ list) (up, rise) = IsDistinct-cons nat_eq end.client (map (λ end. end.client) list)
+    (apart_above end.client end.client list (omega arith) rise) (rise_distinct end.client list rise)
 
 -- there are no more ends than clients
 pub rising_within : (ends : List Ended) (clients : List ℕ) → RiseAbove 0 ends → All (λ end. is_among end.client clients ≡ true) ends → length ends ≤ length clients
-rising_within ends clients rise all = omega (arith, within_above 0 ends clients rise all, above_few 0 clients)
+rising_within ends clients rise all = once_few ends clients (rise_distinct 0 ends rise) all

@@ -1,24 +1,21 @@
 -- What a master makes of what a backup tells is well formed: what every backup holds by then is applied, and what waited goes on.
 use Rattle.std.proofs.Common.{◌≡◌, ◌≤◌, ◌<◌, ◌+◌, ℕ, Bool, true, false, cond, not, ◌&&◌, All, List, [], ◌∷◌, length, take, Option, None}
-use Rattle.std.proofs.Common.{Some, refl, sym, ap, subst, ◌∙◌, arith, length-drop, length-take, IfSome}
+use Rattle.std.proofs.Common.{Some, refl, sym, ap, subst, arith, length-drop, length-take, IfSome}
 use Rattle.rk_inv_wellformed.proofs.Words.{All-take, cond_both, All-cons, All-drop, All-head, All-nil, All-tail, in_order_changed}
 use Rattle.rk_inv_wellformed.proofs.Words.{NumberMap, changed_each, get, Call, Ended, Held, Entry, Overreach, Stored, apply_entries}
 use Rattle.rk_inv_wellformed.proofs.Words.{apply_entry, newly_held, noting, stored_taken, with_applied, with_ended, with_entry_item}
 use Rattle.rk_inv_wellformed.proofs.Words.{with_noted, outcome_of, told_by, IsFormedCall, IsFormedMaster, IsFormedTablet, side_waits}
 use Rattle.rk_inv_wellformed.proofs.Words.{side_waits_of, IsFormedEnd, IsFormedEntry, IsFormedHeld, Limits, Master, with_known, IsMaster}
 use Rattle.rk_inv_wellformed.proofs.Words.{has_key, is_absent, Tablet, all_going_on, changed, each_less, in_order_remove, remove_less}
-use Rattle.rk_inv_wellformed.proofs.Words.{remove, Refused, committed, Answer, End}
-use Rattle.rk_world.specs.Commits.{ended_call, told_length, without_call}
-use Rattle.rk_world.specs.Ends.{end_of_item, item_end, refusal_end}
-use Rattle.rk_world.specs.Limits.{IsFormedRefused}
-use Rattle.rk_inv_wellformed.proofs.lanes.Messages.{formed_answering}
+use Rattle.rk_inv_wellformed.proofs.Words.{remove, Refused, committed, Answer, End, ended_call, without_call, end_of_item, item_end}
+use Rattle.rk_inv_wellformed.proofs.Words.{refusal_end, IsFormedRefused}
+use Rattle.rk_inv_wellformed.proofs.masters.Work.{formed_answering, AreLimits, IsFormedWork, WorkFits, formed_changed, formed_more}
+use Rattle.rk_inv_wellformed.proofs.masters.Work.{formed_then, formed_told}
 use Rattle.rk_inv_wellformed.proofs.maps.{either_way, All_pairs, each_changed, found_each}
 use Rattle.rk_inv_wellformed.proofs.masters.Changes.{formed_with_calls, formed_with_item, formed_with_known, formed_with_tablets}
+use Rattle.rk_inv_wellformed.proofs.masters.Changes.{formed_going_on}
 use Rattle.rk_inv_wellformed.proofs.masters.Requests.{outcome_told}
-use Rattle.rk_inv_wellformed.proofs.masters.Tablets.{formed_noting}
-use Rattle.rk_inv_wellformed.proofs.masters.Waiting.{formed_going_on}
-use Rattle.rk_inv_wellformed.proofs.masters.Work.{AreLimits, HasRoomFor, IsFormedWork, formed_changed, formed_then, formed_told}
-use Rattle.rk_inv_wellformed.proofs.room.SideWaits.{as_many, waits_changed}
+use Rattle.rk_inv_wellformed.proofs.masters.Tablets.{formed_noting, waits_changed}
 
 -- ---- what entries tell
 
@@ -55,14 +52,14 @@ formed_entry_item : {limits : Limits} {number : ℕ} {master : Master} (entry : 
 formed_entry_item (Entry.Held held) formed new = formed_with_item formed new
 formed_entry_item _ formed new = formed
 
--- the log stays as it is
-same_log : (master : Master) (entry : Entry) → (with_entry_item master entry).log ≡ master.log
-same_log master (Entry.Held held) = refl
-same_log master _ = refl
+-- the log and what is applied of it stay as they are
+record Stays (before after : Master) : Type 0 where
+  log : after.log ≡ before.log
+  applied : after.applied ≡ before.applied
 
-same_applied : (master : Master) (entry : Entry) → (with_entry_item master entry).applied ≡ master.applied
-same_applied master (Entry.Held held) = refl
-same_applied master _ = refl
+item_stays : (master : Master) (entry : Entry) → Stays master (with_entry_item master entry)
+item_stays master (Entry.Held held) = record { log = refl; applied = refl }
+item_stays master _ = record { log = refl; applied = refl }
 
 -- one more entry is applied, where there is one
 formed_with_applied : {limits : Limits} {number : ℕ} {master : Master} → IsFormedMaster limits number master
@@ -88,7 +85,7 @@ formed_may_note {limits} {number} call new formed =
 noting_waits : (call : Call) (end : Ended) (tablet : Tablet) → side_waits_of (noting call end tablet) ≤ side_waits_of tablet
 noting_waits call end tablet = either_way (λ (now : Tablet). side_waits_of now ≤ side_waits_of tablet)
     (not (is_absent tablet.handover.role) && has_key tablet.handover.range call.table call.key)
-    (as_many (side_waits_of tablet)) (as_many (side_waits_of tablet))
+    (omega arith) (omega arith)
 
 -- and so do all tablets
 pub noted_waits : (call : Call) (end : Ended) (tablets : NumberMap Tablet)
@@ -111,16 +108,16 @@ formed_with_noted {limits} {number} {master} call {end} formed new =
 -- a call ends as its entry tells
 formed_ended_call : {limits : Limits} {number : ℕ} {master : Master} {place : ℕ} {call : Call} {end : Ended} → IsMaster limits.masters number
     → IsFormedMaster limits number master → IsFormedCall limits (length master.log.entries) place call → IsFormedEnd limits end
-    → IsFormedWork limits number (ended_call master place call end)
+    → IsFormedWork limits number 1 (ended_call master place call end)
 formed_ended_call {limits} {master} {place} {call} {end} there formed waits new =
     formed_told (formed_without_call place (formed_with_noted call formed new))
     (formed_answering limits master (Answer.Done (outcome_of end.end)) there formed.number_is waits.lawful
     (outcome_told end.end new.lawful.outcome))
-    refl
+    refl (omega arith)
 
 formed_with_ended : {limits : Limits} {number : ℕ} {master : Master} (place : ℕ) (call : Option Call) (ends : List Ended)
     → IsMaster limits.masters number → IsFormedMaster limits number master → IfSome call (IsFormedCall limits (length master.log.entries) place)
-    → All (IsFormedEnd limits) ends → IsFormedWork limits number (with_ended master place call ends)
+    → All (IsFormedEnd limits) ends → IsFormedWork limits number 1 (with_ended master place call ends)
 formed_with_ended {limits} place (Some call) (end ∷ ends) there formed waits each =
     formed_ended_call there formed waits (All-head (IsFormedEnd limits) end ends each)
 formed_with_ended place _ _ there formed waits each = formed_changed formed
@@ -128,44 +125,31 @@ formed_with_ended place _ _ there formed waits each = formed_changed formed
 -- the next entry is applied, where there is one
 pub formed_apply_entry : {limits : Limits} {number : ℕ} {master : Master} (entry : Entry) → IsMaster limits.masters number
     → IsFormedMaster limits number master → IsFormedEntry limits entry → master.applied < length master.log.entries
-    → IsFormedWork limits number (apply_entry master entry)
+    → IsFormedWork limits number 1 (apply_entry master entry)
 formed_apply_entry {limits} {master} entry there formed new more = formed_with_ended master.applied
     (get master.calls master.applied) (told_by entry) there (formed_with_applied (formed_entry_item entry formed new)
-    (omega (arith, same_applied master entry, ap (λ log. length log.entries) (same_log master entry))))
+    (omega (arith, (item_stays master entry).applied, ap (λ log. length log.entries) (item_stays master entry).log)))
     (subst (λ log. IfSome (get master.calls master.applied) (IsFormedCall limits (length log.entries) master.applied))
-    (sym (same_log master entry)) (found_each (IsFormedCall limits (length master.log.entries)) master.calls master.applied formed.calls))
+    (sym (item_stays master entry).log) (found_each (IsFormedCall limits (length master.log.entries)) master.calls master.applied formed.calls))
     (told_formed limits entry new)
 
--- after it, as many are applied more
-applied_ended : (master : Master) (place : ℕ) (call : Option Call) (ends : List Ended)
-    → (with_ended master place call ends).master.applied ≡ master.applied
-applied_ended master place (Some call) (end ∷ ends) = refl
-applied_ended master place _ _ = refl
-
-log_ended : (master : Master) (place : ℕ) (call : Option Call) (ends : List Ended) → (with_ended master place call ends).master.log ≡ master.log
-log_ended master place (Some call) (end ∷ ends) = refl
-log_ended master place _ _ = refl
-
-applied_after : (master : Master) (entry : Entry) → (apply_entry master entry).master.applied ≡ master.applied + 1
-applied_after master entry =
-    applied_ended (with_applied (with_entry_item master entry)) master.applied (get master.calls master.applied) (told_by entry)
-    ∙ ap (λ (n : ℕ). n + 1) (same_applied master entry)
-
-log_after : (master : Master) (entry : Entry) → (apply_entry master entry).master.log ≡ master.log
-log_after master entry =
-    log_ended (with_applied (with_entry_item master entry)) master.applied (get master.calls master.applied) (told_by entry)
-    ∙ same_log master entry
+ended_stays : (master : Master) (place : ℕ) (call : Option Call) (ends : List Ended) → Stays master (with_ended master place call ends).master
+ended_stays master place (Some call) (end ∷ ends) = record { log = refl; applied = refl }
+ended_stays master place _ _ = record { log = refl; applied = refl }
 
 -- these entries are applied, where as many are not
 pub formed_apply_entries : {limits : Limits} {number : ℕ} (entries : List Entry) {master : Master} → IsMaster limits.masters number
     → IsFormedMaster limits number master → All (IsFormedEntry limits) entries → master.applied + length entries ≤ length master.log.entries
-    → IsFormedWork limits number (apply_entries master entries)
+    → IsFormedWork limits number (length entries) (apply_entries master entries)
 formed_apply_entries [] there formed each room = formed_changed formed
 formed_apply_entries {limits} {number} (entry ∷ entries) {master} there formed each room =
     let first = formed_apply_entry entry there formed (All-head (IsFormedEntry limits) entry entries each) (omega arith) in
-    formed_then limits number (apply_entry master entry) (λ next. apply_entries next entries) first
+    let item = item_stays master entry in
+    let ended = ended_stays (with_applied (with_entry_item master entry)) master.applied (get master.calls master.applied) (told_by entry) in
+    formed_then limits number 1 (length entries) (length (entry ∷ entries)) (apply_entry master entry) (λ next. apply_entries next entries) first
     (formed_apply_entries entries there first.master (All-tail (IsFormedEntry limits) entry entries each)
-    (omega (arith, applied_after master entry, ap (λ log. length log.entries) (log_after master entry))))
+    (omega (arith, item.applied, ended.applied, ap (λ log. length log.entries) item.log, ap (λ log. length log.entries) ended.log)))
+    (omega arith)
 
 -- ---- what a backup tells
 
@@ -174,25 +158,30 @@ newly_few : (master : Master) → master.applied ≤ length master.log.entries �
 newly_few master within =
     omega (arith, length-drop {A = Entry}, length-take {A = Entry})
 
--- a backup told that it holds so much of a segment
-formed_told_length : {limits : Limits} {number : ℕ} {master : Master} (backup : ℕ) (stored : Stored) → AreLimits limits
-    → IsMaster limits.masters number → IsFormedMaster limits number master → HasRoomFor limits (told_length master backup stored).master
-    → IsFormedWork limits number (told_length master backup stored)
-formed_told_length {limits} {number} {master} backup stored are there formed room =
+-- the entries that a backup's word lets a master apply are applied
+pub formed_newly_applied : {limits : Limits} {number : ℕ} {master : Master} (backup : ℕ) (stored : Stored) → IsMaster limits.masters number
+    → IsFormedMaster limits number master → IsFormedWork limits number (length master.log.entries)
+    (apply_entries (with_known master backup stored.segment stored.length) (newly_held (with_known master backup stored.segment stored.length)))
+formed_newly_applied {limits} {number} {master} backup stored there formed =
     let known = with_known master backup stored.segment stored.length in
     let knows = formed_with_known backup stored.segment stored.length formed in
-    let applied = formed_apply_entries (newly_held known) there knows
+    let few = newly_few known knows.applied in
+    formed_more (length (newly_held known)) (length master.log.entries) (omega (arith, few)) (formed_apply_entries (newly_held known) there knows
     (All-drop (IsFormedEntry limits) known.applied (take (committed known.log) known.log.entries)
     (All-take (IsFormedEntry limits) (committed known.log) known.log.entries knows.written))
-    (newly_few known knows.applied) in
-    let now = (apply_entries known (newly_held known)).master in
-    formed_then limits number (apply_entries known (newly_held known)) (λ now. changed (all_going_on now now.tablets)) applied
-    (formed_changed (formed_going_on now.tablets are applied.master
-    (All_pairs (IsFormedTablet limits) now.tablets applied.master.tablets_order applied.master.tablets) room.room.fits))
+    few)
 
 -- what a master makes of what a backup tells is well formed
 pub formed_stored : {limits : Limits} {number : ℕ} {master : Master} (backup : ℕ) (stored : Stored) (over : Option Overreach) → AreLimits limits
-    → IsMaster limits.masters number → IsFormedMaster limits number master → HasRoomFor limits (stored_taken master backup stored over).master
-    → IsFormedWork limits number (stored_taken master backup stored over)
-formed_stored backup stored None are there formed room = formed_told_length backup stored are there formed room
+    → IsMaster limits.masters number → IsFormedMaster limits number master
+    → WorkFits limits number (length master.log.entries) (stored_taken master backup stored over)
+formed_stored {limits} {number} {master} backup stored None are there formed room =
+    let known = with_known master backup stored.segment stored.length in
+    let applied = formed_newly_applied backup stored there formed in
+    let now = (apply_entries known (newly_held known)).master in
+    formed_then limits number (length master.log.entries) 0 (length master.log.entries) (apply_entries known (newly_held known))
+    (λ now. changed (all_going_on now now.tablets)) applied
+    (formed_changed (formed_going_on now.tablets are applied.master
+    (All_pairs (IsFormedTablet limits) now.tablets applied.master.tablets_order applied.master.tablets) room.room.fits))
+    (omega arith)
 formed_stored backup stored (Some beyond) are there formed room = formed_changed formed

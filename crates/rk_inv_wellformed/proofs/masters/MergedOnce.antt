@@ -1,14 +1,12 @@
 -- The ends that a rebuild merges are of distinct clients: each is that of its client's greatest seq, and stands with the last member
 -- that tells it, where it comes first. So there are no more of them than clients.
-use Rattle.std.proofs.Common.{◌≡◌, ◌≤◌, ◌==◌, ◌&&◌, ◌||◌, ℕ, Bool, true, false, not, nat_eq, nat_lt, List, [], ◌∷◌, ◌++◌, map, length, All}
-use Rattle.std.proofs.Common.{Option, refl, subst, sym, ◌∙◌, arith, flat_map, eqb-true}
-use Rattle.rk_inv_wellformed.proofs.Words.{and_parts, nat_tests, length-map, All-append, All-cons, All-head, All-map, All-nil, All-tail}
-use Rattle.rk_inv_wellformed.proofs.Words.{All-weaker, recursion_from_All, list_any-append, nat_eq_equiv, list_any, get, Ended, is_among}
-use Rattle.rk_inv_wellformed.proofs.Words.{Entry, completions_from, Completion, AreOfDistinctClients, told, ends_by_place, first_told}
-use Rattle.rk_inv_wellformed.proofs.Words.{is_placed, merged_ends, placed_ends, cond_both}
-use Rattle.std.proofs.lemmas.Map.Made.{length-le_from_is_member}
+use Rattle.std.proofs.Common.{◌≡◌, ◌==◌, ◌&&◌, ℕ, true, false, not, nat_eq, nat_lt, List, [], ◌∷◌, ◌++◌, map, All, Option, refl, subst}
+use Rattle.std.proofs.Common.{sym, ◌∙◌, arith, flat_map}
+use Rattle.rk_inv_wellformed.proofs.Words.{and_parts, nat_tests, All-append, All-cons, All-head, All-map, All-nil, All-tail, All-weaker}
+use Rattle.rk_inv_wellformed.proofs.Words.{recursion_from_All, list_any-append, list_any, get, Ended, Entry, completions_from, Completion}
+use Rattle.rk_inv_wellformed.proofs.Words.{AreOfDistinctClients, told, ends_by_place, first_told, is_placed, merged_ends, placed_ends}
+use Rattle.rk_inv_wellformed.proofs.Words.{cond_both, not-true, or_parts, is_outrun_by, is_same_call}
 use Rattle.std.specs.List.{IsDistinct}
-use Rattle.rk_world.specs.Merge.{is_outrun_by, is_same_call}
 use Rattle.rk_inv_wellformed.proofs.maps.{all_given, by_found}
 
 -- ---- ends of distinct clients
@@ -32,15 +30,6 @@ once_more end list apart once = (
 
 -- ---- what the place of an end tells
 
--- neither of two tests holds
-neither : (a b : Bool) → (a || b) ≡ false → (a ≡ false) × (b ≡ false)
-neither true b is = absurd (cc is)
-neither false b is = (refl, is)
-
-fails : (b : Bool) → not b ≡ true → b ≡ false
-fails true is = absurd (cc is)
-fails false is = refl
-
 -- an end of a list is outrun by no end that none of the list outruns
 IsHeldBy : List Ended → Ended → Type 0
 IsHeldBy all end = (other : Ended) → list_any (is_outrun_by other) all ≡ false → is_outrun_by other end ≡ false
@@ -49,9 +38,9 @@ each_held : (all : List Ended) → All (IsHeldBy all) all
 unfolding IsHeldBy
 each_held [] = All-nil _
 each_held (first ∷ rest) =
-    All-cons (IsHeldBy (first ∷ rest)) first rest (λ other none. (neither (is_outrun_by other first) (list_any (is_outrun_by other) rest) none).0)
+    All-cons (IsHeldBy (first ∷ rest)) first rest (λ other none. (or_parts (is_outrun_by other first) (list_any (is_outrun_by other) rest) none).0)
     (All-weaker (IsHeldBy rest) (IsHeldBy (first ∷ rest))
-    (λ end held other none. held other (neither (is_outrun_by other first) (list_any (is_outrun_by other) rest) none).1) rest (each_held rest))
+    (λ end held other none. held other (or_parts (is_outrun_by other first) (list_any (is_outrun_by other) rest) none).1) rest (each_held rest))
 
 -- an end whose place is here
 record HasPlace (all later seen : List Ended) (end : Ended) : Type 0 where
@@ -62,9 +51,9 @@ record HasPlace (all later seen : List Ended) (end : Ended) : Type 0 where
 has_place : (all later seen : List Ended) (end : Ended) → is_placed all later seen end ≡ true → HasPlace all later seen end
 has_place all later seen end is =
     let parts = and_parts (not (list_any (is_outrun_by end) all)) (not (list_any (is_same_call end) (later ++ seen))) is in
-    let both = neither (list_any (is_same_call end) later) (list_any (is_same_call end) seen)
-    (sym (list_any-append (is_same_call end) later seen) ∙ fails _ parts.1) in
-    record { last = fails _ parts.0; later_not = both.0; seen_not = both.1 }
+    let both = or_parts (list_any (is_same_call end) later) (list_any (is_same_call end) seen)
+    (sym (list_any-append (is_same_call end) later seen) ∙ not-true _ parts.1) in
+    record { last = not-true _ parts.0; later_not = both.0; seen_not = both.1 }
 
 -- the last end of its client, among all
 record IsLast (all : List Ended) (end : Ended) : Type 0 where
@@ -103,13 +92,13 @@ WasSeen end seen = (other : Ended) → list_any (is_same_call other) seen ≡ fa
 seen_now : (end : Ended) (seen : List Ended) → WasSeen end (seen ++ end ∷ [])
 unfolding WasSeen
 seen_now end seen other none =
-    let both = neither (list_any (is_same_call other) seen) (list_any (is_same_call other) (end ∷ []))
+    let both = or_parts (list_any (is_same_call other) seen) (list_any (is_same_call other) (end ∷ []))
     (sym (list_any-append (is_same_call other) seen (end ∷ [])) ∙ none) in
-    (neither (is_same_call other end) false both.1).0
+    (or_parts (is_same_call other end) false both.1).0
 
 seen_still : (end : Ended) (seen : List Ended) (next : Ended) → WasSeen end seen → WasSeen end (seen ++ next ∷ [])
 unfolding WasSeen
-seen_still end seen next was other none = was other (neither (list_any (is_same_call other) seen)
+seen_still end seen next was other none = was other (or_parts (list_any (is_same_call other) seen)
     (list_any (is_same_call other) (next ∷ [])) (sym (list_any-append (is_same_call other) seen (next ∷ [])) ∙ none)).0
 
 -- those behind an end of the same member are of other clients
@@ -131,7 +120,7 @@ record IsOther (all : List Ended) (end other : Ended) : Type 0 where
 others_of : (all : List Ended) (end : Ended) (list : List Ended) → list_any (is_same_call end) list ≡ false → All (IsHeldBy all) list → All (IsOther all end) list
 others_of all end [] none each = All-nil _
 others_of all end (first ∷ rest) none each =
-    let both = neither (is_same_call end first) (list_any (is_same_call end) rest) none in
+    let both = or_parts (is_same_call end first) (list_any (is_same_call end) rest) none in
     All-cons (IsOther all end) first rest (record { held = All-head (IsHeldBy all) first rest each; apart = both.0 })
     (others_of all end rest both.1 (All-tail (IsHeldBy all) first rest each))
 
@@ -139,7 +128,7 @@ others_of all end (first ∷ rest) none each =
 apart_later : (all : List Ended) (members : List (List Ended)) (end : Ended) → IsLast all end → list_any (is_same_call end) (flat_map (λ told. told) members) ≡ false → All (All (IsHeldBy all)) members → IsApartFrom (ends_by_place all members) end
 apart_later all [] end is_last none each = All-nil _
 apart_later all (ends ∷ later) end is_last none each =
-    let both = neither (list_any (is_same_call end) ends) (list_any (is_same_call end) (flat_map (λ told. told) later))
+    let both = or_parts (list_any (is_same_call end) ends) (list_any (is_same_call end) (flat_map (λ told. told) later))
     (sym (list_any-append (is_same_call end) ends (flat_map (λ told. told) later)) ∙ none) in
     All-append (λ other. nat_eq end.client other.client ≡ false) (placed_ends all (flat_map (λ told. told) later) [] ends) (ends_by_place all later)
     (placed_each (λ other. nat_eq end.client other.client ≡ false) (IsOther all end) (λ seen. Unit {0}) all (flat_map (λ told. told) later) [] ends
@@ -190,27 +179,3 @@ merged_once members =
     (ends_by_place all (map told members)) (λ end. client_kept end (get (completions_from [] all) end.client))))
     (members_once all (map told members) (All-map (All (IsHeldBy all)) told members
     (all_given (IsHeldBy all) told members (each_held all))))
-
--- ---- how many there are
-
-among_turned : (number : ℕ) (numbers : List ℕ) → is_among number numbers ≡ list_any (nat_eq number) numbers
-among_turned number [] = refl
-among_turned number (first ∷ rest) = cc (nat_eq_equiv.symm first number, among_turned number rest)
-
-client_among : (list : List Ended) (clients : List ℕ) (client : ℕ) → All (λ end. is_among end.client clients ≡ true) list → list_any (nat_eq client) (map (λ end. end.client) list) ≡ true → list_any (nat_eq client) clients ≡ true
-client_among [] clients client all is = absurd (cc is)
-client_among (end ∷ list) clients client all is =
-    elim (nat_eq client end.client) as (λ b. nat_eq client end.client ≡ b → (b || list_any (nat_eq client) (map (λ end. end.client) list)) ≡ true → list_any (nat_eq client) clients ≡ true) [
-      | true ↦ λ same here.
-          sym (among_turned client clients) ∙ subst (λ (n : ℕ). is_among n clients ≡ true) (sym (eqb-true client end.client same))
-          (All-head (λ (end : Ended). is_among end.client clients ≡ true) end list all)
-      | false ↦ λ other later.
-          client_among list clients client (All-tail (λ (end : Ended). is_among end.client clients ≡ true) end list all) later
-    ] refl is
-
--- ends of distinct clients that are all among some clients are no more than these
-pub once_few : (list : List Ended) (clients : List ℕ) → AreOfDistinctClients list → All (λ end. is_among end.client clients ≡ true) list → length list ≤ length clients
-once_few list clients once all =
-    let few = length-le_from_is_member nat_eq_equiv (map (λ end. end.client) list) clients once (λ client. client_among list clients client all) in
-    let count = length-map list (λ end. end.client) in
-    omega arith

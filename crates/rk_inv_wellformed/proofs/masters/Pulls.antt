@@ -4,19 +4,16 @@ use Rattle.std.proofs.Common.{subst, sym, arith, length-append, w64, flat_map}
 use Rattle.rk_inv_wellformed.proofs.Words.{All-append, All-cons, All-drop, All-filter, All-head, All-nil, All-tail, AllByRecursion}
 use Rattle.rk_inv_wellformed.proofs.Words.{spelled_of, Held, Token, Node, IsLawfulEntry, IsNumber, IsInScanOrder, IsLawfulToken, Message}
 use Rattle.rk_inv_wellformed.proofs.Words.{Pull, Want, items_of, IsFormedMaster, IsFormedHeld, IsFormedMessage, IsFormedTenure, IsThere}
-use Rattle.rk_inv_wellformed.proofs.Words.{Limits, Master, tablet_at, as_entries, IsMaster, Tablet, from_master, Body, cond_both}
-use Rattle.std.specs.List.{last_or}
-use Rattle.rk_world.specs.Pulls as pulling
-use Rattle.rk_table.proofs.Changes.{order_live}
+use Rattle.rk_inv_wellformed.proofs.Words.{Limits, Master, tablet_at, as_entries, IsMaster, Tablet, from_master, Body, cond_both, last_or}
+use Rattle.rk_inv_wellformed.proofs.Words.{order_live, at_hash, is_live_in, item_bucket, batch_at, batch_of, left, next_token, passed}
+use Rattle.rk_inv_wellformed.proofs.Words.{rest_at, token_before, token_of}
 use Rattle.rk_table.proofs.InOrder.{bucket_below_end, rises_in_order}
 use Rattle.rk_table.proofs.Tokens.{passed_and_left}
-use Rattle.rk_table.specs.Items.{at_hash, is_live_in}
-use Rattle.rk_table.specs.Order.{item_bucket}
-use Rattle.rk_table.specs.Scans.{batch_at, batch_of, left, next_token, passed, rest_at, token_before, token_of}
 use Rattle.rk_pull.specs.declared.batches.TheConstants.{BATCH_BYTES}
-use Rattle.rk_inv_wellformed.proofs.lanes.Messages.{formed_from, tenure_fits}
+use Rattle.rk_world.specs.Pulls as pulling
+use Rattle.rk_inv_wellformed.proofs.masters.Work.{formed_from, tenure_fits, AreLimits, HasLogRoom, IsFormedWork, formed_changed}
+use Rattle.rk_inv_wellformed.proofs.masters.Work.{formed_sending}
 use Rattle.rk_inv_wellformed.proofs.maps.{all_each, all_flat, either_way, filter_few}
-use Rattle.rk_inv_wellformed.proofs.masters.Work.{AreLimits, HasRoomFor, IsFormedWork, formed_changed, formed_sending, WorkFits}
 
 -- ---- lists
 
@@ -91,11 +88,11 @@ module _ (limits : Limits) (number : ℕ) (master : Master) (sender : Node) (pul
   each_scanned formed = each_batch (IsFormedHeld limits) BATCH_BYTES _
       (each_left (IsFormedHeld limits) pull.token _ (each_live (tablet_at master pull.tenure.tablet) formed))
 
-  few_scanned : HasRoomFor limits master → length scan < 2 ^ 30
+  few_scanned : HasLogRoom master → length scan < 2 ^ 30
   few_scanned fits =
       omega (arith, fits.room.records, filter_few (is_live_in (tablet_at master pull.tenure.tablet).handover.range) master.records)
 
-  answer_is_formed : AreLimits limits → IsMaster limits.masters number → IsThere limits sender → IsLawfulToken pull.token → IsFormedTenure limits pull.tenure → IsFormedMaster limits number master → HasRoomFor limits master → IsFormedMessage limits answer
+  answer_is_formed : AreLimits limits → IsMaster limits.masters number → IsThere limits sender → IsLawfulToken pull.token → IsFormedTenure limits pull.tenure → IsFormedMaster limits number master → HasLogRoom master → IsFormedMessage limits answer
   answer_is_formed are there sender_there token tenure formed room =
       formed_from limits master sender _ there formed.number_is sender_there
       (assumption (
@@ -107,10 +104,9 @@ module _ (limits : Limits) (number : ℕ) (master : Master) (sender : Node) (pul
       (tenure, subst (All (IsFormedHeld limits)) (sym (items_again _)) (each_scanned formed))
 
   -- a source that takes a Pull
-  pub formed_pull : AreLimits limits → IsMaster limits.masters number → IsThere limits sender → IsLawfulToken pull.token → IsFormedTenure limits pull.tenure → IsFormedMaster limits number master → HasRoomFor limits (pulling.pull_taken master sender pull).master → IsFormedWork limits number (pulling.pull_taken master sender pull)
-  formed_pull are there sender_there token tenure formed room = cond_both _ _ _ (WorkFits limits number)
-      (λ frozen fits. formed_sending formed (answer_is_formed are there sender_there token tenure formed fits))
-      (λ other fits. formed_changed formed) room
+  pub formed_pull : AreLimits limits → IsMaster limits.masters number → IsThere limits sender → IsLawfulToken pull.token → IsFormedTenure limits pull.tenure → IsFormedMaster limits number master → HasLogRoom master → IsFormedWork limits number 1 (pulling.pull_taken master sender pull)
+  formed_pull are there sender_there token tenure formed room = cond_both _ _ _ (IsFormedWork limits number 1)
+      (λ frozen. formed_sending formed (answer_is_formed are there sender_there token tenure formed room)) (λ other. formed_changed formed)
 
 module _ (limits : Limits) (number : ℕ) (master : Master) (sender : Node) (want : Want) where
   -- the live items with a hash
@@ -127,8 +123,8 @@ module _ (limits : Limits) (number : ℕ) (master : Master) (sender : Node) (wan
       (λ hash. All-filter _ (IsFormedHeld limits) _ (each_live (tablet_at master want.tenure.tablet) formed)))
 
   -- a source that takes a Want
-  pub formed_want : AreLimits limits → IsMaster limits.masters number → IsThere limits sender → AllByRecursion (IsNumber w64 0) want.hashes → IsFormedTenure limits want.tenure → IsFormedMaster limits number master → IsFormedWork limits number (pulling.want_taken master sender want)
-  formed_want are there sender_there hashes tenure formed = cond_both _ _ _ (IsFormedWork limits number)
+  pub formed_want : AreLimits limits → IsMaster limits.masters number → IsThere limits sender → AllByRecursion (IsNumber w64 0) want.hashes → IsFormedTenure limits want.tenure → IsFormedMaster limits number master → IsFormedWork limits number 1 (pulling.want_taken master sender want)
+  formed_want are there sender_there hashes tenure formed = cond_both _ _ _ (IsFormedWork limits number 1)
       (λ frozen. formed_sending formed (formed_from limits master sender _ there formed.number_is sender_there
       (assumption (tenure_fits are tenure, lawful_entries limits _ (each_found formed)))
       (tenure, subst (All (IsFormedHeld limits)) (sym (items_again _)) (each_found formed))))

@@ -1,30 +1,166 @@
--- A master that rebuilds a tablet stays well formed: when it begins, when it gathers a segment, and when it merges.
-use Rattle.std.proofs.Common.{◌≡◌, ◌≤◌, ◌<◌, ◌+◌, ◌==◌, ◌&&◌, ℕ, Bool, false, true, if◌then◌else◌, List, [], ◌∷◌, ◌++◌, filter, map, All}
-use Rattle.std.proofs.Common.{length, Option, None, Some, IfSome, refl, ap, subst, sym, ◌∙◌, arith, w64, not, flat_map, eq-eqb}
+-- A master that rebuilds a tablet stays well formed: when it begins, when it gathers a segment, and when it merges; and what it merges of
+-- well formed entries is: its copies, its ends and its floor.
+use Rattle.std.proofs.Common.{◌≡◌, ◌≤◌, ◌<◌, ◌+◌, ◌==◌, ◌&&◌, ℕ, false, true, if◌then◌else◌, List, [], ◌∷◌, ◌++◌, filter, map, All}
+use Rattle.std.proofs.Common.{length, Option, None, Some, IfSome, refl, subst, sym, ◌∙◌, ⊎_elim, arith, nat_lt, w64, not, flat_map}
+use Rattle.std.proofs.Common.{eq-eqb, ◌-◌, Contains, slice_index_or}
 use Rattle.rk_inv_wellformed.proofs.Words.{cond_both, length_push, All-filter, All-head, All-map, All-nil, All-push, All-tail, All-weaker}
 use Rattle.rk_inv_wellformed.proofs.Words.{each_insert, Ended, Member, Range, entries_of, IsNumber, Entry, completions_from, ends_of}
-use Rattle.rk_inv_wellformed.proofs.Words.{carried, in_role, role_carried, Handover, Role, Log, CopySegment, Rebuild, items_of}
-use Rattle.rk_inv_wellformed.proofs.Words.{IsFormedGathered, IsFormedMaster, IsFormedTablet, MOST_BASE_CLIENTS, place_in, side_waits_of}
-use Rattle.rk_inv_wellformed.proofs.Words.{Gathered, by_member, next_reading, with_others_given_up, AreOfDistinctClients, IsClient}
-use Rattle.rk_inv_wellformed.proofs.Words.{IsFormedCopy, IsFormedEnd, IsFormedEntry, IsFormedHeld, IsFormedMember, IsFormedRebuild, Limits}
-use Rattle.rk_inv_wellformed.proofs.Words.{own_member, Master, tablet_at, with_all, with_appended, as_entries, merge, MOST_CLIENTS}
-use Rattle.rk_inv_wellformed.proofs.Words.{is_absent, is_gathering, is_receiving, Tablet, Worked, Merged, bytes_of, unread, begun}
-use Rattle.rk_inv_wellformed.proofs.Words.{IsFormedNumber, IsMaster}
+use Rattle.rk_inv_wellformed.proofs.Words.{role_carried, Handover, Role, CopySegment, Rebuild, items_of, IsFormedGathered, IsFormedMaster}
+use Rattle.rk_inv_wellformed.proofs.Words.{IsFormedTablet, MOST_BASE_CLIENTS, place_in, Gathered, by_member, next_reading}
+use Rattle.rk_inv_wellformed.proofs.Words.{with_others_given_up, AreOfDistinctClients, IsFormedCopy, IsFormedEnd, IsFormedEntry}
+use Rattle.rk_inv_wellformed.proofs.Words.{IsFormedHeld, IsFormedMember, IsFormedRebuild, Limits, own_member, Master, tablet_at, with_all}
+use Rattle.rk_inv_wellformed.proofs.Words.{with_appended, as_entries, merge, MOST_CLIENTS, is_absent, is_gathering, is_receiving, Tablet}
+use Rattle.rk_inv_wellformed.proofs.Words.{Worked, Merged, bytes_of, unread, counters_of, IsFormedNumber, IsMaster, All-contains_itself}
+use Rattle.rk_inv_wellformed.proofs.Words.{All-append, All-cons, All-contains, All-drop, get, Held, FIRST_SIDE_SEGMENT, ended_of}
+use Rattle.rk_inv_wellformed.proofs.Words.{newest_is, told_by, newest_items_are, newest_items, told, Gather, counted_of, is_of_lineage}
+use Rattle.rk_inv_wellformed.proofs.Words.{main_entries, material_by, side_read, material_of, named, copies_of, ends_by_place, first_told}
+use Rattle.rk_inv_wellformed.proofs.Words.{floor_by, floor_of, has_version, is_placed, merged_ends, placed_ends, LAST_MAIN_SEGMENT}
+use Rattle.rk_inv_wellformed.proofs.Words.{with_main, with_read, with_segment, side_entries}
+use Rattle.rk_world.specs.Rebuilds.{own_material, own_place}
 use Rattle.rk_world.specs.Rebuilds as rebuilds
-use Rattle.rk_world.specs.Gather.{LAST_MAIN_SEGMENT, with_main, with_read, with_segment}
-use Rattle.rk_inv_wellformed.proofs.bytes.Sizes.{place_fits}
-use Rattle.rk_inv_wellformed.proofs.lanes.Messages.{counted_fits}
-use Rattle.rk_inv_wellformed.proofs.maps.{completions_each, completions_order, all_flat, by_found, either_way, rising_within}
+use Rattle.rk_inv_wellformed.proofs.lanes.More.{IsMore, more_master}
+use Rattle.rk_inv_wellformed.proofs.masters.Work.{counted_fits, AreLimits, IsFormedWork, Rises, formed_changed}
+use Rattle.rk_inv_wellformed.proofs.maps.{completions_each, completions_order, all_flat, by_found, either_way, pairs_from_ends, all_at}
+use Rattle.rk_inv_wellformed.proofs.maps.{all_each, all_given, fold_keeps, each_from_pairs, each_or, fold_keeps_all}
 use Rattle.rk_inv_wellformed.proofs.masters.Changes.{formed_with_all, formed_with_appended, formed_with_tablet, formed_without_items}
-use Rattle.rk_inv_wellformed.proofs.masters.Given.{formed_others_given_up, tablet_there}
-use Rattle.rk_inv_wellformed.proofs.masters.Handovers.{begun_on, ends_are_formed, ends_are_lawful, formed_begun, one_stood, there_in}
+use Rattle.rk_inv_wellformed.proofs.masters.Changes.{formed_others_given_up, tablet_there, moved_is}
+use Rattle.rk_inv_wellformed.proofs.masters.Handovers.{ends_are_formed, ends_are_lawful, formed_begun, one_stood, formed_ends_few}
 use Rattle.rk_inv_wellformed.proofs.masters.MergedOnce.{merged_once, none_twice}
-use Rattle.rk_inv_wellformed.proofs.masters.Merges.{copies_formed, ends_formed, floor_first, members_formed, own_formed}
 use Rattle.rk_inv_wellformed.proofs.masters.Requests.{counter_with_tablet, items_formed}
 use Rattle.rk_inv_wellformed.proofs.masters.Sealing.{first_holds}
-use Rattle.rk_inv_wellformed.proofs.masters.Tablets.{counter_at, formed_pulling_from, formed_tablet, rest_at}
-use Rattle.rk_inv_wellformed.proofs.masters.Work.{AreLimits, HasRoomFor, IsFormedWork, formed_changed, WorkFits}
-use Rattle.rk_inv_wellformed.proofs.room.SideWaits.{WaitsForNone, as_many, none_waits}
+use Rattle.rk_inv_wellformed.proofs.masters.Tablets.{counter_at, formed_pulling_from, formed_tablet, rest_at, WaitsForNone, none_waits}
+use Rattle.rk_inv_wellformed.proofs.masters.Tablets.{role_there}
+use Rattle.rk_inv_wellformed.proofs.masters.Commits.{told_formed}
+
+-- ---- what counts
+
+-- what counts of entries, with the side segments that they name
+material_formed : (limits : Limits) (range : Range) (side : ℕ → List Entry) (list : List Entry) → ((segment : ℕ) → All (IsFormedEntry limits) (side segment)) → All (IsFormedEntry limits) list → All (IsFormedEntry limits) (material_of range side list)
+material_formed limits range side list sides all = All-append (IsFormedEntry limits) _ _
+    (All-filter _ (IsFormedEntry limits) list all) (All-filter _ (IsFormedEntry limits) _
+    (all_flat (IsFormedEntry limits) side (named range list) (all_each (λ segment. All (IsFormedEntry limits) (side segment))
+    (named range list) sides)))
+
+-- the entries of a side segment of a log
+side_formed : (limits : Limits) (sides : List (List Held)) (segment : ℕ) → All (IsFormedHeld limits) (flat_map (λ items. items) sides) → All (IsFormedEntry limits) (side_entries sides segment)
+side_formed limits sides segment all = either_way (All (IsFormedEntry limits)) (nat_lt segment FIRST_SIDE_SEGMENT)
+    (All-nil (IsFormedEntry limits)) (All-map (IsFormedEntry limits) Entry.Held (slice_index_or sides (segment - FIRST_SIDE_SEGMENT) [])
+    (all_at (All (IsFormedHeld limits)) sides (segment - FIRST_SIDE_SEGMENT) [] (All-nil _)
+    (all_given (IsFormedHeld limits) (λ items. items) sides all)))
+
+-- the own entries that count
+pub own_formed : {limits : Limits} {number : ℕ} {master : Master} (tablet : Tablet) → IsFormedMaster limits number master → All (IsFormedEntry limits) (own_material master tablet)
+own_formed {limits} {master} tablet formed =
+    material_formed limits tablet.handover.range (side_entries master.sides) _
+    (λ segment. side_formed limits master.sides segment formed.items)
+    (All-drop (IsFormedEntry limits) (own_place tablet.handover.role) master.log.entries formed.written)
+
+-- the entries of a side segment that was read
+side_read_formed : (limits : Limits) (gathered : Gathered) (segment : ℕ) → IsFormedGathered limits gathered → All (IsFormedEntry limits) (side_read gathered segment)
+side_read_formed limits gathered segment formed =
+    each_or (λ segment entries. All (IsFormedEntry limits) entries) [] gathered.sides segment (All-nil _) formed.sides
+
+-- the main entries that were read, from the place of the member on
+pub main_formed : {limits : Limits} {gathered : Gathered} → IsFormedGathered limits gathered → All (IsFormedEntry limits) (main_entries gathered)
+main_formed {limits} {gathered} formed = All-drop (IsFormedEntry limits) gathered.member.from _
+    (all_flat (IsFormedEntry limits) (λ list. list) gathered.main formed.main)
+
+counted_formed : {limits : Limits} (range : Range) {gathered : Gathered} → IsFormedGathered limits gathered → All (IsFormedEntry limits) (counted_of range gathered)
+counted_formed {limits} range {gathered} formed =
+    material_formed limits range (side_read gathered) (main_entries gathered) (λ segment. side_read_formed limits gathered segment formed)
+    (main_formed formed)
+
+-- what counts of one member
+by_formed : (limits : Limits) (gather : Gather) (own : List Entry) (master : ℕ) → All (IsFormedGathered limits) gather.members → All (IsFormedEntry limits) own → All (IsFormedEntry limits) (material_by gather own master)
+by_formed limits gather own master members own_is = either_way (All (IsFormedEntry limits)) (master == gather.own) own_is
+    (all_flat (IsFormedEntry limits) (counted_of gather.range) _
+    (All-weaker (IsFormedGathered limits) (λ gathered. All (IsFormedEntry limits) (counted_of gather.range gathered))
+    (λ gathered formed. counted_formed gather.range formed) (filter (λ gathered. gathered.member.master == master) gather.members)
+    (All-filter _ (IsFormedGathered limits) gather.members members)))
+
+-- what counts of each member
+pub members_formed : (limits : Limits) (gather : Gather) (own : List Entry) → All (IsFormedGathered limits) gather.members → All (IsFormedEntry limits) own → All (All (IsFormedEntry limits)) (by_member gather own)
+members_formed limits gather own members own_is = All-append (All (IsFormedEntry limits)) _ _
+    (All-map (All (IsFormedEntry limits)) (λ member. material_by gather own member.master) gather.lineage
+    (all_each (λ (member : Member). All (IsFormedEntry limits) (material_by gather own member.master)) gather.lineage
+    (λ member. by_formed limits gather own member.master members own_is)))
+    (cond_both (is_of_lineage gather) [] (own ∷ []) (All (All (IsFormedEntry limits))) (λ of. All-nil _)
+    (λ outside. All-cons (All (IsFormedEntry limits)) own [] own_is (All-nil _)))
+
+-- ---- copies
+
+newest_formed : (limits : Limits) (items : List Held) → All (IsFormedHeld limits) items → All (IsFormedHeld limits) (newest_items items)
+newest_formed limits items all = All-weaker (Contains (newest_items items)) (IsFormedHeld limits)
+    (λ item stands. All-contains (IsFormedHeld limits) items item all
+    (newest_is items item.table item.key item (((newest_items_are items).newest item).0 stands)).stands)
+    (newest_items items) (All-contains_itself (newest_items items))
+
+-- the copies of a merge
+pub copies_formed : (limits : Limits) (own all : List Held) → All (IsFormedHeld limits) all → All (IsFormedHeld limits) (copies_of own all)
+copies_formed limits own all formed =
+    All-filter (λ item. not (has_version own item)) (IsFormedHeld limits) (newest_items all) (newest_formed limits all formed)
+
+-- ---- the floor
+
+floor_rises : (floor : ℕ) (entry : Entry) → floor ≤ floor_by floor entry
+floor_rises floor (Entry.Held held) = omega arith
+floor_rises floor _ = omega arith
+
+-- it counts from 1
+pub floor_first : (list : List Entry) → 1 ≤ floor_of list
+floor_first list = fold_keeps (λ floor. 1 ≤ floor) floor_by list 1 (omega arith) (λ floor entry some. omega (arith, some, floor_rises floor entry))
+
+-- where the entries are well formed it is at most one above the greatest number
+floor_within_by : (limits : Limits) (floor : ℕ) (entry : Entry) → floor ≤ limits.top + 1 → IsFormedEntry limits entry → floor_by floor entry ≤ limits.top + 1
+floor_within_by limits floor (Entry.Held held) below formed = omega (arith, formed)
+floor_within_by limits floor (Entry.Carried carried) below formed = omega (arith, formed)
+floor_within_by limits floor _ below formed = below
+
+pub floor_within : (limits : Limits) (list : List Entry) → All (IsFormedEntry limits) list → floor_of list ≤ limits.top + 1
+floor_within limits list formed =
+    fold_keeps_all (λ floor. floor ≤ limits.top + 1) (IsFormedEntry limits) floor_by list 1 (omega arith) formed (floor_within_by limits)
+
+-- ---- ends
+
+placed_formed : (P : Ended → Type 0) (all later seen ends : List Ended) → All P ends → All P (placed_ends all later seen ends)
+placed_formed P all later seen [] formed = All-nil P
+placed_formed P all later seen (end ∷ ends) formed =
+    let rest = placed_formed P all later (seen ++ end ∷ []) ends (All-tail P end ends formed) in
+    either_way (All P) (is_placed all later seen end) (All-cons P end _ (All-head P end ends formed) rest) rest
+
+by_place_formed : (P : Ended → Type 0) (all : List Ended) (members : List (List Ended)) → All (All P) members → All P (ends_by_place all members)
+by_place_formed P all [] formed = All-nil P
+by_place_formed P all (ends ∷ later) formed =
+    All-append P _ _ (placed_formed P all (flat_map (λ told. told) later) [] ends (All-head (All P) ends later formed))
+    (by_place_formed P all later (All-tail (All P) ends later formed))
+
+-- the ends of entries
+told_all : (limits : Limits) (list : List Entry) → All (IsFormedEntry limits) list → All (IsFormedEnd limits) (told list)
+told_all limits list all = all_flat (IsFormedEnd limits) told_by list
+    (All-weaker (IsFormedEntry limits) (λ entry. All (IsFormedEnd limits) (told_by entry)) (λ entry formed. told_formed limits entry formed) list all)
+
+-- the end that counts for a call is one of those that were told
+first_formed : {limits : Limits} (all : List Ended) {end : Ended} → All (IsFormedEnd limits) all → IsFormedEnd limits end → IsFormedEnd limits (first_told end (get (completions_from [] all) end.client))
+first_formed {limits} all {end} formed it =
+    by_found (λ last. IsFormedEnd limits (first_told end last)) (get (completions_from [] all) end.client) (λ is. it)
+    (λ last is. each_from_pairs (λ client completion. IsFormedEnd limits (ended_of (client, completion))) (completions_from [] all)
+    (pairs_from_ends (IsFormedEnd limits) (completions_from [] all) (completions_each (IsFormedEnd limits) [] all (All-nil _) formed))
+    end.client last is)
+
+-- the ends of a merge
+pub ends_formed : (limits : Limits) (members : List (List Entry)) → All (All (IsFormedEntry limits)) members → All (IsFormedEnd limits) (merged_ends members)
+ends_formed limits members formed =
+    All-map (IsFormedEnd limits) (λ end. first_told end (get (completions_from [] (flat_map told members)) end.client)) _
+    (All-weaker (IsFormedEnd limits) (λ end. IsFormedEnd limits (first_told end (get (completions_from [] (flat_map told members)) end.client)))
+    (λ end it. first_formed (flat_map told members) all it) _
+    (by_place_formed (IsFormedEnd limits) (flat_map told members) (map told members)
+    (All-map (All (IsFormedEnd limits)) told members each)))
+  where
+    each : All (λ list. All (IsFormedEnd limits) (told list)) members
+    each = All-weaker (All (IsFormedEntry limits)) (λ list. All (IsFormedEnd limits) (told list)) (λ list fits. told_all limits list fits) members formed
+
+    all : All (IsFormedEnd limits) (flat_map told members)
+    all = all_flat (IsFormedEnd limits) told members (All-weaker (All (IsFormedEntry limits)) (λ list. All (IsFormedEnd limits) (told list)) (λ list fits. told_all limits list fits) members formed)
 
 -- ---- merging
 
@@ -39,11 +175,8 @@ pub record IsFormedMerge (limits : Limits) (merged : Merged) : Type 0 where
 pub few_ends : (limits : Limits) (list : List Ended) → AreLimits limits → All (IsFormedEnd limits) list
     → length (ends_of (completions_from [] list)) ≤ MOST_CLIENTS + MOST_BASE_CLIENTS
 few_ends limits list are told =
-    let order = completions_order [] list tt in
-    let each = completions_each (IsFormedEnd limits) [] list (All-nil _) told in
-    let ends = ends_are_formed limits (completions_from [] list) order each in
-    let clients = All-weaker (IsFormedEnd limits) (λ end. IsClient limits end.client) (λ end fits. fits.client) _ each in
-    omega (arith, are, rising_within (ends_of (completions_from [] list)) limits.clients ends.rising clients)
+    formed_ends_few (ends_of (completions_from [] list)) are (ends_are_formed limits (completions_from [] list) (completions_order [] list tt)
+    (completions_each (IsFormedEnd limits) [] list (All-nil _) told))
 
 pub merge_formed : (limits : Limits) (number : ℕ) (master : Master) (id : ℕ) → 1 ≤ limits.top → IsFormedMaster limits number master
     → IsFormedMerge limits (merge (rebuilds.own_material master (tablet_at master id)) (by_member (tablet_at master id).gather (rebuilds.own_material master (tablet_at master id))))
@@ -61,17 +194,17 @@ merge_formed limits number master id some formed =
     }
 
 -- the role of a rebuild that has its closing entry
-pub after_carry : (place : ℕ) (role r : Role) → role_carried place role ≡ Some r → (place_in r ≡ place_in role) × (is_receiving r ≡ false) × (is_absent role ≡ false)
+record IsCarried (role r : Role) : Type 0 where
+  place : place_in r ≡ place_in role
+  still : is_receiving r ≡ false
+  there : is_absent role ≡ false
+  waits : WaitsForNone r
+
+after_carry : (place : ℕ) (role r : Role) → role_carried place role ≡ Some r → IsCarried role r
 after_carry place (Role.Rebuilding from None) r is =
     let same : Role.Rebuilding from (Some place) ≡ r = cc is in
-    (ap place_in (sym same), ap is_receiving (sym same), refl)
+    subst (IsCarried (Role.Rebuilding from None)) same (record { place = refl; still = refl; there = refl; waits = λ sealed. refl })
 after_carry place _ r is = absurd (cc is)
-
--- in it no side segment is waited for
-carried_waits : (place : ℕ) (role r : Role) → role_carried place role ≡ Some r → WaitsForNone r
-carried_waits place (Role.Rebuilding from None) r is =
-    let same : Role.Rebuilding from (Some place) ≡ r = cc is in subst WaitsForNone same (λ sealed. refl)
-carried_waits place _ r is = absurd (cc is)
 
 module _ (limits : Limits) (number : ℕ) (master : Master) (id : ℕ) (merged : Merged) where
   abbrev it : Tablet
@@ -101,57 +234,70 @@ module _ (limits : Limits) (number : ℕ) (master : Master) (id : ℕ) (merged :
         each = each;
       }
 
-  -- what it makes of what it merged, where that turns its role into this one
-  abbrev work : Option Role → Worked
-  work after = rebuilds.merging master id it merged (in_role (record it.handover { counter = merged.floor }) after)
-
   -- a master that merged what it gathered
-  merges : (role : Role) → it.handover.role ≡ role → AreLimits limits → IsFormedMerge limits merged → IsFormedMaster limits number master
-      → HasRoomFor limits (work (role_carried (length copied.log.entries) role)).master
-      → IsFormedWork limits number (work (role_carried (length copied.log.entries) role))
-  merges role is are formed master_formed room =
-      by_found (λ after. WorkFits limits number (work after)) (role_carried (length copied.log.entries) role)
-      (λ carried_is fits. formed_changed master_formed)
-      (λ r carried_is fits.
-      let after = after_carry (length copied.log.entries) role r carried_is in
-      let there = there_in id role is after.2 master_formed in
-      let handover : Handover = record it.handover { counter = merged.floor; role = r } in
-      let floor : merged.floor ≤ limits.top =
-      counter_with_tablet limits (with_appended copied (rebuilds.rebuilt_entry it merged)) id (rebuilds.with_merged it merged handover) fits.counters in
+  merges : (r : Role) → role_carried (length copied.log.entries) it.handover.role ≡ Some r → AreLimits limits → IsFormedMerge limits merged
+      → merged.floor ≤ limits.top → IsFormedMaster limits number master
+      → IsFormedWork limits number 1 (rebuilds.merging master id it merged (Some (record it.handover { counter = merged.floor; role = r })))
+  merges r carried_is are formed floor master_formed =
+      let after = after_carry (length copied.log.entries) it.handover.role r carried_is in
+      let there = tablet_there id after.there master_formed in
       let counter : IsFormedNumber limits merged.floor = omega (arith, formed, floor) in
-      let source : is_receiving r ≡ true → IsMaster limits.masters it.pulling.source = λ receives. absurd (cc (receives, after.1)) in
+      let source : is_receiving r ≡ true → IsMaster limits.masters it.pulling.source = λ receives. absurd (cc (receives, after.still)) in
       record {
-        master = formed_with_tablet {id = id} {tablet = rebuilds.with_merged it merged handover}
+        master = formed_with_tablet {id = id} {tablet = rebuilds.with_merged it merged (record it.handover { counter = merged.floor; role = r })}
             (formed_with_appended (rebuilds.rebuilt_entry it merged)
             (formed_with_all (as_entries merged.copies) master_formed (All-map (IsFormedEntry limits) Entry.Held merged.copies formed.copies))
             (closing_formed are there floor formed))
             (assumption (
               formed,
-              subst (IsNumber w64 0) (sym (after.0 ∙ ap place_in (sym is))) there.place,
+              subst (IsNumber w64 0) (sym after.place) there.place,
               completions_order [] merged.ends tt,
               completions_each (IsFormedEnd limits) [] merged.ends (All-nil _) formed.told,
             ))
-            (none_waits r _ _ (carried_waits (length copied.log.entries) role r carried_is));
+            (none_waits r _ _ after.waits);
         sends = All-nil _;
-      })
-      room
+        few = omega arith;
+        served = omega arith;
+      }
+
+-- what is made of something is well formed, where the counters that it raises keep to the limits
+abbrev RiseFits : Limits → Limits → ℕ → Worked → Type 0
+RiseFits small limits number worked = Rises small limits worked → IsFormedWork limits number 1 worked
 
 -- a rebuild goes on: it merges once all is gathered
-formed_goes_on : {limits : Limits} {number : ℕ} {master : Master} (id : ℕ) → AreLimits limits → 1 ≤ limits.top → IsFormedMaster limits number master → HasRoomFor limits (rebuilds.rebuild_goes_on master id).master → IsFormedWork limits number (rebuilds.rebuild_goes_on master id)
-formed_goes_on {limits} {number} {master} id are some formed room =
-    by_found (λ reading. WorkFits limits number (rebuilds.rebuilding_on master id reading)) (next_reading it.gather)
-    (λ none. cond_both (it.handover.term == it.handover.term)
-    (in_role (record it.handover { counter = merged.floor }) (role_carried (length (with_all master (as_entries merged.copies)).log.entries) it.handover.role)) None
-    (λ (moved : Option Handover). WorkFits limits number (rebuilds.merging master id it merged moved))
-    (λ own. merges limits number master id merged it.handover.role refl are (merge_formed limits number master id some formed) formed)
-    (λ other fits. formed_changed formed))
-    (λ reading is fits. formed_changed formed) room
+formed_goes_on : {small limits : Limits} {number : ℕ} {master : Master} (id : ℕ) → IsMore small limits → AreLimits limits → 1 ≤ small.top
+    → IsFormedMaster small number master → RiseFits small limits number (rebuilds.rebuild_goes_on master id)
+formed_goes_on {small} {limits} {number} {master} id more are some formed rises =
+    by_found (λ reading. RiseFits small limits number (rebuilds.rebuilding_on master id reading)) (next_reading it.gather)
+    (λ none. moved_is (λ moved. RiseFits small limits number (rebuilds.merging master id it merged moved)) (it.handover.term == it.handover.term)
+    (record it.handover { counter = merged.floor }) (role_carried (length (with_all master (as_entries merged.copies)).log.entries) it.handover.role)
+    (λ rises. formed_changed wide)
+    (λ r carried_is rises. merges limits number master id merged r carried_is are
+    (merge_formed limits number master id (omega (arith, some, more.top)) wide) (floor r rises) wide))
+    (λ reading is rises. formed_changed wide) rises
   where
     it : Tablet
     it = tablet_at master id
 
     merged : Merged
     merged = merge (rebuilds.own_material master (tablet_at master id)) (by_member (tablet_at master id).gather (rebuilds.own_material master (tablet_at master id)))
+
+    wide : IsFormedMaster limits number master
+    wide = more_master small limits more formed
+
+    floor : (r : Role) → Rises small limits (rebuilds.merging master id it merged (Some (record it.handover { counter = merged.floor; role = r })))
+        → merged.floor ≤ limits.top
+    floor r rises =
+        let own = rebuilds.own_material master it in
+        let within = floor_within small (flat_map (λ list. list) (by_member it.gather own))
+        (all_flat (IsFormedEntry small) (λ list. list) (by_member it.gather own)
+        (members_formed small it.gather own (rest_at small number master id formed).gathered (own_formed it formed))) in
+        let handover : Handover = record it.handover { counter = merged.floor; role = r } in
+        let after = rebuilds.rebuild_merged master id it merged handover in
+        ⊎_elim (λ (up : small.top < limits.top). omega (arith, up, within))
+        (λ (counters : All (λ counter. counter ≤ limits.top) (counters_of after)).
+        counter_with_tablet limits (with_appended (with_all master (as_entries merged.copies)) (rebuilds.rebuilt_entry it merged)) id
+        (rebuilds.with_merged it merged handover) counters) rises
 
 -- ---- beginning
 
@@ -188,14 +334,6 @@ foreign_formed : {limits : Limits} {number : ℕ} {master : Master} (range : Ran
 foreign_formed range None formed = formed_without_items range formed
 foreign_formed range (Some own) formed = formed
 
-foreign_log : (master : Master) (range : Range) (own : Option Member) → (rebuilds.without_foreign master range own).log ≡ master.log
-foreign_log master range None = refl
-foreign_log master range (Some own) = refl
-
-begun_log : (master : Master) (rebuild : Rebuild) (moved : Option Handover) → (rebuilds.with_begun master rebuild moved).log ≡ master.log
-begun_log master rebuild None = refl
-begun_log master rebuild (Some handover) = refl
-
 module _ (limits : Limits) (number : ℕ) (master : Master) (rebuild : Rebuild) where
   abbrev own : Option Member
   own = own_member rebuild.lineage master.number
@@ -219,11 +357,9 @@ module _ (limits : Limits) (number : ℕ) (master : Master) (rebuild : Rebuild) 
       let role = Role.Rebuilding (rebuilds.begun_from master own) None in
       let moves = formed_begun source handover role (counter_at id at (one_stood limits rebuild.tenure.term told.tenure.term)) told.tenure.term
       told.range (begun_fits limits master own (own_formed_member limits rebuild.lineage master.number told.members) place) refl in
-      by_found (λ moved. IsFormedMaster limits number (rebuilds.with_begun now rebuild moved)) (begun handover rebuild.tenure.term rebuild.range role)
-      (λ none. at)
-      (λ after is.
-      formed_with_tablet at
-      (formed_tablet _ told.tenure.tablet (moves after is)
+      either_way (λ moved. IsFormedMaster limits number (rebuilds.with_begun now rebuild moved)) (nat_lt handover.term rebuild.tenure.term)
+      (formed_with_tablet at
+      (formed_tablet _ told.tenure.tablet moves
       (assumption (
         formed_pulling_from limits source,
         begun_formed limits rebuild.lineage now.number told.members,
@@ -231,7 +367,8 @@ module _ (limits : Limits) (number : ℕ) (master : Master) (rebuild : Rebuild) 
         none_twice,
         rest_at limits number now id at,
       )))
-      (none_waits after.role _ _ (begun_on handover rebuild.tenure.term rebuild.range role (λ sealed. refl) after is)))
+      (omega arith))
+      at
 
 -- ---- Rebuild and Copy
 
@@ -239,44 +376,14 @@ module _ (limits : Limits) (number : ℕ) (master : Master) (rebuild : Rebuild) 
 below_or_not : (n limit : ℕ) → (n ≡ limit → ⊥) → (n ≤ limit → n < limit)
 below_or_not n limit apart within = omega arith
 
--- a log grows
-all_grows : (list : List Entry) (master : Master) → length master.log.entries ≤ length (with_all master list).log.entries
-all_grows [] master = omega arith
-all_grows (entry ∷ list) master =
-    omega (arith, all_grows list (with_appended master entry), length_push master.log.entries entry)
-
-merging_grows : (master : Master) (id : ℕ) (tablet : Tablet) (merged : Merged) (moved : Option Handover) → length master.log.entries ≤ length (rebuilds.merging master id tablet merged moved).master.log.entries
-merging_grows master id tablet merged moved = by_found
-    (λ made. length master.log.entries ≤ length (rebuilds.merging master id tablet merged made).master.log.entries) moved (λ none. omega arith)
-    (λ handover some. omega (arith, all_grows (as_entries merged.copies) master, length_push {X = Entry}))
-
-goes_on_grows : (master : Master) (number : ℕ) → length master.log.entries ≤ length (rebuilds.rebuild_goes_on master number).master.log.entries
-goes_on_grows master number =
-    let it = tablet_at master number in
-    let own = rebuilds.own_material master it in
-    let merged = merge own (by_member it.gather own) in
-    by_found (λ reading. length master.log.entries ≤ length (rebuilds.rebuilding_on master number reading).master.log.entries)
-    (next_reading it.gather)
-    (λ none. merging_grows master number it merged (carried it.handover it.handover.term (length (with_all master (as_entries merged.copies)).log.entries) merged.floor))
-    (λ reading is. omega arith)
-
 -- a master that takes a Rebuild
-pub formed_rebuild : {limits : Limits} {number : ℕ} {master : Master} {rebuild : Rebuild} → AreLimits limits → IsFormedRebuild limits rebuild → IsFormedMaster limits number master → HasRoomFor limits (rebuilds.rebuild_taken master rebuild).master → IsFormedWork limits number (rebuilds.rebuild_taken master rebuild)
-formed_rebuild {limits} {number} {master} {rebuild} are told formed room = cond_both _ _ _ (WorkFits limits number)
-    (λ greater fits. formed_goes_on rebuild.tenure.tablet are
-    (one_stood limits rebuild.tenure.term told.tenure.term) (begins limits number master rebuild told (place fits) formed) fits)
-    (λ lower fits. formed_changed formed) room
-  where
-    place : HasRoomFor limits (rebuilds.beginning master rebuild).master → IsNumber w64 0 (length master.log.entries)
-    place fits =
-        let own = own_member rebuild.lineage master.number in
-        let now = with_others_given_up (rebuilds.without_foreign master rebuild.range own) rebuild.tenure.tablet rebuild.range in
-        let same : (rebuilds.rebuild_begun master rebuild).log ≡ master.log =
-        begun_log now rebuild _ ∙ foreign_log master rebuild.range own in
-        let grown : length master.log.entries ≤ length (rebuilds.beginning master rebuild).master.log.entries =
-        subst (λ (log : Log). length log.entries ≤ length (rebuilds.beginning master rebuild).master.log.entries) same
-        (goes_on_grows (rebuilds.rebuild_begun master rebuild) rebuild.tenure.tablet) in
-        omega (arith, grown, place_fits limits (rebuilds.beginning master rebuild).master fits)
+pub formed_rebuild : {small limits : Limits} {number : ℕ} {master : Master} {rebuild : Rebuild} → IsMore small limits → AreLimits limits
+    → IsFormedRebuild small rebuild → IsFormedMaster small number master → IsNumber w64 0 (length master.log.entries)
+    → RiseFits small limits number (rebuilds.rebuild_taken master rebuild)
+formed_rebuild {small} {limits} {number} {master} {rebuild} more are told formed place rises = cond_both _ _ _ (RiseFits small limits number)
+    (λ greater. formed_goes_on rebuild.tenure.tablet more are (one_stood small rebuild.tenure.term told.tenure.term)
+    (begins small number master rebuild told place formed))
+    (λ lower up. formed_changed (more_master small limits more formed)) rises
 
 -- after a main segment was read another one may follow, unless it was the last that there can be
 one_more : (main : List (List Entry)) (list : List Entry) → length main < LAST_MAIN_SEGMENT → (length main + 1 == LAST_MAIN_SEGMENT) ≡ false → length (main ++ list ∷ []) < LAST_MAIN_SEGMENT
@@ -312,25 +419,21 @@ read_formed limits members master segment bytes spelled all =
     (λ place other within. either_way (IsFormedGathered limits) _
     (segment_formed segment bytes spelled (all place other within)) (all place other within))
 
--- what gathers is not absent
-gathering_there : (role : Role) (at_term : Bool) → (is_gathering role && at_term) ≡ true → is_absent role ≡ false
-gathering_there (Role.Rebuilding from None) at_term is = refl
-gathering_there _ at_term is = absurd (cc is)
-
 -- a rebuild gathers the copy of a segment that it awaits
 pub formed_gathered : (limits : Limits) (number : ℕ) (master : Master) (copy : CopySegment) → IsFormedCopy limits copy
     → (is_gathering (tablet_at master copy.tenure.tablet).handover.role && ((tablet_at master copy.tenure.tablet).handover.term == copy.tenure.term)) ≡ true
     → IsFormedMaster limits number master → IsFormedMaster limits number (rebuilds.segment_gathered master copy)
 formed_gathered limits number master copy told is formed =
-    let there = tablet_there copy.tenure.tablet (gathering_there (tablet_at master copy.tenure.tablet).handover.role _ is) formed in
+    let there = tablet_there copy.tenure.tablet (role_there is_gathering refl (tablet_at master copy.tenure.tablet).handover.role _ is) formed in
     formed_with_tablet {id = copy.tenure.tablet} formed
     (assumption
     (read_formed limits (tablet_at master copy.tenure.tablet).gather.members copy.master copy.segment copy.bytes told.spelled there.gathered))
-    (as_many (side_waits_of (tablet_at master copy.tenure.tablet)))
+    (omega arith)
 
 -- a master that takes the copy of a segment
-pub formed_copy : {limits : Limits} {number : ℕ} {master : Master} {copy : CopySegment} → AreLimits limits → IsFormedCopy limits copy → IsFormedMaster limits number master → HasRoomFor limits (rebuilds.copy_taken master copy).master → IsFormedWork limits number (rebuilds.copy_taken master copy)
-formed_copy {limits} {number} {master} {copy} are told formed room = cond_both _ _ _ (WorkFits limits number)
-    (λ is. formed_goes_on copy.tenure.tablet are (one_stood limits copy.tenure.term told.tenure.term)
-    (formed_gathered limits number master copy told (first_holds _ _ is) formed))
-    (λ other fits. formed_changed formed) room
+pub formed_copy : {small limits : Limits} {number : ℕ} {master : Master} {copy : CopySegment} → IsMore small limits → AreLimits limits
+    → IsFormedCopy small copy → IsFormedMaster small number master → RiseFits small limits number (rebuilds.copy_taken master copy)
+formed_copy {small} {limits} {number} {master} {copy} more are told formed rises = cond_both _ _ _ (RiseFits small limits number)
+    (λ is. formed_goes_on copy.tenure.tablet more are (one_stood small copy.tenure.term told.tenure.term)
+    (formed_gathered small number master copy told (first_holds _ _ is) formed))
+    (λ other up. formed_changed (more_master small limits more formed)) rises

@@ -1,68 +1,109 @@
--- A target that has pulled all seals its side logs: the side segments that it makes are well formed, and so is the master then.
-use Rattle.std.proofs.Common.{◌≡◌, ◌≤◌, ◌<◌, ◌+◌, ◌%◌, ◌&&◌, ◌^◌, ℕ, zero, suc, Bool, false, true, cond, ltb, List, [], ◌∷◌, ◌++◌, fold}
-use Rattle.std.proofs.Common.{map, sum, All, length, length-append, Option, None, Some, IfSome, refl, ap, subst, sym, arith, w32, w64}
-use Rattle.std.proofs.Common.{sum_by, nat_eq, ne_eqb, leb-true}
-use Rattle.rk_inv_wellformed.proofs.Words.{cond_both, length_push, All-append, All-cons, All-head, All-nil, All-push, All-tail}
-use Rattle.rk_inv_wellformed.proofs.Words.{length-range_with_len, sum-map, sum_by-cons, AllByRecursion, range_with_len, IsInOrder}
-use Rattle.rk_inv_wellformed.proofs.Words.{NumberMap, value_fault, Held, SEGMENT_BYTES, LONGEST_KEY, LONGEST_VALUE, held_spelled, IsNumber}
-use Rattle.rk_inv_wellformed.proofs.Words.{spelled, FIRST_SIDE_SEGMENT, joined, Role, IsLawfulToken, Got, Pulled, items_of, IsFormedMaster}
-use Rattle.rk_inv_wellformed.proofs.Words.{IsFormedPulling, IsFormedSide, IsFormedTablet, side_waits, side_waits_of, IsFormedHeld, Limits}
-use Rattle.rk_inv_wellformed.proofs.Words.{Master, log_bytes, tablet_at, with_side_segment, as_entries, replay, token_passed, with_pulling}
-use Rattle.rk_inv_wellformed.proofs.Words.{is_absent, is_receiving, sealed_sides, Pulling, Tablet, closing_entry, text_within, Hashes, got}
-use Rattle.rk_inv_wellformed.proofs.Words.{is_batch, no_hashes, end, AreSideSegments, batch_taken, got_taken, hashes_resolved, is_token}
-use Rattle.rk_inv_wellformed.proofs.Words.{joining_at, joining_by, next_sides, pulled_all, pulled_taken, sealing, is_receiving_at}
-use Rattle.rk_inv_wellformed.proofs.Words.{cut_items, with_side_item, Entry}
-use Rattle.std.proofs.lemmas.Map.Keys.{IsDistinct-cons}
+-- A target that replays what it pulled stays well formed; and one that has pulled all seals its side logs: the side segments that it makes
+-- are well formed, and so is the master then.
+use Rattle.std.proofs.Common.{◌≡◌, ◌≤◌, ◌<◌, ◌+◌, ◌%◌, ◌&&◌, ◌^◌, ℕ, zero, suc, Bool, false, true, List, [], ◌∷◌, ◌++◌, fold, map, sum}
+use Rattle.std.proofs.Common.{All, length, length-append, None, refl, ap, subst, sym, arith, w32, w64, sum_by, nat_eq, ne_eqb, leb-true}
+use Rattle.std.proofs.Common.{length-set, ◌∙◌, slice_index_or}
+use Rattle.rk_inv_wellformed.proofs.Words.{All-weaker, cond_both, length_push, All-append, All-cons, All-head, All-nil, All-push}
+use Rattle.rk_inv_wellformed.proofs.Words.{All-tail, length-range_with_len, sum-map, sum_by-cons, AllByRecursion, range_with_len}
+use Rattle.rk_inv_wellformed.proofs.Words.{IsInOrder, NumberMap, Held, SEGMENT_BYTES, held_spelled, IsNumber, spelled, FIRST_SIDE_SEGMENT}
+use Rattle.rk_inv_wellformed.proofs.Words.{Role, IsLawfulToken, Got, Pulled, items_of, IsFormedMaster, IsFormedPulling, IsFormedSide}
+use Rattle.rk_inv_wellformed.proofs.Words.{IsFormedTablet, side_waits, IsFormedHeld, Limits, Master, log_bytes, tablet_at}
+use Rattle.rk_inv_wellformed.proofs.Words.{with_side_segment, as_entries, replay, token_passed, with_pulling, is_receiving, sealed_sides}
+use Rattle.rk_inv_wellformed.proofs.Words.{Pulling, Tablet, closing_entry, Hashes, got, is_batch, no_hashes, end, AreSideSegments}
+use Rattle.rk_inv_wellformed.proofs.Words.{batch_taken, got_taken, hashes_resolved, is_token, joining_at, joining_by, next_sides}
+use Rattle.rk_inv_wellformed.proofs.Words.{pulled_all, pulled_taken, sealing, is_receiving_at, cut_items, with_side_item, Entry, All-set}
+use Rattle.rk_inv_wellformed.proofs.Words.{Token, found, is_newer, with_tablet, item_replayed, replay_one, with_pulled, IsDistinct-cons}
+use Rattle.rk_inv_wellformed.proofs.Words.{spelled_all, IsLawfulHeld, length-le-bytes}
 use Rattle.std.specs.List.{IsDistinct}
-use Rattle.rk_types.specs.Held.{spelled_of, spelled_value_of}
-use Rattle.rk_types.specs.declared.held.TheConstants.{LONGEST_SHORT_VALUE}
-use Rattle.rk_entry.specs.Entries.{spelled_all}
-use Rattle.rk_entry.specs.Lawful.{IsLawfulHeld}
+use Rattle.rk_types.specs.Held.{spelled_of}
+use Rattle.rk_inv_wellformed.proofs.bytes.Bytes.{spelled_cons, spelled_nil}
+use Rattle.rk_inv_wellformed.proofs.bytes.EntryBytes.{held_fits, FitsSegment}
 use Rattle.rk_inv_wellformed.proofs.bytes.Sizes.{side_bytes}
-use Rattle.rk_inv_wellformed.proofs.maps.{all_given, by_found, either_way}
-use Rattle.rk_inv_wellformed.proofs.masters.Changes.{formed_with_side_segment, formed_with_tablet, formed_with_waiting}
-use Rattle.rk_inv_wellformed.proofs.masters.Given.{tablet_there}
-use Rattle.rk_inv_wellformed.proofs.masters.Replays.{IsFormedAt, formed_passed, formed_put, formed_replay}
+use Rattle.rk_inv_wellformed.proofs.maps.{range_within, all_given, by_found, either_way, all_at, all_flat, fold_keeps, fold_keeps_all}
+use Rattle.rk_inv_wellformed.proofs.masters.Changes.{formed_with_side_segment, formed_with_tablet, formed_with_waiting, formed_with_item}
+use Rattle.rk_inv_wellformed.proofs.masters.Changes.{tablet_there, closing_is, formed_closed, joining_is}
 use Rattle.rk_inv_wellformed.proofs.masters.Tablets.{formed_with_handover, formed_with_pulling, handover_of, tablet_with_same}
-use Rattle.rk_inv_wellformed.proofs.masters.Waiting.{formed_closing_entry, formed_joined, joined_on}
+use Rattle.rk_inv_wellformed.proofs.masters.Tablets.{formed_in_role, receiving_waits, waits_few, waits_inserted, WaitsForNone, none_waits}
+use Rattle.rk_inv_wellformed.proofs.masters.Tablets.{role_there}
 use Rattle.rk_inv_wellformed.proofs.masters.Work.{AreLimits, HasRoomFor, IsFormedWork, formed_changed, WorkFits}
-use Rattle.rk_inv_wellformed.proofs.room.SideWaits.{as_many, receiving_waits, waits_few, waits_inserted}
+
+-- a worker's items with one more
+formed_with_pulled : {limits : Limits} {pulling : Pulling} (worker : ℕ) {item : Held} → IsFormedPulling limits pulling → IsFormedHeld limits item → IsFormedPulling limits (with_pulled pulling worker item)
+formed_with_pulled {limits} {pulling} worker {item} formed new =
+    let sides = all_given (IsFormedHeld limits) (λ items. items) pulling.sides formed.items in
+    let now = slice_index_or pulling.sides worker [] ++ item ∷ [] in
+    assumption (
+      length-set pulling.sides worker now ∙ formed.workers,
+      all_flat (IsFormedHeld limits) (λ items. items) _
+          (All-set (All (IsFormedHeld limits)) pulling.sides worker now
+          (All-push (IsFormedHeld limits) (slice_index_or pulling.sides worker []) item
+          (all_at (All (IsFormedHeld limits)) pulling.sides worker [] (All-nil _) sides) new)
+          sides),
+      formed,
+    )
+
+-- a master, and one of its tablets, that are well formed, where that tablet waits for no side segment
+pub record IsFormedAt (limits : Limits) (number id : ℕ) (master : Master) : Type 0 where
+  pub master_is : IsFormedMaster limits number master
+  pub tablet_is : IsFormedTablet limits id (tablet_at master id)
+  pub waits : WaitsForNone (tablet_at master id).handover.role
+
+-- a master with another state of a tablet
+pub formed_put : {limits : Limits} {number id : ℕ} {master : Master} {tablet : Tablet} → IsFormedMaster limits number master
+    → IsFormedTablet limits id tablet
+    → WaitsForNone tablet.handover.role → IsFormedAt limits number id (with_tablet master id tablet)
+formed_put {limits} {id} {master} {tablet} formed new none = record {
+  master_is = formed_with_tablet formed new (none_waits tablet.handover.role _ _ none);
+  tablet_is = subst (IsFormedTablet limits id) (sym (tablet_with_same master id tablet)) new;
+  waits = subst (λ (t : Tablet). WaitsForNone t.handover.role) (sym (tablet_with_same master id tablet)) none;
+}
+
+-- an item is replayed
+formed_replayed : {limits : Limits} {number id : ℕ} (worker : ℕ) {master : Master} {item : Held} → IsFormedAt limits number id master → IsFormedHeld limits item → IsFormedAt limits number id (item_replayed id worker master item)
+formed_replayed {id} worker {master} {item} formed new = formed_put (formed_with_item formed.master_is new)
+    (formed_with_pulling (with_pulled (tablet_at master id).pulling worker item) formed.tablet_is
+    (formed_with_pulled worker formed.tablet_is.pulled new) formed.tablet_is.source)
+    formed.waits
+
+-- items are replayed where they are newer, one after the other
+pub formed_replay : {limits : Limits} {number id : ℕ} (worker : ℕ) (items : List Held) {master : Master} → IsFormedAt limits number id master → All (IsFormedHeld limits) items → IsFormedAt limits number id (replay master id worker items)
+formed_replay {limits} {number} {id} worker items {master} formed new =
+    fold_keeps_all (IsFormedAt limits number id) (IsFormedHeld limits) (replay_one id worker) items master formed new
+    (λ now item before held. either_way (IsFormedAt limits number id) (is_newer item (found item.table item.key now.records))
+    (formed_replayed worker before held) before)
+
+-- a target has taken a batch
+pub formed_passed : {limits : Limits} {number id : ℕ} {master : Master} (next : Token) → IsLawfulToken next → IsFormedAt limits number id master → IsFormedAt limits number id (token_passed master id next)
+formed_passed {id} {master} next token formed =
+    let it = tablet_at master id in
+    let pulled = formed.tablet_is.pulled in
+    formed_put formed.master_is
+    (formed_with_pulling (record it.pulling { token = next; batches = it.pulling.batches + 1 })
+    formed.tablet_is
+    (assumption)
+    formed.tablet_is.source)
+    formed.waits
 
 -- ---- how long items are spelled
 
-first_spelled : (item : Held) (items : List Held) → spelled_all (as_entries (item ∷ items)) ≡ spelled (Entry.Held item) ++ spelled_all (as_entries items)
-unfolding spelled_all
-first_spelled item items = refl
-
 -- no items take no bytes
 pub none_spelled : spelled_all (as_entries []) ≡ []
-unfolding spelled_all
-none_spelled = refl
+none_spelled = spelled_nil
 
 -- items take what each of them takes
 pub items_spelled : (items : List Held) → length (spelled_all (as_entries items)) ≡ sum (map spelled_of items)
 items_spelled [] = ap (λ (l : List ℕ). length l) none_spelled
 items_spelled (item ∷ items) =
-    omega (arith, ap (λ (l : List ℕ). length l) (first_spelled item items), length-append {A = ℕ}, held_spelled, items_spelled items, sum-map {X = Held}, sum_by-cons {X = Held})
+    omega (arith, ap (λ (l : List ℕ). length l) (spelled_cons (Entry.Held item) (as_entries items)), length-append {A = ℕ}, held_spelled, items_spelled items, sum-map {X = Held}, sum_by-cons {X = Held})
 
 pub sum_pushed : (items : List Held) (item : Held) → sum (map spelled_of (items ++ item ∷ [])) ≡ sum (map spelled_of items) + spelled_of item
 sum_pushed [] item = omega (arith, sum-map spelled_of (item ∷ []), sum_by-cons spelled_of item [], sum-map spelled_of [])
 sum_pushed (first ∷ items) item =
     omega (arith, sum_pushed items item, sum-map {X = Held}, sum_by-cons {X = Held})
 
--- the value of an item takes no more than the longest one
-value_few : (value : Option (List ℕ)) → IfSome value (λ v. value_fault v ≡ None) → spelled_value_of value ≤ 65005
-value_few None lawful = omega arith
-value_few (Some value) lawful =
-    let within : length value ≤ LONGEST_VALUE = (text_within 0 LONGEST_VALUE value lawful).1 in
-    let mark : cond (ltb LONGEST_SHORT_VALUE (length value)) 1 0 ≤ 1 =
-    either_way (λ (n : ℕ). n ≤ 1) (ltb LONGEST_SHORT_VALUE (length value)) (omega arith) (omega arith) in
-    omega arith
-
 -- an item fits a segment
 item_few : {item : Held} → IsLawfulHeld item → spelled_of item ≤ SEGMENT_BYTES
-unfolding spelled_of
-item_few {item} lawful = omega (arith, (text_within 1 LONGEST_KEY item.key lawful.key).1, value_few item.value lawful.value)
+item_few {item} lawful = omega (arith, held_fits item lawful.key lawful.value, held_spelled item)
 
 item_some : (item : Held) → 1 ≤ spelled_of item
 unfolding spelled_of
@@ -102,15 +143,11 @@ pieces_more {limits} (items ∷ next ∷ more) {item} formed all =
     All-cons (IsPiece limits) items (with_side_item (next ∷ more) item) (All-head (IsPiece limits) items (next ∷ more) all)
     (pieces_more (next ∷ more) formed (All-tail (IsPiece limits) items (next ∷ more) all))
 
-pieces_from : (limits : Limits) (items : List Held) (pieces : List (List Held)) → All (IsFormedHeld limits) items → All (IsPiece limits) pieces → All (IsPiece limits) (fold with_side_item pieces items)
-pieces_from limits [] pieces formed all = all
-pieces_from limits (item ∷ items) pieces formed all = pieces_from limits items (with_side_item pieces item)
-    (All-tail (IsFormedHeld limits) item items formed) (pieces_more pieces (All-head (IsFormedHeld limits) item items formed) all)
-
 pieces_sealed : (limits : Limits) (sides : List (List Held)) → All (All (IsFormedHeld limits)) sides → All (IsPiece limits) (sealed_sides sides)
 pieces_sealed limits [] all = All-nil _
 pieces_sealed limits (side ∷ sides) all = All-append (IsPiece limits) (cut_items side) (sealed_sides sides)
-    (pieces_from limits side [] (All-head (All (IsFormedHeld limits)) side sides all) (All-nil _))
+    (fold_keeps_all (All (IsPiece limits)) (IsFormedHeld limits) with_side_item side [] (All-nil _) (All-head (All (IsFormedHeld limits)) side sides all)
+    (λ pieces item all new. pieces_more pieces new all))
     (pieces_sealed limits sides (All-tail (All (IsFormedHeld limits)) side sides all))
 
 -- such items make a side segment
@@ -119,19 +156,16 @@ side_of_piece {items} piece = omega (arith, piece, items_spelled items)
 
 -- a master with side segments of such items
 formed_with_sides : {limits : Limits} {number : ℕ} (pieces : List (List Held)) {master : Master} → All (IsPiece limits) pieces → IsFormedMaster limits number master → IsFormedMaster limits number (fold with_side_segment master pieces)
-formed_with_sides [] all formed = formed
-formed_with_sides {limits} (items ∷ pieces) all formed =
-    let piece = All-head (IsPiece limits) items pieces all in
-    formed_with_sides pieces (All-tail (IsPiece limits) items pieces all)
-    (formed_with_side_segment items formed (side_of_piece piece) piece.each)
+formed_with_sides {limits} {number} pieces {master} all formed =
+    fold_keeps_all (IsFormedMaster limits number) (IsPiece limits) with_side_segment pieces master formed all
+    (λ now items before piece. formed_with_side_segment items before (side_of_piece piece) piece.each)
 
 -- ---- the numbers of side segments
 
 numbers_fit : (first count : ℕ) → FIRST_SIDE_SEGMENT ≤ first → first + count ≤ 2 ^ 32 → All (IsNumber w32 FIRST_SIDE_SEGMENT) (range_with_len first count)
-numbers_fit first zero least fits = All-nil _
-numbers_fit first (suc count) least fits =
-    All-cons (IsNumber w32 FIRST_SIDE_SEGMENT) first (range_with_len (first + 1) count)
-    (record { least_is = least; fits = omega arith }) (numbers_fit (first + 1) count (omega arith) (omega arith))
+numbers_fit first count least fits =
+    All-weaker (λ n. (first ≤ n) × (n < first + count)) (IsNumber w32 FIRST_SIDE_SEGMENT) (λ n within. omega (arith, within, least, fits))
+    (range_with_len first count) (range_within first count)
 
 numbers_apart : (number first count : ℕ) → number < first → AllByRecursion (λ other. nat_eq number other ≡ false) (range_with_len first count)
 numbers_apart number first zero below = tt
@@ -154,14 +188,8 @@ sides_counted (items ∷ pieces) master =
 
 -- side segments leave the tablets as they are
 pub sides_tablets : (pieces : List (List Held)) (master : Master) → (fold with_side_segment master pieces).tablets ≡ master.tablets
-sides_tablets [] master = refl
-sides_tablets (items ∷ pieces) master = sides_tablets pieces (with_side_segment master items)
-
--- each side segment has a byte
-sides_few : (sides : List (List ℕ)) → All IsFormedSide sides → length sides ≤ sum_by (λ (b : List ℕ). length b) sides
-sides_few [] all = omega arith
-sides_few (side ∷ sides) all =
-    omega (arith, (All-head IsFormedSide side sides all).some, sides_few sides (All-tail IsFormedSide side sides all), sum_by-cons (λ (b : List ℕ). length b) side sides)
+sides_tablets pieces master =
+    fold_keeps (λ (now : Master). now.tablets ≡ master.tablets) with_side_segment pieces master refl (λ now items same. same)
 
 -- ---- a target that has pulled all
 
@@ -183,15 +211,14 @@ formed_joining : {limits : Limits} {number id : ℕ} {master : Master} {tablet :
     → IsFormedMaster limits number master → IsFormedTablet limits id tablet
     → tablet.pulling.sealed ≡ numbers → side_waits master.tablets + length numbers ≤ length master.log.sides
     → HasRoomFor limits (joining_by master id tablet numbers) → IsFormedMaster limits number (joining_by master id tablet numbers)
-formed_joining {master} {tablet} [] are formed it is few room = formed_closing_entry _ are formed it
-    (formed_joined tablet.handover.term (Some (length master.log.entries)) (handover_of it))
-    (joined_on tablet.handover tablet.handover.term (length master.log.entries)) room.room.fits
+formed_joining {limits} {number} {id} {master} {tablet} [] are formed it is few room =
+    closing_is (λ now. All FitsSegment now.log.entries → IsFormedMaster limits number now) master id tablet (λ fits. formed)
+    (length master.log.entries) (λ r joins fits. formed_closed r joins are formed it fits) room.room.fits
 formed_joining {limits} {number} {id} {master} {tablet} (first ∷ numbers) are formed it sealed_is few room =
-    by_found (λ moved. IsFormedMaster limits number (joining_at master id tablet moved)) (joined tablet.handover tablet.handover.term None)
-    (λ is. formed)
-    (λ handover is. formed_with_waiting formed
-    (formed_with_handover it (formed_joined tablet.handover.term None (handover_of it) handover is))
-    (omega (arith, few, waits_few handover.role tablet.pulling.sealed, ap (λ (list : List ℕ). length list) sealed_is)))
+    joining_is (IsFormedMaster limits number) master id tablet formed
+    (λ r joins. formed_with_waiting formed
+    (formed_with_handover it (formed_in_role r (Role.Joining None) joins refl refl (handover_of it)))
+    (omega (arith, few, waits_few r tablet.pulling.sealed, ap (λ (list : List ℕ). length list) sealed_is)))
 
 module _ (limits : Limits) (number id : ℕ) (master : Master) where
   abbrev it : Tablet
@@ -217,7 +244,7 @@ module _ (limits : Limits) (number id : ℕ) (master : Master) where
   numbers_formed : IsFormedAt limits number id master → HasRoomFor limits (pulled_all master id) → AreSideSegments numbers
   numbers_formed formed room =
       let same : (pulled_all master id).log.sides ≡ now.log.sides = joined_sides sealed id (tablet_at sealed id) (tablet_at sealed id).pulling.sealed in
-      let few : length now.log.sides ≤ sum_by (λ (b : List ℕ). length b) now.log.sides = sides_few now.log.sides (now_formed formed).sides in
+      let few : length now.log.sides ≤ sum_by (λ (b : List ℕ). length b) now.log.sides = length-le-bytes now.log.sides (λ k within. ((now_formed formed).sides k [] within).some) in
       let bytes : sum_by (λ (b : List ℕ). length b) now.log.sides ≤ log_bytes (pulled_all master id) =
       subst (λ (sides : List (List ℕ)). sum_by (λ (b : List ℕ). length b) sides ≤ log_bytes (pulled_all master id)) same
       (side_bytes (pulled_all master id)) in
@@ -256,11 +283,6 @@ module _ (limits : Limits) (number id : ℕ) (master : Master) where
 
 -- ---- a target that takes a batch, or what it asked for first
 
--- what pulls is not absent
-receiving_there : (role : Role) (at_term : Bool) → (is_receiving role && at_term) ≡ true → is_absent role ≡ false
-receiving_there Role.Receiving at_term is = refl
-receiving_there _ at_term is = absurd (cc is)
-
 -- of two tests that hold the first does
 pub first_holds : (a b : Bool) → (a && b) ≡ true → a ≡ true
 first_holds true b is = refl
@@ -270,14 +292,23 @@ first_holds false b is = is
 formed_pulling : {limits : Limits} {number : ℕ} (id : ℕ) {master : Master} (term : ℕ) → is_receiving_at (tablet_at master id) term ≡ true → IsFormedMaster limits number master → IsFormedAt limits number id master
 formed_pulling id {master} term is formed = record {
   master_is = formed;
-  tablet_is = tablet_there id (receiving_there (tablet_at master id).handover.role _ is) formed;
+  tablet_is = tablet_there id (role_there is_receiving refl (tablet_at master id).handover.role _ is) formed;
   waits = receiving_waits (tablet_at master id).handover.role (first_holds _ _ is);
 }
 
+-- once a batch was replayed the token moves on
+pub formed_batch : {limits : Limits} {number : ℕ} {master : Master} (pulled : Pulled)
+    → is_receiving_at (tablet_at master pulled.tenure.tablet) pulled.tenure.term ≡ true → IsLawfulToken pulled.next
+    → All (IsFormedHeld limits) (items_of pulled.entries) → IsFormedMaster limits number master
+    → IsFormedAt limits number pulled.tenure.tablet (token_passed (replay master pulled.tenure.tablet ((tablet_at master pulled.tenure.tablet).pulling.batches % 4) (items_of pulled.entries)) pulled.tenure.tablet pulled.next)
+formed_batch {master} pulled is token items formed =
+    formed_passed pulled.next token (formed_replay ((tablet_at master pulled.tenure.tablet).pulling.batches % 4) (items_of pulled.entries)
+    (formed_pulling pulled.tenure.tablet pulled.tenure.term is formed) items)
+
 -- a master that takes a Pulled
-pub formed_pulled : {limits : Limits} {number : ℕ} {master : Master} (pulled : Pulled) → AreLimits limits → IsLawfulToken pulled.next → All (IsFormedHeld limits) (items_of pulled.entries) → IsFormedMaster limits number master → HasRoomFor limits (pulled_taken master pulled).master → IsFormedWork limits number (pulled_taken master pulled)
+pub formed_pulled : {limits : Limits} {number : ℕ} {master : Master} (pulled : Pulled) → AreLimits limits → IsLawfulToken pulled.next → All (IsFormedHeld limits) (items_of pulled.entries) → IsFormedMaster limits number master → WorkFits limits number 1 (pulled_taken master pulled)
 formed_pulled {limits} {number} {master} pulled are token items formed room =
-    cond_both _ _ _ (WorkFits limits number) (λ is fits. formed_changed (takes (first_holds _ _ is) fits)) (λ other fits. formed_changed formed) room
+    cond_both _ _ _ (WorkFits limits number 1) (λ is fits. formed_changed (takes (first_holds _ _ is) fits)) (λ other fits. formed_changed formed) room
   where
     id : ℕ
     id = pulled.tenure.tablet
@@ -285,12 +316,9 @@ formed_pulled {limits} {number} {master} pulled are token items formed room =
     takes : is_receiving_at (tablet_at master id) pulled.tenure.term ≡ true → HasRoomFor limits (batch_taken master id pulled)
         → IsFormedMaster limits number (batch_taken master id pulled)
     takes is fits =
-        let worker = (tablet_at master id).pulling.batches % 4 in
-        let replayed = formed_replay worker (items_of pulled.entries) (formed_pulling id pulled.tenure.term is formed) items in
-        let passed = formed_passed pulled.next token replayed in
-        let now = token_passed (replay master id worker (items_of pulled.entries)) id pulled.next in
+        let passed = formed_batch pulled is token items formed in
         cond_both (is_token pulled.next end) _ _ (λ (after : Master). HasRoomFor limits after → IsFormedMaster limits number after)
-        (λ last fits. formed_pulled_all limits number id now are passed fits) (λ more fits. passed.master_is) fits
+        (λ last fits. formed_pulled_all limits number id _ are passed fits) (λ more fits. passed.master_is) fits
 
 -- the hashes that are left once a batch has come
 got_wanted : (hashes : Hashes) (given : List ℕ) → All (IsNumber w64 0) hashes.wanted → All (IsNumber w64 0) (got hashes given).wanted
@@ -310,11 +338,11 @@ formed_resolved {id} {master} hashes formed =
     (formed_with_pulling (record pulling { hashes = got pulling.hashes hashes }) formed.tablet_is
     (assumption (got_wanted pulling.hashes hashes pulled.wanted, got_outstanding pulling.hashes hashes pulled.outstanding))
     formed.tablet_is.source)
-    (as_many (side_waits_of (tablet_at master id)))
+    (omega arith)
 
 -- a master that takes a Got
-pub formed_got : {limits : Limits} {number : ℕ} {master : Master} (message : Got) → All (IsFormedHeld limits) (items_of message.entries) → IsFormedMaster limits number master → IsFormedWork limits number (got_taken master message)
-formed_got {limits} {number} {master} message items formed = cond_both _ _ _ (IsFormedWork limits number)
+pub formed_got : {limits : Limits} {number : ℕ} {master : Master} (message : Got) → All (IsFormedHeld limits) (items_of message.entries) → IsFormedMaster limits number master → IsFormedWork limits number 1 (got_taken master message)
+formed_got {limits} {number} {master} message items formed = cond_both _ _ _ (IsFormedWork limits number 1)
     (λ is. formed_changed (formed_resolved message.hashes (formed_replay 0 (items_of message.entries)
     (formed_pulling message.tenure.tablet message.tenure.term (first_holds _ _ is) formed) items)))
     (λ other. formed_changed formed)

@@ -1,17 +1,55 @@
--- Tablets of a master: their handover, and what they have beside it; and the tablet that a master has under a number.
-use Rattle.std.proofs.Common.{◌≡◌, ◌≤◌, ◌<◌, ℕ, true, All, List, [], ◌∷◌, Option, Some, unwrap_or, refl, sym, ap, subst, arith, w32, w64}
-use Rattle.std.proofs.Common.{◌+◌}
-use Rattle.rk_inv_wellformed.proofs.Words.{All-take, All-drop, All-nil, All-push, get_other, get_same, IsInOrder, get, Ended, IsLawfulRange}
-use Rattle.rk_inv_wellformed.proofs.Words.{IsNumber, Completions, ends_of, noted, Handover, IsFormedGathered, IsFormedMaster}
+-- Tablets of a master: how many side segments they wait for, their handover, and what they have beside it; and the tablet that a master has
+-- under a number.
+use Rattle.std.proofs.Common.{false, ◌≡◌, ◌≤◌, ◌<◌, ℕ, true, All, List, [], ◌∷◌, Option, Some, unwrap_or, refl, sym, ap, subst, arith}
+use Rattle.std.proofs.Common.{w32, w64, ◌+◌, length, max, None, Bool, ◌&&◌}
+use Rattle.rk_inv_wellformed.proofs.Words.{All-take, All-drop, All-nil, All-push, get_other, get_same, IsInOrder, get, Ended}
+use Rattle.rk_inv_wellformed.proofs.Words.{IsLawfulRange, IsNumber, ends_of, noted, Handover, IsFormedGathered, IsFormedMaster}
 use Rattle.rk_inv_wellformed.proofs.Words.{IsFormedPulling, IsFormedTablet, place_in, AreOfDistinctClients, IsFormedEnd, IsFormedHeld}
-use Rattle.rk_inv_wellformed.proofs.Words.{IsFormedNumber, Limits, Master, tablet_at, with_tablet, with_outstanding, IsMaster, with_pulling}
-use Rattle.rk_inv_wellformed.proofs.Words.{counted_up, with_wanted, is_receiving, Pulling, Tablet, no_tablet, pulling_from, with_handover}
-use Rattle.rk_inv_wellformed.proofs.Words.{Hashes}
+use Rattle.rk_inv_wellformed.proofs.Words.{IsFormedNumber, Limits, Master, tablet_at, with_tablet, with_outstanding, IsMaster}
+use Rattle.rk_inv_wellformed.proofs.Words.{with_pulling, counted_up, with_wanted, is_receiving, Pulling, Tablet, no_tablet, pulling_from}
+use Rattle.rk_inv_wellformed.proofs.Words.{with_handover, Hashes, NumberMap, changed_each, insert, Role, side_waits, side_waits_of}
+use Rattle.rk_inv_wellformed.proofs.Words.{side_waits_in, sum-map, and_parts, is_absent, batched, batched_by, is_known, wanting}
 use Rattle.std.specs.List.{IsDistinct}
-use Rattle.rk_priority.specs.Hashes.{batched, batched_by, is_known, wanting}
 use Rattle.rk_priority.specs.declared.wanted.TheConstants.{BATCH_HASHES}
-use Rattle.rk_inv_wellformed.proofs.maps.{noted_each, noted_order, either_way, each_or}
+use Rattle.rk_inv_wellformed.proofs.maps.{noted_each, noted_order, either_way, each_or, sum_changed, sum_put}
 use Rattle.rk_inv_wellformed.proofs.masters.MergedOnce.{none_twice}
+
+-- ---- by role
+
+-- a role in which no side segment is waited for
+abbrev pub WaitsForNone : Role → Type 0
+WaitsForNone role = (sealed : List ℕ) → side_waits_in role sealed ≡ 0
+
+-- a tablet in such a role waits for no more than any number
+pub none_waits : (role : Role) (sealed : List ℕ) (n : ℕ) → WaitsForNone role → side_waits_in role sealed ≤ n
+none_waits role sealed n none = omega (arith, none sealed)
+
+-- and so does one in a role that is such a one
+pub none_waits_in : (role named : Role) (sealed : List ℕ) (n : ℕ) → role ≡ named → WaitsForNone named → side_waits_in role sealed ≤ n
+none_waits_in role named sealed n is none = omega (arith, ap (λ (r : Role). side_waits_in r sealed) is, none sealed)
+
+-- a target that pulls waits for none
+pub receiving_waits : (role : Role) → is_receiving role ≡ true → WaitsForNone role
+receiving_waits Role.Receiving is sealed = refl
+receiving_waits _ is sealed = absurd (cc is)
+
+-- in any role no more is waited for than was sealed, or one
+pub waits_few : (role : Role) (sealed : List ℕ) → side_waits_in role sealed ≤ max 1 (length sealed)
+waits_few (Role.Joining None) sealed = omega arith
+waits_few _ sealed = omega arith
+
+-- ---- at a master
+
+-- a tablet counts in place of what was there
+pub waits_inserted : (master : Master) (id : ℕ) (tablet : Tablet) → IsInOrder master.tablets
+    → side_waits (insert master.tablets id tablet) + side_waits_of (tablet_at master id) ≡ side_waits master.tablets + side_waits_of tablet
+waits_inserted master id tablet order = omega (arith, sum_put side_waits_of no_tablet refl master.tablets id tablet order, sum-map {X = ℕ × Tablet})
+
+-- where no tablet waits for more, all of them do not
+pub waits_changed : (change : ℕ → Tablet → Tablet)
+    → ((number : ℕ) (tablet : Tablet) → side_waits_of (change number tablet) ≤ side_waits_of tablet)
+    → (tablets : NumberMap Tablet) → side_waits (changed_each change tablets) ≤ side_waits tablets
+waits_changed change less tablets = sum_changed side_waits_of change less tablets
 
 -- ---- parts of a tablet
 
@@ -58,6 +96,19 @@ formed_pulling_from limits source = record {
   sealed = record { each = All-nil _; distinct = tt };
 }
 
+-- a handover in a role that names no place, and in which nothing is pulled
+pub formed_in_role : {limits : Limits} {source : ℕ} {handover : Handover} (r after : Role) → r ≡ after → place_in after ≡ 0 → is_receiving after ≡ false
+    → IsFormedHandover limits source handover → IsFormedHandover limits source (record handover { role = r })
+formed_in_role {limits} {source} r after is none still formed =
+    let place : IsNumber w64 0 (place_in r) = omega (arith, none, ap place_in is) in
+    let source_is : is_receiving r ≡ true → IsMaster limits.masters source = λ receives. absurd (cc (still, ap is_receiving is, receives)) in
+    assumption
+
+-- a role that passes a test which Absent does not is not Absent
+pub role_there : (test : Role → Bool) → test Role.Absent ≡ false → (role : Role) (at_term : Bool) → (test role && at_term) ≡ true → is_absent role ≡ false
+role_there test none Role.Absent at_term is = absurd (cc (none, (and_parts (test Role.Absent) at_term is).0))
+role_there test none _ at_term is = refl
+
 -- ---- a tablet with another part
 
 -- a tablet with another handover
@@ -72,17 +123,11 @@ formed_counted_up {limits} {tablet} formed below =
     let counter : IsFormedNumber limits (tablet.handover.counter + 1) = omega (arith, formed.counter) in
     assumption
 
--- a tablet with other completions
-pub formed_with_completions : {limits : Limits} {number : ℕ} {tablet : Tablet} (completions : Completions) → IsFormedTablet limits number tablet
-    → IsInOrder completions → All (IsFormedEnd limits) (ends_of completions)
-    → IsFormedTablet limits number (record tablet { completions = completions })
-formed_with_completions completions formed order ended = assumption
-
 -- a tablet that notes the end of a call
 pub formed_noting : {limits : Limits} {number : ℕ} {tablet : Tablet} {end : Ended} → IsFormedTablet limits number tablet → IsFormedEnd limits end
     → IsFormedTablet limits number (record tablet { completions = noted tablet.completions end })
-formed_noting {limits} {tablet} {end} formed new = formed_with_completions (noted tablet.completions end) formed
-    (noted_order tablet.completions end formed.order) (noted_each (IsFormedEnd limits) tablet.completions end formed.ended new)
+formed_noting {limits} {tablet} {end} formed new =
+    assumption (noted_order tablet.completions end formed.order, noted_each (IsFormedEnd limits) tablet.completions end formed.ended new)
 
 -- a tablet that pulls so
 pub formed_with_pulling : {limits : Limits} {number : ℕ} {tablet : Tablet} (pulling : Pulling) → IsFormedTablet limits number tablet

@@ -2,15 +2,16 @@
 -- counters rise.
 use Rattle.std.proofs.Common.{◌≡◌, ◌≤◌, ℕ, ◌+◌, List, [], ◌∷◌, ◌++◌, length, map, fold, All, Option, None, Some, refl, sym, subst, arith}
 use Rattle.std.proofs.Common.{unwrap_or}
-use Rattle.rk_inv_wellformed.proofs.Words.{length-map, All-append, All-cons, All-map, NumberMap, get, insert, Call, Ended, Outcome, Traffic}
-use Rattle.rk_inv_wellformed.proofs.Words.{Message, Rebuilt, Coordinator, outcome_of, IsWellFormed, last_stamp, Ledger, asked_by, seen_of}
-use Rattle.rk_inv_wellformed.proofs.Words.{with_rebuilt, Master, filled, quietly, with_sends, Worked, World, counters_of, standing}
-use Rattle.rk_inv_wellformed.proofs.Words.{with_all_sent, with_coordinator, with_ledger, with_master, with_top, LastCall, Served}
-use Rattle.rk_inv_wellformed.proofs.Words.{with_message, next_record, with_all_served, with_end, with_ends, with_record, with_served}
-use Rattle.rk_inv_wellformed.proofs.Words.{ledger_after}
+use Rattle.rk_inv_wellformed.proofs.Words.{length-map, All-append, All-cons, All-map, NumberMap, get, insert, Call, Ended, Outcome}
+use Rattle.rk_inv_wellformed.proofs.Words.{Traffic, Message, Rebuilt, Coordinator, outcome_of, IsWellFormed, last_stamp, Ledger, asked_by}
+use Rattle.rk_inv_wellformed.proofs.Words.{seen_of, with_rebuilt, Master, filled, quietly, with_sends, Worked, World, counters_of}
+use Rattle.rk_inv_wellformed.proofs.Words.{standing, with_all_sent, with_coordinator, with_ledger, with_master, with_top, LastCall}
+use Rattle.rk_inv_wellformed.proofs.Words.{Served, with_message, next_record, with_all_served, with_end, with_ends, with_record}
+use Rattle.rk_inv_wellformed.proofs.Words.{with_served, ledger_after}
 use Rattle.rk_inv_wellformed.proofs.lanes.Ledgers.{ended_is, ended_keeps, served_is, clients_rebuilt, clients_served, last_pushed}
 use Rattle.rk_inv_wellformed.proofs.lanes.Works.{after_coordinated, after_work}
-use Rattle.rk_inv_wellformed.proofs.lanes.Worlds.{counters_in, seen_within, sent_within, stamp_within, stamps_seen, terms_in, terms_within}
+use Rattle.rk_inv_wellformed.proofs.lanes.Worlds.{counters_in, seen_within, sent_within, stamp_within, stamps_seen, terms_in}
+use Rattle.rk_inv_wellformed.proofs.lanes.Worlds.{terms_within}
 use Rattle.rk_inv_wellformed.proofs.maps.{all_in_map, greatest_within, all_back, all_flat, all_given, by_found, All_insert}
 
 -- what holds of each thing of a map, and of another one, holds of each with that one too
@@ -127,17 +128,25 @@ stamp_served_once limit most seen ledger served greater within all last =
     (stamp_recorded most ledger served.call served.outcome (seen_of (asked_by ledger served.call.client)) last
     (omega (arith, seen_of_asked limit ledger served.call.client all)))
 
--- served calls raise the last stamp by one each at most
-pub stamp_served : (limit most seen : ℕ) (ledger : Ledger) (served : List Served) → limit ≤ most → seen ≤ limit → HaveSeen limit ledger → last_stamp ledger.journal ≤ most → last_stamp (with_all_served seen ledger served).journal ≤ most + length served
-stamp_served limit most seen ledger [] greater within all last = omega arith
-stamp_served limit most seen ledger (first ∷ rest) greater within all last =
-    let next = with_served seen ledger first in
+-- steps that leave the clients, and raise the last stamp by one each at most
+stamp_folded : {X : Type 0} (step : Ledger → X → Ledger) (limit : ℕ) → ((ledger : Ledger) (x : X) → (step ledger x).clients ≡ ledger.clients)
+    → ((most : ℕ) (ledger : Ledger) (x : X) → limit ≤ most → HaveSeen limit ledger → last_stamp ledger.journal ≤ most
+    → last_stamp (step ledger x).journal ≤ most + 1)
+    → (most : ℕ) (ledger : Ledger) (list : List X) → limit ≤ most → HaveSeen limit ledger → last_stamp ledger.journal ≤ most
+    → last_stamp (fold step ledger list).journal ≤ most + length list
+stamp_folded step limit same one most ledger [] greater all last = omega arith
+stamp_folded step limit same one most ledger (first ∷ rest) greater all last =
     omega (
       arith,
-      stamp_served limit (most + 1) seen next rest (omega arith) within
-          (seen_kept limit ledger next (clients_served ledger seen (first ∷ [])) all)
-          (stamp_served_once limit most seen ledger first greater within all last),
+      stamp_folded step limit same one (most + 1) (step ledger first) rest (omega arith) (seen_kept limit ledger (step ledger first) (same ledger first) all)
+          (one most ledger first greater all last),
     )
+
+-- served calls raise the last stamp by one each at most
+pub stamp_served : (limit most seen : ℕ) (ledger : Ledger) (served : List Served) → limit ≤ most → seen ≤ limit → HaveSeen limit ledger → last_stamp ledger.journal ≤ most → last_stamp (with_all_served seen ledger served).journal ≤ most + length served
+stamp_served limit most seen ledger served greater within all last = stamp_folded (with_served seen) limit
+    (λ now one. clients_served now seen (one ∷ []))
+    (λ more now one up seen_all below. stamp_served_once limit more seen now one up within seen_all below) most ledger served greater all last
 
 stamp_ended_once : (limit most : ℕ) (ledger : Ledger) (end : Ended) → limit ≤ most → HaveSeen limit ledger → last_stamp ledger.journal ≤ most → last_stamp (with_end ledger end).journal ≤ most + 1
 stamp_ended_once limit most ledger end greater all last =
@@ -147,16 +156,9 @@ stamp_ended_once limit most ledger end greater all last =
     stamp_recorded most ledger asked.call (outcome_of end.end) asked.seen last (still_below limit most asked.seen greater seen))
 
 -- and so do ends
-pub stamp_ended : (limit most : ℕ) (ledger : Ledger) (ends : List Ended) → limit ≤ most → HaveSeen limit ledger → last_stamp ledger.journal ≤ most → last_stamp (with_ends ledger ends).journal ≤ most + length ends
-stamp_ended limit most ledger [] greater all last = omega arith
-stamp_ended limit most ledger (first ∷ rest) greater all last =
-    let next = with_end ledger first in
-    omega (
-      arith,
-      stamp_ended limit (most + 1) next rest (omega arith)
-          (seen_kept limit ledger next (ended_keeps ledger.clients ledger first refl) all)
-          (stamp_ended_once limit most ledger first greater all last),
-    )
+stamp_ended : (limit most : ℕ) (ledger : Ledger) (ends : List Ended) → limit ≤ most → HaveSeen limit ledger → last_stamp ledger.journal ≤ most → last_stamp (with_ends ledger ends).journal ≤ most + length ends
+stamp_ended limit most ledger ends greater all last = stamp_folded with_end limit (λ now end. ended_keeps now.clients now end refl)
+    (stamp_ended_once limit) most ledger ends greater all last
 
 -- how many ends a rebuild tells, if there is one
 abbrev pub ends_in : Option Rebuilt → ℕ
@@ -175,65 +177,43 @@ module _ (w : World) (formed : IsWellFormed w) where
   top_after_sends messages =
       top_within (w.top + length messages) (with_all_sent w messages) (keeps_with_sent messages (keeps_to_top w formed))
 
+  keeps_at : (limit : ℕ) → w.top ≤ limit → KeepsTo limit w
+  keeps_at limit up = keeps_to_more w.top limit w up (keeps_to_top w formed)
+
   -- where a master has worked, by what its counters rise, by its served calls and by its messages
   pub top_after_work : (rise number seen : ℕ) (worked : Worked) → seen ≤ w.top + rise → All (λ n. n ≤ w.top + rise) (counters_of worked.master) → (after_work w number seen worked).top ≤ w.top + rise + length worked.served + length worked.sends
   top_after_work rise number seen worked within counters =
-      let count = length-map worked.sends (filled ledger.journal worked.served) in
-      let most = top_within (most_served + length sends) (with_all_sent now sends) (keeps_with_sent sends keeps) in
-      omega arith
-    where
-      ledger : Ledger
-      ledger = ledger_after w.ledger number seen worked
-
-      now : World
-      now = with_ledger (with_master w number worked.master) ledger
-
-      sends : List Message
-      sends = map (filled ledger.journal worked.served) worked.sends
-
-      most_served : ℕ
-      most_served = w.top + rise + length worked.served
-
-      risen : KeepsTo (w.top + rise) w
-      risen = keeps_to_more w.top (w.top + rise) w (omega arith) (keeps_to_top w formed)
-
-      more : KeepsTo most_served w
-      more = keeps_to_more (w.top + rise) most_served w (omega arith) risen
-
-      keeps : KeepsTo most_served now
-      keeps = keeps_with_ledger ledger
-          (stamp_served (w.top + rise) (w.top + rise) seen w.ledger worked.served (omega arith) within risen.seen risen.stamp)
-          (seen_kept most_served w.ledger ledger (clients_served w.ledger seen worked.served) more.seen)
-          (keeps_with_master number worked.master
-          (all_still_below (λ n. n) (w.top + rise) most_served (counters_of worked.master) (omega arith) counters) more)
+      let ledger = ledger_after w.ledger number seen worked in
+      let sends = map (filled ledger.journal worked.served) worked.sends in
+      let now = with_ledger (with_master w number worked.master) ledger in
+      let most = w.top + rise + length worked.served in
+      let risen = keeps_at (w.top + rise) (omega arith) in
+      let more = keeps_at most (omega arith) in
+      let keeps = keeps_with_ledger ledger
+      (stamp_served (w.top + rise) (w.top + rise) seen w.ledger worked.served (omega arith) within risen.seen risen.stamp)
+      (seen_kept most w.ledger ledger (clients_served w.ledger seen worked.served) more.seen)
+      (keeps_with_master number worked.master
+      (all_still_below (λ n. n) (w.top + rise) most (counters_of worked.master) (omega arith) counters) more) in
+      omega (
+        arith,
+        length-map worked.sends (filled ledger.journal worked.served),
+        top_within (most + length sends) (with_all_sent now sends) (keeps_with_sent sends keeps),
+      )
 
   -- where the coordinator has worked, by what its terms rise, by the ends that it took and by its messages
   pub top_after_coordinator : (rise : ℕ) (coordinator : Coordinator) (rebuilt : Option Rebuilt) (sends : List Message) → All (λ row. row.term ≤ w.top + rise) coordinator.rows → (after_coordinated w coordinator rebuilt sends).top ≤ w.top + rise + ends_in rebuilt + length sends
   top_after_coordinator rise coordinator rebuilt sends terms =
-      top_within (most_told + length sends) (with_all_sent now sends) (keeps_with_sent sends keeps)
-    where
-      ledger : Ledger
-      ledger = with_rebuilt w.ledger rebuilt
-
-      now : World
-      now = with_ledger (with_coordinator w coordinator) ledger
-
-      most_told : ℕ
-      most_told = w.top + rise + ends_in rebuilt
-
-      risen : KeepsTo (w.top + rise) w
-      risen = keeps_to_more w.top (w.top + rise) w (omega arith) (keeps_to_top w formed)
-
-      more : KeepsTo most_told w
-      more = keeps_to_more (w.top + rise) most_told w (omega arith) risen
-
-      keeps : KeepsTo most_told now
-      keeps = keeps_with_ledger ledger (stamp_rebuilt (w.top + rise) w.ledger rebuilt risen.seen risen.stamp)
-          (seen_kept most_told w.ledger ledger (clients_rebuilt w.ledger rebuilt) more.seen)
-          (keeps_with_coordinator coordinator
-          (all_still_below (λ row. row.term) (w.top + rise) most_told coordinator.rows (omega arith) terms) more)
+      let ledger = with_rebuilt w.ledger rebuilt in
+      let most = w.top + rise + ends_in rebuilt in
+      let risen = keeps_at (w.top + rise) (omega arith) in
+      let more = keeps_at most (omega arith) in
+      top_within (most + length sends) (with_all_sent (with_ledger (with_coordinator w coordinator) ledger) sends) (keeps_with_sent sends
+      (keeps_with_ledger ledger (stamp_rebuilt (w.top + rise) w.ledger rebuilt risen.seen risen.stamp)
+      (seen_kept most w.ledger ledger (clients_rebuilt w.ledger rebuilt) more.seen)
+      (keeps_with_coordinator coordinator
+      (all_still_below (λ row. row.term) (w.top + rise) most coordinator.rows (omega arith) terms) more)))
 
   -- and by what terms rise where nothing is sent
   pub top_with_coordinator : (rise : ℕ) (coordinator : Coordinator) → All (λ row. row.term ≤ w.top + rise) coordinator.rows → (quietly (with_coordinator w coordinator)).world.top ≤ w.top + rise
   top_with_coordinator rise coordinator terms = top_within (w.top + rise) (with_coordinator w coordinator)
-      (keeps_with_coordinator coordinator terms (keeps_to_more w.top (w.top + rise) w (omega arith) (keeps_to_top w formed)))
+      (keeps_with_coordinator coordinator terms (keeps_at (w.top + rise) (omega arith)))

@@ -1,34 +1,41 @@
 -- The numbers of a lane fit by themselves: an event that is not refused comes in a lane that is not worn, and raises the greatest number so
 -- little that it stays below the limit. So in a run only the bytes of logs and the records of masters are left to say.
-use Rattle.std.proofs.Common.{◌≡◌, ◌≤◌, ◌<◌, ◌+◌, ℕ, Bool, true, false, List, [], length, Option, None, refl, sym, subst, arith, not, w32}
-use Rattle.rk_inv_wellformed.proofs.Words.{cond_both, All-nil, get, Node, Range, Segments, IsNumber, row_of, Phase, Owned, Row, Body}
-use Rattle.rk_inv_wellformed.proofs.Words.{Message, Backed, Called, backup_step, stored_after, new_row, with_row, coordinator_step}
-use Rattle.rk_inv_wellformed.proofs.Words.{coordinator_turn, IsWellFormed, IsFormedBody, IsFormedMessage, IsThere, limits_of, Master}
-use Rattle.rk_inv_wellformed.proofs.Words.{new_master, tablet_at, with_tablet, told_master, tablet_migrated, coordinator_notice, IsMaster}
-use Rattle.rk_inv_wellformed.proofs.Words.{MayCome, MayHappen, MayTurn, range_below, range_from, WORN_NUMBER, comes_anyway, refusal}
-use Rattle.rk_inv_wellformed.proofs.Words.{where_true, HasRoom, MOST_NUMBER, IsCalmEvent, has_parts, owner_split, row_split, rows_split}
-use Rattle.rk_inv_wellformed.proofs.Words.{with_half, with_halves, with_split, Stepped, backed_at, delivered, delivered_to, happened}
-use Rattle.rk_inv_wellformed.proofs.Words.{log_bytes_of, losing, quietly, seen_in, tablet_added, to_backup, to_master, turned, with_added}
-use Rattle.rk_inv_wellformed.proofs.Words.{with_sends, worked_at, Worked, World, crashed_masters, has_crashed, is_backup, master_at}
-use Rattle.rk_inv_wellformed.proofs.Words.{with_coordinator, with_master, with_stored_by, with_top, Event, tablet_split, StepError}
-use Rattle.rk_world.specs.Step.{to_coordinator}
-use Rattle.rk_inv_wellformed.proofs.bytes.Sizes.{entries_few}
+use Rattle.std.proofs.Common.{◌∷◌, ◌≡◌, ◌≤◌, ◌<◌, ◌+◌, ℕ, true, false, List, [], length, Option, None, refl, arith, w32}
+use Rattle.rk_inv_wellformed.proofs.Words.{cond_both, All-nil, Node, Range, IsNumber, row_of, Row, Body, Message, Backed, Called}
+use Rattle.rk_inv_wellformed.proofs.Words.{backup_step, new_row, with_row, coordinator_step, coordinator_turn, IsWellFormed, IsFormedBody}
+use Rattle.rk_inv_wellformed.proofs.Words.{IsFormedMessage, limits_of, Master, new_master, tablet_at, with_tablet, told_master}
+use Rattle.rk_inv_wellformed.proofs.Words.{tablet_migrated, coordinator_notice, IsMaster, MayCome, MayHappen, MayTurn, range_below}
+use Rattle.rk_inv_wellformed.proofs.Words.{range_from, WORN_NUMBER, comes_anyway, refusal, HasRoom, MOST_NUMBER, IsCalmEvent, has_parts}
+use Rattle.rk_inv_wellformed.proofs.Words.{row_split, rows_split, with_half, with_halves, with_split, Stepped, backed_at, happened}
+use Rattle.rk_inv_wellformed.proofs.Words.{log_bytes_of, losing, quietly, seen_in, tablet_added, turned, with_added, with_sends}
+use Rattle.rk_inv_wellformed.proofs.Words.{worked_at, Worked, World, crashed_masters, has_crashed, master_at, with_coordinator, with_top}
+use Rattle.rk_inv_wellformed.proofs.Words.{Event, tablet_split, is_added, with_client, seen_of, LastCall, with_wire, without_message, get}
+use Rattle.rk_inv_wellformed.proofs.Words.{sent_again, with_crash, Accepts, Asks, Happens, MayOccur, after, AllHaveRoom, Happening}
+use Rattle.rk_inv_wellformed.proofs.Words.{IsCalm, IsCalmHappening, MayAllOccur, world_stepped, stepped_by, to_coordinator}
+use Rattle.rk_inv_wellformed.specs.Fitting.{AllLogsFit, LogsFit}
 use Rattle.rk_inv_wellformed.proofs.coordinator.Coordinators.{IsFormedChange, formed_coordinator_step, formed_tablet_migrated}
-use Rattle.rk_inv_wellformed.proofs.coordinator.Coordinators.{formed_with_row, rows_have_room}
+use Rattle.rk_inv_wellformed.proofs.coordinator.Coordinators.{formed_with_row, rows_have_room, added_allowed, formed_rows_split}
+use Rattle.rk_inv_wellformed.proofs.coordinator.Coordinators.{split_allowed}
 use Rattle.rk_inv_wellformed.proofs.coordinator.NoticeLaws.{formed_noticed}
 use Rattle.rk_inv_wellformed.proofs.coordinator.Rows.{formed_new_row, terms_below}
-use Rattle.rk_inv_wellformed.proofs.coordinator.SplitLaws.{added_allowed, formed_rows_split, split_allowed}
-use Rattle.rk_inv_wellformed.proofs.lanes.Events.{comes_fresh, has_no_fault}
-use Rattle.rk_inv_wellformed.proofs.lanes.Works.{after_work, formed_stored}
-use Rattle.rk_inv_wellformed.proofs.lanes.Worlds.{counters_within, formed_limits, master_of, room_at}
-use Rattle.rk_inv_wellformed.proofs.maps.{by_found, each_or}
-use Rattle.rk_inv_wellformed.proofs.room.Counters.{CountersWithin, counter_within, counters_weaker, counters_with_tablet}
-use Rattle.rk_inv_wellformed.proofs.room.MoreCounters.{IsFewWork}
-use Rattle.rk_inv_wellformed.proofs.room.Rises.{KeepsTo, ends_in, keeps_to_more, keeps_to_top, keeps_with_coordinator, keeps_with_master}
-use Rattle.rk_inv_wellformed.proofs.room.Rises.{top_after_coordinator, top_after_sends, top_after_work, top_with_coordinator, top_within}
-use Rattle.rk_inv_wellformed.proofs.room.Rooms.{room_again, room_come, room_crashed, room_forgotten, room_losing}
-use Rattle.rk_inv_wellformed.proofs.room.StepsFew.{HasFew, MOST_AT_ONCE, backup_step_few, coordinator_few, coordinator_turn_few, ends_few}
-use Rattle.rk_inv_wellformed.proofs.room.StepsFew.{master_turn_few, told_few}
+use Rattle.rk_inv_wellformed.proofs.lanes.Events.{comes_fresh, crash_came}
+use Rattle.rk_inv_wellformed.proofs.lanes.Works.{after_work, formed_with_backups, delivered_is, split_is}
+use Rattle.rk_inv_wellformed.proofs.lanes.Worlds.{counters_within, formed_limits, log_room_at, master_of}
+use Rattle.rk_inv_wellformed.proofs.lanes.More.{raised}
+use Rattle.rk_inv_wellformed.proofs.maps.{by_found, each_or, either_way}
+use Rattle.rk_inv_wellformed.proofs.masters.Turns.{formed_turn}
+use Rattle.rk_inv_wellformed.proofs.masters.Work.{AreLimits, MOST_AT_ONCE}
+use Rattle.rk_inv_wellformed.proofs.room.StepsFew.{CountersWithin, counter_within, counters_weaker, counters_with_tablet, IsFewWork}
+use Rattle.rk_inv_wellformed.proofs.room.StepsFew.{backup_step_few, coordinator_turn_few, ends_few, few_more, few_work, step_few}
+use Rattle.rk_inv_wellformed.proofs.room.Rises.{KeepsTo, all_inserted, ends_in, keeps_to_more, keeps_to_top, keeps_with_coordinator}
+use Rattle.rk_inv_wellformed.proofs.room.Rises.{keeps_with_ledger, keeps_with_master, top_after_coordinator, top_after_sends}
+use Rattle.rk_inv_wellformed.proofs.room.Rises.{top_after_work, top_with_coordinator, top_within}
+use Rattle.rk_inv_wellformed.proofs.lanes.Happenings.{formed_accepts, formed_asks}
+use Rattle.rk_inv_wellformed.proofs.lanes.Whole.{formed_after}
+
+-- where what stands keeps to the greatest number, that stays
+top_stays : (w : World) {after : World} → KeepsTo w.top after → HasRoom w → (with_top after).top < MOST_NUMBER
+top_stays w {after} keeps room = omega (arith, top_within w.top after keeps, room.number)
 
 -- ---- a master works
 
@@ -37,43 +44,37 @@ counters_at : {w : World} (number : ℕ) → IsWellFormed w → CountersWithin w
 counters_at {w} number formed = each_or (λ id master. CountersWithin w.top master) (new_master number []) w.masters number (All-nil _)
     (λ id master is. counters_within w w.top formed.standing id master is)
 
--- a master of a lane with room has few entries
-few_at : {w : World} {number : ℕ} → IsMaster w.coordinator.masters number → IsWellFormed w → HasRoom w → HasFew (limits_of w) (master_at w number)
-few_at {w} {number} there formed room =
-    let fits = room_at w number there formed room in
-    record { counters = fits.counters; entries = omega (arith, fits.bytes, entries_few (master_at w number)) }
-
 -- a well formed lane with room whose greatest number is not worn
 record IsLow (w : World) : Type 0 where
   formed : IsWellFormed w
   room : HasRoom w
   top : w.top < WORN_NUMBER
 
+-- limits whose greatest number is one more are limits that a lane may have
+raised_limits : {w : World} → IsLow w → AreLimits (raised (limits_of w))
+raised_limits {w} low =
+    let are = formed_limits w low.formed low.room in
+    let top : w.top + 1 < MOST_NUMBER = omega (arith, low.top) in
+    assumption
+
 -- so much may a step add
 most_fits : (top after seen served sends : ℕ) → top < WORN_NUMBER → seen ≤ 2 → served ≤ MOST_AT_ONCE → sends ≤ MOST_AT_ONCE → after ≤ top + seen + served + sends → after < MOST_NUMBER
 most_fits top after seen served sends low a b c within = omega arith
 
-work_fits : {w : World} (low : IsLow w) (number seen : ℕ) {worked : Worked} → seen ≤ w.top + 2 → IsFewWork (w.top + 2) MOST_AT_ONCE worked → (after_work w number seen worked).top < MOST_NUMBER
+work_fits : {w : World} (low : IsLow w) (number seen : ℕ) {worked : Worked} → seen ≤ w.top + 1 → IsFewWork (w.top + 1) worked → (after_work w number seen worked).top < MOST_NUMBER
 work_fits {w} low number seen {worked} within few =
-    most_fits w.top (after_work w number seen worked).top 2 (length worked.served) (length worked.sends) low.top (omega arith) few.served few.sends
-    (top_after_work w low.formed 2 number seen worked within few.counters)
+    most_fits w.top (after_work w number seen worked).top 1 (length worked.served) (length worked.sends) low.top (omega arith) few.served few.sends
+    (top_after_work w low.formed 1 number seen worked within few.counters)
 
 -- what a request has seen has stood; and where no client sends it nothing is served
 told_fits : {w : World} (low : IsLow w) (number : ℕ) (sender : Node) (body : Body) → IsFormedBody (limits_of w) sender body
-    → IsFewWork (w.top + 2) MOST_AT_ONCE (told_master (master_at w number) sender body) → (worked_at w number (seen_in body) (told_master (master_at w number) sender body)).world.top < MOST_NUMBER
+    → IsFewWork (w.top + 1) (told_master (master_at w number) sender body) → (worked_at w number (seen_in body) (told_master (master_at w number) sender body)).world.top < MOST_NUMBER
 told_fits low number (Node.Client client) (Body.Request request) says few = work_fits low number request.seen (omega (arith, says.seen)) few
 told_fits low number _ (Body.Request request) says few = work_fits low number 0 (omega arith) few
 told_fits low number sender _ says few = work_fits low number 0 (omega arith) few
 
 losing_fits : {w : World} → IsLow w → (losing w).world.top < MOST_NUMBER
-losing_fits low = (room_losing low.formed low.room).number
-
-master_fits : {w : World} (low : IsLow w) {number : ℕ} {message : Message} → IsMaster w.coordinator.masters number → IsFormedMessage (limits_of w) message → (to_master w number message).world.top < MOST_NUMBER
-master_fits {w} low {number} {message} there told = cond_both (has_crashed w number) _ _
-    (λ (stepped : Stepped). stepped.world.top < MOST_NUMBER) (λ crashed. losing_fits low)
-    (λ living. told_fits low number message.from message.body told.says
-    (told_few (limits_of w) number (master_at w number) (master_of w number there low.formed)
-    (few_at there low.formed low.room) message.from message.body told.says))
+losing_fits {w} low = top_stays w (keeps_to_top w low.formed) low.room
 
 -- ---- the coordinator and a backup work
 
@@ -83,8 +84,7 @@ coordinator_fits {w} low {message} told =
     let limits = formed_limits w low.formed low.room in
     let answers = formed_coordinator_step limits low.formed.coordinator (rows_have_room low.formed) told in
     let ends = ends_few taken.rebuilt limits answers.rebuilt in
-    let sends = coordinator_few w.coordinator message.from message.body in
-    most_fits w.top (to_coordinator w message).world.top 1 (ends_in taken.rebuilt) (length taken.sends) low.top (omega arith) (omega arith) (omega arith)
+    most_fits w.top (to_coordinator w message).world.top 1 (ends_in taken.rebuilt) (length taken.sends) low.top (omega arith) (omega arith) (omega (arith, answers.few))
     (top_after_coordinator w low.formed 1 taken.coordinator taken.rebuilt taken.sends
     (terms_below w.top (w.top + 1) taken.coordinator.rows (omega arith) answers.room.terms))
 
@@ -96,51 +96,27 @@ sends_fit {w} messages formed low few =
 counted_fits_top : {w : World} → IsWellFormed w → w.top < WORN_NUMBER → (with_top w).top < MOST_NUMBER
 counted_fits_top {w} formed low = omega (arith, low, top_within w.top w (keeps_to_top w formed))
 
-stored_top : (w : World) (backup : ℕ) (store : Segments → Segments) (found : Option Segments) → (with_stored_by w backup store found).top ≡ w.top
-stored_top w backup store found =
-    by_found (λ there. (with_stored_by w backup store there).top ≡ w.top) found (λ none. refl) (λ segments is. refl)
-
-backup_fits : {w : World} (low : IsLow w) (backup : ℕ) (sender : Node) (body : Body) (called : Called) → (to_backup w backup sender body called).world.top < MOST_NUMBER
-backup_fits {w} low backup sender body called = cond_both (is_backup w backup) (backed_at stored backed) (quietly w)
-    (λ (stepped : Stepped). stepped.world.top < MOST_NUMBER) (λ is. cond_both backed.lost (losing stored)
-    (with_sends stored backed.sends) (λ (stepped : Stepped). stepped.world.top < MOST_NUMBER)
-    (λ lost. counted_fits_top formed below) (λ answers. sends_fit backed.sends formed below
-    (omega (arith, backup_step_few backup sender body (log_bytes_of w) called))))
-    (λ apart. losing_fits low)
-  where
-    stored : World
-    stored = with_stored_by w backup (λ segments. stored_after segments sender body called) (get w.backups backup)
-
-    backed : Backed
-    backed = backup_step backup sender body (log_bytes_of w) called
-
-    formed : IsWellFormed stored
-    formed = formed_stored backup (λ segments. stored_after segments sender body called) (get w.backups backup) low.formed
-
-    below : stored.top < WORN_NUMBER
-    below = subst (λ (top : ℕ). top < WORN_NUMBER)
-        (sym (stored_top w backup (λ segments. stored_after segments sender body called) (get w.backups backup))) low.top
+backed_fits : {w : World} (backed : Backed) → IsWellFormed w → w.top < WORN_NUMBER → length backed.sends ≤ 1 → (backed_at w backed).world.top < MOST_NUMBER
+backed_fits {w} backed formed low few = either_way (λ (stepped : Stepped). stepped.world.top < MOST_NUMBER) backed.lost
+    (counted_fits_top formed low) (sends_fit backed.sends formed low (omega (arith, few)))
 
 -- ---- a message is delivered, and a node takes its turn
 
-received_fits : {w : World} (low : IsLow w) (message : Message) (to : Node) (called : Called) → message.to ≡ to → IsFormedMessage (limits_of w) message → (delivered_to w message to called).world.top < MOST_NUMBER
-received_fits low message (Node.Client client) called is told = losing_fits low
-received_fits low message Node.Coordinator called is told = coordinator_fits low told
-received_fits {w} low message (Node.Master master) called is told =
-    master_fits low (subst (λ to. IsThere (limits_of w) to) is told.to) told
-received_fits low message (Node.Backup backup) called is told = backup_fits low backup message.from message.body called
-
 delivered_fits : {w : World} (low : IsLow w) (number : ℕ) (called : Called) → (happened w (Event.Deliver number) called).world.top < MOST_NUMBER
-delivered_fits {w} low number called =
-    by_found (λ found. (delivered w found called).world.top < MOST_NUMBER) (get w.wire.messages number) (λ none. losing_fits low)
-    (λ message is. received_fits low message message.to called refl (low.formed.wire.each number message is))
+delivered_fits {w} low number called = delivered_is w called low.formed (λ bytes now. now.top < MOST_NUMBER) (λ bytes. losing_fits low)
+    (λ message master there told. told_fits low master message.from message.body told.says
+    (step_few (limits_of w) master (master_at w master) there (master_of w master there low.formed)
+    (log_room_at there low.formed low.room) (raised_limits low) told))
+    (λ message told. coordinator_fits low told)
+    (λ message backup backups there told. backed_fits (backup_step backup message.from message.body (log_bytes_of w) called)
+    (formed_with_backups backups low.formed) low.top (backup_step_few backup message.from message.body (log_bytes_of w) called))
+    number
 
 turned_fits : {w : World} (low : IsLow w) (node : Node) → MayTurn w.coordinator.masters node → (turned w node).world.top < MOST_NUMBER
 turned_fits {w} low Node.Coordinator there =
     sends_fit (coordinator_turn w.coordinator) low.formed low.top (coordinator_turn_few low.formed.coordinator)
-turned_fits {w} low (Node.Master master) there = work_fits low master 0 (omega arith)
-    (master_turn_few (limits_of w) master (master_at w master) (master_of w master there low.formed) (few_at there low.formed low.room)
-    (formed_limits w low.formed low.room))
+turned_fits {w} low (Node.Master master) there = work_fits low master 0 (omega arith) (few_more w.top (few_work
+    (formed_turn (formed_limits w low.formed low.room) there (master_of w master there low.formed) (log_room_at there low.formed low.room))))
 turned_fits low _ there = losing_fits low
 
 -- ---- rows change
@@ -199,32 +175,21 @@ split_counters most master tablet at new term some each =
     (counters_with_tablet most master tablet (with_half it (range_below it.handover.range at) term) each counter) counter)
     (λ whole. each)
 
-owner_keeps : (w : World) (tablet : ℕ) (phase : Phase) (at new term : ℕ) → IsWellFormed w → KeepsTo (w.top + 1) (owner_split w tablet phase at new term)
-owner_keeps w tablet (Owned master from) at new term formed = cond_both (has_crashed w master) w
-    (with_master w master (with_split (master_at w master) tablet at new term)) (KeepsTo (w.top + 1)) (λ crashed. risen formed)
-    (λ living. keeps_with_master master (with_split (master_at w master) tablet at new term)
-    (split_counters (w.top + 1) (master_at w master) tablet at new term (omega arith)
+split_keeps : (w : World) (found : Option Row) (at new : ℕ) → IsWellFormed w → KeepsTo (w.top + 1) (row_split w found at new)
+split_keeps w found at new formed = split_is (KeepsTo (w.top + 1)) w found at new (risen formed)
+    (λ row master from there is. keeps_with_master master (with_split (master_at w master) row.tablet at new (row.term + 1))
+    (split_counters (w.top + 1) (master_at w master) row.tablet at new (row.term + 1) (omega arith)
     (counters_weaker w.top (w.top + 1) (master_at w master) (omega arith) (counters_at master formed)))
     (risen formed))
-owner_keeps w tablet _ at new term formed = risen formed
-
-row_keeps : (w : World) (found : Option Row) (at new : ℕ) → IsWellFormed w → KeepsTo (w.top + 1) (row_split w found at new)
-row_keeps w found at new formed = by_found (λ there. KeepsTo (w.top + 1) (row_split w there at new)) found (λ none. risen formed)
-    (λ row is. owner_keeps w row.tablet row.phase at new (row.term + 1) formed)
 
 split_fits : {w : World} (low : IsLow w) (tablet at new : ℕ) → IsNumber w32 1 new → refusal w (Event.Split tablet at new) ≡ None → (quietly (tablet_split w tablet at new)).world.top < MOST_NUMBER
 split_fits {w} low tablet at new number none =
     let found = row_of w.coordinator.rows tablet in
     let change = formed_rows_split (limits_of w) w.coordinator low.formed.coordinator tablet at new (split_allowed w tablet at new none) number in
     kept_fits w low.top (keeps_with_coordinator (rows_split w.coordinator tablet at new)
-    (change.terms w.top (rows_have_room low.formed).terms) (row_keeps w found at new low.formed))
+    (change.terms w.top (rows_have_room low.formed).terms) (split_keeps w found at new low.formed))
 
 -- ---- every event
-
--- a crash that may be noticed has come
-crash_came : (crashed : Bool) (master : ℕ) → where_true (not crashed) (StepError.Alive master) ≡ None → crashed ≡ true
-crash_came true master is = refl
-crash_came false master is = absurd (cc is)
 
 -- after an event that is not refused each number that grows fits
 pub room_event : (w : World) (event : Event) (called : Called) → MayHappen w event → MayCome called → IsCalmEvent w event → refusal w event ≡ None → IsWellFormed w → HasRoom w → (happened w event called).world.top < MOST_NUMBER
@@ -233,16 +198,52 @@ room_event w event called may come calm none formed room = go event may none
     low : (event : Event) → comes_anyway event ≡ false → refusal w event ≡ None → IsLow w
     low event careful none = record { formed = formed; room = room; top = (comes_fresh w event careful none).number }
 
+    kept : KeepsTo w.top w
+    kept = keeps_to_top w formed
+
     go : (event : Event) → MayHappen w event → refusal w event ≡ None → (happened w event called).world.top < MOST_NUMBER
     go (Event.AddTablet tablet range master) may none =
         added_fits (low (Event.AddTablet tablet range master) refl none) tablet range master may none
-    go (Event.AddClient client) may none = (room_come client called formed room).number
+    go (Event.AddClient client) may none = either_way (λ (after : World). (with_top after).top < MOST_NUMBER) (is_added w.ledger client)
+        (top_stays w kept room)
+        (top_stays w (keeps_with_ledger (with_client w.ledger client) kept.stamp
+        (all_inserted (λ (last : Option LastCall). seen_of last ≤ w.top) w.ledger.clients client None (omega arith) kept.seen) kept) room)
     go (Event.Deliver number) may none = delivered_fits (low (Event.Deliver number) refl none) number called
-    go (Event.Forget number) may none = (room_forgotten number called formed room).number
+    go (Event.Forget number) may none =
+        let keeps : KeepsTo w.top (with_wire w (without_message number w.wire)) = assumption kept in
+        top_stays w keeps room
     go (Event.Turn node) may none = turned_fits (low (Event.Turn node) refl none) node may
-    go (Event.Again client) may none = (room_again client called none formed room).number
+    go (Event.Again client) may none = by_found (λ request. (sent_again w request).world.top < MOST_NUMBER) (get w.ledger.requests client)
+        (λ nothing. top_stays w kept room)
+        (λ message is. sends_fit (message ∷ []) formed (low (Event.Again client) refl none).top (omega arith))
     go (Event.Migrate tablet to) may none = migrated_fits (low (Event.Migrate tablet to) refl none) tablet may
     go (Event.Split tablet at new) may none = split_fits (low (Event.Split tablet at new) refl none) tablet at new may none
-    go (Event.Crash master) may none = (room_crashed master called formed room).number
-    go (Event.Notice master) may none = noticed_fits (low (Event.Notice master) refl none) master
-        (crash_came (has_crashed w master) master (has_no_fault w (Event.Notice master) none))
+    go (Event.Crash master) may none =
+        let keeps : KeepsTo w.top (with_crash w master) = assumption kept in
+        top_stays w keeps room
+    go (Event.Notice master) may none = noticed_fits (low (Event.Notice master) refl none) master (crash_came w master none)
+
+first_logs_fit : (w : World) (list : List Happening) → AllLogsFit w list → LogsFit w
+first_logs_fit w [] fits = fits
+first_logs_fit w (happening ∷ later) fits = fits.0
+
+with_number : {w : World} → w.top < MOST_NUMBER → LogsFit w → HasRoom w
+with_number number fits = assumption
+
+-- whatever happens, the numbers of a lane fit after it
+pub number_after : {w : World} (happening : Happening) → MayOccur w happening → IsCalmHappening w happening → IsWellFormed w → HasRoom w → (after w happening).top < MOST_NUMBER
+number_after {w} (Happens event called) may calm formed room =
+    by_found (λ refused. (world_stepped w (stepped_by w event called refused)).top < MOST_NUMBER) (refusal w event)
+    (λ none. room_event w event called may.0 may.1 calm none formed room) (λ error some. room.number)
+number_after {w} (Asks session) may calm formed room = (formed_asks w session may (record { formed = formed; room = room })).room.number
+number_after {w} (Accepts number session) may calm formed room =
+    (formed_accepts w number session may (record { formed = formed; room = room })).room.number
+
+-- each world of a calm run has room where its logs fit
+pub room_run : (w : World) (list : List Happening) → MayAllOccur w list → IsCalm w list → IsWellFormed w → w.top < MOST_NUMBER → AllLogsFit w list → AllHaveRoom w list
+room_run w [] may calm formed number fits = with_number number fits
+room_run w (happening ∷ later) may calm formed number fits =
+    let room = with_number number fits.0 in
+    let number_left = number_after happening may.0 calm.0 formed room in
+    let room_left = with_number number_left (first_logs_fit (after w happening) later fits.1) in
+    (room, room_run (after w happening) later may.1 calm.1 (formed_after happening may.0 calm.0 room room_left formed) number_left fits.1)

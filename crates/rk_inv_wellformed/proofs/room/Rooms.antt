@@ -1,65 +1,16 @@
--- A lane with room keeps it when a message is forgotten, a client comes or a master crashes, and where it is not worn when a request is
--- sent again, a client asks or takes an answer.
-use Rattle.std.proofs.Common.{◌≡◌, ◌≤◌, ◌<◌, ℕ, ◌+◌, max, [], ◌∷◌, List, length, ◌∙◌, All, Option, None, Some, refl, sym, subst, arith, Ok}
-use Rattle.std.proofs.Common.{not, option_map}
-use Rattle.rk_inv_wellformed.proofs.Words.{option_or, get, Call, without_message, Body, Message, Called, Visited, accept, ask, ClientTurn}
-use Rattle.rk_inv_wellformed.proofs.Words.{Session, session_accept, IsWellFormed, last_stamp, Ledger, is_added, seen_of, with_client}
-use Rattle.rk_inv_wellformed.proofs.Words.{WORN_NUMBER, refusal, where_true, worn, HasRoom, MOST_NUMBER, happened, sent_again, with_sends}
-use Rattle.rk_inv_wellformed.proofs.Words.{World, with_all_sent, with_crash, with_ledger, with_top, with_wire, StepError, LastCall, Taken}
-use Rattle.rk_inv_wellformed.proofs.Words.{accept_by, accepting, ask_by, asking, asking_by, fits_with, is_asked_here, ledger_asked}
-use Rattle.rk_inv_wellformed.proofs.Words.{ledger_requested, ledger_taken, session_turn, accept_refusal, ask_refusal, too_great}
-use Rattle.rk_inv_wellformed.proofs.Words.{worn_session, Event}
+-- A lane with room keeps it when a client takes an answer, and where the lane is not worn when one asks.
+use Rattle.std.proofs.Common.{◌≡◌, ◌≤◌, ◌<◌, ℕ, ◌+◌, max, [], ◌∷◌, ◌∙◌, All, Option, None, Some, refl, sym, subst, arith, Ok, not}
+use Rattle.std.proofs.Common.{option_map}
+use Rattle.rk_inv_wellformed.proofs.Words.{option_or, get, Call, Body, Message, Visited, accept, ask, ClientTurn, Session, session_accept}
+use Rattle.rk_inv_wellformed.proofs.Words.{IsWellFormed, last_stamp, Ledger, is_added, seen_of, WORN_NUMBER, where_true, worn, HasRoom}
+use Rattle.rk_inv_wellformed.proofs.Words.{MOST_NUMBER, World, with_all_sent, with_ledger, StepError, LastCall, Taken, accept_by}
+use Rattle.rk_inv_wellformed.proofs.Words.{accepting, ask_by, asking, asking_by, fits_with, is_asked_here, ledger_asked, ledger_requested}
+use Rattle.rk_inv_wellformed.proofs.Words.{ledger_taken, session_turn, accept_refusal, ask_refusal, too_great, worn_session}
 use Rattle.rk_inv_wellformed.proofs.lanes.Asks.{asked_is, now_asked, after_asking, asked_ledger, clients_requested}
-use Rattle.rk_inv_wellformed.proofs.lanes.Events.{IsFresh, comes_fresh, no_first, no_inner, no_second, not_too_great, not_worn}
+use Rattle.rk_inv_wellformed.proofs.lanes.Events.{IsFresh, no_first, no_inner, no_second, not_too_great, not_worn}
 use Rattle.rk_inv_wellformed.proofs.maps.{by_found, either_way}
 use Rattle.rk_inv_wellformed.proofs.room.Rises.{HaveSeen, KeepsTo, all_inserted, keeps_to_more, keeps_to_top, keeps_with_ledger}
-use Rattle.rk_inv_wellformed.proofs.room.Rises.{keeps_with_sent, top_after_sends, top_within}
-
--- ---- events
-
--- where what stands keeps to the greatest number, that stays
-top_stays : (w : World) {after : World} → KeepsTo w.top after → HasRoom w → (with_top after).top < MOST_NUMBER
-top_stays w {after} keeps room = omega (arith, top_within w.top after keeps, room.number)
-
--- a lane keeps its room when what stands is counted
-pub room_losing : {w : World} → IsWellFormed w → HasRoom w → HasRoom (with_top w)
-room_losing {w} formed room = assumption (top_stays w (keeps_to_top w formed) room)
-
--- when a message is forgotten
-pub room_forgotten : {w : World} (number : ℕ) (called : Called) → IsWellFormed w → HasRoom w → HasRoom (happened w (Event.Forget number) called).world
-room_forgotten {w} number called formed room =
-    let keeps : KeepsTo w.top (with_wire w (without_message number w.wire)) = assumption (keeps_to_top w formed) in
-    assumption (top_stays w keeps room)
-
--- when a master crashes
-pub room_crashed : {w : World} (master : ℕ) (called : Called) → IsWellFormed w → HasRoom w → HasRoom (happened w (Event.Crash master) called).world
-room_crashed {w} master called formed room =
-    let keeps : KeepsTo w.top (with_crash w master) = assumption (keeps_to_top w formed) in
-    assumption (top_stays w keeps room)
-
--- when a client comes
-pub room_come : {w : World} (client : ℕ) (called : Called) → IsWellFormed w → HasRoom w → HasRoom (happened w (Event.AddClient client) called).world
-room_come {w} client called formed room =
-    let before = keeps_to_top w formed in
-    let keeps = keeps_with_ledger (with_client w.ledger client) before.stamp
-    (all_inserted (λ (last : Option LastCall). seen_of last ≤ w.top) w.ledger.clients client None (omega arith) before.seen) before in
-    either_way (λ (after : World). HasRoom (with_top after)) (is_added w.ledger client) (room_losing formed room)
-    (assumption (top_stays w keeps room))
-
--- when messages are sent, of which there are so few that their numbers fit
-pub room_sending : {w : World} (messages : List Message) → w.top + length messages < MOST_NUMBER → IsWellFormed w → HasRoom w → HasRoom (with_sends w messages).world
-room_sending {w} messages fits formed room =
-    let number : (with_sends w messages).world.top < MOST_NUMBER = omega (arith, top_after_sends w formed messages) in
-    assumption
-
--- when a request is sent again in a lane that is not worn
-pub room_again : {w : World} (client : ℕ) (called : Called) → refusal w (Event.Again client) ≡ None → IsWellFormed w → HasRoom w → HasRoom (happened w (Event.Again client) called).world
-room_again {w} client called none formed room =
-    let fits : w.top + 1 < MOST_NUMBER = omega (arith, comes_fresh w (Event.Again client) refl none) in
-    by_found (λ request. HasRoom (sent_again w request).world) (get w.ledger.requests client) (λ nothing. room_losing formed room)
-    (λ message is. room_sending (message ∷ []) fits formed room)
-
--- ---- sessions
+use Rattle.rk_inv_wellformed.proofs.room.Rises.{keeps_with_sent, top_within}
 
 -- a session that is not worn has not seen a stamp that is too great
 seen_fits : (session : Session) (outstanding : Option Call) → worn_session session outstanding ≡ None → session.seen < WORN_NUMBER

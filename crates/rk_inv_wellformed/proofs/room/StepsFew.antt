@@ -1,165 +1,160 @@
--- How far one step may raise the numbers: a master that takes a message or its turn, the coordinator and a backup send few messages, serve
--- few calls and tell few ends.
-use Rattle.std.proofs.Common.{◌≤◌, ◌<◌, ◌+◌, ◌^◌, ◌==◌, ℕ, List, length, Option, None, Some, arith, IfSome}
-use Rattle.rk_inv_wellformed.proofs.Words.{All-weaker, Node, Phase, Owned, Opening, Moving, Rebuilding, Row, overreach, Body, Rebuilt}
+-- How far one step may raise the numbers: a master that takes a message raises counters by one, and it, the coordinator and a backup send few
+-- messages, serve few calls and tell few ends.
+use Rattle.std.proofs.Common.{◌≤◌, ◌<◌, ◌+◌, ◌^◌, ◌&&◌, ◌%◌, ℕ, All, List, length, length-append, Option, None, Some, arith, IfSome, inl}
+use Rattle.std.proofs.Common.{[], ◌∷◌, fold}
+use Rattle.rk_inv_wellformed.proofs.Words.{All-from_recursion, All-weaker, cond_both, Node, Phase, Opening, Row, overreach, Body, Rebuilt}
 use Rattle.rk_inv_wellformed.proofs.Words.{Called, backup_step, Coordinator, coordinator_turn, IsFormedCoordinator, IsFormedMaster}
-use Rattle.rk_inv_wellformed.proofs.Words.{IsFormedRow, IsFormedTablet, MOST_BASE_CLIENTS, IsClient, IsFormedBody, IsFormedEnd, Limits}
-use Rattle.rk_inv_wellformed.proofs.Words.{Master, backup_message, client_message, order, peer_message, told_master, master_turn}
-use Rattle.rk_inv_wellformed.proofs.Words.{MOST_CLIENTS, MOST_BYTES, Worked, changed, Ready, Transfer, row_with, Appended, master_message}
-use Rattle.rk_inv_wellformed.proofs.Words.{Coordinated, about, joined_in, located, question, ready_in, rebuilt_in, report, row_duty}
-use Rattle.rk_inv_wellformed.proofs.Words.{row_for, told_again, told_coordinator, transfer_in}
-use Rattle.rk_inv_wellformed.proofs.bytes.Sizes.{below_fits}
+use Rattle.rk_inv_wellformed.proofs.Words.{IsTabletMap, IsFormedRow, MOST_BASE_CLIENTS, IsClient, IsFormedEnd, IsFormedHeld, Limits}
+use Rattle.rk_inv_wellformed.proofs.Words.{Master, tablet_at, MOST_CLIENTS, Worked, Appended, master_message, row_duty, Precedes, Message}
+use Rattle.rk_inv_wellformed.proofs.Words.{Served, Stored, Overreach, apply_entries, newly_held, stored_taken, with_known, IsLawfulToken}
+use Rattle.rk_inv_wellformed.proofs.Words.{Pulled, items_of, pulled_taken, batch_taken, changed, is_receiving_at, is_token, replay}
+use Rattle.rk_inv_wellformed.proofs.Words.{token_passed, end, IsMaster, IsFormedMessage, master_step, All-map, Held, NumberMap}
+use Rattle.rk_inv_wellformed.proofs.Words.{IsFormedTablet, with_side_segment, with_tablet, sealed_sides, Tablet, no_tablet, all_going_on}
+use Rattle.rk_inv_wellformed.proofs.Words.{going_on_in, joining_by, pulled_all, sealing, counters_of}
+use Rattle.rk_inv_wellformed.proofs.bytes.Sizes.{entries_few}
 use Rattle.rk_inv_wellformed.proofs.coordinator.Coordinators.{IsTaken}
-use Rattle.rk_inv_wellformed.proofs.maps.{by_found, either_way, All_pairs}
-use Rattle.rk_inv_wellformed.proofs.masters.MergedOnce.{once_few}
-use Rattle.rk_inv_wellformed.proofs.masters.Work.{AreLimits}
-use Rattle.rk_inv_wellformed.proofs.room.Counters.{CountersWithin, counters_weaker}
-use Rattle.rk_inv_wellformed.proofs.room.FewWorks.{few_in_order, few_rows, one_of_each, request_few, stored_few, turn_few}
-use Rattle.rk_inv_wellformed.proofs.room.MoreCounters.{IsFewWork, close_few, few_changed, got_few, grant_few, own_few, prepare_few}
-use Rattle.rk_inv_wellformed.proofs.room.MoreCounters.{pull_few, pulled_few, release_few, want_few}
-use Rattle.rk_inv_wellformed.proofs.room.RebuildCounters.{copy_few, rebuild_few}
+use Rattle.rk_inv_wellformed.proofs.lanes.More.{more_raised, raised}
+use Rattle.rk_inv_wellformed.proofs.maps.{either_way, few_rising, once_few, one_of_each, all_before, All_insert, All_pairs}
+use Rattle.rk_inv_wellformed.proofs.maps.{each_from_pairs, each_or, fold_keeps, fold_keeps_all}
+use Rattle.rk_inv_wellformed.proofs.masters.Commits.{formed_newly_applied}
+use Rattle.rk_inv_wellformed.proofs.masters.Turns.{told_is}
+use Rattle.rk_inv_wellformed.proofs.masters.Sealing.{first_holds, formed_batch}
+use Rattle.rk_inv_wellformed.proofs.masters.Work.{AreLimits, HasLogRoom, IsFormedWork, MOST_AT_ONCE, formed_changed}
 use Rattle.rk_inv_wellformed.proofs.room.Rises.{ends_in}
+use Rattle.rk_inv_wellformed.proofs.masters.Changes.{closing_is, going_on_in_is, joining_is}
 
--- one step sends no more messages than this, and serves no more calls
-abbrev pub MOST_AT_ONCE : ℕ
-MOST_AT_ONCE = 2 ^ 34
+-- no counter of a tablet is greater
+abbrev pub CountsWithin : ℕ → NumberMap Tablet → Type 0
+CountsWithin most tablets = All (λ entry. entry.1.handover.counter ≤ most) tablets
+
+-- no counter of a master's tablets is greater
+abbrev pub CountersWithin : ℕ → Master → Type 0
+CountersWithin most master = All (λ counter. counter ≤ most) (counters_of master)
+
+-- it is said of the tablets, and of their counters
+pub counts_from_counters : (most : ℕ) (master : Master) → CountersWithin most master → CountsWithin most master.tablets
+counts_from_counters most master each =
+    all_before (λ counter. counter ≤ most) (λ entry. entry.1.handover.counter) master.tablets each
+
+-- and the other way round
+counters_from_counts : (most : ℕ) (master : Master) → CountsWithin most master.tablets → CountersWithin most master
+counters_from_counts most master each =
+    All-map (λ counter. counter ≤ most) (λ entry. entry.1.handover.counter) master.tablets each
+
+-- those of a well formed master keep to the greatest number
+pub formed_counters : {limits : Limits} {number : ℕ} {master : Master} → IsFormedMaster limits number master → CountersWithin limits.top master
+formed_counters {limits} {master = master} formed = counters_from_counts limits.top master
+    (All-weaker (λ entry. IsFormedTablet limits entry.0 entry.1) (λ entry. entry.1.handover.counter ≤ limits.top) (λ entry is. is.counter.last)
+    master.tablets (All_pairs (IsFormedTablet limits) master.tablets formed.tablets_order formed.tablets))
+
+-- a greater bound holds too
+pub counters_weaker : (most more : ℕ) (master : Master) → most ≤ more → CountersWithin most master → CountersWithin more master
+counters_weaker most more master up each =
+    All-weaker (λ counter. counter ≤ most) (λ counter. counter ≤ more) (λ counter within. omega arith) (counters_of master) each
+
+-- one of its tablets is so
+pub counters_with_tablet : (most : ℕ) (master : Master) (id : ℕ) (tablet : Tablet) → CountersWithin most master
+    → tablet.handover.counter ≤ most → CountersWithin most (with_tablet master id tablet)
+counters_with_tablet most master id tablet each new = counters_from_counts most (with_tablet master id tablet)
+    (All_insert (λ entry. entry.1.handover.counter ≤ most) master.tablets id tablet (counts_from_counters most master each) new)
+
+-- the counter of the tablet under a number; that of one that is not there is 1
+pub counter_within : (most : ℕ) (master : Master) (id : ℕ) → 1 ≤ most → CountersWithin most master → (tablet_at master id).handover.counter ≤ most
+counter_within most master id some each =
+    each_or (λ number tablet. tablet.handover.counter ≤ most) no_tablet master.tablets id some
+    (each_from_pairs (λ number tablet. tablet.handover.counter ≤ most) master.tablets (counts_from_counters most master each))
+
+-- what goes on keeps the counters
+pub going_on_counters : (most : ℕ) (tablets : NumberMap Tablet) (master : Master) → CountersWithin most master → CountsWithin most tablets
+    → CountersWithin most (all_going_on master tablets)
+going_on_counters most tablets master each within =
+    fold_keeps_all (CountersWithin most) (λ entry. entry.1.handover.counter ≤ most)
+    (λ now entry. going_on_in now entry.0 entry.1 entry.1.handover.role) tablets master each within
+    (λ now entry here few. going_on_in_is (CountersWithin most) now entry.0 entry.1 here entry.1.handover.role
+    (λ r is. counters_with_tablet most now entry.0 _ here few) (λ joins r is. counters_with_tablet most now entry.0 _ here few))
+
+-- and so does a target that has pulled all
+pub pulled_all_counters : (most : ℕ) (master : Master) (id : ℕ) → 1 ≤ most → CountersWithin most master → CountersWithin most (pulled_all master id)
+pulled_all_counters most master id some each = joins (tablet_at sealed id).pulling.sealed
+  where
+    sides : List (List Held)
+    sides = sealed_sides (tablet_at master id).pulling.sides
+
+    sealed : Master
+    sealed = sealing master id (tablet_at master id)
+
+    here : CountersWithin most sealed
+    here = counters_with_tablet most (fold with_side_segment master sides) id _
+        (fold_keeps (CountersWithin most) with_side_segment sides master each (λ now items here. here)) (counter_within most master id some each)
+
+    joins : (numbers : List ℕ) → CountersWithin most (joining_by sealed id (tablet_at sealed id) numbers)
+    joins [] = closing_is (CountersWithin most) sealed id (tablet_at sealed id) here (length sealed.log.entries)
+        (λ r is. counters_with_tablet most sealed id _ here (counter_within most sealed id some here))
+    joins (number ∷ numbers) = joining_is (CountersWithin most) sealed id (tablet_at sealed id) here
+        (λ r is. counters_with_tablet most sealed id _ here (counter_within most sealed id some here))
 
 -- ---- a master
 
-few_more : (most more count limit : ℕ) {worked : Worked} → most ≤ more → count ≤ limit → IsFewWork most count worked → IsFewWork more limit worked
-few_more most more count limit {worked} up within few =
-    let counted : (length worked.sends ≤ limit) × (length worked.served ≤ limit) = omega (arith, few.sends, few.served) in
-    assumption (counters_weaker most more worked.master up few.counters)
+-- what a master makes of something: no counter is greater then, and it sends and serves no more than a step may
+pub record IsFewWork (most : ℕ) (worked : Worked) : Type 0 where
+  pub counters : CountersWithin most worked.master
+  pub sends : length worked.sends ≤ MOST_AT_ONCE
+  pub served : length worked.served ≤ MOST_AT_ONCE
 
--- a master whose counters are within the limits, and whose log has few entries
-pub record HasFew (limits : Limits) (master : Master) : Type 0 where
-  pub counters : CountersWithin limits.top master
-  pub entries : length master.log.entries < MOST_BYTES
+-- so it is with work that is well formed
+pub few_work : {limits : Limits} {number : ℕ} {worked : Worked} → IsFormedWork limits number MOST_AT_ONCE worked → IsFewWork limits.top worked
+few_work formed = record { counters = formed_counters formed.master; sends = formed.few; served = formed.served }
 
-module _ (limits : Limits) (number : ℕ) (master : Master) (formed : IsFormedMaster limits number master) (few : HasFew limits master) where
-  -- work that raises counters by one at most, and sends and serves one
-  small : {worked : Worked} → IsFewWork (limits.top + 1) 1 worked → IsFewWork (limits.top + 2) MOST_AT_ONCE worked
-  small is = few_more (limits.top + 1) (limits.top + 2) 1 MOST_AT_ONCE (omega arith) (omega arith) is
+pub few_more : (most : ℕ) {worked : Worked} → IsFewWork most worked → IsFewWork (most + 1) worked
+few_more most {worked} few =
+    record { counters = counters_weaker most (most + 1) worked.master (omega arith) few.counters; sends = few.sends; served = few.served }
 
-  each : CountersWithin (limits.top + 1) master
-  each = counters_weaker limits.top (limits.top + 1) master (omega arith) few.counters
+module _ (limits : Limits) (number : ℕ) (master : Master) (there : IsMaster limits.masters number) (formed : IsFormedMaster limits number master) (room : HasLogRoom master) where
+  -- a Stored: what is applied is well formed, and what goes on keeps the counters
+  stored_few : (backup : ℕ) (stored : Stored) (over : Option Overreach) → IsFewWork limits.top (stored_taken master backup stored over)
+  stored_few backup stored (Some beyond) = few_work (formed_changed {number = number} formed)
+  stored_few backup stored None =
+      let known = with_known master backup stored.segment stored.length in
+      let worked = apply_entries known (newly_held known) in
+      let applied = formed_newly_applied backup stored there formed in
+      let counters = formed_counters applied.master in
+      record {
+        counters = going_on_counters limits.top worked.master.tablets worked.master counters (counts_from_counters limits.top worked.master counters);
+        sends = omega (arith, room.bytes, entries_few master, applied.few, length-append {A = Message});
+        served = omega (arith, room.bytes, entries_few master, applied.served, length-append {A = Served});
+      }
 
-  some : 1 ≤ limits.top + 1
-  some = omega arith
-
-  same : IsFewWork (limits.top + 2) MOST_AT_ONCE (changed master)
-  same = small (few_changed (limits.top + 1) 1 master each)
-
-  client_few : (client : ℕ) (body : Body) → IsFewWork (limits.top + 2) MOST_AT_ONCE (client_message master client body)
-  client_few client (Body.Request request) =
-      few_more (limits.top + 1 + 1) (limits.top + 2) 1 MOST_AT_ONCE (omega arith) (omega arith)
-      (request_few (limits.top + 1) master client request some each)
-  client_few client _ = same
-
-  order_few : (body : Body) → IsFormedBody limits Node.Coordinator body → IsFewWork (limits.top + 2) MOST_AT_ONCE (order master body)
-  order_few (Body.Prepare prepare) says = small (prepare_few (limits.top + 1) some master each prepare)
-  order_few (Body.Close tenure) says = small (close_few (limits.top + 1) some master each tenure)
-  order_few (Body.Grant grant) says =
-      let floor = says.floor.last in
-      small (grant_few (limits.top + 1) some master each grant (omega arith))
-  order_few (Body.Own tenure) says = small (own_few (limits.top + 1) some master each tenure)
-  order_few (Body.Release tenure) says = small (release_few (limits.top + 1) some master each tenure)
-  order_few (Body.Rebuild rebuild) says = small (rebuild_few limits number master formed each says
-      (below_fits (length master.log.entries) (length master.log.entries) (omega arith) few.entries))
-  order_few _ says = same
-
-  peer_few : (sender : ℕ) (body : Body) → IsFewWork (limits.top + 2) MOST_AT_ONCE (peer_message master (Node.Master sender) body)
-  peer_few sender (Body.Pull pull) = small (pull_few (limits.top + 1) some master each (Node.Master sender) pull)
-  peer_few sender (Body.Pulled pulled) = small (pulled_few (limits.top + 1) some master pulled each)
-  peer_few sender (Body.Want want) = small (want_few (limits.top + 1) some master each (Node.Master sender) want)
-  peer_few sender (Body.Got message) = small (got_few (limits.top + 1) some master message each)
-  peer_few sender _ = same
-
-  backup_few : (backup : ℕ) (body : Body) → IsFormedBody limits (Node.Backup backup) body → IsFewWork (limits.top + 2) MOST_AT_ONCE (backup_message master backup body)
-  backup_few backup (Body.Stored stored) says =
-      let entries = few.entries in
-      few_more (limits.top + 1) (limits.top + 2) (length master.log.entries) MOST_AT_ONCE (omega arith) (omega arith)
-      (stored_few (limits.top + 1) master backup stored (overreach master.log stored.segment stored.length) each)
-  backup_few backup (Body.Copy copy) says = small (copy_few limits number master formed each says)
-  backup_few backup _ says = same
+  -- a Pulled: the items are replayed, and a target that has all keeps the counters
+  pulled_few : (pulled : Pulled) → IsLawfulToken pulled.next → All (IsFormedHeld limits) (items_of pulled.entries)
+      → IsFewWork limits.top (pulled_taken master pulled)
+  pulled_few pulled token items =
+      let id = pulled.tenure.tablet in
+      let it = tablet_at master id in
+      cond_both (is_receiving_at it pulled.tenure.term && is_token pulled.token it.pulling.token) (changed (batch_taken master id pulled))
+      (changed master) (IsFewWork limits.top)
+      (λ is.
+      let passed = formed_batch pulled (first_holds _ _ is) token items formed in
+      let counters = formed_counters passed.master_is in
+      let now = token_passed (replay master id (it.pulling.batches % 4) (items_of pulled.entries)) id pulled.next in
+      record {
+        counters = either_way (CountersWithin limits.top) (is_token pulled.next end)
+            (pulled_all_counters limits.top now id (omega (arith, passed.tablet_is.term)) counters) counters;
+        sends = omega arith;
+        served = omega arith;
+      })
+      (λ other. few_work (formed_changed {number = number} formed))
 
   -- what a master makes of a well formed message
-  pub told_few : (sender : Node) (body : Body) → IsFormedBody limits sender body → IsFewWork (limits.top + 2) MOST_AT_ONCE (told_master master sender body)
-  told_few (Node.Client client) body says = client_few client body
-  told_few Node.Coordinator body says = order_few body says
-  told_few (Node.Master sender) body says = peer_few sender body
-  told_few (Node.Backup backup) body says = backup_few backup body says
-
-  -- what it makes of its turn: a number of a tablet can be spelled, so there are not too many
-  pub master_turn_few : AreLimits limits → IsFewWork (limits.top + 2) MOST_AT_ONCE (master_turn master)
-  master_turn_few are =
-      let known = formed.known in
-      let backups = are.backups in
-      turn_few (limits.top + 2) MOST_AT_ONCE master (counters_weaker limits.top (limits.top + 2) master (omega arith) few.counters)
-      (omega (
-        arith,
-        few_in_order (2 ^ 32) master.tablets formed.tablets_order
-            (All-weaker (λ entry. IsFormedTablet limits entry.0 entry.1) (λ entry. entry.0 < 2 ^ 32)
-            (λ entry is. omega (arith, is.number_is)) master.tablets
-            (All_pairs (IsFormedTablet limits) master.tablets formed.tablets_order formed.tablets)),
-      ))
+  pub step_few : {message : Message} → AreLimits (raised limits) → IsFormedMessage limits message
+      → IsFewWork (limits.top + 1) (master_step master message)
+  step_few {message} are told =
+      told_is (IsFewWork (limits.top + 1)) limits (raised limits) number master (more_raised limits) are there formed room
+      (λ worked works. few_work (works (inl (omega arith))))
+      (λ backup stored. few_more limits.top (stored_few backup stored (overreach master.log stored.segment stored.length)))
+      (λ pulled token items. few_more limits.top (pulled_few pulled token items))
+      message.from message.body told.from told.lawful told.says
 
 -- ---- the coordinator
-
--- an answer of the coordinator with two messages at most
-abbrev FewSends : Coordinated → Type 0
-FewSends coordinated = length coordinated.sends ≤ 2
-
-about_few : (coordinator : Coordinator) (taken : Row → Coordinated) (found : Option Row) → ((row : Row) → length (taken row).sends ≤ 2) → length (about coordinator taken found).sends ≤ 2
-about_few coordinator taken found each =
-    by_found (λ there. FewSends (about coordinator taken there)) found (λ none. omega arith) (λ row is. each row)
-
-module _ (coordinator : Coordinator) (sender : ℕ) where
-  again_few : (row : Row) (master : ℕ) → length (told_again coordinator sender row master).sends ≤ 2
-  again_few row master = either_way FewSends (sender == master) (omega arith) (omega arith)
-
-  ready_few : (message : Ready) (row : Row) (phase : Phase) → length (ready_in coordinator sender message row phase).sends ≤ 2
-  ready_few message row (Opening source sfrom target None) = either_way FewSends (sender == target) (omega arith) (omega arith)
-  ready_few message row _ = omega arith
-
-  transfer_few : (message : Transfer) (row : Row) (phase : Phase) → length (transfer_in coordinator sender message row phase).sends ≤ 2
-  transfer_few message row (Opening source sfrom target (Some dfrom)) = either_way FewSends (sender == source) (omega arith) (omega arith)
-  transfer_few message row _ = omega arith
-
-  joined_few : (row : Row) (phase : Phase) → length (joined_in coordinator sender row phase).sends ≤ 2
-  joined_few row (Moving source sfrom target dfrom) = either_way FewSends (sender == target) (omega arith) (omega arith)
-  joined_few row (Owned master from) = again_few row master
-  joined_few row _ = omega arith
-
-  rebuilt_few : (message : Rebuilt) (row : Row) (phase : Phase) → length (rebuilt_in coordinator sender message row phase).sends ≤ 2
-  rebuilt_few message row (Rebuilding lineage to) = either_way FewSends (sender == to) (omega arith) (omega arith)
-  rebuilt_few message row (Owned master from) = again_few row master
-  rebuilt_few message row _ = omega arith
-
-  report_few : (body : Body) → length (report coordinator sender body).sends ≤ 2
-  report_few (Body.Ready message) = about_few coordinator (λ row. ready_in coordinator sender message row row.phase)
-      (row_for coordinator sender message.tenure) (λ row. ready_few message row row.phase)
-  report_few (Body.Transfer message) =
-      about_few coordinator (λ row. transfer_in coordinator sender message row row.phase) (row_for coordinator sender message.tenure)
-      (λ row. transfer_few message row row.phase)
-  report_few (Body.Joined tenure) = about_few coordinator (λ row. joined_in coordinator sender row row.phase)
-      (row_for coordinator sender tenure) (λ row. joined_few row row.phase)
-  report_few (Body.Rebuilt message) =
-      about_few coordinator (λ row. rebuilt_in coordinator sender message row row.phase) (row_for coordinator sender message.tenure)
-      (λ row. rebuilt_few message row row.phase)
-  report_few _ = omega arith
-
-question_few : (coordinator : Coordinator) (client : ℕ) (body : Body) → length (question coordinator client body).sends ≤ 2
-question_few coordinator client (Body.Lookup lookup) =
-    by_found (λ found. length (located (Node.Client client) found) ≤ 2) (row_with coordinator.rows lookup.table lookup.hash)
-    (λ none. omega arith) (λ row is. omega arith)
-question_few coordinator client _ = omega arith
-
--- the coordinator answers a message with two at most
-pub coordinator_few : (coordinator : Coordinator) (sender : Node) (body : Body) → length (told_coordinator coordinator sender body).sends ≤ 2
-coordinator_few coordinator (Node.Client client) body = question_few coordinator client body
-coordinator_few coordinator (Node.Master master) body = report_few coordinator master body
-coordinator_few coordinator _ body = omega arith
 
 -- a rebuild that it takes tells no more ends than there are clients
 pub ends_few : {limits : Limits} (rebuilt : Option Rebuilt) → AreLimits limits → IfSome rebuilt (IsTaken limits) → ends_in rebuilt ≤ MOST_CLIENTS + MOST_BASE_CLIENTS
@@ -174,6 +169,20 @@ ends_few {limits} (Some rebuilt) are taken = omega (
 duty_one : (coordinator : Coordinator) (row : Row) (phase : Phase) → length (row_duty coordinator row phase) ≤ 1
 duty_one coordinator row (Opening source sfrom target None) = omega arith
 duty_one coordinator row _ = omega arith
+
+-- the rows of a tablet map rise by number
+few_rows : (most : ℕ) (rows : List Row) → IsTabletMap rows → All (λ row. row.tablet < most) rows → length rows ≤ most
+few_rows most rows map high =
+    omega (
+      arith,
+      few_rising (λ (row : Row). row.tablet) IsTabletMap
+          (λ row rows is. (
+            All-weaker (Precedes row) (λ later. row.tablet + 1 ≤ later.tablet)
+                (λ later precedes. let less = precedes.smaller in omega arith) rows (All-from_recursion (Precedes row) rows is.0),
+            is.1,
+          ))
+          0 most rows map (omega arith) (λ place other within. omega arith) high,
+    )
 
 -- on its turn it sends one for each row, whose number can be spelled
 pub coordinator_turn_few : {limits : Limits} {coordinator : Coordinator} → IsFormedCoordinator limits coordinator → length (coordinator_turn coordinator) ≤ MOST_AT_ONCE

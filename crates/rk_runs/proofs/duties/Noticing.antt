@@ -1,13 +1,16 @@
 -- Once one crash is noticed, each master that has crashed was noticed, until the next one crashes.
 use Rattle.std.proofs.Common.{◌≡◌, ◌==◌, ◌&&◌, ◌≤◌, ◌<◌, ◌+◌, ℕ, zero, suc, Bool, true, false, List, [], ◌∷◌, ◌++◌, fold, Option, Some}
-use Rattle.std.proofs.Common.{None, refl, sym, ap, subst, ◌∙◌, ⊎_elim, append-nil, append_assoc, arith, All, filter, not, eq-eqb}
+use Rattle.std.proofs.Common.{None, refl, sym, ap, subst, ◌∙◌, ⊎_elim, append-nil, append_assoc, arith, filter, not, eq-eqb}
 use Rattle.std.proofs.Common.{eqb-true}
-use Rattle.rk_inv_base.proofs.Words.{and_from, cases_eq, cond_both, false≢true, or_cases, or_left, or_right, All-contains}
+use Rattle.rk_inv_base.proofs.Words.{and_from, cases_eq, false≢true, or_left, or_right, All-contains}
 use Rattle.rk_inv_base.proofs.Words.{Any-from_list_any, list_any-append, list_any, range_with_len, row_of, Phase, Owned, Row, Called}
 use Rattle.rk_inv_base.proofs.Words.{accept, ask, Session, Coordinator, is_noticed, told_coordinator, IsWellFormed, migrating}
 use Rattle.rk_inv_base.proofs.Words.{row_migrated, tablet_migrated, coordinator_notice, notice_one, notice_order, IsMaster, refusal}
 use Rattle.rk_inv_base.proofs.Words.{world_stepped, world_visited, rows_split, rows_split_of, happened, step, stepped_by, World}
 use Rattle.rk_inv_base.proofs.Words.{crashed_masters, has_crashed, new_world, StepError, Event}
+use Rattle.rk_inv_base.proofs.pulls.Joining.{stands_kept}
+use Rattle.std.proofs.Common.{Contains}
+use Rattle.rk_inv_base.proofs.Words.{list_any_at}
 use Rattle.rk_types.specs.NumberMap.{numbers}
 use Rattle.rk_world.specs.Notices.{is_named}
 use Rattle.rk_runs.specs.duties.Owners.{AllNoticed, is_crash}
@@ -26,19 +29,18 @@ in_left xs ys master inside = list_any-append (λ (other : ℕ). other == master
 in_right : (xs ys : List ℕ) (master : ℕ) → is_in ys master ≡ true → is_in (xs ++ ys) master ≡ true
 in_right xs ys master inside = list_any-append (λ (other : ℕ). other == master) xs ys ∙ or_right (is_in xs master) (is_in ys master) inside
 
+-- so it stands there
+in_there : (list : List ℕ) (master : ℕ) → is_in list master ≡ true → Contains list master
+in_there list master inside =
+    let found = Any-from_list_any (λ (other : ℕ). other == master) list inside in
+    subst (Contains list) (eqb-true found.1 master found.4) (found.0, found.2, found.3)
+
 -- it is among those that pass a test that it passes
 in_filter : (test : ℕ → Bool) (list : List ℕ) (master : ℕ) → test master ≡ true → is_in list master ≡ true → is_in (filter test list) master ≡ true
-in_filter test [] master passes inside = inside
-in_filter test (first ∷ rest) master passes inside =
-    cond_both (test first) (first ∷ filter test rest) (filter test rest) (λ (list : List ℕ). is_in list master ≡ true)
-    (λ e.
-    ⊎_elim (λ (here : (first == master) ≡ true). or_left (first == master) (is_in (filter test rest) master) here)
-    (λ (later : is_in rest master ≡ true). or_right (first == master) (is_in (filter test rest) master) (in_filter test rest master passes later))
-    (or_cases (first == master) (is_in rest master) inside))
-    (λ e.
-    ⊎_elim (λ (here : (first == master) ≡ true). absurd (false≢true (sym e ∙ ap test (eqb-true first master here) ∙ passes)))
-    (λ (later : is_in rest master ≡ true). in_filter test rest master passes later)
-    (or_cases (first == master) (is_in rest master) inside))
+in_filter test list master passes inside =
+    let there = stands_kept test list master (in_there list master inside) passes in
+    list_any_at (λ (other : ℕ). other == master) (filter test list) there.0 master there.1
+    (ap (λ (other : ℕ). other == master) there.2 ∙ eq-eqb master master refl)
 
 in_range : (start count master : ℕ) → start ≤ master → master < start + count → is_in (range_with_len start count) master ≡ true
 in_range start zero master from to = absurd (omega (arith, from, to))
@@ -48,12 +50,6 @@ in_range start (suc count) master from to =
     (λ (apart : start ≡ master → ⊥).
     or_right (start == master) (is_in (range_with_len (start + 1) count) master)
     (in_range (start + 1) count master (omega (arith, from, apart)) (omega (arith, to)))) (cases_eq start master)
-
--- what all have, it has
-of_all : (P : ℕ → Type 0) (list : List ℕ) (master : ℕ) → All P list → is_in list master ≡ true → P master
-of_all P list master all inside =
-    let found = Any-from_list_any (λ (other : ℕ). other == master) list inside in
-    subst P (eqb-true found.1 master found.4) (All-contains P list found.1 all (found.0, found.2, found.3))
 
 -- ---- notices
 
@@ -101,7 +97,7 @@ module _ (w : World) where
     -- a master that has crashed is one of the lane's
     crashed_there : (master : ℕ) → has_crashed w master ≡ true → is_in (crashed_masters w) master ≡ true
     crashed_there master crashed =
-        let there : IsMaster w.coordinator.masters master = of_all (IsMaster w.coordinator.masters) w.crashed master formed.crashed crashed in
+        let there : IsMaster w.coordinator.masters master = All-contains (IsMaster w.coordinator.masters) w.crashed master formed.crashed (in_there w.crashed master crashed) in
         in_filter (has_crashed w) (numbers w.masters) master crashed
         (subst (λ (list : List ℕ). is_in list master ≡ true) (sym formed.masters_are)
         (in_range 1 w.coordinator.masters master there.first (omega (arith, there.last))))

@@ -1,7 +1,7 @@
 -- No event gives a row to a master that was noticed dead.
-use Rattle.std.proofs.Common.{◌≡◌, ◌==◌, ◌||◌, ℕ, Bool, true, false, List, [], ◌∷◌, ◌++◌, fold, Option, Some, None, refl, sym, ap, subst}
-use Rattle.std.proofs.Common.{◌∙◌, All, filter, not, option_map, ne_eqb}
-use Rattle.rk_inv_base.proofs.Words.{cond_both, false≢true, All-contains, All-map, All-nil, All-weaker, list_any-append, list_any_none}
+use Rattle.std.proofs.Common.{◌≡◌, ◌==◌, ◌||◌, ℕ, Bool, true, false, List, [], ◌∷◌, ◌++◌, fold, Option, Some, None, refl, sym, ap}
+use Rattle.std.proofs.Common.{inl, inr, ◌∙◌, All, filter, not, option_map, ne_eqb}
+use Rattle.rk_inv_base.proofs.Words.{cases_Bool, false≢true, All-contains, All-map, All-nil, All-weaker, list_any-append, list_any_none}
 use Rattle.rk_inv_base.proofs.Words.{list_any, Range, add_fault, changed_rows, divided, lower_part, replaced, row_of, upper_part, Phase}
 use Rattle.rk_inv_base.proofs.Words.{Owned, Opening, Moving, Rebuilding, Row, Called, accept, ask, Session, Coordinator, is_noticed}
 use Rattle.rk_inv_base.proofs.Words.{new_row, migrating, row_migrated, notice_one, notice_order, phase_noticed, row_noticed, refusal}
@@ -32,20 +32,19 @@ module _ (coordinator : Coordinator) (dead : ℕ) where
 
   -- each row is rebuilt, or stays as it is
   row_free : (row : Row) (phase : Phase) → row.phase ≡ phase → IsNotOwnedBy coordinator.noticed phase → IsNotOwnedBy marked.noticed (row_noticed row (phase_noticed marked dead phase)).phase
-  row_free row (Owned master from) is heard =
-      cond_both (master == dead) _ None (λ (new : Option Phase). IsNotOwnedBy marked.noticed (row_noticed row new).phase) (λ e. tt)
-      (λ e. subst (IsNotOwnedBy marked.noticed) (sym is) (still_heard master heard e))
-  row_free row (Opening source sfrom target dfrom) is heard =
-      cond_both (source == dead) _ _ (λ (new : Option Phase). IsNotOwnedBy marked.noticed (row_noticed row new).phase) (λ e. tt)
-      (λ e. cond_both (target == dead) _ None (λ (new : Option Phase). IsNotOwnedBy marked.noticed (row_noticed row new).phase) (λ f. tt)
-      (λ f. subst (IsNotOwnedBy marked.noticed) (sym is) tt))
-  row_free row (Moving source sfrom target dfrom) is heard =
-      cond_both (source == dead) _ _ (λ (new : Option Phase). IsNotOwnedBy marked.noticed (row_noticed row new).phase) (λ e. tt)
-      (λ e. cond_both (target == dead) _ None (λ (new : Option Phase). IsNotOwnedBy marked.noticed (row_noticed row new).phase) (λ f. tt)
-      (λ f. subst (IsNotOwnedBy marked.noticed) (sym is) tt))
-  row_free row (Rebuilding lineage to) is heard =
-      cond_both (to == dead) _ None (λ (new : Option Phase). IsNotOwnedBy marked.noticed (row_noticed row new).phase) (λ e. tt)
-      (λ e. subst (IsNotOwnedBy marked.noticed) (sym is) tt)
+  row_free row (Owned master from) is heard = elim (cases_Bool (master == dead)) [
+    | inl e ↦ rw e tt
+    | inr e ↦ rw (e, is) (still_heard master heard e)
+  ]
+  row_free row (Opening source sfrom target dfrom) is heard = elim (cases_Bool (source == dead)) [
+    | inl e ↦ rw e tt
+    | inr e ↦ elim (cases_Bool (target == dead)) [ inl f ↦ rw (e, f) tt | inr f ↦ rw (e, f, is) tt ]
+  ]
+  row_free row (Moving source sfrom target dfrom) is heard = elim (cases_Bool (source == dead)) [
+    | inl e ↦ rw e tt
+    | inr e ↦ elim (cases_Bool (target == dead)) [ inl f ↦ rw (e, f) tt | inr f ↦ rw (e, f, is) tt ]
+  ]
+  row_free row (Rebuilding lineage to) is heard = elim (cases_Bool (to == dead)) [ inl e ↦ rw e tt | inr e ↦ rw (e, is) tt ]
 
   notice_free : NoDeadOwner coordinator → NoDeadOwner (notice_one coordinator dead)
   notice_free free =

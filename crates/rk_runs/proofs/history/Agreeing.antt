@@ -1,5 +1,5 @@
 -- A session and the ledgers of the lanes agree still, whatever happens to one of them.
-use Rattle.std.proofs.Common.{◌≡◌, ℕ, zero, suc, ◌+◌, ◌<◌, ◌≤◌, max, true, false, List, [], ◌∷◌, ◌++◌, Option, Some, None, length, refl}
+use Rattle.std.proofs.Common.{All, ◌≡◌, ℕ, zero, suc, ◌+◌, ◌<◌, ◌≤◌, max, true, false, List, [], ◌∷◌, ◌++◌, Option, Some, None, length, refl}
 use Rattle.std.proofs.Common.{sym, ap, subst, ◌∙◌, ⊎_elim, arith, inl, inr, IfSome, slice_get, slice_set}
 use Rattle.rk_inv_base.proofs.Words.{cases_eq, false≢true, All-append, All-contains, All-push, All-weaker, Contains-append_left}
 use Rattle.rk_inv_base.proofs.Words.{Contains-push, none-some, Call, Op, Outcome, Placed, Receipt, slice_get_front, Located, Reply}
@@ -24,25 +24,44 @@ at_lane before after lane new changes P q here other =
     ⊎_elim (λ (is : q ≡ lane). subst P (sym (ap after is ∙ changes.here)) (here is))
     (λ (apart : q ≡ lane → ⊥). subst P (sym (changes.others q apart)) (other apart)) (cases_eq q lane)
 
--- a record that stands in the first part of a journal stands in the whole
-still_accepted : (some more : List Placed) (call : Call) → IsAccepted some call → IsAccepted (some ++ more) call
-still_accepted some more call accepted = record {
-  placed = accepted.placed;
-  stands = Contains-append_left some more accepted.placed accepted.stands;
-  call_is = accepted.call_is;
-  accepted = accepted.accepted;
-}
-
 -- what was known of a last call is known where the records that are accepted are so still
 known_on : (before after : List Placed) (session : Session) (last : Option LastCall) → ((call : Call) → IsAccepted before call → IsAccepted after call) → IsLastKnown before session last → IsLastKnown after session last
 known_on before after session None on known = tt
 known_on before after session (Some last) on known =
     ⊎_elim (λ (accepted : IsAccepted before last.call). inl (on last.call accepted)) (λ (out : IsOutstanding session last). inr out) known
 
-module _ (before after : ℕ → Ledger) (lane : ℕ) (new : Ledger) (changes : ChangesAt before after lane new) (client : ℕ) (session : Session) (agrees : Agrees before client session) where
-  -- a journal that grows
-  pub agrees_grown : Grows client (before lane) new → Agrees after client session
-  agrees_grown grows = record {
+-- each accepted record of a journal stands at its place in another one
+abbrev StaysIn : List Placed → List Placed → Type 0
+StaysIn journal now = (place : ℕ) (placed : Placed) → slice_get journal place ≡ Some placed → placed.accepted ≡ true → slice_get now place ≡ Some placed
+
+accepted_on : (journal now : List Placed) → StaysIn journal now → (call : Call) → IsAccepted journal call → IsAccepted now call
+accepted_on journal now stays call accepted =
+    let old = place_of journal accepted.placed accepted.stands in
+    record {
+      placed = accepted.placed;
+      stands = stands_at now old.0 accepted.placed (stays old.0 accepted.placed old.1 accepted.accepted);
+      call_is = accepted.call_is;
+      accepted = accepted.accepted;
+    }
+
+module _ (before after : ℕ → Ledger) (lane : ℕ) (new : Ledger) (changes : ChangesAt before after lane new) (stays : StaysIn (before lane).journal new.journal) where
+  -- so what receipts told is recorded still
+  recorded_on : (receipts : List Receipt) → All (IsRecordedIn before) receipts → All (IsRecordedIn after) receipts
+  recorded_on =
+      All-weaker (IsRecordedIn before) (IsRecordedIn after) (λ (receipt : Receipt) was.
+      let placed : Placed = record { call = receipt.call; outcome = receipt.outcome; stamp = receipt.stamp; accepted = true } in
+      at_lane before after lane new changes (λ ledger. slice_get ledger.journal receipt.place ≡ Some placed) receipt.lane
+      (λ is. stays receipt.place placed (subst (λ (q : ℕ). slice_get (before q).journal receipt.place ≡ Some placed) is was) refl)
+      (λ apart. was))
+
+  told_on : (client : ℕ) (receipts : List Receipt) → AreTold receipts client lane new.journal → ((q : ℕ) → AreTold receipts client q (before q).journal) → (q : ℕ) → AreTold receipts client q (after q).journal
+  told_on client receipts here told q =
+      at_lane before after lane new changes (λ ledger. AreTold receipts client q ledger.journal) q
+      (λ is. subst (λ (l : ℕ). AreTold receipts client l new.journal) (sym is) here) (λ apart. told q)
+
+  -- a session that stays as it was agrees still, where its receipts tell of the new journal, and its last call there is known
+  agrees_on : (client : ℕ) (session : Session) → Agrees before client session → AreTold session.receipts client lane new.journal → IsLastKnown new.journal session (asked_by new client) → Agrees after client session
+  agrees_on client session agrees told asked = record {
     own = agrees.own;
     numbered = agrees.numbered;
     own_calls = agrees.own_calls;
@@ -50,68 +69,41 @@ module _ (before after : ℕ → Ledger) (lane : ℕ) (new : Ledger) (changes : 
     outstanding = agrees.outstanding;
     rising = agrees.rising;
     seen = agrees.seen;
-    recorded =
-        All-weaker (IsRecordedIn before) (IsRecordedIn after)
-        (λ (receipt : Receipt) at.
-        let placed : Placed = record { call = receipt.call; outcome = receipt.outcome; stamp = receipt.stamp; accepted = true } in
-        at_lane before after lane new changes (λ ledger. slice_get ledger.journal receipt.place ≡ Some placed) receipt.lane
-        (λ is.
-        ap (λ (list : List Placed). slice_get list receipt.place) grows.journal_is
-        ∙ slice_get_front (before lane).journal grows.more receipt.place placed
-        (subst (λ (q : ℕ). slice_get (before q).journal receipt.place ≡ Some placed) is at))
-        (λ apart. at)) session.receipts agrees.recorded;
-    told = λ q.
-        at_lane before after lane new changes (λ ledger. AreTold session.receipts client q ledger.journal) q
-        (λ is.
-        subst (λ (list : List Placed). AreTold session.receipts client q list) (sym grows.journal_is)
-        (All-append (λ (placed : Placed). placed.accepted ≡ true → placed.call.client ≡ client → IsToldBy session.receipts q placed)
-        (before lane).journal grows.more
-        (subst (λ (l : ℕ). AreTold session.receipts client q (before l).journal) is (agrees.told q))
-        (All-weaker (λ (placed : Placed). placed.accepted ≡ false)
-        (λ (placed : Placed). placed.accepted ≡ true → placed.call.client ≡ client → IsToldBy session.receipts q placed)
-        (λ placed none accepted own. absurd (false≢true (sym none ∙ accepted))) grows.more grows.unaccepted)))
-        (λ apart. agrees.told q);
+    recorded = recorded_on session.receipts agrees.recorded;
+    told = told_on client session.receipts told agrees.told;
     asked = λ q.
-        at_lane before after lane new changes (λ ledger. IsLastKnown ledger.journal session (asked_by ledger client)) q
-        (λ is.
-        subst (λ (last : Option LastCall). IsLastKnown new.journal session last) (sym grows.asked)
-        (subst (λ (list : List Placed). IsLastKnown list session (asked_by (before lane) client)) (sym grows.journal_is)
-        (known_on (before lane).journal ((before lane).journal ++ grows.more) session (asked_by (before lane) client)
-        (still_accepted (before lane).journal grows.more)
-        (subst (λ (l : ℕ). IsLastKnown (before l).journal session (asked_by (before l) client)) is (agrees.asked q)))))
+        at_lane before after lane new changes (λ ledger. IsLastKnown ledger.journal session (asked_by ledger client)) q (λ is. asked)
         (λ apart. agrees.asked q);
   }
 
+  -- as it is where the client asked what it had asked
+  same_agrees : (client : ℕ) (session : Session) → Agrees before client session → asked_by new client ≡ asked_by (before lane) client → AreTold session.receipts client lane new.journal → Agrees after client session
+  same_agrees client session agrees same told =
+      agrees_on client session agrees told
+      (rw same
+      (known_on (before lane).journal new.journal session (asked_by (before lane) client)
+      (accepted_on (before lane).journal new.journal stays) (agrees.asked lane)))
+
+module _ (before after : ℕ → Ledger) (lane : ℕ) (new : Ledger) (changes : ChangesAt before after lane new) (client : ℕ) (session : Session) (agrees : Agrees before client session) where
+  -- a journal that grows
+  pub agrees_grown : Grows client (before lane) new → Agrees after client session
+  agrees_grown grows =
+      let Tells : Placed → Type 0 = λ placed. placed.accepted ≡ true → placed.call.client ≡ client → IsToldBy session.receipts lane placed in
+      same_agrees before after lane new changes
+      (λ place placed at accepted.
+      ap (λ (list : List Placed). slice_get list place) grows.journal_is ∙ slice_get_front (before lane).journal grows.more place placed at)
+      client session agrees grows.asked
+      (rw grows.journal_is
+      (All-append Tells (before lane).journal grows.more (agrees.told lane)
+      (All-weaker (λ (placed : Placed). placed.accepted ≡ false) Tells
+      (λ placed none accepted own. absurd (false≢true (sym none ∙ accepted))) grows.more grows.unaccepted)))
+
   -- a client asks its outstanding call there
   pub agrees_asked : (call : Call) → session.outstanding ≡ Some call → new.journal ≡ (before lane).journal → asked_by new client ≡ Some (record { call = call; seen = session.seen }) → Agrees after client session
-  agrees_asked call is_out same last_is = record {
-    own = agrees.own;
-    numbered = agrees.numbered;
-    own_calls = agrees.own_calls;
-    last = agrees.last;
-    outstanding = agrees.outstanding;
-    rising = agrees.rising;
-    seen = agrees.seen;
-    recorded =
-        All-weaker (IsRecordedIn before) (IsRecordedIn after)
-        (λ (receipt : Receipt) at.
-        let placed : Placed = record { call = receipt.call; outcome = receipt.outcome; stamp = receipt.stamp; accepted = true } in
-        at_lane before after lane new changes (λ ledger. slice_get ledger.journal receipt.place ≡ Some placed) receipt.lane
-        (λ is.
-        ap (λ (list : List Placed). slice_get list receipt.place) same
-        ∙ subst (λ (q : ℕ). slice_get (before q).journal receipt.place ≡ Some placed) is at)
-        (λ apart. at)) session.receipts agrees.recorded;
-    told = λ q.
-        at_lane before after lane new changes (λ ledger. AreTold session.receipts client q ledger.journal) q
-        (λ is.
-        subst (λ (list : List Placed). AreTold session.receipts client q list) (sym same)
-        (subst (λ (l : ℕ). AreTold session.receipts client q (before l).journal) is (agrees.told q)))
-        (λ apart. agrees.told q);
-    asked = λ q.
-        at_lane before after lane new changes (λ ledger. IsLastKnown ledger.journal session (asked_by ledger client)) q
-        (λ is. subst (λ (last : Option LastCall). IsLastKnown new.journal session last) (sym last_is) (inr (record { call_is = is_out; seen_is = refl })))
-        (λ apart. agrees.asked q);
-  }
+  agrees_asked call is_out same last_is =
+      agrees_on before after lane new changes
+      (λ place placed at accepted. ap (λ (list : List Placed). slice_get list place) same ∙ at) client session agrees
+      (rw same (agrees.told lane)) (rw last_is (inr (record { call_is = is_out; seen_is = refl })))
 
 -- ---- the session goes on
 
@@ -163,25 +155,13 @@ module _ (ledgers : ℕ → Ledger) (client : ℕ) (session : Session) (agrees :
 -- ---- a record is accepted
 
 -- a record that another one is but for whether it is accepted, and which was accepted, is that one
-same_accepted : (call : Call) (placed new : Placed) → IsSameRecord placed new → placed.accepted ≡ true → new ≡ placed
-same_accepted call placed new same accepted i = record {
+same_accepted : (placed new : Placed) → IsSameRecord placed new → placed.accepted ≡ true → new ≡ placed
+same_accepted placed new same accepted i = record {
   call = same.call i;
   outcome = same.outcome i;
   stamp = same.stamp i;
   accepted = (same.kept accepted ∙ sym accepted) i;
 }
-
--- what is accepted stays so
-accepted_on : (journal : List Placed) (place : ℕ) (placed : Placed) → slice_get journal place ≡ Some placed → (call : Call) → IsAccepted journal call → IsAccepted (slice_set journal place (as_accepted placed)) call
-accepted_on journal place placed at call accepted =
-    let old = place_of journal accepted.placed accepted.stands in
-    let new = record_after journal (slice_set journal place (as_accepted placed)) old.0 accepted.placed (accepted_same journal place placed at) old.1 in
-    record {
-      placed = new.0;
-      stands = stands_at (slice_set journal place (as_accepted placed)) old.0 new.0 new.1;
-      call_is = new.2.call ∙ accepted.call_is;
-      accepted = new.2.kept accepted.accepted;
-    }
 
 -- an element that is put at a place stands there
 set_here : {X : Type 0} (xs : List X) (place : ℕ) (old new : X) → slice_get xs place ≡ Some old → slice_get (slice_set xs place new) place ≡ Some new
@@ -206,64 +186,29 @@ module _ (before after : ℕ → Ledger) (lane : ℕ) (new : Ledger) (changes : 
   abbrev accepted_now : List Placed
   accepted_now = slice_set (before lane).journal place (as_accepted placed)
 
-  -- what a receipt told is recorded still
-  recorded_on : (receipt : Receipt) → IsRecordedIn before receipt → IsRecordedIn after receipt
-  recorded_on receipt was =
-      let old : Placed = record { call = receipt.call; outcome = receipt.outcome; stamp = receipt.stamp; accepted = true } in
-      at_lane before after lane new changes (λ ledger. slice_get ledger.journal receipt.place ≡ Some old) receipt.lane
-      (λ is.
-      let here : slice_get (before lane).journal receipt.place ≡ Some old =
-      subst (λ (q : ℕ). slice_get (before q).journal receipt.place ≡ Some old) is was in
-      let its = record_after (before lane).journal accepted_now receipt.place old (accepted_same (before lane).journal place placed at) here in
-      ap (λ (list : List Placed). slice_get list receipt.place) journal_is ∙ its.1 ∙ ap Some (same_accepted receipt.call old its.0 its.2 refl))
-      (λ apart. was)
-
-  -- and so is what was known of a last call
-  asked_on : (client : ℕ) (session : Session) → ((q : ℕ) → IsLastKnown (before q).journal session (asked_by (before q) client)) → (q : ℕ) → IsLastKnown (after q).journal session (asked_by (after q) client)
-  asked_on client session known q =
-      at_lane before after lane new changes (λ ledger. IsLastKnown ledger.journal session (asked_by ledger client)) q
-      (λ is.
-      subst (λ (last : Option LastCall). IsLastKnown new.journal session last) (sym (asked_same client))
-      (subst (λ (list : List Placed). IsLastKnown list session (asked_by (before lane) client)) (sym journal_is)
-      (known_on (before lane).journal accepted_now session (asked_by (before lane) client)
-      (accepted_on (before lane).journal place placed at)
-      (subst (λ (l : ℕ). IsLastKnown (before l).journal session (asked_by (before l) client)) is (known q)))))
-      (λ apart. known q)
+  -- what is accepted stays so
+  stays : StaysIn (before lane).journal new.journal
+  stays i old here accepted =
+      let its = record_after (before lane).journal accepted_now i old (accepted_same (before lane).journal place placed at) here in
+      ap (λ (list : List Placed). slice_get list i) journal_is ∙ its.1 ∙ ap Some (same_accepted old its.0 its.2 accepted)
 
   -- the accepted records of a client are told by these receipts, where the one that is accepted now is, if it is the client's
-  told_on : (client : ℕ) (receipts : List Receipt) → (placed.call.client ≡ client → IsToldBy receipts lane (as_accepted placed)) → ((q : ℕ) → AreTold receipts client q (before q).journal) → (q : ℕ) → AreTold receipts client q (after q).journal
-  told_on client receipts tells told q =
-      at_lane before after lane new changes (λ ledger. AreTold receipts client q ledger.journal) q
-      (λ is.
-      subst (λ (list : List Placed). AreTold receipts client q list) (sym journal_is)
-      (all_from_places
-      (λ (p : Placed). p.accepted ≡ true → p.call.client ≡ client → IsToldBy receipts q p) accepted_now
-      (λ i found there accepted own.
-      ⊎_elim
-      (λ (here : (i ≡ place) × (as_accepted placed ≡ found)).
-      subst (IsToldBy receipts q) here.1
-      (subst (λ (l : ℕ). IsToldBy receipts l (as_accepted placed)) (sym is)
-      (tells (ap (λ (p : Placed). p.call.client) here.1 ∙ own))))
-      (λ (stood : slice_get (before lane).journal i ≡ Some found).
-      All-contains (λ (p : Placed). p.accepted ≡ true → p.call.client ≡ client → IsToldBy receipts q p) (before lane).journal found
-      (subst (λ (l : ℕ). AreTold receipts client q (before l).journal) is (told q)) (stands_at (before lane).journal i found stood) accepted own)
-      (accepted_cases (before lane).journal place placed i found there))))
-      (λ apart. told q)
+  told_here : (client : ℕ) (receipts : List Receipt) → (placed.call.client ≡ client → IsToldBy receipts lane (as_accepted placed)) → AreTold receipts client lane (before lane).journal → AreTold receipts client lane new.journal
+  told_here client receipts tells told =
+      rw journal_is
+      (all_from_places (λ (p : Placed). p.accepted ≡ true → p.call.client ≡ client → IsToldBy receipts lane p) accepted_now
+      (λ i found there accepted own. elim (accepted_cases (before lane).journal place placed i found there) [
+        | inl here ↦ subst (IsToldBy receipts lane) here.1 (tells (ap (λ (p : Placed). p.call.client) here.1 ∙ own))
+        | inr stood ↦
+            All-contains (λ (p : Placed). p.accepted ≡ true → p.call.client ≡ client → IsToldBy receipts lane p) (before lane).journal found
+            told (stands_at (before lane).journal i found stood) accepted own
+      ]))
 
   -- another client
   pub agrees_beside : (client : ℕ) (session : Session) → (placed.call.client ≡ client → ⊥) → Agrees before client session → Agrees after client session
-  agrees_beside client session apart agrees = record {
-    own = agrees.own;
-    numbered = agrees.numbered;
-    own_calls = agrees.own_calls;
-    last = agrees.last;
-    outstanding = agrees.outstanding;
-    rising = agrees.rising;
-    seen = agrees.seen;
-    recorded = All-weaker (IsRecordedIn before) (IsRecordedIn after) recorded_on session.receipts agrees.recorded;
-    told = told_on client session.receipts (λ own. absurd (apart own)) agrees.told;
-    asked = asked_on client session agrees.asked;
-  }
+  agrees_beside client session apart agrees =
+      same_agrees before after lane new changes stays client session agrees (asked_same client)
+      (told_here client session.receipts (λ own. absurd (apart own)) (agrees.told lane))
 
   -- the client of the call, which takes the answer and keeps the receipt
   module _ (client : ℕ) (session : Session) (agrees : Agrees before client session) (call : Call) (reply : Reply) (outcome : Outcome) (taken : IsAnswer before lane client session place placed call reply outcome) where
@@ -351,21 +296,19 @@ module _ (before after : ℕ → Ledger) (lane : ℕ) (new : Ledger) (changes : 
           (λ r seen. omega (arith, seen)) session.receipts agrees.seen) (omega arith);
       recorded =
           All-push (IsRecordedIn after) session.receipts receipt
-          (All-weaker (IsRecordedIn before) (IsRecordedIn after) recorded_on session.receipts agrees.recorded) recorded_now;
-      told = told_on client receipts (λ own. tells_now) more_told;
+          (recorded_on before after lane new changes stays session.receipts agrees.recorded) recorded_now;
+      told =
+          told_on before after lane new changes stays client receipts (told_here client receipts (λ own. tells_now) (more_told lane)) more_told;
       asked = λ q.
           at_lane before after lane new changes
           (λ ledger. IsLastKnown ledger.journal (done session call reply outcome) (asked_by ledger client)) q
           (λ is.
-          subst (λ (last : Option LastCall). IsLastKnown new.journal (done session call reply outcome) last)
-          (sym (asked_same client ∙ taken.last_is))
-          (subst (λ (list : List Placed). IsLastKnown list (done session call reply outcome) (Some (record { call = call; seen = session.seen })))
-          (sym journal_is)
+          rw (asked_same client ∙ taken.last_is, journal_is)
           (inl (record {
             placed = as_accepted placed;
             stands = stands_at accepted_now place (as_accepted placed) stands_now;
             call_is = sym taken.call_is;
             accepted = refl;
-          }))))
+          })))
           (λ apart. elsewhere q apart (asked_by (before q) client) (taken.lanes q) (agrees.asked q));
     }

@@ -122,14 +122,6 @@ module _ (before after : ℕ → Ledger) (lane client : ℕ) (session : Session)
   own : call.client ≡ session.client
   own = (subst (λ (o : Option Call). IfSome o (λ c. (c.client ≡ client) × (c.seq ≡ session.last))) is_out agrees.outstanding).0 ∙ sym agrees.own
 
-  same : ChangesAt before after lane w.ledger → (new : Session) → Agrees after client new → AgreeAfter before after client new
-  same changes new fits = record {
-    own = fits;
-    others =
-        (unchanged before after lane client session agrees w.ledger changes (sym (ap (λ (l : Ledger). l.journal) at))
-        (λ c. sym (ap (λ (l : Ledger). asked_by l c) at))).others;
-  }
-
   -- the session as it was
   stays : ChangesAt before after lane w.ledger → AgreeAfter before after client session
   stays changes =
@@ -138,8 +130,7 @@ module _ (before after : ℕ → Ledger) (lane client : ℕ) (session : Session)
 
   elsewhere : ChangesAt before after lane w.ledger → (ranges : List (List Located)) (requests : ℕ) → AgreeAfter before after client (record session { ranges = ranges; requests = requests })
   elsewhere changes ranges requests =
-      same changes (record session { ranges = ranges; requests = requests })
-      (agrees_looking after client session (stays changes).own ranges requests session.request)
+      record { own = agrees_looking after client session (stays changes).own ranges requests session.request; others = (stays changes).others }
 
   module _ (reply : Reply) (outcome : Outcome) (seq_is : reply.seq ≡ call.seq) (record_at : IsRecordAt w.ledger.journal session.client reply outcome) where
     may : MayAccept (view w) reply.place

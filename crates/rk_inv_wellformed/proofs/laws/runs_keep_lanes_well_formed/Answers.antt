@@ -1,6 +1,6 @@
 use Rattle.rk_inv_wellformed.proofs.laws.runs_keep_lanes_well_formed.Goals as goal
 use Rattle.rk_inv_wellformed.proofs.lanes.Whole.{formed_run}
-use Rattle.rk_inv_wellformed.proofs.room.RoomRuns.{room_run}
+use Rattle.rk_inv_wellformed.proofs.room.RoomEvents.{room_run}
 
 pub returns : goal.returns
 returns c = record {

@@ -1,5 +1,4 @@
-use Rattle.rk_inv_events.proofs.copies.Delivered.{sound_delivered, sound_passed}
-use Rattle.rk_inv_events.proofs.copies.Merges.{sound_last, sound_read_on}
+use Rattle.rk_inv_events.proofs.copies.Gathers.{sound_delivered, sound_last, sound_passed, sound_read_on}
 use Rattle.rk_inv_events.proofs.laws.copies.copies_keep_lanes_sound.Goals as goal
 
 pub returns : goal.returns

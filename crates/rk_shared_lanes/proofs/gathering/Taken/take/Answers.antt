@@ -2,6 +2,7 @@ use Rattle.std.proofs.Common.{subst}
 use Rattle.rk_lane.specs.LaneState.{LaneState}
 use Rattle.rk_laws_gathered.specs.OpenCalls.{HasCountedCalls}
 use Rattle.rk_shared_lanes.specs.Kept.{IsNoneBelow}
+use Rattle.rk_shared_lanes.specs.Together.{IsOfRoster}
 use Rattle.rk_shared_lanes.proofs.gathering.Taken.take.Goals as goal
 
 pub returns-clause-counted : goal.returns-clause-counted
@@ -10,3 +11,9 @@ returns-clause-counted g c =
 
 pub returns-clause-counts : goal.returns-clause-counts
 returns-clause-counts g c = subst (IsNoneBelow g.R.Replica.faults g.N.Roster.counts) c.kept.view_is c.kept.invariant.1.none_below
+
+pub returns-clause-roster : goal.returns-clause-roster
+returns-clause-roster g c =
+    let kept = c.kept.invariant.1 in
+    subst (IsOfRoster g.N.Roster.masters g.N.Roster.backups g.N.Roster.clients) c.kept.view_is
+    (record { masters_are = kept.masters_are; backups_are = kept.backups_are; clients_are = kept.clients_are })
