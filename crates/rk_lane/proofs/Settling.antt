@@ -1,17 +1,21 @@
 -- How a master's work is settled.
-use Rattle.std.proofs.Common.{◌≡◌, ℕ, length, max, take, refl, sym, ap, subst, ◌∙◌}
+use Rattle.std.proofs.Common.{◌≡◌, ℕ, Bool, true, false, eqb, ◌&&◌, not, List, [], ◌∷◌, length, map, max, take, Option, Some, None, is_some, refl, sym, ap, subst, ◌∙◌, append-nil, arith, eqb-true}
+use Rattle.std.proofs.lemmas.Bool.{false≢true}
+use Rattle.rk_message.specs.declared.message.Message.{Message}
 use Rattle.rk_world.specs.Journal.{last_stamp}
 use Rattle.rk_world.specs.Ledger.{Ledger}
-use Rattle.rk_world.specs.Master.{Master}
+use Rattle.rk_world.specs.Replies.{filled}
 use Rattle.rk_world.specs.World.{counters_of, greatest}
 use Rattle.rk_world.specs.declared.error.StepError.{StepError}
 use Rattle.rk_world.specs.declared.error.StepError.TheVariants as errors
 use Rattle.rk_world.specs.declared.event.Seen.{Seen}
+use Rattle.rk_world.specs.declared.work.Mark.{Mark}
+use Rattle.rk_world.specs.declared.work.Served.{Served}
+use Rattle.rk_master.specs.Parts.{marks_of}
 use Rattle.rk_master.specs.declared.work.Worked.{Worked as Work}
 use Rattle.rk_ledger.specs.Growing.{with_journal}
 use Rattle.rk_lane.specs.Finished.{IsCutBack, IsFinished}
-use Rattle.rk_lane.specs.Masters.{IsAt}
-use Rattle.rk_lane.specs.Working.{IsSettled, IsUnsettled, ledger_worked, sends_worked}
+use Rattle.rk_lane.specs.Working.{IsRaised, IsSettled, IsUnsettled, is_nothing, ledger_noted, ledger_worked, sends_worked}
 use Rattle.rk_lane.specs.declared.parts.Parts.{Parts}
 use Rattle.rk_lane.proofs.Journals.{IsGrownFrom, cut_to, grown_by_served}
 
@@ -47,19 +51,63 @@ noted_parts old seen work counter = record old {
 }
 
 -- it is settled once it is sent
-pub settled_from : (old new : Parts) (number seen : ℕ) (work : Work) (counter : ℕ) (shown : Seen)
-    → ((it : Master) → IsAt old.masters.items number it → counter ≡ greatest (counters_of it))
-    → IsFinished (noted_parts old seen work counter) (sends_worked old.ledger seen work) new shown → IsSettled old number seen work new shown
-settled_from old new number seen work counter shown counts finished = record {
-  top = max (max old.top (last_stamp (ledger_worked old.ledger seen work).journal)) counter;
-  top_is = λ it at. ap (λ (n : ℕ). max (max old.top (last_stamp (ledger_worked old.ledger seen work).journal)) n) (counts it at);
-  finished = finished;
+pub settled_from : (old raised new : Parts) (number seen : ℕ) (work : Work) (shown : Seen)
+    → IsRaised (record old { ledger = ledger_worked old.ledger seen work }) number raised
+    → IsFinished raised (sends_worked old.ledger seen work) new shown → IsSettled old number seen work new shown
+settled_from old raised new number seen work shown rise finished = record {
+  top = max (max old.top (last_stamp (ledger_worked old.ledger seen work).journal)) rise.counter;
+  top_is = λ it at. ap (λ (n : ℕ). max (max old.top (last_stamp (ledger_worked old.ledger seen work).journal)) n) (rise.counter_is it at);
+  finished = subst (λ (p : Parts). IsFinished p (sends_worked old.ledger seen work) new shown) rise.parts finished;
 }
 
 -- and unsettled where it is cut back
-pub unsettled_from : (old new : Parts) (seen : ℕ) (work : Work) (counter records : ℕ) (error : StepError) → records ≡ length old.ledger.journal
-    → IsCutBack (noted_parts old seen work counter) records new error → IsUnsettled old new error
-unsettled_from old new seen work counter records error count cut =
+pub unsettled_from : (old raised new : Parts) (number seen : ℕ) (work : Work) (records : ℕ) (error : StepError) → records ≡ length old.ledger.journal
+    → IsRaised (record old { ledger = ledger_worked old.ledger seen work }) number raised
+    → IsCutBack raised records new error → IsUnsettled old new error
+unsettled_from old raised new number seen work records error count rise is_cut =
+    let cut : IsCutBack (noted_parts old seen work rise.counter) records new error =
+    subst (λ (p : Parts). IsCutBack p records new error) rise.parts is_cut in
     subst (IsUnsettled old new) (sym cut.memory)
     (unsettled_by old new seen work records count (ap (λ (p : Parts). p.ledger) cut.parts)
     (ap (λ (p : Parts). p.number) cut.parts) (ap (λ (p : Parts). p.backups) cut.parts) (ap (λ (p : Parts). p.masters) cut.parts))
+
+-- a list of no things
+none_in : {A : Type 0} (list : List A) → eqb (length list) 0 ≡ true → list ≡ []
+none_in [] none = refl
+none_in (one ∷ more) none = let is : length (one ∷ more) ≡ 0 = eqb-true (length (one ∷ more)) 0 none in absurd (omega (arith, is))
+
+-- two tests that hold together
+both_hold : (a b : Bool) → a && b ≡ true → (a ≡ true) × (b ≡ true)
+both_hold true b hold = (refl, hold)
+both_hold false b hold = absurd (false≢true hold)
+
+-- what is not there
+none_there : {A : Type 0} (it : Option A) → not (is_some it) ≡ true → it ≡ None
+none_there None none = refl
+none_there (Some it) none = absurd (false≢true none)
+
+-- it is settled once the greatest number rose
+pub settled_by_nothing : (old new : Parts) (number seen : ℕ) (work : Work) → is_nothing work ≡ true → IsRaised old number new
+    → IsSettled old number seen work new (record { first = 0; sent = 0; lost = false; taken = None })
+settled_by_nothing old new number seen work nothing rise =
+    let apart = both_hold (eqb (length work.sends.items) 0) (eqb (length work.served.items) 0 && not (is_some work.marked)) nothing in
+    let others = both_hold (eqb (length work.served.items) 0) (not (is_some work.marked)) apart.1 in
+    let same : ledger_worked old.ledger seen work ≡ old.ledger =
+    ap (λ (served : List Served). ledger_noted old.ledger seen served (marks_of work.marked)) (none_in work.served.items others.0)
+    ∙ ap (λ (marked : Option Mark). ledger_noted old.ledger seen [] (marks_of marked)) (none_there work.marked others.1)
+    ∙ ap (λ (marks : List Mark). record old.ledger { marks = marks }) (append-nil old.ledger.marks) in
+    let quietly : Seen = record { first = 0; sent = 0; lost = false; taken = None } in
+    let top : ℕ = max (max old.top (last_stamp old.ledger.journal)) rise.counter in
+    let finished : IsFinished (record old { top = top }) [] new quietly =
+    subst (λ (p : Parts). IsFinished (record old { top = top }) [] p quietly) (sym rise.parts)
+    (record { parts = refl; wire = refl; seen_is = refl; low = omega arith; reached = omega arith; given = omega arith }) in
+    record {
+      top = top;
+      top_is = λ it at.
+          ap (λ (n : ℕ). max (max old.top (last_stamp old.ledger.journal)) n) (rise.counter_is it at)
+          ∙ ap (λ (l : Ledger). max (max old.top (last_stamp l.journal)) (greatest (counters_of it))) (sym same);
+      finished =
+          subst (λ (l : Ledger). IsFinished (record old { ledger = l; top = top }) (sends_worked old.ledger seen work) new quietly) (sym same)
+          (subst (λ (list : List Message). IsFinished (record old { top = top }) list new quietly)
+          (sym (ap (λ (list : List Message). map (filled (ledger_worked old.ledger seen work).journal work.served.items) list) (none_in work.sends.items apart.0))) finished);
+    }

@@ -1,5 +1,5 @@
 -- What a master's work in code leaves beside it.
-use Rattle.std.specs.Prelude.{◌≡◌, ◌<◌, ◌+◌, ℕ, List, map, max}
+use Rattle.std.specs.Prelude.{◌≡◌, ◌<◌, ◌+◌, ◌==◌, ◌&&◌, Bool, not, ℕ, List, length, is_some, map, max}
 use Rattle.rk_message.specs.declared.message.Message.{Message}
 use Rattle.rk_world.specs.Journal.{last_stamp}
 use Rattle.rk_world.specs.Ledger.{Ledger, with_all_served, with_marks}
@@ -36,6 +36,16 @@ ledger_worked ledger seen work = ledger_noted ledger seen work.served.items (mar
 -- what a master's work sends, with the stamps and places of its records
 abbrev pub sends_worked : Ledger → ℕ → Work → List Message
 sends_worked ledger seen work = map (filled (ledger_worked ledger seen work).journal work.served.items) work.sends.items
+
+-- nothing is sent, no call was served, and nothing is marked
+abbrev pub is_nothing : Work → Bool
+is_nothing work = (length work.sends.items == 0) && ((length work.served.items == 0) && not (is_some work.marked))
+
+-- the greatest number rose to the last stamp and to the greatest counter of a master
+pub record IsRaised (old : Parts) (number : ℕ) (new : Parts) : Type 0 where
+  pub counter : ℕ
+  pub counter_is : (it : Master) → IsAt old.masters.items number it → counter ≡ greatest (counters_of it)
+  pub parts : new ≡ record old { top = max (max old.top (last_stamp old.ledger.journal)) counter }
 
 -- a master's work is noted and sent, and the greatest number rose to the last stamp and to the greatest counter of the master
 pub record IsSettled (old : Parts) (number seen : ℕ) (work : Work) (new : Parts) (shown : Seen) : Type 0 where

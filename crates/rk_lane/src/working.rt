@@ -8,12 +8,12 @@ ghost use Rattle.rk_world.specs.declared.event.Event.TheVariants as events;
 ghost use Rattle.rk_master.specs.Parts.{marks_of};
 ghost use Rattle.rk_lane.specs.Made.{IsFault, IsMade, IsReady, KeepsLedger};
 ghost use Rattle.rk_lane.specs.Sends.{IsFitToSend};
-ghost use Rattle.rk_lane.specs.Working.{IsSettled, IsUnsettled, IsWeighed, ledger_noted, sends_worked};
+ghost use Rattle.rk_lane.specs.Working.{IsRaised, IsSettled, IsUnsettled, IsWeighed, is_nothing as is_nothing_lem, ledger_noted, sends_worked};
 
 use crate::finishing::{finish, journal_length};
 use crate::masters::{bytes_at, counter_at, records_at, step_master, turn_master};
 use crate::parts::Parts;
-use crate::seen::lost;
+use crate::seen::{lost, quiet};
 use rk_ledger::LedgerLane;
 use rk_master::Worked;
 use rk_message::Message;
@@ -96,6 +96,10 @@ fn settle(
     ensures ok { IfOk result (IsSettled parts.old master seen work parts.new) }
     ensures err { IfErr result (IsUnsettled parts.old parts.new) }
 {
+    if is_nothing(&work) {
+        raise_top(parts, master);
+        return Ok(quiet());
+    }
     let Worked {
         sends,
         served,
@@ -108,11 +112,26 @@ fn settle(
         parts.ledger.withdraw(records);
         return Err(StepError::NoMemory);
     };
+    raise_top(parts, master);
+    finish(parts, sends, records)
+}
+
+// Whether a master's work leaves nothing: no call was served, nothing is marked, and nothing is sent.
+fn is_nothing(work: &Worked) -> bool
+    ensures { result ≡ is_nothing_lem work.now }
+{
+    work.sends.is_empty() && (work.served.is_empty() && work.marked.is_none())
+}
+
+// The greatest number rises to the last stamp of the ledger and to the greatest counter of a master.
+fn raise_top(parts: &mut Parts, master: u8)
+    requires { IsMaster (length parts.old.masters.items) master }
+    ensures { IsRaised parts.old master parts.new }
+{
     let stamp = parts.ledger.last_stamp();
     let counter = counter_at(&parts.masters, master);
     parts.raise(stamp);
     parts.raise(counter);
-    finish(parts, sends, records)
 }
 
 // Served calls get their records, and a piece is marked. After `NoMemory` nothing has changed.

@@ -1,36 +1,26 @@
 -- What the index notes of clients and seqs, after a change.
-use Rattle.std.proofs.Common.{◌≡◌, ℕ, Bool, true, false, cond, eqb, ◌&&◌, Option, Some, is_some, unwrap_or, refl, sym, ap, ◌∙◌}
-use Rattle.std.specs.Ordering.{nat_cmp, is_eq}
-use Rattle.std.specs.Cmp.{unsigned_tied, tied_then}
+use Rattle.std.proofs.Common.{◌≡◌, ℕ, Bool, true, false, cond, eqb, ◌&&◌, Option, Some, is_some, unwrap_or, refl, ap, ◌∙◌}
 use Rattle.std.specs.Map.{lookup}
-use Rattle.std.specs.BTreeMap.{BTreeMap, get, is_at, Updates}
+use Rattle.std.specs.HashMap.{get, Updates}
 use Rattle.rk_ledger.specs.declared.call_index.CallIndex.{CallIndex}
 use Rattle.rk_ledger.specs.declared.call_index.Noted.{Noted}
-use Rattle.rk_ledger.specs.Noted.{IsNoted, NotesTheSame, found_in, name_cmp, nothing}
-
--- two names are one where their clients are, and their seqs
-same_name : (a b : ℕ × ℕ) → is_eq (name_cmp a b) ≡ (eqb a.0 b.0 && eqb a.1 b.1)
-same_name a b =
-    sym (tied_then (nat_cmp a.0 b.0) (nat_cmp a.1 b.1))
-    ∙ ap (λ t. t && is_eq (nat_cmp a.1 b.1)) (unsigned_tied a.0 b.0)
-    ∙ ap (λ t. eqb a.0 b.0 && t) (unsigned_tied a.1 b.1)
+use Rattle.rk_ledger.specs.Noted.{IsNoted, NotesTheSame, found_in, is_same_name, nothing}
 
 -- what is found once something was noted of a client and a seq
-found_after : (old new : BTreeMap (ℕ × ℕ) Noted) (client seq : ℕ) (noted : Noted) → Updates name_cmp old new (client, seq) (Some noted)
+found_after : (old new : CallIndex) (client seq : ℕ) (noted : Noted) → Updates is_same_name old.notes new.notes (client, seq) (Some noted)
     → (other asked : ℕ) → found_in new other asked ≡ cond (eqb client other && eqb seq asked) (Some noted) (found_in old other asked)
-found_after old new client seq noted updates other asked =
-    updates.0 (other, asked) ∙ ap (λ (b : Bool). cond b (Some noted) (get name_cmp old (other, asked))) (same_name (client, seq) (other, asked))
+found_after old new client seq noted updates other asked = updates.0 (other, asked)
 
 -- what is noted then
-pub noted_after : (old new : CallIndex) (client seq : ℕ) (noted : Noted) → Updates name_cmp old.notes new.notes (client, seq) (Some noted)
+pub noted_after : (old new : CallIndex) (client seq : ℕ) (noted : Noted) → Updates is_same_name old.notes new.notes (client, seq) (Some noted)
     → IsNoted old new client seq noted
 noted_after old new client seq noted updates = record {
   noted_is = λ other asked.
-      ap (λ (o : Option Noted). unwrap_or o nothing) (found_after old.notes new.notes client seq noted updates other asked)
-      ∙ noted_if (eqb client other && eqb seq asked) (found_in old.notes other asked);
+      ap (λ (o : Option Noted). unwrap_or o nothing) (found_after old new client seq noted updates other asked)
+      ∙ noted_if (eqb client other && eqb seq asked) (found_in old other asked);
   there = λ other asked.
-      ap (λ (o : Option Noted). is_some o) (found_after old.notes new.notes client seq noted updates other asked)
-      ∙ there_if (eqb client other && eqb seq asked) (found_in old.notes other asked);
+      ap (λ (o : Option Noted). is_some o) (found_after old new client seq noted updates other asked)
+      ∙ there_if (eqb client other && eqb seq asked) (found_in old other asked);
 }
   where
     noted_if : (b : Bool) (o : Option Noted) → unwrap_or (cond b (Some noted) o) nothing ≡ cond b noted (unwrap_or o nothing)
@@ -41,9 +31,9 @@ noted_after old new client seq noted updates = record {
     there_if true o = refl
     there_if false o = refl
 
--- two trees with the same entries
+-- two maps with the same entries
 pub noted_unchanged : (old new : CallIndex) → new.notes.entries ≡ old.notes.entries → NotesTheSame old new
 noted_unchanged old new same = record { noted_is = λ client seq. ap (λ (o : Option Noted). unwrap_or o nothing) (found client seq); there = λ client seq. ap (λ (o : Option Noted). is_some o) (found client seq) }
   where
-    found : (client seq : ℕ) → found_in new.notes client seq ≡ found_in old.notes client seq
-    found client seq = ap (lookup (is_at (name_cmp (client, seq)))) same
+    found : (client seq : ℕ) → found_in new client seq ≡ found_in old client seq
+    found client seq = ap (lookup (is_same_name (client, seq))) same

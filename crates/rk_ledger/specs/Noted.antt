@@ -1,9 +1,7 @@
 -- What is kept beside the records of a journal, so that they are found by client and seq.
 use Rattle.std.specs.Prelude.{◌≡◌, ℕ, ◌+◌, ◌-◌, ◌==◌, Bool, true, ◌&&◌, if◌then◌else◌, List, All, Option, Some, None, is_some, unwrap_or, position}
 use Rattle.std.specs.List.{count_by}
-use Rattle.std.specs.declared.cmp.Ordering.{Ordering}
-use Rattle.std.specs.Ordering.{nat_cmp, ordering_then}
-use Rattle.std.specs.BTreeMap.{BTreeMap, get}
+use Rattle.std.specs.HashMap.{get}
 use Rattle.rk_types.specs.declared.history.Placed.{Placed}
 use Rattle.rk_model.specs.Merged.{IsRisingAbove, is_mutation}
 use Rattle.rk_world.specs.Journal.{is_of_call, is_of_mutation}
@@ -11,13 +9,13 @@ use Rattle.rk_ledger.specs.declared.call_index.CallIndex.{CallIndex}
 use Rattle.rk_ledger.specs.declared.call_index.Noted.{Noted}
 use Rattle.rk_ledger.specs.Values.{value_bytes}
 
--- the order of clients with a seq: by client, and then by seq
-abbrev pub name_cmp : ℕ × ℕ → ℕ × ℕ → Ordering
-name_cmp a b = ordering_then (nat_cmp a.0 b.0) (nat_cmp a.1 b.1)
+-- whether two clients with a seq are one
+abbrev pub is_same_name : ℕ × ℕ → ℕ × ℕ → Bool
+is_same_name a b = (a.0 == b.0) && (a.1 == b.1)
 
--- what a tree has of a client and a seq
-abbrev pub found_in : BTreeMap (ℕ × ℕ) Noted → ℕ → ℕ → Option Noted
-found_in notes client seq = get name_cmp notes (client, seq)
+-- what the index has of a client and a seq
+abbrev pub found_in : CallIndex → ℕ → ℕ → Option Noted
+found_in index client seq = get is_same_name index.notes (client, seq)
 
 -- no record of the call
 abbrev pub nothing : Noted
@@ -25,11 +23,11 @@ nothing = record { place = None; accepted = 0 }
 
 -- whether the index has a note of a client and a seq
 abbrev pub has_note : CallIndex → ℕ → ℕ → Bool
-has_note index client seq = is_some (found_in index.notes client seq)
+has_note index client seq = is_some (found_in index client seq)
 
 -- what the index notes of a client and a seq
 abbrev pub noted_in : CallIndex → ℕ → ℕ → Noted
-noted_in index client seq = unwrap_or (found_in index.notes client seq) nothing
+noted_in index client seq = unwrap_or (found_in index client seq) nothing
 
 -- an index once this was noted of a client and a seq
 pub record IsNoted (before after : CallIndex) (client seq : ℕ) (note : Noted) : Type 0 where

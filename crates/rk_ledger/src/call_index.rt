@@ -4,7 +4,7 @@ ghost use Rattle.rk_ledger.specs.Noted.{IsNoted, NotesTheSame, has_note, noted_i
 use crate::journal::is_mutation;
 use rk_types::{NoMemory, Placed};
 use std::alloc::Global;
-use std::collections::BTreeMap;
+use std::collections::HashMap;
 
 /// What is noted of a client and seq: where the record of the mutation stands, if it has one, and how many records are
 /// accepted.
@@ -59,7 +59,7 @@ impl Noted {
 /// What is noted of each client and seq.
 #[derive(Drop)]
 pub(crate) struct CallIndex {
-    notes: BTreeMap<(u32, u64), Noted>,
+    notes: HashMap<(u32, u64), Noted>,
 }
 
 impl CallIndex {
@@ -68,7 +68,7 @@ impl CallIndex {
         ensures { (client seq : ℕ) → noted_in result client seq ≡ nothing }
     {
         CallIndex {
-            notes: BTreeMap::new(alloc),
+            notes: HashMap::new(alloc),
         }
     }
 

@@ -5,6 +5,9 @@ use rk_types::NoMemory;
 use std::alloc::Global;
 use std::marker::Model;
 
+// For so many tasks more there is room before some are put on, so that a command seldom takes memory again.
+const ROOM: usize = 32;
+
 /// The tasks that are left. Contracts see their list, the next one first.
 #[derive(Drop)]
 pub(crate) struct Tasks {
@@ -52,6 +55,7 @@ impl Tasks {
     pub(crate) fn push_all(&mut self, tasks: &[Task]) -> Result<(), NoMemory>
         ensures { OnOk result (self.new ≡ tasks.now ++ self.old) }
     {
+        self.stack.reserve(ROOM)?;
         self.stack.extend(tasks.iter().rev().copied())?;
         Ok(())
     }
