@@ -1,5 +1,5 @@
 -- What is kept beside the records of a journal, so that they are found by client and seq.
-use Rattle.std.specs.Prelude.{◌≡◌, ℕ, ◌+◌, ◌-◌, ◌==◌, Bool, true, ◌&&◌, if◌then◌else◌, List, All, Option, Some, None, is_some, unwrap_or, position}
+use Rattle.std.specs.Prelude.{◌≡◌, ℕ, ◌+◌, ◌-◌, ◌==◌, Bool, true, false, ◌&&◌, if◌then◌else◌, List, All, Option, Some, None, is_some, unwrap_or, position}
 use Rattle.std.specs.List.{count_by}
 use Rattle.std.specs.HashMap.{get}
 use Rattle.rk_types.specs.declared.history.Placed.{Placed}
@@ -7,15 +7,34 @@ use Rattle.rk_model.specs.Merged.{IsRisingAbove, is_mutation}
 use Rattle.rk_world.specs.Journal.{is_of_call, is_of_mutation}
 use Rattle.rk_ledger.specs.declared.call_index.CallIndex.{CallIndex}
 use Rattle.rk_ledger.specs.declared.call_index.Noted.{Noted}
+use Rattle.rk_ledger.specs.declared.call_index.OfCall.{OfCall}
 use Rattle.rk_ledger.specs.Values.{value_bytes}
 
 -- whether two clients with a seq are one
 abbrev pub is_same_name : ℕ × ℕ → ℕ × ℕ → Bool
 is_same_name a b = (a.0 == b.0) && (a.1 == b.1)
 
+-- what the map of the index has of a client and a seq
+abbrev pub stored_in : CallIndex → ℕ → ℕ → Option Noted
+stored_in index client seq = get is_same_name index.notes (client, seq)
+
+-- whether what is noted is that of a client and a seq
+abbrev pub is_of_name : OfCall → ℕ → ℕ → Bool
+is_of_name last client seq = (last.client == client) && (last.seq == seq)
+
+-- whether a client and a seq were noted last
+abbrev pub is_last_name : Option OfCall → ℕ → ℕ → Bool
+is_last_name None client seq = false
+is_last_name (Some last) client seq = is_of_name last client seq
+
+-- what was noted last, where it is of a client and a seq, and else what is stored of them
+abbrev pub last_or : Option OfCall → ℕ → ℕ → Option Noted → Option Noted
+last_or None client seq stored = stored
+last_or (Some last) client seq stored = if is_of_name last client seq then Some last.noted else stored
+
 -- what the index has of a client and a seq
 abbrev pub found_in : CallIndex → ℕ → ℕ → Option Noted
-found_in index client seq = get is_same_name index.notes (client, seq)
+found_in index client seq = last_or index.last client seq (stored_in index client seq)
 
 -- no record of the call
 abbrev pub nothing : Noted

@@ -1,5 +1,5 @@
-ghost use Rattle.std.specs.Prelude.{◌≡◌, ◌<◌, ◌-◌, ◌^◌, ℕ, true, false, OnOk, OnErr};
-ghost use Rattle.rk_ledger.specs.Noted.{IsNoted, NotesTheSame, has_note, noted_in, nothing, with_accepted, with_record, without_record};
+ghost use Rattle.std.specs.Prelude.{◌≡◌, ◌<◌, ◌-◌, ◌^◌, ℕ, true, false, unwrap_or, OnOk, OnErr};
+ghost use Rattle.rk_ledger.specs.Noted.{IsNoted, NotesTheSame, found_in, has_note, is_last_name, is_of_name, noted_in, nothing, stored_in, with_accepted, with_record, without_record};
 
 use crate::journal::is_mutation;
 use rk_types::{NoMemory, Placed};
@@ -56,10 +56,30 @@ impl Noted {
     }
 }
 
-/// What is noted of each client and seq.
+/// What is noted of the call of a client with a seq.
+#[derive(Clone, Copy, Debug, PartialEq, Eq)]
+pub(crate) struct OfCall {
+    pub(crate) client: u32,
+    pub(crate) seq: u64,
+    pub(crate) noted: Noted,
+}
+
+impl OfCall {
+    // Whether this is the call of a client with a seq.
+    fn is_of(self, client: u32, seq: u64) -> bool
+        ensures { result ≡ is_of_name self client seq }
+    {
+        self.client == client && self.seq == seq
+    }
+}
+
+/// What is noted of each client and seq. The call that was noted last stands apart, since it is asked for again and again
+/// until its answer is accepted.
 #[derive(Drop)]
 pub(crate) struct CallIndex {
     notes: HashMap<(u32, u64), Noted>,
+    // What is noted of this call, whatever else stands in the map of it.
+    last: Option<OfCall>,
 }
 
 impl CallIndex {
@@ -69,12 +89,26 @@ impl CallIndex {
     {
         CallIndex {
             notes: HashMap::new(alloc),
+            last: None,
         }
     }
 
-    /// What is noted of this client and seq. One search.
+    /// What is noted of this client and seq. One search at most.
     pub(crate) fn get(&self, client: u32, seq: u64) -> Noted
         ensures { result ≡ noted_in self.now client seq }
+    {
+        let Some(last) = self.last else {
+            return self.get_stored(client, seq);
+        };
+        if last.is_of(client, seq) {
+            return last.noted;
+        }
+        self.get_stored(client, seq)
+    }
+
+    // What the map has of this client and seq.
+    fn get_stored(&self, client: u32, seq: u64) -> Noted
+        ensures { result ≡ unwrap_or (stored_in self.now client seq) nothing }
     {
         match self.notes.get(&(client, seq)) {
             Some(noted) => *noted,
@@ -90,17 +124,43 @@ impl CallIndex {
         ensures ok { OnOk result (IsNoted self.old self.new client seq noted) }
         ensures err { OnErr result (NotesTheSame self.old self.new) }
     {
-        self.notes.insert((client, seq), noted)?;
+        self.store_last()?;
+        self.last = Some(OfCall { client, seq, noted });
         Ok(())
     }
 
-    /// Notes this of a client and seq that has a note. One search; takes no memory.
+    // What is noted of the last call goes into the map, if there is one. After `NoMemory` nothing has changed.
+    fn store_last(&mut self) -> Result<(), NoMemory>
+        ensures ok { OnOk result ((client seq : ℕ) → stored_in self.new client seq ≡ found_in self.old client seq) }
+        ensures err { OnErr result (NotesTheSame self.old self.new) }
+    {
+        if let Some(last) = self.last {
+            self.notes.insert((last.client, last.seq), last.noted)?;
+        }
+        Ok(())
+    }
+
+    /// Notes this of a client and seq that has a note. One search at most; takes no memory.
     pub(crate) fn change(&mut self, client: u32, seq: u64, noted: Noted)
         requires { has_note self.old client seq ≡ true }
         ensures { IsNoted self.old self.new client seq noted }
     {
+        if self.is_last(client, seq) {
+            self.last = Some(OfCall { client, seq, noted });
+            return;
+        }
         if let Some(there) = self.notes.get_mut(&(client, seq)) {
             *there = noted;
+        }
+    }
+
+    // Whether this is the client and the seq that were noted last.
+    fn is_last(&self, client: u32, seq: u64) -> bool
+        ensures { result ≡ is_last_name self.now.last client seq }
+    {
+        match self.last {
+            Some(last) => last.is_of(client, seq),
+            None => false,
         }
     }
 }
