@@ -1,8 +1,9 @@
 // What a coordinator does on its turn.
-ghost use Rattle.std.specs.Prelude.{◌≡◌, ◌++◌, OnOk, OnErr, IfOk};
+ghost use Rattle.std.specs.Prelude.{◌≡◌, ◌++◌, [], true, OnOk, OnErr, IfOk};
+ghost use Rattle.std.specs.List.{flat_map};
 ghost use Rattle.std.specs.Option.{option_to_list};
 ghost use Rattle.rk_world.specs.CoordinatorStep.{coordinator_turn, row_duty as row_duty_lem};
-ghost use Rattle.rk_world.specs.Coordinator.{from_coordinator, row_tenure};
+ghost use Rattle.rk_world.specs.Coordinator.{Coordinator, from_coordinator, row_tenure};
 ghost use Rattle.rk_coordinator.specs.Lane.{grant_of, told_of};
 
 use crate::coordinator_lane::CoordinatorLane;
@@ -19,6 +20,25 @@ impl CoordinatorLane {
     {
         duties(self)
     }
+
+    /// Whether it is known at a look that a turn would send nothing: each tablet is owned. A look at each row.
+    pub fn rests(&self) -> bool
+        ensures { result ≡ true → coordinator_turn self.now ≡ [] }
+    {
+        are_owned(self.map.rows())
+    }
+}
+
+// Whether each tablet is owned, so that no row has a duty.
+fn are_owned(rows: &[Row]) -> bool
+    ensures { result ≡ true → (coordinator : Coordinator) → flat_map (λ row. row_duty_lem coordinator row row.phase) rows.now ≡ [] }
+{
+    for row in rows {
+        if !matches!(row.phase, Phase::Owned { .. }) {
+            return false;
+        }
+    }
+    true
 }
 
 // What is sent for all rows.
