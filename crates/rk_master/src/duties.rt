@@ -1,11 +1,13 @@
 // What a master does for its tablets on its turn: a target asks its source for what it lacks, a rebuild asks backup 1 for
 // what it reads next, and either says when it has all. Each duty changes its own tablet alone, so that those behind it are
 // as they were.
-ghost use Rattle.std.specs.Prelude.{◌≡◌, ◌<◌, ◌+◌, ◌++◌, Some, length, drop, slice_get, OnOk};
+ghost use Rattle.std.specs.Prelude.{◌≡◌, ℕ, ◌<◌, ◌+◌, ◌++◌, [], true, false, Some, length, drop, slice_get, OnOk};
 ghost use Rattle.rk_world.specs.Gather.{next_reading};
 ghost use Rattle.rk_world.specs.Master.{Master};
 ghost use Rattle.rk_world.specs.MasterTurn as turns;
-ghost use Rattle.rk_master.specs.Parts.{behind, tablet_of, worked_of};
+ghost use Rattle.rk_world.specs.Tablet.{Tablet};
+ghost use Rattle.rk_world.specs.Worked.{changed};
+ghost use Rattle.rk_master.specs.Parts.{behind, tablet_of, tablets_of, worked_of};
 ghost use Rattle.rk_master.specs.Places.{Row};
 ghost use Rattle.rk_master.specs.State.{IsState, master_of};
 
@@ -28,6 +30,28 @@ pub(crate) fn do_duties(state: &mut MasterState, work: &mut Worked) -> Result<()
         do_duty(state, at, work)?;
     }
     Ok(())
+}
+
+/// Whether the role of no tablet has a duty, so that no duty would send anything. A look at each tablet.
+pub(crate) fn are_at_rest(tablets: &[(u32, TabletLane)]) -> bool
+    ensures { result ≡ true → (master : Master) → (turns.duties master (tablets_of tablets.now)).sends ≡ [] }
+{
+    for entry in tablets {
+        if has_duty(entry.1.handover.role) {
+            return false;
+        }
+    }
+    true
+}
+
+// Whether a role may have a duty; one without it does nothing on a turn.
+fn has_duty(role: Role) -> bool
+    ensures { result ≡ false → (master : Master) (number : ℕ) (tablet : Tablet) → turns.tablet_duty master number tablet role ≡ changed master }
+{
+    matches!(
+        role,
+        Role::Receiving | Role::Joining { .. } | Role::Rebuilding { .. }
+    )
 }
 
 // The duty for the tablet that stands at a place, by its role.

@@ -1,4 +1,4 @@
-ghost use Rattle.std.specs.Prelude.{◌≡◌, ◌≤◌, false, ◌-◌, ◌^◌, ◌++◌, [], length, min, Some, None, replicate, IfSome, IsSomeAnd, IfOk, OnOk, OnErr};
+ghost use Rattle.std.specs.Prelude.{◌≡◌, ◌≤◌, true, false, ◌-◌, ◌^◌, ◌++◌, [], length, min, Some, None, replicate, IfSome, IsSomeAnd, IfOk, OnOk, OnErr};
 ghost use Rattle.std.specs.Option.{option_map_or};
 ghost use Rattle.rk_log.specs.Cut.{EachFits};
 ghost use Rattle.rk_log.specs.Known.{nothing};
@@ -19,7 +19,7 @@ use crate::splits::split;
 use crate::state::MasterState;
 use crate::sums::{greatest_counter, log_bytes};
 use crate::tablets::{handover_of, is_waiting, serve};
-use crate::turn::take_turn;
+use crate::turn::{rests, take_turn};
 use crate::work::Worked;
 use rk_bucket_table::BucketTable;
 use rk_log::{MOST_BACKUPS, MasterLog};
@@ -132,6 +132,15 @@ impl MasterLane {
         let work = take_turn(&mut self.state)?;
         self.spent = false;
         Ok(work)
+    }
+
+    /// Whether it is known at a look that a turn would send nothing: every backup holds the whole log, and the role of no
+    /// tablet has a duty. False where the master is spent. A look at each backup and each tablet, which takes no memory where
+    /// it is true; else also the time to copy what one backup lacks.
+    pub fn rests(&self) -> bool
+        ensures { result ≡ true → IfSome self.now (λ master. (master_turn master).sends ≡ []) }
+    {
+        !self.spent && rests(&self.state)
     }
 
     /// Adds a tablet, which is served from now on. `NoMemory` also where the master is spent; nothing has changed then. A

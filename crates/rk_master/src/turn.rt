@@ -1,12 +1,12 @@
 // What a master does on its turn: it sends each backup what that lacks, and then does its duty for each tablet.
-ghost use Rattle.std.specs.Prelude.{◌≡◌, ◌++◌, IfOk, OnOk};
+ghost use Rattle.std.specs.Prelude.{◌≡◌, ◌++◌, [], true, None, IfOk, OnOk};
 ghost use Rattle.rk_log.specs.Log.{IsBackup, pending};
 ghost use Rattle.rk_world.specs.Master.{Master};
 ghost use Rattle.rk_world.specs.MasterTurn as turns;
 ghost use Rattle.rk_master.specs.Parts.{worked_of};
 ghost use Rattle.rk_master.specs.State.{IsState, master_of};
 
-use crate::duties::do_duties;
+use crate::duties::{are_at_rest, do_duties};
 use crate::state::MasterState;
 use crate::work::Worked;
 use rk_log::Piece;
@@ -24,6 +24,36 @@ pub(crate) fn take_turn(state: &mut MasterState) -> Result<Worked, NoMemory>
     send_pending(state, &mut work)?;
     do_duties(state, &mut work)?;
     Ok(work)
+}
+
+/// Whether it is known at a look that a turn would send nothing: every backup holds the whole log, and the role of no tablet
+/// has a duty. A look at each backup and each tablet, and the time to copy what one backup lacks.
+pub(crate) fn rests(state: &MasterState) -> bool
+    requires { IsState state.now }
+    ensures { result ≡ true → (turns.master_turn (master_of state.now)).sends ≡ [] }
+{
+    is_held(state) && are_at_rest(state.tablets.as_slice())
+}
+
+// Whether every backup is known to hold the whole log. A look at each backup, and the time to copy what one lacks.
+fn is_held(state: &MasterState) -> bool
+    requires { IsState state.now }
+    ensures { result ≡ true → turns.appends (master_of state.now) ≡ [] }
+{
+    for before in 0..state.backups {
+        if !holds_all(state, before + 1) {
+            return false;
+        }
+    }
+    true
+}
+
+// Whether a backup is known to lack nothing. Where it lacks something, the time to copy that.
+fn holds_all(state: &MasterState, backup: u8) -> bool
+    requires { IsBackup state.now.log backup }
+    ensures { result ≡ true → pending state.now.log backup ≡ None }
+{
+    matches!(state.log.pending(backup), Ok(None))
 }
 
 // Each backup is sent what it lacks, by rising number. A look at each backup, and the time to copy what is sent.
