@@ -14,6 +14,7 @@ pub mod Forgetting
 pub mod Noticing
 pub mod Counting
 pub mod Takers
+pub mod Idle
 pub mod Turned
 pub mod Telling
 pub mod Admitting

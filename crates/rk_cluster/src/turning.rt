@@ -1,5 +1,6 @@
 // Which nodes of a lane take their turns, and the turns of clients.
-ghost use Rattle.std.specs.Prelude.{◌≡◌, ◌<◌, ◌++◌, ◌∷◌, [], All, if◌then◌else◌, length, IfErr, IfOk, IfSome, OnErr, OnOk};
+ghost use Rattle.std.specs.Prelude.{◌≡◌, ◌<◌, ◌++◌, ◌∷◌, [], All, if◌then◌else◌, length, not, IfErr, IfOk, IfSome, OnErr, OnOk};
+ghost use Rattle.std.specs.List.{list_all};
 ghost use Rattle.rk_world.specs.Premises.{IsMaster};
 ghost use Rattle.rk_cluster.specs.Effects.{AreCutShort, Carries};
 ghost use Rattle.rk_cluster.specs.Faults.{LanesGoOn};
@@ -32,6 +33,15 @@ pub(crate) fn clients_in(
         push_where(&mut clients, *client, is_asking_in(session, lane))?;
     }
     Ok(clients)
+}
+
+/// Whether no call is outstanding in a lane. The time to hash the key of each outstanding call.
+pub(crate) fn are_elsewhere(sessions: &BTreeMap<u32, Session>, lane: u8) -> bool
+    ensures { result ≡ list_all (λ entry. not (is_call_in lane entry.1.outstanding)) sessions.now.entries }
+{
+    sessions
+        .values()
+        .all(|session| !is_asking_in(session, lane))
 }
 
 // Whether a client has an outstanding call in a lane.

@@ -16,6 +16,8 @@ pub mod Moved
 pub mod Settling
 pub mod Takings
 pub mod MasterWork
+pub mod Idle
+pub mod Rested
 pub mod BothChanged
 pub mod Noticed
 pub mod Halved

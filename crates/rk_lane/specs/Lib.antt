@@ -14,6 +14,7 @@ pub mod Masters
 pub mod Noticing
 pub mod Owners
 pub mod Working
+pub mod Resting
 pub mod Resending
 pub mod Sends
 pub mod Spent

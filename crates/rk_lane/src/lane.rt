@@ -1,5 +1,7 @@
 ghost use Rattle.std.specs.Prelude.{◌≡◌, ◌≢◌, ◌≤◌, [], true, All, length, is_some, not, Some, IfOk, IfErr, IfSome, OnErr};
 ghost use Rattle.std.specs.List.{count_by};
+ghost use Rattle.rk_types.specs.NumberMap.{NumberMap};
+ghost use Rattle.rk_outside.specs.Segments.{Segments};
 ghost use Rattle.rk_log.specs.declared.copied.TheConstants.{MOST_BACKUPS};
 ghost use Rattle.rk_model.specs.Merged.{IsRisingAbove};
 ghost use Rattle.rk_world.specs.Backup.{no_segments};
@@ -12,9 +14,11 @@ ghost use Rattle.rk_ledger.specs.Values.{value_bytes};
 ghost use Rattle.rk_lane.specs.LaneState.{AreTold, replicas_of, world_with};
 ghost use Rattle.rk_lane.specs.Lane.{AreNumbered};
 ghost use Rattle.rk_lane.specs.Requests.{AreForMasters};
+ghost use Rattle.rk_lane.specs.Resting.{IsResting};
 
 use crate::copies::copy_records;
 use crate::parts::{Parts, lives_another};
+use crate::resting::rests;
 use rk_backup::BackupLane;
 use rk_master::MasterLane;
 use rk_message::Wire;
@@ -195,6 +199,15 @@ impl<R: Replica + Drop> Lane<R> {
         ensures { IfSome self.now.running (λ running. result ≡ is_noticed running.coordinator master) }
     {
         self.parts.coordinator.noticed(master)
+    }
+
+    /// Whether no turn of the coordinator or of a master that lives would leave anything in the lane, as far as a look tells; false where the
+    /// lane is worn or spent. A look at each row, each master, and each of its tablets and backups.
+    pub fn rests(&self) -> bool
+        ensures { result ≡ true → IfSome self.now.running (λ running. (stored : NumberMap Segments)
+            → IsResting (world_with self.now running stored)) }
+    {
+        !self.spent && rests(&self.parts)
     }
 
     /// The replicas, in the order of the backups, also of a spent lane. Takes no memory.

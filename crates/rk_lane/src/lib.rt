@@ -20,6 +20,7 @@ mod masters;
 mod notices;
 mod parts;
 mod resending;
+mod resting;
 mod seen;
 mod sends;
 mod short;

@@ -1,5 +1,5 @@
 // One master among those of a lane.
-ghost use Rattle.std.specs.Prelude.{◌≡◌, ◌≤◌, ◌-◌, ◌^◌, Some, None, min, length, slice_get, slice_set, IfOk, OnOk, IfSome};
+ghost use Rattle.std.specs.Prelude.{◌≡◌, ◌≤◌, ◌-◌, ◌^◌, true, Some, None, min, length, slice_get, slice_set, IfOk, OnOk, IfSome};
 ghost use Rattle.rk_log.specs.Log.{bytes_of};
 ghost use Rattle.rk_message.specs.declared.message.Message.{Message as Sent};
 ghost use Rattle.rk_types.specs.NumberMap.{get};
@@ -12,6 +12,7 @@ ghost use Rattle.rk_world.specs.Step.{seen_in as seen_in_lem, with_added};
 ghost use Rattle.rk_world.specs.World.{counters_of, greatest};
 ghost use Rattle.rk_master.specs.Taking.{CanTake};
 ghost use Rattle.rk_lane.specs.Masters.{CanTakeThere, EachEntryFits, IsAt, IsWorkAt};
+ghost use Rattle.rk_lane.specs.Resting.{SendsNothing};
 
 use rk_master::{MasterLane, Worked};
 use rk_message::{Body, Wire};
@@ -50,6 +51,15 @@ pub(crate) fn turn_master(masters: &mut Vec<MasterLane>, master: u8) -> Result<W
 {
     let it = &mut masters[master as usize - 1];
     it.turn()
+}
+
+/// Whether a master would send nothing on its turn, as far as a look tells. A look at each of its backups and tablets.
+pub(crate) fn rests_at(masters: &[MasterLane], master: u8) -> bool
+    requires { IsMaster (length masters.now) master }
+    ensures { result ≡ true → SendsNothing masters.now master }
+{
+    let it = &masters[master as usize - 1];
+    it.rests()
 }
 
 /// A master serves a new tablet.

@@ -11,7 +11,7 @@ ghost use Rattle.rk_lane.specs.Sends.{IsFitToSend};
 ghost use Rattle.rk_lane.specs.Working.{IsRaised, IsSettled, IsUnsettled, IsWeighed, is_nothing as is_nothing_lem, ledger_noted, sends_worked};
 
 use crate::finishing::{finish, journal_length};
-use crate::masters::{bytes_at, counter_at, records_at, step_master, turn_master};
+use crate::masters::{bytes_at, counter_at, records_at, rests_at, step_master, turn_master};
 use crate::parts::Parts;
 use crate::seen::{lost, quiet};
 use rk_ledger::LedgerLane;
@@ -56,6 +56,9 @@ pub(crate) fn turn_at(parts: &mut Parts, master: u8) -> Result<Seen, StepError>
 {
     if parts.has_crashed(master) {
         return Err(StepError::Dead(master));
+    }
+    if rests_at(&parts.masters, master) {
+        return Ok(quiet());
     }
     let records = journal_length(&parts.ledger);
     let before = bytes_at(&parts.masters, master);

@@ -16,12 +16,12 @@ use Rattle.rk_settle.specs.Faults.{FailsInRounds, failed_rounds}
 use Rattle.rk_settle.specs.Lawful.{AreTasks}
 use Rattle.rk_settle.specs.Outcomes.{Ends, Fails, SaidSoFar, StopsBefore}
 use Rattle.rk_settle.specs.Settle.{lane_numbers}
-use Rattle.rk_settle.specs.States.{ClusterTells, EightTell, IsCourse}
+use Rattle.rk_settle.specs.States.{ClusterTells, EightTell, IsCourse, MovesAll}
 use Rattle.rk_settle.specs.declared.course.Progress.{Progress}
 use Rattle.rk_settle.specs.declared.error.SettleError.{SettleError}
 use Rattle.rk_settle.specs.declared.error.SettleError.TheVariants as errors
 use Rattle.rk_settle.specs.declared.task.Task.{Task}
-use Rattle.rk_settle.proofs.Moving.{MovesAll, SaysAfter, StopsAfter, StopsIn}
+use Rattle.rk_settle.proofs.Moving.{SaysAfter, StopsAfter, StopsIn}
 
 -- no replica has failed yet
 pub record IsFresh (progress : Progress) : Type 0 where

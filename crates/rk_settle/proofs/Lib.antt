@@ -2,6 +2,7 @@ pub mod Keeping
 pub mod Courses
 pub mod Failing
 pub mod Moving
+pub mod Idle
 pub mod Ending
 pub mod Following
 pub mod Named

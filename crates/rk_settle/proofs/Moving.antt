@@ -12,7 +12,7 @@ use Rattle.rk_cluster.specs.State.{ClusterState}
 use Rattle.rk_cluster.proofs.Faults.{counts_same, counts_then, go_on_kept}
 use Rattle.rk_settle.specs.Course.{Course, MOST_FAULTS, error_by, moved, moved_all, moved_by, round_over, with_tasks}
 use Rattle.rk_settle.specs.Outcomes.{IsStopped, Keeps}
-use Rattle.rk_settle.specs.States.{ClusterTells, IsCourse, Moves, Stops}
+use Rattle.rk_settle.specs.States.{ClusterTells, IsCourse, Moves, MovesAll, Stops}
 use Rattle.rk_settle.specs.Unfolding.{unfolded}
 use Rattle.rk_settle.specs.declared.course.Progress.{Progress}
 use Rattle.rk_settle.specs.declared.error.SettleError.{SettleError}
@@ -21,14 +21,6 @@ use Rattle.rk_settle.specs.declared.task.Act.{Act}
 use Rattle.rk_settle.specs.declared.task.Task.{Task}
 use Rattle.rk_settle.specs.declared.task.Task.TheVariants as made
 use Rattle.rk_settle.proofs.Keeping.{keeps_same, keeps_then}
-
--- some moves were made
-pub record MovesAll {R : Type 0} (segments : R → Option Segments) (faults : R → ℕ) (old new : ClusterState R) (before after : List Task) (was is : Progress) : Type 0 where
-  pub fates : List Fate
-  pub counts : CountsGoOn faults fates old new
-  pub kept : Keeps was.said.items is.said.items
-  pub moves : (start : Cluster) (had : List Said) (course : Course) → IsCourse segments start had old before was course
-      → IsCourse segments start had new after is (moved_all course fates)
 
 -- a command stopped after some moves, and clients have said this
 pub record StopsAfter {R : Type 0} (segments : R → Option Segments) (faults : R → ℕ) (old new : ClusterState R) (left : List Task) (progress : Progress) (has : List Said) (error : SettleError) : Type 0 where
@@ -162,17 +154,22 @@ module _ {R : Type 0} (segments : R → Option Segments) (faults : R → ℕ) wh
     moves = λ start had course stands. stands;
   }
 
-  -- one more move
-  pub one_more : (begun now next : ClusterState R) (first left after : List Task) (was is later : Progress) → MovesAll segments faults begun now first left was is
-      → Moves segments faults now next left after is later → MovesAll segments faults begun next first after was later
-  one_more begun now next first left after was is later all move = record {
-    fates = all.fates ++ move.fate ∷ [];
-    counts = counts_then faults all.fates (move.fate ∷ []) begun now next all.counts move.counts;
-    kept = keeps_then was.said.items is.said.items later.said.items all.kept move.kept;
+  -- more moves
+  pub more_moved : (begun now next : ClusterState R) (first left after : List Task) (was is later : Progress) → MovesAll segments faults begun now first left was is
+      → MovesAll segments faults now next left after is later → MovesAll segments faults begun next first after was later
+  more_moved begun now next first left after was is later all more = record {
+    fates = all.fates ++ more.fates;
+    counts = counts_then faults all.fates more.fates begun now next all.counts more.counts;
+    kept = keeps_then was.said.items is.said.items later.said.items all.kept more.kept;
     moves = λ start had course stands.
-        subst (λ (it : Course). IsCourse segments start had next after later it) (sym (fold-append moved course all.fates (move.fate ∷ [])))
-        (move.moves start had (moved_all course all.fates) (all.moves start had course stands));
+        subst (λ (it : Course). IsCourse segments start had next after later it) (sym (fold-append moved course all.fates more.fates))
+        (more.moves start had (moved_all course all.fates) (all.moves start had course stands));
   }
+
+  -- one move
+  pub one_moved : (old new : ClusterState R) (before after : List Task) (was is : Progress) → Moves segments faults old new before after was is
+      → MovesAll segments faults old new before after was is
+  one_moved old new before after was is move = record { fates = move.fate ∷ []; counts = move.counts; kept = move.kept; moves = move.moves }
 
   -- the counts rose in the moves so far, and fall no more
   counts_on : (begun now next : ClusterState R) (fates : List Fate) → CountsGoOn faults fates begun now → CountsGoOn faults [] now next → CountsGoOn faults fates begun next

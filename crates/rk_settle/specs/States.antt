@@ -9,7 +9,7 @@ use Rattle.rk_cluster.specs.Effects.{RunsTo}
 use Rattle.rk_cluster.specs.Faults.{CountsGoOn}
 use Rattle.rk_cluster.specs.Replicas.{Fate}
 use Rattle.rk_cluster.specs.State.{ClusterState, IsOf, IsWorld}
-use Rattle.rk_settle.specs.Course.{Course, moved}
+use Rattle.rk_settle.specs.Course.{Course, moved, moved_all}
 use Rattle.rk_settle.specs.Outcomes.{IsStopped, Keeps}
 use Rattle.rk_settle.specs.declared.course.Progress.{Progress}
 use Rattle.rk_settle.specs.declared.error.SettleError.{SettleError}
@@ -33,6 +33,14 @@ pub record Moves {R : Type 0} (segments : R → Option Segments) (faults : R →
   pub kept : Keeps was.said.items is.said.items
   pub moves : (start : Cluster) (had : List Said) (course : Course) → IsCourse segments start had old before was course
       → IsCourse segments start had new after is (moved course fate)
+
+-- some moves were made
+pub record MovesAll {R : Type 0} (segments : R → Option Segments) (faults : R → ℕ) (old new : ClusterState R) (before after : List Task) (was is : Progress) : Type 0 where
+  pub fates : List Fate
+  pub counts : CountsGoOn faults fates old new
+  pub kept : Keeps was.said.items is.said.items
+  pub moves : (start : Cluster) (had : List Said) (course : Course) → IsCourse segments start had old before was course
+      → IsCourse segments start had new after is (moved_all course fates)
 
 -- a command stops where it is, for this reason; nothing is said where memory was wanting
 abbrev pub Stops : {R : Type 0} → (R → Option Segments) → ClusterState R → ClusterState R → List Task → Progress → SettleError → Type 0

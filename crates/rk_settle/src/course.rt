@@ -1,5 +1,5 @@
 // The course of a command: its tasks are done move by move.
-ghost use Rattle.std.specs.Prelude.{◌≡◌, ◌+◌, ◌-◌, ◌^◌, ◌<◌, ◌≤◌, ◌∷◌, ◌++◌, [], false, if◌then◌else◌, List, IfErr, OnOk};
+ghost use Rattle.std.specs.Prelude.{◌≡◌, ◌+◌, ◌-◌, ◌^◌, ◌<◌, ◌≤◌, ◌∷◌, ◌++◌, [], false, true, if◌then◌else◌, List, IfErr, OnOk};
 ghost use Rattle.std.specs.Option.{option_to_list};
 ghost use Rattle.rk_types.specs.declared.hashing.TheConstants.{LANES};
 ghost use Rattle.rk_cluster.specs.Faults.{CountsGoOn};
@@ -9,7 +9,7 @@ ghost use Rattle.rk_settle.specs.Lawful.{AreTasks, IsAct, IsTask};
 ghost use Rattle.rk_settle.specs.Course.{MOST_FAULTS as most_faults};
 ghost use Rattle.rk_settle.specs.Faults.{HasFaults, IsOfReplicas, KeepsUp};
 ghost use Rattle.rk_settle.specs.Outcomes.{Ends, Fails, Keeps};
-ghost use Rattle.rk_settle.specs.States.{EightTell, Moves, Stops};
+ghost use Rattle.rk_settle.specs.States.{EightTell, Moves, MovesAll, Stops};
 ghost use Rattle.rk_settle.specs.declared.course.Progress.{Progress as Came};
 ghost use Rattle.rk_settle.specs.declared.error.SettleError.TheVariants as errors;
 ghost use Rattle.rk_settle.specs.declared.task.Task.{Task as Step};
@@ -103,9 +103,23 @@ fn make_moves<R: Replica + Drop>(
         let Some(task) = tasks.pop() else {
             return Ok(());
         };
-        make_move(cluster, &mut tasks, progress, task)?;
+        if !is_spared(cluster, task) {
+            make_move(cluster, &mut tasks, progress, task)?;
+        }
     }
     Err(SettleError::TooLong)
+}
+
+// Whether a task is over as soon as it comes: the turns in a lane where none would leave anything.
+fn is_spared<R: Replica + Drop>(cluster: &Cluster<R>, task: Task) -> bool
+    requires { IsTask (masters_of cluster.now) task }
+    ensures { result ≡ true → (rest : List Step) (progress : Came)
+        → MovesAll R.segments R.faults cluster.now cluster.now (task ∷ rest) rest progress progress }
+{
+    match task {
+        Task::Turns { lane } => cluster.rests_in(lane),
+        _ => false,
+    }
 }
 
 // The first task makes its move.

@@ -5,8 +5,8 @@ use rk_types::NoMemory;
 use std::alloc::Global;
 use std::marker::Model;
 
-// For so many tasks more there is room before some are put on, so that a command seldom takes memory again.
-const ROOM: usize = 32;
+// From the first one on there is room for so many tasks, so that a command seldom takes memory again.
+const ROOM: usize = 16;
 
 /// The tasks that are left. Contracts see their list, the next one first.
 #[derive(Drop)]
@@ -47,6 +47,7 @@ impl Tasks {
     pub(crate) fn push(&mut self, task: Task) -> Result<(), NoMemory>
         ensures { OnOk result (self.new ≡ task ∷ self.old) }
     {
+        make_room(&mut self.stack)?;
         self.stack.push(task)?;
         Ok(())
     }
@@ -55,7 +56,7 @@ impl Tasks {
     pub(crate) fn push_all(&mut self, tasks: &[Task]) -> Result<(), NoMemory>
         ensures { OnOk result (self.new ≡ tasks.now ++ self.old) }
     {
-        self.stack.reserve(ROOM)?;
+        make_room(&mut self.stack)?;
         self.stack.extend(tasks.iter().rev().copied())?;
         Ok(())
     }
@@ -64,4 +65,14 @@ impl Tasks {
     pub(crate) fn alloc(&self) -> Global {
         *self.stack.allocator()
     }
+}
+
+// There is room for the first tasks.
+fn make_room(stack: &mut Vec<Task>) -> Result<(), NoMemory>
+    ensures { OnOk result (stack.new.items ≡ stack.old.items) }
+{
+    if stack.capacity() < ROOM {
+        stack.reserve(ROOM)?;
+    }
+    Ok(())
 }

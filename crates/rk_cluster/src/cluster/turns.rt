@@ -1,12 +1,12 @@
 // How the nodes of a lane take their turns, and how one event comes to a lane.
-ghost use Rattle.std.specs.Prelude.{◌≡◌, ◌<◌, [], All, length, None, Some, IfErr, IfOk, OnErr, OnOk};
+ghost use Rattle.std.specs.Prelude.{◌≡◌, ◌<◌, [], true, All, length, None, Some, IfErr, IfOk, OnErr, OnOk};
 ghost use Rattle.rk_types.specs.declared.hashing.TheConstants.{LANES};
 ghost use Rattle.rk_world.specs.Backup.{Gave};
 ghost use Rattle.rk_types.specs.NumberMap.{numbers};
 ghost use Rattle.rk_world.specs.Cluster.{Cluster as Lanes, Happens, lane_at};
 ghost use Rattle.rk_world.specs.World.{live_masters};
 ghost use Rattle.rk_cluster.specs.State.{IsOf};
-ghost use Rattle.rk_cluster.specs.Turns.{clients_in as clients_in_lem};
+ghost use Rattle.rk_cluster.specs.Turns.{IsIdleIn, clients_in as clients_in_lem};
 ghost use Rattle.rk_world.specs.Premises.{IsMaster, MOST_MASTERS};
 ghost use Rattle.rk_cluster.specs.Effects.{ActsOne, EndsIn, IsCarriedOut};
 ghost use Rattle.rk_cluster.specs.Faults.{CountsGoOn};
@@ -19,7 +19,7 @@ use super::nothing_said;
 use crate::cluster::Cluster;
 use crate::error::ClusterError;
 use crate::steps::{act, act_all};
-use crate::turning::{ask_all, clients_in, live_in, turns_of};
+use crate::turning::{are_elsewhere, ask_all, clients_in, live_in, turns_of};
 use rk_outside::Replica;
 use rk_types::{NoMemory, Said};
 use rk_world::Event;
@@ -77,6 +77,15 @@ impl<R: Replica + Drop> Cluster<R> {
             → numbers (live_masters (lane_at cluster lane)) ≡ live.items) }
     {
         live_in(self.alloc(), &self.lanes[lane as usize], self.masters)
+    }
+
+    /// Whether no turn in a lane would leave anything, as far as a look tells: no call is outstanding there, and the lane rests. The time to
+    /// hash the key of each outstanding call, and what [`rk_lane::Lane::rests`] takes.
+    pub fn rests_in(&self, lane: u8) -> bool
+        requires { lane < LANES }
+        ensures { result ≡ true → IsIdleIn R.segments self.now lane }
+    {
+        are_elsewhere(&self.sessions, lane) && self.lanes[lane as usize].rests()
     }
 
     /// The nodes of a lane take their turns: the clients with an outstanding call there, by rising number, then the

@@ -1,4 +1,4 @@
-use Rattle.std.proofs.Common.{◌+◌, ℕ, List, [], if◌then◌else◌, sym, subst, ◌∙◌, refl, arith}
+use Rattle.std.proofs.Common.{◌+◌, ◌∷◌, ℕ, List, [], if◌then◌else◌, sym, subst, ◌∙◌, refl, arith}
 use Rattle.std.proofs.lemmas.List.Elements.{All-head, All-tail}
 use Rattle.std.proofs.lemmas.Result.{err_from_is_err_and}
 use Rattle.rk_types.specs.declared.node.Said.{Said}
@@ -8,12 +8,13 @@ use Rattle.rk_settle.specs.Course.{MOST_FAULTS}
 use Rattle.rk_settle.specs.Faults.{FailsInRounds, failed_rounds}
 use Rattle.rk_settle.specs.Lawful.{AreTasks, IsTask}
 use Rattle.rk_settle.specs.Outcomes.{Fails, Keeps}
-use Rattle.rk_settle.specs.States.{Moves, Stops}
+use Rattle.rk_settle.specs.States.{Moves, MovesAll, Stops}
 use Rattle.rk_settle.specs.declared.error.SettleError.TheVariants.{TooLong}
 use Rattle.rk_settle.specs.declared.task.Task.{Task}
 use Rattle.rk_settle.proofs.Ending.{ends_by, fails_by}
 use Rattle.rk_settle.proofs.Failing.{failed_often, in_no_round, rounds_counted}
-use Rattle.rk_settle.proofs.Moving.{none_moved, one_more, says_after, stops_in}
+use Rattle.rk_settle.proofs.Moving.{more_moved, none_moved, one_moved, says_after, stops_in}
+use Rattle.rk_settle.proofs.course.make_moves.Goals.{then-not-is_spared+in_ok-make_move, else-not-is_spared}
 use Rattle.rk_settle.proofs.course.make_moves.Goals as goal
 
 pub loop-init : goal.loop-init
@@ -100,18 +101,43 @@ returns-in_err-make_move-clause-cause g c =
     c.make_move.ensures.counts)
 
 pub loop-preserved : goal.loop-preserved
-loop-preserved g c = record {
-  eight = c.loop.invariant.eight;
-  moves = one_more g.R.Replica.segments g.R.Replica.faults c.args.cluster.now c.loop.cluster c.make_move.new.cluster c.args.tasks c.loop.tasks c.make_move.new.tasks c.args.progress.now c.loop.progress
-      c.make_move.new.progress c.loop.invariant.moves
-      (subst (λ (left : List Task). Moves g.R.Replica.segments g.R.Replica.faults c.loop.cluster c.make_move.new.cluster left c.make_move.new.tasks c.loop.progress c.make_move.new.progress)
-      (sym c.in-Some.ensures.some) c.in_ok-make_move.ensures.ok);
-  lawful = subst (λ (masters : ℕ). AreTasks masters c.make_move.new.tasks) (c.make_move.ensures.masters ∙ c.loop.invariant.masters) c.in_ok-make_move.ensures.lawful;
-  few = omega (arith, c.make_move.ensures.faults, c.loop.invariant.few);
-  masters = c.make_move.ensures.masters ∙ c.loop.invariant.masters;
-  backups = c.make_move.ensures.backups ∙ c.loop.invariant.backups;
-  counts = c.in_ok-make_move.ensures.failed c.args.cluster.now c.loop.invariant.counts;
-}
+loop-preserved g c =
+    let taken : AreTasks (masters_of c.args.cluster.now) (c.in-Some.task ∷ c.pop.new.self) = subst (AreTasks (masters_of c.args.cluster.now)) c.in-Some.ensures.some c.loop.invariant.lawful in
+    elim c.if-not-is_spared.branch [
+      | then-not-is_spared+in_ok-make_move w ↦
+          rw (w.cluster-is, w.progress-is, w.tasks-is) (record {
+            eight = c.loop.invariant.eight;
+            moves = more_moved g.R.Replica.segments g.R.Replica.faults c.args.cluster.now c.loop.cluster w.make_move.new.cluster c.args.tasks c.loop.tasks w.make_move.new.tasks c.args.progress.now c.loop.progress
+                w.make_move.new.progress c.loop.invariant.moves
+                (one_moved g.R.Replica.segments g.R.Replica.faults c.loop.cluster w.make_move.new.cluster c.loop.tasks w.make_move.new.tasks c.loop.progress w.make_move.new.progress
+                (subst (λ (left : List Task). Moves g.R.Replica.segments g.R.Replica.faults c.loop.cluster w.make_move.new.cluster left w.make_move.new.tasks c.loop.progress w.make_move.new.progress)
+                (sym c.in-Some.ensures.some) w.in_ok-make_move.ensures.ok));
+            lawful = subst (λ (masters : ℕ). AreTasks masters w.make_move.new.tasks) (w.make_move.ensures.masters ∙ c.loop.invariant.masters) w.in_ok-make_move.ensures.lawful;
+            few = omega (arith, w.make_move.ensures.faults, c.loop.invariant.few);
+            masters = w.make_move.ensures.masters ∙ c.loop.invariant.masters;
+            backups = w.make_move.ensures.backups ∙ c.loop.invariant.backups;
+            counts = w.in_ok-make_move.ensures.failed c.args.cluster.now c.loop.invariant.counts;
+          })
+      | else-not-is_spared w ↦
+          rw (w.cluster-is, w.progress-is, w.tasks-is) (record {
+            eight = c.loop.invariant.eight;
+            moves = more_moved g.R.Replica.segments g.R.Replica.faults c.args.cluster.now c.loop.cluster c.loop.cluster c.args.tasks c.loop.tasks c.pop.new.self c.args.progress.now c.loop.progress
+                c.loop.progress c.loop.invariant.moves
+                (subst (λ (left : List Task). MovesAll g.R.Replica.segments g.R.Replica.faults c.loop.cluster c.loop.cluster left c.pop.new.self c.loop.progress c.loop.progress)
+                (sym c.in-Some.ensures.some) (c.is_spared.ensures w.if-not-is_spared.false c.pop.new.self c.loop.progress));
+            lawful = All-tail (IsTask (masters_of c.args.cluster.now)) c.in-Some.task c.pop.new.self taken;
+            few = omega (arith, c.loop.invariant.few);
+            masters = c.loop.invariant.masters;
+            backups = c.loop.invariant.backups;
+            counts = c.loop.invariant.counts;
+          })
+    ]
+
+pub is_spared-requires : goal.is_spared-requires
+is_spared-requires g c =
+    subst (λ (masters : ℕ). IsTask masters c.in-Some.task) (sym c.loop.invariant.masters)
+    (All-head (IsTask (masters_of c.args.cluster.now)) c.in-Some.task c.pop.new.self
+    (subst (AreTasks (masters_of c.args.cluster.now)) c.in-Some.ensures.some c.loop.invariant.lawful))
 
 pub returns-clause-err : goal.returns-clause-err
 returns-clause-err g c =

@@ -7,10 +7,10 @@ use Rattle.rk_settle.proofs.tasks.Tasks.push_all.Goals as goal
 
 pub returns : goal.returns
 returns c =
-    let old = c.reserve.new.self.items in
+    let old = c.make_room.new.stack.items in
     let all = c.args.tasks.now in
     let put = items_from_extend {E = ℕ} (Ok tt) c.in_ok-extend.ensures.ran (YieldsList-from_copied (YieldsList-from_rev_slice all (cc))) in
     ap reverse put.0
     ∙ reverse-append old (reverse all)
     ∙ ap (λ (first : List Task). first ++ reverse old) (reverse-reverse all)
-    ∙ ap (λ (rest : List Task). all ++ rest) (ap reverse c.reserve.ensures.items ∙ c.self.view_is)
+    ∙ ap (λ (rest : List Task). all ++ rest) (ap reverse c.in_ok-make_room.ensures ∙ c.self.view_is)
