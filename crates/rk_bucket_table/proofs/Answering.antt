@@ -1,20 +1,13 @@
 -- What a scan answers, by its walk over the chains from its token's bucket on.
-use Rattle.std.proofs.Common.{◌≡◌, ℕ, ◌*◌, ◌<◌, ◌≤◌, true, false, List, ◌++◌, length, drop, sym, ap, ◌∙◌, subst, arith}
-use Rattle.std.specs.List.{AllByRecursion, list_any}
-use Rattle.std.proofs.lemmas.List.Elements.{filter-append}
+use Rattle.rk_bucket_table.proofs.Words.{◌≡◌, ℕ, ◌*◌, ◌<◌, ◌≤◌, true, false, List, ◌++◌, length, drop, sym, ap, ◌∙◌, subst, arith}
+use Rattle.rk_bucket_table.proofs.Words.{AllByRecursion, list_any, filter-append, Held, Token, Range, IsInScanOrder, item_bucket, item_cmp}
+use Rattle.rk_bucket_table.proofs.Words.{item_hash, is_live_in, live_in, batch_at, next_token, passed, rest_at, token_behind, Rises}
+use Rattle.rk_bucket_table.proofs.Words.{AreChains, Cells, IsTable, items_in, joined, IsFrom}
 use Rattle.std.proofs.lemmas.List.Kept.{IsStrictlySortedBy-filter}
 use Rattle.std.proofs.lemmas.Nat.{mul-le}
-use Rattle.rk_types.specs.declared.held.Held.{Held}
-use Rattle.rk_types.specs.declared.held.Token.{Token}
-use Rattle.rk_types.specs.declared.range.Range.{Range}
 use Rattle.rk_types.specs.declared.hashing.TheConstants.{BUCKETS}
-use Rattle.rk_table.specs.Order.{IsInScanOrder, item_bucket, item_cmp, item_hash}
-use Rattle.rk_table.specs.Items.{is_live_in, live_in}
-use Rattle.rk_table.specs.Scans.{batch_at, end, next_token, passed, rest_at, token_behind}
-use Rattle.rk_table.proofs.Ordered.{Rises}
+use Rattle.rk_table.specs.Scans.{end}
 use Rattle.rk_table.proofs.InOrder.{rises_in_order}
-use Rattle.rk_bucket_table.specs.Cells.{AreChains, Cells, IsTable, items_in, joined}
-use Rattle.rk_bucket_table.specs.Scanning.{IsFrom}
 use Rattle.rk_bucket_table.proofs.Numbers.{bucket_from, bucket_less, hash_below}
 use Rattle.rk_bucket_table.proofs.Tables.{IsBelow, IsFromOn, all_weaker}
 use Rattle.rk_bucket_table.proofs.Scanning.{all_filter, any_none, any_some, back_from, back_items, back_order, batch_same, chains_from, front_below, front_items, items_from, next_end, next_more, two_items}

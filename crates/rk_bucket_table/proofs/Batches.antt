@@ -1,14 +1,12 @@
 -- Scans: what a walk from a token's bucket on passes over, gives, and counts.
-use Rattle.std.proofs.Common.{◌≡◌, ◌≢◌, ℕ, zero, suc, ◌+◌, ◌<◌, ◌≤◌, eqb, ltb, cond, List, [], ◌∷◌, ◌++◌, None, length, drop, refl, sym, ap, ◌∙◌, subst, ⊎_elim, arith, append_assoc, length-append}
-use Rattle.std.proofs.lemmas.Bool.{cases_eq, cases_lt, cond-true, cond-false, eq-eqb, le-ltb, ne_eqb}
-use Rattle.std.proofs.lemmas.List.{append-nil}
-use Rattle.std.proofs.lemmas.List.Elements.{filter-append}
-use Rattle.rk_types.specs.declared.held.Held.{Held}
-use Rattle.rk_types.specs.declared.held.Token.{Token}
-use Rattle.rk_table.specs.Order.{item_bucket}
-use Rattle.rk_table.specs.Scans.{behind_bucket, left, of_bucket, token_behind, token_of}
-use Rattle.rk_table.proofs.Ordered.{AllFrom, AllUpTo, Rises, ends_with_one, filter_kept, filter_left_out, last_of_end, more_all, same_and_more, same_none}
-use Rattle.rk_bucket_table.specs.Scanning.{counted_by}
+use Rattle.rk_bucket_table.proofs.Words.{◌≡◌, ◌≢◌, ℕ, zero, suc, ◌+◌, ◌<◌, ◌≤◌, eqb, cond, List, [], ◌∷◌, ◌++◌, None, length, drop, refl}
+use Rattle.rk_bucket_table.proofs.Words.{sym, ap, ◌∙◌, subst, ⊎_elim, arith, append_assoc, length-append, cases_lt, cond-true, cond-false}
+use Rattle.rk_bucket_table.proofs.Words.{eq-eqb, ne_eqb, append-nil, filter-append, Held, Token, item_bucket, left, token_behind, Rises}
+use Rattle.rk_bucket_table.proofs.Words.{filter_kept, filter_left_out, counted_by}
+use Rattle.std.proofs.Common.{ltb}
+use Rattle.std.proofs.lemmas.Bool.{cases_eq, le-ltb}
+use Rattle.rk_table.specs.Scans.{behind_bucket, of_bucket, token_of}
+use Rattle.rk_table.proofs.Ordered.{AllFrom, AllUpTo, ends_with_one, last_of_end, more_all, same_and_more, same_none}
 
 -- the items without so many first ones of a bucket
 abbrev pub unskipped : ℕ → ℕ → List Held → List Held

@@ -1,20 +1,19 @@
 -- The walk of a scan: what each live item does to what was given and what is to come.
-use Rattle.std.proofs.Common.{◌≡◌, ◌≢◌, ℕ, suc, ◌+◌, ◌-◌, ◌<◌, ◌≤◌, Bool, true, false, eqb, cond, List, [], ◌∷◌, ◌++◌, ◌⊎◌, length, drop, refl, sym, ap, ◌∙◌, subst, inl, inr, ⊎_elim, arith, append_assoc, length-append}
+use Rattle.rk_bucket_table.proofs.Words.{◌≡◌, ◌≢◌, ℕ, suc, ◌+◌, ◌<◌, ◌≤◌, Bool, true, false, eqb, cond, List, [], ◌∷◌, ◌++◌, ◌⊎◌, length}
+use Rattle.rk_bucket_table.proofs.Words.{drop, refl, sym, ap, ◌∙◌, subst, inl, inr, ⊎_elim, arith, append_assoc, length-append, cases_lt}
+use Rattle.rk_bucket_table.proofs.Words.{cond-true, cond-false, eq-eqb, ne_eqb, false≢true, append-nil, Held, Token, Range, IsInScanOrder}
+use Rattle.rk_bucket_table.proofs.Words.{item_bucket, item_cmp, is_live_in, live_in, batch_at, left, passed, rest_at, token_behind, Rises}
+use Rattle.rk_bucket_table.proofs.Words.{IsFrom, counted_by}
+use Rattle.std.proofs.Common.{◌-◌}
 use Rattle.std.specs.Prelude.{◌&&◌, nat_le, nat_lt}
-use Rattle.std.proofs.lemmas.Bool.{and_parts, cases_eq, cases_lt, cond-true, cond-false, eq-eqb, eqb-true, lt-ltb, ltb-true, ne_eqb, false≢true}
-use Rattle.std.proofs.lemmas.List.{append-nil, append_cancel_right}
+use Rattle.std.proofs.lemmas.Bool.{and_parts, cases_eq, eqb-true, lt-ltb, ltb-true}
+use Rattle.std.proofs.lemmas.List.{append_cancel_right}
 use Rattle.std.proofs.lemmas.List.Kept.{IsStrictlySortedBy-filter}
-use Rattle.rk_types.specs.declared.held.Held.{Held}
-use Rattle.rk_types.specs.declared.held.Token.{Token}
-use Rattle.rk_types.specs.declared.range.Range.{Range}
 use Rattle.rk_types.specs.Held.{spelled_of}
-use Rattle.rk_table.specs.Order.{IsInScanOrder, item_bucket, item_cmp}
-use Rattle.rk_table.specs.Items.{is_live_in, live_in}
-use Rattle.rk_table.specs.Scans.{batch_at, batch_of, left, passed, rest_at, token_behind}
-use Rattle.rk_table.proofs.Ordered.{AllFrom, Rises, rises_front}
+use Rattle.rk_table.specs.Scans.{batch_of}
+use Rattle.rk_table.proofs.Ordered.{AllFrom, rises_front}
 use Rattle.rk_table.proofs.InOrder.{rises_in_order}
 use Rattle.rk_table.proofs.Tokens.{left_in_two, passed_and_left}
-use Rattle.rk_bucket_table.specs.Scanning.{IsFrom, counted_by}
 use Rattle.rk_bucket_table.proofs.Picking.{picked_first, picked_later}
 use Rattle.rk_bucket_table.proofs.Batches.{counts, counts_behind, counts_push, unskipped, unskipped_here, unskipped_left, unskipped_none, unskipped_past}
 

@@ -1,19 +1,11 @@
 -- Cells that change: which chains stay as they were, and how a chain goes on elsewhere.
-use Rattle.std.proofs.Common.{◌≡◌, ◌≢◌, ℕ, suc, ◌<◌, ◌≤◌, List, [], ◌∷◌, ◌++◌, ◌⊎◌, Option, Some, None, length, take, drop, get_or, set, refl, sym, ap, ◌∙◌, subst, inl, inr, ⊎_elim, append_assoc}
+use Rattle.rk_bucket_table.proofs.Words.{◌≡◌, ◌≢◌, ℕ, suc, ◌<◌, ◌≤◌, List, [], ◌∷◌, ◌++◌, ◌⊎◌, Option, Some, None, length, take, drop}
+use Rattle.rk_bucket_table.proofs.Words.{get_or, set, refl, sym, ap, ◌∙◌, subst, inl, inr, ⊎_elim, append_assoc, AllByRecursion}
+use Rattle.rk_bucket_table.proofs.Words.{IsStrictlySortedBy, Less, cases_lt, Held, IsInScanOrder, item_cmp, order_of_back, Cell, END}
+use Rattle.rk_bucket_table.proofs.Words.{AreLinked, Cells, IsSegment, cell_at, cell_of, joined, HasLast, IsSpot}
 use Rattle.std.specs.Cmp.{tied_itself}
-use Rattle.std.specs.List.{AllByRecursion}
-use Rattle.std.specs.List.Sorted.{IsStrictlySortedBy}
-use Rattle.std.specs.declared.cmp.Ordering.TheVariants.{Less}
-use Rattle.std.proofs.lemmas.Bool.{cases_lt}
 use Rattle.std.proofs.lemmas.List.{get_or_past, get_or-set_same, get_or-set_other, length-set, set_split}
-use Rattle.rk_types.specs.declared.held.Held.{Held}
-use Rattle.rk_table.specs.Order.{IsInScanOrder, item_cmp}
-use Rattle.rk_table.proofs.Found.{order_of_back}
 use Rattle.rk_table.proofs.InOrder.{item_total}
-use Rattle.rk_bucket_table.specs.declared.cell.Cell.{Cell}
-use Rattle.rk_bucket_table.specs.declared.cell.TheConstants.{END}
-use Rattle.rk_bucket_table.specs.Cells.{AreLinked, Cells, IsSegment, cell_at, cell_of, joined}
-use Rattle.rk_bucket_table.specs.Spots.{HasLast, IsSpot}
 use Rattle.rk_bucket_table.proofs.Segments.{segment_append}
 use Rattle.rk_bucket_table.proofs.Tables.{all_append, all_back, all_front, heads_split, linked_append}
 

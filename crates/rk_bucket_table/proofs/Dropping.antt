@@ -1,17 +1,13 @@
 -- A range that is dropped: chain by chain, and cell by cell.
-use Rattle.std.proofs.Common.{◌≡◌, ◌≢◌, ℕ, ◌+◌, ◌<◌, ◌≤◌, true, false, not, List, [], ◌∷◌, ◌++◌, Some, None, is_some, length, map, take, drop, get_or, set, refl, sym, ap, ◌∙◌, subst, inl, inr, ⊎_elim, arith, append_assoc, length-append}
-use Rattle.std.proofs.lemmas.List.{append-nil, drop_all, drop_more, get_or_at, length-map, length-take, set_at, take_all, take_more}
-use Rattle.std.proofs.lemmas.List.Elements.{filter-append}
-use Rattle.std.proofs.lemmas.List.Sums.{count_by-le-length, length-filter}
-use Rattle.slab.specs.Slab.{ContainsKey, Slab}
-use Rattle.rk_types.specs.declared.held.Held.{Held}
-use Rattle.rk_types.specs.declared.range.Range.{Range}
-use Rattle.rk_table.specs.Items.{is_in, without}
-use Rattle.rk_table.proofs.Ordered.{filter_kept, filter_left_out}
-use Rattle.rk_bucket_table.specs.declared.cell.Cell.{Cell}
-use Rattle.rk_bucket_table.specs.declared.cell.TheConstants.{END}
-use Rattle.rk_bucket_table.specs.Cells.{Cells, IsChain, IsSegment, IsTable, cell_at, cell_of, chain, joined, taken}
-use Rattle.rk_bucket_table.specs.Spots.{HasLast}
+use Rattle.rk_bucket_table.proofs.Words.{◌≡◌, ◌≢◌, ℕ, ◌+◌, ◌<◌, ◌≤◌, true, false, List, [], ◌∷◌, ◌++◌, Some, None, is_some, length, map}
+use Rattle.rk_bucket_table.proofs.Words.{take, drop, get_or, set, refl, sym, ap, ◌∙◌, subst, inl, inr, ⊎_elim, arith, append_assoc}
+use Rattle.rk_bucket_table.proofs.Words.{length-append, append-nil, drop_more, get_or_at, length-take, filter-append, count_by-le-length}
+use Rattle.rk_bucket_table.proofs.Words.{ContainsKey, Slab, Held, Range, without, filter_kept, filter_left_out, Cell, END, Cells, IsChain}
+use Rattle.rk_bucket_table.proofs.Words.{IsSegment, IsTable, cell_at, cell_of, chain, joined, taken, HasLast}
+use Rattle.std.proofs.Common.{not}
+use Rattle.std.proofs.lemmas.List.{drop_all, length-map, set_at, take_all, take_more}
+use Rattle.std.proofs.lemmas.List.Sums.{length-filter}
+use Rattle.rk_table.specs.Items.{is_in}
 use Rattle.rk_bucket_table.proofs.Segments.{cell_first, chain_is, chain_none, segment_append}
 use Rattle.rk_bucket_table.proofs.Splices.{IsAt, state_removed}
 use Rattle.rk_bucket_table.proofs.Tables.{joined_parts, part_at, short}

@@ -1,11 +1,9 @@
 -- Chains without items.
-use Rattle.std.proofs.Common.{◌≡◌, ℕ, zero, suc, List, [], length, replicate, refl, sym, ap, ◌∙◌, subst}
-use Rattle.std.specs.List.Sorted.{IsStrictlySortedBy}
+use Rattle.rk_bucket_table.proofs.Words.{◌≡◌, ℕ, zero, suc, List, [], length, refl, sym, ap, ◌∙◌, subst, IsStrictlySortedBy, Held}
+use Rattle.rk_bucket_table.proofs.Words.{IsInScanOrder, END, AreLinked, ArePlaced, Cells, IsTable, items_in, joined}
+use Rattle.std.proofs.Common.{replicate}
 use Rattle.std.proofs.lemmas.List.{length-replicate}
-use Rattle.rk_types.specs.declared.held.Held.{Held}
-use Rattle.rk_table.specs.Order.{IsInScanOrder}
-use Rattle.rk_bucket_table.specs.declared.cell.TheConstants.{END}
-use Rattle.rk_bucket_table.specs.Cells.{AreLinked, ArePlaced, Cells, IsCountOfChains, IsTable, items_in, joined}
+use Rattle.rk_bucket_table.specs.Cells.{IsCountOfChains}
 
 none_linked : (count : ℕ) → AreLinked [] (replicate count END) (replicate count [])
 none_linked zero = tt

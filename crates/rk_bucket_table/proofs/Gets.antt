@@ -1,13 +1,6 @@
 -- What a search along one chain says of all items, in the words of the code.
-use Rattle.std.proofs.Common.{◌≡◌, ℕ, ◌∙◌, true, false, List, Some, None, get_or, sym, ap, subst}
-use Rattle.rk_types.specs.declared.held.Held.{Held}
-use Rattle.rk_types.specs.Hashing.{hash_of}
-use Rattle.rk_table.specs.Order.{Place, place_of}
-use Rattle.rk_table.specs.Items.{found, is_at}
-use Rattle.rk_table.specs.Places.{comes_before}
-use Rattle.rk_bucket_table.specs.declared.cell.Cell.{Cell}
-use Rattle.rk_bucket_table.specs.Cells.{Cells, IsTable, cell_at, chain_of, items_in, joined}
-use Rattle.rk_bucket_table.specs.Spots.{IsSought}
+use Rattle.rk_bucket_table.proofs.Words.{◌≡◌, ℕ, ◌∙◌, true, false, List, Some, None, get_or, sym, ap, subst, Held, hash_of, Place, place_of}
+use Rattle.rk_bucket_table.proofs.Words.{found, is_at, comes_before, Cell, Cells, IsTable, cell_at, chain_of, items_in, joined, IsSought}
 use Rattle.rk_bucket_table.proofs.Lookups.{found_cell, gap_cell, gap_none}
 use Rattle.rk_bucket_table.proofs.Tables.{table_items}
 

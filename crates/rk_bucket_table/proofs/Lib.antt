@@ -1,3 +1,4 @@
+pub mod Words
 pub mod Segments
 pub mod Seeking
 pub mod Picking

@@ -1,20 +1,16 @@
 -- What a search along one chain says of all items.
-use Rattle.std.proofs.Common.{◌≡◌, ℕ, suc, ◌^◌, ◌<◌, ◌≤◌, true, false, List, [], ◌∷◌, ◌++◌, Some, None, length, get_or, set, refl, sym, ap, ◌∙◌, subst, arith, append_assoc, length-append}
-use Rattle.std.specs.List.{All, AllByRecursion, insert}
+use Rattle.rk_bucket_table.proofs.Words.{◌≡◌, ℕ, suc, ◌^◌, ◌<◌, ◌≤◌, true, false, List, [], ◌∷◌, ◌++◌, Some, None, length, get_or, set}
+use Rattle.rk_bucket_table.proofs.Words.{refl, sym, ap, ◌∙◌, subst, arith, append_assoc, length-append, AllByRecursion, get_or_at, Held}
+use Rattle.rk_bucket_table.proofs.Words.{hash_of, IsInScanOrder, item_hash, place_of, found, is_at, comes_before, order_of_back, Cell, END}
+use Rattle.rk_bucket_table.proofs.Words.{Cells, IsChain, IsTable, cell_at, chain, chain_of, joined, IsSought}
+use Rattle.std.specs.List.{All, insert}
 use Rattle.std.specs.Cmp.Lexicographic.{bytes_decides}
 use Rattle.std.proofs.lemmas.Bool.{and_parts, false_from_ne_true}
-use Rattle.std.proofs.lemmas.List.{drop_at, get_or_at, set_at, take_at}
+use Rattle.std.proofs.lemmas.List.{drop_at, set_at, take_at}
 use Rattle.std.proofs.lemmas.List.Elements.{All-append, All-from_recursion}
-use Rattle.rk_types.specs.declared.held.Held.{Held}
-use Rattle.rk_types.specs.Hashing.{hash_of}
-use Rattle.rk_table.specs.Order.{IsInScanOrder, item_hash, place_of}
-use Rattle.rk_table.specs.Items.{found, is_at, with_item}
-use Rattle.rk_table.specs.Places.{IsCut, IsGap, IsHere, comes_before}
-use Rattle.rk_table.proofs.Found.{gap_found, gap_past, here_found, order_of_back}
-use Rattle.rk_bucket_table.specs.declared.cell.Cell.{Cell}
-use Rattle.rk_bucket_table.specs.declared.cell.TheConstants.{END}
-use Rattle.rk_bucket_table.specs.Cells.{Cells, IsChain, IsTable, cell_at, chain, chain_of, joined}
-use Rattle.rk_bucket_table.specs.Spots.{IsSought}
+use Rattle.rk_table.specs.Items.{with_item}
+use Rattle.rk_table.specs.Places.{IsCut, IsGap, IsHere}
+use Rattle.rk_table.proofs.Found.{gap_found, gap_past, here_found}
 use Rattle.rk_bucket_table.proofs.Segments.{chain_none}
 use Rattle.rk_bucket_table.proofs.Seeking.{back_is, behind_is, ends_behind}
 use Rattle.rk_bucket_table.proofs.Numbers.{before_by_chain, chain_below, hash_below, not_before_by_chain}

@@ -1,18 +1,15 @@
 -- The number of a chain: it does not fall along scan order.
-use Rattle.std.proofs.Common.{◌≡◌, ℕ, ◌*◌, ◌/◌, ◌%◌, ◌^◌, ◌<◌, ◌≤◌, ◌⊎◌, true, false, List, [], ◌∷◌, refl, sym, ap, inl, inr, ⊎_elim, arith}
+use Rattle.rk_bucket_table.proofs.Words.{◌≡◌, ℕ, ◌*◌, ◌^◌, ◌<◌, ◌≤◌, ◌⊎◌, true, false, List, [], ◌∷◌, refl, sym, ap, inl, inr, ⊎_elim}
+use Rattle.rk_bucket_table.proofs.Words.{arith, Less, cases_lt, Held, hash_of, item_bucket, item_hash, place_of, comes_before, chain_of}
+use Rattle.std.proofs.Common.{◌/◌, ◌%◌}
 use Rattle.std.specs.Prelude.{bit_xor, fold}
 use Rattle.std.specs.Ordering.{nat_cmp, ordering_then, is_lt}
 use Rattle.std.specs.declared.cmp.Ordering.{Ordering}
-use Rattle.std.specs.declared.cmp.Ordering.TheVariants.{Less, Equal, Greater}
-use Rattle.std.proofs.lemmas.Bool.{cases_lt}
+use Rattle.std.specs.declared.cmp.Ordering.TheVariants.{Equal, Greater}
 use Rattle.std.proofs.lemmas.Cmp.{ranked}
 use Rattle.std.proofs.lemmas.Nat.{div_below, mod_below, mul-add-lt, mul-le, row_fits}
-use Rattle.rk_types.specs.declared.held.Held.{Held}
 use Rattle.rk_types.specs.declared.hashing.TheConstants.{BUCKETS, HASH_PRIME, HASH_START}
-use Rattle.rk_types.specs.Hashing.{bucket_of, hash_of}
-use Rattle.rk_table.specs.Order.{item_bucket, item_hash, place_of}
-use Rattle.rk_table.specs.Places.{comes_before}
-use Rattle.rk_bucket_table.specs.Cells.{chain_of}
+use Rattle.rk_types.specs.Hashing.{bucket_of}
 
 -- a hash has 64 bits
 folded_below : (bytes : List ℕ) (hash : ℕ) → hash < 2 ^ 64 → fold (λ hash byte. (bit_xor hash byte * HASH_PRIME) % 2 ^ 64) hash bytes < 2 ^ 64

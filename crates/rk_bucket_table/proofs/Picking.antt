@@ -1,9 +1,8 @@
 -- Walks that pick items: what one more item adds.
-use Rattle.std.proofs.Common.{◌≡◌, ℕ, ◌≤◌, Bool, true, false, List, [], ◌∷◌, ◌++◌, length, take, sym, ap, ◌∙◌, arith, append_assoc}
+use Rattle.rk_bucket_table.proofs.Words.{◌≡◌, ℕ, ◌≤◌, Bool, true, false, List, [], ◌∷◌, ◌++◌, length, take, sym, ap, ◌∙◌, arith}
+use Rattle.rk_bucket_table.proofs.Words.{append_assoc, length-take, Held, filter_kept, filter_left_out}
 use Rattle.std.specs.List.{filter}
-use Rattle.std.proofs.lemmas.List.{length-take, take-append-le}
-use Rattle.rk_types.specs.declared.held.Held.{Held}
-use Rattle.rk_table.proofs.Ordered.{filter_kept, filter_left_out}
+use Rattle.std.proofs.lemmas.List.{take-append-le}
 
 module _ (picks : Held → Bool) (item : Held) (items rest : List Held) (parts : items ≡ item ∷ rest) where
   pub picked_first : picks item ≡ true → filter picks items ≡ item ∷ filter picks rest

@@ -1,17 +1,15 @@
 -- A put: the items after it are those that it should leave.
-use Rattle.std.proofs.Common.{◌≡◌, ◌≢◌, ℕ, ◌+◌, ◌<◌, Bool, true, false, List, ◌∷◌, ◌++◌, Option, Some, None, get_or, set, refl, sym, ap, ◌∙◌, subst, length, ⊎_elim, append_assoc}
+use Rattle.rk_bucket_table.proofs.Words.{◌≡◌, ◌≢◌, ℕ, ◌+◌, ◌<◌, Bool, true, false, List, ◌∷◌, ◌++◌, Option, Some, None, get_or, set, refl}
+use Rattle.rk_bucket_table.proofs.Words.{sym, ap, ◌∙◌, subst, length, ⊎_elim, append_assoc, cond-true, cond-false, false≢true, Held}
+use Rattle.rk_bucket_table.proofs.Words.{hash_of, IsInScanOrder, Place, place_of, found, is_at, comes_before, Cell, END, Cells, IsTable}
+use Rattle.rk_bucket_table.proofs.Words.{cell_at, cell_of, chain, chain_of, items_in, joined, taken, IsSought, IsSpot}
 use Rattle.std.specs.Prelude.{nat_lt}
-use Rattle.std.proofs.lemmas.Bool.{cases_Bool, cond-true, cond-false, false≢true}
-use Rattle.rk_types.specs.declared.held.Held.{Held}
-use Rattle.rk_types.specs.Hashing.{hash_of}
-use Rattle.rk_table.specs.Order.{IsInScanOrder, Place, item_place, place_of}
-use Rattle.rk_table.specs.Items.{found, is_at, is_newer, with_item, with_newer}
-use Rattle.rk_table.specs.Places.{IsGap, comes_before}
+use Rattle.std.proofs.lemmas.Bool.{cases_Bool}
+use Rattle.rk_table.specs.Order.{item_place}
+use Rattle.rk_table.specs.Items.{is_newer, with_item, with_newer}
+use Rattle.rk_table.specs.Places.{IsGap}
 use Rattle.rk_table.proofs.Found.{order_with_item}
-use Rattle.rk_bucket_table.specs.declared.cell.Cell.{Cell}
-use Rattle.rk_bucket_table.specs.declared.cell.TheConstants.{END}
-use Rattle.rk_bucket_table.specs.Cells.{Cells, IsTable, cell_at, cell_of, chain, chain_of, item_is_at, items_in, joined, taken}
-use Rattle.rk_bucket_table.specs.Spots.{IsSought, IsSpot}
+use Rattle.rk_bucket_table.specs.Cells.{item_is_at}
 use Rattle.rk_bucket_table.proofs.Seeking.{back_is, ends_behind}
 use Rattle.rk_bucket_table.proofs.Segments.{cell_first}
 use Rattle.rk_bucket_table.proofs.Lookups.{first_is, found_cell, gap_cell, gap_none, head_is, inserted, its_part, lesser, mine_parts, replaced_first, within}

@@ -1,23 +1,20 @@
 -- A scan begins at the first chain of its token's bucket: the items of the chains before have no part in it.
-use Rattle.std.proofs.Common.{◌≡◌, ◌≢◌, ℕ, zero, suc, ◌+◌, ◌<◌, ◌≤◌, Bool, true, false, eqb, ltb, cond, List, [], ◌∷◌, ◌++◌, Option, Some, None, length, take, drop, get_or, refl, sym, ap, ◌∙◌, subst, ⊎_elim, arith, append_assoc, length-append}
+use Rattle.rk_bucket_table.proofs.Words.{◌≡◌, ◌≢◌, ℕ, zero, suc, ◌+◌, ◌<◌, ◌≤◌, Bool, true, false, eqb, cond, List, [], ◌∷◌, ◌++◌, Option}
+use Rattle.rk_bucket_table.proofs.Words.{Some, None, length, take, drop, get_or, refl, sym, ap, ◌∙◌, subst, ⊎_elim, arith, append_assoc}
+use Rattle.rk_bucket_table.proofs.Words.{length-append, AllByRecursion, list_any, ne_eqb, false≢true, append-nil, drop_more, length-take}
+use Rattle.rk_bucket_table.proofs.Words.{filter-append, Held, Token, Range, IsInScanOrder, item_bucket, item_hash, at_hash, is_live_in}
+use Rattle.rk_bucket_table.proofs.Words.{live_in, batch_at, left, next_token, passed, rest_at, token_behind, order_of_back, Rises}
+use Rattle.rk_bucket_table.proofs.Words.{filter_kept, filter_left_out, END, AreChains, AreLinked, ArePlaced, Cells, IsTable, chain}
+use Rattle.rk_bucket_table.proofs.Words.{chain_of, items_in, joined, IsFrom}
+use Rattle.std.proofs.Common.{ltb}
 use Rattle.std.specs.Prelude.{◌||◌}
-use Rattle.std.specs.List.{AllByRecursion, filter, last_or, list_any}
-use Rattle.std.proofs.lemmas.Bool.{cases_Bool, le-ltb, ne_eqb, or_parts, false≢true}
-use Rattle.std.proofs.lemmas.List.{append-nil, append_cancel_right, drop_more, length-take, take-append-drop}
+use Rattle.std.specs.List.{filter, last_or}
+use Rattle.std.proofs.lemmas.Bool.{cases_Bool, le-ltb, or_parts}
+use Rattle.std.proofs.lemmas.List.{append_cancel_right, take-append-drop}
 use Rattle.std.proofs.lemmas.List.Concat.{flat_map-append}
-use Rattle.std.proofs.lemmas.List.Elements.{filter-append}
-use Rattle.rk_types.specs.declared.held.Held.{Held}
-use Rattle.rk_types.specs.declared.held.Token.{Token}
-use Rattle.rk_types.specs.declared.range.Range.{Range}
-use Rattle.rk_table.specs.Order.{IsInScanOrder, item_bucket, item_hash}
-use Rattle.rk_table.specs.Items.{at_hash, is_live_in, live_in}
-use Rattle.rk_table.specs.Scans.{batch_at, batch_of, behind_bucket, end, left, next_token, of_bucket, passed, rest_at, token_before, token_behind, token_of}
-use Rattle.rk_table.proofs.Found.{order_of_back}
-use Rattle.rk_table.proofs.Ordered.{Rises, ends_with_one, filter_kept, filter_left_out, last_of_end, rises_back}
+use Rattle.rk_table.specs.Scans.{batch_of, behind_bucket, end, of_bucket, token_before, token_of}
+use Rattle.rk_table.proofs.Ordered.{ends_with_one, last_of_end, rises_back}
 use Rattle.rk_table.proofs.Tokens.{batch_gives, left_in_two, passed_and_left, token_before_none}
-use Rattle.rk_bucket_table.specs.declared.cell.TheConstants.{END}
-use Rattle.rk_bucket_table.specs.Cells.{AreChains, AreLinked, ArePlaced, Cells, IsTable, chain, chain_of, items_in, joined}
-use Rattle.rk_bucket_table.specs.Scanning.{IsFrom}
 use Rattle.rk_bucket_table.proofs.Tables.{IsBelow, IsFromOn, ahead_placed, all_front, all_weaker, behind_placed, chains_linked, items_linked, mine_is, part, placed_ahead, placed_back, placed_from, short, table_parts}
 
 -- what filters leave

@@ -1,11 +1,8 @@
 -- A search along one chain: what each step passes.
-use Rattle.std.proofs.Common.{◌≡◌, ℕ, ◌<◌, Bool, true, false, List, [], ◌∷◌, ◌++◌, Some, None, length, refl, sym, ap, ◌∙◌, subst, inl, inr, arith, append_assoc, length-append}
+use Rattle.rk_bucket_table.proofs.Words.{◌≡◌, ℕ, ◌<◌, Bool, true, false, List, [], ◌∷◌, ◌++◌, Some, None, length, refl, sym, ap, ◌∙◌, subst}
+use Rattle.rk_bucket_table.proofs.Words.{inl, inr, arith, append_assoc, length-append, Held, Cell, END, Cells, IsChain, IsSegment, cell_at}
+use Rattle.rk_bucket_table.proofs.Words.{chain, IsPassed, IsSought, StopsAt}
 use Rattle.std.proofs.lemmas.List.Elements.{All-append, All-from_recursion}
-use Rattle.rk_types.specs.declared.held.Held.{Held}
-use Rattle.rk_bucket_table.specs.declared.cell.Cell.{Cell}
-use Rattle.rk_bucket_table.specs.declared.cell.TheConstants.{END}
-use Rattle.rk_bucket_table.specs.Cells.{Cells, IsChain, IsSegment, cell_at, chain}
-use Rattle.rk_bucket_table.specs.Spots.{IsPassed, IsSought, StopsAt}
 use Rattle.rk_bucket_table.proofs.Segments.{cell_first, chain_is, chain_none, segment_append, walked_short}
 
 module _ (cells : Cells) (head : ℕ) (passes : Held → Bool) where

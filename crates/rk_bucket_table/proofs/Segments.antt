@@ -1,10 +1,8 @@
 -- Chains of cells: what walks along them meet.
-use Rattle.std.proofs.Common.{◌≡◌, ◌≢◌, ℕ, zero, suc, ◌≤◌, List, [], ◌∷◌, ◌++◌, Option, Some, None, is_some, length, refl, sym, ap, ◌∙◌, subst, arith}
-use Rattle.slab.specs.Slab.{ContainsKey, Slab}
-use Rattle.rk_types.specs.declared.held.Held.{Held}
-use Rattle.rk_bucket_table.specs.declared.cell.Cell.{Cell}
-use Rattle.rk_bucket_table.specs.declared.cell.TheConstants.{END}
-use Rattle.rk_bucket_table.specs.Cells.{AreChains, Cells, IsChain, IsRest, IsSegment, cell_at, chain, followed, items_in, walked}
+use Rattle.rk_bucket_table.proofs.Words.{◌≡◌, ◌≢◌, ℕ, zero, suc, ◌≤◌, List, [], ◌∷◌, ◌++◌, Option, Some, None, is_some, length, refl, sym}
+use Rattle.rk_bucket_table.proofs.Words.{ap, ◌∙◌, subst, arith, ContainsKey, Slab, Held, Cell, END, AreChains, Cells, IsChain, IsSegment}
+use Rattle.rk_bucket_table.proofs.Words.{cell_at, chain, items_in}
+use Rattle.rk_bucket_table.specs.Cells.{IsRest, followed, walked}
 
 -- a walk meets no more items than it has steps
 followed_short : (behind : ℕ → List Held) (steps : ℕ) → ((at : ℕ) → length (behind at) ≤ steps) → (here : Option Cell)

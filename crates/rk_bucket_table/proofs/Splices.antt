@@ -1,13 +1,10 @@
 -- A table whose one chain is changed at a spot.
-use Rattle.std.proofs.Common.{◌≡◌, ◌≢◌, ℕ, suc, ◌+◌, ◌<◌, List, [], ◌∷◌, ◌++◌, Some, None, length, take, drop, get_or, set, sym, ap, ◌∙◌, subst, arith, append_assoc, length-append}
-use Rattle.std.specs.List.{AllByRecursion}
+use Rattle.rk_bucket_table.proofs.Words.{◌≡◌, ◌≢◌, ℕ, suc, ◌+◌, ◌<◌, List, [], ◌∷◌, ◌++◌, Some, None, length, take, drop, get_or, set, sym}
+use Rattle.rk_bucket_table.proofs.Words.{ap, ◌∙◌, subst, arith, append_assoc, length-append, AllByRecursion, Held, IsInScanOrder, item_hash}
+use Rattle.rk_bucket_table.proofs.Words.{Cell, END, AreLinked, ArePlaced, Cells, IsSegment, IsTable, cell_at, cell_of, chain_of, joined}
+use Rattle.rk_bucket_table.proofs.Words.{taken, IsSpot}
 use Rattle.std.proofs.lemmas.List.{get_or-set_same}
-use Rattle.rk_types.specs.declared.held.Held.{Held}
-use Rattle.rk_table.specs.Order.{IsInScanOrder, item_hash}
-use Rattle.rk_bucket_table.specs.declared.cell.Cell.{Cell}
-use Rattle.rk_bucket_table.specs.declared.cell.TheConstants.{END}
-use Rattle.rk_bucket_table.specs.Cells.{AreLinked, ArePlaced, Cells, IsCountOfChains, IsSegment, IsTable, cell_at, cell_of, chain_of, joined, taken}
-use Rattle.rk_bucket_table.specs.Spots.{IsSpot}
+use Rattle.rk_bucket_table.specs.Cells.{IsCountOfChains}
 use Rattle.rk_bucket_table.proofs.Segments.{segment_append}
 use Rattle.rk_bucket_table.proofs.Tables.{IsOf, all_append, all_back, all_front, heads_split, joined_parts, linked_append, placed_back, placed_replaced}
 use Rattle.rk_bucket_table.proofs.Changes.{IsOther, IsRelinked, IsSpared, all_spared, cell_within, last_spared, linked_spared, order_without_one, others_after, others_ahead, relinked, segment_spared, set_others, spared_by_new, spared_others}

@@ -1,26 +1,21 @@
 -- Chains that are cut in two: where the cut is, and what it leaves.
-use Rattle.std.proofs.Common.{◌≡◌, ◌≢◌, ℕ, zero, suc, ◌+◌, ◌*◌, ◌/◌, ◌^◌, ◌<◌, ◌≤◌, ◌⊎◌, Bool, true, eqb, List, [], ◌∷◌, ◌++◌, Some, None, is_some, length, take, drop, get_or, set, refl, sym, ap, ◌∙◌, subst, inl, inr, ⊎_elim, arith, append_assoc, length-append, add-one}
-use Rattle.std.specs.List.{AllByRecursion}
-use Rattle.std.specs.List.Sorted.{IsStrictlySortedBy}
+use Rattle.rk_bucket_table.proofs.Words.{◌≡◌, ◌≢◌, ℕ, zero, suc, ◌+◌, ◌*◌, ◌^◌, ◌<◌, ◌≤◌, ◌⊎◌, Bool, true, eqb, List, [], ◌∷◌, ◌++◌, Some}
+use Rattle.rk_bucket_table.proofs.Words.{None, is_some, length, take, drop, get_or, set, refl, sym, ap, ◌∙◌, subst, inl, inr, ⊎_elim, arith}
+use Rattle.rk_bucket_table.proofs.Words.{append_assoc, length-append, AllByRecursion, IsStrictlySortedBy, Less, cases_lt, eq-eqb}
+use Rattle.rk_bucket_table.proofs.Words.{false≢true, append-nil, drop_more, get_or_at, count_by-le-length, ContainsKey, Slab, Held}
+use Rattle.rk_bucket_table.proofs.Words.{IsInScanOrder, item_cmp, item_hash, order_of_back, Cell, END, AreLinked, ArePlaced, Cells, IsChain}
+use Rattle.rk_bucket_table.proofs.Words.{IsSegment, IsTable, cell_at, cell_of, chain, chain_of, joined, taken, HasLast, IsSought, StopsAt}
+use Rattle.std.proofs.Common.{◌/◌, add-one}
 use Rattle.std.specs.Ordering.{ordering_reverse}
 use Rattle.std.specs.declared.cmp.Ordering.{Ordering}
-use Rattle.std.specs.declared.cmp.Ordering.TheVariants.{Less}
 use Rattle.std.proofs.Math.Nat.{mul_left_comm}
-use Rattle.std.proofs.lemmas.Bool.{cases_lt, eq-eqb, eqb-true, false≢true}
-use Rattle.std.proofs.lemmas.List.{append-nil, drop_all, drop_at, drop_more, get_or_at, set-append_left, take_at}
+use Rattle.std.proofs.lemmas.Bool.{eqb-true}
+use Rattle.std.proofs.lemmas.List.{drop_all, drop_at, set-append_left, take_at}
 use Rattle.std.proofs.lemmas.List.Elements.{recursion_from_All}
-use Rattle.std.proofs.lemmas.List.Sums.{count_by-le-length}
-use Rattle.slab.specs.Slab.{ContainsKey, Slab}
-use Rattle.rk_types.specs.declared.held.Held.{Held}
 use Rattle.rk_types.specs.Hashing.{bucket_of}
-use Rattle.rk_table.specs.Order.{IsInScanOrder, item_cmp, item_hash}
 use Rattle.rk_table.proofs.Cuts.{less_is}
-use Rattle.rk_table.proofs.Found.{order_of_back}
 use Rattle.rk_table.proofs.InOrder.{item_total}
-use Rattle.rk_bucket_table.specs.declared.cell.Cell.{Cell}
-use Rattle.rk_bucket_table.specs.declared.cell.TheConstants.{END, MOST_PER_BUCKET}
-use Rattle.rk_bucket_table.specs.Cells.{AreLinked, ArePlaced, Cells, IsChain, IsSegment, IsTable, cell_at, cell_of, chain, chain_of, joined, taken}
-use Rattle.rk_bucket_table.specs.Spots.{HasLast, IsSought, StopsAt}
+use Rattle.rk_bucket_table.specs.declared.cell.TheConstants.{MOST_PER_BUCKET}
 use Rattle.rk_bucket_table.proofs.Segments.{chain_is}
 use Rattle.rk_bucket_table.proofs.Numbers.{before_by_chain}
 use Rattle.rk_bucket_table.proofs.Tables.{IsOf, all_back, all_weaker, joined_parts, order_front}

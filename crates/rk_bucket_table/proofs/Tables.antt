@@ -1,20 +1,16 @@
 -- A table of chains: one chain among the others.
-use Rattle.std.proofs.Common.{◌≡◌, ℕ, zero, suc, ◌+◌, ◌<◌, ◌≤◌, false, List, [], ◌∷◌, ◌++◌, None, is_some, length, take, drop, get_or, refl, sym, ap, ◌∙◌, subst, arith, length-append, add-one}
-use Rattle.std.specs.List.{AllByRecursion}
-use Rattle.std.specs.List.Sorted.{IsStrictlySortedBy}
+use Rattle.rk_bucket_table.proofs.Words.{◌≡◌, ℕ, zero, suc, ◌+◌, ◌<◌, ◌≤◌, false, List, [], ◌∷◌, ◌++◌, None, is_some, length, take, drop}
+use Rattle.rk_bucket_table.proofs.Words.{get_or, refl, sym, ap, ◌∙◌, subst, arith, length-append, AllByRecursion, IsStrictlySortedBy, Less}
+use Rattle.rk_bucket_table.proofs.Words.{drop_more, count_by-le-length, Held, IsInScanOrder, Place, item_cmp, item_hash, comes_before, END}
+use Rattle.rk_bucket_table.proofs.Words.{AreChains, AreLinked, ArePlaced, Cells, IsChain, IsSegment, IsTable, cell_at, chain, chain_of}
+use Rattle.rk_bucket_table.proofs.Words.{items_in, joined, StopsAt}
+use Rattle.std.proofs.Common.{add-one}
 use Rattle.std.specs.Ordering.{is_lt, ordering_reverse}
-use Rattle.std.specs.declared.cmp.Ordering.TheVariants.{Less}
-use Rattle.std.proofs.lemmas.List.{drop_more, get_or_default, take-append-drop}
+use Rattle.std.proofs.lemmas.List.{get_or_default, take-append-drop}
 use Rattle.std.proofs.lemmas.List.Concat.{flat_map-append}
-use Rattle.std.proofs.lemmas.List.Sums.{count_by-le-length}
-use Rattle.rk_types.specs.declared.held.Held.{Held}
-use Rattle.rk_table.specs.Order.{IsInScanOrder, Place, item_cmp, item_hash, item_place, place_cmp}
-use Rattle.rk_table.specs.Places.{comes_before}
+use Rattle.rk_table.specs.Order.{item_place, place_cmp}
 use Rattle.rk_table.proofs.Found.{all_behind}
 use Rattle.rk_table.proofs.InOrder.{place_total}
-use Rattle.rk_bucket_table.specs.declared.cell.TheConstants.{END}
-use Rattle.rk_bucket_table.specs.Cells.{AreChains, AreLinked, ArePlaced, Cells, IsChain, IsSegment, IsTable, cell_at, chain, chain_of, items_in, joined}
-use Rattle.rk_bucket_table.specs.Spots.{StopsAt}
 use Rattle.rk_bucket_table.proofs.Segments.{chain_is}
 
 -- what holds of items in two parts

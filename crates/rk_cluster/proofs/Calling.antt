@@ -1,39 +1,22 @@
 -- How a client asks its next call.
-use Rattle.std.proofs.Common.{◌≡◌, Bor, ◌≤◌, ◌<◌, ◌==◌, ◌||◌, ◌-◌, ◌^◌, ℕ, Bool, true, false, not, min, nat_le, List, [], ◌∷◌, All, map, sum, slice_get, Option, None, Some, IfSome, is_some, unwrap_or, refl, sym, ap, subst, ◌∙◌, arith}
-use Rattle.std.specs.Option.{option_copied, option_map}
+use Rattle.rk_cluster.proofs.Words.{◌≡◌, Bor, ◌≤◌, ◌<◌, ◌==◌, ◌||◌, ◌-◌, ◌^◌, ℕ, Bool, true, false, not, min, nat_le, List, [], ◌∷◌, All}
+use Rattle.rk_cluster.proofs.Words.{map, sum, slice_get, Option, None, Some, IfSome, is_some, unwrap_or, refl, sym, ap, subst, ◌∙◌, arith}
+use Rattle.rk_cluster.proofs.Words.{option_copied, option_map, nat_tests, All-head, All-tail, NumberMap, get, insert, get_same, Segments}
+use Rattle.rk_cluster.proofs.Words.{Row, Session, new_session, Cluster, lane_at, IsFormedWithRoom, World, new_world, LaneState, Running}
+use Rattle.rk_cluster.proofs.Words.{world_with, acted_well, MOST_CALLS, call_code, code_where, first_code, ActsBy, ActsOne, HasCode}
+use Rattle.rk_cluster.proofs.Words.{IsActedAs, RunsTo, calls_asked, calls_of, has_table, is_client, rows_of, call_makes, IsOf, IsWorld}
+use Rattle.rk_cluster.proofs.Words.{MayAllAct, state_of, Busy, Limit, Unknown}
 use Rattle.std.proofs.lemmas.Bool.{eqb-true}
-use Rattle.std.proofs.lemmas.Bool.Decides.{nat_tests}
-use Rattle.std.proofs.lemmas.List.Elements.{All-head, All-tail}
-use Rattle.rk_types.specs.NumberMap.{NumberMap, get, insert}
-use Rattle.rk_types.proofs.NumberMaps.{get_same}
 use Rattle.rk_types.specs.declared.call.Op.{Op}
-use Rattle.rk_outside.specs.Segments.{Segments}
-use Rattle.rk_tablet_map.specs.declared.row.Row.{Row}
-use Rattle.rk_world.specs.Client.{Session, busy, new_session, next_call, session_calling, with_next_call}
-use Rattle.rk_world.specs.Cluster.{Calls, Cluster, called_by_client, lane_at}
+use Rattle.rk_world.specs.Client.{busy, next_call, session_calling, with_next_call}
+use Rattle.rk_world.specs.Cluster.{Calls, called_by_client}
 use Rattle.rk_world.specs.Formed.{IsFormedRow}
 use Rattle.rk_world.specs.Limits.{Limits, limits_of}
-use Rattle.rk_world.specs.Premises.{IsLawfulCall, MayAct}
-use Rattle.rk_world.specs.Runs.{IsFormedWithRoom}
-use Rattle.rk_world.specs.World.{World, new_world}
-use Rattle.rk_lane.specs.LaneState.{LaneState, Running, world_with}
-use Rattle.rk_cluster.specs.Acted.{acted_well}
+use Rattle.rk_world.specs.Premises.{IsLawfulCall}
 use Rattle.rk_cluster.specs.Calling.{IsAsked}
-use Rattle.rk_cluster.specs.Codes.{MOST_CALLS, call_code, code_where, first_code}
-use Rattle.rk_cluster.specs.Effects.{ActsBy, ActsOne, HasCode, IsActedAs, RunsTo}
-use Rattle.rk_cluster.specs.Looks.{calls_asked, calls_of, has_table, is_client, rows_of}
-use Rattle.rk_cluster.specs.Makes.{call_makes}
-use Rattle.rk_cluster.specs.State.{IsOf, IsWorld}
-use Rattle.rk_cluster.specs.Steps.{MayAllAct, state_of}
-use Rattle.rk_cluster.specs.declared.code.Code.TheVariants.{Busy, Limit, Unknown}
 use Rattle.rk_cluster.proofs.Carrying.{only_acts}
 use Rattle.rk_cluster.proofs.Leading.{leads_by}
 use Rattle.rk_cluster.proofs.Worlds.{world_at}
-
--- what is mapped twice is mapped once
-pub map_twice : {X Y Z : Type 0} (first : X → Y) (second : Y → Z) (xs : List X) → map second (map first xs) ≡ map (λ x. second (first x)) xs
-map_twice first second [] = refl
-map_twice first second (x ∷ xs) = ap (λ rest. second (first x) ∷ rest) (map_twice first second xs)
 
 -- there is a copy just where there is something
 pub copied_some : {X : Type 0} (lent : Option (Bor X)) → is_some (option_copied lent) ≡ is_some lent
@@ -77,17 +60,6 @@ tables_count lane rows table spent told lives formed known has = by lane.running
         (ap (λ (list : List Row). has_table list table) (sym same) ∙ has)
 
 -- ---- the session
-
--- it may act with its next call
-pub next_acts : (masters : ℕ) (session : Session) (table : ℕ) (key : List ℕ) (op : Op) → IsLawfulCall (next_call session table key op) → MayAct masters session
-    → MayAct masters (with_next_call session table key op)
-next_acts masters session table key op lawful may = record {
-  client = may.client;
-  call = lawful;
-  own = (refl, refl);
-  seen = may.seen;
-  cached = may.cached;
-}
 
 module _ {R : Type 0} (segments : R → Option Segments) (lanes : List (LaneState R)) (sessions : NumberMap Session) (client table : ℕ) where
   -- ---- codes

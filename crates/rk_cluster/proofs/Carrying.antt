@@ -1,11 +1,7 @@
 -- Occurrences, one after the other.
-use Rattle.std.proofs.Common.{ℕ, List, [], ◌∷◌, ◌++◌, Option, None, Some, refl, sym, ap, subst, ◌∙◌, append-nil}
-use Rattle.rk_types.specs.declared.node.Said.{Said}
-use Rattle.rk_outside.specs.Segments.{Segments}
-use Rattle.rk_world.specs.Cluster.{Cluster, Occurrence}
-use Rattle.rk_cluster.specs.Acted.{Acted, acted, all_acted, going_on}
-use Rattle.rk_cluster.specs.Effects.{Acts, ActsOne, Carries, IsActedAs, RunsTo}
-use Rattle.rk_cluster.specs.State.{ClusterState}
+use Rattle.rk_cluster.proofs.Words.{ℕ, List, [], ◌∷◌, ◌++◌, Option, None, Some, refl, sym, ap, subst, ◌∙◌, append-nil, Said, Segments}
+use Rattle.rk_cluster.proofs.Words.{Cluster, Occurrence, acted, all_acted, Acts, ActsOne, Carries, IsActedAs, RunsTo, ClusterState}
+use Rattle.rk_cluster.specs.Acted.{Acted, going_on}
 use Rattle.rk_cluster.proofs.Leading.{leads_nowhere, leads_on}
 
 module _ {R : Type 0} (segments : R → Option Segments) where
@@ -62,14 +58,3 @@ module _ {R : Type 0} (segments : R → Option Segments) where
 
   pub carries_all : (state : ClusterState R) (all : List Occurrence) → Carries segments state state all all
   carries_all state all final more told broken acts = acts
-
-  pub carries_one : (old now next : ClusterState R) (all rest : List Occurrence) (occurrence : Occurrence) → ActsOne segments now next occurrence [] None
-      → Carries segments old now all (occurrence ∷ rest) → Carries segments old next all rest
-  carries_one old now next all rest occurrence one carries final more told broken acts =
-      carries final more told broken (first_acts now next final occurrence (rest ++ more) told broken one acts)
-
-  pub carries_worn : (old now next : ClusterState R) (all rest : List Occurrence) (occurrence : Occurrence) (number : ℕ)
-      → ActsOne segments now next occurrence [] (Some number) → Carries segments old now all (occurrence ∷ rest)
-      → (more : List Occurrence) → Acts segments old next (all ++ more) [] (Some number)
-  carries_worn old now next all rest occurrence number one carries more =
-      carries next more [] (Some number) (worn_acts now next occurrence (rest ++ more) number one)

@@ -1,34 +1,22 @@
 -- A client's turn or answer in a lane is one in the cluster.
-use Rattle.std.proofs.Common.{◌≡◌, ◌≢◌, ◌<◌, ℕ, List, [], ◌∷◌, length, Option, None, Some, Result, Ok, Err, IfErr, IfOk, IfSome, IsSomeAnd, OnErr, is_some, slice_get, slice_set, unwrap_or, refl, sym, ap, subst, ◌∙◌, inl, inr, ⊎_elim, arith}
-use Rattle.std.proofs.lemmas.Bool.{cases_eq}
-use Rattle.std.proofs.lemmas.List.Elements.{All-nil}
-use Rattle.std.proofs.lemmas.Option.{slice_get_within}
-use Rattle.rk_types.specs.NumberMap.{IsInOrder, NumberMap, get, insert}
-use Rattle.rk_types.specs.declared.call.Call.{Call}
+use Rattle.rk_cluster.proofs.Words.{Said, acted, ◌≡◌, ◌≢◌, ◌<◌, ℕ, List, [], ◌∷◌, length, Option, None, Some, Result, Ok, Err, IfErr, IfOk}
+use Rattle.rk_cluster.proofs.Words.{IfSome, IsSomeAnd, OnErr, is_some, slice_get, slice_set, unwrap_or, refl, sym, ap, subst, ◌∙◌, inl, inr}
+use Rattle.rk_cluster.proofs.Words.{⊎_elim, arith, cases_eq, All-nil, slice_get_within, NumberMap, get, insert, Call, get_same, Segments}
+use Rattle.rk_cluster.proofs.Words.{Visited, accept, ask, Session, new_session, Accepts, Asks, Cluster, ClusterMay, KeepsCalm, Occurrence}
+use Rattle.rk_cluster.proofs.Words.{cluster_after, lane_at, session_at, ReplicasTell, AllTell, world_visited, World, new_world, StepError}
+use Rattle.rk_cluster.proofs.Words.{Seen, AreTold, LaneState, Running, world_with, IsVisitOf, acted_by, came_in, worn_in, ActsOne}
+use Rattle.rk_cluster.proofs.Words.{IsActedAs, RunsTo, said_then, IsOf, IsWorld, state_of, AcceptsShort, HasSession}
+use Rattle.rk_types.specs.NumberMap.{IsInOrder}
 use Rattle.rk_types.specs.declared.call.Ended.{Ended}
-use Rattle.rk_types.proofs.NumberMaps.{get_other, get_same, in_order_insert, same_map}
-use Rattle.rk_outside.specs.Segments.{Segments}
+use Rattle.rk_types.proofs.NumberMaps.{get_other, in_order_insert, same_map}
 use Rattle.rk_world.specs.Base.{Base, no_base}
-use Rattle.rk_world.specs.Calls.{Visited, accept, accept_by, ask, ask_by}
-use Rattle.rk_world.specs.Client.{Session, new_session}
-use Rattle.rk_world.specs.Cluster.{Accepts, Asks, Cluster, ClusterMay, KeepsCalm, Occurrence, cluster_after, cluster_visited, lane_at, session_at}
-use Rattle.rk_world.specs.ClusterRuns.{ReplicasTell}
+use Rattle.rk_world.specs.Calls.{accept_by, ask_by}
+use Rattle.rk_world.specs.Cluster.{cluster_visited}
 use Rattle.rk_world.specs.Premises.{IsAfterStart}
 use Rattle.rk_world.specs.Refusals.{accept_refusal, ask_refusal}
-use Rattle.rk_world.specs.Replicas.{AllTell}
-use Rattle.rk_world.specs.Runs.{world_visited}
-use Rattle.rk_world.specs.World.{World, new_world}
-use Rattle.rk_world.specs.declared.error.StepError.{StepError}
 use Rattle.rk_world.specs.declared.error.StepError.TheVariants as causes
-use Rattle.rk_world.specs.declared.event.Seen.{Seen}
-use Rattle.rk_lane.specs.LaneState.{AreTold, LaneState, Running, world_with}
-use Rattle.rk_lane.specs.Visits.{IsRefusedFor, IsVisitOf}
-use Rattle.rk_cluster.specs.Acted.{acted_by, came_in, said_by, said_in, worn_in}
-use Rattle.rk_cluster.specs.Effects.{ActsOne, IsActedAs, RunsTo}
-use Rattle.rk_cluster.specs.Saying.{said_then}
-use Rattle.rk_cluster.specs.State.{IsOf, IsWorld}
-use Rattle.rk_cluster.specs.Steps.{state_of}
-use Rattle.rk_cluster.specs.Visits.{AcceptsShort, HasSession}
+use Rattle.rk_lane.specs.Visits.{IsRefusedFor}
+use Rattle.rk_cluster.specs.Acted.{said_by, said_in}
 use Rattle.rk_inv_tablets.proofs.steady.Lanes.{tell_accepted, tell_asked}
 use Rattle.rk_cluster.proofs.Leading.{leads_by, leads_nowhere}
 use Rattle.rk_cluster.proofs.Tells.{all_visited}
@@ -166,57 +154,49 @@ module _ {R : Type 0} (segments : R → Option Segments) where
     visit_leads occurrence may calm tell (Ok visited) same = subst (RunsTo cluster (occurrence ∷ [])) same (leads_by cluster occurrence may calm tell)
     visit_leads occurrence may calm tell (Err error) same = leads_nowhere cluster
 
-    asked_by_known : (answer : Result Seen StepError) → VisitsLane (λ w. ask w session) old new session later answer → (known : Session) → known ≡ session
-        → RunsTo cluster (came_in (Asks place client) (ask (lane_at cluster place) known)) (cluster_visited cluster place client (ask (lane_at cluster place) known))
-        → IsActedAs segments cluster (state_of (slice_set lanes place new) (insert sessions client later)) [] (worn_in answer)
-        (acted_by (Asks place client) (cluster_visited cluster place client (ask (lane_at cluster place) known)) [] (ask (lane_at cluster place) known))
-    asked_by_known answer visits known known_is leads =
-        let has = visits (lane_at cluster place) world_is in
+    -- what occurs then is told by the session as it stands in the cluster
+    acted_by_known : (occurrence : Occurrence) (visit : World → Session → Result Visited StepError) (said : Session → List Said) (told : List Said) (answer : Result Seen StepError)
+        → VisitsLane (λ w. visit w session) old new session later answer
+        → (HasVisited old new session later answer (visit (lane_at cluster place) session) → said session ≡ told) → (known : Session) → known ≡ session
+        → RunsTo cluster (came_in occurrence (visit (lane_at cluster place) known)) (cluster_visited cluster place client (visit (lane_at cluster place) known))
+        → IsActedAs segments cluster (state_of (slice_set lanes place new) (insert sessions client later)) told (worn_in answer)
+        (acted_by occurrence (cluster_visited cluster place client (visit (lane_at cluster place) known)) (said known) (visit (lane_at cluster place) known))
+    acted_by_known occurrence visit said told answer visits tells known known_is leads =
+        let w = lane_at cluster place in
+        let has = visits w world_is in
         record {
-          cluster =
-              subst (λ (it : Session). IsOf segments (state_of (slice_set lanes place new) (insert sessions client later)) (cluster_visited cluster place client (ask (lane_at cluster place) it)))
-              (sym known_is) (is_after answer (ask (lane_at cluster place) session) has);
+          cluster = rw known_is (is_after answer (visit w session) has);
           leads = leads;
-          said = refl;
-          worn = ap (λ (it : Session). worn_in (ask (lane_at cluster place) it)) known_is ∙ worn_after answer (ask (lane_at cluster place) session) has;
+          said = ap said known_is ∙ tells has;
+          worn = ap (λ (it : Session). worn_in (visit w it)) known_is ∙ worn_after answer (visit w session) has;
         }
 
-    accepted_by_known : (number : ℕ) (answer : Result Seen StepError) → VisitsLane (λ w. accept w number session) old new session later answer → (known : Session) → known ≡ session
-        → RunsTo cluster (came_in (Accepts place number client) (accept (lane_at cluster place) number known)) (cluster_visited cluster place client (accept (lane_at cluster place) number known))
+    asks_there : (answer : Result Seen StepError) → VisitsLane (λ w. ask w session) old new session later answer
+        → IsActedAs segments cluster (state_of (slice_set lanes place new) (insert sessions client later)) [] (worn_in answer) (acted cluster (Asks place client))
+    asks_there answer visits =
+        acted_by_known (Asks place client) ask (λ it. []) [] answer visits (λ has. refl) (session_at cluster client) session_is
+        (visit_leads (Asks place client) (within_cluster, after_start) tt tt (ask (lane_at cluster place) (session_at cluster client)) refl)
+
+    accepts_there : (number : ℕ) (answer : Result Seen StepError) → VisitsLane (λ w. accept w number session) old new session later answer
         → IsActedAs segments cluster (state_of (slice_set lanes place new) (insert sessions client later)) (said_then session.outstanding later.receipts answer) (worn_in answer)
-        (acted_by (Accepts place number client) (cluster_visited cluster place client (accept (lane_at cluster place) number known))
-        (said_in known (accept (lane_at cluster place) number known)) (accept (lane_at cluster place) number known))
-    accepted_by_known number answer visits known known_is leads =
-        let has = visits (lane_at cluster place) world_is in
-        record {
-          cluster =
-              subst (λ (it : Session). IsOf segments (state_of (slice_set lanes place new) (insert sessions client later)) (cluster_visited cluster place client (accept (lane_at cluster place) number it)))
-              (sym known_is) (is_after answer (accept (lane_at cluster place) number session) has);
-          leads = leads;
-          said =
-              ap (λ (it : Session). said_in it (accept (lane_at cluster place) number it)) known_is
-              ∙ said_after answer (accept (lane_at cluster place) number session) has;
-          worn = ap (λ (it : Session). worn_in (accept (lane_at cluster place) number it)) known_is ∙ worn_after answer (accept (lane_at cluster place) number session) has;
-        }
+        (acted cluster (Accepts place number client))
+    accepts_there number answer visits =
+        let w = lane_at cluster place in
+        acted_by_known (Accepts place number client) (λ v. accept v number) (λ it. said_in it (accept w number it)) (said_then session.outstanding later.receipts answer) answer
+        visits (said_after answer (accept w number session)) (session_at cluster client) session_is
+        (visit_leads (Accepts place number client) within_cluster tt tt (accept w number (session_at cluster client)) refl)
 
   pub asks : (lanes : List (LaneState R)) (sessions : NumberMap Session) (place client : ℕ) (old new : LaneState R) (session later : Session) (answer : Result Seen StepError)
       → slice_get lanes place ≡ Some old → get sessions client ≡ Some session → IsInOrder sessions → VisitsLane (λ w. ask w session) old new session later answer
       → ActsOne segments (state_of lanes sessions) (state_of (slice_set lanes place new) (insert sessions client later)) (Asks place client) [] (worn_in answer)
   asks lanes sessions place client old new session later answer there found order visits cluster is =
-      asked_by_known cluster lanes sessions place client old new session later there found order is answer visits
-      (session_at cluster client) (session_is cluster lanes sessions place client old new session later there found order is)
-      (visit_leads cluster lanes sessions place client old new session later there found order is (Asks place client)
-      (within_cluster cluster lanes sessions place client old new session later there found order is, after_start cluster lanes sessions place client old new session later there found order is)
-      tt tt (ask (lane_at cluster place) (session_at cluster client)) refl)
+      asks_there cluster lanes sessions place client old new session later there found order is answer visits
 
   pub accepts : (lanes : List (LaneState R)) (sessions : NumberMap Session) (place number client : ℕ) (old new : LaneState R) (session later : Session) (answer : Result Seen StepError)
       → slice_get lanes place ≡ Some old → get sessions client ≡ Some session → IsInOrder sessions → VisitsLane (λ w. accept w number session) old new session later answer
       → ActsOne segments (state_of lanes sessions) (state_of (slice_set lanes place new) (insert sessions client later)) (Accepts place number client) (said_then session.outstanding later.receipts answer) (worn_in answer)
   accepts lanes sessions place number client old new session later answer there found order visits cluster is =
-      accepted_by_known cluster lanes sessions place client old new session later there found order is number answer visits
-      (session_at cluster client) (session_is cluster lanes sessions place client old new session later there found order is)
-      (visit_leads cluster lanes sessions place client old new session later there found order is (Accepts place number client)
-      (within_cluster cluster lanes sessions place client old new session later there found order is) tt tt (accept (lane_at cluster place) number (session_at cluster client)) refl)
+      accepts_there cluster lanes sessions place client old new session later there found order is number answer visits
 
   -- if memory was wanting, the client has taken nothing, or all
   pub accepts_short : (lanes : List (LaneState R)) (sessions : NumberMap Session) (place number client : ℕ) (old new : LaneState R) (session later : Session) (answer : Result Seen StepError)

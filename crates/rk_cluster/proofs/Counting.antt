@@ -1,14 +1,8 @@
 -- How many masters and backups the lanes of a cluster have, and that an event may come to one of them.
-use Rattle.std.proofs.Common.{◌≡◌, ℕ, zero, suc, List, [], ◌∷◌, All, length, replicate, refl, ap, ◌∙◌, arith}
-use Rattle.std.proofs.lemmas.List.Elements.{All-cons, All-head, All-nil, All-tail}
-use Rattle.rk_types.specs.declared.hashing.TheConstants.{LANES}
-use Rattle.rk_world.specs.Premises.{MayHappen}
-use Rattle.rk_world.specs.World.{new_world}
-use Rattle.rk_world.specs.declared.event.Event.{Event}
-use Rattle.rk_lane.specs.LaneState.{LaneState}
-use Rattle.rk_cluster.specs.Masters.{HasBackups, backup_counts, backups_in, backups_of, masters_in}
-use Rattle.rk_cluster.specs.State.{ClusterState}
-use Rattle.rk_cluster.specs.Steps.{AreLanes, IsPlain, MayComeAt}
+use Rattle.rk_cluster.proofs.Words.{◌≡◌, ℕ, zero, suc, List, [], ◌∷◌, All, length, replicate, refl, arith, All-cons, All-head, All-nil}
+use Rattle.rk_cluster.proofs.Words.{All-tail, LANES, MayHappen, new_world, Event, LaneState, HasBackups, backup_counts, AreLanes, IsPlain}
+use Rattle.rk_cluster.proofs.Words.{MayComeAt}
+use Rattle.rk_cluster.specs.Masters.{backups_in, masters_in}
 use Rattle.rk_cluster.proofs.Deeds.{may_come}
 use Rattle.rk_cluster.proofs.Worlds.{masters_at}
 
@@ -25,17 +19,6 @@ comes_at masters lanes place event plain may are lane there = may_come lane mast
 -- ---- backups
 
 module _ {R : Type 0} where
-  -- the first lane has as many as it had
-  first_kept : (old new : List (LaneState R)) → backup_counts new ≡ backup_counts old → backups_in new ≡ backups_in old
-  first_kept [] [] same = refl
-  first_kept [] (lane ∷ new) same = absurd (cc same)
-  first_kept (was ∷ old) [] same = absurd (cc same)
-  first_kept (was ∷ old) (lane ∷ new) same = cc same
-
-  -- so has each lane of a cluster
-  pub backups_kept : (state : ClusterState R) (old new : List (LaneState R)) → backup_counts new ≡ backup_counts old → old ≡ state.lanes → backups_in new ≡ backups_of state
-  backups_kept state old new same is = first_kept old new same ∙ ap (λ (lanes : List (LaneState R)). backups_in lanes) is
-
   -- where all have so many
   pub each_backed : (backups : ℕ) (lanes : List (LaneState R)) (count : ℕ) → backup_counts lanes ≡ replicate count backups → All (HasBackups backups) lanes
   each_backed backups [] count same = All-nil (HasBackups backups)

@@ -1,55 +1,26 @@
 -- How a master crashes in all lanes.
-use Rattle.std.proofs.Common.{◌≡◌, ◌<◌, ◌≤◌, ◌+◌, ◌-◌, ℕ, suc, Bool, true, false, ◌&&◌, not, List, [], ◌∷◌, All, nat_le, length, map, slice_get, Option, None, Some, IfSome, IsSomeAnd, Result, Ok, Err, IfErr, refl, sym, ap, subst, ◌∙◌, arith}
-use Rattle.std.specs.List.{list_all, range_with_len}
-use Rattle.rk_types.specs.NumberMap.{NumberMap}
-use Rattle.rk_types.specs.declared.hashing.TheConstants.{LANES}
-use Rattle.rk_outside.specs.Segments.{Segments}
-use Rattle.rk_world.specs.Backup.{Called, Gave}
-use Rattle.rk_world.specs.Client.{Session}
-use Rattle.rk_world.specs.Cluster.{Happens, cluster_stepped, lane_at}
-use Rattle.rk_world.specs.Premises.{IsMaster}
-use Rattle.rk_world.specs.Refusals.{refusal, where_true}
-use Rattle.rk_world.specs.Runs.{lives_another}
-use Rattle.rk_world.specs.Step.{Stepped, stepped_by}
-use Rattle.rk_world.specs.World.{World, has_crashed}
-use Rattle.rk_world.specs.declared.error.StepError.{StepError}
-use Rattle.rk_world.specs.declared.error.StepError.TheVariants as causes
+use Rattle.rk_cluster.proofs.Words.{◌≡◌, ◌<◌, ◌≤◌, ◌+◌, ◌-◌, ℕ, Bool, ◌&&◌, not, List, [], ◌∷◌, All, nat_le, length, slice_get, Option}
+use Rattle.rk_cluster.proofs.Words.{None, Some, IfSome, refl, sym, ap, subst, ◌∙◌, arith, list_all, NumberMap, LANES, Segments, Session}
+use Rattle.rk_cluster.proofs.Words.{IsMaster, lives_another, World, has_crashed, LaneState, world_with, code_where, crash_code, first_code}
+use Rattle.rk_cluster.proofs.Words.{ActsOne, HasCode, LanesGoOn, is_dead, is_master, backup_counts, AreWorlds, AreLanes, CarriesSteps}
+use Rattle.rk_cluster.proofs.Words.{IsHappening, MayComeAt, state_of, HoldsIn, Crashed, Unknown, Deed}
 use Rattle.rk_world.specs.declared.event.Event.TheVariants as events
-use Rattle.rk_world.specs.declared.event.Seen.{Seen}
-use Rattle.rk_lane.specs.Events.{IsRefused}
-use Rattle.rk_lane.specs.LaneState.{LaneState, Running, world_with}
-use Rattle.rk_cluster.specs.Acted.{worn_by, worn_in}
-use Rattle.rk_cluster.specs.Codes.{code_where, crash_code, first_code}
 use Rattle.rk_cluster.specs.Crashing.{IsSameBeside, crashes}
-use Rattle.rk_cluster.specs.Effects.{ActsOne, HasCode, IsActedAs}
-use Rattle.rk_cluster.specs.Faults.{LanesGoOn}
-use Rattle.rk_cluster.specs.Looks.{is_dead, is_master, is_other_alive}
-use Rattle.rk_cluster.specs.Masters.{backup_counts}
-use Rattle.rk_cluster.specs.State.{AreWorlds}
-use Rattle.rk_cluster.specs.Steps.{AreLanes, CarriesSteps, IsHappening, MayComeAt, occurrences, state_of}
-use Rattle.rk_cluster.specs.Tests.{HoldsIn}
-use Rattle.rk_cluster.specs.declared.code.Code.TheVariants.{Crashed, LastMaster, Unknown}
-use Rattle.rk_cluster.specs.declared.steps.Deed.{Deed}
-use Rattle.rk_cluster.proofs.Carrying.{carries_all, carries_one}
+use Rattle.rk_cluster.specs.Looks.{is_other_alive}
+use Rattle.rk_cluster.specs.declared.code.Code.TheVariants.{LastMaster}
 use Rattle.rk_cluster.proofs.Faults.{lanes_same, lanes_then}
 use Rattle.rk_cluster.proofs.Noticing.{count_is, dead_is}
 use Rattle.rk_cluster.proofs.Worlds.{all_at, masters_at}
+use Rattle.rk_cluster.proofs.Parts.{HaveCome, come_all, come_none, come_one}
+use Rattle.rk_cluster.proofs.Deeds.{occurrence_of}
+use Rattle.std.proofs.lemmas.List.FromFn.{get_or-map-range_with_len}
 
 module _ {R : Type 0} (segments : R → Option Segments) where
-  -- a crash calls no replica
-  pub happens_crash : {faults : R → ℕ} (old new : List (LaneState R)) (lane master : ℕ) → IsHappening segments faults old new lane (events.Crash master) None
-      → (sessions : NumberMap Session) → ActsOne segments (state_of old sessions) (state_of new sessions) (Happens lane (events.Crash master) (Gave None)) [] None
-  happens_crash old new lane master it sessions = it.acts sessions
-
   -- ---- one lane after the other
-
-  -- the crashes in the lanes from one on
-  abbrev pub crashes_from : ℕ → ℕ → List Deed
-  crashes_from master lane = map (λ lane. record { lane = lane; event = events.Crash master }) (range_with_len lane (LANES - lane))
 
   -- a master has crashed in the lanes before one
   pub record IsCrashing (faults : R → ℕ) (old now : List (LaneState R)) (masters master lane : ℕ) : Type 0 where
-    pub carries : CarriesSteps segments old now (crashes master) (crashes_from master lane)
+    pub came : (sessions : NumberMap Session) → HaveCome segments occurrence_of (crashes master) (state_of old sessions) (state_of now sessions) lane
     pub lanes : AreLanes masters 0 now
     pub count : length now ≡ length old
     pub backups : backup_counts now ≡ backup_counts old
@@ -58,7 +29,7 @@ module _ {R : Type 0} (segments : R → Option Segments) where
 
   pub crashing_none : (faults : R → ℕ) (lanes : List (LaneState R)) (masters master : ℕ) → AreLanes masters 0 lanes → IsCrashing faults lanes lanes masters master 0
   crashing_none faults lanes masters master are = record {
-    carries = λ sessions. carries_all segments (state_of lanes sessions) (occurrences (crashes master));
+    came = λ sessions. come_none segments occurrence_of (crashes master) (state_of lanes sessions);
     lanes = are;
     count = refl;
     backups = refl;
@@ -66,30 +37,29 @@ module _ {R : Type 0} (segments : R → Option Segments) where
     rest = λ place past. refl;
   }
 
-  next_crash : (master lane : ℕ) → lane < LANES → crashes_from master lane ≡ record { lane = lane; event = events.Crash master } ∷ crashes_from master (lane + 1)
-  next_crash master lane within =
-      let left : LANES - lane ≡ suc (LANES - (lane + 1)) = omega (arith, within) in
-      ap (λ (count : ℕ). map (λ (n : ℕ). record { lane = n; event = events.Crash master }) (range_with_len lane count)) left
-
   pub crashing_one : (faults : R → ℕ) (old now next : List (LaneState R)) (masters master lane : ℕ) → lane < LANES → IsHappening segments faults now next lane (events.Crash master) None
       → IsSameBeside lane now next → ((count : ℕ) → AreLanes count 0 now → AreLanes count 0 next) → length next ≡ length now → backup_counts next ≡ backup_counts now
       → LanesGoOn faults [] now next → IsCrashing faults old now masters master lane → IsCrashing faults old next masters master (lane + 1)
-  crashing_one faults old now next masters master lane within happening beside keeps same backed on before = record {
-    carries = λ sessions. carries_one segments (state_of old sessions) (state_of now sessions) (state_of next sessions) (occurrences (crashes master))
-        (occurrences (crashes_from master (lane + 1))) (Happens lane (events.Crash master) (Gave None)) (happens_crash now next lane master happening sessions)
-        (subst (CarriesSteps segments old now (crashes master)) (next_crash master lane within) before.carries sessions);
-    lanes = keeps masters before.lanes;
-    count = same ∙ before.count;
-    backups = backed ∙ before.backups;
-    counts = lanes_then faults old now next before.counts on;
-    rest = λ place past. beside place (λ is. absurd (omega (arith, past, is))) ∙ before.rest place (omega (arith, past));
-  }
+  crashing_one faults old now next masters master lane within happening beside keeps same backed on before =
+      let crash : Deed = record { lane = lane; event = events.Crash master } in
+      let number : 0 + lane ≡ lane = omega arith in
+      record {
+        came = λ sessions.
+            come_one segments occurrence_of (crashes master) (state_of old sessions) (state_of now sessions) (state_of next sessions) lane crash within
+            (subst (λ (deed : Deed). ActsOne segments (state_of now sessions) (state_of next sessions) (occurrence_of deed) [] None)
+            (sym (get_or-map-range_with_len (λ n. record { lane = n; event = events.Crash master }) 0 LANES lane lane crash within number))
+            (happening.acts sessions)) (before.came sessions);
+        lanes = keeps masters before.lanes;
+        count = same ∙ before.count;
+        backups = backed ∙ before.backups;
+        counts = lanes_then faults old now next before.counts on;
+        rest = λ place past. beside place (λ is. absurd (omega (arith, past, is))) ∙ before.rest place (omega (arith, past));
+      }
 
-  pub crashing_all : (faults : R → ℕ) (old now : List (LaneState R)) (masters master lane : ℕ) → LANES ≤ lane → IsCrashing faults old now masters master lane → CarriesSteps segments old now (crashes master) []
-  crashing_all faults old now masters master lane past before =
-      let none : LANES - lane ≡ 0 = omega (arith, past) in
-      subst (λ (count : ℕ). CarriesSteps segments old now (crashes master) (map (λ (n : ℕ). record { lane = n; event = events.Crash master }) (range_with_len lane count))) none
-      before.carries
+  pub crashing_all : (faults : R → ℕ) (old now : List (LaneState R)) (masters master lane : ℕ) → LANES ≤ lane → IsCrashing faults old now masters master lane
+      → CarriesSteps segments old now (crashes master) []
+  crashing_all faults old now masters master lane past before sessions =
+      come_all segments occurrence_of (crashes master) (state_of old sessions) (state_of now sessions) lane past (before.came sessions)
 
   -- where another master lives a crash may come
   pub crash_may : (faults : R → ℕ) (old now : List (LaneState R)) (masters master lane : ℕ) → IsMaster masters master → All (HoldsIn (λ w. lives_another w master)) old

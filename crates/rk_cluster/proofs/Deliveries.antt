@@ -1,32 +1,19 @@
 -- A message that is delivered.
-use Rattle.std.proofs.Common.{◌≡◌, ℕ, Bool, true, false, ◌&&◌, List, [], ◌∷◌, is_some, slice_get, Option, None, Some, IfSome, if◌then◌else◌, refl, sym, ap, subst, ◌∙◌, ⊎_elim}
-use Rattle.std.specs.Option.{option_map, option_to_list}
-use Rattle.rk_types.specs.NumberMap.{NumberMap, get}
-use Rattle.rk_types.specs.declared.node.Node.{Node}
+use Rattle.rk_cluster.proofs.Words.{◌≡◌, ℕ, Bool, true, false, ◌&&◌, List, [], ◌∷◌, is_some, slice_get, Option, None, Some, IfSome, refl}
+use Rattle.rk_cluster.proofs.Words.{sym, ap, subst, ◌∙◌, ⊎_elim, option_map, option_to_list, NumberMap, get, Node, Said, Segments, Traffic}
+use Rattle.rk_cluster.proofs.Words.{number_at, receiver_of, Message, Session, Accepts, Cluster, Occurrence, lane_at, step, LaneState, acted}
+use Rattle.rk_cluster.proofs.Words.{all_acted, lost_in, place_code, Delivers, DeliversShort, IsDelivery, is_backup, Acts, ActsBy, ActsOne}
+use Rattle.rk_cluster.proofs.Words.{EndsIn, HasCode, IsActedAs, IsCarriedOut, BySomeFate, LanesGoOn, counts_in, deliver_makes, Fate, Kept}
+use Rattle.rk_cluster.proofs.Words.{answer_of, IsShortOf, ClusterState, IsOf, IsHappening, IsLosing, WhereWorn, state_of, AcceptsShort}
+use Rattle.rk_cluster.proofs.Words.{Delivered, ClusterError}
+use Rattle.std.proofs.Common.{if◌then◌else◌}
 use Rattle.rk_types.specs.declared.node.Node.TheVariants as nodes
-use Rattle.rk_types.specs.declared.node.Said.{Said}
-use Rattle.rk_outside.specs.Segments.{Segments}
-use Rattle.rk_message.specs.Wire.{Traffic, missing, missing_in, number_at, receiver_of}
-use Rattle.rk_message.specs.declared.message.Message.{Message}
+use Rattle.rk_message.specs.Wire.{missing, missing_in}
 use Rattle.rk_message.specs.declared.missing.NoMessage.{NoMessage}
-use Rattle.rk_world.specs.Client.{Session}
-use Rattle.rk_world.specs.Cluster.{Accepts, Cluster, Happens, Occurrence, lane_at}
-use Rattle.rk_world.specs.Step.{step}
 use Rattle.rk_world.specs.declared.event.Event.TheVariants as events
-use Rattle.rk_lane.specs.LaneState.{LaneState}
-use Rattle.rk_cluster.specs.Acted.{acted, all_acted, lost_in}
-use Rattle.rk_cluster.specs.Codes.{place_code}
-use Rattle.rk_cluster.specs.Delivering.{Delivers, DeliversShort, IsDelivery, is_backup, is_lost_at_backup}
-use Rattle.rk_cluster.specs.Effects.{Acts, ActsBy, ActsOne, EndsIn, HasCode, IsActedAs, IsCarriedOut}
-use Rattle.rk_cluster.specs.Faults.{BySomeFate, LanesGoOn, counts_in}
-use Rattle.rk_cluster.specs.Makes.{deliver_by, deliver_in_makes, deliver_makes, delivery, delivery_of, has_receiver}
-use Rattle.rk_cluster.specs.Replicas.{Fate, Kept, answer_of, happening}
-use Rattle.rk_cluster.specs.Spending.{IsShortOf}
-use Rattle.rk_cluster.specs.State.{ClusterState, IsOf}
-use Rattle.rk_cluster.specs.Steps.{IsHappening, IsLosing, WhereWorn, state_of}
-use Rattle.rk_cluster.specs.Visits.{AcceptsShort}
-use Rattle.rk_cluster.specs.declared.delivering.Delivered.{Delivered}
-use Rattle.rk_cluster.specs.declared.error.ClusterError.{ClusterError}
+use Rattle.rk_cluster.specs.Delivering.{is_lost_at_backup}
+use Rattle.rk_cluster.specs.Makes.{deliver_by, deliver_in_makes, delivery, delivery_of, has_receiver}
+use Rattle.rk_cluster.specs.Replicas.{happening}
 use Rattle.rk_cluster.specs.declared.error.ClusterError.TheVariants as errors
 use Rattle.rk_cluster.proofs.Carrying.{last_stays, none_acts, worn_stays}
 use Rattle.rk_cluster.proofs.Faults.{go_on_kept, lanes_same}
@@ -141,14 +128,8 @@ module _ {R : Type 0} (segments : R → Option Segments) (faults : R → ℕ) wh
         → IsHappening segments faults lanes new place (events.Deliver number) broken
         → Delivers segments faults (state_of lanes sessions) (state_of new sessions) place number [] broken
     delivers_node new (nodes.Client client) broken other to_is it = absurd (other client refl)
-    delivers_node new nodes.Coordinator broken other to_is it =
-        by_receiver (state_of new sessions) (Some nodes.Coordinator) it.fate [] broken to_is it.counts
-        (λ cluster is. alone_at (state_of new sessions) [] broken cluster (happening cluster place (events.Deliver number) it.fate) (it.acts sessions cluster is))
-    delivers_node new (nodes.Master master) broken other to_is it =
-        by_receiver (state_of new sessions) (Some (nodes.Master master)) it.fate [] broken to_is it.counts
-        (λ cluster is. alone_at (state_of new sessions) [] broken cluster (happening cluster place (events.Deliver number) it.fate) (it.acts sessions cluster is))
-    delivers_node new (nodes.Backup backup) broken other to_is it =
-        by_receiver (state_of new sessions) (Some (nodes.Backup backup)) it.fate [] broken to_is it.counts
+    delivers_node new to broken other to_is it =
+        by_receiver (state_of new sessions) (Some to) it.fate [] broken to_is it.counts
         (λ cluster is. alone_at (state_of new sessions) [] broken cluster (happening cluster place (events.Deliver number) it.fate) (it.acts sessions cluster is))
 
     -- ---- and whether the message was lost at a backup
@@ -195,15 +176,11 @@ module _ {R : Type 0} (segments : R → Option Segments) (faults : R → ℕ) wh
         → BySomeFate faults lanes new (IsDelivery segments (state_of lanes sessions) (state_of new sessions) place number (record { said = None; failed = is_backup (Some to) && lost }))
     unfolding delivers_node by_receiver
     delivery_node new (nodes.Client client) lost other to_is it = absurd (other client refl)
-    delivery_node new nodes.Coordinator lost other to_is it =
-        delivery_by (state_of new sessions) (Some nodes.Coordinator) (record { said = None; failed = false }) to_is
-        (delivers_node new nodes.Coordinator None other to_is it.happens) (λ cluster is. refl)
-    delivery_node new (nodes.Master master) lost other to_is it =
-        delivery_by (state_of new sessions) (Some (nodes.Master master)) (record { said = None; failed = false }) to_is
-        (delivers_node new (nodes.Master master) None other to_is it.happens) (λ cluster is. refl)
     delivery_node new (nodes.Backup backup) lost other to_is it =
         delivery_by (state_of new sessions) (Some (nodes.Backup backup)) (record { said = None; failed = lost }) to_is
         (delivers_node new (nodes.Backup backup) None other to_is it.happens) (λ cluster is. it.shows sessions cluster is)
+    delivery_node new to lost other to_is it =
+        delivery_by (state_of new sessions) (Some to) (record { said = None; failed = false }) to_is (delivers_node new to None other to_is it.happens) (λ cluster is. refl)
 
     -- ---- at a place of the wire
 

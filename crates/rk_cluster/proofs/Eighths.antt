@@ -1,12 +1,8 @@
 -- Things that are dealt to eight hands.
-use Rattle.std.proofs.Common.{◌≡◌, ◌≢◌, ◌%◌, ◌*◌, ◌<◌, ◌≤◌, ◌+◌, ℕ, zero, suc, List, [], ◌∷◌, ◌++◌, Some, length, slice_get, slice_set, refl, sym, ap, subst, ◌∙◌, ⊎_elim, arith, length-append, append_assoc, append-nil}
-use Rattle.std.proofs.Math.ListN.{length-set}
-use Rattle.std.proofs.lemmas.Bool.{cases_eq}
-use Rattle.std.proofs.lemmas.Option.{slice_get_within}
-use Rattle.std.specs.Global.{Vec}
-use Rattle.rk_types.specs.declared.hashing.TheConstants.{LANES}
-use Rattle.rk_cluster.specs.Dealt.{AreDealt, IsEighth}
-use Rattle.rk_cluster.proofs.Worlds.{set_beside}
+use Rattle.rk_cluster.proofs.Words.{◌≡◌, ◌≢◌, ◌%◌, ◌*◌, ◌<◌, ◌≤◌, ◌+◌, ℕ, zero, suc, List, [], ◌∷◌, ◌++◌, Some, length, slice_get}
+use Rattle.rk_cluster.proofs.Words.{slice_set, refl, sym, ap, subst, ◌∙◌, ⊎_elim, arith, length-append, append_assoc, append-nil}
+use Rattle.rk_cluster.proofs.Words.{length-set, cases_eq, slice_get_within, Vec, LANES, AreDealt, IsEighth}
+use Rattle.rk_cluster.proofs.Worlds.{set_beside, set_here}
 
 -- each eighth of a list, the first of them at this place
 abbrev pub each_eighth : {X : Type 0} → ℕ → List X → List X
@@ -56,12 +52,6 @@ eighth_apart [] x zero within apart = absurd (apart refl)
 eighth_apart [] x (suc place) within apart = refl
 eighth_apart (y ∷ ys) x zero within apart = ap (λ rest. y ∷ rest) (eighth_apart ys x 7 (omega arith) (λ is. apart (omega (arith, is))))
 eighth_apart (y ∷ ys) x (suc place) within apart = eighth_apart ys x place (omega (arith, within)) (λ is. apart (omega (arith, is)))
-
--- what is written at a place stands there
-pub set_here : {X : Type 0} (xs : List X) (place : ℕ) (x : X) → place < length xs → slice_get (slice_set xs place x) place ≡ Some x
-set_here [] place x within = absurd (omega (arith, within))
-set_here (y ∷ ys) zero x within = refl
-set_here (y ∷ ys) (suc place) x within = set_here ys place x (omega (arith, within))
 
 module _ {X : Type 0} (all things left rest : List X) (hands : List (Vec X)) (place : ℕ) (thing : X) (before now : Vec X)
     (dealing : IsDealing all things left hands place) (first : left ≡ thing ∷ rest) (there : slice_get hands place ≡ Some before) (put : now.items ≡ before.items ++ thing ∷ []) where

@@ -1,33 +1,21 @@
 -- What a lane's answer to an event tells of how often its replicas failed.
-use Rattle.std.proofs.Common.{◌≡◌, ℕ, zero, suc, Bool, true, false, List, [], ◌∷◌, ◌+◌, ◌&&◌, ◌==◌, cond, slice_get, slice_set, Option, None, Some, IfSome, Result, Ok, Err, IfErr, IfOk, OnErr, refl, sym, ap, subst, ◌∙◌, ⊎_elim, arith}
-use Rattle.std.specs.Option.{option_map}
-use Rattle.std.proofs.lemmas.Bool.{eq-eqb}
-use Rattle.rk_types.specs.NumberMap.{get}
-use Rattle.rk_types.specs.declared.node.Node.{Node}
+use Rattle.rk_cluster.proofs.Words.{◌≡◌, ℕ, Bool, true, false, List, [], ◌∷◌, ◌+◌, ◌&&◌, cond, slice_get, slice_set, Option, None, Some}
+use Rattle.rk_cluster.proofs.Words.{IfSome, Result, Ok, Err, IfErr, IfOk, OnErr, refl, sym, ap, subst, ◌∙◌, ⊎_elim, option_map, eq-eqb, get}
+use Rattle.rk_cluster.proofs.Words.{Node, Segments, Traffic, receiver_of, Message, Visited, Session, Called, Gave, comes_anyway, refusal}
+use Rattle.rk_cluster.proofs.Words.{Stepped, stepped_by, told_by_replica, told_for, told_to, World, StepError, Event, Seen, IsRefused}
+use Rattle.rk_cluster.proofs.Words.{IsStepOf, OneFailed, fault_counts, receiver_by, LaneState, Running, world_with, IsVisitOf, is_backup}
+use Rattle.rk_cluster.proofs.Words.{LanesGoOn, counts_in, Fate, Kept, Lost, left_by, lost_by}
 use Rattle.rk_types.specs.declared.node.Node.TheVariants as nodes
-use Rattle.rk_outside.specs.Segments.{Segments}
-use Rattle.rk_message.specs.Wire.{Traffic, receiver_of}
 use Rattle.rk_message.specs.declared.message.Body.{Body}
 use Rattle.rk_message.specs.declared.message.Body.TheVariants as bodies
-use Rattle.rk_message.specs.declared.message.Message.{Message}
-use Rattle.rk_world.specs.Calls.{Visited}
-use Rattle.rk_world.specs.Client.{Session}
-use Rattle.rk_world.specs.Backup.{Appended, Backed, Called, Failed, Gave, backup_step, called_by, calls_replica}
-use Rattle.rk_world.specs.Refusals.{comes_anyway, refusal}
-use Rattle.rk_world.specs.Step.{Stepped, backed_at, delivered, delivered_to, losing, quietly, stepped_by, told_by_replica, told_for, told_to, with_sends}
-use Rattle.rk_world.specs.World.{World, backup_at, is_backup as has_backup}
-use Rattle.rk_world.specs.declared.error.StepError.{StepError}
+use Rattle.rk_world.specs.Backup.{Appended, Backed, Failed, backup_step, called_by, calls_replica}
+use Rattle.rk_world.specs.Step.{backed_at, delivered, delivered_to, losing, quietly, with_sends}
+use Rattle.rk_world.specs.World.{backup_at, is_backup as has_backup}
 use Rattle.rk_world.specs.declared.error.StepError.TheVariants as causes
-use Rattle.rk_world.specs.declared.event.Event.{Event}
 use Rattle.rk_world.specs.declared.event.Event.TheVariants as events
-use Rattle.rk_world.specs.declared.event.Seen.{Seen}
-use Rattle.rk_lane.specs.Events.{HasCause, IsAnswerOf, IsFailed, IsRefused, IsStepOf, OneFailed, fault_counts, receiver_by}
-use Rattle.rk_lane.specs.LaneState.{LaneState, Running, world_with}
-use Rattle.rk_lane.specs.Visits.{IsVisitOf}
-use Rattle.rk_cluster.specs.Delivering.{IsForBackup, is_backup}
-use Rattle.rk_cluster.specs.Faults.{LanesGoOn, SomeLaneFailed, counts_in}
-use Rattle.rk_cluster.specs.Replicas.{Fate, Kept, Lost, left_by}
-use Rattle.rk_cluster.specs.Steps.{lost_by}
+use Rattle.rk_lane.specs.Events.{HasCause, IsAnswerOf, IsFailed}
+use Rattle.rk_cluster.specs.Delivering.{IsForBackup}
+use Rattle.rk_cluster.specs.Faults.{SomeLaneFailed}
 use Rattle.rk_cluster.proofs.Faults.{go_on_kept, go_on_none, lanes_failed_once, lanes_kept}
 
 -- ---- a message that was lost at a backup

@@ -1,15 +1,14 @@
 -- How counts of faults go on.
-use Rattle.std.proofs.Common.{◌≡◌, ◌≢◌, ◌⊎◌, ◌≤◌, ◌+◌, ◌++◌, ◌==◌, ◌&&◌, ℕ, zero, suc, Bool, true, false, List, [], ◌∷◌, slice_get, slice_set, Option, None, Some, refl, sym, ap, subst, ◌∙◌, inl, inr, ⊎_elim, arith}
+use Rattle.rk_cluster.proofs.Words.{◌≡◌, ◌≢◌, ◌⊎◌, ◌≤◌, ◌+◌, ◌++◌, ◌==◌, ◌&&◌, ℕ, Bool, true, false, List, [], ◌∷◌, slice_get, slice_set}
+use Rattle.rk_cluster.proofs.Words.{Option, None, Some, refl, sym, ap, subst, inl, inr, ⊎_elim, arith, cases_eq, eq-eqb, Node, OneFailed}
+use Rattle.rk_cluster.proofs.Words.{fault_counts, LaneState, CountsGoOn, LanesGoOn, RoseBy, counts_in, lane_counts, times_lost, Fate, Kept}
+use Rattle.rk_cluster.proofs.Words.{Lost, ClusterState, slice_get_within}
 use Rattle.std.specs.Prelude.{if◌then◌else◌}
-use Rattle.std.proofs.lemmas.Bool.{cases_eq, eq-eqb, ne_eqb}
-use Rattle.rk_types.specs.declared.node.Node.{Node}
+use Rattle.std.proofs.lemmas.Bool.{ne_eqb}
 use Rattle.rk_outside.specs.Faults.{Rose}
-use Rattle.rk_lane.specs.Events.{OneFailed, fault_counts}
-use Rattle.rk_lane.specs.LaneState.{LaneState}
-use Rattle.rk_cluster.specs.Faults.{Counts, CountsGoOn, GoOn, LanesGoOn, MOST_COUNT, RoseBy, counts_in, lane_counts, times_lost}
-use Rattle.rk_cluster.specs.Replicas.{Fate, Kept, Lost, is_of}
-use Rattle.rk_cluster.specs.State.{ClusterState}
-use Rattle.rk_cluster.proofs.Worlds.{set_beside}
+use Rattle.rk_cluster.specs.Faults.{Counts, GoOn, MOST_COUNT}
+use Rattle.rk_cluster.specs.Replicas.{is_of}
+use Rattle.rk_cluster.proofs.Worlds.{set_beside, set_here}
 
 -- ---- one count
 
@@ -68,9 +67,7 @@ go_on_kept before now on lane place = on lane place
 -- ---- lanes
 
 get_set : {X : Type 0} (xs : List X) (place : ℕ) (old new : X) → slice_get xs place ≡ Some old → slice_get (slice_set xs place new) place ≡ Some new
-get_set [] place old new there = absurd (cc there)
-get_set (x ∷ xs) zero old new there = refl
-get_set (x ∷ xs) (suc place) old new there = get_set xs place old new there
+get_set xs place old new there = set_here xs place new (slice_get_within xs place old there)
 
 module _ {R : Type 0} (faults : R → ℕ) where
   -- the counts of one lane go on, and no other lane has failed
@@ -115,11 +112,6 @@ module _ {R : Type 0} (faults : R → ℕ) where
       → CountsGoOn faults (first ++ second) old new
   counts_then first second old mid new one two =
       go_on_then first second (counts_in faults old.lanes) (counts_in faults mid.lanes) (counts_in faults new.lanes) one two
-
-  -- from a cluster that is known by what is inside
-  pub counts_from : (fates : List Fate) (inside old : ClusterState R) (lanes : List (LaneState R)) → inside ≡ old → LanesGoOn faults fates inside.lanes lanes
-      → LanesGoOn faults fates old.lanes lanes
-  counts_from fates inside old lanes is on = subst (λ (state : ClusterState R). LanesGoOn faults fates state.lanes lanes) is on
 
 -- ---- one replica failed
 

@@ -1,22 +1,11 @@
 -- A message at a place of a lane's wire.
-use Rattle.std.proofs.Common.{◌≡◌, ℕ, List, [], ◌∷◌, is_none, slice_get, Option, None, Some, IfSome, sym, ap, subst, ◌∙◌}
-use Rattle.rk_types.specs.NumberMap.{NumberMap}
-use Rattle.rk_outside.specs.Segments.{Segments}
-use Rattle.rk_message.specs.Wire.{Traffic, number_at}
-use Rattle.rk_world.specs.Backup.{Gave}
-use Rattle.rk_world.specs.Client.{Session}
-use Rattle.rk_world.specs.Cluster.{Cluster, Happens, lane_at}
-use Rattle.rk_world.specs.World.{World, new_world}
+use Rattle.rk_cluster.proofs.Words.{◌≡◌, ℕ, List, [], ◌∷◌, is_none, slice_get, Option, None, Some, IfSome, sym, ap, subst, ◌∙◌, NumberMap}
+use Rattle.rk_cluster.proofs.Words.{Segments, Traffic, number_at, Gave, Session, Cluster, Happens, lane_at, World, new_world, LaneState}
+use Rattle.rk_cluster.proofs.Words.{Running, all_acted, code_where, place_code, ActsBy, HasCode, IsActedAs, forget_makes, IsOf, IsWorld}
+use Rattle.rk_cluster.proofs.Words.{IsHappening, state_of, NoPlace}
 use Rattle.rk_world.specs.declared.event.Event.TheVariants as events
-use Rattle.rk_lane.specs.LaneState.{LaneState, Running}
-use Rattle.rk_cluster.specs.Acted.{all_acted}
-use Rattle.rk_cluster.specs.Codes.{code_where, place_code}
-use Rattle.rk_cluster.specs.Effects.{ActsBy, HasCode, IsActedAs}
-use Rattle.rk_cluster.specs.Makes.{forget_by, forget_makes}
-use Rattle.rk_cluster.specs.State.{IsOf, IsWorld}
-use Rattle.rk_cluster.specs.Steps.{IsHappening, state_of}
-use Rattle.rk_cluster.specs.declared.code.Code.TheVariants.{NoPlace}
-use Rattle.rk_cluster.proofs.Carrying.{only_acts, worn_acts}
+use Rattle.rk_cluster.specs.Makes.{forget_by}
+use Rattle.rk_cluster.proofs.Carrying.{only_acts}
 use Rattle.rk_cluster.proofs.Deeds.{happens_plain}
 use Rattle.rk_cluster.proofs.Worlds.{world_at}
 

@@ -1,17 +1,10 @@
 -- Things that are gathered from eight lanes in turn.
-use Rattle.std.proofs.Common.{◌≡◌, ◌%◌, ◌*◌, ◌<◌, ◌≤◌, ◌+◌, ℕ, zero, suc, min, List, [], ◌∷◌, ◌++◌, All, drop, Some, length, map, take, slice_get, slice_set, refl, sym, ap, subst, ◌∙◌, ⊎_elim, arith, length-append, append_assoc, append-nil}
-use Rattle.std.proofs.Math.ListN.{length-set}
-use Rattle.std.proofs.lemmas.Bool.{cases_eq}
-use Rattle.std.proofs.lemmas.List.{length-map, nil_from_length}
-use Rattle.std.proofs.lemmas.List.Elements.{All-cons, All-head, All-nil, All-tail}
-use Rattle.std.proofs.lemmas.Option.{slice_get_within}
-use Rattle.std.specs.Global.{Vec}
-use Rattle.rk_types.specs.declared.hashing.TheConstants.{LANES}
-use Rattle.rk_lane.specs.LaneState.{LaneState, replicas_of}
-use Rattle.rk_cluster.specs.Dealt.{AreDealt, IsEighth}
-use Rattle.rk_cluster.specs.Masters.{HasBackups}
-use Rattle.rk_cluster.proofs.Eighths.{each_eighth, eighth_apart, eighth_count, eighth_here, eighth_is, eighth_many, set_here}
-use Rattle.rk_cluster.proofs.Worlds.{all_at, set_beside, something_within}
+use Rattle.rk_cluster.proofs.Words.{◌≡◌, ◌%◌, ◌*◌, ◌<◌, ◌≤◌, ◌+◌, ℕ, zero, suc, min, List, [], ◌∷◌, ◌++◌, All, drop, Some, length, map}
+use Rattle.rk_cluster.proofs.Words.{take, slice_get, slice_set, refl, sym, ap, subst, ◌∙◌, ⊎_elim, arith, length-append, append_assoc}
+use Rattle.rk_cluster.proofs.Words.{append-nil, length-set, cases_eq, length-map, nil_from_length, All-cons, All-head, All-nil, All-tail}
+use Rattle.rk_cluster.proofs.Words.{slice_get_within, Vec, LANES, LaneState, replicas_of, AreDealt, IsEighth, HasBackups}
+use Rattle.rk_cluster.proofs.Eighths.{each_eighth, eighth_apart, eighth_count, eighth_here, eighth_is, eighth_many}
+use Rattle.rk_cluster.proofs.Worlds.{all_at, set_beside, set_here, something_within}
 
 -- a hand has so many things
 abbrev pub HasSoMany : {X : Type 0} → ℕ → Vec X → Type 0
@@ -25,17 +18,6 @@ pub record IsGathered {X : Type 0} (all hands : List (Vec X)) (things : List X) 
 pub record IsGathering {X : Type 0} (all hands : List (Vec X)) (things : List X) (place : ℕ) : Type 0 where
   pub eight : length hands ≡ LANES
   pub gathered : (count : ℕ) → All (HasSoMany count) all → IsGathered all hands things count place
-
-pub gathering_none : {X : Type 0} (all : List (Vec X)) (things : List X) → length all ≡ LANES → things ≡ [] → IsGathering all all things 0
-gathering_none all things eight none = record {
-  eight = eight;
-  gathered = λ count equal. record {
-    taken = ap (λ list. length list) none ∙ omega arith;
-    each = λ lane before hand there here.
-        let same : before ≡ hand = cc (sym there ∙ here) in
-        ap (λ list. each_eighth lane list ++ hand.items) none ∙ ap (λ (it : Vec _). it.items) (sym same);
-  };
-}
 
 module _ {X : Type 0} (all hands : List (Vec X)) (things : List X) (place : ℕ) (hand : Vec X) (eight_all : length all ≡ LANES) (gathering : IsGathering all hands things place)
     (there : slice_get hands (place % LANES) ≡ Some hand) where

@@ -1,35 +1,22 @@
 -- An event that came to a lane came to the cluster.
-use Rattle.std.proofs.Common.{◌≡◌, ◌≢◌, ◌<◌, ℕ, Bool, false, List, [], ◌∷◌, length, Option, None, Some, Result, Ok, Err, IfErr, IfOk, IfSome, IsSomeAnd, slice_get, slice_set, refl, sym, ap, subst, ◌∙◌, arith}
-use Rattle.std.specs.Option.{option_map, option_or}
-use Rattle.std.proofs.Common.{cond}
-use Rattle.rk_types.specs.NumberMap.{NumberMap}
+use Rattle.rk_cluster.proofs.Words.{Node, ◌≡◌, ◌≢◌, ◌<◌, ℕ, Bool, false, List, [], ◌∷◌, length, Option, None, Some, Result, Ok, Err, IfErr}
+use Rattle.rk_cluster.proofs.Words.{IfOk, IfSome, IsSomeAnd, slice_get, slice_set, refl, sym, ap, subst, ◌∙◌, arith, option_map, cond}
+use Rattle.rk_cluster.proofs.Words.{NumberMap, Segments, Called, Session, Cluster, Happens, cluster_stepped, lane_at, ReplicasTell}
+use Rattle.rk_cluster.proofs.Words.{MayHappen, comes_anyway, refusal, AllTell, Stepped, step, stepped_by, told_by_replica, World, new_world}
+use Rattle.rk_cluster.proofs.Words.{StepError, Event, Seen, IsRefused, IsStepOf, receiver_by, LaneState, Running, world_with}
+use Rattle.rk_cluster.proofs.Words.{slice_get_within, acted_by, came_in, lost_in, worn_by, worn_in, IsActedAs, RunsTo, LanesGoOn, counts_in}
+use Rattle.rk_cluster.proofs.Words.{Fate, Kept, answer_of, left_by, IsOf, IsWorld, IsLosing, lost_by, state_of}
+use Rattle.std.specs.Option.{option_or}
 use Rattle.rk_types.specs.declared.node.Node.TheVariants as nodes
-use Rattle.rk_outside.specs.Segments.{Segments}
-use Rattle.rk_world.specs.Backup.{Called, Gave}
-use Rattle.rk_world.specs.Client.{Session}
-use Rattle.rk_world.specs.Cluster.{Cluster, Happens, cluster_stepped, lane_at}
-use Rattle.rk_world.specs.ClusterRuns.{ReplicasTell}
-use Rattle.rk_world.specs.Premises.{MayCome, MayHappen}
-use Rattle.rk_world.specs.Refusals.{comes_anyway, fault_of, refusal, worn}
-use Rattle.rk_world.specs.Replicas.{AllTell, IsTold}
+use Rattle.rk_world.specs.Premises.{MayCome}
+use Rattle.rk_world.specs.Refusals.{fault_of, worn}
 use Rattle.rk_world.specs.Runs.{IsCalmEvent}
-use Rattle.rk_world.specs.Step.{Stepped, step, stepped_by, told_by_replica}
-use Rattle.rk_world.specs.World.{World, new_world}
-use Rattle.rk_world.specs.declared.error.StepError.{StepError}
 use Rattle.rk_world.specs.declared.error.StepError.TheVariants as causes
-use Rattle.rk_world.specs.declared.event.Event.{Event}
 use Rattle.rk_world.specs.declared.event.Event.TheVariants as events
-use Rattle.rk_world.specs.declared.event.Seen.{Seen}
-use Rattle.rk_lane.specs.Events.{IsRefused, IsStepFrom, IsStepOf, receiver_by}
-use Rattle.rk_lane.specs.LaneState.{LaneState, Running, world_with}
+use Rattle.rk_lane.specs.Events.{IsStepFrom}
 use Rattle.rk_lane.proofs.Steps.{calm_same, may_happen_same}
-use Rattle.std.proofs.lemmas.Option.{slice_get_within}
-use Rattle.rk_cluster.specs.Acted.{acted_by, came_in, lost_in, worn_by, worn_in}
-use Rattle.rk_cluster.specs.Effects.{ActsAs, IsActedAs, RunsTo}
-use Rattle.rk_cluster.specs.Faults.{LanesGoOn, counts_in}
-use Rattle.rk_cluster.specs.Replicas.{Fate, Kept, answer_of, happening as happening_of, left_by}
-use Rattle.rk_cluster.specs.State.{IsOf, IsWorld}
-use Rattle.rk_cluster.specs.Steps.{IsLosing, lost_by, state_of}
+use Rattle.rk_cluster.specs.Effects.{ActsAs}
+use Rattle.rk_cluster.specs.Replicas.{happening as happening_of}
 use Rattle.rk_cluster.proofs.Failing.{HasFate, has_fate, refused_on, spent_on}
 use Rattle.rk_cluster.proofs.Faults.{go_on_kept}
 use Rattle.rk_cluster.proofs.Leading.{leads_by, leads_nowhere}
@@ -42,20 +29,13 @@ module _ (w : World) (stored : NumberMap Segments) where
   abbrev with_stored : World
   with_stored = record w { backups = stored }
 
+  turn_same : (node : Node) → fault_of with_stored (events.Turn node) ≡ fault_of w (events.Turn node)
+  turn_same nodes.Coordinator = refl
+  turn_same _ = refl
+
   fault_same : (event : Event) → fault_of with_stored event ≡ fault_of w event
-  fault_same (events.AddTablet tablet range master) = refl
-  fault_same (events.AddClient client) = refl
-  fault_same (events.Deliver number) = refl
-  fault_same (events.Forget number) = refl
-  fault_same (events.Turn (nodes.Client client)) = refl
-  fault_same (events.Turn nodes.Coordinator) = refl
-  fault_same (events.Turn (nodes.Master master)) = refl
-  fault_same (events.Turn (nodes.Backup backup)) = refl
-  fault_same (events.Again client) = refl
-  fault_same (events.Migrate tablet to) = refl
-  fault_same (events.Split tablet at new) = refl
-  fault_same (events.Crash master) = refl
-  fault_same (events.Notice master) = refl
+  fault_same (events.Turn node) = turn_same node
+  fault_same _ = refl
 
   refusal_same : (event : Event) → refusal with_stored event ≡ refusal w event
   refusal_same event =

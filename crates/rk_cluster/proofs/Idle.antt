@@ -1,23 +1,12 @@
 -- Lanes in which no turn leaves anything.
-use Rattle.std.proofs.Common.{◌≡◌, ◌<◌, ◌&&◌, ℕ, Bool, true, false, not, cond, List, [], ◌∷◌, filter, length, Option, None, Result, IfSome, refl, sym, ap, subst}
+use Rattle.rk_cluster.proofs.Words.{◌≡◌, ◌<◌, ◌&&◌, ℕ, Bool, true, false, not, cond, List, [], ◌∷◌, filter, length, Option, None, Result}
+use Rattle.rk_cluster.proofs.Words.{IfSome, refl, sym, ap, subst, list_all, NumberMap, numbers, Segments, Node, Gave, Session, Cluster}
+use Rattle.rk_cluster.proofs.Words.{Happens, Occurrence, cluster_stepped, lane_at, Stepped, World, new_world, StepError, LaneState, Running}
+use Rattle.rk_cluster.proofs.Words.{world_with, acted_by, ActsOne, IsActedAs, ClusterState, IsOf, IsWorld, clients_in, is_call_in}
 use Rattle.std.proofs.lemmas.List.{set-get_or}
-use Rattle.std.specs.List.{list_all}
-use Rattle.rk_types.specs.NumberMap.{NumberMap, numbers}
-use Rattle.rk_outside.specs.Segments.{Segments}
-use Rattle.rk_types.specs.declared.node.Node.{Node}
-use Rattle.rk_world.specs.Backup.{Gave}
-use Rattle.rk_world.specs.Client.{Session}
-use Rattle.rk_world.specs.Cluster.{Cluster, Happens, Occurrence, cluster_stepped, lane_at, with_lane}
-use Rattle.rk_world.specs.Step.{Stepped}
-use Rattle.rk_world.specs.World.{World, new_world}
-use Rattle.rk_world.specs.declared.error.StepError.{StepError}
+use Rattle.rk_world.specs.Cluster.{with_lane}
 use Rattle.rk_world.specs.declared.event.Event.TheVariants as events
-use Rattle.rk_lane.specs.LaneState.{LaneState, Running, world_with}
 use Rattle.rk_lane.specs.Resting.{IsIdle, IsResting}
-use Rattle.rk_cluster.specs.Acted.{acted_by}
-use Rattle.rk_cluster.specs.Effects.{ActsOne, IsActedAs}
-use Rattle.rk_cluster.specs.State.{ClusterState, IsOf, IsWorld}
-use Rattle.rk_cluster.specs.Turns.{clients_in, is_call_in}
 use Rattle.rk_cluster.proofs.Worlds.{same_count}
 
 -- where no call is outstanding in a lane no client takes its turn there

@@ -1,33 +1,19 @@
 -- How a client gets a session.
-use Rattle.std.proofs.Common.{◌≡◌, ◌≤◌, ◌<◌, ◌^◌, ℕ, Bool, true, false, List, [], ◌∷◌, ◌++◌, All, length, map, is_some, nat_le, Option, None, Some, refl, sym, ap, subst, ◌∙◌, inl, arith}
-use Rattle.std.proofs.lemmas.Bool.Decides.{nat_tests}
-use Rattle.std.proofs.lemmas.List.Elements.{All-from_recursion, All-nil, All-replicate}
+use Rattle.rk_cluster.proofs.Words.{get_or-map-range_with_len, ◌≡◌, ◌≤◌, ◌<◌, ◌^◌, ℕ, Bool, true, false, List, [], ◌∷◌, ◌++◌, All, length}
+use Rattle.rk_cluster.proofs.Words.{map, is_some, nat_le, Option, None, Some, refl, sym, ap, subst, ◌∙◌, inl, arith, nat_tests, All-nil}
+use Rattle.rk_cluster.proofs.Words.{range_with_len, NumberMap, get, insert, LANES, Segments, Session, new_session, Cluster, Joins}
+use Rattle.rk_cluster.proofs.Words.{Occurrence, MayAct, MayHappen, new_world, Event, LaneState, acted_well, all_acted, client_code}
+use Rattle.rk_cluster.proofs.Words.{code_where, first_code, ActsBy, ActsOne, CutShortBy, EndsIn, HasCode, IsActedAs, RunsTo, all_lanes}
+use Rattle.rk_cluster.proofs.Words.{client_makes, in_lanes, ClusterState, IsOf, AreStepsCutShort, CarriesSteps, IsDeed, IsPlain}
+use Rattle.rk_cluster.proofs.Words.{StepsEndWorn, WhereWorn, occurrences, state_of, Code, Limit, Taken, ClusterError, Deed}
+use Rattle.std.proofs.lemmas.List.Elements.{All-from_recursion, All-replicate}
 use Rattle.std.specs.Int.{w32}
-use Rattle.std.specs.List.{range_with_len}
-use Rattle.rk_types.specs.NumberMap.{NumberMap, get, insert}
-use Rattle.rk_types.specs.declared.hashing.TheConstants.{LANES}
 use Rattle.rk_entry.specs.Numbers.{IsNumber}
-use Rattle.rk_outside.specs.Segments.{Segments}
-use Rattle.rk_world.specs.Client.{Session, new_session}
-use Rattle.rk_world.specs.Cluster.{Cluster, Joins, Occurrence, joined_by}
-use Rattle.rk_world.specs.Premises.{IsCached, MayAct, MayHappen}
+use Rattle.rk_world.specs.Cluster.{joined_by}
+use Rattle.rk_world.specs.Premises.{IsCached}
 use Rattle.rk_world.specs.Refusals.{MOST_CLIENTS}
-use Rattle.rk_world.specs.World.{new_world}
-use Rattle.rk_world.specs.declared.event.Event.{Event}
 use Rattle.rk_world.specs.declared.event.Event.TheVariants as events
-use Rattle.rk_lane.specs.LaneState.{LaneState}
-use Rattle.rk_cluster.specs.Acted.{acted_well, all_acted}
-use Rattle.rk_cluster.specs.Codes.{client_code, code_where, first_code}
-use Rattle.rk_cluster.specs.Effects.{ActsBy, ActsOne, CutShortBy, EndsIn, HasCode, IsActedAs, RunsTo}
-use Rattle.rk_cluster.specs.Looks.{all_lanes}
-use Rattle.rk_cluster.specs.Makes.{client_makes, in_lanes}
-use Rattle.rk_cluster.specs.State.{ClusterState, IsOf}
-use Rattle.rk_cluster.specs.Steps.{AreStepsCutShort, CarriesSteps, IsDeed, IsPlain, StepsEndWorn, WhereWorn, occurrences, state_of}
-use Rattle.rk_cluster.specs.declared.code.Code.{Code}
-use Rattle.rk_cluster.specs.declared.code.Code.TheVariants.{Limit, Taken}
-use Rattle.rk_cluster.specs.declared.error.ClusterError.{ClusterError}
 use Rattle.rk_cluster.specs.declared.error.ClusterError.TheVariants as errors
-use Rattle.rk_cluster.specs.declared.steps.Deed.{Deed}
 use Rattle.rk_cluster.proofs.Carrying.{only_acts}
 use Rattle.rk_cluster.proofs.Leading.{leads_by}
 use Rattle.rk_cluster.proofs.Shortage.{before_short, came_short, made_short}
@@ -45,12 +31,12 @@ many count much = grind (arith, nat_tests, much)
 pub few : (count : ℕ) → count < MOST_CLIENTS → nat_le MOST_CLIENTS count ≡ false
 few count less = grind (arith, nat_tests, less)
 
+deed_fits : (masters count lane : ℕ) (event : Event) → lane < count → IsPlain event → MayHappen (new_world 0 masters 0) event → IsDeed count masters (record { lane = lane; event = event })
+deed_fits masters count lane event there plain may = record { there = there; plain = plain; may = may }
+
 -- the same event in each lane
 abbrev pub deeds_in : Event → List Deed
 deeds_in event = map (λ lane. record { lane = lane; event = event }) (range_with_len 0 LANES)
-
-deed_fits : (masters count lane : ℕ) (event : Event) → lane < count → IsPlain event → MayHappen (new_world 0 masters 0) event → IsDeed count masters (record { lane = lane; event = event })
-deed_fits masters count lane event there plain may = record { there = there; plain = plain; may = may }
 
 pub deeds_fit : (masters count : ℕ) (event : Event) → count ≡ LANES → IsPlain event → MayHappen (new_world 0 masters 0) event → All (IsDeed count masters) (deeds_in event)
 deeds_fit masters count event is plain may =
@@ -153,13 +139,6 @@ module _ {R : Type 0} (segments : R → Option Segments) where
   all_worn old new sessions event more number count worn cluster is =
       subst (λ (made : List Occurrence). IsActedAs segments cluster (state_of new sessions) [] (Some number) (all_acted cluster (made ++ more)))
       (made_in_all old sessions event count cluster is) (worn sessions more cluster is)
-
-  -- or was cut short
-  pub all_short : (old new : List (LaneState R)) (sessions : NumberMap Session) (event : Event) → length old ≡ LANES → AreStepsCutShort segments old new (deeds_in event)
-      → CutShortBy segments (state_of old sessions) (state_of new sessions) (λ cluster. in_lanes (all_lanes cluster) event)
-  all_short old new sessions event count short =
-      made_short segments (state_of old sessions) (state_of new sessions) (λ cluster. in_lanes (all_lanes cluster) event) (occurrences (deeds_in event))
-      (λ cluster is. sym (made_in_all old sessions event count cluster is)) (short sessions)
 
   pub all_short_before : (old new : List (LaneState R)) (sessions : NumberMap Session) (event : Event) (more : List Occurrence) → length old ≡ LANES
       → AreStepsCutShort segments old new (deeds_in event)

@@ -1,3 +1,4 @@
+pub mod Words
 pub mod Worlds
 pub mod Leading
 pub mod Tells
@@ -6,6 +7,7 @@ pub mod Failing
 pub mod Happenings
 pub mod Heard
 pub mod Carrying
+pub mod Parts
 pub mod Shortage
 pub mod Deeds
 pub mod Coming

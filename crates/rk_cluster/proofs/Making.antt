@@ -1,26 +1,11 @@
 -- What a call makes by its deeds.
-use Rattle.std.proofs.Common.{◌≡◌, ◌<◌, ℕ, List, [], ◌∷◌, ◌++◌, All, length, map, Option, None, Some, refl, sym, ap, subst, ◌∙◌, append-nil}
-use Rattle.std.proofs.lemmas.List.Elements.{All-map, All-weaker}
-use Rattle.rk_types.specs.NumberMap.{NumberMap}
-use Rattle.rk_types.specs.declared.hashing.TheConstants.{LANES}
-use Rattle.rk_outside.specs.Segments.{Segments}
-use Rattle.rk_world.specs.Client.{Session}
-use Rattle.rk_world.specs.Cluster.{Cluster, Occurrence}
-use Rattle.rk_world.specs.Premises.{MayHappen}
-use Rattle.rk_world.specs.World.{new_world}
-use Rattle.rk_world.specs.declared.event.Event.{Event}
-use Rattle.rk_lane.specs.LaneState.{LaneState}
-use Rattle.rk_cluster.specs.Acted.{all_acted}
-use Rattle.rk_cluster.specs.Effects.{ActsBy, EndsIn, HasCode, IsActedAs, IsCarriedOut}
-use Rattle.rk_cluster.specs.Looks.{all_lanes}
-use Rattle.rk_cluster.specs.Makes.{in_lanes, next_tablet}
-use Rattle.rk_cluster.specs.State.{ClusterState, IsOf}
-use Rattle.rk_cluster.specs.Steps.{AreStepsCutShort, CarriesSteps, IsDeed, IsPlain, StepsEndWorn, WhereWorn, occurrences, state_of}
-use Rattle.rk_cluster.specs.Told.{LanesTell, WhereRefused}
-use Rattle.rk_cluster.specs.declared.code.Code.{Code}
-use Rattle.rk_cluster.specs.declared.error.ClusterError.{ClusterError}
+use Rattle.rk_cluster.proofs.Words.{◌≡◌, ◌<◌, ℕ, List, [], ◌∷◌, ◌++◌, All, length, map, Option, None, Some, refl, sym, ap, subst, ◌∙◌}
+use Rattle.rk_cluster.proofs.Words.{append-nil, All-map, All-weaker, NumberMap, LANES, Segments, Session, Cluster, Occurrence, MayHappen}
+use Rattle.rk_cluster.proofs.Words.{new_world, Event, LaneState, all_acted, ActsBy, EndsIn, HasCode, IsActedAs, IsCarriedOut, all_lanes}
+use Rattle.rk_cluster.proofs.Words.{in_lanes, next_tablet, ClusterState, IsOf, AreStepsCutShort, CarriesSteps, IsDeed, IsPlain}
+use Rattle.rk_cluster.proofs.Words.{StepsEndWorn, WhereWorn, occurrences, state_of, LanesTell, Code, ClusterError, Deed}
+use Rattle.rk_cluster.specs.Told.{WhereRefused}
 use Rattle.rk_cluster.specs.declared.error.ClusterError.TheVariants as errors
-use Rattle.rk_cluster.specs.declared.steps.Deed.{Deed}
 use Rattle.rk_cluster.proofs.Carrying.{none_acts}
 use Rattle.rk_cluster.proofs.Joining.{deeds_in, ends_in, made_in_all}
 use Rattle.rk_cluster.proofs.Shortage.{made_short, nothing_done, same_short}

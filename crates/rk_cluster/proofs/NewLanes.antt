@@ -1,23 +1,14 @@
 -- How replicas are dealt to the lanes of a new cluster, and how these are made.
-use Rattle.std.proofs.Common.{◌≡◌, ◌≤◌, ◌<◌, ◌+◌, ◌*◌, ℕ, zero, suc, List, [], ◌∷◌, ◌++◌, All, length, map, slice_get, Option, None, Some, IfSome, is_some, refl, sym, ap, subst, ◌∙◌, arith, length-append, append_assoc, append-nil}
-use Rattle.std.specs.List.{range_with_len}
+use Rattle.rk_cluster.proofs.Words.{◌≡◌, ◌≤◌, ◌<◌, ◌+◌, ◌*◌, ℕ, zero, suc, List, [], ◌∷◌, ◌++◌, All, length, map, slice_get, Option, None}
+use Rattle.rk_cluster.proofs.Words.{Some, IfSome, is_some, refl, sym, ap, subst, ◌∙◌, arith, length-append, append_assoc, range_with_len}
+use Rattle.rk_cluster.proofs.Words.{All-cons, All-head, All-nil, All-tail, slice_get_past, slice_get_within, Vec, length-map, LANES}
+use Rattle.rk_cluster.proofs.Words.{Segments, Cluster, new_cluster, World, new_world, AreTold, LaneState, Running, replicas_of, world_with}
+use Rattle.rk_cluster.proofs.Words.{AreDealt, IsEighth, HasBackups, AreWorlds, ClusterState, IsOf, IsWorld, AreLanes, state_of}
 use Rattle.std.specs.Prelude.{true}
-use Rattle.std.proofs.lemmas.List.Elements.{All-cons, All-head, All-nil, All-tail}
-use Rattle.std.proofs.lemmas.Option.{slice_get_past, slice_get_within}
-use Rattle.std.specs.Global.{Vec}
-use Rattle.std.proofs.lemmas.List.{length-map}
 use Rattle.rk_log.specs.declared.copied.TheConstants.{MOST_BACKUPS}
-use Rattle.rk_types.specs.declared.hashing.TheConstants.{LANES}
-use Rattle.rk_outside.specs.Segments.{Segments}
 use Rattle.rk_world.specs.Backup.{no_segments}
-use Rattle.rk_world.specs.Cluster.{Cluster, new_cluster}
-use Rattle.rk_world.specs.World.{World, new_backups, new_world}
-use Rattle.rk_lane.specs.LaneState.{AreTold, LaneState, Running, replicas_of, world_with}
-use Rattle.rk_cluster.specs.Dealt.{AreDealt, IsEighth}
+use Rattle.rk_world.specs.World.{new_backups}
 use Rattle.rk_cluster.specs.Fresh.{AreEmpty, AreMadeOf, IsHand, IsMadeOf, IsNewLane}
-use Rattle.rk_cluster.specs.Masters.{HasBackups}
-use Rattle.rk_cluster.specs.State.{AreWorlds, ClusterState, IsOf, IsWorld}
-use Rattle.rk_cluster.specs.Steps.{AreLanes, state_of}
 use Rattle.rk_inv_tablets.proofs.steady.Lanes.{tell_new}
 use Rattle.rk_cluster.proofs.Worlds.{all_at, something_within}
 
@@ -88,22 +79,6 @@ module _ {R : Type 0} (segments : R → Option Segments) (masters : ℕ) where
     next = omega (arith, making.next, length-append made (hand ∷ []));
     lanes_are = made_one 0 made lanes hand lane making.lanes_are (subst (λ (n : ℕ). IsMadeOf segments masters n hand.items lane) (making.next ∙ omega arith) is);
   }
-
-  pub making_all : (all made left : List (Vec R)) (lanes : List (LaneState R)) (number : ℕ) → left ≡ [] → IsMaking all made left lanes number → AreMadeOf segments masters 0 all lanes
-  making_all all made left lanes number none making =
-      subst (λ (hands : List (Vec R)). AreMadeOf segments masters 0 hands lanes)
-      (sym (append-nil made) ∙ ap (λ (list : List (Vec R)). made ++ list) (sym none) ∙ making.whole) making.lanes_are
-
-  -- the next hand stands behind those that were dealt with
-  pub next_stands : (all made left rest : List (Vec R)) (lanes : List (LaneState R)) (number : ℕ) (hand : Vec R) → left ≡ hand ∷ rest → IsMaking all made left lanes number
-      → slice_get all number ≡ Some hand
-  next_stands all made left rest lanes number hand first making =
-      ap (λ (list : List (Vec R)). slice_get list number) (sym making.whole ∙ ap (λ (list : List (Vec R)). made ++ list) first)
-      ∙ ap (slice_get (made ++ hand ∷ rest)) making.next ∙ behind made rest hand
-    where
-      behind : (made rest : List (Vec R)) (hand : Vec R) → slice_get (made ++ hand ∷ rest) (length made) ≡ Some hand
-      behind [] rest hand = refl
-      behind (one ∷ made) rest hand = behind made rest hand
 
   -- ---- what was made
 

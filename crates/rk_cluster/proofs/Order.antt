@@ -1,13 +1,8 @@
 -- The counts of faults of replicas that were dealt to eight lanes, in the order in which they were dealt.
-use Rattle.std.proofs.Common.{◌≡◌, ◌≤◌, ◌<◌, ◌+◌, ◌*◌, ℕ, zero, suc, List, [], ◌∷◌, map, length, slice_get, Option, None, Some, refl, sym, ap, subst, ◌∙◌, arith}
-use Rattle.std.specs.Option.{option_map}
-use Rattle.std.proofs.lemmas.Option.{slice_get_past}
-use Rattle.rk_types.specs.declared.hashing.TheConstants.{LANES}
+use Rattle.rk_cluster.proofs.Words.{◌≡◌, ◌≤◌, ◌<◌, ◌+◌, ◌*◌, ℕ, zero, suc, List, [], ◌∷◌, map, length, slice_get, Option, None, Some, refl}
+use Rattle.rk_cluster.proofs.Words.{sym, ap, subst, ◌∙◌, arith, option_map, slice_get_past, LANES, LaneState, replicas_of, IsEighth}
+use Rattle.rk_cluster.proofs.Words.{LanesGoOn, RoseBy, counts_in, lane_counts, times_lost, Fate}
 use Rattle.rk_backup.specs.Lane.{replica_of}
-use Rattle.rk_lane.specs.LaneState.{LaneState, replicas_of}
-use Rattle.rk_cluster.specs.Dealt.{IsEighth}
-use Rattle.rk_cluster.specs.Faults.{LanesGoOn, RoseBy, counts_in, lane_counts, times_lost}
-use Rattle.rk_cluster.specs.Replicas.{Fate}
 use Rattle.rk_cluster.proofs.Worlds.{something_within}
 
 -- what is at a place of a list once each element has changed

@@ -1,36 +1,22 @@
 -- How a client sends its last request again: it reaches a master.
-use Rattle.std.proofs.Common.{◌≡◌, ◌<◌, ◌≤◌, ◌+◌, ℕ, zero, suc, Bool, true, false, not, List, [], ◌∷◌, length, slice_get, slice_set, slice_index_or, is_none, is_some, unwrap_or, Option, Some, None, IfSome, Result, Ok, Err, refl, sym, ap, subst, ◌∙◌, arith}
-use Rattle.std.proofs.lemmas.Option.{slice_get_within}
-use Rattle.rk_types.specs.NumberMap.{NumberMap, get}
-use Rattle.rk_outside.specs.Segments.{Segments}
-use Rattle.rk_types.proofs.NumberMaps.{get_same}
-use Rattle.rk_types.specs.declared.node.Node.{Node}
+use Rattle.rk_cluster.proofs.Words.{get_or-set_same, ◌≡◌, ◌<◌, ◌≤◌, ◌+◌, ℕ, Bool, true, false, not, List, [], ◌∷◌, length, slice_get}
+use Rattle.rk_cluster.proofs.Words.{is_none, is_some, unwrap_or, Option, Some, None, IfSome, Result, Ok, Err, refl, sym, ap, subst, ◌∙◌}
+use Rattle.rk_cluster.proofs.Words.{arith, slice_get_within, NumberMap, get, Segments, get_same, Node, Traffic, Message, Called, Gave}
+use Rattle.rk_cluster.proofs.Words.{refusal, IsFormedWithRoom, step, stepped_by, Stepped, told_for, told_to, World, new_world, StepError}
+use Rattle.rk_cluster.proofs.Words.{Session, new_session, Cluster, Happens, Occurrence, cluster_stepped, lane_at, session_at, LaneState}
+use Rattle.rk_cluster.proofs.Words.{Running, world_with, acted, all_acted, IsNextIn, IsSentAgain, again_code, code_where, first_code, Acts}
+use Rattle.rk_cluster.proofs.Words.{ActsBy, ActsOne, CutShortBy, HasCode, IsActedAs, is_client, again_makes, in_lane, AreButOne}
+use Rattle.rk_cluster.proofs.Words.{ClusterState, IsOf, IsWorld, IsHappening, state_of, Code, NothingSent, Unknown}
 use Rattle.rk_types.specs.declared.node.Node.TheVariants as nodes
-use Rattle.rk_message.specs.Wire.{HasSentNumbers, Traffic}
-use Rattle.rk_message.specs.declared.message.Message.{Message}
-use Rattle.rk_world.specs.Backup.{Called, Gave}
-use Rattle.rk_world.specs.Refusals.{refusal}
+use Rattle.rk_message.specs.Wire.{HasSentNumbers}
 use Rattle.rk_world.specs.Room.{MOST_NUMBER}
-use Rattle.rk_world.specs.Runs.{IsFormedWithRoom, world_stepped}
-use Rattle.rk_world.specs.Step.{sent_again, step, stepped_by, Stepped, told_for, told_to}
-use Rattle.rk_world.specs.World.{World, new_world, standing}
-use Rattle.rk_world.specs.declared.error.StepError.{StepError}
+use Rattle.rk_world.specs.Runs.{world_stepped}
+use Rattle.rk_world.specs.Step.{sent_again}
+use Rattle.rk_world.specs.World.{standing}
 use Rattle.rk_world.specs.declared.event.Event.TheVariants as events
-use Rattle.rk_world.specs.Client.{Session, new_session}
-use Rattle.rk_world.specs.Cluster.{Cluster, Happens, Occurrence, cluster_stepped, lane_at, session_at}
-use Rattle.rk_lane.specs.LaneState.{LaneState, Running, world_with}
 use Rattle.rk_lane.specs.Requests.{AreForMasters, IsOfMaster}
-use Rattle.rk_cluster.specs.Acted.{acted, all_acted, worn_in}
-use Rattle.rk_cluster.specs.Again.{IsAgainCutShort, IsNextIn, IsSentAgain, again_at}
-use Rattle.rk_cluster.specs.Codes.{again_code, code_where, first_code}
-use Rattle.rk_cluster.specs.Effects.{Acts, ActsBy, ActsOne, CutShortBy, HasCode, IsActedAs}
-use Rattle.rk_cluster.specs.Looks.{is_client}
-use Rattle.rk_cluster.specs.Makes.{again_by, again_in, again_makes, in_lane, request_lane}
-use Rattle.rk_cluster.specs.Spending.{AreButOne}
-use Rattle.rk_cluster.specs.State.{ClusterState, IsOf, IsWorld}
-use Rattle.rk_cluster.specs.Steps.{IsHappening, state_of}
-use Rattle.rk_cluster.specs.declared.code.Code.{Code}
-use Rattle.rk_cluster.specs.declared.code.Code.TheVariants.{NothingSent, Unknown}
+use Rattle.rk_cluster.specs.Again.{IsAgainCutShort, again_at}
+use Rattle.rk_cluster.specs.Makes.{again_by, again_in, request_lane}
 use Rattle.rk_cluster.proofs.Carrying.{gone_on, last_stays, only_acts, worn_acts, worn_stays}
 use Rattle.rk_cluster.proofs.Deeds.{happens_plain}
 use Rattle.rk_cluster.proofs.Shortage.{lanes_short, made_short, none_short}
@@ -70,15 +56,10 @@ module _ (w : World) (numbered : HasSentNumbers w.wire) where
 
 -- ---- in a cluster
 
-read_set : {X : Type 0} (xs : List X) (place : ℕ) (x d : X) → place < length xs → slice_index_or (slice_set xs place x) place d ≡ x
-read_set [] place x d within = absurd (omega (arith, within))
-read_set (y ∷ ys) zero x d within = refl
-read_set (y ∷ ys) (suc place) x d within = read_set ys place x d (omega (arith, within))
-
 -- what an event makes of a lane
 lane_after : (cluster : Cluster) (lane : ℕ) (stepped : Result Stepped StepError) → lane < length cluster.lanes
     → lane_at (cluster_stepped cluster lane stepped) lane ≡ world_stepped (lane_at cluster lane) stepped
-lane_after cluster lane (Ok stepped) within = read_set cluster.lanes lane stepped.world (new_world lane 0 0) within
+lane_after cluster lane (Ok stepped) within = get_or-set_same cluster.lanes lane stepped.world (new_world lane 0 0) within
 lane_after cluster lane (Err error) within = refl
 
 found_for_master : (requests : NumberMap Message) (client : ℕ) (found : Option Message) → get requests client ≡ found → AreForMasters requests → IfSome found (λ it. IsOfMaster it.to)

@@ -1,16 +1,11 @@
 -- Masters of a lane that live, number by number.
-use Rattle.std.proofs.Common.{◌≡◌, ◌<◌, ◌+◌, ◌==◌, ◌||◌, ◌&&◌, ℕ, zero, suc, Bool, true, false, not, cond, List, [], ◌∷◌, filter, length, Option, Some, None, IfSome, unwrap_or, slice_get, refl, sym, ap, subst, ◌∙◌, arith}
-use Rattle.std.specs.Cmp.{unsigned_tied}
-use Rattle.std.proofs.lemmas.Bool.Decides.{nat_tests}
-use Rattle.std.proofs.lemmas.List.{length-map}
-use Rattle.std.proofs.lemmas.List.FromFn.{length-range_with_len}
-use Rattle.std.specs.List.{list_all, range_with_len}
-use Rattle.std.specs.Ordering.{nat_cmp, eq_by_cmp}
-use Rattle.rk_types.specs.NumberMap.{NumberMap, get, numbers}
-use Rattle.rk_world.specs.Master.{Master, new_master, staged}
-use Rattle.rk_world.specs.Runs.{IsFormedWithRoom}
-use Rattle.rk_world.specs.World.{World, has_crashed, master_at}
-use Rattle.rk_lane.specs.LaneState.{LaneState, Running, world_with}
+use Rattle.rk_cluster.proofs.Words.{◌≡◌, ◌<◌, ◌+◌, ◌==◌, ◌||◌, ◌&&◌, ℕ, zero, suc, Bool, true, false, not, cond, List, [], ◌∷◌, filter}
+use Rattle.rk_cluster.proofs.Words.{length, Option, Some, None, IfSome, unwrap_or, slice_get, refl, sym, ap, subst, ◌∙◌, arith}
+use Rattle.rk_cluster.proofs.Words.{unsigned_tied, nat_tests, length-map, length-range_with_len, list_all, range_with_len, nat_cmp}
+use Rattle.rk_cluster.proofs.Words.{eq_by_cmp, NumberMap, get, numbers, Master, IsFormedWithRoom, World, has_crashed, LaneState, Running}
+use Rattle.rk_cluster.proofs.Words.{world_with}
+use Rattle.rk_world.specs.Master.{new_master, staged}
+use Rattle.rk_world.specs.World.{master_at}
 use Rattle.rk_cluster.specs.Quiet.{has_applied_all}
 
 -- whether a master has crashed, or has nothing staged

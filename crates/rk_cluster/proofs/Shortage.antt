@@ -1,24 +1,14 @@
 -- How calls that run out of memory end.
-use Rattle.std.proofs.Common.{◌≡◌, ◌⊎◌, ℕ, List, [], ◌∷◌, ◌++◌, Option, None, Some, Result, Ok, Err, IfErr, OnErr, slice_get, slice_set, refl, sym, ap, subst, ◌∙◌, inl, inr, ⊎_elim, append-nil, append_assoc}
+use Rattle.rk_cluster.proofs.Words.{◌≡◌, ◌⊎◌, ℕ, List, [], ◌∷◌, ◌++◌, Option, None, Some, Result, Ok, Err, IfErr, OnErr, slice_get}
+use Rattle.rk_cluster.proofs.Words.{slice_set, refl, sym, ap, subst, ◌∙◌, inl, inr, ⊎_elim, append-nil, append_assoc, NumberMap, get}
+use Rattle.rk_cluster.proofs.Words.{insert, Said, Segments, Session, Cluster, Occurrence, StepError, Event, Seen, IsRefused, IsSameLane}
+use Rattle.rk_cluster.proofs.Words.{LaneState, Acts, ActsBy, ActsOne, AreCutShort, Carries, CutShortBy, AreButOne, HasTurnedOne, IsShortOf}
+use Rattle.rk_cluster.proofs.Words.{ClusterState, IsOf, failure_of, state_of, ClusterError}
 use Rattle.std.proofs.lemmas.Option.{none-some}
-use Rattle.rk_types.specs.NumberMap.{NumberMap, get, insert}
-use Rattle.rk_types.specs.declared.node.Said.{Said}
-use Rattle.rk_outside.specs.Segments.{Segments}
-use Rattle.rk_world.specs.Client.{Session}
-use Rattle.rk_world.specs.Cluster.{Accepts, Cluster, Occurrence}
-use Rattle.rk_world.specs.declared.error.StepError.{StepError}
 use Rattle.rk_world.specs.declared.error.StepError.TheVariants as causes
-use Rattle.rk_world.specs.declared.event.Event.{Event}
-use Rattle.rk_world.specs.declared.event.Seen.{Seen}
-use Rattle.rk_lane.specs.Events.{IsRefused}
-use Rattle.rk_lane.specs.LaneState.{IsSameLane, LaneState}
 use Rattle.rk_lane.specs.Visits.{MayHaveTurned}
-use Rattle.rk_cluster.specs.Acted.{all_acted}
-use Rattle.rk_cluster.specs.Effects.{Acts, ActsBy, ActsOne, AreCutShort, Carries, CutShortBy, IsActedAs, IsCutShort}
-use Rattle.rk_cluster.specs.Spending.{AreButOne, HasSpentOne, HasTurnedOne, IsShortOf, IsSpentFrom}
-use Rattle.rk_cluster.specs.State.{ClusterState, IsOf}
-use Rattle.rk_cluster.specs.Steps.{failure_of, state_of}
-use Rattle.rk_cluster.specs.declared.error.ClusterError.{ClusterError}
+use Rattle.rk_cluster.specs.Effects.{IsCutShort}
+use Rattle.rk_cluster.specs.Spending.{IsSpentFrom}
 use Rattle.rk_cluster.proofs.Carrying.{first_acts, none_acts}
 use Rattle.rk_cluster.proofs.Worlds.{set_there}
 

@@ -1,25 +1,17 @@
 -- Who takes a turn in a lane: the clients that ask there, and the masters that live.
-use Rattle.std.proofs.Common.{◌≡◌, ◌<◌, ◌≤◌, ◌+◌, ◌-◌, ◌++◌, ℕ, suc, Bool, true, false, cond, List, [], ◌∷◌, All, filter, is_some, map, Option, None, Some, IfSome, refl, sym, ap, subst, ◌∙◌, append_assoc, append-nil, eq-eqb, arith}
-use Rattle.std.specs.List.{flat_map, range_with_len}
-use Rattle.std.specs.Ordering.{nat_cmp, eq_by_cmp}
-use Rattle.std.specs.Cmp.{unsigned_tied}
-use Rattle.std.proofs.lemmas.List.Elements.{All-cons, All-map, All-nil, All-push, All-weaker}
-use Rattle.rk_types.specs.NumberMap.{NumberMap, get, numbers}
-use Rattle.rk_types.specs.declared.call.Call.{Call}
+use Rattle.rk_cluster.proofs.Words.{◌≡◌, ◌<◌, ◌≤◌, ◌+◌, ◌-◌, ◌++◌, ℕ, suc, Bool, true, false, cond, List, [], ◌∷◌, All, filter, is_some}
+use Rattle.rk_cluster.proofs.Words.{map, Option, None, Some, IfSome, refl, sym, ap, subst, ◌∙◌, append_assoc, append-nil, arith, flat_map}
+use Rattle.rk_cluster.proofs.Words.{range_with_len, nat_cmp, eq_by_cmp, unsigned_tied, All-cons, All-map, All-nil, All-push, All-weaker}
+use Rattle.rk_cluster.proofs.Words.{NumberMap, get, numbers, Call, Session, Asks, Occurrence, Master, IsMaster, IsFormedWithRoom, LaneState}
+use Rattle.rk_cluster.proofs.Words.{Running, world_with, asks_in, in_lane, IsDeed, occurrences, clients_in, is_call_in, live_in, turns_of}
+use Rattle.rk_cluster.proofs.Words.{HasSession, all_ask}
+use Rattle.std.proofs.Common.{eq-eqb}
 use Rattle.rk_types.specs.declared.node.Node.TheVariants as nodes
-use Rattle.rk_world.specs.Client.{Session}
-use Rattle.rk_world.specs.Cluster.{Asks, Occurrence}
-use Rattle.rk_world.specs.Master.{Master}
-use Rattle.rk_world.specs.Premises.{IsMaster}
-use Rattle.rk_world.specs.Runs.{IsFormedWithRoom}
 use Rattle.rk_world.specs.World.{lives}
 use Rattle.rk_world.specs.declared.event.Event.TheVariants as events
-use Rattle.rk_lane.specs.LaneState.{LaneState, Running, world_with}
 use Rattle.rk_lane.proofs.Noticed.{filter_next}
-use Rattle.rk_cluster.specs.Makes.{asks_by, asks_in, in_lane}
-use Rattle.rk_cluster.specs.Steps.{IsDeed, occurrences}
-use Rattle.rk_cluster.specs.Turns.{clients_in, is_call_in, live_in, turn_of, turns_of}
-use Rattle.rk_cluster.specs.Visits.{HasSession, all_ask}
+use Rattle.rk_cluster.specs.Makes.{asks_by}
+use Rattle.rk_cluster.specs.Turns.{turn_of}
 
 -- ---- clients
 

@@ -1,16 +1,13 @@
 -- What lanes in code tell of the clusters that they stand for.
-use Rattle.std.proofs.Common.{◌≡◌, ◌≤◌, ◌<◌, ℕ, zero, suc, ◌+◌, Bool, true, false, ◌&&◌, ◌||◌, cond, List, [], ◌∷◌, ◌++◌, filter, length, slice_get, slice_index_or, take, eqb, Option, None, Some, refl, sym, ap, ◌∙◌, arith}
-use Rattle.std.specs.List.{list_all, list_any, range_with_len}
+use Rattle.rk_cluster.proofs.Words.{◌≡◌, ◌≤◌, ◌<◌, ℕ, zero, suc, ◌+◌, Bool, true, false, ◌&&◌, ◌||◌, cond, List, [], ◌∷◌, ◌++◌, filter}
+use Rattle.rk_cluster.proofs.Words.{length, slice_get, slice_index_or, take, Option, None, Some, refl, sym, ap, ◌∙◌, arith, list_all}
+use Rattle.rk_cluster.proofs.Words.{range_with_len, take_all, list_all_at, list_all_more, Segments, lane_at, World, new_world, LaneState}
+use Rattle.rk_cluster.proofs.Words.{all_lanes, is_owner, LaneTells, LanesTell}
+use Rattle.std.proofs.Common.{eqb}
+use Rattle.std.specs.List.{list_any}
 use Rattle.std.specs.Option.{option_eq}
-use Rattle.std.proofs.lemmas.List.{take_all}
 use Rattle.std.proofs.lemmas.List.Elements.{filter-append}
-use Rattle.std.proofs.lemmas.List.Folds.{list_all_at, list_all_more, list_any_at, list_any_more}
-use Rattle.rk_outside.specs.Segments.{Segments}
-use Rattle.rk_world.specs.Cluster.{lane_at}
-use Rattle.rk_world.specs.World.{World, new_world}
-use Rattle.rk_lane.specs.LaneState.{LaneState}
-use Rattle.rk_cluster.specs.Looks.{all_lanes, is_owner}
-use Rattle.rk_cluster.specs.Told.{LaneTells, LanesTell}
+use Rattle.std.proofs.lemmas.List.Folds.{list_any_at, list_any_more}
 use Rattle.rk_cluster.proofs.Worlds.{same_count, world_at}
 
 -- one more number

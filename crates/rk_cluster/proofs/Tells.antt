@@ -1,14 +1,7 @@
 -- Where all replicas of a lane tell what they store, they still do after whatever comes to it.
-use Rattle.std.proofs.Common.{◌≡◌, Option, None, Some, Result, Ok, Err, ap, subst}
-use Rattle.rk_world.specs.Backup.{Called}
-use Rattle.rk_world.specs.Calls.{Visited, accept, ask}
-use Rattle.rk_world.specs.Refusals.{refusal}
-use Rattle.rk_world.specs.Replicas.{AllTell}
-use Rattle.rk_world.specs.Runs.{world_visited}
-use Rattle.rk_world.specs.Step.{Stepped, happened, step, stepped_by}
-use Rattle.rk_world.specs.World.{World}
-use Rattle.rk_world.specs.declared.error.StepError.{StepError}
-use Rattle.rk_world.specs.declared.event.Event.{Event}
+use Rattle.rk_cluster.proofs.Words.{◌≡◌, Option, None, Some, Result, Ok, ap, subst, Called, Visited, refusal, AllTell, world_visited}
+use Rattle.rk_cluster.proofs.Words.{Stepped, step, stepped_by, World, StepError, Event}
+use Rattle.rk_world.specs.Step.{happened}
 use Rattle.rk_inv_tablets.proofs.steady.Lanes.{tell_event}
 
 -- an event that was taken

@@ -1,15 +1,8 @@
 -- Tests of lanes, and of the worlds that they stand for.
-use Rattle.std.proofs.Common.{◌≡◌, ◌≤◌, ◌<◌, ◌+◌, ℕ, zero, suc, Bool, true, false, ◌&&◌, List, [], ◌∷◌, All, length, take, slice_get, slice_index_or, Option, None, Some, IfSome, refl, sym, ap, subst, ◌∙◌}
-use Rattle.std.specs.List.{list_all}
-use Rattle.std.proofs.lemmas.List.{take_all}
-use Rattle.std.proofs.lemmas.List.Elements.{All-head, All-tail}
-use Rattle.std.proofs.lemmas.List.Folds.{list_all_at, list_all_more}
-use Rattle.rk_types.specs.NumberMap.{NumberMap}
-use Rattle.rk_outside.specs.Segments.{Segments}
-use Rattle.rk_world.specs.World.{World}
-use Rattle.rk_lane.specs.LaneState.{LaneState, Running, world_with}
-use Rattle.rk_cluster.specs.State.{AreWorlds, IsWorld}
-use Rattle.rk_cluster.specs.Tests.{HoldsIn, TellsOf}
+use Rattle.rk_cluster.proofs.Words.{◌≡◌, ◌≤◌, ◌<◌, ◌+◌, ℕ, zero, suc, Bool, true, false, ◌&&◌, List, [], ◌∷◌, All, length, take, slice_get}
+use Rattle.rk_cluster.proofs.Words.{slice_index_or, Option, None, Some, IfSome, refl, sym, ap, subst, ◌∙◌, list_all, take_all, All-head}
+use Rattle.rk_cluster.proofs.Words.{All-tail, list_all_at, list_all_more, NumberMap, Segments, World, LaneState, Running, world_with}
+use Rattle.rk_cluster.proofs.Words.{AreWorlds, IsWorld, HoldsIn, TellsOf}
 
 -- ---- lanes
 

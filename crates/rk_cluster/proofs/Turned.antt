@@ -1,32 +1,18 @@
 -- The turns of the nodes of a lane, one after the other.
-use Rattle.std.proofs.Common.{◌≡◌, ◌<◌, ◌≤◌, ◌+◌, ◌++◌, ℕ, List, [], ◌∷◌, All, drop, length, map, slice_get, slice_index_or, Option, None, Some, IfSome, refl, sym, ap, subst, ◌∙◌, append-nil, append_assoc}
-use Rattle.std.proofs.lemmas.List.{map-append}
-use Rattle.std.proofs.lemmas.List.Elements.{All-weaker}
-use Rattle.std.specs.List.{flat_map}
-use Rattle.rk_types.specs.NumberMap.{NumberMap}
+use Rattle.rk_cluster.proofs.Words.{◌≡◌, ◌<◌, ◌+◌, ◌++◌, ℕ, List, [], ◌∷◌, All, length, map, slice_get, slice_index_or, Option, None, Some}
+use Rattle.rk_cluster.proofs.Words.{IfSome, refl, sym, ap, subst, ◌∙◌, append-nil, All-weaker, flat_map, NumberMap, Segments, Session, Asks}
+use Rattle.rk_cluster.proofs.Words.{Cluster, Occurrence, lane_at, World, live_masters, new_world, LaneState, Running, world_with, all_acted}
+use Rattle.rk_cluster.proofs.Words.{Acts, ActsBy, ActsOne, AreCutShort, Carries, CutShortBy, IsActedAs, CountsGoOn, asks_in, in_lane}
+use Rattle.rk_cluster.proofs.Words.{turn_makes, backup_counts, ClusterState, IsOf, IsWorld, AreLanes, CarriesSteps, EndsWorn, MayAllAct}
+use Rattle.rk_cluster.proofs.Words.{StepsEndWorn, occurrences, state_of, clients_in, live_in, turns_of, HasSession, all_ask, Deed}
 use Rattle.rk_types.specs.declared.node.Node.TheVariants as nodes
-use Rattle.rk_outside.specs.Segments.{Segments}
-use Rattle.rk_world.specs.Client.{Session}
-use Rattle.rk_world.specs.Cluster.{Asks, Cluster, Occurrence, lane_at}
-use Rattle.rk_world.specs.World.{World, live_masters, new_world}
 use Rattle.rk_world.specs.declared.event.Event.TheVariants as events
-use Rattle.rk_lane.specs.LaneState.{LaneState, Running, world_with}
-use Rattle.rk_cluster.specs.Acted.{all_acted}
-use Rattle.rk_cluster.specs.Effects.{Acts, ActsBy, ActsOne, AreCutShort, Carries, CutShortBy, IsActedAs}
-use Rattle.rk_cluster.specs.Faults.{CountsGoOn}
-use Rattle.rk_cluster.specs.Makes.{asks_in, in_lane, turn_makes}
-use Rattle.rk_cluster.specs.Masters.{backup_counts}
-use Rattle.rk_cluster.specs.Spending.{IsShortOf}
-use Rattle.rk_cluster.specs.State.{ClusterState, IsOf, IsWorld}
-use Rattle.rk_cluster.specs.Steps.{AreLanes, CarriesSteps, EndsWorn, MayAllAct, StepsEndWorn, occurrences, state_of}
-use Rattle.rk_cluster.specs.Turns.{clients_in, live_in, turns_of}
-use Rattle.rk_cluster.specs.Visits.{HasSession, all_ask}
-use Rattle.rk_cluster.specs.declared.steps.Deed.{Deed}
-use Rattle.rk_cluster.proofs.Carrying.{carries_all, carries_one, carries_worn, none_acts}
+use Rattle.rk_cluster.proofs.Carrying.{none_acts}
 use Rattle.rk_cluster.proofs.Faults.{lanes_same, lanes_then}
-use Rattle.rk_cluster.proofs.Shortage.{came_short, carries_then, made_short}
+use Rattle.rk_cluster.proofs.Shortage.{made_short}
 use Rattle.rk_cluster.proofs.Takers.{all_ask_is, turns_are}
-use Rattle.rk_cluster.proofs.Worlds.{drop_next, drop_past, world_at}
+use Rattle.rk_cluster.proofs.Worlds.{world_at}
+use Rattle.rk_cluster.proofs.Parts.{HaveCome, come_none, come_one}
 
 -- what the coordinator and the masters that live make
 abbrev nodes_make : ℕ → World → List Occurrence
@@ -36,11 +22,7 @@ module _ {R : Type 0} (segments : R → Option Segments) where
   -- ---- clients, some of which have taken their turns
 
   pub record IsAsking (faults : R → ℕ) (start now : ClusterState R) (masters lane : ℕ) (clients : List ℕ) (index : ℕ) : Type 0 where
-    pub carries : Carries segments start now (all_ask lane clients) (all_ask lane (drop index clients))
-    -- those that have taken their turns
-    pub done : List ℕ
-    pub whole : clients ≡ done ++ drop index clients
-    pub came : Carries segments start now (all_ask lane done) []
+    pub came : HaveCome segments (Asks lane) clients start now index
     pub lanes : AreLanes masters 0 now.lanes
     pub count : length now.lanes ≡ length start.lanes
     pub backups : backup_counts now.lanes ≡ backup_counts start.lanes
@@ -51,10 +33,7 @@ module _ {R : Type 0} (segments : R → Option Segments) where
   pub asking_none : (faults : R → ℕ) (start : ClusterState R) (masters lane : ℕ) (clients : List ℕ) → AreLanes masters 0 start.lanes → MayAllAct masters start.sessions
       → All (HasSession start.sessions) clients → IsAsking faults start start masters lane clients 0
   asking_none faults start masters lane clients are act has = record {
-    carries = carries_all segments start (all_ask lane clients);
-    done = [];
-    whole = refl;
-    came = carries_all segments start [];
+    came = come_none segments (Asks lane) clients start;
     lanes = are;
     count = refl;
     backups = refl;
@@ -63,30 +42,13 @@ module _ {R : Type 0} (segments : R → Option Segments) where
     have = has;
   }
 
-  -- the next one comes of what is left
-  asks_next : (start now : ClusterState R) (lane : ℕ) (clients : List ℕ) (index client d : ℕ) → index < length clients → client ≡ slice_index_or clients index d
-      → Carries segments start now (all_ask lane clients) (all_ask lane (drop index clients))
-      → Carries segments start now (all_ask lane clients) (Asks lane client ∷ all_ask lane (drop (index + 1) clients))
-  asks_next start now lane clients index client d within there carries =
-      subst (λ (left : List ℕ). Carries segments start now (all_ask lane clients) (all_ask lane left))
-      (drop_next clients index d within ∙ ap (λ (it : ℕ). it ∷ drop (index + 1) clients) (sym there)) carries
-
-  pub asking_one : (faults : R → ℕ) (start now next : ClusterState R) (masters lane : ℕ) (clients : List ℕ) (index client d : ℕ) → index < length clients → client ≡ slice_index_or clients index d
-      → ActsOne segments now next (Asks lane client) [] None → AreLanes masters 0 next.lanes → length next.lanes ≡ length now.lanes
+  pub asking_one : (faults : R → ℕ) (start now next : ClusterState R) (masters lane : ℕ) (clients : List ℕ) (index d : ℕ) → index < length clients
+      → ActsOne segments now next (Asks lane (slice_index_or clients index d)) [] None → AreLanes masters 0 next.lanes → length next.lanes ≡ length now.lanes
       → backup_counts next.lanes ≡ backup_counts now.lanes → CountsGoOn faults [] now next → MayAllAct masters next.sessions
       → ((other : ℕ) → HasSession now.sessions other → HasSession next.sessions other)
       → IsAsking faults start now masters lane clients index → IsAsking faults start next masters lane clients (index + 1)
-  asking_one faults start now next masters lane clients index client d within there one are same backed on act keeps before = record {
-    carries = carries_one segments start now next (all_ask lane clients) (all_ask lane (drop (index + 1) clients)) (Asks lane client) one
-        (asks_next start now lane clients index client d within there before.carries);
-    done = before.done ++ client ∷ [];
-    whole =
-        before.whole
-        ∙ ap (λ (left : List ℕ). before.done ++ left) (drop_next clients index d within ∙ ap (λ (it : ℕ). it ∷ drop (index + 1) clients) (sym there))
-        ∙ sym (append_assoc before.done (client ∷ []) (drop (index + 1) clients));
-    came =
-        subst (λ (list : List Occurrence). Carries segments start next list []) (sym (map-append (Asks lane) before.done (client ∷ [])))
-        (carries_then segments start now next (all_ask lane before.done) (Asks lane client) before.came one);
+  asking_one faults start now next masters lane clients index d within one are same backed on act keeps before = record {
+    came = come_one segments (Asks lane) clients start now next index d within one before.came;
     lanes = are;
     count = same ∙ before.count;
     backups = backed ∙ before.backups;
@@ -94,26 +56,6 @@ module _ {R : Type 0} (segments : R → Option Segments) where
     acts = act;
     have = All-weaker (HasSession now.sessions) (HasSession next.sessions) keeps clients before.have;
   }
-
-  pub asking_worn : (faults : R → ℕ) (start now next : ClusterState R) (masters lane : ℕ) (clients : List ℕ) (index client d : ℕ) (number : ℕ) → index < length clients
-      → client ≡ slice_index_or clients index d → ActsOne segments now next (Asks lane client) [] (Some number) → IsAsking faults start now masters lane clients index
-      → EndsWorn segments start next (all_ask lane clients) number
-  asking_worn faults start now next masters lane clients index client d number within there one before =
-      carries_worn segments start now next (all_ask lane clients) (all_ask lane (drop (index + 1) clients)) (Asks lane client) number one
-      (asks_next start now lane clients index client d within there before.carries)
-
-  -- memory was wanting for one
-  pub asking_short : (faults : R → ℕ) (start now next : ClusterState R) (masters lane : ℕ) (clients : List ℕ) (index : ℕ) → IsAsking faults start now masters lane clients index
-      → IsShortOf now next → AreCutShort segments start next (all_ask lane clients)
-  asking_short faults start now next masters lane clients index before since =
-      subst (AreCutShort segments start next) (sym (map-append (Asks lane) before.done (drop index clients)) ∙ ap (all_ask lane) (sym before.whole))
-      (came_short segments start now next (all_ask lane before.done) (all_ask lane (drop index clients)) before.came since)
-
-  -- all have
-  pub asking_all : (faults : R → ℕ) (start now : ClusterState R) (masters lane : ℕ) (clients : List ℕ) (index : ℕ) → length clients ≤ index → IsAsking faults start now masters lane clients index
-      → Carries segments start now (all_ask lane clients) []
-  asking_all faults start now masters lane clients index past before =
-      subst (λ (left : List ℕ). Carries segments start now (all_ask lane clients) (all_ask lane left)) (drop_past clients index past) before.carries
 
   -- ---- clients, and the nodes after them
 

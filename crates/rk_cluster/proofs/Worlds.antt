@@ -1,20 +1,15 @@
 -- Lanes and the worlds that they stand for, place by place.
-use Rattle.std.proofs.Common.{◌≡◌, ◌≢◌, ℕ, zero, suc, ◌+◌, ◌<◌, ◌≤◌, List, [], ◌∷◌, All, drop, length, slice_get, slice_set, slice_index_or, Option, Some, refl, sym, ap, subst, ◌∙◌, arith}
-use Rattle.std.proofs.lemmas.List.Elements.{All-head, All-tail}
-use Rattle.rk_outside.specs.Segments.{Segments}
-use Rattle.rk_world.specs.World.{World}
-use Rattle.rk_lane.specs.LaneState.{IsSameLane, LaneState}
-use Rattle.rk_cluster.specs.Masters.{backup_counts}
-use Rattle.rk_cluster.specs.State.{AreWorlds, IsWorld}
-use Rattle.rk_cluster.specs.Steps.{AreLanes}
+use Rattle.std.proofs.Common.{drop-cons, get_or}
+use Rattle.rk_cluster.proofs.Words.{length-set, get_or-set_same, set-get_or, slice_get_within, ◌≡◌, ◌≢◌, ℕ, zero, suc, ◌+◌, ◌<◌, List, []}
+use Rattle.rk_cluster.proofs.Words.{◌∷◌, All, drop, length, slice_get, slice_set, slice_index_or, Option, Some, refl, sym, ap, subst, ◌∙◌}
+use Rattle.rk_cluster.proofs.Words.{arith, Segments, World, IsSameLane, LaneState, backup_counts, AreWorlds, IsWorld, AreLanes}
+use Rattle.std.proofs.lemmas.Option.{get_or_from_slice_get, slice_get-get_or}
 
 -- ---- lists
 
 -- what is put where it stands already changes nothing
 pub set_there : {X : Type 0} (xs : List X) (place : ℕ) (x : X) → slice_get xs place ≡ Some x → slice_set xs place x ≡ xs
-set_there [] place x there = refl
-set_there (y ∷ ys) zero x there = let same : y ≡ x = cc there in ap (λ first. first ∷ ys) (sym same)
-set_there (y ∷ ys) (suc place) x there = ap (λ rest. y ∷ rest) (set_there ys place x there)
+set_there xs place x there = ap (slice_set xs place) (sym (get_or_from_slice_get xs place x x there)) ∙ set-get_or xs place x
 
 -- and leaves what stands at other places
 pub set_beside : {X : Type 0} (xs : List X) (place : ℕ) (x : X) (other : ℕ) → other ≢ place → slice_get (slice_set xs place x) other ≡ slice_get xs other
@@ -24,39 +19,31 @@ set_beside (y ∷ ys) zero x (suc other) apart = refl
 set_beside (y ∷ ys) (suc place) x zero apart = refl
 set_beside (y ∷ ys) (suc place) x (suc other) apart = set_beside ys place x other (λ same. apart (ap suc same))
 
+-- what is put at a place stands there
+pub set_here : {X : Type 0} (xs : List X) (place : ℕ) (x : X) → place < length xs → slice_get (slice_set xs place x) place ≡ Some x
+set_here xs place x within =
+    slice_get-get_or (slice_set xs place x) place x (omega (arith, within, length-set xs place x)) ∙ ap Some (get_or-set_same xs place x x within)
+
 -- what holds of each element holds of one that stands there
 pub all_at : {X : Type 0} (Holds : X → Type 0) (xs : List X) (place : ℕ) (x : X) → slice_get xs place ≡ Some x → All Holds xs → Holds x
-all_at Holds [] place x there all = absurd (cc there)
-all_at Holds (y ∷ ys) zero x there all = let same : y ≡ x = cc there in subst Holds same (All-head Holds y ys all)
-all_at Holds (y ∷ ys) (suc place) x there all = all_at Holds ys place x there (All-tail Holds y ys all)
+all_at Holds xs place x there all = subst Holds (get_or_from_slice_get xs place x x there) (all place x (slice_get_within xs place x there))
 
 -- within a list something stands
 pub something_within : {X : Type 0} (xs : List X) (place : ℕ) → place < length xs → (x : X) × (slice_get xs place ≡ Some x)
 something_within [] place within = absurd (omega (arith, within))
-something_within (x ∷ xs) zero within = (x, refl)
-something_within (x ∷ xs) (suc place) within = something_within xs place (omega (arith, within))
+something_within (x ∷ xs) place within = (get_or (x ∷ xs) place x, slice_get-get_or (x ∷ xs) place x within)
 
 pub there_within : {X : Type 0} (xs : List X) (place : ℕ) (d : X) → place < length xs → slice_get xs place ≡ Some (slice_index_or xs place d)
-there_within [] place d within = absurd (omega (arith, within))
-there_within (x ∷ xs) zero d within = refl
-there_within (x ∷ xs) (suc place) d within = there_within xs place d (omega (arith, within))
+there_within xs place d within = slice_get-get_or xs place d within
 
 pub there_read : {X : Type 0} (xs : List X) (place : ℕ) (x : X) → place < length xs → x ≡ slice_index_or xs place x → slice_get xs place ≡ Some x
 there_read xs place x within read = there_within xs place x within ∙ ap Some (sym read)
 
 -- what is left of a list begins with the next element
 pub drop_next : {X : Type 0} (xs : List X) (place : ℕ) (d : X) → place < length xs → drop place xs ≡ slice_index_or xs place d ∷ drop (place + 1) xs
-drop_next [] place d within = absurd (omega (arith, within))
-drop_next (x ∷ xs) zero d within = refl
-drop_next (x ∷ xs) (suc place) d within =
-    drop_next xs place d (omega (arith, within)) ∙ (let next : suc (place + 1) ≡ suc place + 1 = omega arith in ap (λ (n : ℕ). slice_index_or xs place d ∷ drop n (x ∷ xs)) next)
-
--- nothing is left of it in the end
-pub drop_past : {X : Type 0} (xs : List X) (place : ℕ) → length xs ≤ place → drop place xs ≡ []
-drop_past [] zero past = refl
-drop_past [] (suc place) past = refl
-drop_past (x ∷ xs) zero past = absurd (omega (arith, past))
-drop_past (x ∷ xs) (suc place) past = drop_past xs place (omega (arith, past))
+drop_next xs place d within =
+    let next : suc place ≡ place + 1 = omega arith in
+    drop-cons xs place d within ∙ ap (λ (n : ℕ). slice_index_or xs place d ∷ drop n xs) next
 
 -- ---- worlds
 

@@ -1,6 +1,5 @@
 -- Which status a drive may end with, and why.
-use Rattle.std.proofs.Common.{◌≡◌, ◌≤◌, ℕ, refl, subst, arith}
-use Rattle.rk_types.specs.declared.status.Status.{Status}
+use Rattle.rk_conclude.proofs.Words.{◌≡◌, ◌≤◌, ℕ, refl, subst, arith, Status}
 use Rattle.rk_types.specs.declared.status.Status.TheVariants as statuses
 use Rattle.rk_outside.specs.Faults.{Rose}
 use Rattle.rk_conclude.specs.Concluded.{HasSinkCause, MayEnd}

@@ -1,12 +1,8 @@
 -- What the ledgers of lanes in code have is what those of the cluster have that they stand for.
-use Rattle.std.proofs.Common.{◌≡◌, ◌+◌, ℕ, List, [], ◌∷◌, Option, map, refl, sym, ap, ◌∙◌}
-use Rattle.std.specs.List.{sum_by}
+use Rattle.rk_conclude.proofs.Words.{◌≡◌, ℕ, List, [], ◌∷◌, Option, map, refl, sym, ap, ◌∙◌, sum_by, Segments, Ledger, World, LaneState}
+use Rattle.rk_conclude.proofs.Words.{AreWorlds}
+use Rattle.std.proofs.Common.{◌+◌}
 use Rattle.std.proofs.lemmas.List.Sums.{sum_by-cons}
-use Rattle.rk_outside.specs.Segments.{Segments}
-use Rattle.rk_world.specs.Ledger.{Ledger}
-use Rattle.rk_world.specs.World.{World}
-use Rattle.rk_lane.specs.LaneState.{LaneState}
-use Rattle.rk_cluster.specs.State.{AreWorlds}
 
 module _ {R : Type 0} (segments : R → Option Segments) where
   pub same_in_each : {A : Type 0} (look : Ledger → A) (lanes : List (LaneState R)) (worlds : List World) → AreWorlds segments lanes worlds

@@ -1,12 +1,10 @@
 -- The master that owns the tablet of a drive in all lanes, as lanes in code tell it.
-use Rattle.std.proofs.Common.{◌≡◌, ℕ, Bool, cond, List, [], ◌∷◌, Option, Some, None, slice_get, refl, ap, subst, ◌∙◌}
-use Rattle.std.specs.List.{list_all}
-use Rattle.rk_outside.specs.Segments.{Segments}
-use Rattle.rk_world.specs.World.{World}
-use Rattle.rk_lane.specs.LaneState.{LaneState}
-use Rattle.rk_cluster.specs.State.{AreWorlds, IsWorld}
-use Rattle.rk_cluster.specs.Told.{LaneTells, LanesTell}
-use Rattle.rk_conclude.specs.Results.{is_owner, one_owner, owner_at, owner_in_all}
+use Rattle.rk_conclude.proofs.Words.{◌≡◌, ℕ, Bool, List, [], ◌∷◌, Option, Some, None, slice_get, refl, ap, subst, ◌∙◌, list_all, Segments}
+use Rattle.rk_conclude.proofs.Words.{World, LaneState, AreWorlds, LanesTell, is_owner, owner_at}
+use Rattle.std.proofs.Common.{cond}
+use Rattle.rk_cluster.specs.State.{IsWorld}
+use Rattle.rk_cluster.specs.Told.{LaneTells}
+use Rattle.rk_conclude.specs.Results.{one_owner, owner_in_all}
 
 module _ {R : Type 0} (segments : R → Option Segments) where
   -- where no lane is there

@@ -1,17 +1,11 @@
 -- How the text of a drive and its status are put together, and what is written of them.
-use Rattle.std.proofs.Common.{◌≡◌, ℕ, Bool, List, [], ◌++◌, Option, None, Some, refl, sym, ap, subst, ◌∙◌}
-use Rattle.std.specs.Io.KnownBytes.{Appends}
-use Rattle.rk_types.specs.declared.history.Placed.{Placed}
-use Rattle.rk_types.specs.declared.history.Receipt.{Receipt}
-use Rattle.rk_types.specs.declared.status.Status.{Status}
+use Rattle.rk_conclude.proofs.Words.{◌≡◌, ℕ, Bool, List, [], ◌++◌, Option, None, Some, sym, ap, subst, ◌∙◌, Appends, Placed, Receipt}
+use Rattle.rk_conclude.proofs.Words.{Status, AppendsPart, Cluster, receipts_in, result_lines, WritesReport, Audits, audit_line}
+use Rattle.rk_conclude.proofs.Words.{audit_status, history_part}
 use Rattle.rk_types.specs.declared.status.Status.TheVariants as statuses
-use Rattle.rk_outside.specs.Parts.{AppendsPart}
-use Rattle.rk_world.specs.Cluster.{Cluster, journals_of}
-use Rattle.rk_laws_gathered.specs.Sessions.{receipts_in}
-use Rattle.rk_workload.specs.Summary.{result_lines}
+use Rattle.rk_world.specs.Cluster.{journals_of}
 use Rattle.rk_workload.specs.declared.summary.Summary.{Summary}
-use Rattle.rk_conclude.specs.Concluded.{WritesReport}
-use Rattle.rk_conclude.specs.Reports.{Audits, IsReport, audit_line, audit_status, history_part}
+use Rattle.rk_conclude.specs.Reports.{IsReport}
 use Rattle.rk_conclude.specs.Results.{summary_of}
 
 -- what is added to nothing, part by part

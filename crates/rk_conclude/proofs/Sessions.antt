@@ -1,12 +1,8 @@
 -- Sessions under their clients.
-use Rattle.std.proofs.Common.{◌≡◌, ℕ, List, [], ◌∷◌, All, fold, Some}
+use Rattle.rk_conclude.proofs.Words.{ℕ, List, [], ◌∷◌, All, fold, NumberMap, Session, MayAllAct, by_client, with_session}
 use Rattle.std.proofs.lemmas.List.Elements.{All-head, All-tail}
-use Rattle.rk_types.specs.NumberMap.{NumberMap}
 use Rattle.rk_types.proofs.NumberMaps.{each_insert}
-use Rattle.rk_world.specs.Client.{Session}
 use Rattle.rk_world.specs.Premises.{MayAct}
-use Rattle.rk_cluster.specs.Steps.{MayAllAct}
-use Rattle.rk_conclude.specs.Results.{by_client, with_session}
 
 -- some sessions may act in lanes, and then these may beside them
 all_may : (masters : ℕ) (sessions : List Session) (before : NumberMap Session) → MayAllAct masters before → All (MayAct masters) sessions

@@ -1,21 +1,13 @@
 -- How a drive ends, by how its settling came out.
-use Rattle.std.proofs.Common.{◌≡◌, ℕ, Bool, List, Option, None, Some, refl}
-use Rattle.rk_types.specs.declared.history.Receipt.{Receipt}
+use Rattle.rk_conclude.proofs.Words.{◌≡◌, ℕ, Bool, List, Option, None, Some, refl, Receipt, Status, Segments, Cluster, ClusterState, IsOf}
+use Rattle.rk_conclude.proofs.Words.{EndsSo, WritesReport, audit_status}
 use Rattle.rk_types.specs.declared.node.Said.{Said}
-use Rattle.rk_types.specs.declared.status.Status.{Status}
 use Rattle.rk_types.specs.declared.status.Status.TheVariants as statuses
-use Rattle.rk_outside.specs.Segments.{Segments}
-use Rattle.rk_types.specs.NumberMap.{NumberMap}
-use Rattle.rk_world.specs.Client.{Session}
-use Rattle.rk_world.specs.Cluster.{Cluster}
-use Rattle.rk_lane.specs.LaneState.{LaneState}
-use Rattle.rk_cluster.specs.State.{ClusterState, IsOf}
 use Rattle.rk_settle.specs.Outcomes.{Ends, Fails, StopsBefore}
 use Rattle.rk_settle.specs.Settle.{settle}
 use Rattle.rk_settle.specs.declared.error.SettleError.{SettleError}
 use Rattle.rk_settle.specs.declared.error.SettleError.TheVariants as errors
-use Rattle.rk_conclude.specs.Concluded.{ComesToRest, EndsSo, StopsFor, WritesReport, settling, stop_status}
-use Rattle.rk_conclude.specs.Reports.{audit_status}
+use Rattle.rk_conclude.specs.Concluded.{ComesToRest, StopsFor, settling, stop_status}
 
 -- clusters in code with the same lanes and the same sessions are one
 pub same_state : {R : Type 0} (a b : ClusterState R) → a.lanes ≡ b.lanes → a.sessions ≡ b.sessions → a ≡ b

@@ -1,18 +1,13 @@
 -- The first receipt of some sessions that no record bears out.
-use Rattle.std.proofs.Common.{◌≡◌, ℕ, zero, suc, ◌<◌, ◌≤◌, List, [], ◌∷◌, ◌++◌, All, Bor, Option, Some, None, drop, length, slice_get, take, refl, sym, ap, subst, ◌∙◌, append_assoc, append-nil}
-use Rattle.std.specs.Option.{option_copied}
-use Rattle.std.specs.Slice.{IsItemAt}
+use Rattle.rk_conclude.proofs.Words.{◌≡◌, ℕ, List, [], ◌∷◌, ◌++◌, All, Bor, Option, Some, None, slice_get, take, sym, ap, subst, ◌∙◌}
+use Rattle.rk_conclude.proofs.Words.{append_assoc, append-nil, option_copied, IsItemAt, NumberMap, Placed, Receipt, IsRecorded, Session}
+use Rattle.rk_conclude.proofs.Words.{receipts_in, Audits}
+use Rattle.std.proofs.Common.{zero, suc, drop}
 use Rattle.std.proofs.lemmas.List.Elements.{All-append}
 use Rattle.std.proofs.lemmas.Option.{slice_get-get_or, slice_get_past}
-use Rattle.rk_types.specs.NumberMap.{NumberMap}
-use Rattle.rk_types.specs.declared.history.Placed.{Placed}
-use Rattle.rk_types.specs.declared.history.Receipt.{Receipt}
-use Rattle.rk_model.specs.Ordered.{IsRecorded}
 use Rattle.rk_history.specs.Audit.{IsFirstWrong as IsWrongAt}
 use Rattle.rk_history.specs.declared.auditing.Disagree.{Disagree}
-use Rattle.rk_world.specs.Client.{Session}
-use Rattle.rk_laws_gathered.specs.Sessions.{receipts_in}
-use Rattle.rk_conclude.specs.Reports.{Audits, IsFirstWrong}
+use Rattle.rk_conclude.specs.Reports.{IsFirstWrong}
 
 -- what is lent of a list at a place stands there
 pub lent_at : {X : Type 0} (xs : List X) (place : ℕ) (lent : Option (Bor X)) → IsItemAt xs place lent → option_copied lent ≡ slice_get xs place

@@ -1,5 +1,5 @@
 -- The results of a drive whose cluster has come to rest.
-use Rattle.std.specs.Prelude.{ℕ, ◌-◌, ◌^◌, ◌==◌, Bool, false, if◌then◌else◌, List, [], ◌∷◌, fold, length, map, min, Option, Some, None}
+use Rattle.std.specs.Prelude.{ℕ, ◌-◌, ◌^◌, ◌==◌, Bool, false, if◌then◌else◌, List, [], ◌∷◌, fold, length, min, Option, Some, None}
 use Rattle.std.specs.List.{list_all}
 use Rattle.rk_types.specs.NumberMap.{NumberMap, insert}
 use Rattle.rk_tablet_map.specs.Rows.{row_of}

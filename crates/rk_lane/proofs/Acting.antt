@@ -1,19 +1,16 @@
 -- A session that may act still may after its turn, also where that is not told in the lane, and after an answer.
-use Rattle.std.proofs.Common.{◌≡◌, ◌==◌, ℕ, Bool, true, false, cond, not, [], length, filter, All, Option, None, Some, IfOk, OnErr, Result, Ok, Err, ⊎_elim, sym, subst, ◌∙◌}
-use Rattle.std.proofs.lemmas.List.Elements.{All-filter, All-nil, All-set}
-use Rattle.rk_types.specs.declared.call.Call.{Call}
-use Rattle.rk_message.specs.declared.calls.Located.{Located}
+use Rattle.rk_lane.proofs.Words.{◌≡◌, ◌==◌, ℕ, Bool, true, false, cond, not, [], length, filter, All, Option, None, Some, IfOk, Result, Ok}
+use Rattle.rk_lane.proofs.Words.{Err, ⊎_elim, sym, subst, ◌∙◌, All-nil, All-set, Call, Located, accept, ask, MOST_REQUESTS, Session}
+use Rattle.rk_lane.proofs.Words.{looking_up, range_of, session_turn, turn_by, turn_of, turn_to, MayAct, StepError, Seen, IsKept, world_of}
+use Rattle.rk_lane.proofs.Words.{IsVisited, Parts}
+use Rattle.std.proofs.Common.{OnErr}
+use Rattle.std.proofs.lemmas.List.Elements.{All-filter}
 use Rattle.rk_session.specs.Turns.{session_after}
-use Rattle.rk_world.specs.Calls.{accept, ask}
-use Rattle.rk_world.specs.Client.{MOST_REQUESTS, Session, call_lane, has_call, looking_up, range_of, ranges_in, session_turn, turn_by, turn_of, turn_to}
-use Rattle.rk_world.specs.Premises.{IsCached, MayAct}
-use Rattle.rk_world.specs.declared.error.StepError.{StepError}
-use Rattle.rk_world.specs.declared.event.Seen.{Seen}
+use Rattle.rk_world.specs.Client.{call_lane, has_call, ranges_in}
+use Rattle.rk_world.specs.Premises.{IsCached}
 use Rattle.rk_inv_wellformed.proofs.lanes.Asks.{formed_accept, formed_ask}
 use Rattle.rk_inv_wellformed.proofs.maps.Lists.{all_at}
-use Rattle.rk_lane.specs.Parts.{IsKept, world_of}
-use Rattle.rk_lane.specs.Visits.{IsVisited, MayHaveTurned}
-use Rattle.rk_lane.specs.declared.parts.Parts.{Parts}
+use Rattle.rk_lane.specs.Visits.{MayHaveTurned}
 use Rattle.rk_lane.proofs.Clients.{after_nothing}
 use Rattle.rk_lane.proofs.Quiet.{masters_counted}
 

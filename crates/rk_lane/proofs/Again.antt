@@ -1,20 +1,10 @@
 -- A client's last request is sent once more.
-use Rattle.std.proofs.Common.{◌≡◌, ℕ, true, List, [], ◌∷◌, Option, Some, None, is_some, refl, sym, ap, ◌∙◌}
-use Rattle.std.specs.Option.{option_or}
+use Rattle.rk_lane.proofs.Words.{◌≡◌, ℕ, true, List, [], ◌∷◌, Option, Some, None, is_some, refl, sym, ap, ◌∙◌, option_or, Vec, NumberMap}
+use Rattle.rk_lane.proofs.Words.{get, Segments, Message, Gave, is_added, fault_of, where_true, happened, sent_again, with_sends, world_of}
+use Rattle.rk_lane.proofs.Words.{IsLastRequest, Parts}
 use Rattle.std.specs.Prelude.{not}
-use Rattle.std.specs.Global.{Vec}
-use Rattle.rk_types.specs.NumberMap.{NumberMap, get}
-use Rattle.rk_outside.specs.Segments.{Segments}
-use Rattle.rk_message.specs.declared.message.Message.{Message}
-use Rattle.rk_world.specs.Backup.{Gave}
-use Rattle.rk_world.specs.Ledger.{is_added}
-use Rattle.rk_world.specs.Refusals.{fault_of, where_true}
-use Rattle.rk_world.specs.Step.{happened, sent_again, with_sends}
 use Rattle.rk_world.specs.declared.error.StepError.TheVariants as errors
 use Rattle.rk_world.specs.declared.event.Event.TheVariants as events
-use Rattle.rk_lane.specs.Parts.{world_of}
-use Rattle.rk_lane.specs.Resending.{IsLastRequest}
-use Rattle.rk_lane.specs.declared.parts.Parts.{Parts}
 
 -- the request that is sent, where there is one
 pub record IsRequestOf (parts : Parts) (client : ℕ) (sends : List Message) : Type 0 where

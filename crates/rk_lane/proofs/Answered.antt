@@ -1,25 +1,21 @@
 -- A backup took a message: what it answered, and what its replica tells then.
-use Rattle.std.proofs.Common.{◌≡◌, ◌≤◌, ◌-◌, ℕ, Bool, false, true, cond, List, [], ◌∷◌, length, Option, None, Some, IfSome, Result, Ok, Err, slice_set, refl, sym, ap, subst, ◌∙◌}
-use Rattle.std.specs.Prelude.{IfErr, IsErrAnd, ⊤}
+use Rattle.rk_lane.proofs.Words.{◌≡◌, ◌≤◌, ◌-◌, ℕ, Bool, false, true, cond, List, [], ◌∷◌, length, Option, None, Some, IfSome, Result, Ok}
+use Rattle.rk_lane.proofs.Words.{Err, refl, sym, ap, subst, ◌∙◌, ⊤, Node, Segments, WhereTold, Lost, number_of, replica_of, BackupLane}
+use Rattle.rk_lane.proofs.Words.{Body, Message, Backed, Called, Appended, Failed, Gave, backup_step, called_by, failing, stored_after}
+use Rattle.rk_lane.proofs.Words.{MayCome, IsBackedAt, IsBackedBy, IsSpared, IsUnanswered, IsUnansweredAt, sending, IsAnswerOf, IsFailed}
+use Rattle.std.proofs.Common.{slice_set}
+use Rattle.std.specs.Prelude.{IfErr, IsErrAnd}
 use Rattle.rk_types.specs.declared.held.TheConstants.{SEGMENT_BYTES}
-use Rattle.rk_types.specs.declared.node.Node.{Node}
 use Rattle.rk_types.specs.declared.node.Node.TheVariants as nodes
 use Rattle.rk_outside.specs.Losses.{HasLossCause}
-use Rattle.rk_outside.specs.Segments.{IsSame, Segments, WhereTold, bytes_of, lengths_of}
-use Rattle.rk_outside.specs.declared.replica.Lost.{Lost}
+use Rattle.rk_outside.specs.Segments.{IsSame, bytes_of, lengths_of}
 use Rattle.rk_outside.specs.declared.replica.Lost.TheVariants as losses
-use Rattle.rk_backup.specs.Lane.{number_of, replica_of}
-use Rattle.rk_backup.specs.declared.lane.BackupLane.{BackupLane}
 use Rattle.rk_backup_node.specs.Called.{IsBacked, IsCopied, IsReadOf, append_called}
-use Rattle.rk_message.specs.declared.message.Body.{Body}
 use Rattle.rk_message.specs.declared.message.Body.TheVariants as bodies
-use Rattle.rk_message.specs.declared.message.Message.{Message}
 use Rattle.rk_message.specs.declared.rebuilding.ReadSegment.{ReadSegment}
 use Rattle.rk_message.specs.declared.replication.Append.{Append}
-use Rattle.rk_world.specs.Backup.{Backed, Called, Appended, Failed, Gave, append_step, append_taken, backup_step, called_by, calls_replica, failing, idle, read_step, stored_after}
-use Rattle.rk_world.specs.Premises.{MayCome}
-use Rattle.rk_lane.specs.Backing.{IsBackedAt, IsBackedBy, IsSpared, IsUnanswered, IsUnansweredAt, IsWithinSegment, sending}
-use Rattle.rk_lane.specs.Events.{IsAnswerOf, IsFailed}
+use Rattle.rk_world.specs.Backup.{append_step, append_taken, calls_replica, idle, read_step}
+use Rattle.rk_lane.specs.Backing.{IsWithinSegment}
 
 -- what was sent was not lost
 sent_not_lost : (sends : List Message) → sending sends ≡ failing → ⊥
@@ -43,9 +39,7 @@ AsksNothing _ _ = ⊤
 -- none but a master asks something
 pub asks_nothing : (from : Node) (body : Body) → ((master : ℕ) → from ≡ nodes.Master master → ⊥) → AsksNothing from body
 asks_nothing (nodes.Master master) body apart = absurd (apart master refl)
-asks_nothing (nodes.Client client) body apart = tt
-asks_nothing nodes.Coordinator body apart = tt
-asks_nothing (nodes.Backup backup) body apart = tt
+asks_nothing _ body apart = tt
 
 -- and it asks something by an Append or a Read alone
 pub asks_neither : (master : ℕ) (body : Body) → ((append : Append) → body ≡ bodies.Append append → ⊥) → ((wanted : ReadSegment) → body ≡ bodies.Read wanted → ⊥)
@@ -54,37 +48,24 @@ asks_neither master (bodies.Append append) other another = absurd (other append 
 asks_neither master (bodies.Read wanted) other another = absurd (another wanted refl)
 asks_neither master _ other another = tt
 
-idle_is : (from : Node) (body : Body) (number : ℕ) (log : ℕ → ℕ → List ℕ) → AsksNothing from body → idle ≡ backup_step number from body log (Gave None)
-idle_is (nodes.Master master) (bodies.Append append) number log asks = absurd asks
-idle_is (nodes.Master master) (bodies.Read wanted) number log asks = absurd asks
-idle_is (nodes.Master master) _ number log asks = refl
-idle_is (nodes.Client client) body number log asks = refl
-idle_is nodes.Coordinator body number log asks = refl
-idle_is (nodes.Backup backup) body number log asks = refl
+-- it answers nothing then, stores what it stored, and calls no replica
+record IsIdle (from : Node) (body : Body) : Type 0 where
+  is : (number : ℕ) (log : ℕ → ℕ → List ℕ) → idle ≡ backup_step number from body log (Gave None)
+  stored : (stored : Segments) → stored ≡ stored_after stored from body (Gave None)
+  called : (stored : Segments) → Gave None ≡ called_by stored from body None
 
-idle_stored : (from : Node) (body : Body) (stored : Segments) → AsksNothing from body → stored ≡ stored_after stored from body (Gave None)
-idle_stored (nodes.Master master) (bodies.Append append) stored asks = absurd asks
-idle_stored (nodes.Master master) (bodies.Read wanted) stored asks = absurd asks
-idle_stored (nodes.Master master) _ stored asks = refl
-idle_stored (nodes.Client client) body stored asks = refl
-idle_stored nodes.Coordinator body stored asks = refl
-idle_stored (nodes.Backup backup) body stored asks = refl
-
-idle_called : (from : Node) (body : Body) (stored : Segments) → AsksNothing from body → Gave None ≡ called_by stored from body None
-idle_called (nodes.Master master) (bodies.Append append) stored asks = absurd asks
-idle_called (nodes.Master master) (bodies.Read wanted) stored asks = absurd asks
-idle_called (nodes.Master master) _ stored asks = refl
-idle_called (nodes.Client client) body stored asks = refl
-idle_called nodes.Coordinator body stored asks = refl
-idle_called (nodes.Backup backup) body stored asks = refl
+idle_at : (from : Node) (body : Body) → AsksNothing from body → IsIdle from body
+idle_at (nodes.Master master) (bodies.Append append) asks = absurd asks
+idle_at (nodes.Master master) (bodies.Read wanted) asks = absurd asks
+idle_at _ _ asks = record { is = λ number log. refl; stored = λ stored. refl; called = λ stored. refl }
 
 idle_told : (from : Node) (body : Body) (told : Option Segments) → AsksNothing from body → WhereTold (λ before now. now ≡ stored_after before from body (Gave None)) told told
 idle_told from body None asks = tt
-idle_told from body (Some stored) asks = idle_stored from body stored asks
+idle_told from body (Some stored) asks = (idle_at from body asks).stored stored
 
 idle_given : (from : Node) (body : Body) (told : Option Segments) → AsksNothing from body → IfSome told (λ stored. IsAnswerOf (called_by stored from body) (Gave None))
 idle_given from body None asks = tt
-idle_given from body (Some stored) asks = record { fine = λ fine. idle_called from body stored asks; failed = λ failed. absurd failed }
+idle_given from body (Some stored) asks = record { fine = λ fine. (idle_at from body asks).called stored; failed = λ failed. absurd failed }
 
 -- it is as it was
 pub idle_backed : {R : Type 0} (segments : R → Option Segments) (faults : R → ℕ) (it : BackupLane R) (from : Node) (body : Body) (log : ℕ → ℕ → List ℕ) (sends : List Message)
@@ -92,7 +73,7 @@ pub idle_backed : {R : Type 0} (segments : R → Option Segments) (faults : R �
 idle_backed segments faults it from body log sends asks none = record {
   called = Gave None;
   may = tt;
-  answer = ap sending none ∙ idle_is from body (number_of it) log asks;
+  answer = ap sending none ∙ (idle_at from body asks).is (number_of it) log;
   told = idle_told from body (segments (replica_of it)) asks;
   given = idle_given from body (segments (replica_of it)) asks;
   number = refl;

@@ -1,17 +1,7 @@
 -- A world once its messages are sent: its greatest number.
-use Rattle.std.proofs.Common.{◌≡◌, ◌≤◌, ℕ, List, [], All, sym, ap, ◌∙◌, arith}
-use Rattle.rk_types.specs.NumberMap.{NumberMap}
-use Rattle.rk_outside.specs.Segments.{Segments}
-use Rattle.rk_message.specs.Wire.{Traffic}
-use Rattle.rk_message.specs.declared.message.Message.{Message}
-use Rattle.rk_world.specs.Journal.{last_stamp}
-use Rattle.rk_world.specs.Step.{with_sends}
-use Rattle.rk_world.specs.World.{World, counters_of, with_all_sent, with_top}
-use Rattle.rk_world.specs.declared.event.Seen.{Seen}
-use Rattle.rk_inv_wellformed.proofs.room.Rises.{KeepsTo, keeps_to_more}
-use Rattle.rk_lane.specs.Finished.{IsFinished}
-use Rattle.rk_lane.specs.Parts.{masters_from, world_of}
-use Rattle.rk_lane.specs.declared.parts.Parts.{Parts}
+use Rattle.rk_lane.proofs.Words.{◌≡◌, ◌≤◌, ℕ, List, [], All, sym, ap, ◌∙◌, arith, NumberMap, Segments, Traffic, Message, last_stamp}
+use Rattle.rk_lane.proofs.Words.{with_sends, World, counters_of, with_all_sent, with_top, Seen, KeepsTo, keeps_to_more, IsFinished}
+use Rattle.rk_lane.proofs.Words.{masters_from, world_of, Parts}
 use Rattle.rk_lane.proofs.Topped.{keeps_once_topped, topped}
 
 -- the numbers that a node's work may raise keep to a limit

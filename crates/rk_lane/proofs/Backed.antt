@@ -1,42 +1,21 @@
 -- A message reaches a backup: what the event makes of the parts of a lane and of its backups.
-use Rattle.std.proofs.Common.{◌≡◌, ◌≤◌, ◌<◌, ◌+◌, ◌-◌, ◌&&◌, ℕ, zero, suc, true, cond, inl, inr, List, [], ◌∷◌, length, slice_get, Option, None, Some, IfSome, is_some, refl, sym, ap, subst, ◌∙◌, arith}
-use Rattle.std.specs.Option.{option_map}
-use Rattle.std.specs.Prelude.{unwrap_or}
+use Rattle.rk_lane.proofs.Words.{◌≡◌, ◌≤◌, ◌<◌, ◌+◌, ◌-◌, ◌&&◌, ℕ, zero, suc, true, cond, inr, List, [], ◌∷◌, length, slice_get, Option}
+use Rattle.rk_lane.proofs.Words.{None, Some, IfSome, is_some, refl, sym, ap, subst, ◌∙◌, arith, option_map, unwrap_or, length-set}
+use Rattle.rk_lane.proofs.Words.{NumberMap, get, Node, Segments, number_of, replica_of, BackupLane, receiver_of, Body, Message, Backed}
+use Rattle.rk_lane.proofs.Words.{Called, Appended, Failed, Gave, backup_step, called_by, failing, no_segments, stored_after, IsFormedBody}
+use Rattle.rk_lane.proofs.Words.{IsThere, Limits, limits_of, Master, refusal, AllTell, Stepped, backed_at, happened, log_bytes_of, quietly}
+use Rattle.rk_lane.proofs.Words.{told_by_replica, told_for, told_to, with_sends, is_backup, with_stored_by, StepError, Seen, keeps_to_top}
+use Rattle.rk_lane.proofs.Words.{CanBeAnswered, IsBackedBy, IsLogOf, IsSpared, sending, IsAnswerOf, IsFailed, IsCutBack, IsFinished}
+use Rattle.rk_lane.proofs.Words.{IsHappened, IsUnhappened, AreNumbered, AreTold, IsTold, IsReady, IsSameParts, IsKept, world_of}
+use Rattle.rk_lane.proofs.Words.{IsFitToSend, Parts}
+use Rattle.std.proofs.Common.{inl}
 use Rattle.std.proofs.lemmas.Bool.{le-leb}
-use Rattle.std.proofs.lemmas.List.{length-set}
-use Rattle.rk_types.specs.NumberMap.{NumberMap, get}
-use Rattle.rk_types.specs.declared.node.Node.{Node}
 use Rattle.rk_types.specs.declared.node.Node.TheVariants as nodes
 use Rattle.rk_log.specs.Log.{bytes_of}
-use Rattle.rk_outside.specs.Segments.{Segments}
-use Rattle.rk_backup.specs.Lane.{number_of, replica_of}
-use Rattle.rk_backup.specs.declared.lane.BackupLane.{BackupLane}
-use Rattle.rk_message.specs.Wire.{receiver_of}
-use Rattle.rk_message.specs.declared.message.Body.{Body}
 use Rattle.rk_message.specs.declared.message.Body.TheVariants as bodies
-use Rattle.rk_message.specs.declared.message.Message.{Message}
-use Rattle.rk_world.specs.Backup.{Backed, Called, Appended, Failed, Gave, backup_step, called_by, failing, no_segments, stored_after}
-use Rattle.rk_world.specs.Limits.{IsFormedBody, IsThere, Limits, limits_of}
-use Rattle.rk_world.specs.Master.{Master}
-use Rattle.rk_world.specs.Refusals.{refusal}
-use Rattle.rk_world.specs.Replicas.{AllTell}
-use Rattle.rk_world.specs.Step.{Stepped, backed_at, happened, log_bytes_of, quietly, told_by_replica, told_for, told_to, with_sends}
-use Rattle.rk_world.specs.World.{is_backup, with_stored_by}
-use Rattle.rk_world.specs.declared.error.StepError.{StepError}
 use Rattle.rk_world.specs.declared.error.StepError.TheVariants as errors
 use Rattle.rk_world.specs.declared.event.Event.TheVariants as events
-use Rattle.rk_world.specs.declared.event.Seen.{Seen}
-use Rattle.rk_inv_wellformed.proofs.room.Rises.{keeps_to_top}
-use Rattle.rk_lane.specs.Backing.{CanBeAnswered, IsBackedBy, IsLogOf, IsSpared, sending}
-use Rattle.rk_lane.specs.Events.{HasCause, IsAnswerOf, IsFailed}
-use Rattle.rk_lane.specs.Finished.{IsCutBack, IsFinished}
-use Rattle.rk_lane.specs.Happened.{IsHappened, IsUnhappened}
-use Rattle.rk_lane.specs.Lane.{AreNumbered}
-use Rattle.rk_lane.specs.LaneState.{AreTold, IsTold}
-use Rattle.rk_lane.specs.Made.{IsReady, IsSameParts}
-use Rattle.rk_lane.specs.Parts.{IsKept, world_of}
-use Rattle.rk_lane.specs.Sends.{IsFitToSend}
-use Rattle.rk_lane.specs.declared.parts.Parts.{Parts}
+use Rattle.rk_lane.specs.Events.{HasCause}
 use Rattle.rk_lane.proofs.AtEnd.{sends_made}
 use Rattle.rk_lane.proofs.Coordinated.{delivered_is, delivery_allowed, received}
 use Rattle.rk_lane.proofs.Journals.{cut_to, grown_by_none}

@@ -1,37 +1,14 @@
 -- Events that change the coordinator and a master, and send nothing.
-use Rattle.std.proofs.Common.{◌≡◌, ◌≤◌, ◌<◌, ◌-◌, ℕ, max, List, [], length, set, All, Option, Some, None, IsSome, refl, sym, ap, subst, ◌∙◌, arith}
-use Rattle.std.specs.List.{sum_by}
-use Rattle.std.proofs.lemmas.List.{length-set}
-use Rattle.std.proofs.lemmas.List.Elements.{All-map, All-set, All-weaker}
-use Rattle.std.proofs.lemmas.List.Sums.{sum-map}
-use Rattle.rk_types.proofs.NumberMaps.{each_insert}
-use Rattle.rk_types.specs.NumberMap.{EachIn, NumberMap, get, insert}
-use Rattle.rk_outside.specs.Segments.{Segments}
-use Rattle.rk_world.specs.Backup.{Gave}
-use Rattle.rk_world.specs.Master.{Master, log_bytes}
-use Rattle.rk_world.specs.Premises.{IsMaster}
-use Rattle.rk_world.specs.Refusals.{fault_of}
-use Rattle.rk_world.specs.Room.{HasRoomIn, MOST_BYTES}
-use Rattle.rk_world.specs.Step.{happened}
-use Rattle.rk_world.specs.World.{World, bytes_of_logs, counters_of, greatest, with_coordinator, with_master, with_top}
-use Rattle.rk_world.specs.declared.event.Event.{Event}
-use Rattle.rk_world.specs.declared.event.Seen.{Seen}
-use Rattle.rk_inv_wellformed.proofs.maps.Bounds.{all_in_map, below_greatest, greatest_within}
-use Rattle.rk_inv_wellformed.proofs.maps.MapSums.{size_found, sum_inserted}
-use Rattle.rk_inv_wellformed.proofs.maps.Numbered.{numbered_order}
-use Rattle.rk_inv_wellformed.proofs.room.Rises.{KeepsTo, all_inserted, keeps_to_more, keeps_to_top}
-use Rattle.rk_lane.specs.Made.{IsMade, IsReady}
-use Rattle.rk_lane.specs.Masters.{IsAt}
-use Rattle.rk_lane.specs.Parts.{masters_from, world_of}
-use Rattle.rk_lane.specs.Working.{IsWeighed}
-use Rattle.rk_lane.specs.declared.parts.Parts.{Parts}
+use Rattle.rk_lane.proofs.Words.{◌≡◌, ◌≤◌, ◌<◌, ◌-◌, ℕ, max, List, [], length, set, All, Option, Some, None, IsSome, refl, sym, ap, subst}
+use Rattle.rk_lane.proofs.Words.{◌∙◌, arith, sum_by, length-set, All-map, All-set, All-weaker, sum-map, each_insert, EachIn, NumberMap, get}
+use Rattle.rk_lane.proofs.Words.{insert, Segments, Gave, Master, log_bytes, IsMaster, fault_of, HasRoomIn, MOST_BYTES, happened, World}
+use Rattle.rk_lane.proofs.Words.{bytes_of_logs, counters_of, greatest, with_coordinator, with_master, with_top, Event, Seen, all_in_map}
+use Rattle.rk_lane.proofs.Words.{below_greatest, greatest_within, size_found, sum_inserted, numbered_order, KeepsTo, all_inserted}
+use Rattle.rk_lane.proofs.Words.{keeps_to_more, keeps_to_top, IsMade, IsReady, IsAt, masters_from, world_of, IsWeighed, Parts, all_before}
+use Rattle.rk_lane.proofs.Words.{terms_of, Coordinator, quietly}
 use Rattle.rk_lane.proofs.Quiet.{quiet_seen}
-use Rattle.rk_inv_wellformed.proofs.maps.Lists.{all_before}
 use Rattle.rk_lane.proofs.Topped.{keeps_once_topped, topped}
-use Rattle.rk_lane.specs.Coordinating.{terms_of}
-use Rattle.rk_world.specs.Coordinator.{Coordinator}
 use Rattle.rk_lane.proofs.MasterWork.{found_at, inserted, set_at_number}
-use Rattle.rk_world.specs.Step.{quietly}
 use Rattle.rk_lane.proofs.Keeping.{formed_then}
 use Rattle.rk_lane.proofs.Refusing.{refused_fresh}
 

@@ -1,42 +1,25 @@
 -- What a client's turn and its answer make of the parts of a lane: the world after it is that of the parts after it, and all is kept.
-use Rattle.std.proofs.Common.{◌≡◌, ◌≤◌, ◌+◌, ℕ, Bool, true, false, cond, max, [], ◌∷◌, All, Option, None, Some, is_some, refl, sym, ap, subst, ◌∙◌, arith}
-use Rattle.std.specs.Prelude.{IfSome, Ok, Result, not, unwrap_or, ◌==◌}
-use Rattle.std.specs.Option.{option_map, option_or}
-use Rattle.std.proofs.lemmas.Bool.{and_parts, eqb-true}
-use Rattle.std.proofs.lemmas.List.Elements.{All-nil}
-use Rattle.rk_types.proofs.NumberMaps.{get_same}
-use Rattle.rk_types.specs.NumberMap.{NumberMap, get}
-use Rattle.rk_types.specs.declared.call.Call.{Call}
-use Rattle.rk_outside.specs.Segments.{Segments}
-use Rattle.rk_message.specs.Wire.{Traffic, with_message}
-use Rattle.rk_message.specs.declared.message.Body.{Body}
+use Rattle.rk_lane.proofs.Words.{◌≡◌, ◌≤◌, ◌+◌, ℕ, Bool, true, false, cond, max, [], ◌∷◌, All, Option, None, Some, is_some, refl, sym, ap}
+use Rattle.rk_lane.proofs.Words.{subst, ◌∙◌, arith, unwrap_or, option_map, option_or, eqb-true, All-nil, get_same, NumberMap, get, Call}
+use Rattle.rk_lane.proofs.Words.{Segments, Traffic, with_message, Body, Message, Visited, accept, ask, is_asked, is_asked_here}
+use Rattle.rk_lane.proofs.Words.{ledger_asked, ledger_requested, ledger_taken, ClientTurn, Session, session_accept, session_turn}
+use Rattle.rk_lane.proofs.Words.{last_stamp, Ledger, asked_by, is_added, seen_of, with_asked, MayAct, accept_refusal, where_true, worn}
+use Rattle.rk_lane.proofs.Words.{IsFormedWithRoom, with_sends, World, with_all_sent, with_ledger, with_top, StepError, Seen, Taken}
+use Rattle.rk_lane.proofs.Words.{LastCall, IsKept, world_of, AreForMasters, IsFitToSend, noted, saved, IsVisited, Parts, all_in_map}
+use Rattle.rk_lane.proofs.Words.{KeepsTo, all_inserted, keeps_to_more, keeps_to_top}
+use Rattle.std.specs.Prelude.{IfSome, Ok, Result, not, ◌==◌}
+use Rattle.std.proofs.lemmas.Bool.{and_parts}
 use Rattle.rk_message.specs.declared.message.Body.TheVariants as bodies
-use Rattle.rk_message.specs.declared.message.Message.{Message}
 use Rattle.rk_world.specs.Base.{no_base}
-use Rattle.rk_world.specs.Calls.{Visited, accept, accept_by, accepting, ask, ask_by, asking, asking_by, fits_by, is_asked, is_asked_here, is_call, is_last, ledger_asked, ledger_requested, ledger_taken, taking, untouched}
-use Rattle.rk_world.specs.Client.{ClientTurn, Session, session_accept, session_turn}
-use Rattle.rk_world.specs.Journal.{is_accepted, last_stamp}
-use Rattle.rk_world.specs.Ledger.{Ledger, asked_by, is_added, seen_of, with_asked}
-use Rattle.rk_world.specs.Premises.{IsAfterStart, MayAct}
-use Rattle.rk_world.specs.Refusals.{accept_refusal, ask_refusal, where_true, worn, worn_session}
-use Rattle.rk_world.specs.Runs.{IsFormedWithRoom, world_visited}
-use Rattle.rk_world.specs.Step.{with_sends}
-use Rattle.rk_world.specs.World.{World, with_all_sent, with_ledger, with_top}
-use Rattle.rk_world.specs.declared.error.StepError.{StepError}
+use Rattle.rk_world.specs.Calls.{accept_by, accepting, ask_by, asking, asking_by, fits_by, is_call, is_last, taking, untouched}
+use Rattle.rk_world.specs.Journal.{is_accepted}
+use Rattle.rk_world.specs.Premises.{IsAfterStart}
+use Rattle.rk_world.specs.Refusals.{ask_refusal, worn_session}
+use Rattle.rk_world.specs.Runs.{world_visited}
 use Rattle.rk_world.specs.declared.error.StepError.TheVariants as errors
-use Rattle.rk_world.specs.declared.event.Seen.{Seen}
-use Rattle.rk_world.specs.declared.event.Taken.{Taken}
 use Rattle.rk_world.specs.declared.event.Taken.TheVariants as takes
-use Rattle.rk_world.specs.declared.ledger.LastCall.{LastCall}
-use Rattle.rk_lane.specs.Parts.{IsKept, world_of}
-use Rattle.rk_lane.specs.Requests.{AreForMasters}
-use Rattle.rk_lane.specs.Sends.{IsFitToSend}
-use Rattle.rk_lane.specs.Visiting.{MayTurn, last_to_note, noted, request_told, saved}
-use Rattle.rk_lane.specs.Visits.{IsVisited}
-use Rattle.rk_lane.specs.declared.parts.Parts.{Parts}
-use Rattle.rk_inv_wellformed.proofs.maps.Bounds.{all_in_map}
+use Rattle.rk_lane.specs.Visiting.{MayTurn, last_to_note, request_told}
 use Rattle.rk_inv_wellformed.proofs.lanes.Happenings.{formed_accepts, formed_asks}
-use Rattle.rk_inv_wellformed.proofs.room.Rises.{KeepsTo, all_inserted, keeps_to_more, keeps_to_top}
 use Rattle.rk_lane.proofs.Requests.{asked_for_masters, requested_for_masters, taken_for_masters, turned_to_master}
 use Rattle.rk_lane.proofs.Sendable.{fit_to_send}
 use Rattle.rk_lane.proofs.Topped.{keeps_once_topped, topped}

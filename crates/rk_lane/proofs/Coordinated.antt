@@ -1,40 +1,19 @@
 -- What the coordinator of a lane makes of a message and of its turn.
-use Rattle.std.proofs.Common.{◌≡◌, ◌≤◌, ◌<◌, ℕ, max, List, [], length, All, Option, Some, None, refl, sym, ap, subst, ◌∙◌, arith}
-use Rattle.rk_types.specs.NumberMap.{EachIn, NumberMap, get}
-use Rattle.rk_world.specs.Room.{HasRoomIn, MOST_BYTES}
-use Rattle.rk_types.specs.declared.node.Node.{Node}
+use Rattle.rk_lane.proofs.Words.{◌≡◌, ◌≤◌, ◌<◌, ℕ, max, List, [], length, All, Option, Some, None, refl, sym, ap, subst, ◌∙◌, arith, EachIn}
+use Rattle.rk_lane.proofs.Words.{NumberMap, get, HasRoomIn, MOST_BYTES, Node, Segments, option_map, Traffic, receiver_of, Message, Called}
+use Rattle.rk_lane.proofs.Words.{Gave, Coordinator, coordinator_step, last_stamp, Ledger, seen_of, fault_of, Stepped, delivered}
+use Rattle.rk_lane.proofs.Words.{delivered_to, happened, with_sends, World, bytes_of_logs, greatest, StepError, Event, Seen, All-map}
+use Rattle.rk_lane.proofs.Words.{All-weaker, below_greatest, greatest_within, all_before, KeepsTo, keeps_to_more, keeps_to_top}
+use Rattle.rk_lane.proofs.Words.{IsCoordinated, terms_of, IsCutBack, IsFinished, IsFault, IsMade, IsReady, masters_from, world_of, Parts}
+use Rattle.rk_lane.proofs.Words.{IsFitToSend}
 use Rattle.rk_types.specs.declared.node.Node.TheVariants as nodes
-use Rattle.rk_outside.specs.Segments.{Segments}
-use Rattle.std.specs.Option.{option_map}
-use Rattle.rk_message.specs.Wire.{Traffic, receiver_of}
-use Rattle.rk_message.specs.declared.message.Message.{Message}
-use Rattle.rk_world.specs.Backup.{Called, Gave}
-use Rattle.rk_world.specs.Coordinator.{Coordinator}
-use Rattle.rk_world.specs.CoordinatorStep.{coordinator_step}
-use Rattle.rk_world.specs.Journal.{last_stamp}
-use Rattle.rk_world.specs.Ledger.{Ledger, seen_of}
-use Rattle.rk_world.specs.Refusals.{delivery_fault, fault_of}
-use Rattle.rk_world.specs.Step.{Stepped, delivered, delivered_to, happened, with_sends}
-use Rattle.rk_world.specs.World.{World, bytes_of_logs, greatest}
+use Rattle.rk_world.specs.Refusals.{delivery_fault}
 use Rattle.rk_world.specs.declared.event.Event.TheVariants as events
-use Rattle.rk_world.specs.declared.error.StepError.{StepError}
-use Rattle.rk_world.specs.declared.event.Event.{Event}
-use Rattle.rk_world.specs.declared.event.Seen.{Seen}
-use Rattle.std.proofs.lemmas.List.Elements.{All-map, All-weaker}
-use Rattle.rk_inv_wellformed.proofs.maps.Bounds.{below_greatest, greatest_within}
-use Rattle.rk_inv_wellformed.proofs.maps.Lists.{all_before}
 use Rattle.rk_inv_wellformed.proofs.lanes.Ledgers.{clients_rebuilt}
-use Rattle.rk_inv_wellformed.proofs.room.Rises.{KeepsTo, keeps_to_more, keeps_to_top}
-use Rattle.rk_lane.specs.Coordinating.{IsCoordinated, terms_of}
-use Rattle.rk_lane.specs.Finished.{IsCutBack, IsFinished}
-use Rattle.rk_lane.specs.Made.{IsFault, IsMade, IsReady}
-use Rattle.rk_lane.specs.Parts.{masters_from, world_of}
-use Rattle.rk_lane.specs.declared.parts.Parts.{Parts}
 use Rattle.rk_lane.proofs.AtEnd.{IsReached, sends_made}
 use Rattle.rk_lane.proofs.Journals.{IsGrownFrom, cut_to, grown_by_none, grown_by_rebuilt}
 use Rattle.rk_lane.proofs.Keeping.{Fits, formed_after, kept_still}
 use Rattle.rk_lane.proofs.Refusing.{refused_fresh}
-use Rattle.rk_lane.specs.Sends.{IsFitToSend}
 use Rattle.rk_lane.proofs.Sendable.{fit_to_send}
 
 -- ---- a message that is delivered

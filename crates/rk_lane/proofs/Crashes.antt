@@ -1,11 +1,10 @@
 -- The masters that have crashed: each once, so there is room for one more.
-use Rattle.std.proofs.Common.{◌≡◌, ◌≤◌, ◌<◌, ◌+◌, ◌||◌, ℕ, Bool, true, false, eqb, List, [], ◌∷◌, ◌++◌, length, All, refl, subst, ⊎_elim, arith}
-use Rattle.std.specs.List.{AllByRecursion, IsDistinct, list_any}
-use Rattle.std.proofs.lemmas.Bool.{cases_Bool, eqb-true, ne_eqb}
-use Rattle.std.proofs.lemmas.List.{length-append}
-use Rattle.std.proofs.lemmas.List.Elements.{All-head, All-push, All-tail}
+use Rattle.rk_lane.proofs.Words.{◌≡◌, ◌≤◌, ◌<◌, ◌+◌, ◌||◌, ℕ, Bool, true, false, eqb, List, [], ◌∷◌, ◌++◌, length, All, refl, subst, ⊎_elim}
+use Rattle.rk_lane.proofs.Words.{arith, IsDistinct, list_any, eqb-true, ne_eqb, length-append, All-head, All-tail, IsMaster}
+use Rattle.std.specs.List.{AllByRecursion}
+use Rattle.std.proofs.lemmas.Bool.{cases_Bool}
+use Rattle.std.proofs.lemmas.List.Elements.{All-push}
 use Rattle.std.proofs.lemmas.Map.Steps.{length-le_from_distinct_below}
-use Rattle.rk_world.specs.Premises.{IsMaster}
 
 first_false : (a b : Bool) → (a || b) ≡ false → a ≡ false
 first_false false b is = refl

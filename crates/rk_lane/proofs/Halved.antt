@@ -1,37 +1,18 @@
 -- A tablet is split: who owns it, and what the event makes.
-use Rattle.std.proofs.Common.{◌≡◌, ◌≤◌, ◌<◌, ◌+◌, ◌^◌, ℕ, max, Bool, true, false, cond, List, [], length, All, Option, None, Some, refl, sym, ap, subst, ◌∙◌, arith}
-use Rattle.std.specs.Option.{option_map}
-use Rattle.std.proofs.lemmas.List.Elements.{All-head}
-use Rattle.rk_types.specs.NumberMap.{NumberMap}
-use Rattle.rk_outside.specs.Segments.{Segments}
+use Rattle.rk_lane.proofs.Words.{◌≡◌, ◌≤◌, ◌<◌, ◌+◌, ◌^◌, ℕ, max, Bool, true, false, cond, List, [], length, All, Option, None, Some, refl}
+use Rattle.rk_lane.proofs.Words.{sym, ap, subst, ◌∙◌, arith, option_map, All-head, NumberMap, Segments, row_of, Phase, Owned, Row, Gave}
+use Rattle.rk_lane.proofs.Words.{limits_of, Master, IsMaster, fault_of, owner_split, row_split, rows_split, with_split, happened, quietly}
+use Rattle.rk_lane.proofs.Words.{greatest, has_crashed, master_at, with_coordinator, with_master, Seen, keeps_to_top, terms_of, IsMade}
+use Rattle.rk_lane.proofs.Words.{IsReady, IsAt, owner_in, IsKept, world_of, Parts, Owner}
 use Rattle.rk_tablet_map.proofs.Lawful.{number_of}
 use Rattle.rk_tablet_map.specs.Phase.{member}
-use Rattle.rk_tablet_map.specs.Rows.{row_of}
-use Rattle.rk_tablet_map.specs.declared.phase.Phase.{Phase}
-use Rattle.rk_tablet_map.specs.declared.phase.Phase.TheVariants.{Moving, Opening, Owned, Rebuilding}
-use Rattle.rk_tablet_map.specs.declared.row.Row.{Row}
-use Rattle.rk_world.specs.Backup.{Gave}
-use Rattle.rk_world.specs.Coordinator.{Coordinator}
 use Rattle.rk_world.specs.Formed.{IsFormedRow, named_in}
-use Rattle.rk_world.specs.Limits.{IsFormedMember, limits_of}
-use Rattle.rk_world.specs.Master.{Master}
-use Rattle.rk_world.specs.Premises.{IsMaster}
-use Rattle.rk_world.specs.Refusals.{fault_of}
-use Rattle.rk_world.specs.Splits.{owner_split, row_split, rows_split, tablet_split_fault, tablet_split_fault_of, with_split}
-use Rattle.rk_world.specs.Step.{happened, quietly}
-use Rattle.rk_world.specs.World.{greatest, has_crashed, master_at, with_coordinator, with_master}
+use Rattle.rk_world.specs.Limits.{IsFormedMember}
+use Rattle.rk_world.specs.Splits.{tablet_split_fault}
 use Rattle.rk_world.specs.declared.error.StepError.TheVariants as errors
 use Rattle.rk_world.specs.declared.event.Event.TheVariants as events
-use Rattle.rk_world.specs.declared.event.Seen.{Seen}
-use Rattle.rk_inv_wellformed.proofs.room.Rises.{keeps_to_top}
 use Rattle.rk_inv_wellformed.proofs.coordinator.Rows.{all_found}
-use Rattle.rk_lane.specs.Coordinating.{terms_of}
-use Rattle.rk_lane.specs.Made.{IsMade, IsReady}
-use Rattle.rk_lane.specs.Masters.{IsAt}
-use Rattle.rk_lane.specs.Owners.{owner_by, owner_in}
-use Rattle.rk_lane.specs.Parts.{IsKept, world_of}
-use Rattle.rk_lane.specs.declared.parts.Parts.{Parts}
-use Rattle.rk_lane.specs.declared.splits.Owner.{Owner}
+use Rattle.rk_lane.specs.Owners.{owner_by}
 use Rattle.rk_lane.proofs.MasterWork.{master_is}
 use Rattle.rk_lane.proofs.Moved.{made_by_change}
 use Rattle.rk_lane.proofs.Quiet.{masters_counted, quiet_seen}
@@ -56,9 +37,7 @@ owned_by rows tablet owner row (Owned master from) found phase is =
       phase = phase ∙ ap (λ (o : Owner). Owned o.master from) same;
       term = ap (λ (o : Owner). o.term) same;
     }
-owned_by rows tablet owner row (Opening source sfrom target dfrom) found phase is = absurd (cc is)
-owned_by rows tablet owner row (Moving source sfrom target dfrom) found phase is = absurd (cc is)
-owned_by rows tablet owner row (Rebuilding lineage to) found phase is = absurd (cc is)
+owned_by rows tablet owner row _ found phase is = absurd (cc is)
 
 -- who is found to own a tablet does
 pub owned : (rows : List Row) (tablet : ℕ) (owner : Owner) → owner_in (row_of rows tablet) ≡ Some owner → IsOwned rows tablet owner
@@ -67,21 +46,6 @@ owned rows tablet owner is = go (row_of rows tablet) refl is
     go : (found : Option Row) → row_of rows tablet ≡ found → owner_in found ≡ Some owner → IsOwned rows tablet owner
     go None found is = absurd (cc is)
     go (Some row) found is = owned_by rows tablet owner row row.phase found refl is
-
-none_owned : (coordinator : Coordinator) (row : Row) (phase : Phase) (at new : ℕ) → row.phase ≡ phase → owner_by row.term phase ≡ None
-    → tablet_split_fault_of coordinator (Some (record row { phase = phase })) at new ≡ None → ⊥
-none_owned coordinator row (Owned master from) at new is none allowed = absurd (cc none)
-none_owned coordinator row (Opening source sfrom target dfrom) at new is none allowed = absurd (cc allowed)
-none_owned coordinator row (Moving source sfrom target dfrom) at new is none allowed = absurd (cc allowed)
-none_owned coordinator row (Rebuilding lineage to) at new is none allowed = absurd (cc allowed)
-
--- a tablet that nobody owns is not split
-pub not_split : (coordinator : Coordinator) (tablet at new : ℕ) → owner_in (row_of coordinator.rows tablet) ≡ None → tablet_split_fault coordinator tablet at new ≡ None → ⊥
-not_split coordinator tablet at new none allowed = go (row_of coordinator.rows tablet) none allowed
-  where
-    go : (found : Option Row) → owner_in found ≡ None → tablet_split_fault_of coordinator found at new ≡ None → ⊥
-    go None none allowed = absurd (cc allowed)
-    go (Some row) none allowed = none_owned coordinator row row.phase at new refl none allowed
 
 module _ (parts : Parts) (tablet : ℕ) (owner : Owner) (kept : IsKept parts) (own : IsOwned parts.coordinator.rows tablet owner) where
   -- the owner is one of the masters

@@ -1,26 +1,12 @@
 -- An event is taken: when it may come, and what it makes of parts and backups where it calls no replica.
-use Rattle.std.proofs.Common.{◌≡◌, ℕ, Bool, true, false, cond, inr, List, [], Option, None, Some, IfSome, refl, sym, ap, subst, ◌∙◌}
-use Rattle.std.specs.Option.{option_map, option_or}
-use Rattle.rk_types.specs.NumberMap.{NumberMap, get}
-use Rattle.rk_types.specs.declared.node.Node.{Node}
+use Rattle.rk_lane.proofs.Words.{◌≡◌, ℕ, Bool, true, false, cond, inr, List, [], Option, None, Some, IfSome, refl, sym, ap, subst, ◌∙◌}
+use Rattle.rk_lane.proofs.Words.{option_map, option_or, NumberMap, get, Node, Segments, BackupLane, Message, Gave, comes_anyway, fault_of}
+use Rattle.rk_lane.proofs.Words.{refusal, worn, told_by_replica, told_for, told_to, World, StepError, Event, Seen, IsHappened, IsUnhappened}
+use Rattle.rk_lane.proofs.Words.{AreNumbered, CallsNoReplica, IsFault, IsMade, IsOfBackup, IsReady, world_of, Parts}
 use Rattle.rk_types.specs.declared.node.Node.TheVariants as nodes
-use Rattle.rk_outside.specs.Segments.{Segments}
-use Rattle.rk_backup.specs.declared.lane.BackupLane.{BackupLane}
-use Rattle.rk_message.specs.declared.message.Message.{Message}
-use Rattle.rk_world.specs.Backup.{Gave}
-use Rattle.rk_world.specs.Refusals.{comes_anyway, fault_of, refusal, worn}
-use Rattle.rk_world.specs.Step.{told_by_replica, told_for, told_to}
-use Rattle.rk_world.specs.World.{World}
-use Rattle.rk_world.specs.declared.error.StepError.{StepError}
 use Rattle.rk_world.specs.declared.error.StepError.TheVariants as errors
-use Rattle.rk_world.specs.declared.event.Event.{Event}
 use Rattle.rk_world.specs.declared.event.Event.TheVariants as events
-use Rattle.rk_world.specs.declared.event.Seen.{Seen}
-use Rattle.rk_lane.specs.Happened.{IsHappened, IsUnhappened}
-use Rattle.rk_lane.specs.Lane.{AreNumbered}
-use Rattle.rk_lane.specs.Made.{CallsNoReplica, IsFault, IsMade, IsOfBackup, IsReady, IsReadyFor, worn_for}
-use Rattle.rk_lane.specs.Parts.{world_of}
-use Rattle.rk_lane.specs.declared.parts.Parts.{Parts}
+use Rattle.rk_lane.specs.Made.{IsReadyFor, worn_for}
 
 -- ---- when it may come
 
@@ -43,28 +29,11 @@ refused_for parts event fresh = go (comes_anyway event) fresh
     go true none = refl
     go false none = ap (λ (o : Option ℕ). option_or (option_map errors.Worn o) (fault_of (world_of parts []) event)) none
 
--- and else as worn
-pub refused_worn : (parts : Parts) (event : Event) (number : ℕ) → worn_for parts event ≡ Some number → refusal (world_of parts []) event ≡ Some (errors.Worn number)
-refused_worn parts event number is = go (comes_anyway event) is
-  where
-    go : (anyway : Bool) → cond anyway None (worn (world_of parts [])) ≡ Some number
-        → cond anyway (fault_of (world_of parts []) event) (option_or (option_map errors.Worn (worn (world_of parts []))) (fault_of (world_of parts []) event)) ≡ Some (errors.Worn number)
-    go true is = absurd (cc is)
-    go false is = ap (λ (o : Option ℕ). option_or (option_map errors.Worn o) (fault_of (world_of parts []) event)) is
-
--- what comes anyway is refused for no number
-pub anyway_fresh : (parts : Parts) (event : Event) (number : ℕ) → comes_anyway event ≡ true → worn_for parts event ≡ Some number → ⊥
-anyway_fresh parts event number anyway is =
-    let never : None ≡ Some number = sym (ap (λ (b : Bool). cond b None (worn (world_of parts []))) anyway) ∙ is in
-    cc never
-
 -- ---- it calls no replica
 
 told_to_other : (w : World) (message : Message) (to : Node) → (IsOfBackup to → ⊥) → Gave None ≡ told_to w message to None
-told_to_other w message (nodes.Client client) other = refl
-told_to_other w message nodes.Coordinator other = refl
-told_to_other w message (nodes.Master master) other = refl
 told_to_other w message (nodes.Backup backup) other = absurd (other tt)
+told_to_other w message _ other = refl
 
 told_to_none : (w : World) (found : Option Message) → IfSome (option_map (λ message. message.to) found) (λ to. IsOfBackup to → ⊥) → Gave None ≡ told_for w found None
 told_to_none w None other = refl
@@ -72,16 +41,8 @@ told_to_none w (Some message) other = told_to_other w message message.to other
 
 -- so nothing is told of a replica
 told_nothing : (parts : Parts) (stored : NumberMap Segments) (event : Event) → CallsNoReplica parts event → Gave None ≡ told_by_replica (world_of parts stored) event None
-told_nothing parts stored (events.AddTablet tablet range master) other = refl
-told_nothing parts stored (events.AddClient client) other = refl
 told_nothing parts stored (events.Deliver number) other = told_to_none (world_of parts stored) (get parts.wire.messages number) other
-told_nothing parts stored (events.Forget number) other = refl
-told_nothing parts stored (events.Turn node) other = refl
-told_nothing parts stored (events.Again client) other = refl
-told_nothing parts stored (events.Migrate tablet to) other = refl
-told_nothing parts stored (events.Split tablet at new) other = refl
-told_nothing parts stored (events.Crash master) other = refl
-told_nothing parts stored (events.Notice master) other = refl
+told_nothing parts stored _ other = refl
 
 module _ {R : Type 0} (segments : R → Option Segments) (faults : R → ℕ) (old new : Parts) (event : Event) (backups : List (BackupLane R)) (numbered : AreNumbered backups) (fresh : worn_for old event ≡ None) where
   -- what it makes of the parts, with the backups as they were
@@ -114,17 +75,3 @@ module _ {R : Type 0} (segments : R → Option Segments) (faults : R → ℕ) (o
     numbered = numbered;
     counts = refl;
   }
-
--- a lane that is worn refuses the event
-pub worn_unhappened : {R : Type 0} (faults : R → ℕ) (old : Parts) (event : Event) (backups : List (BackupLane R)) (number : ℕ) → AreNumbered backups → worn_for old event ≡ Some number
-    → IsUnhappened faults event old backups old backups (errors.Worn number)
-worn_unhappened faults old event backups number numbered is = record {
-  cause = λ apart. refused_worn old event number is;
-  same = λ apart. refl;
-  same_backups = λ apart. refl;
-  ledger = record { journal = refl; asked = refl; clients = refl };
-  lane = record { number = refl; backups = refl; masters = refl };
-  count = refl;
-  numbered = numbered;
-  counts = refl;
-}

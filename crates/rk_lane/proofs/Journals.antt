@@ -1,15 +1,10 @@
 -- Journals that grow: what was there before stands at their front.
-use Rattle.std.proofs.Common.{◌≡◌, ℕ, List, ◌∷◌, [], ◌++◌, length, take, Option, Some, None, refl, sym, ap, ◌∙◌, append_assoc, append-nil, arith}
+use Rattle.rk_lane.proofs.Words.{◌≡◌, ℕ, List, ◌∷◌, [], ◌++◌, length, take, Option, Some, None, refl, sym, ap, ◌∙◌, append_assoc}
+use Rattle.rk_lane.proofs.Words.{append-nil, arith, Call, Ended, Placed, Rebuilt, outcome_of, Ledger, asked_by, seen_of, with_all_served}
+use Rattle.rk_lane.proofs.Words.{with_end, with_ends, with_rebuilt, with_record, with_served, Served}
 use Rattle.std.proofs.lemmas.List.{take-append-le, take_all}
-use Rattle.rk_types.specs.declared.call.Call.{Call}
-use Rattle.rk_types.specs.declared.call.Ended.{Ended}
 use Rattle.rk_types.specs.declared.call.Outcome.{Outcome}
-use Rattle.rk_types.specs.declared.history.Placed.{Placed}
-use Rattle.rk_message.specs.declared.rebuilding.Rebuilt.{Rebuilt}
-use Rattle.rk_world.specs.Ends.{outcome_of}
 use Rattle.rk_world.specs.Journal.{next_record}
-use Rattle.rk_world.specs.Ledger.{Ledger, asked_by, seen_of, with_all_served, with_end, with_ends, with_rebuilt, with_record, with_served}
-use Rattle.rk_world.specs.declared.work.Served.{Served}
 use Rattle.rk_inv_wellformed.proofs.lanes.Ledgers.{ended_is, kept_by_fold, served_is}
 
 -- a ledger has another one's journal at the front of its own, and its clients and calls

@@ -1,24 +1,12 @@
 -- What is kept of a lane after an event.
-use Rattle.std.proofs.Common.{◌≡◌, ◌≤◌, ◌<◌, [], length, None, IsSome, All, sym, ap, subst, ◌∙◌}
+use Rattle.rk_lane.proofs.Words.{◌≡◌, ◌≤◌, ◌<◌, [], length, None, IsSome, All, sym, ap, subst, ◌∙◌, IsDistinct, EachIn, Called, MayCome}
+use Rattle.rk_lane.proofs.Words.{refusal, HasRoom, HasRoomIn, MOST_BYTES, IsFormedWithRoom, happened, World, bytes_of_logs, Event, Stepped}
+use Rattle.rk_lane.proofs.Words.{Seen, MayStep, IsKept, masters_from, world_of, Parts}
 use Rattle.std.specs.Prelude.{vec_capacity, eqb}
-use Rattle.std.specs.List.{IsDistinct}
-use Rattle.rk_types.specs.NumberMap.{EachIn}
-use Rattle.rk_world.specs.Backup.{Called}
 use Rattle.rk_world.specs.Formed.{IsWellFormed}
-use Rattle.rk_world.specs.Premises.{MayCome}
-use Rattle.rk_world.specs.Refusals.{refusal}
-use Rattle.rk_world.specs.Room.{HasRoom, HasRoomIn, MOST_BYTES, MOST_NUMBER}
-use Rattle.rk_world.specs.Runs.{IsFormedWithRoom}
-use Rattle.rk_world.specs.Step.{happened}
-use Rattle.rk_world.specs.World.{World, bytes_of_logs}
-use Rattle.rk_world.specs.declared.event.Event.{Event}
+use Rattle.rk_world.specs.Room.{MOST_NUMBER}
 use Rattle.rk_inv_wellformed.proofs.room.RoomEvents.{room_event}
 use Rattle.rk_inv_wellformed.proofs.lanes.Whole.{formed_event}
-use Rattle.rk_world.specs.Step.{Stepped}
-use Rattle.rk_world.specs.declared.event.Seen.{Seen}
-use Rattle.rk_lane.specs.Events.{MayStep}
-use Rattle.rk_lane.specs.Parts.{IsKept, masters_from, world_of}
-use Rattle.rk_lane.specs.declared.parts.Parts.{Parts}
 use Rattle.rk_lane.proofs.Requests.{still_for_masters}
 
 -- what the bytes and the masters of a lane fit

@@ -1,17 +1,7 @@
 -- A visit to the parts of a lane is one to the lane.
-use Rattle.std.proofs.Common.{◌≡◌, ℕ, Bool, false, cond, length, None, Some, refl, sym, ap, ◌∙◌}
+use Rattle.rk_lane.proofs.Words.{◌≡◌, ℕ, Bool, false, cond, length, None, Some, refl, sym, ap, ◌∙◌, Visited, Session, World, StepError}
+use Rattle.rk_lane.proofs.Words.{Seen, lane_of, IsSameLane, running_of, world_of, IsVisitOf, IsVisited, Inside, Parts}
 use Rattle.std.specs.Prelude.{Err, IfOk, Ok, OnErr, Result}
-use Rattle.rk_world.specs.Calls.{Visited}
-use Rattle.rk_world.specs.Client.{Session}
-use Rattle.rk_world.specs.World.{World}
-use Rattle.rk_world.specs.declared.error.StepError.{StepError}
-use Rattle.rk_world.specs.declared.event.Seen.{Seen}
-use Rattle.rk_lane.specs.Lane.{lane_of}
-use Rattle.rk_lane.specs.LaneState.{IsSameLane}
-use Rattle.rk_lane.specs.Parts.{running_of, world_of}
-use Rattle.rk_lane.specs.Visits.{IsVisitOf, IsVisited}
-use Rattle.rk_lane.specs.declared.lane.Lane.TheInside.{Inside}
-use Rattle.rk_lane.specs.declared.parts.Parts.{Parts}
 
 pub visit_in_lane : {R : Type 0} (visit : World → Result Visited StepError) (lane : Inside R) (parts : Parts) (session : Session) (seen : Seen)
     → lane.spent ≡ false → length lane.backups.items ≡ lane.parts.backups → IsVisited visit lane.parts parts session seen

@@ -1,17 +1,10 @@
 -- Lanes that may be spent, and their backups.
-use Rattle.std.proofs.Common.{◌≡◌, ◌≤◌, ◌+◌, ℕ, zero, suc, Bool, true, false, cond, if◌then◌else◌, List, [], ◌∷◌, ◌++◌, length, map, slice_get, Option, None, Some, IfSome, All, refl, sym, ap, subst, ◌∙◌, append_assoc, append-nil, arith, ⊎_elim}
-use Rattle.std.specs.List.{range_with_len}
-use Rattle.std.proofs.lemmas.List.{length-append, length-map, map-append}
-use Rattle.std.proofs.lemmas.Bool.{cases_eq, eq-eqb, ne_eqb}
-use Rattle.std.proofs.lemmas.List.Elements.{All-head, All-tail}
-use Rattle.std.specs.Cmp.{unsigned_tied}
-use Rattle.rk_types.specs.NumberMap.{get}
-use Rattle.rk_outside.specs.Segments.{Segments}
-use Rattle.rk_backup.specs.Lane.{number_of, replica_of}
-use Rattle.rk_backup.specs.declared.lane.BackupLane.{BackupLane}
-use Rattle.rk_world.specs.Backup.{no_segments}
-use Rattle.rk_lane.specs.Lane.{AreNumbered}
-use Rattle.rk_lane.specs.LaneState.{AreTold, replicas_of}
+use Rattle.rk_lane.proofs.Words.{◌≡◌, ◌≤◌, ◌+◌, ℕ, zero, suc, Bool, true, false, cond, if◌then◌else◌, List, [], ◌∷◌, ◌++◌, length, map}
+use Rattle.rk_lane.proofs.Words.{slice_get, Option, None, Some, IfSome, All, refl, sym, ap, subst, ◌∙◌, append_assoc, append-nil, arith}
+use Rattle.rk_lane.proofs.Words.{⊎_elim, range_with_len, length-append, cases_eq, eq-eqb, ne_eqb, All-head, All-tail, unsigned_tied, get}
+use Rattle.rk_lane.proofs.Words.{Segments, number_of, replica_of, BackupLane, no_segments, AreNumbered, AreTold}
+use Rattle.std.proofs.lemmas.List.{map-append}
+use Rattle.rk_lane.specs.LaneState.{replicas_of}
 
 -- what holds where a lane is not spent
 pub unless_spent : {X : Type 0} (P : X → Type 0) (spent : Bool) (x : X) → (spent ≡ false → P x) → IfSome (if spent then None else Some x) P
@@ -70,12 +63,6 @@ one_numbered {R} all left rest made now backup replica room number next left_is 
           omega (arith, longer, before.fits, length-append made (backup ∷ []));
       number_is = omega (arith, more, before.number_is, length-append made (backup ∷ []));
     })
-
--- so few that the next number fits
-pub few_numbered : {R : Type 0} (all left : List R) (made : List (BackupLane R)) (room number : ℕ) → IsNumbering all left made room number → length made ≤ length all
-few_numbered {R} all left made room number it =
-    let whole : length (replicas_of made ++ left) ≡ length all = ap (λ (list : List R). length list) it.parts in
-    omega (arith, whole, length-append (replicas_of made) left, length-map made replica_of)
 
 pub all_numbered : {R : Type 0} (all : List R) (made : List (BackupLane R)) (room number : ℕ) → IsNumbering all [] made room number → replicas_of made ≡ all
 all_numbered all made room number it = sym (append-nil (replicas_of made)) ∙ it.parts

@@ -1,3 +1,4 @@
+pub mod Words
 pub mod Numbering
 pub mod Sending
 pub mod Topped

@@ -1,9 +1,7 @@
 -- Masters that live beside another one.
-use Rattle.std.proofs.Common.{◌≡◌, ◌+◌, ◌==◌, ◌&&◌, ◌||◌, ℕ, suc, Bool, true, false, [], not, ap, ◌∙◌}
-use Rattle.std.specs.List.{list_any, range_with_len}
+use Rattle.rk_lane.proofs.Words.{◌≡◌, ◌+◌, ◌==◌, ◌&&◌, ◌||◌, ℕ, suc, Bool, false, [], not, ap, ◌∙◌, list_any, range_with_len, world_of}
+use Rattle.rk_lane.proofs.Words.{Parts}
 use Rattle.rk_world.specs.World.{lives}
-use Rattle.rk_lane.specs.Parts.{world_of}
-use Rattle.rk_lane.specs.declared.parts.Parts.{Parts}
 
 -- whether a master lives and is another one than this
 abbrev pub is_beside : Parts → ℕ → ℕ → Bool
@@ -14,9 +12,3 @@ pub any_next : (p : ℕ → Bool) (first count rest : ℕ) → count ≡ suc res
 any_next p first count rest more fails =
     ap (λ (n : ℕ). list_any p (range_with_len first n)) more
     ∙ ap (λ (b : Bool). b || list_any p (range_with_len (first + 1) rest)) fails
-
--- where it does, one does
-pub any_here : (p : ℕ → Bool) (first count rest : ℕ) → count ≡ suc rest → p first ≡ true → list_any p (range_with_len first count) ≡ true
-any_here p first count rest more passes =
-    ap (λ (n : ℕ). list_any p (range_with_len first n)) more
-    ∙ ap (λ (b : Bool). b || list_any p (range_with_len (first + 1) rest)) passes

@@ -1,48 +1,23 @@
 -- A master of a lane has worked.
-use Rattle.std.proofs.Common.{◌≡◌, ◌≤◌, ◌<◌, ◌+◌, ◌-◌, ◌^◌, ℕ, zero, suc, Bool, true, false, cond, max, min, List, [], ◌∷◌, length, map, set, slice_get, All, Option, Some, None, IsSome, refl, sym, ap, subst, ◌∙◌, arith}
-use Rattle.std.specs.Prelude.{eqb, unwrap_or, vec_capacity}
-use Rattle.std.specs.List.{IsDistinct, sum_by}
-use Rattle.std.proofs.lemmas.List.{length-set}
-use Rattle.std.proofs.lemmas.List.Elements.{All-head, All-set, All-tail, All-weaker}
-use Rattle.std.proofs.lemmas.List.Sums.{sum-map}
-use Rattle.rk_types.proofs.NumberMaps.{each_insert}
-use Rattle.rk_types.specs.NumberMap.{EachIn, NumberMap, get, insert}
-use Rattle.rk_outside.specs.Segments.{Segments}
-use Rattle.rk_message.specs.declared.message.Message.{Message}
-use Rattle.rk_world.specs.Backup.{Gave}
-use Rattle.rk_world.specs.Journal.{last_stamp}
-use Rattle.rk_world.specs.Ledger.{Ledger, seen_of}
-use Rattle.rk_world.specs.Master.{Master, log_bytes, new_master}
-use Rattle.rk_world.specs.Premises.{IsMaster}
-use Rattle.rk_world.specs.Refusals.{fault_of}
-use Rattle.rk_world.specs.Replies.{filled}
-use Rattle.rk_world.specs.Room.{HasRoomIn, MOST_BYTES}
+use Rattle.rk_lane.proofs.Words.{◌≡◌, ◌≤◌, ◌<◌, ◌+◌, ◌-◌, ◌^◌, ℕ, zero, suc, Bool, true, false, cond, max, min, List, [], ◌∷◌, length, map}
+use Rattle.rk_lane.proofs.Words.{set, slice_get, All, Option, Some, None, IsSome, refl, sym, ap, subst, ◌∙◌, arith, unwrap_or, IsDistinct}
+use Rattle.rk_lane.proofs.Words.{sum_by, length-set, All-head, All-set, All-tail, All-weaker, sum-map, each_insert, EachIn, NumberMap, get}
+use Rattle.rk_lane.proofs.Words.{insert, Segments, Message, Gave, last_stamp, Ledger, seen_of, Master, log_bytes, new_master, IsMaster}
+use Rattle.rk_lane.proofs.Words.{fault_of, filled, HasRoomIn, MOST_BYTES, master_step, master_turn, Stepped, happened, losing, seen_in}
+use Rattle.rk_lane.proofs.Words.{with_sends, worked_at, Worked, World, bytes_of_logs, counters_of, greatest, has_crashed, master_at}
+use Rattle.rk_lane.proofs.Words.{StepError, Event, Seen, IsThere, limits_of, Work, all_in_map, below_greatest, greatest_within, size_found}
+use Rattle.rk_lane.proofs.Words.{sum_inserted, numbered_order, KeepsTo, all_inserted, keeps_to_more, keeps_to_top, IsFinished, IsFault}
+use Rattle.rk_lane.proofs.Words.{IsMade, IsReady, IsAt, IsKept, masters_from, world_of, IsFitToSend, IsSettled, IsUnsettled, IsWeighed}
+use Rattle.rk_lane.proofs.Words.{ledger_worked, sends_worked, Parts}
+use Rattle.std.specs.Prelude.{eqb, vec_capacity}
 use Rattle.rk_types.specs.declared.node.Node.TheVariants as nodes
 use Rattle.rk_world.specs.declared.event.Event.TheVariants as events
-use Rattle.rk_world.specs.MasterStep.{master_step}
-use Rattle.rk_world.specs.MasterTurn.{master_turn}
-use Rattle.rk_world.specs.Step.{Stepped, happened, ledger_after, losing, seen_in, with_sends, worked_at}
-use Rattle.rk_world.specs.Worked.{Worked}
-use Rattle.rk_world.specs.World.{World, bytes_of_logs, counters_of, greatest, has_crashed, master_at}
-use Rattle.rk_world.specs.declared.error.StepError.{StepError}
-use Rattle.rk_world.specs.declared.event.Event.{Event}
-use Rattle.rk_world.specs.declared.event.Seen.{Seen}
-use Rattle.rk_world.specs.Limits.{IsThere, limits_of}
+use Rattle.rk_world.specs.Step.{ledger_after}
 use Rattle.rk_master.specs.Taking.{CanTake}
-use Rattle.rk_master.specs.declared.work.Worked.{Worked as Work}
-use Rattle.rk_inv_wellformed.proofs.maps.Bounds.{all_in_map, below_greatest, greatest_within, within_sum_of}
+use Rattle.rk_inv_wellformed.proofs.maps.Bounds.{within_sum_of}
 use Rattle.rk_inv_wellformed.proofs.lanes.Events.{not_worn}
 use Rattle.rk_inv_wellformed.proofs.lanes.Ledgers.{clients_served}
-use Rattle.rk_inv_wellformed.proofs.maps.MapSums.{size_found, sum_inserted}
-use Rattle.rk_inv_wellformed.proofs.maps.Numbered.{numbered_order}
-use Rattle.rk_inv_wellformed.proofs.room.Rises.{KeepsTo, all_inserted, keeps_to_more, keeps_to_top}
-use Rattle.rk_lane.specs.Finished.{IsFinished}
-use Rattle.rk_lane.specs.Made.{IsFault, IsMade, IsReady}
-use Rattle.rk_lane.specs.Masters.{IsAt, IsWorkAt}
-use Rattle.rk_lane.specs.Parts.{IsKept, masters_from, world_of}
-use Rattle.rk_lane.specs.Sends.{IsFitToSend}
-use Rattle.rk_lane.specs.Working.{IsSettled, IsUnsettled, IsWeighed, ledger_worked, sends_worked}
-use Rattle.rk_lane.specs.declared.parts.Parts.{Parts}
+use Rattle.rk_lane.specs.Masters.{IsWorkAt}
 use Rattle.rk_lane.proofs.Requests.{still_for_masters}
 use Rattle.rk_lane.proofs.AtEnd.{IsReached, sends_made}
 use Rattle.rk_lane.proofs.Coordinated.{delivered_is, delivery_allowed}

@@ -1,27 +1,11 @@
 -- Events that change the coordinator and send nothing.
-use Rattle.std.proofs.Common.{◌≡◌, ◌≤◌, ◌<◌, ◌^◌, ℕ, max, false, [], None, refl, sym, subst, ◌∙◌, arith}
-use Rattle.std.specs.Option.{option_map, option_or}
-use Rattle.std.proofs.lemmas.List.Elements.{All-map, All-weaker}
-use Rattle.rk_types.specs.NumberMap.{NumberMap}
-use Rattle.rk_outside.specs.Segments.{Segments}
-use Rattle.rk_world.specs.Backup.{Gave}
-use Rattle.rk_world.specs.Coordinator.{Coordinator}
+use Rattle.rk_lane.proofs.Words.{◌≡◌, ◌≤◌, ◌<◌, ◌^◌, ℕ, max, false, [], None, refl, sym, subst, ◌∙◌, arith, option_map, option_or, All-map}
+use Rattle.rk_lane.proofs.Words.{All-weaker, NumberMap, Segments, Gave, Coordinator, fault_of, where_true, happened, quietly, greatest}
+use Rattle.rk_lane.proofs.Words.{has_crashed, with_coordinator, with_top, Event, Seen, MayRise, below_greatest, greatest_within, all_before}
+use Rattle.rk_lane.proofs.Words.{KeepsTo, keeps_to_more, keeps_to_top, terms_of, IsMade, IsReady, IsKept, world_of, Parts}
 use Rattle.rk_world.specs.Migrations.{migrate_fault, tablet_migrated}
-use Rattle.rk_world.specs.Refusals.{fault_of, where_true}
-use Rattle.rk_world.specs.Step.{happened, quietly}
-use Rattle.rk_world.specs.World.{greatest, has_crashed, with_coordinator, with_top}
 use Rattle.rk_world.specs.declared.error.StepError.TheVariants as errors
-use Rattle.rk_world.specs.declared.event.Event.{Event}
 use Rattle.rk_world.specs.declared.event.Event.TheVariants as events
-use Rattle.rk_world.specs.declared.event.Seen.{Seen}
-use Rattle.rk_coordinator.specs.Lane.{MayRise}
-use Rattle.rk_inv_wellformed.proofs.maps.Bounds.{below_greatest, greatest_within}
-use Rattle.rk_inv_wellformed.proofs.maps.Lists.{all_before}
-use Rattle.rk_inv_wellformed.proofs.room.Rises.{KeepsTo, keeps_to_more, keeps_to_top}
-use Rattle.rk_lane.specs.Coordinating.{terms_of}
-use Rattle.rk_lane.specs.Made.{IsMade, IsReady}
-use Rattle.rk_lane.specs.Parts.{IsKept, world_of}
-use Rattle.rk_lane.specs.declared.parts.Parts.{Parts}
 use Rattle.rk_lane.proofs.Keeping.{kept_still}
 use Rattle.rk_lane.proofs.Quiet.{quiet_seen}
 use Rattle.rk_lane.proofs.Refusing.{refused_fresh}

@@ -1,18 +1,11 @@
 -- A new lane.
-use Rattle.std.proofs.Common.{◌≡◌, ◌≤◌, ℕ, zero, suc, ◌+◌, eqb, List, [], ◌∷◌, map, replicate, sum, Option, Some, IsSome, All, refl, ap, arith}
-use Rattle.std.specs.List.{IsDistinct, range_with_len}
-use Rattle.std.proofs.lemmas.List.Elements.{All-cons, All-nil}
+use Rattle.rk_lane.proofs.Words.{◌≡◌, ◌≤◌, ℕ, zero, suc, ◌+◌, eqb, List, [], ◌∷◌, map, Option, Some, IsSome, All, refl, ap, arith}
+use Rattle.rk_lane.proofs.Words.{IsDistinct, range_with_len, All-cons, All-nil, NumberMap, Segments, MOST_BACKUPS, Master, log_bytes}
+use Rattle.rk_lane.proofs.Words.{new_master, MOST_MASTERS, IsFormedWithRoom, World, bytes_of_logs, new_world, masters_from}
+use Rattle.std.proofs.Common.{replicate, sum}
 use Rattle.std.proofs.lemmas.List.Sums.{sum_by-cons}
-use Rattle.rk_types.specs.NumberMap.{NumberMap}
-use Rattle.rk_outside.specs.Segments.{Segments}
 use Rattle.rk_log.specs.Known.{nothing}
-use Rattle.rk_log.specs.declared.copied.TheConstants.{MOST_BACKUPS}
-use Rattle.rk_world.specs.Master.{Master, log_bytes, new_master}
-use Rattle.rk_world.specs.Premises.{MOST_MASTERS}
-use Rattle.rk_world.specs.Runs.{IsFormedWithRoom}
-use Rattle.rk_world.specs.World.{World, bytes_of_logs, new_world}
 use Rattle.rk_inv_wellformed.proofs.lanes.New.{new_is_well_formed, new_has_room}
-use Rattle.rk_lane.specs.Parts.{masters_from}
 
 -- a new master under a number, where there are so many backups
 abbrev pub new_at : ℕ → ℕ → Option Master

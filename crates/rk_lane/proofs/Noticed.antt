@@ -1,28 +1,18 @@
 -- A crash is noticed: the order in which masters are marked, how far terms rise by it, and what the event makes.
-use Rattle.std.proofs.Common.{◌≡◌, ◌≤◌, ◌<◌, ◌+◌, ◌*◌, ◌^◌, ◌&&◌, ◌++◌, ℕ, suc, max, Bool, true, false, cond, not, List, [], ◌∷◌, length, filter, fold, take, Option, None, Some, refl, sym, ap, subst, ◌∙◌, arith}
-use Rattle.std.specs.List.{range_with_len}
-use Rattle.std.proofs.lemmas.List.{append_assoc, length-append, length-take}
-use Rattle.std.proofs.lemmas.List.Elements.{All-map, All-weaker}
-use Rattle.std.proofs.lemmas.List.FromFn.{length-range_with_len}
-use Rattle.rk_types.specs.NumberMap.{numbers}
-use Rattle.rk_tablet_map.specs.declared.phase.Phase.{Phase}
-use Rattle.rk_tablet_map.specs.declared.row.Row.{Row}
-use Rattle.rk_world.specs.Backup.{Gave}
-use Rattle.rk_world.specs.Coordinator.{Coordinator, is_noticed}
-use Rattle.rk_world.specs.Notices.{coordinator_notice, notice_one, notice_order, phase_noticed, row_noticed}
-use Rattle.rk_world.specs.World.{crashed_masters, greatest, has_crashed}
+use Rattle.rk_lane.proofs.Words.{◌≡◌, ◌≤◌, ◌<◌, ◌+◌, ◌^◌, ◌&&◌, ◌++◌, ℕ, suc, max, Bool, true, false, cond, not, List, [], ◌∷◌, length}
+use Rattle.rk_lane.proofs.Words.{filter, fold, take, Option, None, Some, refl, sym, ap, subst, ◌∙◌, arith, range_with_len, length-append}
+use Rattle.rk_lane.proofs.Words.{All-map, All-weaker, length-range_with_len, numbers, Phase, Row, Gave, Coordinator, notice_one, greatest}
+use Rattle.rk_lane.proofs.Words.{has_crashed, Seen, MayRise, keeps_to_top, terms_of, IsMade, IsReady, MayRiseBy, is_of, is_unnoticed}
+use Rattle.rk_lane.proofs.Words.{unnoticed, IsKept, world_of, Parts}
+use Rattle.std.proofs.Common.{◌*◌}
+use Rattle.std.proofs.lemmas.List.{append_assoc, length-take}
+use Rattle.rk_world.specs.Coordinator.{is_noticed}
+use Rattle.rk_world.specs.Notices.{coordinator_notice, notice_order, phase_noticed, row_noticed}
+use Rattle.rk_world.specs.World.{crashed_masters}
 use Rattle.rk_world.specs.declared.error.StepError.TheVariants as errors
 use Rattle.rk_world.specs.declared.event.Event.TheVariants as events
-use Rattle.rk_world.specs.declared.event.Seen.{Seen}
-use Rattle.rk_coordinator.specs.Lane.{MayRise}
-use Rattle.rk_inv_wellformed.proofs.room.Rises.{keeps_to_top}
 use Rattle.rk_session.proofs.Filters.{length-filter_le}
-use Rattle.rk_lane.specs.Coordinating.{terms_of}
-use Rattle.rk_lane.specs.Made.{IsMade, IsReady}
-use Rattle.rk_lane.specs.Noticing.{MayRiseBy, is_of, is_unnoticed, unnoticed}
-use Rattle.rk_lane.specs.Parts.{IsKept, world_of}
 use Rattle.rk_lane.specs.declared.notices.Group.TheVariants as groups
-use Rattle.rk_lane.specs.declared.parts.Parts.{Parts}
 use Rattle.rk_lane.proofs.Moved.{made_by_change}
 use Rattle.rk_lane.proofs.Numbering.{numbers_from}
 use Rattle.rk_lane.proofs.Quiet.{alive, masters_counted, quiet_seen}

@@ -1,14 +1,12 @@
 -- The masters of a lane in code, and the map of masters that they make.
-use Rattle.std.proofs.Common.{◌≡◌, ◌<◌, Equal, Greater, ℕ, zero, suc, ◌+◌, Bool, cond, eqb, List, [], ◌∷◌, length, set, Option, Some, refl, sym, ap, subst, ◌∙◌, arith, slice_get}
-use Rattle.std.specs.Prelude.{unwrap_or}
-use Rattle.std.specs.Cmp.{nat_cmp_is, unsigned_tied}
-use Rattle.std.specs.List.{range_with_len}
+use Rattle.rk_lane.proofs.Words.{◌≡◌, ◌<◌, ℕ, zero, suc, ◌+◌, Bool, cond, eqb, List, [], ◌∷◌, length, set, Option, Some, refl, sym, ap}
+use Rattle.rk_lane.proofs.Words.{subst, ◌∙◌, arith, slice_get, unwrap_or, unsigned_tied, range_with_len, eq-eqb, ne_eqb, NumberMap, get}
+use Rattle.rk_lane.proofs.Words.{insert, numbers, Master, new_master, masters_from}
+use Rattle.std.proofs.Common.{Equal, Greater}
+use Rattle.std.specs.Cmp.{nat_cmp_is}
 use Rattle.std.specs.FinMap.Entries.{by_order}
 use Rattle.std.specs.Ordering.{nat_cmp}
-use Rattle.std.proofs.lemmas.Bool.{cond-false, cond-true, eq-eqb, ne_eqb}
-use Rattle.rk_types.specs.NumberMap.{NumberMap, get, insert, numbers}
-use Rattle.rk_world.specs.Master.{Master, new_master}
-use Rattle.rk_lane.specs.Parts.{masters_from}
+use Rattle.std.proofs.lemmas.Bool.{cond-false, cond-true}
 
 -- a master in code, under its number
 abbrev pub master_of : ℕ → Option Master → Master

@@ -1,36 +1,20 @@
 -- Events that send nothing and leave all that grows as it was.
-use Rattle.std.proofs.Common.{◌≡◌, ◌≤◌, ◌<◌, ◌&&◌, ℕ, Bool, true, false, eqb, cond, List, [], ◌∷◌, ◌++◌, length, Option, None, Some, refl, sym, ap, subst, ◌∙◌, arith}
-use Rattle.std.specs.Prelude.{vec_capacity, not, nat_le}
-use Rattle.std.specs.List.{IsDistinct}
-use Rattle.std.proofs.lemmas.List.FromFn.{length-range_with_len}
-use Rattle.rk_types.specs.NumberMap.{NumberMap}
-use Rattle.rk_outside.specs.Segments.{Segments}
+use Rattle.rk_lane.proofs.Words.{◌≡◌, ◌≤◌, ◌<◌, ◌&&◌, ℕ, Bool, true, false, eqb, cond, List, [], ◌∷◌, ◌++◌, length, Option, None, Some}
+use Rattle.rk_lane.proofs.Words.{refl, sym, ap, subst, ◌∙◌, arith, nat_le, IsDistinct, length-range_with_len, NumberMap, Segments, Message}
+use Rattle.rk_lane.proofs.Words.{get, Gave, fault_of, happened, quietly, World, has_crashed, with_ledger, is_added, seen_of, with_client}
+use Rattle.rk_lane.proofs.Words.{IsMaster, where_true, LastCall, StepError, Event, Seen, KeepsTo, all_inserted, keeps_to_top, MayStep}
+use Rattle.rk_lane.proofs.Words.{IsReady, IsMade, IsKept, world_of, Parts}
+use Rattle.std.specs.Prelude.{vec_capacity, not}
 use Rattle.rk_message.specs.Wire.{missing, missing_in, without_message}
-use Rattle.rk_message.specs.declared.message.Message.{Message}
-use Rattle.rk_types.specs.NumberMap.{get}
-use Rattle.rk_world.specs.Backup.{Gave}
-use Rattle.rk_world.specs.Refusals.{fault_of, wire_fault}
-use Rattle.rk_world.specs.Step.{happened, quietly}
-use Rattle.rk_world.specs.World.{World, has_crashed, with_crash, with_ledger}
-use Rattle.rk_world.specs.Ledger.{is_added, seen_of, with_client}
-use Rattle.rk_world.specs.Premises.{IsMaster}
-use Rattle.rk_world.specs.Refusals.{MOST_CLIENTS, where_true}
+use Rattle.rk_world.specs.Refusals.{wire_fault}
+use Rattle.rk_world.specs.World.{with_crash}
+use Rattle.rk_world.specs.Refusals.{MOST_CLIENTS}
 use Rattle.rk_world.specs.declared.error.StepError.TheVariants as errors
-use Rattle.rk_world.specs.declared.ledger.LastCall.{LastCall}
-use Rattle.rk_world.specs.declared.error.StepError.{StepError}
-use Rattle.rk_world.specs.declared.event.Event.{Event}
 use Rattle.rk_world.specs.declared.event.Event.TheVariants as events
-use Rattle.rk_world.specs.declared.event.Seen.{Seen}
-use Rattle.rk_inv_wellformed.proofs.room.Rises.{KeepsTo, all_inserted, keeps_to_top}
-use Rattle.rk_lane.specs.Events.{MayStep}
-use Rattle.rk_lane.specs.Made.{IsReady}
 use Rattle.rk_lane.proofs.Crashes.{crash_fits, distinct_push}
 use Rattle.rk_lane.proofs.Numbering.{numbers_from}
 use Rattle.rk_lane.proofs.Refusing.{refused_fresh}
 use Rattle.rk_lane.proofs.Keeping.{formed_then}
-use Rattle.rk_lane.specs.Made.{IsMade}
-use Rattle.rk_lane.specs.Parts.{IsKept, world_of}
-use Rattle.rk_lane.specs.declared.parts.Parts.{Parts}
 use Rattle.rk_lane.proofs.Keeping.{kept_still}
 use Rattle.rk_lane.proofs.Topped.{still_topped}
 

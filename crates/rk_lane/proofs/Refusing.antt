@@ -1,10 +1,7 @@
 -- Which events a lane refuses that is not worn.
-use Rattle.std.proofs.Common.{◌≡◌, ℕ, Bool, true, false, cond, Option, None, refl, ap}
-use Rattle.std.specs.Option.{option_map, option_or}
-use Rattle.rk_world.specs.Refusals.{comes_anyway, fault_of, refusal, worn}
-use Rattle.rk_world.specs.World.{World}
+use Rattle.rk_lane.proofs.Words.{◌≡◌, ℕ, Bool, true, false, cond, Option, None, refl, ap, option_map, option_or, comes_anyway, fault_of}
+use Rattle.rk_lane.proofs.Words.{refusal, worn, World, Event}
 use Rattle.rk_world.specs.declared.error.StepError.TheVariants as errors
-use Rattle.rk_world.specs.declared.event.Event.{Event}
 
 -- where a lane is not worn, it refuses just by the rules of the event's kind
 pub refused_fresh : (w : World) (event : Event) → worn w ≡ None → refusal w event ≡ fault_of w event

@@ -1,61 +1,30 @@
 -- The last requests of clients: no event changes them, and what a client sends is for a master.
-use Rattle.std.proofs.Common.{◌≡◌, ℕ, ◌+◌, ◌==◌, ◌&&◌, not, Bool, true, false, List, [], ◌∷◌, Option, Some, None, IfSome, if◌then◌else◌, refl, sym, ap, subst, ◌∙◌}
-use Rattle.std.specs.Prelude.{⊤}
-use Rattle.rk_types.specs.NumberMap.{get}
-use Rattle.rk_types.proofs.NumberMaps.{each_insert}
-use Rattle.rk_types.specs.declared.call.Call.{Call}
-use Rattle.rk_types.specs.declared.call.Ended.{Ended}
-use Rattle.rk_types.specs.declared.node.Node.{Node}
+use Rattle.rk_lane.proofs.Words.{◌≡◌, ℕ, ◌+◌, ◌==◌, ◌&&◌, not, Bool, true, false, List, [], ◌∷◌, Option, Some, None, IfSome, if◌then◌else◌}
+use Rattle.rk_lane.proofs.Words.{refl, sym, ap, subst, ◌∙◌, ⊤, get, each_insert, Call, Ended, Node, Segments, row_of, Phase, Owned, Row}
+use Rattle.rk_lane.proofs.Words.{Located, Body, Message, Rebuilt, Backed, Called, backup_step, stored_after, is_asked, ledger_asked}
+use Rattle.rk_lane.proofs.Words.{ledger_requested, ledger_taken, ClientTurn, MOST_REQUESTS, Session, looking_up, range_of, session_turn}
+use Rattle.rk_lane.proofs.Words.{turn_by, turn_of, turn_to, coordinator_step, Ledger, asked_by, is_added, with_client, with_end, with_ends}
+use Rattle.rk_lane.proofs.Words.{with_all_served, with_rebuilt, with_served, master_step, master_turn, backed_at, delivered, delivered_to}
+use Rattle.rk_lane.proofs.Words.{happened, log_bytes_of, losing, quietly, seen_in, sent_again, with_sends, worked_at, Stepped, World}
+use Rattle.rk_lane.proofs.Words.{has_crashed, is_backup, master_at, with_ledger, with_master, with_stored_by, owner_split, row_split}
+use Rattle.rk_lane.proofs.Words.{with_split, Master, Worked, Event, Seen, Taken, LastCall, Served, world_of, AreForMasters, Parts}
 use Rattle.rk_types.specs.declared.node.Node.TheVariants as nodes
-use Rattle.rk_outside.specs.Segments.{Segments}
-use Rattle.rk_tablet_map.specs.Rows.{row_of}
-use Rattle.rk_tablet_map.specs.declared.phase.Phase.{Phase}
-use Rattle.rk_tablet_map.specs.declared.phase.Phase.TheVariants.{Owned, Opening, Moving, Rebuilding}
-use Rattle.rk_tablet_map.specs.declared.row.Row.{Row}
 use Rattle.rk_model.specs.Merged.{is_mutation}
-use Rattle.rk_message.specs.declared.calls.Located.{Located}
-use Rattle.rk_message.specs.declared.message.Body.{Body}
 use Rattle.rk_message.specs.declared.message.Body.TheVariants as bodies
-use Rattle.rk_message.specs.declared.message.Message.{Message}
-use Rattle.rk_message.specs.declared.rebuilding.Rebuilt.{Rebuilt}
-use Rattle.rk_world.specs.Backup.{Backed, Called, backup_step, stored_after}
-use Rattle.rk_world.specs.Calls.{is_asked, ledger_asked, ledger_requested, ledger_taken}
-use Rattle.rk_world.specs.Client.{ClientTurn, MOST_REQUESTS, Session, looking_up, range_of, session_turn, turn_by, turn_of, turn_to}
-use Rattle.rk_world.specs.CoordinatorStep.{coordinator_step}
-use Rattle.rk_world.specs.Ends.{outcome_of}
 use Rattle.rk_world.specs.Journal.{has_record}
-use Rattle.rk_world.specs.Ledger.{Ledger, asked_by, is_added, seen_of, with_asked, with_client, with_end, with_end_of, with_ends, with_all_served, with_mutation, with_rebuilt, with_record, with_served}
-use Rattle.rk_world.specs.MasterStep.{master_step}
-use Rattle.rk_world.specs.MasterTurn.{master_turn}
-use Rattle.rk_world.specs.Step.{backed_at, delivered, delivered_to, happened, log_bytes_of, losing, quietly, seen_in, sent_again, turned, with_sends, worked_at, Stepped}
-use Rattle.rk_world.specs.World.{World, has_crashed, is_backup, master_at, with_ledger, with_master, with_stored_by}
-use Rattle.rk_world.specs.Splits.{owner_split, row_split, with_split}
-use Rattle.rk_world.specs.Master.{Master}
-use Rattle.rk_world.specs.Worked.{Worked}
-use Rattle.rk_world.specs.declared.event.Event.{Event}
+use Rattle.rk_world.specs.Ledger.{with_end_of}
+use Rattle.rk_world.specs.Step.{turned}
 use Rattle.rk_world.specs.declared.event.Event.TheVariants as events
-use Rattle.rk_world.specs.declared.event.Seen.{Seen}
-use Rattle.rk_world.specs.declared.event.Taken.{Taken}
 use Rattle.rk_world.specs.declared.event.Taken.TheVariants as takes
-use Rattle.rk_world.specs.declared.ledger.LastCall.{LastCall}
-use Rattle.rk_world.specs.declared.work.Served.{Served}
-use Rattle.rk_lane.specs.Parts.{world_of}
-use Rattle.rk_lane.specs.Requests.{AreForMasters, IsOfMaster}
-use Rattle.rk_lane.specs.declared.parts.Parts.{Parts}
+use Rattle.rk_inv_wellformed.proofs.maps.Lists.{either_way}
+use Rattle.rk_lane.specs.Requests.{IsOfMaster}
 
 abbrev KeepsRequests : Ledger → Ledger → Type 0
 KeepsRequests old new = new.requests ≡ old.requests
 
--- a test between two ledgers that keep them
-by_test : (ledger first second : Ledger) (test : Bool) → KeepsRequests ledger first → KeepsRequests ledger second → KeepsRequests ledger (if test then first else second)
-by_test ledger first second true one two = one
-by_test ledger first second false one two = two
-
 served_keeps : (seen : ℕ) (ledger : Ledger) (served : Served) → KeepsRequests ledger (with_served seen ledger served)
 served_keeps seen ledger served =
-    by_test ledger (with_mutation ledger served) (with_record ledger served.call served.outcome seen) (is_mutation served.call.op)
-    (by_test ledger ledger (with_record ledger served.call served.outcome (seen_of (asked_by ledger served.call.client))) (has_record ledger.journal served.call.client served.call.seq) refl refl)
-    refl
+    either_way (KeepsRequests ledger) (is_mutation served.call.op) (either_way (KeepsRequests ledger) (has_record ledger.journal served.call.client served.call.seq) refl refl) refl
 
 all_served_keep : (seen : ℕ) (ledger : Ledger) (served : List Served) → KeepsRequests ledger (with_all_served seen ledger served)
 all_served_keep seen ledger [] = refl
@@ -64,7 +33,7 @@ all_served_keep seen ledger (one ∷ served) = all_served_keep seen (with_served
 end_keeps : (ledger : Ledger) (end : Ended) (asked : Option LastCall) → KeepsRequests ledger (with_end_of ledger end asked)
 end_keeps ledger end None = refl
 end_keeps ledger end (Some asked) =
-    by_test ledger (with_record ledger asked.call (outcome_of end.end) asked.seen) ledger (asked.call.seq == end.seq && not (has_record ledger.journal end.client end.seq)) refl refl
+    either_way (KeepsRequests ledger) (asked.call.seq == end.seq && not (has_record ledger.journal end.client end.seq)) refl refl
 
 ends_keep : (ledger : Ledger) (ends : List Ended) → KeepsRequests ledger (with_ends ledger ends)
 ends_keep ledger [] = refl
@@ -84,12 +53,11 @@ work_keeps w master seen work = all_served_keep seen w.ledger work.served
 
 master_keeps : (w : World) (master : ℕ) (message : Message) (crashed : Bool)
     → Keeps w (if crashed then losing w else worked_at w master (seen_in message.body) (master_step (master_at w master) message)).world
-master_keeps w master message true = refl
-master_keeps w master message false = work_keeps w master (seen_in message.body) (master_step (master_at w master) message)
+master_keeps w master message crashed =
+    either_way (λ (it : Stepped). Keeps w it.world) crashed refl (work_keeps w master (seen_in message.body) (master_step (master_at w master) message))
 
 backed_keeps : (w : World) (backed : Backed) (lost : Bool) → Keeps w (if lost then losing w else with_sends w backed.sends).world
-backed_keeps w backed true = refl
-backed_keeps w backed false = refl
+backed_keeps w backed lost = either_way (λ (it : Stepped). Keeps w it.world) lost refl refl
 
 stored_keeps : (w : World) (backup : ℕ) (store : Segments → Segments) (stored : Option Segments) → Keeps w (with_stored_by w backup store stored)
 stored_keeps w backup store None = refl
@@ -116,28 +84,22 @@ found_keeps w None called = refl
 found_keeps w (Some message) called = delivery_keeps w message message.to called
 
 turn_keeps : (w : World) (node : Node) → Keeps w (turned w node).world
-turn_keeps w (nodes.Client client) = refl
-turn_keeps w nodes.Coordinator = refl
 turn_keeps w (nodes.Master master) = work_keeps w master 0 (master_turn (master_at w master))
-turn_keeps w (nodes.Backup backup) = refl
+turn_keeps w _ = refl
 
 added_keeps : (w : World) (client : ℕ) (added : Bool) → Keeps w (if added then w else with_ledger w (with_client w.ledger client))
-added_keeps w client true = refl
-added_keeps w client false = refl
+added_keeps w client added = either_way (Keeps w) added refl refl
 
 again_keeps : (w : World) (request : Option Message) → Keeps w (sent_again w request).world
 again_keeps w None = refl
 again_keeps w (Some message) = refl
 
 crashed_keeps : (w : World) (master : ℕ) (split : Master) (crashed : Bool) → Keeps w (if crashed then w else with_master w master split)
-crashed_keeps w master split true = refl
-crashed_keeps w master split false = refl
+crashed_keeps w master split crashed = either_way (Keeps w) crashed refl refl
 
 owner_keeps : (w : World) (tablet : ℕ) (phase : Phase) (at new term : ℕ) → Keeps w (owner_split w tablet phase at new term)
 owner_keeps w tablet (Owned master from) at new term = crashed_keeps w master (with_split (master_at w master) tablet at new term) (has_crashed w master)
-owner_keeps w tablet (Opening source sfrom target dfrom) at new term = refl
-owner_keeps w tablet (Moving source sfrom target dfrom) at new term = refl
-owner_keeps w tablet (Rebuilding lineage to) at new term = refl
+owner_keeps w tablet _ at new term = refl
 
 split_keeps : (w : World) (row : Option Row) (at new : ℕ) → Keeps w (row_split w row at new)
 split_keeps w None at new = refl
@@ -145,16 +107,12 @@ split_keeps w (Some row) at new = owner_keeps w row.tablet row.phase at new (row
 
 -- no event changes the last request of a client
 pub requests_kept : (w : World) (event : Event) (called : Called) → (happened w event called).world.ledger.requests ≡ w.ledger.requests
-requests_kept w (events.AddTablet tablet range master) called = refl
 requests_kept w (events.AddClient client) called = added_keeps w client (is_added w.ledger client)
 requests_kept w (events.Deliver number) called = found_keeps w (get w.wire.messages number) called
-requests_kept w (events.Forget number) called = refl
 requests_kept w (events.Turn node) called = turn_keeps w node
 requests_kept w (events.Again client) called = again_keeps w (get w.ledger.requests client)
-requests_kept w (events.Migrate tablet to) called = refl
 requests_kept w (events.Split tablet at new) called = split_keeps w (row_of w.coordinator.rows tablet) at new
-requests_kept w (events.Crash master) called = refl
-requests_kept w (events.Notice master) called = refl
+requests_kept w _ called = refl
 
 -- so they are for masters after an event
 pub still_for_masters : (old new : Parts) (event : Event) (called : Called) (seen : Seen)
@@ -201,8 +159,7 @@ requested_for_masters ledger client message body is requests = requests
 
 pub asked_for_masters : (ledger : Ledger) (session : Session) (call : Call) → AreForMasters ledger.requests → AreForMasters (ledger_asked ledger session call).requests
 asked_for_masters ledger session call requests =
-    subst AreForMasters
-    (sym (by_test ledger ledger (with_asked ledger session.client (record { call = call; seen = session.seen })) (is_asked ledger session call) refl refl)) requests
+    subst AreForMasters (sym (either_way (KeepsRequests ledger) (is_asked ledger session call) refl refl)) requests
 
 pub taken_for_masters : (ledger : Ledger) (body : Body) (taken : Taken) → AreForMasters ledger.requests → AreForMasters (ledger_taken ledger body taken).requests
 taken_for_masters ledger (bodies.Reply reply) takes.Done requests = requests

@@ -1,22 +1,12 @@
 -- What a lane that is well formed after an event has sent in it can be put on the wire.
-use Rattle.std.proofs.Common.{◌≡◌, ◌≤◌, ◌+◌, ℕ, List, [], ◌∷◌, fold, All, Some, refl, ◌∙◌, arith}
-use Rattle.std.proofs.lemmas.List.Elements.{All-cons, All-nil}
-use Rattle.rk_types.proofs.NumberMaps.{get_other, get_same}
-use Rattle.rk_types.specs.NumberMap.{get}
-use Rattle.rk_types.specs.declared.node.Node.{Node}
+use Rattle.rk_lane.proofs.Words.{◌≡◌, ◌≤◌, ◌+◌, ℕ, List, [], ◌∷◌, fold, All, Some, refl, ◌∙◌, arith, All-cons, All-nil, get_other, get_same}
+use Rattle.rk_lane.proofs.Words.{get, Node, MOST_BACKUPS, Traffic, with_message, Message, IsThere, Limits, limits_of, MOST_MASTERS}
+use Rattle.rk_lane.proofs.Words.{IsFormedWithRoom, with_sends, World, keeps_to_top, IsFitToSend, IsSendable}
 use Rattle.rk_types.specs.declared.node.Node.TheVariants as nodes
-use Rattle.rk_log.specs.declared.copied.TheConstants.{MOST_BACKUPS}
 use Rattle.rk_message.specs.Fields.{IsLawfulNode}
-use Rattle.rk_message.specs.Wire.{Traffic, with_message}
-use Rattle.rk_message.specs.declared.message.Message.{Message}
 use Rattle.rk_world.specs.Formed.{IsFormedWire}
-use Rattle.rk_world.specs.Limits.{IsFormedMessage, IsThere, Limits, limits_of}
-use Rattle.rk_world.specs.Premises.{MOST_MASTERS}
-use Rattle.rk_world.specs.Runs.{IsFormedWithRoom}
-use Rattle.rk_world.specs.Step.{with_sends}
-use Rattle.rk_world.specs.World.{World}
-use Rattle.rk_inv_wellformed.proofs.room.Rises.{keeps_to_top, sent_all}
-use Rattle.rk_lane.specs.Sends.{IsFitToSend, IsSendable}
+use Rattle.rk_world.specs.Limits.{IsFormedMessage}
+use Rattle.rk_inv_wellformed.proofs.room.Rises.{sent_all}
 
 -- a node that is there can be spelled
 lawful_node : (limits : Limits) (node : Node) → limits.masters ≤ MOST_MASTERS → limits.backups ≤ MOST_BACKUPS → IsThere limits node → IsLawfulNode node

@@ -1,14 +1,11 @@
 -- How messages are sent one after the other.
-use Rattle.std.proofs.Common.{◌≡◌, ◌≤◌, ◌<◌, ◌+◌, ◌==◌, ◌^◌, ℕ, suc, if◌then◌else◌, List, [], ◌∷◌, ◌++◌, length, fold, All, refl, sym, ap, subst, ◌∙◌, append_assoc, append-nil, arith}
-use Rattle.std.proofs.lemmas.List.{length-append}
-use Rattle.std.proofs.lemmas.List.Elements.{All-tail}
+use Rattle.rk_lane.proofs.Words.{◌≡◌, ◌≤◌, ◌<◌, ◌+◌, ◌==◌, ◌^◌, ℕ, suc, if◌then◌else◌, List, [], ◌∷◌, ◌++◌, length, fold, All, refl, sym}
+use Rattle.rk_lane.proofs.Words.{ap, subst, ◌∙◌, append_assoc, append-nil, arith, length-append, All-tail, Traffic, with_message, Message}
+use Rattle.rk_lane.proofs.Words.{IsSendable, Sent}
 use Rattle.std.proofs.lemmas.List.Sums.{fold-append}
 use Rattle.std.proofs.lemmas.Bool.Decides.{nat_tests}
-use Rattle.rk_message.specs.Wire.{Traffic, with_message}
-use Rattle.rk_message.specs.declared.message.Message.{Message}
 use Rattle.rk_world.specs.Step.{first_number}
-use Rattle.rk_lane.specs.Sends.{IsSendable, IsSent}
-use Rattle.rk_lane.specs.declared.sends.Sent.{Sent}
+use Rattle.rk_lane.specs.Sends.{IsSent}
 
 -- of the messages that are to be sent these are left
 pub record IsSending (old : Traffic) (sends left : List Message) (wire : Traffic) (sent : Sent) : Type 0 where

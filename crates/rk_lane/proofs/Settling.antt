@@ -1,22 +1,13 @@
 -- How a master's work is settled.
-use Rattle.std.proofs.Common.{◌≡◌, ℕ, Bool, true, false, eqb, ◌&&◌, not, List, [], ◌∷◌, length, map, max, take, Option, Some, None, is_some, refl, sym, ap, subst, ◌∙◌, append-nil, arith, eqb-true}
+use Rattle.rk_lane.proofs.Words.{◌≡◌, ℕ, Bool, true, false, eqb, ◌&&◌, not, List, [], ◌∷◌, length, map, max, take, Option, Some, None}
+use Rattle.rk_lane.proofs.Words.{is_some, refl, sym, ap, subst, ◌∙◌, append-nil, arith, Message, last_stamp, Ledger, filled, counters_of}
+use Rattle.rk_lane.proofs.Words.{greatest, StepError, Seen, Served, marks_of, Work, with_journal, IsCutBack, IsFinished, IsRaised}
+use Rattle.rk_lane.proofs.Words.{IsSettled, IsUnsettled, ledger_noted, ledger_worked, sends_worked, Parts}
+use Rattle.std.proofs.Common.{eqb-true}
 use Rattle.std.proofs.lemmas.Bool.{false≢true}
-use Rattle.rk_message.specs.declared.message.Message.{Message}
-use Rattle.rk_world.specs.Journal.{last_stamp}
-use Rattle.rk_world.specs.Ledger.{Ledger}
-use Rattle.rk_world.specs.Replies.{filled}
-use Rattle.rk_world.specs.World.{counters_of, greatest}
-use Rattle.rk_world.specs.declared.error.StepError.{StepError}
 use Rattle.rk_world.specs.declared.error.StepError.TheVariants as errors
-use Rattle.rk_world.specs.declared.event.Seen.{Seen}
 use Rattle.rk_world.specs.declared.work.Mark.{Mark}
-use Rattle.rk_world.specs.declared.work.Served.{Served}
-use Rattle.rk_master.specs.Parts.{marks_of}
-use Rattle.rk_master.specs.declared.work.Worked.{Worked as Work}
-use Rattle.rk_ledger.specs.Growing.{with_journal}
-use Rattle.rk_lane.specs.Finished.{IsCutBack, IsFinished}
-use Rattle.rk_lane.specs.Working.{IsRaised, IsSettled, IsUnsettled, is_nothing, ledger_noted, ledger_worked, sends_worked}
-use Rattle.rk_lane.specs.declared.parts.Parts.{Parts}
+use Rattle.rk_lane.specs.Working.{is_nothing}
 use Rattle.rk_lane.proofs.Journals.{IsGrownFrom, cut_to, grown_by_served}
 
 -- the ledger that noted a master's work has the one before at its front

@@ -1,35 +1,23 @@
 -- An event of the parts of a lane and of its backups is one of the lane.
-use Rattle.std.proofs.Common.{◌≡◌, ◌≢◌, ◌≤◌, ℕ, Bool, true, false, cond, [], length, vec_capacity, Option, None, Some, IfErr, IfOk, IfSome, IsSomeAnd, Result, Ok, Err, refl, sym, ap, subst, ◌∙◌}
-use Rattle.std.specs.Global.{Vec}
-use Rattle.rk_types.specs.NumberMap.{NumberMap}
+use Rattle.rk_lane.proofs.Words.{◌≡◌, ◌≤◌, ℕ, Bool, true, false, cond, [], length, vec_capacity, Option, None, Some, IfOk, IfSome, Result}
+use Rattle.rk_lane.proofs.Words.{Ok, Err, refl, sym, ap, subst, ◌∙◌, Vec, NumberMap, option_map, option_or, Segments, BackupLane, IsMaster}
+use Rattle.rk_lane.proofs.Words.{comes_anyway, fault_of, refusal, worn, AllTell, HasRoom, Stepped, happened, stepped_by, told_by_replica}
+use Rattle.rk_lane.proofs.Words.{World, new_world, StepError, Event, Seen, IsAnswerOf, IsStepOf, MayComeTo, MayStep, IsHappened}
+use Rattle.rk_lane.proofs.Words.{IsUnhappened, AreNumbered, lane_of, IsSameLane, world_with, IsSameParts, IsKept, running_of, world_of}
+use Rattle.rk_lane.proofs.Words.{Inside, Parts}
+use Rattle.std.proofs.Common.{◌≢◌, IfErr, IsSomeAnd}
 use Rattle.std.specs.Int.{w32}
-use Rattle.std.specs.Option.{option_map, option_or}
 use Rattle.rk_types.specs.declared.node.Node.TheVariants as nodes
-use Rattle.rk_outside.specs.Segments.{Segments}
-use Rattle.rk_backup.specs.declared.lane.BackupLane.{BackupLane}
 use Rattle.rk_entry.specs.Ends.{IsLawfulRange}
 use Rattle.rk_entry.specs.Numbers.{IsNumber}
-use Rattle.rk_world.specs.Premises.{IsMaster, MayHappen, MayTurn}
-use Rattle.rk_world.specs.Refusals.{comes_anyway, fault_of, refusal, worn}
-use Rattle.rk_world.specs.Replicas.{AllTell}
-use Rattle.rk_world.specs.Room.{HasRoom}
+use Rattle.rk_world.specs.Premises.{MayHappen, MayTurn}
 use Rattle.rk_world.specs.Runs.{IsCalmEvent}
-use Rattle.rk_world.specs.Step.{Stepped, happened, stepped_by, told_by_replica}
-use Rattle.rk_world.specs.World.{World, new_world}
-use Rattle.rk_world.specs.declared.error.StepError.{StepError}
 use Rattle.rk_world.specs.declared.error.StepError.TheVariants as errors
-use Rattle.rk_world.specs.declared.event.Event.{Event}
 use Rattle.rk_world.specs.declared.event.Event.TheVariants as events
-use Rattle.rk_world.specs.declared.event.Seen.{Seen}
-use Rattle.rk_lane.specs.Events.{IsAnswerOf, IsRefused, IsStepOf, MayComeTo, MayStep}
-use Rattle.rk_lane.specs.Happened.{IsHappened, IsToldAfter, IsUnhappened}
-use Rattle.rk_lane.specs.Lane.{AreNumbered, IsLane, lane_of}
-use Rattle.rk_lane.specs.LaneState.{IsSameLane, LaneState, world_with}
-use Rattle.rk_lane.specs.Made.{IsSameParts}
-use Rattle.rk_lane.specs.Parts.{IsKept, running_of, world_of}
+use Rattle.rk_lane.specs.Events.{IsRefused}
+use Rattle.rk_lane.specs.Happened.{IsToldAfter}
+use Rattle.rk_lane.specs.Lane.{IsLane}
 use Rattle.rk_lane.specs.Spent.{is_no_memory, is_out_of_memory}
-use Rattle.rk_lane.specs.declared.lane.Lane.TheInside.{Inside}
-use Rattle.rk_lane.specs.declared.parts.Parts.{Parts}
 use Rattle.rk_lane.proofs.Quiet.{masters_counted}
 
 -- ---- causes
@@ -41,19 +29,8 @@ module _ (w : World) (count : ℕ) (stored : NumberMap Segments) where
 
   -- a refusal reads no backup
   fault_same : (event : Event) → fault_of with_backups event ≡ fault_of w event
-  fault_same (events.AddTablet tablet range master) = refl
-  fault_same (events.AddClient client) = refl
-  fault_same (events.Deliver number) = refl
-  fault_same (events.Forget number) = refl
   fault_same (events.Turn (nodes.Client client)) = refl
-  fault_same (events.Turn nodes.Coordinator) = refl
-  fault_same (events.Turn (nodes.Master master)) = refl
-  fault_same (events.Turn (nodes.Backup backup)) = refl
-  fault_same (events.Again client) = refl
-  fault_same (events.Migrate tablet to) = refl
-  fault_same (events.Split tablet at new) = refl
-  fault_same (events.Crash master) = refl
-  fault_same (events.Notice master) = refl
+  fault_same _ = refl
 
   refusal_same : (event : Event) → refusal with_backups event ≡ refusal w event
   refusal_same event =
@@ -64,28 +41,16 @@ module _ (w : World) (count : ℕ) (stored : NumberMap Segments) where
 -- what an event may name depends on how many masters there are
 pub may_happen_same : (w other : World) (event : Event) → w.coordinator.masters ≡ other.coordinator.masters → MayHappen w event → MayHappen other event
 may_happen_same w other (events.AddTablet tablet range master) same may = subst (λ (count : ℕ). IsNumber w32 1 tablet × IsLawfulRange range × IsMaster count master) same may
-may_happen_same w other (events.AddClient client) same may = may
-may_happen_same w other (events.Deliver number) same may = tt
-may_happen_same w other (events.Forget number) same may = tt
 may_happen_same w other (events.Turn node) same may = subst (λ (count : ℕ). MayTurn count node) same may
-may_happen_same w other (events.Again client) same may = tt
 may_happen_same w other (events.Migrate tablet to) same may = subst (λ (count : ℕ). IsMaster count to) same may
-may_happen_same w other (events.Split tablet at new) same may = may
 may_happen_same w other (events.Crash master) same may = subst (λ (count : ℕ). IsMaster count master) same may
 may_happen_same w other (events.Notice master) same may = subst (λ (count : ℕ). IsMaster count master) same may
+may_happen_same w other _ same may = may
 
 -- whether a crash is calm depends on no backup
 pub calm_same : (w : World) (count : ℕ) (stored : NumberMap Segments) (event : Event) → IsCalmEvent (record w { backup_count = count; backups = stored }) event → IsCalmEvent w event
-calm_same w count stored (events.AddTablet tablet range master) calm = tt
-calm_same w count stored (events.AddClient client) calm = tt
-calm_same w count stored (events.Deliver number) calm = tt
-calm_same w count stored (events.Forget number) calm = tt
-calm_same w count stored (events.Turn node) calm = tt
-calm_same w count stored (events.Again client) calm = tt
-calm_same w count stored (events.Migrate tablet to) calm = tt
-calm_same w count stored (events.Split tablet at new) calm = tt
 calm_same w count stored (events.Crash master) calm = calm
-calm_same w count stored (events.Notice master) calm = tt
+calm_same w count stored _ calm = tt
 
 -- what may come to a lane that is not spent may come to its parts
 pub may_come : {R : Type 0} (lane : Inside R) (event : Event) → lane.spent ≡ false → IsLane lane → MayComeTo (lane_of lane) event → MayStep (world_of lane.parts []) event
@@ -175,15 +140,7 @@ module _ {R : Type 0} (segments : R → Option Segments) (faults : R → ℕ) (l
 
       other_memory : (error : StepError) → error ≢ errors.NoMemory → is_no_memory error ≡ false
       other_memory errors.NoMemory apart = absurd (apart refl)
-      other_memory (errors.Worn number) apart = refl
-      other_memory (errors.NoMessage number) apart = refl
-      other_memory (errors.Address number) apart = refl
-      other_memory (errors.Dead master) apart = refl
-      other_memory (errors.Alive master) apart = refl
-      other_memory (errors.Stranger client) apart = refl
-      other_memory errors.TooMany apart = refl
-      other_memory (errors.Move error) apart = refl
-      other_memory (errors.Map error) apart = refl
+      other_memory _ apart = refl
 
   -- it is one lane still
   pub same_lane : (spent : Bool) → IsSameParts lane.parts new → length backups.items ≡ length lane.backups.items → IsSameLane (lane_of lane) (lane_of (lane_then spent))
@@ -224,18 +181,3 @@ module _ {R : Type 0} (segments : R → Option Segments) (faults : R → ℕ) (l
 pub where_some : {X : Type 0} (found : Option X) (P : Type 0) → P → IfSome found (λ _. P)
 where_some None P holds = tt
 where_some (Some x) P holds = holds
-
--- ---- a spent lane
-
--- it is refused for want of memory alone, and is as it was
-pub spent_refused : {R : Type 0} (faults : R → ℕ) (event : Event) (lane : LaneState R) (error : StepError) → lane.running ≡ None → error ≡ errors.NoMemory
-    → IsRefused faults event lane lane error
-spent_refused faults event lane error spent memory = record {
-  cause = λ apart. absurd (apart memory);
-  same = λ apart. refl;
-  spent = λ is. spent;
-  journal = refl;
-  asked = refl;
-  clients = refl;
-  counts = refl;
-}

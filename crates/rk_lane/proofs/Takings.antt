@@ -1,15 +1,11 @@
 -- What the code of a master asks of a message holds of each one that stands on the wire.
-use Rattle.std.proofs.Common.{◌≤◌, ℕ, sym, subst}
-use Rattle.std.proofs.lemmas.List.Elements.{All-weaker}
+use Rattle.rk_lane.proofs.Words.{◌≤◌, ℕ, sym, subst, All-weaker, Node, Body, IsFormedBody, Limits, limits_of, World, master_at}
 use Rattle.rk_types.specs.declared.held.Held.{Held}
-use Rattle.rk_types.specs.declared.node.Node.{Node}
 use Rattle.rk_types.specs.declared.node.Node.TheVariants as nodes
 use Rattle.rk_entry.specs.Lawful.{IsLawfulHeld}
 use Rattle.rk_log.specs.Log.{IsBackup}
-use Rattle.rk_message.specs.declared.message.Body.{Body}
 use Rattle.rk_message.specs.declared.message.Body.TheVariants as bodies
-use Rattle.rk_world.specs.Limits.{IsFormedBody, IsFormedHeld, Limits, limits_of}
-use Rattle.rk_world.specs.World.{World, master_at}
+use Rattle.rk_world.specs.Limits.{IsFormedHeld}
 use Rattle.rk_master.specs.Taking.{CanTakeOf, CanTakeOfBackup, CanTakeOfClient, CanTakeOfPeer, CanTakeOrder}
 use Rattle.rk_inv_wellformed.specs.Appended.{StandsOn}
 use Rattle.rk_inv_wellformed.proofs.bytes.Spelled.{copies_spell, grants_spell, rebuilds_spell}

@@ -1,18 +1,11 @@
 -- What backups tell, once one of them took a message.
-use Rattle.std.proofs.Common.{◌≡◌, ◌≤◌, ◌-◌, ◌+◌, ℕ, zero, suc, List, [], ◌∷◌, map, set, slice_get, Option, None, Some, refl, sym, ap, subst, ◌∙◌, ⊎_elim, arith}
-use Rattle.std.proofs.lemmas.Bool.{cases_eq}
+use Rattle.rk_lane.proofs.Words.{◌≡◌, ◌≤◌, ◌-◌, ◌+◌, ℕ, zero, suc, List, [], ◌∷◌, map, set, slice_get, Option, None, Some, refl, sym, ap}
+use Rattle.rk_lane.proofs.Words.{subst, ◌∙◌, ⊎_elim, arith, cases_eq, get_other, get_same, NumberMap, get, insert, Node, Segments}
+use Rattle.rk_lane.proofs.Words.{WhereTold, number_of, replica_of, BackupLane, AreNumbered, AreTold, IsTold}
 use Rattle.std.proofs.lemmas.List.{map-set}
-use Rattle.rk_types.proofs.NumberMaps.{get_other, get_same}
-use Rattle.rk_types.specs.NumberMap.{NumberMap, get, insert}
-use Rattle.rk_types.specs.declared.node.Node.{Node}
 use Rattle.rk_types.specs.declared.node.Node.TheVariants as nodes
 use Rattle.rk_outside.specs.Faults.{Rose}
-use Rattle.rk_outside.specs.Segments.{Segments, WhereTold}
-use Rattle.rk_backup.specs.Lane.{number_of, replica_of}
-use Rattle.rk_backup.specs.declared.lane.BackupLane.{BackupLane}
 use Rattle.rk_lane.specs.Events.{OneFailed, fault_counts}
-use Rattle.rk_lane.specs.Lane.{AreNumbered}
-use Rattle.rk_lane.specs.LaneState.{AreTold, IsTold}
 
 -- ---- one place of a list is set
 

@@ -1,10 +1,9 @@
 -- The greatest number of a lane, once what stands is counted: a number that all that stands keeps to, and that is not above the greatest.
-use Rattle.std.proofs.Common.{◌≡◌, ◌≤◌, ℕ, max, ◌∷◌, ◌++◌, ap, arith}
-use Rattle.rk_world.specs.Journal.{last_stamp}
-use Rattle.rk_world.specs.Master.{Master}
-use Rattle.rk_world.specs.World.{World, counters_of, greatest, standing, with_top}
+use Rattle.rk_lane.proofs.Words.{◌≡◌, ◌≤◌, ℕ, max, ◌∷◌, ◌++◌, ap, arith, last_stamp, Master, World, counters_of, greatest, with_top}
+use Rattle.rk_lane.proofs.Words.{KeepsTo}
+use Rattle.rk_world.specs.World.{standing}
 use Rattle.rk_inv_wellformed.proofs.maps.Lists.{all_back, all_given}
-use Rattle.rk_inv_wellformed.proofs.room.Rises.{KeepsTo, top_within}
+use Rattle.rk_inv_wellformed.proofs.room.Rises.{top_within}
 use Rattle.rk_inv_wellformed.proofs.lanes.Worlds.{IsLimit, counters_in, seen_within, sent_within, stamp_within, stamps_seen, terms_in, terms_within, top_is_limit}
 
 -- where all that stands keeps to a number, and the greatest is not below it, it is the greatest

@@ -6,6 +6,7 @@ use Rattle.rk_inv_base.proofs.Words.{Answered}
 use Rattle.std.specs.List.{count_by}
 use Rattle.std.proofs.lemmas.List.Sums.{length-filter}
 use Rattle.rk_model.specs.Ordered.{IsRecorded, told_by}
+use Rattle.rk_inv_wellformed.proofs.maps.Lists.{either_way}
 use Rattle.rk_laws_gathered.specs.Answers.{accepted_answers, accepted_in, answer_in, answers_from}
 use Rattle.rk_laws_gathered.proofs.Pigeonhole.{first_in, later_in}
 
@@ -39,10 +40,8 @@ accepted_stands lane (first ∷ rest) zero placed at accepted =
 accepted_stands lane (first ∷ rest) (suc place) placed at accepted =
     let later = accepted_stands lane rest place placed at accepted in
     let others : List Placed = filter (λ placed. placed.accepted) rest in
-    elim first.accepted as (λ b. Contains (map (answer_in lane) (cond b (first ∷ others) others)) (answer_in lane placed)) [
-      | true ↦ later_in (answer_in lane first) (map (answer_in lane) others) (answer_in lane placed) later
-      | false ↦ later
-    ]
+    either_way (λ (kept : List Placed). Contains (map (answer_in lane) kept) (answer_in lane placed)) first.accepted
+    (later_in (answer_in lane first) (map (answer_in lane) others) (answer_in lane placed) later) later
 
 -- an accepted record of one of the journals
 pub answer_stands : (start lane place : ℕ) (journals : List (List Placed)) (placed : Placed)

@@ -4,10 +4,11 @@ use Rattle.std.proofs.Common.{AllPairs}
 use Rattle.rk_inv_base.proofs.Words.{length-map, All-contains, All-map, All-weaker, Placed, Receipt, journal_of, Answered}
 use Rattle.std.specs.Prelude.{IsPermutation}
 use Rattle.std.proofs.lemmas.List.Sorted.{Contains-permutation, IsPermutation-sym}
+use Rattle.std.proofs.lemmas.List.Kept.{AllPairs-cons}
 use Rattle.rk_model.specs.Ordered.{IsRecorded, told_by}
 use Rattle.rk_laws_gathered.specs.Answers.{AreOfDistinctCalls, IsSameCall, accepted_answers, accepted_in, answer_in}
 use Rattle.rk_laws_gathered.proofs.Accepted.{answer_stands, length_answers, told_stands}
-use Rattle.rk_laws_gathered.proofs.Pairs.{pairs_cons, pairs_head, pairs_none, pairs_tail}
+use Rattle.rk_laws_gathered.proofs.Pairs.{pairs_head, pairs_none, pairs_tail}
 use Rattle.rk_laws_gathered.proofs.Pigeonhole.{all_of_them}
 
 -- answers of distinct calls are distinct
@@ -15,7 +16,7 @@ answers_apart : (receipts : List Receipt) → AreOfDistinctCalls receipts → Al
 answers_apart [] apart = pairs_none (λ (a b : Answered). a ≢ b)
 answers_apart (receipt ∷ receipts) apart =
     let Apart : Receipt → Receipt → Type 0 = λ a b. IsSameCall a.call b.call → ⊥ in
-    pairs_cons (λ (a b : Answered). a ≢ b) (told_by receipt) (map told_by receipts)
+    AllPairs-cons (λ (a b : Answered). a ≢ b) (told_by receipt) (map told_by receipts)
     (All-map (λ (b : Answered). told_by receipt ≢ b) told_by receipts
     (All-weaker (Apart receipt) (λ (r : Receipt). told_by receipt ≢ told_by r)
     (λ r other is. other (ap (λ (a : Answered). a.call.client) is, ap (λ (a : Answered). a.call.seq) is)) receipts

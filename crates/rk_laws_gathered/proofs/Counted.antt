@@ -1,13 +1,14 @@
 -- Where lanes have counted their calls, and were asked at most as many as sessions made that ended, each call was answered.
 use Rattle.std.proofs.Common.{◌≡◌, ℕ, zero, suc, ◌+◌, ◌<◌, ◌≤◌, Bool, true, false, List, [], ◌∷◌, Option, Some, None, get_or, refl, sym}
 use Rattle.std.proofs.Common.{ap, ◌∙◌, subst, ⊎_elim, arith, Contains, IfSome, map, not, All, sum_by}
-use Rattle.rk_inv_base.proofs.Words.{All-contains, All-head, All-nil, All-tail, sum_by-cons, Placed, Ledger, asked_by, is_accepted, World}
+use Rattle.rk_inv_base.proofs.Words.{All-cons, All-contains, All-head, All-nil, All-tail, sum_by-cons, Placed, Ledger, asked_by, is_accepted, World}
 use Rattle.rk_inv_base.proofs.Words.{LastCall, IsAccepted, IsLastCall, WasAsked, IsSound}
 use Rattle.std.specs.List.{count_by}
+use Rattle.std.proofs.lemmas.List.Kept.{AllPairs-cons}
 use Rattle.rk_inv_events.proofs.events.SameCalls.{found_accepted}
 use Rattle.rk_laws_lanes.specs.Counts.{accepted_count}
 use Rattle.rk_laws_gathered.specs.OpenCalls.{HasCountedCalls, HasOpenCall, is_open}
-use Rattle.rk_laws_gathered.proofs.Pairs.{pairs_cons, pairs_none}
+use Rattle.rk_laws_gathered.proofs.Pairs.{pairs_none}
 use Rattle.rk_laws_gathered.proofs.Pigeonhole.{in_cases}
 
 -- ---- one lane
@@ -21,13 +22,9 @@ accepted_room ledger counted =
 open_room : (ledger : Ledger) → HasCountedCalls ledger → (client : ℕ) → HasOpenCall ledger client → accepted_count ledger + 1 ≤ ledger.asked
 open_room ledger counted client opened =
     let one =
-    counted (client ∷ []) (pairs_cons (λ a b. a ≡ b → ⊥) client [] (All-nil (λ n. client ≡ n → ⊥)) (pairs_none (λ a b. a ≡ b → ⊥)))
-    (λ k d inside. first_only k d inside) in
+    counted (client ∷ []) (AllPairs-cons (λ a b. a ≡ b → ⊥) client [] (All-nil (λ n. client ≡ n → ⊥)) (pairs_none (λ a b. a ≡ b → ⊥)))
+    (All-cons (HasOpenCall ledger) client [] opened (All-nil (HasOpenCall ledger))) in
     omega (arith, one)
-  where
-    first_only : (k : ℕ) (d : ℕ) → k < 1 → HasOpenCall ledger (get_or (client ∷ []) k d)
-    first_only zero d inside = opened
-    first_only (suc k) d inside = absurd (omega (arith, inside))
 
 -- ---- all lanes
 

@@ -11,6 +11,7 @@ use Rattle.rk_runs.proofs.history.Taking.{accepting_taken, is_mine}
 use Rattle.rk_inv_lanes.proofs.lanes.Visits.{ask_covered}
 use Rattle.rk_runs.proofs.history.GoesOn.{event_goes_on}
 use Rattle.rk_laws_lanes.proofs.Ledgers.{same_counts}
+use Rattle.rk_inv_wellformed.proofs.maps.Lists.{either_way}
 use Rattle.rk_laws_gathered.specs.OpenCalls.{HasCountedCalls}
 use Rattle.rk_laws_gathered.proofs.OpenCalls.{accepted_counted, asked_counted, grown_counted}
 
@@ -33,12 +34,8 @@ saved ledger client message body counted = counted
 
 module _ (w : World) (session : Session) (counted : HasCountedCalls w.ledger) where
   asked_there : (call : Call) → HasCountedCalls (ledger_asked w.ledger session call)
-  asked_there call = by_test (is_asked w.ledger session call)
-    where
-      by_test : (test : Bool)
-          → HasCountedCalls (cond test w.ledger (with_asked w.ledger session.client (record { call = call; seen = session.seen })))
-      by_test true = counted
-      by_test false = asked_counted w.ledger session.client (record { call = call; seen = session.seen }) counted
+  asked_there call =
+      either_way HasCountedCalls (is_asked w.ledger session call) counted (asked_counted w.ledger session.client (record { call = call; seen = session.seen }) counted)
 
   pub ask_counted : HasCountedCalls (world_visited w (ask w session)).ledger
   ask_counted = ask_covered (λ v. HasCountedCalls v.ledger) w session counted

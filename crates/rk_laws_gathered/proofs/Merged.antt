@@ -7,21 +7,18 @@ use Rattle.std.proofs.lemmas.List.Sorted.{IsPermutation-cons, IsPermutation-map,
 use Rattle.std.proofs.lemmas.List.Sorted.{IsPermutation-sym, IsPermutation-trans}
 use Rattle.rk_model.specs.Merged.{in_order, is_before, is_kept, lines_from, lines_of, merged, put_in_order}
 use Rattle.rk_model.specs.Ordered.{answer_of}
+use Rattle.rk_inv_wellformed.proofs.maps.Lists.{either_way}
 use Rattle.rk_laws_gathered.specs.Answers.{MutationsAreAccepted, accepted_answers, answer_in, answers_from}
 
 -- ---- lines in order are the same lines
 
 put_among : (line : Line) (lines : List Line) → IsPermutation (line ∷ lines) (put_in_order line lines)
 put_among line [] = IsPermutation-refl (line ∷ [])
-put_among line (first ∷ lines) = by_test (put_among line lines) (is_before line first)
-  where
-    by_test : IsPermutation (line ∷ lines) (put_in_order line lines) → (test : Bool)
-        → IsPermutation (line ∷ first ∷ lines) (cond test (line ∷ first ∷ lines) (first ∷ put_in_order line lines))
-    by_test rest true = IsPermutation-refl (line ∷ first ∷ lines)
-    by_test rest false =
-        IsPermutation-trans (line ∷ first ∷ lines) (first ∷ line ∷ lines) (first ∷ put_in_order line lines)
-        (IsPermutation-sym (first ∷ line ∷ lines) (line ∷ first ∷ lines) (IsPermutation-middle (first ∷ []) line lines))
-        (IsPermutation-cons first (line ∷ lines) (put_in_order line lines) rest)
+put_among line (first ∷ lines) =
+    either_way (IsPermutation (line ∷ first ∷ lines)) (is_before line first) (IsPermutation-refl (line ∷ first ∷ lines))
+    (IsPermutation-trans (line ∷ first ∷ lines) (first ∷ line ∷ lines) (first ∷ put_in_order line lines)
+    (IsPermutation-sym (first ∷ line ∷ lines) (line ∷ first ∷ lines) (IsPermutation-middle (first ∷ []) line lines))
+    (IsPermutation-cons first (line ∷ lines) (put_in_order line lines) (put_among line lines)))
 
 ordered_among : (lines : List Line) → IsPermutation lines (in_order lines)
 ordered_among [] = IsPermutation-refl []

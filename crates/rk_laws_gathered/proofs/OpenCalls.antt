@@ -7,10 +7,11 @@ use Rattle.rk_inv_base.proofs.Words.{list_any, and_from, cases_eq, false≢true,
 use Rattle.rk_inv_base.proofs.Words.{All-nil, All-weaker, list_any-append, sum_by-cons, get_other, Placed, accepted_at, as_accepted}
 use Rattle.rk_inv_base.proofs.Words.{is_accepted, is_of_call, Ledger, asked_by, with_asked, LastCall}
 use Rattle.std.specs.List.{count_by}
+use Rattle.std.proofs.lemmas.List.Kept.{AllPairs-cons}
 use Rattle.rk_world.specs.Ledger.{new_ledger, with_accepted}
 use Rattle.rk_laws_lanes.specs.Counts.{accepted_count}
 use Rattle.rk_laws_gathered.specs.OpenCalls.{HasCountedCalls, HasOpenCall, is_open}
-use Rattle.rk_laws_gathered.proofs.Pairs.{pairs_cons, pairs_head, pairs_none, pairs_tail}
+use Rattle.rk_laws_gathered.proofs.Pairs.{pairs_head, pairs_none, pairs_tail}
 use Rattle.rk_laws_gathered.proofs.Pigeonhole.{first_in, in_cases, later_in}
 
 -- ---- the test
@@ -96,7 +97,7 @@ others one (first ∷ rest) apart =
     (λ (differs : first ≢ one). record {
       list = first ∷ later.list;
       apart =
-          pairs_cons R first later.list
+          AllPairs-cons R first later.list
           (All-weaker (Contains later.list) (λ n. first ≢ n)
           (λ n stands. All-contains (λ n. first ≢ n) rest n before (later.among n stands)) later.list
           (All-contains_itself later.list))
@@ -207,7 +208,7 @@ module _ (ledger : Ledger) (client place : ℕ) (placed : Placed) (last : LastCa
   counted_now counted clients apart open_now =
       let was =
       counted (client ∷ clients)
-      (pairs_cons (λ a b. a ≢ b) client clients (All-weaker (HasOpenCall after) (λ n. client ≢ n) not_it clients open_now) apart)
+      (AllPairs-cons (λ a b. a ≢ b) client clients (All-weaker (HasOpenCall after) (λ n. client ≢ n) not_it clients open_now) apart)
       (All-cons (HasOpenCall ledger) client clients (ap (is_open ledger.journal) asked ∙ opened)
       (All-weaker (HasOpenCall after) (HasOpenCall ledger) open_still clients open_now)) in
       let few = one_more ledger.journal place placed at in

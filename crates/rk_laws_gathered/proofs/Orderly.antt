@@ -13,6 +13,8 @@ use Rattle.rk_inv_events.proofs.events.Clients.{is_last_there, may_accept}
 use Rattle.rk_runs.specs.history.Agreement.{AreRisingAbove, waiting}
 use Rattle.rk_runs.proofs.history.Receipts.{numbered_push, rising_push}
 use Rattle.rk_runs.proofs.history.Taking.{accepting_taken}
+use Rattle.rk_world.specs.Calls.{Visited}
+use Rattle.rk_inv_wellformed.proofs.maps.Lists.{either_way}
 use Rattle.rk_laws_gathered.specs.Answers.{AreOwn}
 use Rattle.rk_laws_gathered.specs.Gathered.{IsOrderly}
 
@@ -54,37 +56,27 @@ module _ (client : ℕ) (session : Session) (orderly : IsOrderly client session)
   -- ---- a turn
 
   -- what is kept of a session whose ranges or requests change
-  pub ranged : (now : Session) → now.client ≡ session.client → now.receipts ≡ session.receipts → now.last ≡ session.last
-      → now.outstanding ≡ session.outstanding → now.seen ≡ session.seen → IsOrderly client now
-  ranged now client_is receipts_are last_is out_is seen_is = record {
-    client_is = client_is ∙ orderly.client_is;
-    receipts = subst (AreOwn client) (sym receipts_are) orderly.receipts;
-    last = last_is ∙ orderly.last ∙ (λ i. length (sym receipts_are i) + waiting (sym out_is i));
-    outstanding =
-        subst (λ (last : ℕ). IfSome now.outstanding (λ (call : Call). (call.client ≡ client) × (call.seq ≡ last))) (sym last_is)
-        (subst (λ (out : Option Call). IfSome out (λ (call : Call). (call.client ≡ client) × (call.seq ≡ session.last)))
-        (sym out_is) orderly.outstanding);
-    rising = subst (AreRisingAbove 0) (sym receipts_are) orderly.rising;
-    seen =
-        subst (λ (seen : ℕ). All (λ (receipt : Receipt). receipt.stamp ≤ seen) now.receipts) (sym seen_is)
-        (subst (All (λ (receipt : Receipt). receipt.stamp ≤ session.seen)) (sym receipts_are) orderly.seen);
+  pub ranged : (now : Session) → IsOrderly client (record session { requests = now.requests; ranges = now.ranges; request = now.request })
+  ranged now = record {
+    client_is = orderly.client_is;
+    receipts = orderly.receipts;
+    last = orderly.last;
+    outstanding = orderly.outstanding;
+    rising = orderly.rising;
+    seen = orderly.seen;
   }
 
   turned_orderly : (call : Call) (found : Option Located) → IsOrderly client (turn_by session call found).session
-  turned_orderly call None = ranged (looking_up session call).session refl refl refl refl refl
-  turned_orderly call (Some located) = by_count (session.requests == MOST_REQUESTS)
+  turned_orderly call None = ranged (looking_up session call).session
+  turned_orderly call (Some located) =
+      either_way (λ (turned : ClientTurn). IsOrderly client turned.session) (session.requests == MOST_REQUESTS) looked_up (by_owner located.owner)
     where
       looked_up : IsOrderly client (looking_up session call).session
-      looked_up = ranged (looking_up session call).session refl refl refl refl refl
+      looked_up = ranged (looking_up session call).session
 
       by_owner : (owner : Option ℕ) → IsOrderly client (turn_to session call located.tablet owner).session
       by_owner None = looked_up
-      by_owner (Some master) = ranged (turn_to session call located.tablet (Some master)).session refl refl refl refl refl
-
-      by_count : (most : Bool)
-          → IsOrderly client (cond most (looking_up session call) (turn_to session call located.tablet located.owner)).session
-      by_count true = looked_up
-      by_count false = by_owner located.owner
+      by_owner (Some master) = ranged (turn_to session call located.tablet (Some master)).session
 
   pub turn_orderly : (out : Option Call) (turned : ClientTurn) → turn_of session out ≡ Some turned → IsOrderly client turned.session
   turn_orderly None turned is = absurd (cc is)
@@ -94,16 +86,12 @@ module _ (client : ℕ) (session : Session) (orderly : IsOrderly client session)
 
   pub asking_orderly : (w : World) (out : Option Call) → IsOrderly client (asking w session out).session
   asking_orderly w None = orderly
-  asking_orderly w (Some call) = by_fit (fits_with w session call)
+  asking_orderly w (Some call) =
+      either_way (λ (visited : Visited). IsOrderly client visited.session) (fits_with w session call) (by_turn (session_turn session) refl) orderly
     where
       by_turn : (turn : Option ClientTurn) → session_turn session ≡ turn → IsOrderly client (asking_by w session call turn).session
       by_turn None is = orderly
       by_turn (Some turned) is = turn_orderly session.outstanding turned is
-
-      by_fit : (fits : Bool)
-          → IsOrderly client (cond fits (asking_by w session call (session_turn session)) (untouched w session None)).session
-      by_fit true = by_turn (session_turn session) refl
-      by_fit false = orderly
 
   -- ---- an answer
 
@@ -170,7 +158,7 @@ module _ (client : ℕ) (w : World) (number : ℕ) (session : Session) (sound : 
         ends = λ reply outcome seq_is at.
             done_orderly client session orderly call reply outcome out (stamped call out asked own reply outcome seq_is at);
         moves = λ reply tablet.
-            ranged client session orderly (record (without_range session call) { requests = 0 }) refl refl refl refl refl;
+            ranged client session orderly (record (without_range session call) { requests = 0 });
         waits = λ reply key. orderly;
-        locates = λ located. ranged client session orderly (with_range session (call_lane call) located) refl refl refl refl refl;
+        locates = λ located. ranged client session orderly (with_range session (call_lane call) located);
       })

@@ -5,11 +5,12 @@ use Rattle.rk_inv_base.proofs.Words.{eq_by_cmp, All-append, All-cons, All-contai
 use Rattle.rk_inv_base.proofs.Words.{Contains-append_cases, Contains-append_left, Contains-append_right, sum_by-cons, EachIn, IsInOrder}
 use Rattle.rk_inv_base.proofs.Words.{NumberMap, get, Receipt, Session}
 use Rattle.std.specs.FinMap.Entries.{below_all}
+use Rattle.std.proofs.lemmas.List.Kept.{AllPairs-cons}
 use Rattle.rk_model.specs.Ordered.{IsNumberedFrom}
 use Rattle.rk_inv_wellformed.proofs.maps.Maps.{All_pairs, first, get_first, get_later, is_below, order_tail, second}
 use Rattle.rk_laws_gathered.specs.Answers.{AreOfDistinctCalls, AreOwn, IsSameCall}
 use Rattle.rk_laws_gathered.specs.Sessions.{calls_in, receipts_in}
-use Rattle.rk_laws_gathered.proofs.Pairs.{pairs_append, pairs_cons, pairs_none}
+use Rattle.rk_laws_gathered.proofs.Pairs.{pairs_append, pairs_none}
 
 abbrev Apart : Receipt → Receipt → Type 0
 Apart a b = IsSameCall a.call b.call → ⊥
@@ -29,7 +30,7 @@ own_apart : (seq : ℕ) (receipts : List Receipt) → IsNumberedFrom seq receipt
 own_apart seq [] numbered = pairs_none Apart
 own_apart seq (receipt ∷ receipts) numbered =
     let is = numbered.0 in
-    pairs_cons Apart receipt receipts
+    AllPairs-cons Apart receipt receipts
     (All-weaker (λ (r : Receipt). seq + 1 ≤ r.call.seq) (Apart receipt)
     (λ r later same. let one = same.1 in omega (arith, later, is, one)) receipts
     (later_seqs (seq + 1) receipts numbered.1))

@@ -1,14 +1,11 @@
 -- What a source answers to a target that pulls.
-use Rattle.std.proofs.Common.{◌≡◌, true, false, cond, sym, ap, ◌∙◌}
-use Rattle.std.proofs.lemmas.Bool.{cond-true, cond-false}
+use Rattle.rk_master.proofs.Words.{◌≡◌, true, false, cond, sym, ap, ◌∙◌, cond-true, cond-false, Master, tablet_at, Tablet, Worked, changed}
 use Rattle.rk_types.specs.declared.node.Node.{Node}
 use Rattle.rk_message.specs.declared.pulling.Pull.{Pull}
 use Rattle.rk_message.specs.declared.pulling.Want.{Want}
-use Rattle.rk_world.specs.Master.{Master, tablet_at}
 use Rattle.rk_world.specs.Pulls.{pull_taken, want_taken}
 use Rattle.rk_world.specs.RoleTests.{is_frozen_at}
-use Rattle.rk_world.specs.Tablet.{Tablet}
-use Rattle.rk_world.specs.Worked.{Worked, changed, sending}
+use Rattle.rk_world.specs.Worked.{sending}
 use Rattle.rk_master.specs.Pulls.{batch_answer, want_answer}
 
 -- what is answered to a Pull of a tablet

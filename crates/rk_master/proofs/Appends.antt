@@ -1,11 +1,8 @@
 -- What a master sends to its backups, to one after the other.
-use Rattle.std.proofs.Common.{◌≡◌, ℕ, suc, ◌+◌, ◌-◌, ◌<◌, ◌≤◌, List, ◌++◌, length, sym, ap, ◌∙◌, arith, append_assoc}
-use Rattle.std.proofs.lemmas.List.{append-nil}
-use Rattle.std.specs.List.{range_with_len, flat_map}
+use Rattle.rk_master.proofs.Words.{◌≡◌, ℕ, suc, ◌+◌, ◌-◌, ◌<◌, ◌≤◌, List, ◌++◌, length, sym, ap, ◌∙◌, arith, append_assoc, append-nil}
+use Rattle.rk_master.proofs.Words.{range_with_len, flat_map, Message, Master, append_of}
 use Rattle.rk_log.specs.Log.{pending}
-use Rattle.rk_message.specs.declared.message.Message.{Message}
-use Rattle.rk_world.specs.Master.{Master}
-use Rattle.rk_world.specs.MasterTurn.{append_of, appends}
+use Rattle.rk_world.specs.MasterTurn.{appends}
 
 -- what is sent to a backup
 abbrev pub sent_to : Master → ℕ → List Message

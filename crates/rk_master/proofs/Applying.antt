@@ -1,18 +1,12 @@
 -- What becomes of a master when entries are applied, and what it sends and serves by that.
-use Rattle.std.proofs.Common.{◌≡◌, ℕ, zero, suc, ◌+◌, ◌<◌, ◌≤◌, List, [], ◌∷◌, ◌++◌, length, take, drop, slice_get, Option, Some, None, refl, sym, ap, ◌∙◌, arith, append_assoc}
-use Rattle.std.proofs.lemmas.List.{append-nil}
-use Rattle.rk_types.specs.NumberMap.{get}
-use Rattle.rk_types.specs.declared.call.Call.{Call}
+use Rattle.rk_master.proofs.Words.{◌≡◌, ℕ, zero, suc, ◌+◌, ◌<◌, ◌≤◌, List, [], ◌∷◌, ◌++◌, length, take, drop, slice_get, Option, Some, None}
+use Rattle.rk_master.proofs.Words.{refl, sym, ap, ◌∙◌, arith, append_assoc, append-nil, get, Call, Entry, told_by, Master, Worked, changed}
+use Rattle.rk_master.proofs.Words.{apply_entries, Work, worked_of, behind, marks_of}
 use Rattle.rk_types.specs.declared.call.Ended.{Ended}
-use Rattle.rk_entry.specs.declared.entry.Entry.{Entry}
 use Rattle.rk_entry.specs.declared.entry.Entry.TheVariants as entries
 use Rattle.rk_log.specs.Log.{committed}
-use Rattle.rk_world.specs.Ends.{told_by}
-use Rattle.rk_world.specs.Master.{Master}
-use Rattle.rk_world.specs.Worked.{Worked, changed}
-use Rattle.rk_world.specs.Commits.{with_entry_item, with_applied, with_ended, apply_entry, apply_entries, newly_held}
-use Rattle.rk_master.specs.declared.work.Worked.{Worked as Work}
-use Rattle.rk_master.specs.Parts.{worked_of, behind, marks_of, with_items_of}
+use Rattle.rk_world.specs.Commits.{with_entry_item, with_applied, with_ended, apply_entry, newly_held}
+use Rattle.rk_master.specs.Parts.{with_items_of}
 use Rattle.rk_master.proofs.Keeping.{from_place}
 
 -- nothing is made behind what was sent and served

@@ -1,19 +1,14 @@
 -- What is done with a call, at the tablet that is served here and has its key.
-use Rattle.std.proofs.Common.{◌≡◌, ℕ, Bool, true, false, cond, List, Option, Some, None, sym, ap, ◌∙◌}
-use Rattle.std.specs.Option.{option_or, option_map, option_copied}
-use Rattle.std.specs.List.{find}
+use Rattle.rk_master.proofs.Words.{◌≡◌, ℕ, Bool, true, false, cond, List, Option, Some, None, sym, ap, ◌∙◌, option_map, option_copied, find}
+use Rattle.rk_master.proofs.Words.{Call, newest, items_of, Tablet, Master, serves_key, TabletLane, tablet_of, tablets_of, choice_of}
+use Rattle.rk_master.proofs.Words.{fresh_choice}
+use Rattle.std.specs.Option.{option_or}
 use denote.Ref.{Bor}
-use Rattle.rk_types.specs.declared.call.Call.{Call}
 use Rattle.rk_model.specs.Merged.{is_mutation}
-use Rattle.rk_overlay.specs.Newest.{newest}
 use Rattle.rk_table.specs.Items.{found}
 use Rattle.rk_done.specs.Completions.{look}
-use Rattle.rk_world.specs.Ends.{items_of}
-use Rattle.rk_world.specs.Tablet.{Tablet}
-use Rattle.rk_world.specs.Master.{Master, serving, serves_key, staged}
-use Rattle.rk_master.specs.declared.tablet_lane.TabletLane.{TabletLane}
-use Rattle.rk_master.specs.Parts.{tablet_of, tablets_of}
-use Rattle.rk_world.specs.Requests.{choice_of, choice_at, mutation_choice, fresh_choice}
+use Rattle.rk_world.specs.Master.{serving, staged}
+use Rattle.rk_world.specs.Requests.{choice_at, mutation_choice}
 
 -- a row of the tablets that is lent
 abbrev Row : Type 0

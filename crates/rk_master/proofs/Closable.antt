@@ -1,29 +1,16 @@
 -- What closes the roles of tablets can be spelled, also after one of them changed.
-use Rattle.std.proofs.Common.{◌≡◌, ℕ, zero, suc, ◌<◌, Bool, true, false, cond, eqb, not, ◌&&◌, List, [], ◌∷◌, length, get_or, set, Some, None, refl, sym, subst, arith}
-use Rattle.std.specs.Int.{w64}
-use Rattle.std.specs.Ordering.{nat_cmp}
-use Rattle.std.specs.declared.cmp.Ordering.{Ordering}
-use Rattle.std.specs.declared.cmp.Ordering.TheVariants.{Less, Equal, Greater}
-use Rattle.std.specs.FinMap.Entries.{by_order}
-use Rattle.rk_types.specs.NumberMap.{NumberMap, insert}
-use Rattle.rk_types.specs.declared.call.Call.{Call}
+use Rattle.rk_master.proofs.Words.{◌≡◌, ℕ, zero, suc, ◌<◌, Bool, true, false, cond, eqb, not, ◌&&◌, List, [], ◌∷◌, length, get_or, set}
+use Rattle.rk_master.proofs.Words.{Some, None, refl, sym, subst, arith, w64, nat_cmp, Ordering, Less, Equal, Greater, by_order, NumberMap}
+use Rattle.rk_master.proofs.Words.{insert, Call, Range, IsLawfulRange, IsNumber, Role, noting, Tablet, AreTablets, given_up_but, can_close}
+use Rattle.rk_master.proofs.Words.{IsClosable, AreClosable, tablet_of, tablets_of, TabletLane, Row}
 use Rattle.rk_types.specs.declared.call.Ended.{Ended}
 use Rattle.rk_types.specs.Range.{meets}
-use Rattle.rk_types.specs.declared.range.Range.{Range}
 use Rattle.rk_done.specs.Completions.{noted}
-use Rattle.rk_entry.specs.Ends.{IsLawfulRange}
-use Rattle.rk_entry.specs.Numbers.{IsNumber}
 use Rattle.rk_entry.specs.declared.entry.Joined.{Joined}
-use Rattle.rk_transfer.specs.declared.role.Role.{Role}
 use Rattle.rk_transfer.specs.declared.role.Role.TheVariants as roles
 use Rattle.rk_world.specs.Handovers.{given_up}
-use Rattle.rk_world.specs.Commits.{noting}
 use Rattle.rk_world.specs.Ranges.{has_key}
 use Rattle.rk_world.specs.RoleTests.{is_absent}
-use Rattle.rk_world.specs.Tablet.{Tablet}
-use Rattle.rk_master.specs.Parts.{AreTablets, given_up_but, can_close, IsClosable, AreClosable, tablet_of, tablets_of}
-use Rattle.rk_master.specs.declared.tablet_lane.TabletLane.{TabletLane}
-use Rattle.rk_master.specs.Places.{Row}
 use Rattle.rk_master.proofs.Places.{at_itself, order_there}
 
 -- what the entry that closes the role of a tablet tells

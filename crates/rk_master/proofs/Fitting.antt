@@ -1,15 +1,9 @@
 -- What a master chooses for a lawful call can be carried out.
-use Rattle.std.proofs.Common.{◌≡◌, ℕ, Bool, true, false, cond, eqb, ◌&&◌, not, List, [], ◌∷◌, Option, Some, None, is_some, refl, sym, ap, ◌∙◌}
-use Rattle.std.specs.Prelude.{IsSome}
-use Rattle.std.specs.List.{find}
-use Rattle.std.specs.Ordering.{nat_cmp, is_eq}
-use Rattle.std.specs.Cmp.{unsigned_tied}
-use Rattle.std.proofs.lemmas.Bool.{false≢true, eq-eqb}
-use Rattle.rk_types.specs.NumberMap.{NumberMap, get}
-use Rattle.rk_types.specs.declared.call.Call.{Call}
+use Rattle.rk_master.proofs.Words.{◌≡◌, ℕ, Bool, true, false, cond, eqb, ◌&&◌, not, List, [], ◌∷◌, Option, Some, None, is_some, refl, sym}
+use Rattle.rk_master.proofs.Words.{ap, ◌∙◌, IsSome, find, nat_cmp, is_eq, unsigned_tied, false≢true, eq-eqb, NumberMap, get, Call, Held}
+use Rattle.rk_master.proofs.Words.{Tablet, Master, serves_key, choice_of, fresh_choice, IsFit}
 use Rattle.rk_types.specs.declared.call.Op.{Op}
 use Rattle.rk_types.specs.declared.call.Op.TheVariants as ops
-use Rattle.rk_types.specs.declared.held.Held.{Held}
 use Rattle.rk_done.specs.Completions.{look}
 use Rattle.rk_done.specs.declared.completion.Look.{Look}
 use Rattle.rk_done.specs.declared.completion.Look.TheVariants as looks
@@ -17,12 +11,10 @@ use Rattle.rk_model.specs.Merged.{is_mutation}
 use Rattle.rk_overlay.specs.Live.{record_of}
 use Rattle.rk_message.specs.Calls.{IsLawfulOp}
 use Rattle.rk_world.specs.declared.choice.Choice.TheVariants.{Ignores, Wants, Writes, Refuses}
-use Rattle.rk_world.specs.Tablet.{Tablet}
 use Rattle.rk_world.specs.Premises.{IsLawfulCall}
-use Rattle.rk_world.specs.Master.{Master, is_staged, serving, serves_key}
-use Rattle.rk_world.specs.Requests.{choice_of, choice_at, mutation_choice, fresh_choice, operation, is_known, needs_state, state_of, version_of}
+use Rattle.rk_world.specs.Master.{is_staged, serving}
+use Rattle.rk_world.specs.Requests.{choice_at, mutation_choice, operation, is_known, needs_state, state_of, version_of}
 use Rattle.rk_types.specs.Hashing.{hash_of}
-use Rattle.rk_master.specs.Choices.{IsFit}
 
 -- the tablet that serves a key is there
 found_there : (tablets : NumberMap Tablet) (table : ℕ) (key : List ℕ) (number : ℕ) (tablet : Tablet)

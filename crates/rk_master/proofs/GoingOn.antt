@@ -1,18 +1,11 @@
 -- What was waited for goes on, at one tablet after the other.
-use Rattle.std.proofs.Common.{◌≡◌, ℕ, ◌+◌, true, false, List, length, drop, slice_get, Option, Some, None, is_some, refl, sym, ap, ◌∙◌}
-use Rattle.std.proofs.lemmas.List.{append-nil}
-use Rattle.std.proofs.lemmas.Bool.{cond-true, cond-false, false≢true}
-use Rattle.rk_transfer.specs.Handover.{joined}
-use Rattle.rk_transfer.specs.declared.handover.Handover.{Handover}
-use Rattle.rk_transfer.specs.declared.role.Role.{Role}
+use Rattle.rk_master.proofs.Words.{◌≡◌, ℕ, ◌+◌, true, false, List, length, drop, slice_get, Option, Some, None, is_some, refl, sym, ap, ◌∙◌}
+use Rattle.rk_master.proofs.Words.{append-nil, cond-true, cond-false, false≢true, joined, Handover, Role, Tablet, with_handover, Master}
+use Rattle.rk_master.proofs.Words.{with_tablet, Worked, changed, all_going_on, Work, marks_of, tablet_of, tablets_of, worked_of, Row}
 use Rattle.rk_transfer.specs.declared.role.Role.TheVariants as roles
-use Rattle.rk_world.specs.Tablet.{Tablet, with_handover}
-use Rattle.rk_world.specs.Master.{Master, is_settled, with_tablet}
-use Rattle.rk_world.specs.Worked.{Worked, changed, then_works}
-use Rattle.rk_world.specs.Waiting.{all_going_on, freezing, tablet_frozen, closing_entry, closing_appended, is_sealed_stored, going_on_in}
-use Rattle.rk_master.specs.declared.work.Worked.{Worked as Work}
-use Rattle.rk_master.specs.Parts.{marks_of, tablet_of, tablets_of, worked_of}
-use Rattle.rk_master.specs.Places.{Row}
+use Rattle.rk_world.specs.Master.{is_settled}
+use Rattle.rk_world.specs.Worked.{then_works}
+use Rattle.rk_world.specs.Waiting.{freezing, tablet_frozen, closing_entry, closing_appended, is_sealed_stored, going_on_in}
 use Rattle.rk_master.proofs.Keeping.{from_place}
 
 -- a tablet of which nothing is staged freezes

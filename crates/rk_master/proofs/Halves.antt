@@ -1,14 +1,9 @@
 -- A tablet of a master is split.
-use Rattle.std.proofs.Common.{◌≡◌, ℕ, ◌<◌, Bool, true, false, cond, List, sym, ap, ◌∙◌, arith}
+use Rattle.rk_master.proofs.Words.{◌≡◌, ℕ, ◌<◌, Bool, true, false, cond, List, sym, ap, ◌∙◌, arith, insert, Range, Master, tablet_at}
+use Rattle.rk_master.proofs.Words.{Tablet, no_tablet, tablets_of, Row}
 use Rattle.std.proofs.lemmas.Bool.Decides.{nat_tests}
-use Rattle.rk_types.specs.NumberMap.{insert}
-use Rattle.rk_types.specs.declared.range.Range.{Range}
-use Rattle.rk_world.specs.Master.{Master, tablet_at}
 use Rattle.rk_world.specs.Ranges.{range_below, range_from}
 use Rattle.rk_world.specs.Splits.{has_parts, with_half, with_halves, with_split}
-use Rattle.rk_world.specs.Tablet.{Tablet, no_tablet}
-use Rattle.rk_master.specs.Parts.{tablets_of}
-use Rattle.rk_master.specs.Places.{Row}
 use Rattle.rk_master.proofs.Handovers.{with_rows}
 
 -- what a split makes of a tablet by whether its range has parts

@@ -1,44 +1,29 @@
 -- What the coordinator's orders do, at the place of their tablet.
-use Rattle.std.proofs.Common.{◌≡◌, ℕ, ◌<◌, Bool, true, false, cond, not, ◌&&◌, eqb, ltb, map, subst, List, [], ◌∷◌, length, get_or, set, slice_get, Option, Some, None, is_some, unwrap_or, refl, sym, ap, ◌∙◌, arith}
+use Rattle.rk_master.proofs.Words.{◌≡◌, ℕ, ◌<◌, Bool, true, false, cond, not, ◌&&◌, eqb, ltb, map, subst, List, [], ◌∷◌, length, get_or}
+use Rattle.rk_master.proofs.Words.{set, slice_get, Option, Some, None, is_some, unwrap_or, refl, sym, ap, ◌∙◌, arith, w64, list_all}
+use Rattle.rk_master.proofs.Words.{nat_cmp, is_eq, cond-true, cond-false, eq-eqb, false≢true, slice_get-get_or, NumberMap, IsInOrder, get}
+use Rattle.rk_master.proofs.Words.{insert, get_same, Held, Range, Handover, Role, IsLawfulRange, IsLawfulEntry, IsNumber, Log, with_entry}
+use Rattle.rk_master.proofs.Words.{completions_from, Message, is_above, Master, tablet_at, Tablet, no_tablet, pulling_from, with_handover}
+use Rattle.rk_master.proofs.Words.{without_merged, Worked, changed, TabletLane, Work, IsClosable, changing, given_up_but, marks_of}
+use Rattle.rk_master.proofs.Words.{tablet_in, tablet_of, tablets_of, worked_of, IsAt, IsBetween, Row, items_of_sides}
 use Rattle.std.specs.Prelude.{IfSome}
-use Rattle.std.specs.Int.{w64}
-use Rattle.std.specs.List.{list_all}
-use Rattle.std.specs.Ordering.{nat_cmp, is_eq}
-use Rattle.std.proofs.lemmas.Bool.{cond-true, cond-false, eq-eqb, false≢true, lt-ltb}
+use Rattle.std.proofs.lemmas.Bool.{lt-ltb}
 use Rattle.std.proofs.lemmas.List.{get_or-set_same, set-get_or}
-use Rattle.std.proofs.lemmas.Option.{slice_get-get_or}
 use Rattle.std.proofs.Math.ListN.{length-set}
-use Rattle.rk_types.specs.NumberMap.{NumberMap, IsInOrder, get, insert}
-use Rattle.rk_types.proofs.NumberMaps.{get_same, same_number}
+use Rattle.rk_types.proofs.NumberMaps.{same_number}
 use Rattle.rk_types.specs.Range.{meets}
-use Rattle.rk_types.specs.declared.held.Held.{Held}
-use Rattle.rk_types.specs.declared.range.Range.{Range}
 use Rattle.rk_table.specs.Items.{without}
 use Rattle.rk_transfer.specs.Handover.{closed, frozen, granted, role_granted, owned, prepared, released, in_role, role_closed, role_owned, role_released}
-use Rattle.rk_transfer.specs.declared.handover.Handover.{Handover}
-use Rattle.rk_transfer.specs.declared.role.Role.{Role}
 use Rattle.rk_transfer.specs.declared.role.Role.TheVariants as roles
-use Rattle.rk_entry.specs.Ends.{IsLawfulRange}
-use Rattle.rk_entry.specs.Lawful.{IsLawfulEntry}
-use Rattle.rk_entry.specs.Numbers.{IsNumber}
-use Rattle.rk_log.specs.Log.{Log, with_entry}
-use Rattle.rk_done.specs.Completions.{completions_from}
 use Rattle.rk_message.specs.declared.handover.Grant.{Grant}
 use Rattle.rk_message.specs.declared.handover.Prepare.{Prepare}
 use Rattle.rk_message.specs.declared.handover.Tenure.{Tenure}
-use Rattle.rk_message.specs.declared.message.Message.{Message}
-use Rattle.rk_world.specs.Handovers.{carried_entry, close_taken, closing, given_up, grant_taken, granting, is_above, is_greater, own_taken, owning, prepare_taken, preparing, ready, ready_again, release_taken, releasing, tablet_prepared, transfer, transferring, with_move, with_others_given_up}
-use Rattle.rk_world.specs.Master.{Master, tablet_at, without_items}
+use Rattle.rk_world.specs.Handovers.{carried_entry, close_taken, closing, given_up, grant_taken, granting, is_greater, own_taken, owning, prepare_taken, preparing, ready, ready_again, release_taken, releasing, tablet_prepared, transfer, transferring, with_move, with_others_given_up}
+use Rattle.rk_world.specs.Master.{without_items}
 use Rattle.rk_world.specs.RoleTests.{is_frozen_at}
-use Rattle.rk_world.specs.Tablet.{Tablet, no_tablet, pulling_from, with_handover, without_merged}
 use Rattle.rk_world.specs.Waiting.{freezing}
-use Rattle.rk_world.specs.Worked.{Worked, changed, sending}
-use Rattle.rk_master.specs.declared.tablet_lane.TabletLane.{TabletLane}
-use Rattle.rk_master.specs.declared.work.Worked.{Worked as Work}
-use Rattle.rk_master.specs.Parts.{IsClosable, IsGrantable, changing, given_up_but, marks_of, tablet_in, tablet_of, tablets_of, worked_of}
-use Rattle.rk_types.specs.Places.{IsAt, IsBetween}
-use Rattle.rk_master.specs.Places.{Row}
-use Rattle.rk_master.specs.Sides.{items_of_sides}
+use Rattle.rk_world.specs.Worked.{sending}
+use Rattle.rk_master.specs.Parts.{IsGrantable}
 use Rattle.rk_master.proofs.Closable.{closable_as}
 use Rattle.rk_master.proofs.Places.{changed_there, none_there, tablet_there}
 

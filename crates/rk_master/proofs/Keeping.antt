@@ -1,19 +1,17 @@
 -- What is kept of the staged items, after an item was staged at the end, and after the first one was applied.
-use Rattle.std.proofs.Common.{◌≡◌, ℕ, ◌+◌, ◌-◌, ◌≤◌, ◌<◌, Bool, true, false, cond, eqb, ltb, ◌&&◌, List, [], ◌∷◌, ◌++◌, take, Option, Some, None, is_some, refl, sym, ap, ◌∙◌, subst, ⊎_elim, arith, drop, slice_get, suc, zero}
+use Rattle.rk_master.proofs.Words.{◌≡◌, ℕ, ◌+◌, ◌-◌, ◌≤◌, ◌<◌, Bool, true, false, cond, eqb, ltb, ◌&&◌, List, [], ◌∷◌, ◌++◌, take, Option}
+use Rattle.rk_master.proofs.Words.{Some, None, is_some, refl, sym, ap, ◌∙◌, subst, ⊎_elim, arith, drop, slice_get, suc, zero, nat_cmp}
+use Rattle.rk_master.proofs.Words.{is_eq, unsigned_tied, cond-true, cond-false, false≢true, Held, append-nil, Entry, items_of, newest}
 use Rattle.std.specs.Prelude.{bytes_eq}
-use Rattle.std.specs.Ordering.{nat_cmp, is_eq}
-use Rattle.std.specs.Cmp.{unsigned_tied, tied_then}
+use Rattle.std.specs.Cmp.{tied_then}
 use Rattle.std.specs.Cmp.Lexicographic.{slice_cmp}
 use Rattle.std.specs.BTreeMap.{BTreeMap, get as found_in, Updates}
 use Rattle.std.proofs.lemmas.Map.Text.{is_eq-slice_cmp}
-use Rattle.std.proofs.lemmas.Bool.{cases_Bool, cases_lt, cond-true, cond-false, false≢true}
-use Rattle.rk_types.specs.declared.held.Held.{Held}
+use Rattle.std.proofs.lemmas.Bool.{cases_Bool, cases_lt}
 use Rattle.std.proofs.lemmas.Grind.{flat_map-append}
-use Rattle.std.proofs.lemmas.List.{append-nil}
-use Rattle.rk_entry.specs.declared.entry.Entry.{Entry}
 use Rattle.rk_entry.specs.declared.entry.Entry.TheVariants as entries
-use Rattle.rk_world.specs.Ends.{items_in, items_of}
-use Rattle.rk_overlay.specs.Newest.{is_of, Found, none_found, newer_of, with_newer, newest_from, newest, HasNone}
+use Rattle.rk_world.specs.Ends.{items_in}
+use Rattle.rk_overlay.specs.Newest.{is_of, Found, none_found, newer_of, with_newer, newest_from, HasNone}
 use Rattle.rk_overlay.proofs.Folds.{newest_from-append, newest_from-same, with_newer_here, with_newer_other, newer_item, newer_old, newer_cases, none_in}
 use Rattle.rk_overlay.proofs.Members.{first_stands, behind_stands}
 use Rattle.rk_overlay.proofs.Names.{is_of_parts, is_of_from}

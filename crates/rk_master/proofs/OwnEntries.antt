@@ -1,24 +1,23 @@
 -- What is read of the side segments of a log, and what of it counts.
-use Rattle.std.proofs.Common.{◌≡◌, ℕ, zero, suc, ◌+◌, ◌-◌, ◌^◌, ◌<◌, ◌≤◌, Bool, true, false, cond, eqb, ltb, ◌||◌, List, [], ◌∷◌, ◌++◌, drop, fold, length, get_or, Option, Some, None, unwrap_or, refl, sym, ap, ◌∙◌, arith, ◌⊎◌, inl, inr}
-use Rattle.std.specs.List.{flat_map}
+use Rattle.rk_master.proofs.Words.{◌≡◌, ℕ, zero, suc, ◌+◌, ◌-◌, ◌^◌, ◌<◌, ◌≤◌, Bool, true, false, cond, eqb, ltb, List, [], ◌∷◌, ◌++◌, drop}
+use Rattle.rk_master.proofs.Words.{fold, length, get_or, Option, Some, None, unwrap_or, refl, sym, ap, ◌∙◌, arith, inl, inr, flat_map}
+use Rattle.rk_master.proofs.Words.{false≢true, cond-true, cond-false, eq-eqb, All-head, All-tail, NumberMap, get_same, Range, entries_of}
+use Rattle.rk_master.proofs.Words.{Entry, FIRST_SIDE_SEGMENT, Log, as_entries, own_counted, with_side_read, AreSpelled, IsSpelled}
+use Rattle.rk_master.proofs.Words.{items_of_sides}
+use Rattle.std.proofs.Common.{◌||◌, ◌⊎◌}
 use Rattle.std.specs.Option.{option_map_or, option_or}
-use Rattle.std.proofs.lemmas.Bool.{false≢true, cond-true, cond-false, le-ltb, eq-eqb, ne_eqb, cases_eq}
-use Rattle.std.proofs.lemmas.List.Elements.{All-head, All-tail}
+use Rattle.std.proofs.lemmas.Bool.{le-ltb, ne_eqb, cases_eq}
 use Rattle.std.proofs.lemmas.List.Folds.{find-append}
-use Rattle.rk_types.specs.NumberMap.{NumberMap, get_or as read_or}
-use Rattle.rk_types.proofs.NumberMaps.{get_same, get_other}
-use Rattle.rk_types.specs.declared.range.Range.{Range}
-use Rattle.rk_entry.specs.Entries.{entries_of, entries_within}
+use Rattle.rk_types.specs.NumberMap.{get_or as read_or}
+use Rattle.rk_types.proofs.NumberMaps.{get_other}
+use Rattle.rk_entry.specs.Entries.{entries_within}
 use Rattle.rk_entry.specs.Lists.{is_among}
-use Rattle.rk_entry.specs.declared.entry.Entry.{Entry}
-use Rattle.rk_entry.specs.declared.lists.TheConstants.{FIRST_SIDE_SEGMENT}
 use Rattle.rk_segment.specs.Segment.{NumberedBytes}
 use Rattle.rk_log.specs.Cut.{cut}
-use Rattle.rk_log.specs.Log.{Log, bytes_of, numbered, segment_bytes, segment_of}
+use Rattle.rk_log.specs.Log.{bytes_of, numbered, segment_bytes, segment_of}
 use Rattle.rk_log.proofs.Cuts.{AreFilled, cut_filled, length-le-bytes}
-use Rattle.rk_world.specs.Material.{as_entries, counting, material_of, named, side_entries}
-use Rattle.rk_master.specs.Rebuilding.{AreRead, own_counted, side_read, with_side_read}
-use Rattle.rk_master.specs.Sides.{AreSpelled, IsSpelled, items_of_sides}
+use Rattle.rk_world.specs.Material.{counting, material_of, named, side_entries}
+use Rattle.rk_master.specs.Rebuilding.{AreRead, side_read}
 use Rattle.rk_master.proofs.Sides.{entries_in}
 
 -- ---- segments by their numbers

@@ -1,26 +1,18 @@
 -- The place of a tablet's number, and what is found and changed there.
-use Rattle.std.proofs.Common.{◌≡◌, ℕ, zero, suc, ◌<◌, ◌≤◌, Bool, true, false, cond, ◌&&◌, T, List, [], ◌∷◌, ◌++◌, ◌+◌, length, map, take, drop, slice_get, get_or, set, append_assoc, drop-cons, Option, Some, None, is_some, unwrap_or, refl, sym, ap, ◌∙◌, subst, inl, inr, arith}
+use Rattle.rk_master.proofs.Words.{◌≡◌, ℕ, zero, suc, ◌<◌, ◌≤◌, Bool, true, false, cond, ◌&&◌, T, List, [], ◌∷◌, ◌++◌, ◌+◌, length, map}
+use Rattle.rk_master.proofs.Words.{take, drop, slice_get, get_or, set, append_assoc, Option, Some, None, is_some, unwrap_or, refl, sym, ap}
+use Rattle.rk_master.proofs.Words.{◌∙◌, subst, inl, inr, arith, slice_get-get_or, false≢true, IfOk, IsSome, option_map, insert_at, nat_cmp}
+use Rattle.rk_master.proofs.Words.{is_lt, is_eq, Ordering, Less, Equal, Greater, below_all, by_order, NumberMap, IsInOrder, get, insert}
+use Rattle.rk_master.proofs.Words.{IsAt, IsBetween, in_order_insert, Handover, Tablet, no_tablet, with_handover, TabletLane, changing}
+use Rattle.rk_master.proofs.Words.{tablet_of, tablets_of, tablet_in, Row}
+use Rattle.std.proofs.Common.{drop-cons}
 use Rattle.std.proofs.lemmas.List.{take_more_set, drop-set-lt, map-append}
-use Rattle.std.proofs.lemmas.Option.{slice_get-get_or}
-use Rattle.std.proofs.lemmas.Bool.{cases_lt, false≢true}
-use Rattle.std.specs.Prelude.{Result, Ok, Err, IfOk, IfErr, IsOk, IsSome}
-use Rattle.std.specs.Option.{option_map}
+use Rattle.std.proofs.lemmas.Bool.{cases_lt}
+use Rattle.std.specs.Prelude.{Result, Ok, Err, IfErr, IsOk}
 use Rattle.std.specs.List.Sorted.{IsSearchInRange, IsBinarySearchResult}
-use Rattle.std.specs.List.{insert as insert_at}
-use Rattle.std.specs.Ordering.{nat_cmp, is_lt, is_eq, ordering_index}
-use Rattle.std.specs.declared.cmp.Ordering.{Ordering}
-use Rattle.std.specs.declared.cmp.Ordering.TheVariants.{Less, Equal, Greater}
+use Rattle.std.specs.Ordering.{ordering_index}
 use Rattle.std.specs.Cmp.{nat_cmp_is, ranked}
-use Rattle.std.specs.FinMap.Entries.{below_all, by_order}
-use Rattle.rk_types.specs.NumberMap.{NumberMap, IsInOrder, get, insert}
-use Rattle.rk_types.specs.Places.{IsAt, IsBetween}
-use Rattle.rk_types.proofs.NumberMaps.{in_order_insert}
 use Rattle.rk_types.proofs.Places.{get_at, get_between, insert_at_place, insert_between}
-use Rattle.rk_transfer.specs.declared.handover.Handover.{Handover}
-use Rattle.rk_world.specs.Tablet.{Tablet, no_tablet, with_handover}
-use Rattle.rk_master.specs.declared.tablet_lane.TabletLane.{TabletLane}
-use Rattle.rk_master.specs.Parts.{changing, tablet_of, tablets_of, tablet_in}
-use Rattle.rk_master.specs.Places.{Row}
 
 -- ---- what the tablets stand for
 

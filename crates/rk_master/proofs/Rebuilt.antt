@@ -1,23 +1,20 @@
 -- What a rebuild does: how it begins, how it goes on, and how it closes.
-use Rattle.std.proofs.Common.{◌≡◌, ℕ, suc, ◌<◌, ◌≤◌, Bool, true, false, cond, eqb, ltb, ◌&&◌, List, [], ◌∷◌, ◌++◌, fold, drop, map, length, length-append, Option, Some, None, is_some, unwrap_or, append_assoc, get_or, set, refl, sym, ap, ◌∙◌, subst, arith}
+use Rattle.rk_master.proofs.Words.{◌≡◌, ℕ, suc, ◌<◌, ◌≤◌, Bool, true, false, cond, eqb, ltb, ◌&&◌, List, [], ◌∷◌, ◌++◌, fold, drop, map}
+use Rattle.rk_master.proofs.Words.{length, length-append, Option, Some, None, is_some, unwrap_or, append_assoc, get_or, set, refl, sym, ap}
+use Rattle.rk_master.proofs.Words.{◌∙◌, subst, arith, All, list_all, IsSome, cond-true, eq-eqb, false≢true, append-nil, All-head, All-tail}
+use Rattle.rk_master.proofs.Words.{NumberMap, IsInOrder, get, insert, get_same, in_order_insert, Held, Range, IsLawfulEntry, IsLawfulHeld}
+use Rattle.rk_master.proofs.Words.{Entry, Log, with_entry, Handover, Role, is_above, Master, tablet_at, as_entries, is_gathering, Tablet}
+use Rattle.rk_master.proofs.Words.{no_tablet, pulling_from, with_handover, without_merged, changed, Work, AreClosable, IsClosable}
+use Rattle.rk_master.proofs.Words.{can_close, changing, given_up_but, marks_of, tablet_in, tablet_of, tablets_of, worked_of, CanBeSpelled}
+use Rattle.rk_master.proofs.Words.{own_counted, with_gather, with_items, items_of_sides, TabletLane, IsAt, Row}
 use Rattle.std.specs.Bool.{OnTrue, OnFalse}
-use Rattle.std.specs.List.{All, list_all}
-use Rattle.std.specs.Prelude.{IsSome}
-use Rattle.std.proofs.lemmas.Bool.{cond-true, lt-ltb, eq-eqb, false≢true}
-use Rattle.std.proofs.lemmas.List.{append-nil, set-get_or}
-use Rattle.std.proofs.lemmas.List.Elements.{All-nil, All-cons, All-head, All-tail}
-use Rattle.rk_types.specs.NumberMap.{NumberMap, IsInOrder, get, insert}
-use Rattle.rk_types.proofs.NumberMaps.{get_insert, get_same, in_order_insert, same_map}
-use Rattle.rk_types.specs.declared.held.Held.{Held}
+use Rattle.std.proofs.lemmas.Bool.{lt-ltb}
+use Rattle.std.proofs.lemmas.List.{set-get_or}
+use Rattle.std.proofs.lemmas.List.Elements.{All-nil, All-cons}
+use Rattle.rk_types.proofs.NumberMaps.{get_insert, same_map}
 use Rattle.rk_types.specs.declared.lineage.Member.{Member}
-use Rattle.rk_types.specs.declared.range.Range.{Range}
-use Rattle.rk_entry.specs.Lawful.{IsLawfulEntry, IsLawfulHeld}
-use Rattle.rk_entry.specs.declared.entry.Entry.{Entry}
 use Rattle.rk_entry.specs.declared.entry.Entry.TheVariants as entries
-use Rattle.rk_log.specs.Log.{Log, with_entry}
 use Rattle.rk_transfer.specs.Handover.{carried, in_role, rebuilt, role_carried}
-use Rattle.rk_transfer.specs.declared.handover.Handover.{Handover}
-use Rattle.rk_transfer.specs.declared.role.Role.{Role}
 use Rattle.rk_transfer.specs.declared.role.Role.TheVariants as roles
 use Rattle.rk_message.specs.declared.rebuilding.CopySegment.{CopySegment}
 use Rattle.rk_message.specs.declared.rebuilding.Rebuild.{Rebuild}
@@ -25,21 +22,12 @@ use Rattle.rk_world.specs.declared.work.Merged.{Merged}
 use Rattle.rk_world.specs.declared.work.Mark.{Mark}
 use Rattle.rk_world.specs.declared.work.Reading.{Reading}
 use Rattle.rk_world.specs.Gather.{Gather, gather_begun, next_reading}
-use Rattle.rk_world.specs.Handovers.{is_above, is_greater, with_others_given_up}
+use Rattle.rk_world.specs.Handovers.{is_greater, with_others_given_up}
 use Rattle.rk_world.specs.Lineage.{own_member}
-use Rattle.rk_world.specs.Master.{Master, tablet_at, with_all, with_appended}
-use Rattle.rk_world.specs.Material.{as_entries, material_of, side_entries}
+use Rattle.rk_world.specs.Master.{with_all, with_appended}
+use Rattle.rk_world.specs.Material.{material_of, side_entries}
 use Rattle.rk_world.specs.Rebuilds.{begun_from, copy_taken, merged_at, merging, own_material, own_place, rebuild_begun, rebuild_goes_on, rebuild_taken, rebuilding_on, rebuilt_entry, segment_gathered, with_begun, with_gathered, with_merged, without_foreign}
-use Rattle.rk_world.specs.RoleTests.{is_gathering}
-use Rattle.rk_world.specs.Tablet.{Tablet, no_tablet, pulling_from, with_handover, without_merged}
-use Rattle.rk_world.specs.Worked.{changed}
-use Rattle.rk_master.specs.declared.work.Worked.{Worked as Work}
-use Rattle.rk_master.specs.Parts.{AreClosable, IsClosable, can_close, changing, given_up_but, marks_of, tablet_in, tablet_of, tablets_of, worked_of}
-use Rattle.rk_master.specs.Rebuilding.{CanBeSpelled, gathered_from, is_awaiting, merged_with, own_counted, with_gather, with_items}
-use Rattle.rk_master.specs.Sides.{items_of_sides}
-use Rattle.rk_master.specs.declared.tablet_lane.TabletLane.{TabletLane}
-use Rattle.rk_types.specs.Places.{IsAt}
-use Rattle.rk_master.specs.Places.{Row}
+use Rattle.rk_master.specs.Rebuilding.{gathered_from, is_awaiting, merged_with}
 use Rattle.rk_master.proofs.Closable.{closable_at}
 use Rattle.rk_master.proofs.Handovers.{changed_read, kept_itself, stays_itself, tablet_read, with_rows}
 use Rattle.rk_master.proofs.Places.{there_too}

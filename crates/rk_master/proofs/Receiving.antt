@@ -1,57 +1,41 @@
 -- What a pull makes of a master, at the place of its tablet.
-use Rattle.std.proofs.Common.{◌≡◌, ℕ, zero, suc, ◌+◌, ◌%◌, ◌<◌, ◌≤◌, Bool, true, false, eqb, ◌&&◌, T, List, [], ◌∷◌, ◌++◌, length, map, fold, get_or, set, slice_get, Option, Some, None, unwrap_or, refl, sym, ap, ◌∙◌, subst, append_assoc, arith}
+use Rattle.rk_master.proofs.Words.{◌≡◌, ℕ, zero, suc, ◌+◌, ◌<◌, ◌≤◌, Bool, true, false, eqb, ◌&&◌, T, List, [], ◌∷◌, ◌++◌, length, map}
+use Rattle.rk_master.proofs.Words.{fold, get_or, set, slice_get, Option, Some, None, unwrap_or, refl, sym, ap, ◌∙◌, subst, append_assoc}
+use Rattle.rk_master.proofs.Words.{arith, w32, w64, option_map, All, range_with_len, nat_cmp, is_lt, below_all, cond-false, cond-true}
+use Rattle.rk_master.proofs.Words.{false≢true, append-nil, slice_get-get_or, All-head, All-tail, NumberMap, IsInOrder, get, insert, Held}
+use Rattle.rk_master.proofs.Words.{get_same, Range, IsLawfulRange, IsLawfulEntry, IsLawfulHeld, IsNumber, FIRST_SIDE_SEGMENT, Log}
+use Rattle.rk_master.proofs.Words.{with_entry, joined, Handover, Role, Replayed, side_replayed, bytes_in, spelled_items, is_batch, items_of}
+use Rattle.rk_master.proofs.Words.{Master, tablet_at, with_tablet, Tablet, no_tablet, with_handover, joined_entry, changed, TabletLane}
+use Rattle.rk_master.proofs.Words.{AreTablets, can_close, IsClosable, tablet_of, tablets_of, IsAt, Row, with_side, with_sides, AreSpelled}
+use Rattle.rk_master.proofs.Words.{IsSpelled, items_of_sides}
+use Rattle.std.proofs.Common.{◌%◌}
 use Rattle.std.specs.Prelude.{nat_eq}
-use Rattle.std.specs.Int.{w32, w64}
-use Rattle.std.specs.Option.{option_map}
-use Rattle.std.specs.List.{All, AllByRecursion, IsDistinct, range_with_len}
-use Rattle.std.specs.Ordering.{nat_cmp, is_lt}
+use Rattle.std.specs.List.{AllByRecursion, IsDistinct}
 use Rattle.std.specs.FinMap.{is_sorted}
-use Rattle.std.specs.FinMap.Entries.{below_all}
-use Rattle.std.proofs.lemmas.Bool.{cond-false, cond-true, eqb-true, false≢true, ne_eqb}
-use Rattle.std.proofs.lemmas.List.{append-nil, length-map, map-append}
+use Rattle.std.proofs.lemmas.Bool.{eqb-true, ne_eqb}
+use Rattle.std.proofs.lemmas.List.{length-map, map-append}
 use Rattle.std.proofs.lemmas.List.FromFn.{length-range_with_len}
-use Rattle.std.proofs.lemmas.Option.{slice_get-get_or}
-use Rattle.std.proofs.lemmas.List.Elements.{All-append, All-head, All-map, All-tail}
+use Rattle.std.proofs.lemmas.List.Elements.{All-append, All-map}
 use Rattle.std.proofs.Math.Seq.{map-set_same}
-use Rattle.rk_types.specs.NumberMap.{NumberMap, IsInOrder, get, insert}
-use Rattle.rk_types.specs.declared.held.Held.{Held}
 use Rattle.rk_types.specs.declared.held.Token.{Token}
-use Rattle.rk_types.proofs.NumberMaps.{get_same}
-use Rattle.rk_types.specs.declared.range.Range.{Range}
-use Rattle.rk_entry.specs.Ends.{IsLawfulRange}
-use Rattle.rk_entry.specs.Lawful.{IsLawfulEntry, IsLawfulHeld, IsLawfulJoined}
-use Rattle.rk_entry.specs.Numbers.{IsNumber}
-use Rattle.rk_entry.specs.declared.lists.TheConstants.{FIRST_SIDE_SEGMENT}
-use Rattle.rk_log.specs.Log.{Log, with_entry}
+use Rattle.rk_entry.specs.Lawful.{IsLawfulJoined}
 use Rattle.rk_segment.specs.Segment.{NumberedBytes}
-use Rattle.rk_transfer.specs.Handover.{joined}
-use Rattle.rk_transfer.specs.declared.handover.Handover.{Handover}
-use Rattle.rk_transfer.specs.declared.role.Role.{Role}
 use Rattle.rk_transfer.specs.declared.role.Role.TheVariants as roles
-use Rattle.rk_side_log.specs.Replayed.{Replayed, side_replayed}
-use Rattle.rk_side_log.specs.Spelled.{bytes_in, spelled_items}
 use Rattle.rk_side_log.proofs.CutItems.{sealed_lawful}
 use Rattle.rk_side_log.proofs.Filled.{items_spelled}
 use Rattle.rk_side_log.proofs.Masters.{insert_twice, replay_is}
 use Rattle.rk_message.specs.declared.pulling.Got.{Got}
 use Rattle.rk_message.specs.declared.pulling.Pulled.{Pulled}
-use Rattle.rk_priority.specs.Hashes.{Hashes, is_batch}
+use Rattle.rk_priority.specs.Hashes.{Hashes}
 use Rattle.rk_table.specs.Scans.{end}
-use Rattle.rk_world.specs.Ends.{items_of}
-use Rattle.rk_world.specs.Master.{Master, tablet_at, with_tablet, with_side_segment}
+use Rattle.rk_world.specs.Master.{with_side_segment}
 use Rattle.rk_world.specs.Pulls.{batch_taken, got_taken, hashes_resolved, is_token, joining_at, joining_by, next_sides, pulled_all, pulled_taken, replay, sealing, token_passed, with_pulling}
 use Rattle.rk_world.specs.RoleTests.{is_receiving}
 use Rattle.rk_world.specs.SideLogs.{sealed_sides}
-use Rattle.rk_world.specs.Tablet.{Tablet, no_tablet, with_handover}
-use Rattle.rk_world.specs.Waiting.{closing_appended, closing_entry, joined_entry}
-use Rattle.rk_world.specs.Worked.{changed}
+use Rattle.rk_world.specs.Waiting.{closing_appended, closing_entry}
 use Rattle.rk_master.specs.declared.pulled.TheConstants.{MOST_SEALED}
-use Rattle.rk_master.specs.declared.tablet_lane.TabletLane.{TabletLane}
-use Rattle.rk_master.specs.Parts.{AreTablets, can_close, IsClosable, tablet_of, tablets_of}
-use Rattle.rk_types.specs.Places.{IsAt}
-use Rattle.rk_master.specs.Places.{Row}
-use Rattle.rk_master.specs.Pulls.{asked_for, awaits, CanClose, DoesPull, no_sides, with_resolved, with_sealed, with_side, with_sides, with_token}
-use Rattle.rk_master.specs.Sides.{AreSpelled, IsSpelled, items_of_sides, side_items}
+use Rattle.rk_master.specs.Pulls.{asked_for, awaits, CanClose, DoesPull, no_sides, with_resolved, with_sealed, with_token}
+use Rattle.rk_master.specs.Sides.{side_items}
 use Rattle.rk_master.proofs.Closable.{closable_at, closing_joined}
 use Rattle.rk_master.proofs.Handovers.{changed_read, set_there, tablet_read, with_rows}
 use Rattle.rk_types.proofs.Places.{get_at}

@@ -1,15 +1,10 @@
 -- Side segments spell their items, and are put beside a log one after the other.
-use Rattle.std.proofs.Common.{◌≡◌, ℕ, suc, ◌+◌, List, [], ◌∷◌, ◌++◌, length, length-append, sym, ap, subst, ◌∙◌, append_assoc, arith}
-use Rattle.std.specs.List.{All, range_with_len}
-use Rattle.rk_types.specs.declared.held.Held.{Held}
-use Rattle.rk_entry.specs.Entries.{entries_of}
-use Rattle.rk_entry.specs.Lawful.{IsLawfulHeld}
-use Rattle.rk_log.specs.Log.{Log, with_side}
-use Rattle.rk_world.specs.Material.{as_entries}
-use Rattle.rk_side_log.specs.Spelled.{spelled_items}
+use Rattle.rk_master.proofs.Words.{◌≡◌, ℕ, suc, ◌+◌, List, [], ◌∷◌, ◌++◌, length, length-append, sym, ap, subst, ◌∙◌, append_assoc, arith}
+use Rattle.rk_master.proofs.Words.{All, range_with_len, Held, entries_of, IsLawfulHeld, Log, as_entries, spelled_items, with_sides}
+use Rattle.rk_master.proofs.Words.{IsSpelled}
+use Rattle.rk_log.specs.Log.{with_side}
 use Rattle.rk_side_log.proofs.Filled.{entries_spelled, items_spelled}
-use Rattle.rk_master.specs.Pulls.{with_sides}
-use Rattle.rk_master.specs.Sides.{IsSpelled, side_items}
+use Rattle.rk_master.specs.Sides.{side_items}
 
 -- the entries that a side segment spells are its items
 pub entries_in : (bytes : List ℕ) → IsSpelled bytes → entries_of bytes ≡ as_entries (side_items bytes)

@@ -1,18 +1,10 @@
 -- What a master does for its tablets on its turn, for one after the other.
-use Rattle.std.proofs.Common.{◌≡◌, ℕ, ◌+◌, ◌<◌, ◌≤◌, List, [], ◌∷◌, ◌++◌, length, drop, slice_get, get_or, Option, Some, refl, sym, ap, ◌∙◌, subst, append_assoc}
-use Rattle.std.proofs.lemmas.List.{append-nil, drop_all}
-use Rattle.rk_types.specs.NumberMap.{NumberMap}
-use Rattle.rk_message.specs.declared.message.Message.{Message}
-use Rattle.rk_transfer.specs.declared.role.Role.{Role}
+use Rattle.rk_master.proofs.Words.{◌≡◌, ℕ, ◌+◌, ◌<◌, ◌≤◌, List, [], ◌∷◌, ◌++◌, length, drop, slice_get, get_or, Option, Some, refl, sym, ap}
+use Rattle.rk_master.proofs.Words.{◌∙◌, subst, append_assoc, append-nil, NumberMap, Message, Role, Master, with_tablet, duties, Tablet}
+use Rattle.rk_master.proofs.Words.{Worked, Work, behind, marks_of, tablet_of, tablets_of, worked_of, IsAt, Row}
+use Rattle.std.proofs.lemmas.List.{drop_all}
 use Rattle.rk_transfer.specs.declared.role.Role.TheVariants as roles
-use Rattle.rk_world.specs.Master.{Master, with_tablet}
-use Rattle.rk_world.specs.MasterTurn.{duties, pull_of, receiving_duty, tablet_duty, want_of, with_outstanding}
-use Rattle.rk_world.specs.Tablet.{Tablet}
-use Rattle.rk_world.specs.Worked.{Worked}
-use Rattle.rk_master.specs.declared.work.Worked.{Worked as Work}
-use Rattle.rk_master.specs.Parts.{behind, marks_of, tablet_of, tablets_of, worked_of}
-use Rattle.rk_types.specs.Places.{IsAt}
-use Rattle.rk_master.specs.Places.{Row}
+use Rattle.rk_world.specs.MasterTurn.{pull_of, receiving_duty, tablet_duty, want_of, with_outstanding}
 use Rattle.rk_master.proofs.Applying.{behind_changed}
 use Rattle.rk_master.proofs.Keeping.{from_place}
 use Rattle.rk_master.proofs.Places.{at_itself}

@@ -1,26 +1,16 @@
 -- What a command comes to that is a call of a cluster, by what the call answers.
-use Rattle.std.proofs.Common.{◌≡◌, ◌≢◌, ℕ, Bool, true, false, List, [], ◌∷◌, ◌++◌, Option, None, Some, Result, Ok, Err, IfErr, IfOk, OnOk, refl, sym, ap, subst}
-use Rattle.std.specs.Prelude.{IsErrAnd, IsOkAnd, if◌then◌else◌}
-use Rattle.rk_types.specs.declared.node.Said.{Said}
-use Rattle.rk_outside.specs.Segments.{Segments}
-use Rattle.rk_world.specs.Cluster.{Cluster, Occurrence}
+use Rattle.rk_play.proofs.Words.{◌≡◌, ◌≢◌, ℕ, Bool, true, false, List, [], ◌∷◌, ◌++◌, Option, None, Some, IfErr, refl, sym, ap, subst}
+use Rattle.rk_play.proofs.Words.{IsErrAnd, if◌then◌else◌, Said, Segments, Cluster, Occurrence, CountsGoOn, number_of, Fate, ClusterState}
+use Rattle.rk_play.proofs.Words.{IsOf, Tells, Code, ClusterError, counts_same, said_lines, Came, IsCome, Ran, Stopped, Effect, Refuses}
+use Rattle.rk_play.proofs.Words.{Stop, is_full, refused_by, error_by_cluster, stop_by, PlayError}
+use Rattle.std.proofs.Common.{Result, Ok, Err, IfOk, OnOk}
+use Rattle.std.specs.Prelude.{IsOkAnd}
 use Rattle.rk_cluster.specs.Acted.{Acted, all_acted}
 use Rattle.rk_cluster.specs.Effects.{EndsIn, HasCode, IsActedAs, IsCarriedOut}
-use Rattle.rk_cluster.specs.Faults.{BySomeFate, CountsGoOn}
-use Rattle.rk_cluster.specs.Numbers.{number_of}
-use Rattle.rk_cluster.specs.Replicas.{Fate}
-use Rattle.rk_cluster.specs.State.{ClusterState, IsOf}
-use Rattle.rk_cluster.specs.Told.{Tells}
-use Rattle.rk_cluster.specs.declared.code.Code.{Code}
+use Rattle.rk_cluster.specs.Faults.{BySomeFate}
 use Rattle.rk_cluster.specs.declared.code.Code.TheVariants.{Limit}
-use Rattle.rk_cluster.specs.declared.error.ClusterError.{ClusterError}
 use Rattle.rk_cluster.specs.declared.error.ClusterError.TheVariants as answers
-use Rattle.rk_cluster.proofs.Faults.{counts_same}
-use Rattle.rk_lines.specs.Lines.{said_lines}
-use Rattle.rk_play.specs.Came.{Came, IsCome, Ran, Stopped}
-use Rattle.rk_play.specs.Effects.{Effect, Refuses, Stop, Wears, carried, carried_by, is_full, refused_by}
-use Rattle.rk_play.specs.Stops.{error_by_cluster, stop_by}
-use Rattle.rk_play.specs.declared.error.PlayError.{PlayError}
+use Rattle.rk_play.specs.Effects.{Wears, carried, carried_by}
 use Rattle.rk_play.specs.declared.error.PlayError.TheVariants as errors
 
 -- what is made of a cluster that is not full, and else a refusal

@@ -1,31 +1,16 @@
 -- How a run is concluded: what its status then says of the run played.
-use Rattle.std.proofs.Common.{◌≡◌, ◌≢◌, ℕ, ◌≤◌, List, [], ◌∷◌, ◌++◌, ◌-◌, length, take, refl, sym, ap, subst, ◌∙◌, ⊎_elim, arith, append-nil, length-append}
-use Rattle.std.specs.Prelude.{Option, Some, Result, Ok, Err, ⊤}
-use Rattle.std.specs.List.{concat}
-use Rattle.std.specs.Io.KnownBytes.{Appends, Keeps}
-use Rattle.std.proofs.KnownBytes.{Appends-kept, Appends-nil, Keeps-refl}
-use Rattle.std.proofs.lemmas.List.{take-append-le}
-use Rattle.std.proofs.Math.Seq.{take-length}
-use Rattle.rk_types.specs.declared.status.Status.{Status}
-use Rattle.rk_types.specs.declared.status.Status.TheVariants.{Done, NoMemory, Refused, ReplicaFault, Worn, WriteFault}
-use Rattle.rk_outside.specs.Parts.{AppendsPart}
-use Rattle.rk_outside.specs.Segments.{Segments}
+use Rattle.rk_play.proofs.Words.{◌≡◌, ◌≢◌, ℕ, ◌≤◌, List, [], ◌∷◌, ◌++◌, ◌-◌, length, take, refl, sym, ap, subst, ◌∙◌, ⊎_elim, arith}
+use Rattle.rk_play.proofs.Words.{append-nil, length-append, Result, Ok, Err, concat, Appends, Keeps, Appends-kept, Appends-nil, Keeps-refl}
+use Rattle.rk_play.proofs.Words.{take-append-le, take-length, Status, Done, NoMemory, Refused, ReplicaFault, Worn, WriteFault, AppendsPart}
+use Rattle.rk_play.proofs.Words.{Segments, Cluster, Occurrence, Fate, ClusterState, IsOf, Numbered, ParseError, Concludes, ConcludesBy}
+use Rattle.rk_play.proofs.Words.{IsWritten, MayComeTo, Pauses, Stop, HasFailed, IsHalted, Played, behind, cluster_by, ending, part_of}
+use Rattle.rk_play.proofs.Words.{played_in, refused_at, stopped_at, text_of, unset, IsSent, Runs, stop_by, End, PlayError}
+use Rattle.std.specs.Prelude.{Option, Some, ⊤}
 use Rattle.rk_outside.proofs.PartLemmas.{AppendsPart-more}
-use Rattle.rk_world.specs.Cluster.{Cluster, Occurrence}
-use Rattle.rk_cluster.specs.Replicas.{Fate}
-use Rattle.rk_cluster.specs.State.{ClusterState, IsOf}
-use Rattle.rk_script.specs.declared.command.Numbered.{Numbered}
-use Rattle.rk_script.specs.declared.script.ParseError.{ParseError}
-use Rattle.rk_play.specs.Concluded.{Concludes, ConcludesBy, IsWritten, MayComeTo}
-use Rattle.rk_play.specs.Effects.{Pauses, Stop}
-use Rattle.rk_play.specs.Ended.{HasEndCause, HasFailed, IsHalted}
-use Rattle.rk_play.specs.Played.{Played, behind, cluster_by, ending, part_of, played_in, refused_at, stopped_at, text_of, unset}
-use Rattle.rk_play.specs.Reached.{IsReached, IsSent}
-use Rattle.rk_play.specs.Runs.{HasStatusCause, Runs}
-use Rattle.rk_play.specs.Stops.{stop_by}
-use Rattle.rk_play.specs.declared.end.End.{End}
+use Rattle.rk_play.specs.Ended.{HasEndCause}
+use Rattle.rk_play.specs.Reached.{IsReached}
+use Rattle.rk_play.specs.Runs.{HasStatusCause}
 use Rattle.rk_play.specs.declared.end.End.TheVariants as ends
-use Rattle.rk_play.specs.declared.error.PlayError.{PlayError}
 use Rattle.rk_play.specs.declared.error.PlayError.TheVariants as errors
 use Rattle.rk_play.proofs.Reaching.{text_behind}
 use Rattle.rk_play.proofs.Sending.{sent_part, sent_rest}

@@ -1,31 +1,18 @@
 -- Which errors and ends say that replicas failed too often.
-use Rattle.std.proofs.Common.{◌≡◌, ◌≢◌, ℕ, List, [], ◌++◌, Result, Ok, Err, IfErr, sym, subst, ◌∙◌, ⊎_elim}
-use Rattle.std.specs.Prelude.{IsErrAnd, Option}
-use Rattle.std.specs.Io.KnownBytes.{Appends, Keeps}
+use Rattle.rk_play.proofs.Words.{◌≡◌, ◌≢◌, ℕ, List, [], ◌++◌, IfErr, sym, subst, ◌∙◌, ⊎_elim, IsErrAnd, Appends, Keeps, Status, Done}
+use Rattle.rk_play.proofs.Words.{NoMemory, ReplicaFault, WriteFault, AppendsPart, Cluster, CountsGoOn, ClusterState, Code, ClusterError}
+use Rattle.rk_play.proofs.Words.{MOST_FAULTS, SettleError, WhereRefused, Concludes, ConcludesBy, IsWritten, end_by, Played, refused_at}
+use Rattle.rk_play.proofs.Words.{stopped_at, text_of, error_by_cluster, error_by_settling, stop_by, End, PlayError}
+use Rattle.std.proofs.Common.{Result, Ok, Err}
+use Rattle.std.specs.Prelude.{Option}
 use Rattle.std.proofs.lemmas.Result.{IfErr-weaker}
-use Rattle.rk_types.specs.declared.status.Status.{Status}
-use Rattle.rk_types.specs.declared.status.Status.TheVariants.{Done, NoMemory, ReplicaFault, WriteFault}
-use Rattle.rk_outside.specs.Parts.{AppendsPart}
-use Rattle.rk_world.specs.Cluster.{Cluster}
-use Rattle.rk_cluster.specs.Faults.{CountsGoOn, counts_in}
-use Rattle.rk_cluster.specs.State.{ClusterState}
-use Rattle.rk_cluster.specs.declared.code.Code.{Code}
-use Rattle.rk_cluster.specs.declared.error.ClusterError.{ClusterError}
+use Rattle.rk_cluster.specs.Faults.{counts_in}
 use Rattle.rk_cluster.specs.declared.error.ClusterError.TheVariants as of_cluster
 use Rattle.rk_cluster.proofs.Faults.{go_on_then}
-use Rattle.rk_settle.specs.Course.{MOST_FAULTS}
 use Rattle.rk_settle.specs.Faults as settling
-use Rattle.rk_settle.specs.declared.error.SettleError.{SettleError}
 use Rattle.rk_settle.specs.declared.error.SettleError.TheVariants as of_settling
-use Rattle.rk_play.specs.Came.{WhereRefused}
-use Rattle.rk_play.specs.Concluded.{Concludes, ConcludesBy, IsWritten}
-use Rattle.rk_play.specs.Ended.{end_by}
 use Rattle.rk_play.specs.Faults.{EndsByReplicas, HasFaults, IsOfReplicas}
-use Rattle.rk_play.specs.Played.{Played, refused_at, stopped_at, text_of}
-use Rattle.rk_play.specs.Stops.{error_by_cluster, error_by_settling, stop_by}
-use Rattle.rk_play.specs.declared.end.End.{End}
 use Rattle.rk_play.specs.declared.end.End.TheVariants as ends
-use Rattle.rk_play.specs.declared.error.PlayError.{PlayError}
 use Rattle.rk_play.specs.declared.error.PlayError.TheVariants as errors
 
 -- ---- errors

@@ -1,20 +1,15 @@
 -- What a reader was fed of a script, against what is gone of it from its source.
-use Rattle.std.proofs.Common.{◌≡◌, ℕ, ◌+◌, ◌<◌, ◌≤◌, List, ◌++◌, length, take, refl, ap, subst, ◌∙◌, arith, append-nil, length-append}
-use Rattle.std.specs.Prelude.{Option, None, Some, Result, Err}
+use Rattle.rk_play.proofs.Words.{◌≡◌, ℕ, ◌+◌, ◌<◌, ◌≤◌, List, ◌++◌, length, take, refl, ap, subst, ◌∙◌, arith, append-nil, length-append}
+use Rattle.rk_play.proofs.Words.{Result, Err, Consumes-trans, PIECE, WasFed, script_of, ScriptLength, Numbered, ParseError, LONGEST_SCRIPT}
+use Rattle.rk_play.proofs.Words.{Says, script_error_by}
+use Rattle.std.specs.Prelude.{Option, None, Some}
 use Rattle.std.specs.Io.KnownBytes.{Consumes, IsAtEnd}
-use Rattle.std.proofs.KnownBytes.{Consumes-trans, Consumes-whole}
+use Rattle.std.proofs.KnownBytes.{Consumes-whole}
 use Rattle.std.proofs.lemmas.Bool.{lt-ltb}
 use Rattle.rk_outside.specs.Parts.{ConsumesBetween}
-use Rattle.rk_outside.specs.declared.reading.TheConstants.{PIECE}
-use Rattle.rk_script.specs.Feeding.{Reader, WasFed}
-use Rattle.rk_script.specs.Script.{script_of}
+use Rattle.rk_script.specs.Feeding.{Reader}
 use Rattle.rk_script.specs.declared.code.Code.{Code}
-use Rattle.rk_script.specs.declared.code.Code.TheVariants.{ScriptLength}
-use Rattle.rk_script.specs.declared.command.Numbered.{Numbered}
-use Rattle.rk_script.specs.declared.script.ParseError.{ParseError}
 use Rattle.rk_script.specs.declared.script.ParseError.TheVariants as of_script
-use Rattle.rk_script.specs.declared.script.TheConstants.{LONGEST_SCRIPT}
-use Rattle.rk_play.specs.Reading.{Says, script_error_by}
 use Rattle.rk_play.specs.Runs.{IsRead}
 use Rattle.rk_play.specs.declared.reading.ScriptError.TheVariants as errors
 

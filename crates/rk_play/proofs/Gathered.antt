@@ -1,17 +1,15 @@
 -- What is gathered from the lanes of a cluster, one lane after the other.
-use Rattle.std.proofs.Common.{◌≡◌, ◌≤◌, ◌<◌, ◌+◌, ◌-◌, ◌^◌, ℕ, min, nat_le, sum, List, [], ◌∷◌, ◌++◌, flat_map, map, length, slice_get, take, Option, Some, IfSome, sym, ap, subst, ◌∙◌, arith}
-use Rattle.std.proofs.lemmas.List.{flat_map_more, map_push, take_all, take_more}
+use Rattle.rk_play.proofs.Words.{◌≡◌, ◌≤◌, ◌<◌, ◌+◌, ◌-◌, ◌^◌, ℕ, min, nat_le, sum, List, [], ◌∷◌, ◌++◌, flat_map, map, length, slice_get}
+use Rattle.rk_play.proofs.Words.{take, Option, Some, sym, ap, subst, ◌∙◌, arith, map_push, take_all, NumberMap, Segments, lane_at, World}
+use Rattle.rk_play.proofs.Words.{new_world, LaneState, LanesTell, MOST_BYTES}
+use Rattle.std.proofs.Common.{IfSome}
+use Rattle.std.proofs.lemmas.List.{flat_map_more, take_more}
 use Rattle.std.proofs.lemmas.List.Sums.{sum_by_push}
 use Rattle.std.proofs.lemmas.Bool.Decides.{nat_tests}
-use Rattle.rk_types.specs.NumberMap.{NumberMap}
-use Rattle.rk_outside.specs.Segments.{Segments}
-use Rattle.rk_world.specs.Cluster.{lane_at}
-use Rattle.rk_world.specs.World.{World, new_world}
-use Rattle.rk_lane.specs.LaneState.{LaneState, Running, world_with}
-use Rattle.rk_cluster.specs.Told.{LaneTells, LanesTell}
+use Rattle.rk_lane.specs.LaneState.{Running, world_with}
+use Rattle.rk_cluster.specs.Told.{LaneTells}
 use Rattle.rk_cluster.proofs.Telling.{lane_tells}
 use Rattle.rk_cluster.proofs.Worlds.{same_count}
-use Rattle.rk_play.specs.Effects.{MOST_BYTES}
 
 module _ {R : Type 0} (segments : R → Option Segments) where
   -- what is known where a lane is not spent is seen in its worlds, if it does not look at their backups

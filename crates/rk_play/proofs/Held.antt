@@ -1,13 +1,12 @@
 -- A tablet whose records are shown: in each lane a master that lives owns it.
-use Rattle.std.proofs.Common.{◌≡◌, ◌<◌, ◌+◌, ℕ, suc, Bool, true, false, not, ◌&&◌, ◌||◌, List, [], ◌∷◌, Option, None, Some, is_some, length, slice_index_or, refl, sym, ap, ◌∙◌, arith}
-use Rattle.std.specs.List.{list_all, list_any, range_with_len}
-use Rattle.rk_world.specs.Cluster.{Cluster, lane_at}
-use Rattle.rk_world.specs.World.{World, new_world}
-use Rattle.rk_cluster.specs.Codes.{code_where, first_code}
-use Rattle.rk_cluster.specs.Looks.{all_lanes, has_dead_owner, is_dead_owner, is_owned, is_tablet, owner_in}
-use Rattle.rk_cluster.specs.declared.code.Code.TheVariants.{NotOwned, Unknown}
-use Rattle.rk_cluster.proofs.Worlds.{there_within}
-use Rattle.rk_play.specs.Shows.{dump_code, is_held, lives_owner}
+use Rattle.rk_play.proofs.Words.{◌≡◌, ◌<◌, ◌+◌, ℕ, suc, Bool, true, false, not, ◌||◌, List, [], ◌∷◌, Option, None, Some, length}
+use Rattle.rk_play.proofs.Words.{slice_index_or, refl, sym, ap, ◌∙◌, arith, list_all, range_with_len, Cluster, lane_at, World, new_world}
+use Rattle.rk_play.proofs.Words.{code_where, owner_in, Unknown, there_within, dump_code, is_held, lives_owner}
+use Rattle.std.proofs.Common.{◌&&◌, is_some}
+use Rattle.std.specs.List.{list_any}
+use Rattle.rk_cluster.specs.Codes.{first_code}
+use Rattle.rk_cluster.specs.Looks.{all_lanes, has_dead_owner, is_dead_owner, is_owned, is_tablet}
+use Rattle.rk_cluster.specs.declared.code.Code.TheVariants.{NotOwned}
 
 -- ---- lanes by their numbers, and worlds one by one
 

@@ -1,26 +1,11 @@
 -- What a run leaves where it comes to its end: the part that was played, and the cluster in code then.
-use Rattle.std.proofs.Common.{◌≡◌, ◌≢◌, ℕ, List, [], ◌++◌, length, refl, sym, subst, ⊎_elim, append-nil}
+use Rattle.rk_play.proofs.Words.{◌≡◌, ◌≢◌, ℕ, List, [], ◌++◌, length, refl, sym, subst, ⊎_elim, append-nil, Appends, Keeps, Status, Done}
+use Rattle.rk_play.proofs.Words.{NoMemory, Refused, ReplicaFault, Worn, WriteFault, AppendsPart, Segments, Cluster, CountsGoOn, Fate}
+use Rattle.rk_play.proofs.Words.{ClusterState, IsOf, Numbered, Concludes, ConcludesBy, IsWritten, part_in, Pauses, Stop, EndsBy, HasFailed}
+use Rattle.rk_play.proofs.Words.{HasStopped, IsHalted, Played, all_fates, ending, stopped_at, text_of, IsOn, MayBePart, Runs, stop_by, End}
+use Rattle.rk_play.proofs.Words.{PlayError}
 use Rattle.std.specs.Prelude.{Option, None, Some}
-use Rattle.std.specs.Io.KnownBytes.{Appends, Keeps}
-use Rattle.rk_types.specs.declared.status.Status.{Status}
-use Rattle.rk_types.specs.declared.status.Status.TheVariants.{Done, NoMemory, Refused, ReplicaFault, Worn, WriteFault}
-use Rattle.rk_outside.specs.Parts.{AppendsPart}
-use Rattle.rk_outside.specs.Segments.{Segments}
-use Rattle.rk_world.specs.Cluster.{Cluster}
-use Rattle.rk_cluster.specs.Faults.{CountsGoOn}
-use Rattle.rk_cluster.specs.Replicas.{Fate}
-use Rattle.rk_cluster.specs.State.{ClusterState, IsOf}
-use Rattle.rk_script.specs.declared.command.Numbered.{Numbered}
-use Rattle.rk_play.specs.Concluded.{Concludes, ConcludesBy, IsWritten, part_in}
-use Rattle.rk_play.specs.Effects.{Pauses, Stop}
-use Rattle.rk_play.specs.Ended.{EndsBy, HasFailed, HasStopped, IsHalted}
-use Rattle.rk_play.specs.Played.{Played, all_fates, ending, stopped_at, text_of}
-use Rattle.rk_play.specs.Reached.{IsOn}
-use Rattle.rk_play.specs.Runs.{MayBePart, Runs}
-use Rattle.rk_play.specs.Stops.{stop_by}
-use Rattle.rk_play.specs.declared.end.End.{End}
 use Rattle.rk_play.specs.declared.end.End.TheVariants as ends
-use Rattle.rk_play.specs.declared.error.PlayError.{PlayError}
 use Rattle.rk_play.proofs.Concluding.{IsEnded, failed_runs, halted_may, halted_runs, ran_all, ran_alone, stopped_ended, written_runs}
 
 -- by the fates of the calls of replicas a part of a run, which has so many commands in all, has this status; unless memory was wanting, for each

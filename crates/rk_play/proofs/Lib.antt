@@ -1,3 +1,4 @@
+pub mod Words
 mod Plays
 pub mod Carried
 pub mod Gathered

@@ -1,23 +1,15 @@
 -- The commands that set numbers before all others.
-use Rattle.std.proofs.Common.{◌≡◌, ◌⊎◌, ◌≤◌, ◌<◌, ◌+◌, ◌*◌, ℕ, zero, suc, List, [], ◌∷◌, ◌++◌, drop, drop-cons, get_or, length, take, refl, sym, ap, subst, ◌∙◌, inl, inr, ⊎_elim, arith}
-use Rattle.std.specs.Prelude.{Bool, true, Option, None, Some, Ok, if◌then◌else◌, is_some}
-use Rattle.std.proofs.lemmas.List.{length-drop, take-append-drop, take_all}
+use Rattle.rk_play.proofs.Words.{◌≡◌, ◌≤◌, ◌<◌, ◌+◌, ◌*◌, ℕ, zero, suc, List, [], ◌∷◌, ◌++◌, drop, length, take, refl, sym, ap, subst, ◌∙◌}
+use Rattle.rk_play.proofs.Words.{⊎_elim, arith, Ok, if◌then◌else◌, is_some, length-drop, take-append-drop, take_all, Status, NoMemory}
+use Rattle.rk_play.proofs.Words.{WriteFault, Segments, Cluster, number_of, Fate, Command, Backups, Masters, Numbered, PlaysBy, part_in}
+use Rattle.rk_play.proofs.Words.{Played, Setting, cluster_by, part_of, played_from, played_in, refused_at, unset, MayBePart, Runs}
+use Rattle.rk_play.proofs.Words.{TellStored, backup_count, IsOpened, IsRefusedEarly, IsSetting, setting_of}
+use Rattle.std.proofs.Common.{◌⊎◌, drop-cons, get_or, inl, inr}
+use Rattle.std.specs.Prelude.{Bool, true, Option, None, Some}
 use Rattle.std.proofs.Math.ListN.{drop_of_length-le}
 use Rattle.std.proofs.Math.Seq.{take-add}
-use Rattle.rk_types.specs.declared.status.Status.{Status}
-use Rattle.rk_types.specs.declared.status.Status.TheVariants.{NoMemory, WriteFault}
-use Rattle.rk_outside.specs.Segments.{Segments}
-use Rattle.rk_world.specs.Cluster.{Cluster}
-use Rattle.rk_cluster.specs.Numbers.{number_of}
-use Rattle.rk_cluster.specs.Replicas.{Fate}
 use Rattle.rk_cluster.specs.declared.code.Code.TheVariants.{TooLate}
-use Rattle.rk_script.specs.declared.command.Command.{Command}
-use Rattle.rk_script.specs.declared.command.Command.TheVariants.{Backups, Masters}
-use Rattle.rk_script.specs.declared.command.Numbered.{Numbered}
-use Rattle.rk_play.specs.Concluded.{PlaysBy, part_in}
-use Rattle.rk_play.specs.Played.{Played, Setting, cluster_by, opened_by, part_of, played_from, played_in, refused_at, unset}
-use Rattle.rk_play.specs.Runs.{MayBePart, Runs, TellStored, backup_count}
-use Rattle.rk_play.specs.Settings.{IsOpened, IsRefusedEarly, IsSetting, setting_of}
+use Rattle.rk_play.specs.Played.{opened_by}
 use Rattle.rk_play.specs.declared.setting.Opening.{Opening}
 
 -- so many commands have set numbers, and any others behind them are played from there

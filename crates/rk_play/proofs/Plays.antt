@@ -1,21 +1,17 @@
 -- Scripts played, at worked examples: what is written, and how the run ends.
-use Rattle.std.proofs.Common.{◌≡◌, [], ◌∷◌, List, ℕ, refl}
+use Rattle.rk_play.proofs.Words.{◌≡◌, [], ◌∷◌, List, ℕ, refl, Status, Done, Refused, ReplicaFault, Fate, Command, Backups, Masters, Serve}
+use Rattle.rk_play.proofs.Words.{Numbered, Played, played_from, unset}
 use Rattle.std.specs.Prelude.{codes, replicate}
 use Rattle.std.specs.Fmt.{digits}
 use Rattle.rk_types.specs.Hashing.{hash_of}
 use Rattle.rk_types.specs.Held.{spelled_of}
 use Rattle.rk_types.specs.declared.call.Op.TheVariants.{Put}
-use Rattle.rk_types.specs.declared.status.Status.{Status}
-use Rattle.rk_types.specs.declared.status.Status.TheVariants.{Done, Refused, ReplicaFault}
 use Rattle.rk_entry.specs.Entries.{spelled_all}
 use Rattle.rk_entry.specs.Numbers.{number_bytes}
 use Rattle.rk_entry.specs.Spelling.{body_length, front_bytes, head_bytes, held_bytes, spelled}
 use Rattle.rk_entry.specs.Texts.{key_bytes, value_bytes}
-use Rattle.rk_cluster.specs.Replicas.{Fate, Kept, Lost}
-use Rattle.rk_script.specs.declared.command.Command.{Command}
-use Rattle.rk_script.specs.declared.command.Command.TheVariants.{Backups, Call, Client, Crash, History, Masters, Migrate, Serve, Table, Where}
-use Rattle.rk_script.specs.declared.command.Numbered.{Numbered}
-use Rattle.rk_play.specs.Played.{Played, played_from, unset}
+use Rattle.rk_cluster.specs.Replicas.{Kept, Lost}
+use Rattle.rk_script.specs.declared.command.Command.TheVariants.{Call, Client, Crash, History, Migrate, Table, Where}
 
 -- what a run writes, and its status
 record Told : Type 0 where

@@ -1,24 +1,13 @@
 -- A run goes on from the pieces that it has written; these lemmas know of no command.
-use Rattle.std.proofs.Common.{◌≡◌, ◌≢◌, ℕ, List, [], ◌∷◌, ◌++◌, refl, sym, ap, subst, ◌∙◌, append_assoc, append-nil}
+use Rattle.rk_play.proofs.Words.{◌≡◌, ◌≢◌, ℕ, List, [], ◌∷◌, ◌++◌, refl, sym, ap, subst, ◌∙◌, append_assoc, append-nil, concat}
+use Rattle.rk_play.proofs.Words.{concat-append, Segments, AppendsPart, Cluster, Occurrence, CountsGoOn, Fate, ClusterState, counts_same}
+use Rattle.rk_play.proofs.Words.{counts_then, Numbered, Came, Ran, Stopped, Effect, Stop, EndsBy, HasFailed, HasStopped, IsHalted, end_by}
+use Rattle.rk_play.proofs.Words.{Played, all_fates, behind, played_in, stopped_at, text_of, IsOn, Spills, stop_by, PlayError}
 use Rattle.std.specs.Prelude.{Bool, Option, None, Some}
-use Rattle.std.specs.List.{concat}
-use Rattle.std.proofs.lemmas.List.Folds.{concat-append}
-use Rattle.rk_outside.specs.Segments.{Segments}
-use Rattle.rk_outside.specs.Parts.{AppendsPart}
-use Rattle.rk_world.specs.Cluster.{Cluster, Occurrence}
-use Rattle.rk_cluster.specs.Faults.{CountsGoOn}
-use Rattle.rk_cluster.specs.Replicas.{Fate}
-use Rattle.rk_cluster.specs.State.{ClusterState}
-use Rattle.rk_cluster.proofs.Faults.{counts_same, counts_then}
-use Rattle.rk_script.specs.declared.command.Numbered.{Numbered}
-use Rattle.rk_play.specs.Came.{Came, Ran, Stopped}
-use Rattle.rk_play.specs.Effects.{Effect, Stop, effect_within}
-use Rattle.rk_play.specs.Ended.{EndsBy, HasFailed, HasStopped, IsHalted, end_by}
-use Rattle.rk_play.specs.Played.{Played, all_fates, behind, continued, played_in, stopped_at, text_of}
-use Rattle.rk_play.specs.Reached.{IsOn, Reached, Spills}
-use Rattle.rk_play.specs.Stops.{stop_by}
+use Rattle.rk_play.specs.Effects.{effect_within}
+use Rattle.rk_play.specs.Played.{continued}
+use Rattle.rk_play.specs.Reached.{Reached}
 use Rattle.rk_play.specs.declared.end.End.TheVariants as ends
-use Rattle.rk_play.specs.declared.error.PlayError.{PlayError}
 use Rattle.rk_play.specs.declared.error.PlayError.TheVariants as errors
 use Rattle.rk_play.proofs.Sending.{sent_failed, sent_none, sent_piece, sent_spilled}
 

@@ -1,22 +1,19 @@
 -- Where the counts of faults of a cluster went on, those of the replicas of its run did, of which some were lent to it.
-use Rattle.std.proofs.Common.{◌≡◌, ◌*◌, ◌+◌, ◌++◌, ℕ, zero, suc, Bool, true, false, List, [], ◌∷◌, drop, length, map, slice_get, None, Some, refl, sym, ap, subst, ◌∙◌, arith, length-append}
-use Rattle.std.specs.Prelude.{if◌then◌else◌, nat_lt}
+use Rattle.rk_play.proofs.Words.{◌≡◌, ◌*◌, ◌+◌, ◌++◌, ℕ, zero, suc, Bool, true, false, List, [], ◌∷◌, drop, length, map, slice_get, None}
+use Rattle.rk_play.proofs.Words.{Some, refl, sym, ap, subst, ◌∙◌, arith, length-append, if◌then◌else◌, take-append-drop, LANES, LaneState}
+use Rattle.rk_play.proofs.Words.{replicas_of, CountsGoOn, GoOn, Fate, ClusterState, go_on_same, MOST_FAULTS, AreGivenBack, replica_counts}
+use Rattle.std.specs.Prelude.{nat_lt}
 use Rattle.std.proofs.lemmas.Bool.{ltb-false, ltb-true}
-use Rattle.std.proofs.lemmas.List.{length-map, length-take, map-append, take-append-drop}
+use Rattle.std.proofs.lemmas.List.{length-map, length-take, map-append}
 use Rattle.std.proofs.Math.Seq.{drop-append_seam}
 use Rattle.std.specs.Global.{Vec}
-use Rattle.rk_types.specs.declared.hashing.TheConstants.{LANES}
-use Rattle.rk_lane.specs.LaneState.{LaneState, replicas_of}
 use Rattle.rk_cluster.specs.Dealt.{IsEighth}
-use Rattle.rk_cluster.specs.Faults.{CountsGoOn, GoOn, RoseBy, times_lost}
-use Rattle.rk_cluster.specs.Replicas.{Fate}
-use Rattle.rk_cluster.specs.State.{ClusterState}
-use Rattle.rk_cluster.proofs.Faults.{go_on_same, rose_same}
+use Rattle.rk_cluster.specs.Faults.{RoseBy, times_lost}
+use Rattle.rk_cluster.proofs.Faults.{rose_same}
 use Rattle.rk_cluster.proofs.Order.{none_beyond, replicas_go_on}
-use Rattle.rk_settle.specs.Course.{MOST_FAULTS}
 use Rattle.rk_settle.specs.Faults.{FailsInRounds, RoseInRounds}
-use Rattle.rk_lending.specs.Lent.{AreGivenBack, HasLent}
-use Rattle.rk_play.specs.Runs.{NoneFell, replica_counts}
+use Rattle.rk_lending.specs.Lent.{HasLent}
+use Rattle.rk_play.specs.Runs.{NoneFell}
 use Rattle.rk_lending.specs.declared.lending.Kept.{Kept}
 use Rattle.rk_lending.specs.declared.lending.TheConstants.{REPLICAS}
 

@@ -1,15 +1,12 @@
 -- Pieces of text of which some were put into a sink, and the others are held back.
-use Rattle.std.proofs.Common.{◌≡◌, ℕ, Bool, true, false, List, [], ◌∷◌, ◌++◌, drop, length, take, sym, ap, subst, ◌∙◌, arith, length-append, append-nil, append_assoc}
-use Rattle.std.specs.Prelude.{Option, OnErr, OnOk, Result, Ok, Err, is_err}
-use Rattle.std.specs.List.{concat}
-use Rattle.std.specs.Io.KnownBytes.{Appends}
-use Rattle.std.proofs.KnownBytes.{Appends-nil, Appends-trans, Appends-kept}
-use Rattle.std.proofs.lemmas.List.{drop-append-le, take-append-drop, take-append-le}
-use Rattle.std.proofs.lemmas.List.Folds.{concat-append}
-use Rattle.std.proofs.Math.Seq.{drop-length, take-length}
-use Rattle.rk_outside.specs.Parts.{AppendsPart}
+use Rattle.rk_play.proofs.Words.{◌≡◌, ℕ, Bool, true, false, List, [], ◌∷◌, ◌++◌, drop, length, take, sym, ap, subst, ◌∙◌, arith}
+use Rattle.rk_play.proofs.Words.{length-append, append-nil, append_assoc, Result, Ok, Err, concat, Appends, Appends-nil, Appends-kept}
+use Rattle.rk_play.proofs.Words.{take-append-drop, take-append-le, concat-append, take-length, AppendsPart, IsSent, Spills}
+use Rattle.std.specs.Prelude.{Option, OnErr, OnOk, is_err}
+use Rattle.std.proofs.KnownBytes.{Appends-trans}
+use Rattle.std.proofs.lemmas.List.{drop-append-le}
+use Rattle.std.proofs.Math.Seq.{drop-length}
 use Rattle.rk_outside.proofs.PartLemmas.{AppendsPart-after}
-use Rattle.rk_play.specs.Reached.{IsSent, Spills}
 
 -- what holds where a call went well, and where it failed
 pub where_ok : {T E : Type 0} (result : Result T E) (P : Type 0) → OnOk result P → is_err result ≡ false → P

@@ -1,21 +1,12 @@
 -- What settling commands have come to.
-use Rattle.std.proofs.Common.{◌≡◌, ℕ, ◌++◌, ◌∷◌, List, [], Option, None, Some, refl, sym, ap, subst, ◌∙◌}
-use Rattle.rk_outside.specs.Segments.{Segments}
-use Rattle.rk_types.specs.declared.node.Said.{Said}
-use Rattle.rk_world.specs.Cluster.{Cluster}
-use Rattle.rk_cluster.specs.Replicas.{Fate}
-use Rattle.rk_cluster.specs.State.{ClusterState, IsOf}
-use Rattle.rk_cluster.specs.Told.{Tells}
-use Rattle.rk_cluster.specs.declared.code.Code.{Code}
-use Rattle.rk_lines.specs.Lines.{said_lines}
+use Rattle.rk_play.proofs.Words.{◌≡◌, ℕ, ◌++◌, ◌∷◌, List, [], Option, None, Some, refl, sym, ap, subst, ◌∙◌, Segments, Said, Cluster, Fate}
+use Rattle.rk_play.proofs.Words.{ClusterState, IsOf, Tells, Code, said_lines, course_of, moved_all, SettleError, Came, IsCome, Ran, Stopped}
+use Rattle.rk_play.proofs.Words.{Effect, Stop, settled, error_by_settling}
 use Rattle.rk_settle.specs.Commanded.{SettlingCommand}
-use Rattle.rk_settle.specs.Course.{Course, course_of, error_by, error_of, moved_all}
+use Rattle.rk_settle.specs.Course.{Course, error_by, error_of}
 use Rattle.rk_settle.specs.Outcomes.{Ends, Fails, IsOver, IsStopped, StopsBefore}
-use Rattle.rk_settle.specs.declared.error.SettleError.{SettleError}
 use Rattle.rk_settle.specs.declared.error.SettleError.TheVariants as errors
-use Rattle.rk_play.specs.Came.{Came, IsCome, Ran, Stopped}
-use Rattle.rk_play.specs.Effects.{Effect, Stop, ending_at, settled, settled_by, stop_of}
-use Rattle.rk_play.specs.Stops.{error_by_settling}
+use Rattle.rk_play.specs.Effects.{ending_at, settled_by, stop_of}
 
 -- ---- a course
 

@@ -1,18 +1,8 @@
 -- What commands that show something have come to, and those that a code refuses.
-use Rattle.std.proofs.Common.{◌≡◌, ℕ, ◌++◌, List, [], Option, None, Some, refl, sym, subst}
-use Rattle.rk_outside.specs.Segments.{Segments}
-use Rattle.rk_world.specs.Cluster.{Cluster}
-use Rattle.rk_cluster.specs.Numbers.{number_of}
-use Rattle.rk_cluster.specs.Replicas.{Fate}
-use Rattle.rk_cluster.specs.State.{ClusterState, IsOf}
-use Rattle.rk_lane.specs.LaneState.{LaneState}
-use Rattle.rk_cluster.specs.Steps.{state_of}
-use Rattle.rk_cluster.specs.Told.{LanesTell, Tells}
-use Rattle.rk_cluster.specs.declared.code.Code.{Code}
-use Rattle.rk_cluster.proofs.Faults.{counts_same}
-use Rattle.rk_play.specs.Came.{Came, IsCome, Ran, Stopped, WhereRefused}
-use Rattle.rk_play.specs.Effects.{Effect, Refuses, refused_by, shown, writing}
-use Rattle.rk_play.specs.declared.error.PlayError.{PlayError}
+use Rattle.rk_play.proofs.Words.{◌≡◌, ℕ, ◌++◌, List, [], Option, None, Some, refl, sym, subst, Segments, Cluster, number_of, Fate}
+use Rattle.rk_play.proofs.Words.{ClusterState, IsOf, LaneState, state_of, LanesTell, Tells, Code, counts_same, Came, IsCome, Ran, Stopped}
+use Rattle.rk_play.proofs.Words.{WhereRefused, Effect, Refuses, refused_by, PlayError}
+use Rattle.rk_play.specs.Effects.{shown, writing}
 use Rattle.rk_play.specs.declared.error.PlayError.TheVariants as errors
 
 module _ {R : Type 0} (segments : R → Option Segments) (faults : R → ℕ) (state : ClusterState R) where

@@ -1,35 +1,28 @@
 -- What the replicas that come back tell.
-use Rattle.std.proofs.Common.{◌≡◌, ℕ, zero, suc, ◌+◌, ◌*◌, ◌≤◌, ◌<◌, true, false, cond, List, [], ◌∷◌, ◌++◌, All, drop, length, map, take, slice_get, slice_index_or, refl, sym, ap, subst, ◌∙◌, ⊎_elim, arith}
+use Rattle.rk_play.proofs.Words.{◌≡◌, ℕ, zero, suc, ◌+◌, ◌*◌, ◌≤◌, ◌<◌, true, false, List, [], ◌∷◌, ◌++◌, All, drop, length, map, take}
+use Rattle.rk_play.proofs.Words.{slice_get, slice_index_or, refl, sym, ap, subst, ◌∙◌, ⊎_elim, arith, Keeps, Keeps-refl, range_with_len}
+use Rattle.rk_play.proofs.Words.{NumberMap, LANES, Status, Done, NoMemory, Refused, Segments, Cluster, lane_at, World, new_world, LaneState}
+use Rattle.rk_play.proofs.Words.{replicas_of, script_of, CountsGoOn, GoOn, backups_of, Fate, ClusterState, IsOf, go_on_same, there_within}
+use Rattle.rk_play.proofs.Words.{AreGivenBack, Concludes, IsWritten, PlaysBy, Played, Setting, all_fates, cluster_by, part_of, refused_at}
+use Rattle.rk_play.proofs.Words.{text_of, unset, Runs, TellStored, backup_count, count_of, replica_counts, IsSetting}
+use Rattle.std.proofs.Common.{cond}
 use Rattle.std.specs.Prelude.{Option, None, Some, IfSome}
-use Rattle.std.specs.Io.KnownBytes.{Keeps}
-use Rattle.std.proofs.KnownBytes.{Keeps-refl}
-use Rattle.std.specs.List.{range_with_len}
 use Rattle.std.specs.Ordering.{eq_by_cmp, nat_cmp}
 use Rattle.std.proofs.lemmas.List.Elements.{All-cons, All-nil, All-take}
 use Rattle.rk_log.specs.declared.copied.TheConstants.{MOST_BACKUPS}
 use Rattle.rk_types.proofs.NumberMaps.{same_number}
-use Rattle.rk_types.specs.NumberMap.{NumberMap, get}
-use Rattle.rk_types.specs.declared.hashing.TheConstants.{LANES}
-use Rattle.rk_types.specs.declared.status.Status.{Status}
-use Rattle.rk_types.specs.declared.status.Status.TheVariants.{Done, NoMemory, ReadFault, Refused}
-use Rattle.rk_outside.specs.Segments.{Segments}
+use Rattle.rk_types.specs.NumberMap.{get}
+use Rattle.rk_types.specs.declared.status.Status.TheVariants.{ReadFault}
 use Rattle.rk_world.specs.Backup.{no_segments}
-use Rattle.rk_world.specs.Cluster.{Cluster, lane_at, new_cluster}
-use Rattle.rk_world.specs.World.{World, new_backups, new_world}
-use Rattle.rk_lane.specs.LaneState.{IsTold, LaneState, replicas_of}
-use Rattle.rk_script.specs.Script.{script_of}
-use Rattle.rk_cluster.specs.Faults.{CountsGoOn, GoOn}
+use Rattle.rk_world.specs.Cluster.{new_cluster}
+use Rattle.rk_world.specs.World.{new_backups}
+use Rattle.rk_lane.specs.LaneState.{IsTold}
 use Rattle.rk_cluster.specs.Fresh.{AreEmpty}
-use Rattle.rk_cluster.specs.Masters.{backups_in, backups_of}
-use Rattle.rk_cluster.specs.Replicas.{Fate}
-use Rattle.rk_cluster.specs.State.{AreWorlds, ClusterState, IsOf, IsWorld}
-use Rattle.rk_cluster.proofs.Faults.{go_on_same}
-use Rattle.rk_cluster.proofs.Worlds.{all_at, something_within, there_within, world_at}
-use Rattle.rk_lending.specs.Lent.{AreGivenBack}
-use Rattle.rk_play.specs.Concluded.{Concludes, IsWritten, PlaysBy}
-use Rattle.rk_play.specs.Played.{Played, Setting, all_fates, cluster_by, how_many, part_of, refused_at, text_of, unset}
-use Rattle.rk_play.specs.Runs.{Plays, Runs, TellStored, TellsAt, backup_count, count_of, replica_counts}
-use Rattle.rk_play.specs.Settings.{IsSetting}
+use Rattle.rk_cluster.specs.Masters.{backups_in}
+use Rattle.rk_cluster.specs.State.{AreWorlds, IsWorld}
+use Rattle.rk_cluster.proofs.Worlds.{all_at, something_within, world_at}
+use Rattle.rk_play.specs.Played.{how_many}
+use Rattle.rk_play.specs.Runs.{Plays, TellsAt}
 use Rattle.rk_play.proofs.Concluding.{halts_at_once, halts_kept, refused_runs}
 use Rattle.rk_play.proofs.Leaving.{IsPlayedOut, written_may}
 

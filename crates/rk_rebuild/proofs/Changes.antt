@@ -1,23 +1,21 @@
 -- What a segment that was read changes: of its master's log, of what was read of each member, and of what readers know.
-use Rattle.std.proofs.Common.{◌≡◌, ℕ, ◌+◌, ◌<◌, Bool, true, false, cond, eqb, List, [], ◌∷◌, ◌++◌, map, drop, set, zero, suc, length, get_or, Option, Some, None, Result, Ok, Err, refl, sym, ap, ◌∙◌, subst, arith, length-append, not, is_some}
+use Rattle.rk_rebuild.proofs.Words.{◌≡◌, ℕ, ◌+◌, ◌<◌, Bool, true, false, cond, eqb, List, [], ◌∷◌, ◌++◌, map, drop, set, length, get_or}
+use Rattle.rk_rebuild.proofs.Words.{Option, Some, None, refl, sym, ap, ◌∙◌, subst, arith, not, AllByRecursion, find, flat_map}
+use Rattle.rk_rebuild.proofs.Words.{position_or_len, eq-eqb, get, insert, Member, Range, Entry, named, Gathered, ReadLog, Reader, advanced}
+use Rattle.rk_rebuild.proofs.Words.{is_by, is_unread, log_of, gathered_of, gathered_at, members_of, KnowsNamed, passed}
+use Rattle.std.proofs.Common.{zero, suc, Result, Ok, Err, length-append, is_some}
 use Rattle.std.specs.Prelude.{OnOk, OnErr}
-use Rattle.std.specs.List.{AllByRecursion, find, flat_map, position_or_len, slice_get}
-use Rattle.std.proofs.lemmas.Bool.{eqb-true, eq-eqb, ne_eqb, false≢true}
+use Rattle.std.specs.List.{slice_get}
+use Rattle.std.proofs.lemmas.Bool.{eqb-true, ne_eqb, false≢true}
 use Rattle.std.proofs.lemmas.List.{set-get_or}
 use Rattle.std.proofs.lemmas.List.Folds.{find_at, find-set}
 use Rattle.std.proofs.lemmas.List.Sums.{passes_at_first}
 use Rattle.std.proofs.lemmas.Option.{slice_get-get_or}
-use Rattle.rk_types.specs.NumberMap.{NumberMap, get, insert}
-use Rattle.rk_types.specs.declared.lineage.Member.{Member}
-use Rattle.rk_types.specs.declared.range.Range.{Range}
+use Rattle.rk_types.specs.NumberMap.{NumberMap}
 use Rattle.rk_outside.specs.Segments.{bytes_of}
 use Rattle.rk_entry.specs.Entries.{entries_of}
-use Rattle.rk_entry.specs.declared.entry.Entry.{Entry}
-use Rattle.rk_world.specs.Material.{named}
-use Rattle.rk_world.specs.Gather.{Gathered, with_main, with_segment, with_read, LAST_MAIN_SEGMENT}
-use Rattle.rk_rebuild.specs.declared.member.ReadLog.{ReadLog}
-use Rattle.rk_rebuild.specs.declared.member.Reader.{Reader}
-use Rattle.rk_rebuild.specs.Logs.{advanced, is_by, is_unread, log_of, gathered_of, gathered_at, members_of, IsUpTo, KnowsNamed, IsShort, IsGathered, passed}
+use Rattle.rk_world.specs.Gather.{with_main, with_segment, with_read, LAST_MAIN_SEGMENT}
+use Rattle.rk_rebuild.specs.Logs.{IsUpTo, IsShort, IsGathered}
 use Rattle.rk_rebuild.proofs.Logs.{gathered_member, none_up_to, stands_has}
 use Rattle.rk_types.proofs.NumberMaps.{get_insert}
 

@@ -1,3 +1,4 @@
+pub mod Words
 pub mod Placing
 pub mod Versions
 pub mod Logs

@@ -1,17 +1,15 @@
 -- What is read next, as the code looks for it, and what a change of one log leaves of the others.
-use Rattle.std.proofs.Common.{◌≡◌, ℕ, ◌+◌, ◌<◌, Bool, true, false, cond, List, [], ◌∷◌, map, drop, length, get_or, Option, Some, None, refl, sym, ap, ◌∙◌, subst, ◌++◌, take, zero, suc, not, arith}
+use Rattle.rk_rebuild.proofs.Words.{◌≡◌, ℕ, ◌+◌, ◌<◌, Bool, true, false, cond, List, [], ◌∷◌, map, drop, length, get_or, Option, Some, None}
+use Rattle.rk_rebuild.proofs.Words.{refl, sym, ap, ◌∙◌, subst, ◌++◌, take, not, arith, position_or_len, AllByRecursion, find, Member, Range}
+use Rattle.rk_rebuild.proofs.Words.{Gathered, ReadLog, Reader, is_by, log_of, gathered_of, gathered_at, members_of}
+use Rattle.std.proofs.Common.{zero, suc}
 use Rattle.std.proofs.Math.Seq.{take-add}
-use Rattle.std.specs.List.{position_or_len, AllByRecursion, find}
 use Rattle.std.specs.Option.{option_map, option_or}
 use Rattle.std.proofs.lemmas.List.{at_drop_more}
 use Rattle.std.proofs.lemmas.List.Elements.{All-from_recursion}
-use Rattle.rk_types.specs.declared.lineage.Member.{Member}
-use Rattle.rk_types.specs.declared.range.Range.{Range}
 use Rattle.rk_world.specs.declared.work.Reading.{Reading}
-use Rattle.rk_world.specs.Gather.{Gathered, unread, next_of, next_segment, reading_of}
-use Rattle.rk_rebuild.specs.declared.member.ReadLog.{ReadLog}
-use Rattle.rk_rebuild.specs.declared.member.Reader.{Reader}
-use Rattle.rk_rebuild.specs.Logs.{is_by, log_of, gathered_of, gathered_at, members_of, IsShort}
+use Rattle.rk_world.specs.Gather.{unread, next_of, next_segment, reading_of}
+use Rattle.rk_rebuild.specs.Logs.{IsShort}
 
 -- what holds of each in a list holds of one that is found there
 found_has : {X : Type 0} (P : X → Type 0) (test : X → Bool) (xs : List X) (x : X) → AllByRecursion P xs → find test xs ≡ Some x → P x

@@ -1,7 +1,8 @@
 -- The items among entries, one entry after the other, and the set of their versions.
-use Rattle.std.proofs.Common.{◌≡◌, ℕ, ◌+◌, ◌<◌, Bool, true, false, cond, eqb, ◌&&◌, ◌||◌, List, [], ◌∷◌, ◌++◌, take, length, get_or, refl, sym, ap, ◌∙◌}
+use Rattle.rk_rebuild.proofs.Words.{◌≡◌, ℕ, ◌+◌, ◌<◌, Bool, true, false, cond, eqb, ◌||◌, List, [], ◌∷◌, ◌++◌, take, length, get_or, refl}
+use Rattle.rk_rebuild.proofs.Words.{sym, ap, ◌∙◌, flat_map, list_any, Bor, Held, Entry, lent, HasVersions}
+use Rattle.std.proofs.Common.{◌&&◌}
 use Rattle.std.specs.Prelude.{bytes_eq}
-use Rattle.std.specs.List.{flat_map, list_any}
 use Rattle.std.specs.Ordering.{nat_cmp, is_eq, ordering_then}
 use Rattle.std.specs.Cmp.{tied_then, unsigned_tied}
 use Rattle.std.specs.Cmp.Lexicographic.{slice_cmp}
@@ -11,11 +12,7 @@ use Rattle.std.proofs.lemmas.List.{append-nil, take_more}
 use Rattle.std.proofs.lemmas.List.Concat.{flat_map-append}
 use Rattle.std.proofs.lemmas.List.Folds.{list_any-append}
 use Rattle.std.proofs.lemmas.Map.Text.{is_eq-slice_cmp}
-use denote.Ref.{Bor}
-use Rattle.rk_types.specs.declared.held.Held.{Held}
-use Rattle.rk_entry.specs.declared.entry.Entry.{Entry}
-use Rattle.rk_rebuild.specs.Lent.{lent}
-use Rattle.rk_rebuild.specs.Versions.{Version, version_cmp, HasVersions}
+use Rattle.rk_rebuild.specs.Versions.{Version, version_cmp}
 
 -- ---- items of entries
 

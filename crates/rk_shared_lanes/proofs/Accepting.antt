@@ -1,47 +1,25 @@
 -- A lane behind its lock, and a pass, stay so when a client takes a message.
-use Rattle.std.proofs.Common.{◌≡◌, ℕ, ◌+◌, Bool, true, false, cond, not, List, [], ◌∷◌, length, Option, Some, None, Result, Ok, Err, refl, sym, ap, subst, ◌∙◌, arith}
-use Rattle.std.specs.Prelude.{◌==◌, IfSome, is_some}
+use Rattle.rk_shared_lanes.proofs.Words.{◌≡◌, ℕ, ◌+◌, Bool, true, false, cond, not, List, [], ◌∷◌, length, Option, Some, None, Result, Ok}
+use Rattle.rk_shared_lanes.proofs.Words.{Err, refl, sym, ap, subst, ◌∙◌, arith, ◌==◌, IfSome, Segments, BackupLane, NumberMap, get, Answer}
+use Rattle.rk_shared_lanes.proofs.Words.{Call, Receipt, Located, Reply, Body, Message, Visited, accept, accepting, is_asked_here, taking}
+use Rattle.rk_shared_lanes.proofs.Words.{untouched, Session, accepted_by, accepted_of, answer_accepted, call_lane, has_call, ignoring}
+use Rattle.rk_shared_lanes.proofs.Words.{with_range, MayAct, accept_refusal, world_visited, World, StepError, Seen, Taken, Ledger, is_added}
+use Rattle.rk_shared_lanes.proofs.Words.{AreTold, IsSameLane, LaneState, Running, world_with, IsVisitOf, waiting, Counts, lanes_visited}
+use Rattle.rk_shared_lanes.proofs.Words.{HasSameClients, accepted_count, IsGoodLane, IsOrderly, HasCountedCalls, is_answer, IsKept}
+use Rattle.rk_shared_lanes.proofs.Words.{StandsFor, IsPass, MakesOnly, PassState, one_if}
+use Rattle.std.specs.Prelude.{is_some}
 use Rattle.std.specs.Option.{option_or}
-use Rattle.rk_outside.specs.Segments.{Segments}
-use Rattle.rk_backup.specs.declared.lane.BackupLane.{BackupLane}
-use Rattle.rk_types.specs.NumberMap.{NumberMap, get}
-use Rattle.rk_types.specs.declared.call.Answer.{Answer}
 use Rattle.rk_types.specs.declared.call.Answer.TheVariants as answers
-use Rattle.rk_types.specs.declared.call.Call.{Call}
-use Rattle.rk_types.specs.declared.history.Receipt.{Receipt}
-use Rattle.rk_message.specs.declared.calls.Located.{Located}
-use Rattle.rk_message.specs.declared.calls.Reply.{Reply}
-use Rattle.rk_message.specs.declared.message.Body.{Body}
 use Rattle.rk_message.specs.declared.message.Body.TheVariants as bodies
-use Rattle.rk_message.specs.declared.message.Message.{Message}
-use Rattle.rk_world.specs.Calls.{Visited, accept, accept_by, accepting, is_asked_here, taking, untouched}
-use Rattle.rk_world.specs.Client.{Session, accepted_by, accepted_of, answer_accepted, call_lane, has_call, ignoring, with_range}
-use Rattle.rk_world.specs.Premises.{MayAct}
-use Rattle.rk_world.specs.Refusals.{accept_refusal, is_for, where_true}
-use Rattle.rk_world.specs.Runs.{world_visited}
-use Rattle.rk_world.specs.World.{World}
-use Rattle.rk_world.specs.declared.error.StepError.{StepError}
+use Rattle.rk_world.specs.Calls.{accept_by}
+use Rattle.rk_world.specs.Refusals.{is_for, where_true}
 use Rattle.rk_world.specs.declared.error.StepError.TheVariants as errors
-use Rattle.rk_world.specs.declared.event.Seen.{Seen}
-use Rattle.rk_world.specs.declared.event.Taken.{Taken}
 use Rattle.rk_world.specs.declared.event.Taken.TheVariants as takes
-use Rattle.rk_world.specs.Ledger.{Ledger, is_added}
-use Rattle.rk_lane.specs.LaneState.{AreTold, IsSameLane, LaneState, Running, world_with}
-use Rattle.rk_lane.specs.Visits.{IsVisitOf}
-use Rattle.rk_runs.specs.history.Agreement.{waiting}
-use Rattle.rk_cluster.specs.Faults.{Counts}
-use Rattle.rk_cluster.proofs.Failing.{lanes_visited}
-use Rattle.rk_laws_lanes.specs.Counts.{HasReceipts, HasSameClients, IsCounted, accepted_count}
-use Rattle.rk_laws_lanes.specs.GoodLane.{IsGoodLane}
+use Rattle.rk_laws_lanes.specs.Counts.{HasReceipts, IsCounted}
 use Rattle.rk_laws_lanes.proofs.Answers.{answer_asked, answer_clients, answer_counted, answer_receipts}
 use Rattle.rk_laws_lanes.proofs.Clients.{good_accepts}
-use Rattle.rk_laws_gathered.specs.Gathered.{IsOrderly}
-use Rattle.rk_laws_gathered.specs.OpenCalls.{HasCountedCalls}
 use Rattle.rk_laws_gathered.proofs.Counting.{accept_counted}
 use Rattle.rk_laws_gathered.proofs.Orderly.{accepting_orderly}
-use Rattle.rk_shared_lanes.specs.Counting.{is_answer}
-use Rattle.rk_shared_lanes.specs.Kept.{IsKept, StandsFor}
-use Rattle.rk_shared_lanes.specs.Passes.{IsPass, MakesOnly, PassState, one_if}
 use Rattle.rk_shared_lanes.proofs.Making.{accepting_makes}
 use Rattle.rk_shared_lanes.proofs.Standing.{kept_with, sound_on, stands_on}
 
@@ -54,8 +32,7 @@ record IsSameCaller (session now : Session) : Type 0 where
 
 caller_by_answer : (session : Session) (call : Call) (reply : Reply) (answer : Answer) → IsSameCaller session (answer_accepted session call reply answer).session
 caller_by_answer session call reply (answers.Done outcome) = record { client = refl; last = refl }
-caller_by_answer session call reply (answers.Moved tablet) = record { client = refl; last = refl }
-caller_by_answer session call reply (answers.NotYet key) = record { client = refl; last = refl }
+caller_by_answer session call reply _ = record { client = refl; last = refl }
 
 caller_by_seq : (session : Session) (call : Call) (reply : Reply) (test : Bool)
     → IsSameCaller session (cond test (answer_accepted session call reply reply.answer) (ignoring session)).session
@@ -171,28 +148,16 @@ module _ (masters lane : ℕ) (w : World) (number : ℕ) (session : Session) (vi
 accepted_more : (before after : Ledger) (session now : Session) (taken : Option Taken) → IsCounted before after session now taken
     → accepted_count after ≡ accepted_count before + one_if (is_answer taken)
 accepted_more before after session now (Some takes.Done) counted = counted.accepted
-accepted_more before after session now None counted = counted ∙ omega arith
-accepted_more before after session now (Some takes.Ignored) counted = counted ∙ omega arith
-accepted_more before after session now (Some takes.Located) counted = counted ∙ omega arith
-accepted_more before after session now (Some (takes.Moved tablet)) counted = counted ∙ omega arith
-accepted_more before after session now (Some (takes.NotYet key)) counted = counted ∙ omega arith
+accepted_more before after session now _ counted = counted ∙ omega arith
 
 receipts_more : (session now : Session) (taken : Option Taken) → HasReceipts session now taken → length now.receipts ≡ length session.receipts + one_if (is_answer taken)
 receipts_more session now (Some takes.Done) has = has.0
-receipts_more session now None has = ap length has.0 ∙ omega arith
-receipts_more session now (Some takes.Ignored) has = ap length has.0 ∙ omega arith
-receipts_more session now (Some takes.Located) has = ap length has.0 ∙ omega arith
-receipts_more session now (Some (takes.Moved tablet)) has = ap length has.0 ∙ omega arith
-receipts_more session now (Some (takes.NotYet key)) has = ap length has.0 ∙ omega arith
+receipts_more session now _ has = ap length has.0 ∙ omega arith
 
 still_open : (session now : Session) (taken : Option Taken) → HasReceipts session now taken → is_some session.outstanding ≡ true
     → not (is_answer taken) ≡ true → is_some now.outstanding ≡ true
 still_open session now (Some takes.Done) has pending none = absurd (cc none)
-still_open session now None has pending none = ap is_some has.1 ∙ pending
-still_open session now (Some takes.Ignored) has pending none = ap is_some has.1 ∙ pending
-still_open session now (Some takes.Located) has pending none = ap is_some has.1 ∙ pending
-still_open session now (Some (takes.Moved tablet)) has pending none = ap is_some has.1 ∙ pending
-still_open session now (Some (takes.NotYet key)) has pending none = ap is_some has.1 ∙ pending
+still_open session now _ has pending none = ap is_some has.1 ∙ pending
 
 waiting_one : (call : Option Call) → is_some call ≡ true → waiting call ≡ 1
 waiting_one None pending = absurd (cc pending)
@@ -212,11 +177,7 @@ last_more session now (Some takes.Done) has pending last is =
     let none = ap waiting has.1 in
     let more = has.0 in
     omega (arith, one, none, more, last, is)
-last_more session now None has pending last is = same_last session now has.0 has.1 last is
-last_more session now (Some takes.Ignored) has pending last is = same_last session now has.0 has.1 last is
-last_more session now (Some takes.Located) has pending last is = same_last session now has.0 has.1 last is
-last_more session now (Some (takes.Moved tablet)) has pending last is = same_last session now has.0 has.1 last is
-last_more session now (Some (takes.NotYet key)) has pending last is = same_last session now has.0 has.1 last is
+last_more session now _ has pending last is = same_last session now has.0 has.1 last is
 
 -- an outstanding call that was counted is a receipt now, or still counted
 made_on : (before now : ℕ) (answer : Bool) → now ≡ before + one_if answer → before + one_if true ≡ now + one_if (not answer)

@@ -1,37 +1,22 @@
 -- A lane behind its lock, and a pass, stay so at a client's turn.
-use Rattle.std.proofs.Common.{◌≡◌, ℕ, ◌+◌, Bool, true, false, cond, not, List, [], ◌∷◌, length, Option, Some, None, Result, Ok, Err, refl, sym, ap, subst, ◌∙◌, ⊎_elim, arith}
-use Rattle.std.specs.Prelude.{◌==◌, IfSome, is_some}
+use Rattle.rk_shared_lanes.proofs.Words.{◌≡◌, ℕ, ◌+◌, Bool, true, false, cond, not, List, [], ◌∷◌, length, Option, Some, None, Result, Ok}
+use Rattle.rk_shared_lanes.proofs.Words.{Err, refl, sym, ap, subst, ◌∙◌, ⊎_elim, arith, ◌==◌, IfSome, Segments, BackupLane, Call, Receipt}
+use Rattle.rk_shared_lanes.proofs.Words.{Located, Visited, ask, is_asked_here, untouched, Session, is_added, MayAct, ask_refusal}
+use Rattle.rk_shared_lanes.proofs.Words.{world_visited, World, StepError, Seen, AreTold, IsSameLane, LaneState, Running, world_with}
+use Rattle.rk_shared_lanes.proofs.Words.{IsVisitOf, waiting, Counts, lanes_visited, HasSameClients, accepted_count, IsGoodLane, IsOrderly}
+use Rattle.rk_shared_lanes.proofs.Words.{HasCountedCalls, IsKept, IsPass, PassState, one_if}
+use Rattle.std.specs.Prelude.{is_some}
 use Rattle.std.proofs.lemmas.Bool.{and_parts}
-use Rattle.rk_outside.specs.Segments.{Segments}
-use Rattle.rk_backup.specs.declared.lane.BackupLane.{BackupLane}
-use Rattle.rk_types.specs.declared.call.Call.{Call}
-use Rattle.rk_types.specs.declared.history.Receipt.{Receipt}
 use Rattle.rk_session.specs.Turns.{session_after}
-use Rattle.rk_message.specs.declared.calls.Located.{Located}
-use Rattle.rk_world.specs.Calls.{Visited, ask, ask_by, asked_by_session, asking, asking_by, fits, fits_by, fits_with, is_asked_here, untouched}
-use Rattle.rk_world.specs.Client.{ClientTurn, MOST_REQUESTS, Session, looking_up, range_of, session_turn, turn_by, turn_of, turn_to}
-use Rattle.rk_world.specs.Ledger.{is_added}
-use Rattle.rk_world.specs.Premises.{MayAct}
-use Rattle.rk_world.specs.Refusals.{ask_refusal}
-use Rattle.rk_world.specs.Runs.{world_visited}
-use Rattle.rk_world.specs.World.{World}
-use Rattle.rk_world.specs.declared.error.StepError.{StepError}
-use Rattle.rk_world.specs.declared.event.Seen.{Seen}
-use Rattle.rk_lane.specs.LaneState.{AreTold, IsSameLane, LaneState, Running, world_with}
-use Rattle.rk_lane.specs.Visits.{IsVisitOf, MayHaveTurned}
-use Rattle.rk_runs.specs.history.Agreement.{waiting}
-use Rattle.rk_cluster.specs.Faults.{Counts}
-use Rattle.rk_cluster.proofs.Failing.{lanes_visited}
-use Rattle.rk_laws_lanes.specs.Counts.{HasSameClients, IsAskedOnce, accepted_count}
-use Rattle.rk_laws_lanes.specs.GoodLane.{IsGoodLane}
+use Rattle.rk_world.specs.Calls.{ask_by, asked_by_session, asking, asking_by, fits, fits_by, fits_with}
+use Rattle.rk_world.specs.Client.{ClientTurn, MOST_REQUESTS, looking_up, range_of, session_turn, turn_by, turn_of, turn_to}
+use Rattle.rk_lane.specs.Visits.{MayHaveTurned}
+use Rattle.rk_laws_lanes.specs.Counts.{IsAskedOnce}
 use Rattle.rk_laws_lanes.proofs.Asks.{asked_once, turned_same}
 use Rattle.rk_laws_lanes.proofs.Clients.{good_asks}
-use Rattle.rk_laws_gathered.specs.Gathered.{IsOrderly}
-use Rattle.rk_laws_gathered.specs.OpenCalls.{HasCountedCalls}
 use Rattle.rk_laws_gathered.proofs.Counting.{ask_counted}
 use Rattle.rk_laws_gathered.proofs.Orderly.{asking_orderly, turn_orderly}
-use Rattle.rk_shared_lanes.specs.Kept.{IsKept}
-use Rattle.rk_shared_lanes.specs.Passes.{IsPass, PassState, Suits, one_if}
+use Rattle.rk_shared_lanes.specs.Passes.{Suits}
 use Rattle.rk_shared_lanes.proofs.Making.{same_makes}
 use Rattle.rk_shared_lanes.proofs.Standing.{kept_with, sound_on, stands_on}
 

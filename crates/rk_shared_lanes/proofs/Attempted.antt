@@ -1,29 +1,22 @@
 -- A client's attempt in a lane behind its lock, put together from what the smaller functions make.
-use Rattle.std.proofs.Common.{◌≡◌, ◌≢◌, ◌⊎◌, inl, inr, ⊎_elim, ◌==◌, eq-eqb, ne_eqb, ℕ, Bool, true, false, not, List, Option, Some, None, Result, Ok, Err, refl, sym, ap, subst, ◌∙◌}
-use Rattle.std.specs.Prelude.{IfErr, IfOk, IfSome, OnErr, OnOk, is_some}
-use Rattle.rk_types.specs.NumberMap.{get}
-use Rattle.rk_outside.specs.Segments.{Segments}
-use Rattle.rk_world.specs.Calls.{accept, ask}
-use Rattle.rk_world.specs.Client.{Session}
-use Rattle.rk_world.specs.Refusals.{accept_refusal, ask_refusal}
-use Rattle.rk_world.specs.declared.error.StepError.{StepError}
+use Rattle.rk_shared_lanes.proofs.Words.{◌≡◌, ◌≢◌, ⊎_elim, ℕ, true, false, not, List, Option, Some, None, Result, Ok, Err, refl, sym, ap}
+use Rattle.rk_shared_lanes.proofs.Words.{subst, ◌∙◌, IfErr, IfOk, IfSome, get, Segments, accept, ask, Session, accept_refusal, ask_refusal}
+use Rattle.rk_shared_lanes.proofs.Words.{StepError, Seen, Taken, LaneState, IsVisitOf, Comes, EndsAt, IsEvent, IsSending, StopsAt, Short}
+use Rattle.rk_shared_lanes.proofs.Words.{is_answer, PassState}
+use Rattle.std.proofs.Common.{◌==◌, eq-eqb, ne_eqb}
+use Rattle.std.specs.Prelude.{OnErr, is_some}
 use Rattle.rk_world.specs.declared.error.StepError.TheVariants as errors
 use Rattle.rk_world.specs.declared.event.Event.TheVariants as events
-use Rattle.rk_world.specs.declared.event.Seen.{Seen}
-use Rattle.rk_world.specs.declared.event.Taken.{Taken}
 use Rattle.rk_world.specs.declared.event.Taken.TheVariants as takes
-use Rattle.rk_lane.specs.LaneState.{LaneState, Running}
-use Rattle.rk_lane.specs.Visits.{IsRefusedFor, IsVisitOf}
+use Rattle.rk_lane.specs.Visits.{IsRefusedFor}
 use Rattle.rk_attempts.specs.Attempts.{heard, refused_by, visited_or}
-use Rattle.rk_attempts.specs.Came.{Comes, IsAttempt}
-use Rattle.rk_attempts.specs.Ends.{EndsAt, IsEvent, IsSending, IsTake, IsTakenUpTo, StopsAt}
+use Rattle.rk_attempts.specs.Came.{IsAttempt}
+use Rattle.rk_attempts.specs.Ends.{IsTake, IsTakenUpTo}
 use Rattle.rk_attempts.specs.Wires.{is_to_client, numbers_with}
 use Rattle.rk_attempts.specs.declared.attempt.Attempt.{Attempt}
-use Rattle.rk_attempts.specs.declared.attempt.Short.{Short}
 use Rattle.rk_attempts.specs.declared.attempt.Short.TheVariants as shorts
 use Rattle.rk_attempts.proofs.Attempting.{attempt_done, attempt_refused, attempt_short, nothing_seen, take_done, taken_none, taken_one}
-use Rattle.rk_shared_lanes.specs.Counting.{is_answer}
-use Rattle.rk_shared_lanes.specs.Passes.{PassState}
+use Rattle.rk_shared_lanes.proofs.Stepping.{memory_or}
 use Rattle.rk_shared_lanes.proofs.Turned.{never_stops, running_there}
 
 -- ---- what was sent
@@ -37,27 +30,10 @@ sent_some sent some = ne_eqb sent 0 some
 
 -- ---- refusals
 
--- a refusal is want of memory, or it is not
-memory_or : (error : StepError) → (error ≡ errors.NoMemory) ⊎ (error ≢ errors.NoMemory)
-memory_or errors.NoMemory = inl refl
-memory_or (errors.NoMessage number) = inr (λ e. cc e)
-memory_or (errors.Address number) = inr (λ e. cc e)
-memory_or (errors.Dead master) = inr (λ e. cc e)
-memory_or (errors.Alive master) = inr (λ e. cc e)
-memory_or (errors.Stranger client) = inr (λ e. cc e)
-memory_or errors.TooMany = inr (λ e. cc e)
-memory_or (errors.Worn number) = inr (λ e. cc e)
-memory_or (errors.Move error) = inr (λ e. cc e)
-memory_or (errors.Map error) = inr (λ e. cc e)
-
 -- what answers no call leaves the client waiting for it
 unanswered : (taken : Option Taken) → heard taken ≡ None → not (is_answer taken) ≡ true
-unanswered None none = refl
-unanswered (Some takes.Ignored) none = refl
-unanswered (Some takes.Located) none = refl
-unanswered (Some (takes.Moved tablet)) none = refl
-unanswered (Some (takes.NotYet key)) none = refl
 unanswered (Some takes.Done) none = absurd (cc none)
+unanswered _ none = refl
 
 -- a call that was counted still is where the client heard nothing of it
 pub still_counted : (answer : Result Seen StepError) (old new : PassState) (taken : Option Taken) (attempt : Option Attempt) → old.counted ≡ true

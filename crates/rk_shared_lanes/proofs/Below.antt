@@ -1,17 +1,15 @@
 -- Of eight lanes by rising number, no count of faults is below those of the roster just where none is below them in any of these lanes.
-use Rattle.std.proofs.Common.{◌≡◌, ◌≤◌, ◌<◌, ℕ, zero, suc, List, [], ◌∷◌, get_or, length, slice_get, Option, None, Some, refl, sym, ap, subst, ◌∙◌, ⊎_elim, arith}
-use Rattle.std.specs.List.{All, range_with_len}
+use Rattle.rk_shared_lanes.proofs.Words.{◌≡◌, ◌≤◌, ◌<◌, ℕ, List, [], ◌∷◌, length, Option, None, Some, refl, sym, ap, subst, ◌∙◌, ⊎_elim}
+use Rattle.rk_shared_lanes.proofs.Words.{arith, All, All-nil, LANES, LaneState, Counts, RoseBy, lane_counts, IsNoneBelow, numbers_of}
+use Rattle.std.proofs.Common.{suc, get_or, slice_get}
+use Rattle.std.specs.List.{range_with_len}
 use Rattle.std.proofs.lemmas.Bool.{cases_lt}
 use Rattle.std.proofs.lemmas.List.{get_or-map, length-map}
-use Rattle.std.proofs.lemmas.List.Elements.{All-cons, All-get_or, All-nil}
+use Rattle.std.proofs.lemmas.List.Elements.{All-cons, All-get_or}
 use Rattle.std.proofs.lemmas.List.FromFn.{get_or-range_with_len, length-range_with_len}
 use Rattle.std.proofs.lemmas.Option.{get_or_from_slice_get, slice_get_past, slice_get_within}
-use Rattle.rk_types.specs.declared.hashing.TheConstants.{LANES}
-use Rattle.rk_lane.specs.LaneState.{LaneState}
-use Rattle.rk_cluster.specs.Faults.{Counts, GoOn, RoseBy, counts_in, lane_counts}
+use Rattle.rk_cluster.specs.Faults.{GoOn, counts_in}
 use Rattle.rk_cluster.proofs.Worlds.{something_within}
-use Rattle.rk_shared_lanes.specs.Kept.{IsNoneBelow}
-use Rattle.rk_shared_lanes.specs.Together.{numbers_of}
 
 -- a count behind which there is none is none
 none_before : (before : Option ℕ) → RoseBy 0 before None → before ≡ None

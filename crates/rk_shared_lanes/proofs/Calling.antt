@@ -1,14 +1,9 @@
 -- A pass stays so when its client asks its next call.
-use Rattle.std.proofs.Common.{◌≡◌, ℕ, Bool, true, false, List, None, Result, Ok, Err, refl, sym, ap, subst, ◌∙◌, OnOk, OnErr, is_some, arith}
-use Rattle.std.proofs.lemmas.Bool.{false≢true}
-use Rattle.rk_types.specs.declared.call.Call.{Call}
-use Rattle.rk_types.specs.declared.call.Op.{Op}
+use Rattle.rk_shared_lanes.proofs.Words.{◌≡◌, ℕ, Bool, true, false, List, None, Result, Ok, Err, refl, sym, ap, subst, ◌∙◌, is_some, arith}
+use Rattle.rk_shared_lanes.proofs.Words.{false≢true, Call, Op, Session, next_call, with_next_call, IsLawfulCall, waiting, IsPass}
+use Rattle.std.proofs.Common.{OnOk, OnErr}
 use Rattle.rk_session.specs.declared.error.AskError.{AskError}
-use Rattle.rk_world.specs.Client.{Session, next_call, with_next_call}
-use Rattle.rk_world.specs.Premises.{IsLawfulCall}
-use Rattle.rk_runs.specs.history.Agreement.{waiting}
 use Rattle.rk_laws_gathered.proofs.Orderly.{next_orderly}
-use Rattle.rk_shared_lanes.specs.Passes.{IsPass}
 use Rattle.rk_shared_lanes.proofs.Making.{next_makes}
 
 module _ (tells : Type 0) (masters : ℕ) (makes : Call → Type 0) (session : Session) (counted : Bool) (got made : ℕ × ℕ)

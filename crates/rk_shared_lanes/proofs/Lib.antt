@@ -1,3 +1,4 @@
+pub mod Words
 pub mod Accepting
 pub mod Asking
 pub mod Attempted

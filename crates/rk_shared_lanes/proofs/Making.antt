@@ -1,23 +1,12 @@
 -- The calls of a session stay such as clients make.
-use Rattle.std.proofs.Common.{◌≡◌, ℕ, Bool, true, false, cond, List, [], Option, None, Some, refl, sym, subst}
-use Rattle.std.specs.Prelude.{◌==◌, IfSome}
-use Rattle.std.specs.List.{All}
-use Rattle.std.proofs.lemmas.List.Elements.{All-nil, All-push}
-use Rattle.rk_types.specs.declared.call.Answer.{Answer}
+use Rattle.rk_shared_lanes.proofs.Words.{◌≡◌, ℕ, Bool, true, false, cond, List, [], Option, None, Some, refl, sym, subst, ◌==◌, IfSome, All}
+use Rattle.rk_shared_lanes.proofs.Words.{All-nil, All-push, Answer, Call, Op, Receipt, Located, Reply, Body, Message, accepting}
+use Rattle.rk_shared_lanes.proofs.Words.{is_asked_here, taking, untouched, Session, accepted_by, accepted_of, answer_accepted, call_lane}
+use Rattle.rk_shared_lanes.proofs.Words.{has_call, ignoring, next_call, with_next_call, with_range, World, MakesOnly}
 use Rattle.rk_types.specs.declared.call.Answer.TheVariants as answers
-use Rattle.rk_types.specs.declared.call.Call.{Call}
-use Rattle.rk_types.specs.declared.call.Op.{Op}
-use Rattle.rk_types.specs.declared.history.Receipt.{Receipt}
-use Rattle.rk_message.specs.declared.calls.Located.{Located}
-use Rattle.rk_message.specs.declared.calls.Reply.{Reply}
-use Rattle.rk_message.specs.declared.message.Body.{Body}
 use Rattle.rk_message.specs.declared.message.Body.TheVariants as bodies
-use Rattle.rk_message.specs.declared.message.Message.{Message}
-use Rattle.rk_world.specs.Calls.{accepting, is_asked_here, taking, untouched}
-use Rattle.rk_world.specs.Client.{Session, accepted_by, accepted_of, answer_accepted, call_lane, has_call, ignoring, next_call, receipt_of, with_next_call, with_range}
-use Rattle.rk_world.specs.World.{World}
+use Rattle.rk_world.specs.Client.{receipt_of}
 use Rattle.rk_world.specs.declared.event.Taken.TheVariants as takes
-use Rattle.rk_shared_lanes.specs.Passes.{MakesOnly}
 
 module _ (makes : Call → Type 0) where
   -- ---- what leaves them

@@ -1,18 +1,10 @@
 -- What lies behind a lane's lock stays so, by what became of the lane.
-use Rattle.std.proofs.Common.{◌≡◌, ◌^◌, ◌<◌, ℕ, List, [], ◌∷◌, Option, Some, sym, ap, subst, ◌∙◌}
-use Rattle.std.specs.Prelude.{IfSome}
-use Rattle.rk_types.specs.NumberMap.{NumberMap}
-use Rattle.rk_types.specs.declared.hashing.TheConstants.{LANES}
-use Rattle.rk_outside.specs.Segments.{Segments}
-use Rattle.rk_world.specs.Ledger.{Ledger}
-use Rattle.rk_world.specs.World.{World}
-use Rattle.rk_lane.specs.LaneState.{AreTold, IsSameLane, LaneState, Running, world_with}
-use Rattle.rk_cluster.specs.Faults.{Counts, LanesGoOn, RoseBy, lane_counts}
+use Rattle.rk_shared_lanes.proofs.Words.{◌≡◌, ◌^◌, ◌<◌, ℕ, List, [], ◌∷◌, Option, Some, sym, ap, subst, ◌∙◌, IfSome, NumberMap, LANES}
+use Rattle.rk_shared_lanes.proofs.Words.{Segments, Ledger, World, AreTold, IsSameLane, LaneState, Running, world_with, Counts, LanesGoOn}
+use Rattle.rk_shared_lanes.proofs.Words.{RoseBy, lane_counts, HasSameClients, accepted_count, IsGoodLane, HasCountedCalls, IsKept}
+use Rattle.rk_shared_lanes.proofs.Words.{IsNoneBelow, IsPart, IsSoundOrSpent, StandsFor}
 use Rattle.rk_cluster.proofs.Faults.{rose_then}
-use Rattle.rk_laws_lanes.specs.Counts.{HasSameClients, accepted_count}
-use Rattle.rk_laws_lanes.specs.GoodLane.{IsGoodLane}
-use Rattle.rk_laws_gathered.specs.OpenCalls.{HasCountedCalls}
-use Rattle.rk_shared_lanes.specs.Kept.{HasClients, IsKept, IsNoneBelow, IsPart, IsSoundOrSpent, StandsFor}
+use Rattle.rk_shared_lanes.specs.Kept.{HasClients}
 
 -- the clients of a ledger are just these where another one has the same
 clients_stay : (clients : List ℕ) (before after : Ledger) → HasSameClients before after → HasClients clients before → HasClients clients after

@@ -1,50 +1,32 @@
 -- A lane behind its lock stays so at each event.
-use Rattle.std.proofs.Common.{◌≡◌, ◌≢◌, ℕ, [], ◌∷◌, List, length, Option, Some, None, Result, Ok, Err, refl, sym, ap, subst, ◌∙◌, ⊎_elim, inl, inr}
-use Rattle.std.specs.Prelude.{◌⊎◌, IfErr, IfOk, IfSome}
-use Rattle.rk_outside.specs.Segments.{Segments}
-use Rattle.rk_backup.specs.declared.lane.BackupLane.{BackupLane}
+use Rattle.rk_shared_lanes.proofs.Words.{◌≡◌, ◌≢◌, ℕ, [], ◌∷◌, List, length, Option, Some, None, Result, Ok, Err, refl, sym, ap, subst, ◌∙◌}
+use Rattle.rk_shared_lanes.proofs.Words.{⊎_elim, IfErr, IfOk, IfSome, Segments, BackupLane, NumberMap, Placed, Ledger, is_added, World}
+use Rattle.rk_shared_lanes.proofs.Words.{StepError, Event, Seen, AreTold, IsSameLane, LaneState, Running, world_with, Counts, LanesGoOn}
+use Rattle.rk_shared_lanes.proofs.Words.{HasSameClients, accepted_count, IsGoodLane, HasCountedCalls, IsKept, IsSoundOrSpent, StandsFor}
+use Rattle.std.proofs.Common.{inl, inr}
+use Rattle.std.specs.Prelude.{◌⊎◌}
 use Rattle.rk_world.specs.Backup.{Called}
-use Rattle.rk_types.specs.NumberMap.{NumberMap}
-use Rattle.rk_types.specs.declared.history.Placed.{Placed}
-use Rattle.rk_world.specs.Ledger.{Ledger, is_added}
 use Rattle.rk_world.specs.declared.ledger.LastCall.{LastCall}
 use Rattle.rk_world.specs.Premises.{MayHappen}
 use Rattle.rk_world.specs.Refusals.{refusal}
 use Rattle.rk_world.specs.Replicas.{IsTold}
 use Rattle.rk_world.specs.Runs.{IsCalmEvent}
 use Rattle.rk_world.specs.Step.{Stepped, happened, step, stepped_by, told_by_replica}
-use Rattle.rk_world.specs.World.{World}
-use Rattle.rk_world.specs.declared.error.StepError.{StepError}
 use Rattle.rk_world.specs.declared.error.StepError.TheVariants as errors
-use Rattle.rk_world.specs.declared.event.Event.{Event}
-use Rattle.rk_world.specs.declared.event.Seen.{Seen}
 use Rattle.rk_lane.specs.Events.{IsAnswerOf, IsRefused, IsStepFrom, IsStepOf}
-use Rattle.rk_lane.specs.LaneState.{AreTold, IsSameLane, LaneState, Running, world_with}
 use Rattle.rk_lane.proofs.Backed.{by_failing}
 use Rattle.rk_lane.proofs.Steps.{calm_same, may_happen_same}
-use Rattle.rk_cluster.specs.Faults.{Counts, LanesGoOn}
 use Rattle.rk_cluster.proofs.Failing.{lanes_stepped}
-use Rattle.rk_laws_lanes.specs.Counts.{AddsNoClient, HasSameClients, HasSameCounts, accepted_count}
-use Rattle.rk_laws_lanes.specs.GoodLane.{IsGoodLane}
+use Rattle.rk_laws_lanes.specs.Counts.{AddsNoClient, HasSameCounts}
 use Rattle.rk_laws_lanes.proofs.Events.{good_event}
 use Rattle.rk_laws_lanes.proofs.Ledgers.{same_clients, same_counts}
-use Rattle.rk_laws_gathered.specs.OpenCalls.{HasCountedCalls}
 use Rattle.rk_laws_gathered.proofs.Counting.{event_counted}
-use Rattle.rk_shared_lanes.specs.Kept.{IsKept, IsSoundOrSpent, StandsFor}
 use Rattle.rk_shared_lanes.proofs.Standing.{kept_with, sound_on, stands_on}
 
 -- a refusal is want of memory, or something else
 pub memory_or : (error : StepError) → (error ≡ errors.NoMemory) ⊎ (error ≢ errors.NoMemory)
 memory_or errors.NoMemory = inl refl
-memory_or (errors.Worn number) = inr (λ e. cc e)
-memory_or (errors.NoMessage number) = inr (λ e. cc e)
-memory_or (errors.Address number) = inr (λ e. cc e)
-memory_or (errors.Dead master) = inr (λ e. cc e)
-memory_or (errors.Alive master) = inr (λ e. cc e)
-memory_or (errors.Stranger client) = inr (λ e. cc e)
-memory_or errors.TooMany = inr (λ e. cc e)
-memory_or (errors.Move error) = inr (λ e. cc e)
-memory_or (errors.Map error) = inr (λ e. cc e)
+memory_or _ = inr (λ e. cc e)
 
 -- replicas that tell what they store answered by it
 told_so : (w : World) (event : Event) (called : Called) → IsAnswerOf (told_by_replica w event) called → IsTold w event called

@@ -1,22 +1,10 @@
 -- Lanes and sessions that are taken out of their locks and passes, one after the other.
-use Rattle.std.proofs.Common.{◌≡◌, ◌^◌, ◌<◌, ◌≤◌, ℕ, ◌+◌, List, [], ◌∷◌, ◌++◌, length, length-append, sym, ap, ◌∙◌, arith, Option}
-use Rattle.std.specs.List.{All}
-use Rattle.std.proofs.lemmas.List.Elements.{All-nil, All-push}
-use Rattle.std.proofs.lemmas.List.Sums.{sum_by_push}
-use Rattle.rk_types.specs.declared.call.Call.{Call}
-use Rattle.rk_types.specs.declared.hashing.TheConstants.{LANES}
-use Rattle.rk_outside.specs.Segments.{Segments}
-use Rattle.rk_world.specs.Client.{Session}
-use Rattle.rk_world.specs.Premises.{MayAct}
-use Rattle.rk_lane.specs.LaneState.{LaneState}
-use Rattle.rk_runs.specs.history.Agreement.{waiting}
-use Rattle.rk_cluster.specs.Faults.{Counts}
-use Rattle.rk_laws_lanes.specs.Counts.{accepted_count}
-use Rattle.rk_laws_gathered.specs.Gathered.{IsOrderly}
-use Rattle.rk_laws_gathered.specs.OpenCalls.{HasCountedCalls}
-use Rattle.rk_shared_lanes.specs.Kept.{IsNoneBelow, IsSoundOrSpent}
-use Rattle.rk_shared_lanes.specs.Passes.{MakesOnly}
-use Rattle.rk_shared_lanes.specs.Together.{AllCounted, AllOrderly, AllSoundOrSpent, IsOfRoster, accepted_of, asked_of, calls_of, powers_of, receipts_of}
+use Rattle.rk_shared_lanes.proofs.Words.{◌≡◌, ◌^◌, ◌<◌, ◌≤◌, ℕ, ◌+◌, List, [], ◌∷◌, ◌++◌, length, sym, ap, ◌∙◌, arith, Option, All, All-nil}
+use Rattle.rk_shared_lanes.proofs.Words.{All-push, sum_by_push, Call, LANES, Segments, Session, MayAct, LaneState, waiting, Counts}
+use Rattle.rk_shared_lanes.proofs.Words.{accepted_count, IsOrderly, HasCountedCalls, IsNoneBelow, IsSoundOrSpent, MakesOnly}
+use Rattle.rk_shared_lanes.proofs.Words.{AllSoundOrSpent, IsOfRoster, powers_of}
+use Rattle.std.proofs.Common.{length-append}
+use Rattle.rk_shared_lanes.specs.Together.{AllCounted, AllOrderly, accepted_of, asked_of, calls_of, receipts_of}
 
 -- the amount of shares of some lanes
 pub record IsSum (share : ℕ × ℕ) (parts amount : ℕ) : Type 0 where

@@ -1,20 +1,17 @@
 -- Turns and replays of a lane behind its lock, put together from what the smaller functions make.
-use Rattle.std.proofs.Common.{◌≡◌, ◌≤◌, ℕ, Bool, true, false, not, Option, Some, None, Result, Ok, Err, refl, sym, ap, subst, ◌∙◌}
-use Rattle.std.specs.Prelude.{IfErr, IfSome, OnOk, is_some, []}
-use Rattle.rk_outside.specs.Segments.{Segments}
+use Rattle.rk_shared_lanes.proofs.Words.{◌≡◌, ◌≤◌, ℕ, Bool, true, false, not, Option, Some, None, Result, Ok, Err, refl, sym, ap, subst}
+use Rattle.rk_shared_lanes.proofs.Words.{◌∙◌, IfErr, IfSome, OnOk, Segments, Event, IsSameLane, LaneState, world_with, Comes, EndsAt}
+use Rattle.rk_shared_lanes.proofs.Words.{IsEvent, StopsAt, started, next_message, Short, IsHandingOut, first_turned, one_handed_out}
+use Rattle.std.specs.Prelude.{is_some, []}
 use Rattle.rk_types.specs.declared.node.Node.TheVariants as nodes
 use Rattle.rk_world.specs.World.{has_crashed}
-use Rattle.rk_world.specs.declared.event.Event.{Event}
 use Rattle.rk_world.specs.declared.event.Event.TheVariants as events
-use Rattle.rk_lane.specs.LaneState.{IsSameLane, LaneState, world_with}
-use Rattle.rk_attempts.specs.Came.{Comes, IsReplay, IsTurn, has_come}
-use Rattle.rk_attempts.specs.Ends.{EndsAt, IsEvent, IsHanded, IsHandedOut, StopsAt}
-use Rattle.rk_attempts.specs.Progress.{started}
+use Rattle.rk_attempts.specs.Came.{IsReplay, IsTurn, has_come}
+use Rattle.rk_attempts.specs.Ends.{IsHanded, IsHandedOut}
 use Rattle.rk_attempts.specs.Replays.{is_replayed}
-use Rattle.rk_attempts.specs.Turns.{master_turned, next_message, nodes_turned}
-use Rattle.rk_attempts.specs.declared.attempt.Short.{Short}
+use Rattle.rk_attempts.specs.Turns.{master_turned, nodes_turned}
 use Rattle.rk_attempts.specs.declared.attempt.Short.TheVariants as shorts
-use Rattle.rk_attempts.proofs.Works.{IsHandingOut, first_turned, handed_out_short, handed_short, master_crashed, master_lives, one_handed_out, replay_done, replay_none, stopped_at, turn_short, turn_taken, turns_ended}
+use Rattle.rk_attempts.proofs.Works.{handed_out_short, handed_short, master_crashed, master_lives, replay_done, replay_none, stopped_at, turn_short, turn_taken, turns_ended}
 
 -- ---- lanes
 

@@ -1,27 +1,13 @@
 -- What lanes and sessions keep behind locks and in passes is so of those where nothing was asked.
-use Rattle.std.proofs.Common.{◌≡◌, ◌^◌, ◌<◌, ◌≤◌, ℕ, length, false, List, [], ◌∷◌, Option, refl, sym, ap, ◌∙◌, subst, arith}
-use Rattle.std.specs.Prelude.{IfSome}
-use Rattle.std.specs.List.{All}
-use Rattle.std.proofs.lemmas.Bool.{false≢true}
-use Rattle.std.proofs.lemmas.List.Elements.{All-head, All-nil}
-use Rattle.rk_types.specs.declared.call.Call.{Call}
-use Rattle.rk_types.specs.declared.history.Placed.{Placed}
-use Rattle.rk_types.specs.declared.hashing.TheConstants.{LANES}
-use Rattle.rk_types.specs.declared.history.Receipt.{Receipt}
-use Rattle.rk_outside.specs.Segments.{Segments}
-use Rattle.rk_world.specs.Client.{Session}
-use Rattle.rk_world.specs.Premises.{MayAct}
-use Rattle.rk_lane.specs.LaneState.{LaneState}
-use Rattle.rk_runs.specs.history.Agreement.{AreRisingAbove, waiting}
-use Rattle.rk_cluster.specs.Faults.{Counts}
-use Rattle.rk_laws_lanes.specs.Counts.{accepted_count}
+use Rattle.rk_shared_lanes.proofs.Words.{◌≡◌, ◌^◌, ◌<◌, ◌≤◌, ℕ, length, false, List, [], ◌∷◌, Option, refl, sym, ap, ◌∙◌, subst, arith}
+use Rattle.rk_shared_lanes.proofs.Words.{IfSome, All, false≢true, All-nil, Call, Placed, LANES, Receipt, Segments, Session, MayAct}
+use Rattle.rk_shared_lanes.proofs.Words.{LaneState, waiting, Counts, accepted_count, IsOrderly, HasCountedCalls, IsKept, IsNoneBelow}
+use Rattle.rk_shared_lanes.proofs.Words.{IsPart, IsSoundOrSpent, IsPass, IsIdle, IsOfRoster, IsUnasked}
+use Rattle.std.proofs.lemmas.List.Elements.{All-head}
+use Rattle.rk_runs.specs.history.Agreement.{AreRisingAbove}
 use Rattle.rk_laws_gathered.specs.Answers.{AreOwn}
-use Rattle.rk_laws_gathered.specs.Gathered.{IsOrderly}
-use Rattle.rk_laws_gathered.specs.OpenCalls.{HasCountedCalls, HasOpenCall, is_open}
-use Rattle.rk_shared_lanes.specs.Kept.{IsKept, IsNoneBelow, IsPart, IsSoundOrSpent}
-use Rattle.rk_shared_lanes.specs.Passes.{IsPass}
+use Rattle.rk_laws_gathered.specs.OpenCalls.{HasOpenCall, is_open}
 use Rattle.rk_shared_lanes.proofs.Making.{idle_makes}
-use Rattle.rk_shared_lanes.specs.Together.{IsIdle, IsOfRoster, IsUnasked}
 
 module _ {R : Type 0} (lane : LaneState R) (unasked : IsUnasked lane) where
   pub none_accepted : accepted_count lane.ledger ≡ 0

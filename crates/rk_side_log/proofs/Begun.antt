@@ -1,18 +1,15 @@
 -- How many segments items begin, and that fewer items begin no more.
-use Rattle.std.proofs.Common.{◌≡◌, ℕ, suc, ◌+◌, ◌-◌, ◌<◌, ◌≤◌, Bool, true, false, cond, leb, ◌&&◌, List, [], ◌∷◌, ◌++◌, length, get_or, refl, sym, ap, ◌∙◌, arith, length-set, length-append, get_or-set_same, append_assoc}
-use Rattle.std.proofs.lemmas.Bool.{lt-leb, lt-ltb}
+use Rattle.rk_side_log.proofs.Words.{◌≡◌, ℕ, suc, ◌+◌, ◌-◌, ◌<◌, ◌≤◌, Bool, true, false, cond, leb, ◌&&◌, List, [], ◌∷◌, ◌++◌, length}
+use Rattle.rk_side_log.proofs.Words.{get_or, refl, sym, ap, ◌∙◌, arith, length-set, length-append, append_assoc, lt-ltb, map-append}
+use Rattle.rk_side_log.proofs.Words.{spelled_of, Held, SEGMENT_BYTES, spelled, held_spelled, with_bytes, cut, as_entries, begun, room_in}
+use Rattle.rk_side_log.proofs.Words.{segments_of}
+use Rattle.std.proofs.Common.{get_or-set_same}
+use Rattle.std.proofs.lemmas.Bool.{lt-leb}
 use Rattle.std.proofs.lemmas.Bool.Decides.{nat_tests}
-use Rattle.std.proofs.lemmas.List.{map-append, get_or_push}
-use Rattle.rk_types.specs.Held.{spelled_of}
-use Rattle.rk_types.specs.declared.held.Held.{Held}
-use Rattle.rk_types.specs.declared.held.TheConstants.{SEGMENT_BYTES}
+use Rattle.std.proofs.lemmas.List.{get_or_push}
 use Rattle.rk_entry.specs.declared.entry.Entry.TheVariants as entries
-use Rattle.rk_entry.specs.Spelling.{spelled}
-use Rattle.rk_entry.proofs.Sizes.{held_spelled}
-use Rattle.rk_log.specs.Cut.{last_of, has_room, in_last, with_bytes, cut, cut_after}
+use Rattle.rk_log.specs.Cut.{last_of, has_room, in_last, cut_after}
 use Rattle.rk_log.proofs.Cuts.{spelled_some, cut-append, room_some}
-use Rattle.rk_world.specs.Material.{as_entries}
-use Rattle.rk_side_log.specs.Side.{begun, room_in, segments_of}
 use Rattle.rk_side_log.proofs.Filled.{segments_cut}
 
 -- ---- the room in the last segment

@@ -1,18 +1,14 @@
 -- The side segments that items fill: none is empty or too long, none could have taken what begins the next, and all items stand in them.
-use Rattle.std.proofs.Common.{◌≡◌, ℕ, zero, suc, ◌+◌, ◌<◌, ◌≤◌, Bool, true, false, leb, List, [], ◌∷◌, ◌++◌, length, map, sum, get_or, fold, refl, sym, ap, subst, ◌∙◌, arith, add-one, length-append, append_assoc}
-use Rattle.std.specs.List.{All, flat_map}
+use Rattle.rk_side_log.proofs.Words.{◌≡◌, ℕ, zero, suc, ◌+◌, ◌<◌, ◌≤◌, Bool, true, false, leb, List, [], ◌∷◌, ◌++◌, length, map, get_or}
+use Rattle.rk_side_log.proofs.Words.{refl, sym, ap, subst, ◌∙◌, arith, length-append, append_assoc, All, append-nil, All-head, All-tail}
+use Rattle.rk_side_log.proofs.Words.{spelled_of, Held, SEGMENT_BYTES, IsLawfulHeld, spelled, held_spelled, cut_items, sealed_sides}
+use Rattle.rk_side_log.proofs.Words.{spelled_items}
+use Rattle.std.proofs.Common.{sum, fold, add-one}
+use Rattle.std.specs.List.{flat_map}
 use Rattle.std.proofs.lemmas.Bool.{cond_both, leb-true, leb-false}
-use Rattle.std.proofs.lemmas.List.{append-nil}
-use Rattle.std.proofs.lemmas.List.Elements.{All-nil, All-cons, All-head, All-tail, All-append, All-push}
-use Rattle.rk_types.specs.Held.{spelled_of}
-use Rattle.rk_types.specs.declared.held.Held.{Held}
-use Rattle.rk_types.specs.declared.held.TheConstants.{SEGMENT_BYTES}
-use Rattle.rk_entry.specs.Lawful.{IsLawfulHeld}
+use Rattle.std.proofs.lemmas.List.Elements.{All-nil, All-cons, All-append, All-push}
 use Rattle.rk_entry.specs.declared.entry.Entry.TheVariants as entries
-use Rattle.rk_entry.specs.Spelling.{spelled}
-use Rattle.rk_entry.proofs.Sizes.{held_spelled}
-use Rattle.rk_world.specs.SideLogs.{with_side_item, cut_items, sealed_sides}
-use Rattle.rk_side_log.specs.Spelled.{spelled_items}
+use Rattle.rk_world.specs.SideLogs.{with_side_item}
 use Rattle.rk_side_log.proofs.Cutting.{length-spelled, spelled_push, spelled_one}
 use Rattle.rk_side_log.proofs.Filled.{spelled_most}
 

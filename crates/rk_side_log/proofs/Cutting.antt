@@ -1,20 +1,14 @@
 -- The side segments that items fill are the main segments that their entries would fill.
-use Rattle.std.proofs.Common.{◌≡◌, ℕ, ◌+◌, Bool, true, false, ◌&&◌, cond, leb, ltb, suc, List, [], ◌∷◌, ◌++◌, length, map, sum, fold, refl, sym, ap, ◌∙◌, arith, length-append, append_assoc}
-use Rattle.std.proofs.lemmas.Bool.{lt-ltb}
-use Rattle.std.proofs.lemmas.List.{append-nil}
+use Rattle.rk_side_log.proofs.Words.{◌≡◌, ℕ, ◌+◌, Bool, true, false, ◌&&◌, cond, leb, ltb, suc, List, [], ◌∷◌, ◌++◌, length, map, refl, sym}
+use Rattle.rk_side_log.proofs.Words.{ap, ◌∙◌, arith, length-append, append_assoc, lt-ltb, append-nil, spelled_of, Held, SEGMENT_BYTES}
+use Rattle.rk_side_log.proofs.Words.{spelled, held_spelled, with_bytes, cut, as_entries, cut_items, spelled_items}
+use Rattle.std.proofs.Common.{sum, fold}
 use Rattle.std.proofs.lemmas.List.Sums.{sum-map, sum_by-cons}
 use native.Mathlib.Numerals.{unary_clauses}
-use Rattle.rk_types.specs.Held.{spelled_of}
-use Rattle.rk_types.specs.declared.held.Held.{Held}
-use Rattle.rk_types.specs.declared.held.TheConstants.{SEGMENT_BYTES}
 use Rattle.rk_entry.specs.declared.entry.Entry.TheVariants as entries
 use Rattle.rk_entry.specs.Entries.{spelled_all}
-use Rattle.rk_entry.specs.Spelling.{spelled}
-use Rattle.rk_entry.proofs.Sizes.{held_spelled}
-use Rattle.rk_log.specs.Cut.{with_bytes, cut, cut_after}
-use Rattle.rk_world.specs.Material.{as_entries}
-use Rattle.rk_world.specs.SideLogs.{with_side_item, cut_items}
-use Rattle.rk_side_log.specs.Spelled.{spelled_items}
+use Rattle.rk_log.specs.Cut.{cut_after}
+use Rattle.rk_world.specs.SideLogs.{with_side_item}
 
 -- ---- the entries of items
 

@@ -1,3 +1,4 @@
+pub mod Words
 pub mod Cutting
 pub mod Filled
 pub mod Begun

@@ -1,19 +1,13 @@
 -- How far a replay of items has come.
-use Rattle.std.proofs.Common.{◌≡◌, ℕ, ◌+◌, ◌*◌, ◌<◌, ◌≤◌, ◌^◌, Bool, true, false, cond, List, [], ◌∷◌, ◌++◌, Option, Some, None, length, refl, sym, ap, subst, ◌∙◌, arith, length-append, append_assoc}
-use Rattle.std.specs.List.{All}
-use Rattle.std.proofs.lemmas.Bool.{cond-true, cond-false}
-use Rattle.std.proofs.lemmas.List.Elements.{All-head, All-tail}
-use Rattle.rk_types.specs.Held.{spelled_of}
-use Rattle.rk_types.specs.declared.held.Held.{Held}
-use Rattle.rk_types.specs.declared.held.TheConstants.{LONGEST_SPELLED}
+use Rattle.rk_side_log.proofs.Words.{◌≡◌, ℕ, ◌+◌, ◌<◌, ◌≤◌, Bool, true, false, cond, List, [], ◌∷◌, ◌++◌, Option, Some, None, length, refl}
+use Rattle.rk_side_log.proofs.Words.{sym, ap, subst, ◌∙◌, arith, length-append, append_assoc, All, cond-true, cond-false, All-head}
+use Rattle.rk_side_log.proofs.Words.{All-tail, spelled_of, Held, LONGEST_SPELLED, IsLawfulHeld, spelled, held_spelled, found, is_newer}
+use Rattle.rk_side_log.proofs.Words.{side_replayed, Side, segments_of, spelled_items}
+use Rattle.std.proofs.Common.{◌*◌, ◌^◌}
 use Rattle.rk_entry.specs.declared.entry.Entry.TheVariants as entries
-use Rattle.rk_entry.specs.Lawful.{IsLawfulHeld}
-use Rattle.rk_entry.specs.Spelling.{spelled}
-use Rattle.rk_entry.proofs.Sizes.{held_spelled}
-use Rattle.rk_table.specs.Items.{found, is_newer, with_newer}
-use Rattle.rk_side_log.specs.Replayed.{Replayed, side_replayed}
-use Rattle.rk_side_log.specs.Side.{Side, with_last, segments_of}
-use Rattle.rk_side_log.specs.Spelled.{spelled_items}
+use Rattle.rk_table.specs.Items.{with_newer}
+use Rattle.rk_side_log.specs.Replayed.{Replayed}
+use Rattle.rk_side_log.specs.Side.{with_last}
 use Rattle.rk_side_log.specs.declared.replay.Tally.{Tally}
 use Rattle.rk_side_log.proofs.Begun.{segments_first, segments_rest}
 use Rattle.rk_side_log.proofs.Cutting.{spelled_push}

@@ -1,14 +1,11 @@
 -- How the segments of all workers are handed out, one worker after the other.
-use Rattle.std.proofs.Common.{◌≡◌, ℕ, zero, suc, ◌+◌, ◌<◌, ◌≤◌, List, [], ◌∷◌, ◌++◌, length, map, get_or, set, take, drop, replicate, refl, sym, ap, ◌∙◌, arith, append_assoc}
-use Rattle.std.proofs.lemmas.List.{append-nil, map-append, map_push, take_more, take_more_set, replicate_more, drop-drop, drop-set-lt, get_or-drop}
+use Rattle.rk_side_log.proofs.Words.{◌≡◌, ℕ, zero, suc, ◌+◌, ◌<◌, ◌≤◌, List, [], ◌∷◌, ◌++◌, length, map, get_or, set, take, drop, replicate}
+use Rattle.rk_side_log.proofs.Words.{refl, sym, ap, ◌∙◌, arith, append_assoc, append-nil, map-append, Held, cut_items, sealed_sides, Side}
+use Rattle.rk_side_log.proofs.Words.{no_side, items_of_each, made_in, spelled_items, unsealed_in}
+use Rattle.std.proofs.lemmas.List.{map_push, take_more, take_more_set, replicate_more, drop-drop, drop-set-lt, get_or-drop}
 use Rattle.std.proofs.lemmas.List.Concat.{flat_map-append}
 use Rattle.std.proofs.lemmas.List.Folds.{sum_by-replicate}
 use Rattle.std.proofs.lemmas.List.Sums.{sum_by-drop_more}
-use Rattle.rk_types.specs.declared.held.Held.{Held}
-use Rattle.rk_world.specs.SideLogs.{cut_items, sealed_sides}
-use Rattle.rk_side_log.specs.Side.{Side, no_side}
-use Rattle.rk_side_log.specs.Sides.{items_of_each, made_in}
-use Rattle.rk_side_log.specs.Spelled.{spelled_items, unsealed_in}
 use Rattle.rk_side_log.proofs.Cutting.{spelled_none, sum_first}
 
 -- the worker at a place is the one that stood there

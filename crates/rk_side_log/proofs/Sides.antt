@@ -1,12 +1,9 @@
 -- The side logs of all workers, and a change of one.
-use Rattle.std.proofs.Common.{◌≡◌, ℕ, ◌+◌, ◌<◌, List, [], ◌∷◌, length, get_or, set, sym, ap, ◌∙◌, arith, get_or-set_same}
-use Rattle.std.proofs.lemmas.List.{map-set, get_or-map, set-get_or, length-map}
+use Rattle.rk_side_log.proofs.Words.{◌≡◌, ℕ, ◌+◌, ◌<◌, List, [], ◌∷◌, length, get_or, set, sym, ap, ◌∙◌, arith, length-map, Held}
+use Rattle.rk_side_log.proofs.Words.{side_replayed, Side, items_of_each, made_in, spelled_items, unsealed_in}
+use Rattle.std.proofs.Common.{get_or-set_same}
+use Rattle.std.proofs.lemmas.List.{map-set, get_or-map, set-get_or}
 use Rattle.std.proofs.lemmas.List.Sums.{sum-map, sum_by-set}
-use Rattle.rk_types.specs.declared.held.Held.{Held}
-use Rattle.rk_side_log.specs.Replayed.{side_replayed}
-use Rattle.rk_side_log.specs.Side.{Side}
-use Rattle.rk_side_log.specs.Sides.{items_of_each, made_in}
-use Rattle.rk_side_log.specs.Spelled.{spelled_items, unsealed_in}
 use Rattle.rk_side_log.proofs.Cutting.{spelled_none}
 
 -- the items of one worker

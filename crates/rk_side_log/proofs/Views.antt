@@ -1,17 +1,15 @@
 -- What a write to a segment is to the bytes of all of them.
-use Rattle.std.proofs.Common.{◌≡◌, ℕ, ◌+◌, ◌-◌, ◌<◌, ◌≤◌, true, ltb, List, [], ◌∷◌, ◌++◌, length, take, get_or, set, Some, None, Result, Ok, Err, refl, sym, ap, ◌∙◌, arith}
-use Rattle.std.specs.Prelude.{is_ok, OnOk, MatchResult}
-use Rattle.std.proofs.lemmas.Bool.{cond-false, le-ltb, false≢true}
-use Rattle.std.proofs.lemmas.List.{map-set, get_or-map, get_or-take, length-map, length-take-le}
-use Rattle.rk_types.specs.declared.held.Held.{Held}
-use Rattle.rk_types.specs.declared.held.TheConstants.{SEGMENT_BYTES}
+use Rattle.rk_side_log.proofs.Words.{◌≡◌, ℕ, ◌+◌, ◌-◌, ◌<◌, ◌≤◌, true, ltb, List, [], ◌∷◌, ◌++◌, length, take, get_or, set, Some, None}
+use Rattle.rk_side_log.proofs.Words.{refl, sym, ap, ◌∙◌, arith, is_ok, cond-false, length-map, Held, SEGMENT_BYTES, IsLawfulHeld, spelled}
+use Rattle.rk_side_log.proofs.Words.{NumberedBytes, Side, IsFilled, room_in, segments_of, bytes_in, items_read}
+use Rattle.std.proofs.Common.{Result, Ok, Err}
+use Rattle.std.specs.Prelude.{OnOk, MatchResult}
+use Rattle.std.proofs.lemmas.Bool.{le-ltb, false≢true}
+use Rattle.std.proofs.lemmas.List.{map-set, get_or-map, get_or-take, length-take-le}
 use Rattle.rk_entry.specs.declared.entry.Entry.TheVariants as entries
-use Rattle.rk_entry.specs.Lawful.{IsLawfulHeld}
-use Rattle.rk_entry.specs.Spelling.{spelled}
-use Rattle.rk_segment.specs.Segment.{NumberedBytes, appended, overflow}
+use Rattle.rk_segment.specs.Segment.{appended, overflow}
 use Rattle.rk_segment.specs.declared.segment.Full.{Full}
-use Rattle.rk_side_log.specs.Side.{Side, IsFilled, place_for, room_in, segments_of}
-use Rattle.rk_side_log.specs.Spelled.{bytes_in, items_read}
+use Rattle.rk_side_log.specs.Side.{place_for}
 use Rattle.rk_side_log.proofs.Begun.{room_is}
 use Rattle.rk_side_log.proofs.Filled.{GoesInto, goes}
 

@@ -1,6 +1,5 @@
-use Rattle.std.proofs.Common.{◌≡◌, ◌<◌, length, refl, sym, ap, ◌∙◌, arith}
+use Rattle.rk_bucket_table.proofs.Words.{◌≡◌, ◌<◌, length, refl, sym, ap, ◌∙◌, arith, chain}
 use Rattle.rk_bucket_table.proofs.Dropping.{before_there, dropped_chain, dropping_first, dropping_kept, dropping_less, less_left, not_in_front, still_behind}
-use Rattle.rk_bucket_table.specs.Cells.{chain}
 use Rattle.rk_bucket_table.proofs.Tables.{head_read}
 use Rattle.rk_bucket_table.proofs.drops.drop_in_chain.Goals as goal
 

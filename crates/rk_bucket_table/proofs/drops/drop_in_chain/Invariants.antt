@@ -1,6 +1,4 @@
-use Rattle.std.proofs.Common.{◌≡◌, List, length}
-use Rattle.rk_types.specs.declared.held.Held.{Held}
-use Rattle.rk_bucket_table.specs.Cells.{IsTable, chain}
+use Rattle.rk_bucket_table.proofs.Words.{◌≡◌, List, length, Held, IsTable, chain}
 use Rattle.rk_bucket_table.proofs.Dropping.{IsDropping}
 use Rattle.rk_bucket_table.proofs.drops.drop_in_chain.Given as goal
 

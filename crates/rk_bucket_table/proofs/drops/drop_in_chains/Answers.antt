@@ -1,6 +1,4 @@
-use Rattle.std.proofs.Common.{◌<◌, ◌≤◌, ◌++◌, drop, length, map, take, refl, ◌∙◌, subst, arith}
-use Rattle.rk_table.specs.Items.{without}
-use Rattle.rk_bucket_table.specs.Cells.{IsTable}
+use Rattle.rk_bucket_table.proofs.Words.{◌<◌, ◌≤◌, ◌++◌, drop, length, map, take, refl, ◌∙◌, subst, arith, without, IsTable}
 use Rattle.rk_bucket_table.proofs.Dropping.{all_chains_first, all_chains_last, all_chains_next}
 use Rattle.rk_bucket_table.proofs.Scanning.{linked_size}
 use Rattle.rk_bucket_table.proofs.drops.drop_in_chains.Goals as goal

@@ -1,7 +1,4 @@
-use Rattle.std.proofs.Common.{◌≡◌, ◌++◌, List, drop, map, take}
-use Rattle.rk_types.specs.declared.held.Held.{Held}
-use Rattle.rk_table.specs.Items.{without}
-use Rattle.rk_bucket_table.specs.Cells.{IsTable}
+use Rattle.rk_bucket_table.proofs.Words.{◌≡◌, ◌++◌, List, drop, map, take, Held, without, IsTable}
 use Rattle.rk_bucket_table.proofs.drops.drop_in_chains.Given as goal
 
 abbrev pub invariant-loop-chain : goal.invariant-loop-chain

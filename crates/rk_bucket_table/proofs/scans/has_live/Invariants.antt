@@ -1,6 +1,4 @@
-use Rattle.std.proofs.Common.{◌≡◌, length}
-use Rattle.std.specs.List.{list_any}
-use Rattle.rk_table.specs.Items.{is_live_in}
+use Rattle.rk_bucket_table.proofs.Words.{◌≡◌, length, list_any, is_live_in}
 use Rattle.rk_bucket_table.proofs.scans.has_live.Given as goal
 
 abbrev pub invariant-items : goal.invariant-items

@@ -1,11 +1,9 @@
-use Rattle.std.proofs.Common.{◌≡◌, ◌≤◌, ◌<◌, [], ◌∷◌, ◌-◌, ℕ, List, length, sym, ap, ◌∙◌, arith, subst, vec_len}
+use Rattle.rk_bucket_table.proofs.Words.{◌≡◌, ◌≤◌, ◌<◌, [], ◌∷◌, ℕ, List, length, sym, ap, ◌∙◌, arith, subst, vec_len, Held, Token}
+use Rattle.rk_bucket_table.proofs.Words.{item_bucket, counted_by}
+use Rattle.std.proofs.Common.{◌-◌}
 use Rattle.std.proofs.lemmas.Bool.{le-leb, lt-leb}
 use Rattle.std.proofs.lemmas.List.{take_all}
 use Rattle.rk_types.specs.Held.{spelled_of}
-use Rattle.rk_types.specs.declared.held.Held.{Held}
-use Rattle.rk_types.specs.declared.held.Token.{Token}
-use Rattle.rk_table.specs.Order.{item_bucket}
-use Rattle.rk_bucket_table.specs.Scanning.{counted_by}
 use Rattle.rk_bucket_table.proofs.Batching.{IsBatched, IsBatching, batch_given, batched_end, batched_full, batching_dead, batching_first, batching_given, batching_skipped, next_token_is, rest_left, skips_here, skips_not, token_given}
 use Rattle.rk_bucket_table.proofs.Picking.{front_stays}
 use Rattle.rk_bucket_table.proofs.scans.push_batch.Goals as goal

@@ -1,5 +1,4 @@
-use Rattle.std.proofs.Common.{◌≡◌, ◌++◌, length, take, vec_len}
-use Rattle.rk_table.specs.Items.{live_in}
+use Rattle.rk_bucket_table.proofs.Words.{◌≡◌, ◌++◌, length, take, vec_len, live_in}
 use Rattle.rk_bucket_table.proofs.scans.push_live.Given as goal
 
 abbrev pub invariant-items : goal.invariant-items

@@ -1,6 +1,4 @@
-use Rattle.std.proofs.Common.{sym, ◌∙◌}
-use Rattle.rk_table.specs.Places.{comes_before}
-use Rattle.rk_bucket_table.specs.Cells.{place_seen}
+use Rattle.rk_bucket_table.proofs.Words.{sym, ◌∙◌, comes_before, place_seen}
 use Rattle.rk_bucket_table.proofs.Seeking.{less_left, passed_more, passed_none, sought_at_end, sought_here}
 use Rattle.rk_bucket_table.proofs.seek.seek.Goals as goal
 

@@ -1,7 +1,4 @@
-use Rattle.std.proofs.Common.{length}
-use Rattle.rk_table.specs.Places.{comes_before}
-use Rattle.rk_bucket_table.specs.Cells.{chain, place_seen}
-use Rattle.rk_bucket_table.specs.Spots.{IsPassed}
+use Rattle.rk_bucket_table.proofs.Words.{length, comes_before, chain, place_seen, IsPassed}
 use Rattle.rk_bucket_table.proofs.seek.seek.Given as goal
 
 abbrev pub invariant-chain : goal.invariant-chain

@@ -1,7 +1,4 @@
-use Rattle.std.proofs.Common.{eqb, sym, ap, ◌∙◌}
-use Rattle.std.proofs.lemmas.Bool.{eq-eqb, ne_eqb}
-use Rattle.rk_table.specs.Order.{item_hash}
-use Rattle.rk_bucket_table.specs.Cells.{chain_of}
+use Rattle.rk_bucket_table.proofs.Words.{eqb, sym, ap, ◌∙◌, eq-eqb, ne_eqb, item_hash, chain_of}
 use Rattle.rk_bucket_table.proofs.Seeking.{less_left, passed_more, passed_none, sought_at_end, sought_here}
 use Rattle.rk_bucket_table.proofs.spread.seek_other.Goals as goal
 

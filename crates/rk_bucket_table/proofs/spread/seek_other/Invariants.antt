@@ -1,7 +1,4 @@
-use Rattle.std.proofs.Common.{eqb, length}
-use Rattle.rk_table.specs.Order.{item_hash}
-use Rattle.rk_bucket_table.specs.Cells.{chain, chain_of}
-use Rattle.rk_bucket_table.specs.Spots.{IsPassed}
+use Rattle.rk_bucket_table.proofs.Words.{eqb, length, item_hash, chain, chain_of, IsPassed}
 use Rattle.rk_bucket_table.proofs.spread.seek_other.Given as goal
 
 abbrev pub invariant-chain : goal.invariant-chain

@@ -1,9 +1,6 @@
-use Rattle.std.proofs.Common.{◌≡◌, ◌<◌, ◌*◌, ◌++◌, ◌∷◌, [], ℕ, List, eqb, get_or, length, refl, sym, ap, ◌∙◌, subst, arith, append_assoc, length-append}
+use Rattle.rk_bucket_table.proofs.Words.{◌≡◌, ◌<◌, ◌*◌, ◌++◌, ◌∷◌, [], ℕ, List, eqb, get_or, length, refl, sym, ap, ◌∙◌, subst, arith}
+use Rattle.rk_bucket_table.proofs.Words.{append_assoc, length-append, item_hash, END, IsChain, chain_of, IsSought}
 use Rattle.std.proofs.lemmas.List.{get_or_default}
-use Rattle.rk_table.specs.Order.{item_hash}
-use Rattle.rk_bucket_table.specs.declared.cell.TheConstants.{END}
-use Rattle.rk_bucket_table.specs.Cells.{IsChain, chain_of}
-use Rattle.rk_bucket_table.specs.Spots.{IsSought}
 use Rattle.rk_bucket_table.proofs.Spreading.{last_there, mine_ends, spreading_first, spreading_last, spreading_next}
 use Rattle.rk_bucket_table.proofs.spread.spread_chains.Goals as goal
 

@@ -1,6 +1,5 @@
-use Rattle.std.proofs.Common.{◌≡◌, List, vec_capacity}
-use Rattle.rk_types.specs.declared.held.Held.{Held}
-use Rattle.rk_bucket_table.specs.Cells.{IsTable}
+use Rattle.rk_bucket_table.proofs.Words.{◌≡◌, List, Held, IsTable}
+use Rattle.std.proofs.Common.{vec_capacity}
 use Rattle.rk_bucket_table.proofs.Spreading.{IsSpreading}
 use Rattle.rk_bucket_table.proofs.spread.spread_chains.Given as goal
 

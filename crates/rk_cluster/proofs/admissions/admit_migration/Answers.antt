@@ -1,5 +1,4 @@
-use Rattle.std.proofs.Common.{true, rules}
-use Rattle.rk_cluster.specs.Steps.{state_of}
+use Rattle.rk_cluster.proofs.Words.{true, rules, state_of}
 use Rattle.rk_cluster.proofs.Admitting.{migrate_last}
 use Rattle.rk_cluster.proofs.admissions.admit_migration.Goals as goal
 

@@ -1,5 +1,4 @@
-use Rattle.std.proofs.Common.{false, true, rules}
-use Rattle.rk_cluster.specs.Steps.{state_of}
+use Rattle.rk_cluster.proofs.Words.{false, true, rules, state_of}
 use Rattle.rk_cluster.proofs.Admitting.{table_last}
 use Rattle.rk_cluster.proofs.admissions.admit_table.Goals as goal
 

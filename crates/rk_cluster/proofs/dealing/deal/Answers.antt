@@ -1,6 +1,4 @@
-use Rattle.std.proofs.Common.{arith}
-use Rattle.std.proofs.lemmas.List.{nil_from_length}
-use Rattle.std.specs.Vec.Iter.{into_iter_items}
+use Rattle.rk_cluster.proofs.Words.{arith, nil_from_length, into_iter_items}
 use Rattle.rk_cluster.proofs.Eighths.{dealing_one, dealt}
 use Rattle.rk_cluster.proofs.Worlds.{there_read}
 use Rattle.rk_cluster.proofs.dealing.deal.Goals as goal

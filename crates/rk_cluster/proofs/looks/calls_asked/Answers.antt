@@ -1,10 +1,8 @@
-use Rattle.std.proofs.Common.{◌-◌, ◌^◌, ℕ, List, map, min, sum, sym, ap, ◌∙◌}
+use Rattle.rk_cluster.proofs.Words.{◌-◌, ◌^◌, ℕ, List, map, min, sum, sym, ap, ◌∙◌, Session, calls_of}
 use Rattle.std.specs.Map.{values_of}
 use Rattle.std.specs.Map.Iter.{deref}
 use Rattle.std.proofs.lemmas.Map.Iter.{iter_end}
 use Rattle.std.proofs.lemmas.Simd.{map-map}
-use Rattle.rk_world.specs.Client.{Session}
-use Rattle.rk_cluster.specs.Looks.{calls_of}
 use Rattle.rk_cluster.proofs.looks.calls_asked.Goals as goal
 
 pub returns : goal.returns

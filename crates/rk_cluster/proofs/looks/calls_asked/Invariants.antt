@@ -1,5 +1,4 @@
-use Rattle.std.proofs.Common.{◌≡◌, ◌-◌, ◌^◌, map, min, sum}
-use Rattle.rk_cluster.specs.Looks.{calls_of}
+use Rattle.rk_cluster.proofs.Words.{◌≡◌, ◌-◌, ◌^◌, map, min, sum, calls_of}
 use Rattle.rk_cluster.proofs.looks.calls_asked.Given as goal
 
 -- the calls of the sessions so far

@@ -1,5 +1,4 @@
-use Rattle.std.proofs.Common.{◌≡◌, ◌+◌, ◌≤◌, drop, length}
-use Rattle.rk_cluster.specs.Looks.{tables_of}
+use Rattle.rk_cluster.proofs.Words.{◌≡◌, ◌+◌, ◌≤◌, drop, length, tables_of}
 use Rattle.rk_cluster.proofs.looks.count_tables.Given as goal
 
 -- the tables that were counted, and those of the rows that are left

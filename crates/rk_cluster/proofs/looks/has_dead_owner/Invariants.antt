@@ -1,6 +1,4 @@
-use Rattle.std.proofs.Common.{false, take}
-use Rattle.rk_cluster.specs.Looks.{has_dead_owner}
-use Rattle.rk_cluster.specs.Told.{LanesTell}
+use Rattle.rk_cluster.proofs.Words.{false, take, has_dead_owner, LanesTell}
 use Rattle.rk_cluster.proofs.looks.has_dead_owner.Given as goal
 
 -- no owner has crashed in those so far

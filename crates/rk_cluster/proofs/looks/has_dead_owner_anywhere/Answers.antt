@@ -1,6 +1,4 @@
-use Rattle.std.proofs.Common.{ℕ, ap, ◌∙◌}
-use Rattle.std.specs.List.{range_with_len}
-use Rattle.rk_cluster.specs.Looks.{has_dead_owner}
+use Rattle.rk_cluster.proofs.Words.{ℕ, ap, ◌∙◌, range_with_len, has_dead_owner}
 use Rattle.rk_cluster.proofs.Worlds.{same_count}
 use Rattle.rk_cluster.proofs.looks.has_dead_owner_anywhere.Goals as goal
 

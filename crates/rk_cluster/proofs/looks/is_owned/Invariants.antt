@@ -1,7 +1,4 @@
-use Rattle.std.proofs.Common.{true, is_some, take}
-use Rattle.std.specs.List.{list_all}
-use Rattle.rk_cluster.specs.Looks.{owner_in}
-use Rattle.rk_cluster.specs.Told.{LanesTell}
+use Rattle.rk_cluster.proofs.Words.{true, is_some, take, list_all, owner_in, LanesTell}
 use Rattle.rk_cluster.proofs.looks.is_owned.Given as goal
 
 -- it is owned in the lanes so far

@@ -1,8 +1,6 @@
-use Rattle.std.proofs.Common.{◌≡◌, ◌<◌, not, true, false, ℕ, [], ◌∷◌, ◌++◌, Option, sym, ap, ◌∙◌, append-nil, arith}
-use Rattle.std.proofs.lemmas.List.Elements.{All-push, All-same}
-use Rattle.rk_types.specs.declared.hashing.TheConstants.{LANES}
-use Rattle.rk_cluster.specs.Looks.{is_owner, owner_in}
-use Rattle.rk_cluster.specs.Told.{LaneTells}
+use Rattle.rk_cluster.proofs.Words.{◌≡◌, ◌<◌, not, true, false, ℕ, [], ◌∷◌, ◌++◌, Option, sym, ap, ◌∙◌, append-nil, arith, All-push, LANES}
+use Rattle.rk_cluster.proofs.Words.{is_owner, owner_in, LaneTells}
+use Rattle.std.proofs.lemmas.List.Elements.{All-same}
 use Rattle.rk_cluster.proofs.Telling.{found_next, found_past, owner_eq}
 use Rattle.rk_cluster.proofs.Worlds.{there_read}
 use Rattle.rk_cluster.proofs.looks.lanes_without.Goals as goal

@@ -1,8 +1,5 @@
-use Rattle.std.proofs.Common.{◌<◌, All, filter, not}
-use Rattle.std.specs.List.{range_with_len}
-use Rattle.rk_types.specs.declared.hashing.TheConstants.{LANES}
-use Rattle.rk_cluster.specs.Looks.{is_owner, owner_at}
-use Rattle.rk_cluster.specs.Told.{LanesTell}
+use Rattle.rk_cluster.proofs.Words.{◌<◌, All, filter, not, range_with_len, LANES, is_owner, LanesTell}
+use Rattle.rk_cluster.specs.Looks.{owner_at}
 use Rattle.rk_cluster.proofs.looks.lanes_without.Given as goal
 
 -- those among the lanes so far were found

@@ -1,6 +1,4 @@
-use Rattle.std.proofs.Common.{Option, is_some, ap, sym, ◌∙◌}
-use Rattle.rk_world.specs.Client.{Session}
-use Rattle.rk_types.proofs.Trees.{get_tree}
+use Rattle.rk_cluster.proofs.Words.{Option, is_some, ap, sym, ◌∙◌, Session, get_tree}
 use Rattle.rk_cluster.proofs.sessions.has_session.Goals as goal
 
 pub returns : goal.returns

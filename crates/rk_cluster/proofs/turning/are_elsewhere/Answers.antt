@@ -1,11 +1,5 @@
-use Rattle.std.proofs.Common.{◌≡◌, ℕ, not, rules, tests, ◌∙◌}
-use Rattle.std.specs.List.{list_all}
-use Rattle.std.specs.BTreeMap.{values}
-use Rattle.std.proofs.lemmas.Iterator.Consumers.{YieldsList-from_rest}
-use Rattle.std.proofs.lemmas.Iterator.Search.{all_from_yields_List}
-use Rattle.std.proofs.lemmas.List.Folds.{list_all-map}
-use Rattle.rk_world.specs.Client.{Session}
-use Rattle.rk_cluster.specs.Turns.{is_call_in}
+use Rattle.rk_cluster.proofs.Words.{◌≡◌, ℕ, not, rules, tests, ◌∙◌, list_all, values, YieldsList-from_rest, all_from_yields_List}
+use Rattle.rk_cluster.proofs.Words.{list_all-map, Session, is_call_in}
 use Rattle.rk_cluster.proofs.turning.are_elsewhere.Goals as goal
 
 pub returns : goal.returns

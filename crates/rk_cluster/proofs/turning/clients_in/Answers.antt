@@ -1,7 +1,4 @@
-use Rattle.std.proofs.Common.{ℕ, ◌++◌, ◌∷◌, [], Bool, List, cond, ap, sym, ◌∙◌, append-nil}
-use Rattle.rk_types.specs.NumberMap.{NumberMap}
-use Rattle.rk_world.specs.Client.{Session}
-use Rattle.rk_cluster.specs.Turns.{clients_in}
+use Rattle.rk_cluster.proofs.Words.{ℕ, ◌++◌, ◌∷◌, [], Bool, List, cond, ap, sym, ◌∙◌, append-nil, NumberMap, Session, clients_in}
 use Rattle.rk_cluster.proofs.Takers.{client_next}
 use Rattle.rk_cluster.proofs.turning.clients_in.Goals as goal
 

@@ -1,5 +1,4 @@
-use Rattle.std.proofs.Common.{◌≡◌, ◌++◌}
-use Rattle.rk_cluster.specs.Turns.{clients_in}
+use Rattle.rk_cluster.proofs.Words.{◌≡◌, ◌++◌, clients_in}
 use Rattle.rk_cluster.proofs.turning.clients_in.Given as goal
 
 -- those so far, and those among the sessions that are left

@@ -1,8 +1,5 @@
-use Rattle.std.proofs.Common.{◌≡◌, ℕ, ◌+◌, List, [], not, Option, IfSome, sym, ap, subst, ◌∙◌, arith}
-use Rattle.rk_world.specs.Runs.{IsFormedWithRoom}
-use Rattle.rk_world.specs.World.{has_crashed}
-use Rattle.rk_lane.specs.LaneState.{Running, world_with}
-use Rattle.rk_cluster.specs.Turns.{live_in}
+use Rattle.rk_cluster.proofs.Words.{◌≡◌, ℕ, ◌+◌, List, [], not, Option, IfSome, sym, ap, subst, ◌∙◌, arith, IsFormedWithRoom, has_crashed}
+use Rattle.rk_cluster.proofs.Words.{Running, world_with, live_in}
 use Rattle.rk_cluster.proofs.Takers.{IsCollecting, collected, collecting_none, collecting_one, where_running}
 use Rattle.rk_cluster.proofs.turning.live_in.Goals as goal
 

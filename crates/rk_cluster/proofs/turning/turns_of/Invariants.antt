@@ -1,5 +1,4 @@
-use Rattle.std.proofs.Common.{◌≡◌, take}
-use Rattle.rk_cluster.specs.Turns.{turns_of}
+use Rattle.rk_cluster.proofs.Words.{◌≡◌, take, turns_of}
 use Rattle.rk_cluster.proofs.turning.turns_of.Given as goal
 
 abbrev pub invariant-loop-master : goal.invariant-loop-master

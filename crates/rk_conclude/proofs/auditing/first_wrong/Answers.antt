@@ -1,12 +1,6 @@
-use Rattle.std.proofs.Common.{◌++◌, [], List, All, ap, subst, sym, ◌∙◌, refl}
-use Rattle.std.specs.Slice.{IsItemAt}
+use Rattle.rk_conclude.proofs.Words.{◌++◌, [], List, ap, subst, sym, ◌∙◌, IsItemAt, NumberMap, Receipt, journals_of, IsRecorded, Session}
+use Rattle.rk_conclude.proofs.Words.{receipts_in}
 use Rattle.std.proofs.lemmas.List.Elements.{All-nil}
-use Rattle.rk_types.specs.NumberMap.{NumberMap}
-use Rattle.rk_types.specs.declared.history.Receipt.{Receipt}
-use Rattle.rk_history.specs.Journals.{journals_of}
-use Rattle.rk_model.specs.Ordered.{IsRecorded}
-use Rattle.rk_world.specs.Client.{Session}
-use Rattle.rk_laws_gathered.specs.Sessions.{receipts_in}
 use Rattle.rk_conclude.proofs.Wrongs.{all_recorded, found_wrong, more_recorded, receipts_next}
 use Rattle.rk_conclude.proofs.auditing.first_wrong.Goals as goal
 

@@ -1,8 +1,4 @@
-use Rattle.std.proofs.Common.{◌≡◌, ◌++◌, List, All}
-use Rattle.rk_types.specs.declared.history.Receipt.{Receipt}
-use Rattle.rk_model.specs.Ordered.{IsRecorded}
-use Rattle.rk_history.specs.Journals.{journals_of}
-use Rattle.rk_laws_gathered.specs.Sessions.{receipts_in}
+use Rattle.rk_conclude.proofs.Words.{◌≡◌, ◌++◌, List, All, Receipt, IsRecorded, journals_of, receipts_in}
 use Rattle.rk_conclude.proofs.auditing.first_wrong.Given as goal
 
 -- the receipts of the sessions before those that are left are recorded

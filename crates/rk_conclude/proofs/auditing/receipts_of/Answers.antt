@@ -1,9 +1,4 @@
-use Rattle.std.proofs.Common.{◌++◌, Bor, List, map, ap, sym, ◌∙◌, append_assoc, append-nil}
-use Rattle.rk_types.specs.NumberMap.{NumberMap}
-use Rattle.rk_types.specs.declared.history.Receipt.{Receipt}
-use Rattle.rk_world.specs.Client.{Session}
-use Rattle.rk_laws_gathered.specs.Sessions.{receipts_in}
-use Rattle.rk_conclude.proofs.Wrongs.{receipts_next}
+use Rattle.rk_conclude.proofs.Words.{◌++◌, Bor, List, map, ap, sym, ◌∙◌, append_assoc, append-nil, NumberMap, Receipt, Session, receipts_in}
 use Rattle.rk_conclude.proofs.auditing.receipts_of.Goals as goal
 
 abbrev behind : List (Bor Receipt) → List Receipt

@@ -1,5 +1,4 @@
-use Rattle.std.proofs.Common.{◌≡◌, ◌++◌, map}
-use Rattle.rk_laws_gathered.specs.Sessions.{receipts_in}
+use Rattle.rk_conclude.proofs.Words.{◌≡◌, ◌++◌, map, receipts_in}
 use Rattle.rk_conclude.proofs.auditing.receipts_of.Given as goal
 
 -- the receipts so far, and those of the sessions that are left

@@ -1,11 +1,7 @@
-use Rattle.std.proofs.Common.{◌≡◌, [], List, fold, ap, subst, sym, ◌∙◌}
-use Rattle.std.specs.Vec.Iter.{into_iter_items}
+use Rattle.rk_conclude.proofs.Words.{◌≡◌, [], fold, ap, subst, sym, ◌∙◌, into_iter_items, NumberMap, Session, MayAllAct, by_client}
+use Rattle.rk_conclude.proofs.Words.{with_session}
 use Rattle.std.proofs.lemmas.List.{nil_from_length}
-use Rattle.rk_types.specs.NumberMap.{NumberMap}
 use Rattle.rk_types.proofs.Trees.{empty_tree}
-use Rattle.rk_world.specs.Client.{Session}
-use Rattle.rk_cluster.specs.Steps.{MayAllAct}
-use Rattle.rk_conclude.specs.Results.{by_client, with_session}
 use Rattle.rk_conclude.proofs.Sessions.{may_by_client}
 use Rattle.rk_conclude.proofs.ending.by_client.Goals as goal
 use Rattle.rk_conclude.proofs.ending.by_client.Goals.{After-drop-session-iterator-2}

@@ -1,6 +1,4 @@
-use Rattle.std.proofs.Common.{◌≡◌, fold}
-use Rattle.std.specs.Vec.Iter.{into_iter_items}
-use Rattle.rk_conclude.specs.Results.{by_client, with_session}
+use Rattle.rk_conclude.proofs.Words.{◌≡◌, fold, into_iter_items, by_client, with_session}
 use Rattle.rk_conclude.proofs.ending.by_client.Given as goal
 
 -- the sessions so far are in the map: with those that are left it becomes the whole

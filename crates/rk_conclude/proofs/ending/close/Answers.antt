@@ -1,10 +1,6 @@
-use Rattle.std.proofs.Common.{◌≡◌, ℕ, All, List, length, sym, ap, subst, ◌∙◌}
-use Rattle.rk_types.specs.NumberMap.{NumberMap}
-use Rattle.rk_world.specs.Client.{Session}
-use Rattle.rk_lane.specs.LaneState.{LaneState}
+use Rattle.rk_conclude.proofs.Words.{ℕ, All, List, length, sym, ap, subst, ◌∙◌, LaneState, ClusterState, IsOf, MayAllAct, state_of}
 use Rattle.rk_cluster.specs.Masters.{HasBackups}
-use Rattle.rk_cluster.specs.State.{ClusterState, IsOf}
-use Rattle.rk_cluster.specs.Steps.{AreLanes, MayAllAct, state_of}
+use Rattle.rk_cluster.specs.Steps.{AreLanes}
 use Rattle.rk_conclude.proofs.Stopped.{same_state}
 use Rattle.rk_conclude.proofs.ending.close.Goals as goal
 

@@ -1,11 +1,7 @@
-use Rattle.std.proofs.Common.{List, [], refl, sym, subst, ◌∙◌}
-use Rattle.rk_lane.specs.LaneState.{LaneState}
+use Rattle.rk_conclude.proofs.Words.{List, [], refl, sym, subst, ◌∙◌, LaneState, ClusterState, IsOf, state_of, by_client}
 use Rattle.rk_cluster.specs.Faults.{LanesGoOn, counts_in}
-use Rattle.rk_cluster.specs.State.{ClusterState, IsOf}
-use Rattle.rk_cluster.specs.Steps.{state_of}
 use Rattle.rk_settle.specs.Course.{MOST_FAULTS}
 use Rattle.rk_settle.specs.Faults.{RoseInRounds}
-use Rattle.rk_conclude.specs.Results.{by_client}
 use Rattle.rk_types.specs.declared.status.Status.TheVariants as statuses
 use Rattle.rk_conclude.proofs.Causes.{idle_cause}
 use Rattle.rk_conclude.proofs.Stopped.{same_state}

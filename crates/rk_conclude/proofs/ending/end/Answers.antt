@@ -1,9 +1,6 @@
-use Rattle.std.proofs.Common.{◌≡◌, ℕ, List, [], Option, sym, ap, subst, ◌∙◌}
-use Rattle.rk_types.specs.declared.status.Status.{Status}
+use Rattle.rk_conclude.proofs.Words.{[], sym, ap, subst, ◌∙◌, Status, ClusterState, EndsSo}
 use Rattle.rk_cluster.specs.Faults.{CountsGoOn}
 use Rattle.rk_cluster.specs.Masters.{backups_of}
-use Rattle.rk_cluster.specs.State.{ClusterState}
-use Rattle.rk_conclude.specs.Concluded.{EndsSo}
 use Rattle.rk_conclude.proofs.Causes.{idle_cause}
 use Rattle.rk_conclude.proofs.Stopped.{ends_at_rest, ends_stopped}
 use Rattle.rk_conclude.proofs.ending.end.Goals as goal

@@ -1,6 +1,4 @@
-use Rattle.std.proofs.Common.{refl, List, ℕ, subst}
-use Rattle.std.specs.Io.KnownBytes.{Appends}
-use Rattle.rk_outside.specs.Parts.{AppendsPart}
+use Rattle.rk_conclude.proofs.Words.{refl, List, ℕ, subst, Appends, AppendsPart}
 use Rattle.rk_types.specs.declared.status.Status.TheVariants as statuses
 use Rattle.rk_conclude.proofs.Causes.{audited_cause, audited_may, audited_other, failed_cause, idle_cause}
 use Rattle.rk_conclude.proofs.Reported.{part_written, whole_written}

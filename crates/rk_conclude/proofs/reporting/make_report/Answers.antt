@@ -1,14 +1,5 @@
-use Rattle.std.proofs.Common.{◌≡◌, ◌++◌, ℕ, Bor, List, Option, length, map, refl, sym, ap, subst, ◌∙◌, arith}
-use Rattle.std.specs.Option.{option_copied}
-use Rattle.std.proofs.lemmas.List.{length-map}
-use Rattle.rk_types.specs.declared.history.Placed.{Placed}
-use Rattle.rk_types.specs.declared.history.Receipt.{Receipt}
-use Rattle.rk_history.specs.Journals.{journals_of}
-use Rattle.rk_lane.specs.LaneState.{LaneState}
-use Rattle.rk_laws_gathered.specs.Sessions.{receipts_in}
-use Rattle.rk_workload.specs.Summary.{result_lines}
-use Rattle.rk_world.specs.Ledger.{Ledger}
-use Rattle.rk_conclude.specs.Reports.{Audits, audit_line, history_part}
+use Rattle.rk_conclude.proofs.Words.{◌≡◌, ◌++◌, Bor, List, Option, length, sym, ap, subst, ◌∙◌, arith, option_copied, length-map, Placed}
+use Rattle.rk_conclude.proofs.Words.{Receipt, journals_of, LaneState, receipts_in, result_lines, Ledger, Audits, audit_line, history_part}
 use Rattle.rk_conclude.proofs.Ledgers.{same_in_each}
 use Rattle.rk_conclude.proofs.Reported.{added, reported}
 use Rattle.rk_conclude.proofs.reporting.make_report.Goals as goal

@@ -1,4 +1,4 @@
-use Rattle.std.proofs.Common.{ap, not, ◌∙◌, arith}
+use Rattle.std.proofs.Common.{◌∙◌, arith}
 use Rattle.rk_cluster.proofs.Telling.{all_but, all_next, all_past}
 use Rattle.rk_cluster.proofs.Worlds.{there_read}
 use Rattle.rk_conclude.specs.Results.{is_owner, owner_at}

@@ -1,7 +1,4 @@
-use Rattle.std.proofs.Common.{true, take}
-use Rattle.std.specs.List.{list_all}
-use Rattle.rk_cluster.specs.Told.{LanesTell}
-use Rattle.rk_conclude.specs.Results.{is_owner, owner_at}
+use Rattle.rk_conclude.proofs.Words.{true, take, list_all, LanesTell, is_owner, owner_at}
 use Rattle.rk_conclude.proofs.results.are_owned.Given as goal
 
 -- the master owns the tablet in the lanes so far

@@ -1,5 +1,4 @@
-use Rattle.std.proofs.Common.{◌≡◌, ◌-◌, ◌^◌, min, take}
-use Rattle.std.specs.List.{sum_by}
+use Rattle.rk_conclude.proofs.Words.{◌≡◌, ◌-◌, ◌^◌, min, take, sum_by}
 use Rattle.rk_conclude.proofs.results.asked_of.Given as goal
 
 -- the calls that the lanes so far were asked

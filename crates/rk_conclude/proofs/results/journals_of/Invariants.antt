@@ -1,6 +1,5 @@
-use Rattle.std.proofs.Common.{◌≡◌, All, map, take}
+use Rattle.rk_conclude.proofs.Words.{◌≡◌, All, map, take, journals_of}
 use Rattle.rk_model.specs.Merged.{IsRisingAbove}
-use Rattle.rk_history.specs.Journals.{journals_of}
 use Rattle.rk_conclude.proofs.results.journals_of.Given as goal
 
 -- the journals of the lanes so far

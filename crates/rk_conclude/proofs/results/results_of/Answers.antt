@@ -1,11 +1,6 @@
-use Rattle.std.proofs.Common.{◌-◌, ◌^◌, ◌≡◌, ℕ, min, length, map, List, Bor, sym, ap, ◌∙◌}
-use Rattle.std.proofs.lemmas.List.{length-map}
-use Rattle.rk_types.specs.NumberMap.{NumberMap}
-use Rattle.rk_types.specs.declared.history.Receipt.{Receipt}
+use Rattle.rk_conclude.proofs.Words.{◌-◌, ◌^◌, ◌≡◌, ℕ, min, length, map, List, Bor, sym, ap, ◌∙◌, length-map, NumberMap, Receipt, Session}
+use Rattle.rk_conclude.proofs.Words.{Ledger, receipts_in}
 use Rattle.rk_workload.specs.Summary.{counted}
-use Rattle.rk_world.specs.Client.{Session}
-use Rattle.rk_world.specs.Ledger.{Ledger}
-use Rattle.rk_laws_gathered.specs.Sessions.{receipts_in}
 use Rattle.rk_conclude.proofs.Ledgers.{same_sum}
 use Rattle.rk_conclude.proofs.results.results_of.Goals as goal
 

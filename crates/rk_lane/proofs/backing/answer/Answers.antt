@@ -1,5 +1,4 @@
-use Rattle.std.proofs.Common.{subst, sym}
-use Rattle.rk_types.specs.declared.node.Node.{Node}
+use Rattle.rk_lane.proofs.Words.{subst, sym, Node}
 use Rattle.rk_lane.proofs.Answered.{AsksNothing, asks_neither, asks_nothing, idle_backed}
 use Rattle.rk_lane.proofs.backing.answer.Goals as goal
 

@@ -1,8 +1,5 @@
-use Rattle.std.proofs.Common.{◌≡◌, ◌-◌, Some, sym, subst, ◌∙◌}
-use Rattle.std.proofs.lemmas.Option.{get_or_from_slice_get}
-use Rattle.std.proofs.lemmas.Result.{IfErr-weaker, IfOk-weaker}
-use Rattle.rk_message.specs.declared.message.Message.{Message}
-use Rattle.rk_lane.specs.Backing.{IsLogOf, sending}
+use Rattle.rk_lane.proofs.Words.{◌≡◌, ◌-◌, Some, sym, subst, ◌∙◌, get_or_from_slice_get, IfErr-weaker, IfOk-weaker, Message, IsLogOf}
+use Rattle.rk_lane.proofs.Words.{sending}
 use Rattle.rk_lane.proofs.Answered.{backed_there, unanswered_there}
 use Rattle.rk_lane.proofs.backing.answer_at.Goals as goal
 

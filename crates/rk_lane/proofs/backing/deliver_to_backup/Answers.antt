@@ -1,12 +1,6 @@
-use Rattle.std.proofs.Common.{[], ℕ, List, Option, length, refl, sym, subst}
-use Rattle.std.proofs.lemmas.Result.{IfErr-weaker, IfOk-weaker}
-use Rattle.rk_outside.specs.declared.replica.Lost.{Lost}
-use Rattle.rk_world.specs.Backup.{failing}
-use Rattle.rk_world.specs.Master.{Master}
-use Rattle.rk_world.specs.Step.{log_bytes_of}
-use Rattle.rk_lane.specs.Backing.{CanBeAnswered, IsBackedAt, IsLogOf, IsSparedAt, IsUnansweredAt, sending}
-use Rattle.rk_lane.specs.Finished.{IsCutBack}
-use Rattle.rk_lane.specs.Parts.{world_of}
+use Rattle.rk_lane.proofs.Words.{[], ℕ, List, Option, length, refl, sym, subst, IfErr-weaker, IfOk-weaker, Lost, failing, Master}
+use Rattle.rk_lane.proofs.Words.{log_bytes_of, CanBeAnswered, IsBackedAt, IsLogOf, IsUnansweredAt, sending, IsCutBack, world_of}
+use Rattle.rk_lane.specs.Backing.{IsSparedAt}
 use Rattle.rk_lane.proofs.Answered.{spared_by}
 use Rattle.rk_lane.proofs.Backed.{IsReached, can_be_answered, cut_unhappened, lost_happened, reached, sent_fits, sent_happened, spared_unhappened}
 use Rattle.rk_lane.proofs.backing.deliver_to_backup.Goals as goal

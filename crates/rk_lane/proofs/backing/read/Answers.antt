@@ -1,8 +1,7 @@
-use Rattle.std.proofs.Common.{◌∙◌, ℕ, List, sym}
-use Rattle.rk_outside.specs.declared.replica.Lost.{Lost}
+use Rattle.rk_lane.proofs.Words.{◌∙◌, ℕ, List, sym, Lost, IsUnanswered}
 use Rattle.rk_types.specs.declared.node.Node.TheVariants as nodes
 use Rattle.rk_message.specs.declared.message.Body.TheVariants as bodies
-use Rattle.rk_lane.specs.Backing.{IsLogAt, IsUnanswered}
+use Rattle.rk_lane.specs.Backing.{IsLogAt}
 use Rattle.rk_lane.proofs.Answered.{handed_on, read_unanswered}
 use Rattle.rk_lane.proofs.backing.read.Goals as goal
 

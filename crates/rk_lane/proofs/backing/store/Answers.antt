@@ -1,11 +1,7 @@
-use Rattle.std.proofs.Common.{◌≡◌, ℕ, List, Err, ap, sym, subst}
-use Rattle.std.proofs.lemmas.Result.{IfOk-weaker}
+use Rattle.rk_lane.proofs.Words.{◌≡◌, ℕ, List, Err, ap, sym, subst, IfOk-weaker, Lost, Message, IsBackedBy, IsUnanswered, sending}
 use Rattle.rk_types.specs.declared.node.Node.TheVariants as nodes
-use Rattle.rk_outside.specs.declared.replica.Lost.{Lost}
 use Rattle.rk_outside.specs.declared.replica.Lost.TheVariants as losses
 use Rattle.rk_message.specs.declared.message.Body.TheVariants as bodies
-use Rattle.rk_message.specs.declared.message.Message.{Message}
-use Rattle.rk_lane.specs.Backing.{IsBackedBy, IsUnanswered, sending}
 use Rattle.rk_lane.proofs.Answered.{append_backed, append_unanswered, handed_on}
 use Rattle.rk_lane.proofs.backing.store.Goals as goal
 

@@ -1,5 +1,4 @@
-use Rattle.std.proofs.Common.{◌∙◌, sym, ap}
-use Rattle.rk_world.specs.Ledger.{Ledger}
+use Rattle.rk_lane.proofs.Words.{◌∙◌, sym, ap, Ledger}
 use Rattle.rk_lane.proofs.Quiet.{came}
 use Rattle.rk_lane.proofs.changes.add_client.Goals as goal
 

@@ -1,20 +1,10 @@
-use Rattle.std.proofs.Common.{◌≡◌, ◌-◌, ℕ, max, set, List, Option, Some, None, length, sym, ap, subst, ◌∙◌, refl, arith}
-use Rattle.std.specs.Option.{option_map, option_or}
-use Rattle.rk_world.specs.Coordinator.{Coordinator, new_row, with_row}
-use Rattle.rk_world.specs.Master.{Master}
-use Rattle.rk_world.specs.Premises.{IsMaster}
-use Rattle.rk_world.specs.Refusals.{where_true}
-use Rattle.rk_world.specs.Step.{quietly, with_added}
-use Rattle.rk_world.specs.World.{counters_of, greatest, with_coordinator, with_master}
+use Rattle.rk_lane.proofs.Words.{◌≡◌, ◌-◌, ℕ, max, set, List, Option, Some, None, length, sym, ap, subst, ◌∙◌, refl, arith, option_map}
+use Rattle.rk_lane.proofs.Words.{option_or, Coordinator, Master, IsMaster, where_true, quietly, counters_of, greatest, with_coordinator}
+use Rattle.rk_lane.proofs.Words.{with_master, terms_of, IsMade, Gave, IsAt, world_of, IsWeighed, Parts}
+use Rattle.rk_world.specs.Coordinator.{new_row, with_row}
+use Rattle.rk_world.specs.Step.{with_added}
 use Rattle.rk_world.specs.declared.error.StepError.TheVariants as errors
 use Rattle.rk_world.specs.declared.event.Event.TheVariants as events
-use Rattle.rk_lane.specs.Coordinating.{terms_of}
-use Rattle.rk_lane.specs.Made.{IsMade}
-use Rattle.rk_world.specs.Backup.{Gave}
-use Rattle.rk_lane.specs.Masters.{IsAt}
-use Rattle.rk_lane.specs.Parts.{world_of}
-use Rattle.rk_lane.specs.Working.{IsWeighed}
-use Rattle.rk_lane.specs.declared.parts.Parts.{Parts}
 use Rattle.rk_lane.proofs.BothChanged.{both_made}
 use Rattle.rk_lane.proofs.MasterWork.{StandsAt, master_is, set_at_number, stands_at, weighed_same, weight_is, weight_within}
 use Rattle.rk_lane.proofs.Quiet.{masters_counted}

@@ -1,5 +1,4 @@
-use Rattle.std.proofs.Common.{ap}
-use Rattle.rk_message.specs.Wire.{Traffic}
+use Rattle.rk_lane.proofs.Words.{ap, Traffic}
 use Rattle.rk_lane.proofs.Quiet.{forgotten}
 use Rattle.rk_lane.proofs.changes.forget.Goals as goal
 

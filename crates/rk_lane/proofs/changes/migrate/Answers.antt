@@ -1,8 +1,4 @@
-use Rattle.std.proofs.Common.{ℕ, max, sym, ap, ◌∙◌}
-use Rattle.rk_world.specs.Coordinator.{Coordinator}
-use Rattle.rk_world.specs.World.{greatest}
-use Rattle.rk_lane.specs.Coordinating.{terms_of}
-use Rattle.rk_lane.specs.declared.parts.Parts.{Parts}
+use Rattle.rk_lane.proofs.Words.{ℕ, max, sym, ap, ◌∙◌, Coordinator, greatest, terms_of, Parts}
 use Rattle.rk_lane.proofs.Moved.{may_rise, moved}
 use Rattle.rk_lane.proofs.changes.migrate.Goals as goal
 

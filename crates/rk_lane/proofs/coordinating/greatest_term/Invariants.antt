@@ -1,5 +1,4 @@
-use Rattle.std.proofs.Common.{◌≡◌, map, take}
-use Rattle.rk_world.specs.World.{greatest}
+use Rattle.rk_lane.proofs.Words.{◌≡◌, map, take, greatest}
 use Rattle.rk_lane.proofs.coordinating.greatest_term.Given as goal
 
 abbrev pub invariant-loop-row : goal.invariant-loop-row

@@ -1,11 +1,7 @@
-use Rattle.std.proofs.Common.{◌≡◌, ℕ, length, max, ap, sym, subst, ◌∙◌}
-use Rattle.std.proofs.lemmas.Result.{IfOk-weaker, IfErr-weaker}
+use Rattle.rk_lane.proofs.Words.{◌≡◌, ℕ, length, max, ap, sym, subst, ◌∙◌, IfOk-weaker, IfErr-weaker, IsCoordinated, IsCutBack, IsFinished}
+use Rattle.rk_lane.proofs.Words.{Parts, IsFitToSend}
 use Rattle.rk_types.specs.declared.node.Node.TheVariants as nodes
-use Rattle.rk_lane.specs.Coordinating.{IsCoordinated}
-use Rattle.rk_lane.specs.Finished.{IsCutBack, IsFinished}
-use Rattle.rk_lane.specs.declared.parts.Parts.{Parts}
 use Rattle.rk_lane.proofs.Coordinated.{IsReceived, parts_told, received, told_faulty, told_fits, told_made}
-use Rattle.rk_lane.specs.Sends.{IsFitToSend}
 use Rattle.rk_lane.proofs.coordinating.tell_coordinator.Goals as goal
 
 taken : (c : goal.After-finish-arg-1) → IsReceived c.args.number c.args.parts.now.wire nodes.Coordinator

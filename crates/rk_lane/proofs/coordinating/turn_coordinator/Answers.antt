@@ -1,13 +1,8 @@
-use Rattle.std.proofs.Common.{List, ap, sym, subst, refl}
-use Rattle.std.proofs.lemmas.Result.{IfOk-weaker, IfErr-weaker}
+use Rattle.rk_lane.proofs.Words.{List, ap, sym, subst, refl, IfOk-weaker, IfErr-weaker, Message, with_sends, IsCutBack, world_of}
+use Rattle.rk_lane.proofs.Words.{IsFitToSend}
 use Rattle.rk_types.specs.declared.node.Node.TheVariants as nodes
-use Rattle.rk_message.specs.declared.message.Message.{Message}
 use Rattle.rk_world.specs.declared.event.Event.TheVariants as events
-use Rattle.rk_world.specs.Step.{with_sends}
-use Rattle.rk_lane.specs.Finished.{IsCutBack}
-use Rattle.rk_lane.specs.Parts.{world_of}
 use Rattle.rk_lane.proofs.Coordinated.{fits_by_sending, made_by_sending, faulty_by_sending}
-use Rattle.rk_lane.specs.Sends.{IsFitToSend}
 use Rattle.rk_lane.proofs.coordinating.turn_coordinator.Goals as goal
 
 pub finish-requires : goal.finish-requires

@@ -1,6 +1,4 @@
-use Rattle.std.proofs.Common.{Option, IfSome, subst}
-use Rattle.rk_types.specs.declared.node.Node.{Node}
-use Rattle.rk_lane.specs.Made.{IsOfBackup}
+use Rattle.rk_lane.proofs.Words.{Option, IfSome, subst, Node, IsOfBackup}
 use Rattle.rk_lane.proofs.events.deliver.Goals as goal
 
 pub deliver_to-requires : goal.deliver_to-requires

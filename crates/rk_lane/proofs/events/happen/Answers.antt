@@ -1,5 +1,4 @@
-use Rattle.std.proofs.Common.{sym, ◌∙◌}
-use Rattle.std.proofs.lemmas.Result.{IfOk-weaker}
+use Rattle.rk_lane.proofs.Words.{sym, ◌∙◌, IfOk-weaker}
 use Rattle.rk_lane.proofs.Happening.{made_happened}
 use Rattle.rk_lane.proofs.events.happen.Goals as goal
 

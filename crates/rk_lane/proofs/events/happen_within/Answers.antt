@@ -1,8 +1,4 @@
-use Rattle.std.proofs.Common.{[], refl, subst}
-use Rattle.rk_world.specs.declared.event.Event.{Event}
-use Rattle.rk_lane.specs.Events.{MayStep}
-use Rattle.rk_lane.specs.Made.{CallsNoReplica}
-use Rattle.rk_lane.specs.Parts.{world_of}
+use Rattle.rk_lane.proofs.Words.{[], refl, subst, Event, MayStep, CallsNoReplica, world_of}
 use Rattle.rk_lane.proofs.Happening.{ready_at}
 use Rattle.rk_lane.proofs.events.happen_within.Goals as goal
 

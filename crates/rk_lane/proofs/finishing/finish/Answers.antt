@@ -1,7 +1,4 @@
-use Rattle.std.proofs.Common.{◌≡◌, false, None, max, ap, sym, ◌∙◌, refl, arith}
-use Rattle.rk_message.specs.Wire.{Traffic}
-use Rattle.rk_lane.specs.declared.parts.Parts.{Parts}
-use Rattle.rk_lane.specs.declared.sends.Sent.{Sent}
+use Rattle.rk_lane.proofs.Words.{◌≡◌, false, None, max, ap, sym, ◌∙◌, refl, arith, Traffic, Parts, Sent}
 use Rattle.rk_lane.proofs.finishing.finish.Goals as goal
 
 pub returns-clause-ok : goal.returns-clause-ok

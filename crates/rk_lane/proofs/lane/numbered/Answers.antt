@@ -1,6 +1,4 @@
-use Rattle.std.proofs.Common.{◌+◌, List, length, vec_capacity, subst, sym, ap, refl, arith}
-use Rattle.std.proofs.lemmas.List.{nil_from_length}
-use Rattle.std.specs.Vec.Iter.{into_iter_items}
+use Rattle.rk_lane.proofs.Words.{◌+◌, List, length, vec_capacity, subst, sym, ap, refl, arith, nil_from_length, into_iter_items}
 use Rattle.rk_lane.proofs.Lanes.{IsNumbering, all_numbered, none_numbered, one_numbered}
 use Rattle.rk_lane.proofs.lane.numbered.Goals as goal
 

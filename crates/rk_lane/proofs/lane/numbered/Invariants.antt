@@ -1,5 +1,4 @@
-use Rattle.std.proofs.Common.{vec_capacity}
-use Rattle.std.specs.Vec.Iter.{into_iter_items}
+use Rattle.rk_lane.proofs.Words.{vec_capacity, into_iter_items}
 use Rattle.rk_lane.proofs.Lanes.{IsNumbering}
 use Rattle.rk_lane.proofs.lane.numbered.Given as goal
 

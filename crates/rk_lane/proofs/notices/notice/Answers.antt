@@ -1,10 +1,5 @@
-use Rattle.std.proofs.Common.{ℕ, max, not, List, fold, length, sym, ap, subst, ◌∙◌}
-use Rattle.rk_world.specs.Coordinator.{Coordinator}
-use Rattle.rk_world.specs.Notices.{notice_one}
-use Rattle.rk_world.specs.World.{greatest}
-use Rattle.rk_lane.specs.Coordinating.{terms_of}
-use Rattle.rk_lane.specs.Noticing.{MayRiseBy}
-use Rattle.rk_lane.specs.declared.parts.Parts.{Parts}
+use Rattle.rk_lane.proofs.Words.{ℕ, max, not, List, fold, length, sym, ap, subst, ◌∙◌, Coordinator, notice_one, greatest, terms_of}
+use Rattle.rk_lane.proofs.Words.{MayRiseBy, Parts}
 use Rattle.rk_lane.proofs.Noticed.{noticed, order_may_rise}
 use Rattle.rk_lane.proofs.notices.notice.Goals as goal
 

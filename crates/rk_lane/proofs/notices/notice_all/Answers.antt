@@ -1,5 +1,4 @@
-use Rattle.std.proofs.Common.{sym, subst}
-use Rattle.rk_coordinator.specs.Lane.{MayRise}
+use Rattle.rk_lane.proofs.Words.{sym, subst, MayRise}
 use Rattle.rk_lane.proofs.Noticed.{rises_within}
 use Rattle.rk_lane.proofs.notices.notice_all.Goals as goal
 

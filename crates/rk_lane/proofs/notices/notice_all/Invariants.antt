@@ -1,5 +1,4 @@
-use Rattle.std.proofs.Common.{◌≡◌, fold, take}
-use Rattle.rk_world.specs.Notices.{notice_one}
+use Rattle.rk_lane.proofs.Words.{◌≡◌, fold, take, notice_one}
 use Rattle.rk_lane.proofs.notices.notice_all.Given as goal
 
 abbrev pub invariant-loop-master : goal.invariant-loop-master

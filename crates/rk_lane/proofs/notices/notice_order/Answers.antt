@@ -1,5 +1,4 @@
-use Rattle.std.proofs.Common.{◌≡◌, ◌++◌, filter, ◌∙◌}
-use Rattle.rk_lane.specs.Noticing.{is_of, unnoticed}
+use Rattle.rk_lane.proofs.Words.{◌≡◌, ◌++◌, filter, ◌∙◌, is_of, unnoticed}
 use Rattle.rk_lane.specs.declared.notices.Group.TheVariants as groups
 use Rattle.rk_lane.proofs.Noticed.{groups_are}
 use Rattle.rk_lane.proofs.notices.notice_order.Goals as goal

@@ -1,5 +1,4 @@
-use Rattle.std.proofs.Common.{◌≡◌, ◌++◌, filter, take}
-use Rattle.rk_lane.specs.Noticing.{is_of}
+use Rattle.rk_lane.proofs.Words.{◌≡◌, ◌++◌, filter, take, is_of}
 use Rattle.rk_lane.proofs.notices.push_group.Given as goal
 
 abbrev pub invariant-loop-master : goal.invariant-loop-master

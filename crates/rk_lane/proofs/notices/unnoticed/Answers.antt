@@ -1,7 +1,6 @@
-use Rattle.std.proofs.Common.{◌≡◌, ◌+◌, ◌-◌, ◌++◌, ◌∷◌, [], ℕ, Bool, List, cond, filter, sym, ap, ◌∙◌, arith}
+use Rattle.rk_lane.proofs.Words.{◌≡◌, ◌+◌, ◌-◌, ◌++◌, ◌∷◌, [], ℕ, Bool, List, cond, filter, sym, ap, ◌∙◌, arith, range_with_len}
+use Rattle.rk_lane.proofs.Words.{is_unnoticed}
 use Rattle.std.proofs.lemmas.List.{append-nil}
-use Rattle.std.specs.List.{range_with_len}
-use Rattle.rk_lane.specs.Noticing.{is_unnoticed}
 use Rattle.rk_lane.proofs.Noticed.{filter_next, unnoticed_is}
 use Rattle.rk_lane.proofs.notices.unnoticed.Goals as goal
 

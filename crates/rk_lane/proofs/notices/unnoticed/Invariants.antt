@@ -1,6 +1,4 @@
-use Rattle.std.proofs.Common.{◌≡◌, ◌+◌, ◌-◌, ◌++◌, filter}
-use Rattle.std.specs.List.{range_with_len}
-use Rattle.rk_lane.specs.Noticing.{is_unnoticed}
+use Rattle.rk_lane.proofs.Words.{◌≡◌, ◌+◌, ◌-◌, ◌++◌, filter, range_with_len, is_unnoticed}
 use Rattle.rk_lane.proofs.notices.unnoticed.Given as goal
 
 abbrev pub invariant-loop-index : goal.invariant-loop-index

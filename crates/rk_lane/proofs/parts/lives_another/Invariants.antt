@@ -1,5 +1,4 @@
-use Rattle.std.proofs.Common.{◌≡◌, ◌+◌, ◌-◌}
-use Rattle.std.specs.List.{list_any, range_with_len}
+use Rattle.rk_lane.proofs.Words.{◌≡◌, ◌+◌, ◌-◌, list_any, range_with_len}
 use Rattle.rk_lane.proofs.Living.{is_beside}
 use Rattle.rk_lane.proofs.parts.lives_another.Given as goal
 

@@ -1,5 +1,4 @@
-use Rattle.std.proofs.Common.{◌≡◌, map}
-use Rattle.std.specs.List.{range_with_len}
+use Rattle.rk_lane.proofs.Words.{◌≡◌, map, range_with_len}
 use Rattle.rk_lane.proofs.New.{new_at}
 use Rattle.rk_lane.proofs.parts.new_masters.Given as goal
 

@@ -1,12 +1,7 @@
-use Rattle.std.proofs.Common.{sym, subst, ◌∙◌}
-use Rattle.std.proofs.lemmas.Result.{IfOk-weaker, IfErr-weaker}
+use Rattle.rk_lane.proofs.Words.{sym, subst, ◌∙◌, IfOk-weaker, IfErr-weaker, IsCutBack, get, IsLastRequest, IsFitToSend}
 use Rattle.rk_world.specs.declared.event.Event.TheVariants as events
-use Rattle.rk_lane.specs.Finished.{IsCutBack}
 use Rattle.rk_lane.proofs.Coordinated.{fits_by_sending, made_by_sending, faulty_by_sending}
-use Rattle.rk_types.specs.NumberMap.{get}
-use Rattle.rk_lane.specs.Resending.{IsLastRequest}
 use Rattle.rk_lane.proofs.Again.{IsRequestOf, again_allowed, again_is, request_of}
-use Rattle.rk_lane.specs.Sends.{IsFitToSend}
 use Rattle.rk_lane.proofs.resending.send_again.Goals as goal
 
 pub finish-requires : goal.finish-requires

@@ -1,9 +1,4 @@
-use Rattle.std.proofs.Common.{List, length, All, subst, sym, arith, ap}
-use Rattle.std.proofs.lemmas.List.Elements.{All-head}
-use Rattle.std.proofs.lemmas.List.{nil_from_length}
-use Rattle.std.specs.Vec.Iter.{into_iter_items}
-use Rattle.rk_message.specs.declared.message.Message.{Message}
-use Rattle.rk_lane.specs.Sends.{IsSendable}
+use Rattle.rk_lane.proofs.Words.{List, length, All, subst, sym, arith, ap, All-head, nil_from_length, into_iter_items, Message, IsSendable}
 use Rattle.rk_lane.proofs.Sending.{IsSending, none_sent, one_sent, all_sent}
 use Rattle.rk_lane.proofs.sends.send_all.Goals as goal
 

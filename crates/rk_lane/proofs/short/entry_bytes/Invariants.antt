@@ -1,5 +1,4 @@
-use Rattle.std.proofs.Common.{◌≡◌, ◌-◌, ◌^◌, min, take, length}
-use Rattle.std.specs.List.{sum_by}
+use Rattle.rk_lane.proofs.Words.{◌≡◌, ◌-◌, ◌^◌, min, take, length, sum_by}
 use Rattle.rk_entry.specs.Spelling.{spelled}
 use Rattle.rk_lane.proofs.short.entry_bytes.Given as goal
 

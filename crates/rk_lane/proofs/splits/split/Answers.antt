@@ -1,20 +1,7 @@
-use Rattle.std.proofs.Common.{◌≡◌, ◌<◌, ◌+◌, ◌-◌, ◌^◌, ℕ, max, set, List, Option, Some, None, length, sym, ap, subst, ◌∙◌, refl, arith}
-use Rattle.rk_tablet_map.specs.Rows.{row_of}
-use Rattle.rk_tablet_map.specs.declared.row.Row.{Row}
-use Rattle.rk_world.specs.Backup.{Gave}
-use Rattle.rk_world.specs.Coordinator.{Coordinator}
-use Rattle.rk_world.specs.Master.{Master}
-use Rattle.rk_world.specs.Premises.{IsMaster}
-use Rattle.rk_world.specs.Splits.{rows_split, with_split}
-use Rattle.rk_world.specs.World.{counters_of, greatest}
+use Rattle.rk_lane.proofs.Words.{◌≡◌, ◌<◌, ◌+◌, ◌-◌, ◌^◌, ℕ, max, set, List, Option, Some, None, length, sym, ap, subst, ◌∙◌, refl, arith}
+use Rattle.rk_lane.proofs.Words.{row_of, Row, Gave, Coordinator, Master, IsMaster, rows_split, with_split, counters_of, greatest, terms_of}
+use Rattle.rk_lane.proofs.Words.{IsMade, IsAt, owner_in, IsWeighed, Parts, Owner}
 use Rattle.rk_world.specs.declared.event.Event.TheVariants as events
-use Rattle.rk_lane.specs.Coordinating.{terms_of}
-use Rattle.rk_lane.specs.Made.{IsMade}
-use Rattle.rk_lane.specs.Masters.{IsAt}
-use Rattle.rk_lane.specs.Owners.{owner_in}
-use Rattle.rk_lane.specs.Working.{IsWeighed}
-use Rattle.rk_lane.specs.declared.parts.Parts.{Parts}
-use Rattle.rk_lane.specs.declared.splits.Owner.{Owner}
 use Rattle.rk_lane.proofs.BothChanged.{both_made}
 use Rattle.rk_lane.proofs.Halved.{IsOwned, owned, owner_is_there, owner_may_rise, split_alive, split_allowed, split_by_coordinator}
 use Rattle.rk_lane.proofs.MasterWork.{StandsAt, set_at_number, stands_at, weighed_same, weight_is, weight_within}

@@ -1,9 +1,6 @@
-use Rattle.std.proofs.Common.{None, sym, subst, refl}
-use Rattle.rk_types.specs.declared.node.Node.{Node}
+use Rattle.rk_lane.proofs.Words.{None, sym, subst, refl, Node, Gave, IsMade, IsReady}
 use Rattle.rk_types.specs.declared.node.Node.TheVariants as nodes
-use Rattle.rk_world.specs.Backup.{Gave}
 use Rattle.rk_world.specs.declared.event.Event.TheVariants as events
-use Rattle.rk_lane.specs.Made.{IsMade, IsReady}
 use Rattle.rk_lane.proofs.Quiet.{stays_made}
 use Rattle.rk_lane.proofs.turns.turn.Goals as goal
 

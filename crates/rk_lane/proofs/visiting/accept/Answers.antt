@@ -1,10 +1,5 @@
-use Rattle.std.proofs.Common.{◌≡◌, ℕ, [], true, false, Some, None, ap, sym, ◌∙◌}
-use Rattle.rk_types.specs.NumberMap.{get}
-use Rattle.rk_world.specs.Calls.{accept, is_asked_here}
-use Rattle.rk_world.specs.Client.{session_accept}
-use Rattle.rk_world.specs.Refusals.{accept_refusal}
-use Rattle.rk_lane.specs.Parts.{world_of}
-use Rattle.rk_lane.specs.declared.parts.Parts.{Parts}
+use Rattle.rk_lane.proofs.Words.{◌≡◌, ℕ, [], true, false, Some, None, ap, sym, ◌∙◌, get, accept, is_asked_here, session_accept}
+use Rattle.rk_lane.proofs.Words.{accept_refusal, world_of, Parts}
 use Rattle.rk_lane.proofs.Clients.{answer_taken, parts_taken, visited_as}
 use Rattle.rk_lane.proofs.visiting.accept.Goals as goal
 

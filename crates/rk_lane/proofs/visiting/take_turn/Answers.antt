@@ -1,9 +1,5 @@
-use Rattle.std.proofs.Common.{◌≡◌, ◌+◌, ℕ, [], true, false, max, None, ap, refl, sym, subst, ◌∙◌}
-use Rattle.rk_world.specs.Calls.{ask}
-use Rattle.rk_world.specs.Ledger.{Ledger, is_added}
-use Rattle.rk_lane.specs.Parts.{world_of}
-use Rattle.rk_lane.specs.Visiting.{noted, saved}
-use Rattle.rk_lane.specs.declared.parts.Parts.{Parts}
+use Rattle.rk_lane.proofs.Words.{◌≡◌, ◌+◌, ℕ, [], true, false, max, None, ap, refl, sym, subst, ◌∙◌, ask, Ledger, is_added, world_of, noted}
+use Rattle.rk_lane.proofs.Words.{saved, Parts}
 use Rattle.rk_lane.proofs.Clients.{added_noted, added_where_allowed, ledger_then, parts_then, turn_fits, turn_made, visited_as}
 use Rattle.rk_lane.proofs.visiting.take_turn.Goals as goal
 

@@ -1,5 +1,4 @@
-use Rattle.std.proofs.Common.{◌≡◌, map}
-use Rattle.rk_world.specs.Replies.{filled}
+use Rattle.rk_lane.proofs.Words.{◌≡◌, map, filled}
 use Rattle.rk_lane.proofs.working.fill_all.Given as goal
 
 abbrev pub invariant-loop-message : goal.invariant-loop-message

@@ -1,7 +1,4 @@
-use Rattle.std.proofs.Common.{◌≡◌, List, length, take, ap, ◌∙◌}
-use Rattle.rk_types.specs.declared.history.Placed.{Placed}
-use Rattle.rk_world.specs.Ledger.{Ledger, with_all_served}
-use Rattle.rk_ledger.specs.Growing.{with_journal}
+use Rattle.rk_lane.proofs.Words.{◌≡◌, List, length, take, ap, ◌∙◌, Placed, Ledger, with_all_served, with_journal}
 use Rattle.rk_lane.proofs.Journals.{IsGrownFrom, cut_to, grown_by_served}
 use Rattle.rk_lane.proofs.working.note.Goals as goal
 

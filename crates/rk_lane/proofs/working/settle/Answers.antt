@@ -1,15 +1,6 @@
-use Rattle.std.proofs.Common.{◌≡◌, map, take, List, ap, sym, subst, ◌∙◌, refl}
-use Rattle.std.proofs.lemmas.Result.{IfOk-weaker, IfErr-weaker}
-use Rattle.rk_message.specs.declared.message.Message.{Message}
-use Rattle.rk_world.specs.Ledger.{Ledger}
-use Rattle.rk_world.specs.Replies.{filled}
-use Rattle.rk_world.specs.declared.work.Served.{Served}
-use Rattle.rk_master.specs.Parts.{marks_of}
-use Rattle.rk_ledger.specs.Growing.{with_journal}
-use Rattle.rk_lane.specs.Finished.{IsFinished}
-use Rattle.rk_lane.specs.Sends.{IsFitToSend}
-use Rattle.rk_lane.specs.Working.{IsRaised, IsSettled, ledger_noted, ledger_worked, sends_worked}
-use Rattle.rk_lane.specs.declared.parts.Parts.{Parts}
+use Rattle.rk_lane.proofs.Words.{◌≡◌, map, take, List, ap, sym, subst, ◌∙◌, refl, IfOk-weaker, IfErr-weaker, Message, Ledger, filled}
+use Rattle.rk_lane.proofs.Words.{Served, marks_of, with_journal, IsFinished, IsFitToSend, IsRaised, IsSettled, ledger_noted, ledger_worked}
+use Rattle.rk_lane.proofs.Words.{sends_worked, Parts}
 use Rattle.rk_lane.proofs.Settling.{settled_by_nothing, settled_from, unsettled_by, unsettled_from}
 use Rattle.rk_lane.proofs.working.settle.Goals as goal
 

@@ -1,17 +1,9 @@
-use Rattle.std.proofs.Common.{◌≡◌, ℕ, List, Option, length, ap, sym, subst, ◌∙◌, refl, arith}
-use Rattle.std.proofs.lemmas.Result.{IfOk-weaker, IfErr-weaker}
+use Rattle.rk_lane.proofs.Words.{◌≡◌, ℕ, List, Option, length, ap, sym, subst, ◌∙◌, refl, arith, IfOk-weaker, IfErr-weaker, Master}
+use Rattle.rk_lane.proofs.Words.{master_step, seen_in, IsMaster, IsAt, IsFitToSend, IsSettled, IsUnsettled, IsWeighed, sends_worked, Parts}
+use Rattle.rk_lane.proofs.Words.{get}
 use Rattle.rk_types.specs.declared.node.Node.TheVariants as nodes
-use Rattle.rk_world.specs.Master.{Master}
-use Rattle.rk_world.specs.MasterStep.{master_step}
-use Rattle.rk_world.specs.Step.{seen_in}
-use Rattle.rk_world.specs.Premises.{IsMaster}
 use Rattle.rk_world.specs.declared.event.Event.TheVariants as events
-use Rattle.rk_lane.specs.Masters.{IsAt}
-use Rattle.rk_lane.specs.Sends.{IsFitToSend}
-use Rattle.rk_lane.specs.Working.{IsSettled, IsUnsettled, IsWeighed, sends_worked}
-use Rattle.rk_lane.specs.declared.parts.Parts.{Parts}
 use Rattle.rk_lane.proofs.MasterWork.{StandsAt, stands_at, step_is, weight_is, weight_within, work_faulty, work_fits, work_made}
-use Rattle.rk_types.specs.NumberMap.{get}
 use Rattle.rk_lane.proofs.Coordinated.{IsReceived, delivery_allowed, received}
 use Rattle.rk_lane.proofs.MasterWork.{addressed, can_take, losing_made, weighed_same}
 use Rattle.rk_lane.proofs.working.tell_master.Goals as goal

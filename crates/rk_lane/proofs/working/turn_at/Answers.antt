@@ -1,15 +1,8 @@
-use Rattle.std.proofs.Common.{◌≡◌, ℕ, List, Option, length, ap, sym, subst, ◌∙◌, refl, arith}
-use Rattle.std.proofs.lemmas.Result.{IfOk-weaker, IfErr-weaker}
+use Rattle.rk_lane.proofs.Words.{◌≡◌, ℕ, List, Option, length, ap, sym, subst, ◌∙◌, refl, arith, IfOk-weaker, IfErr-weaker, Master}
+use Rattle.rk_lane.proofs.Words.{master_turn, IsMaster, IsAt, IsFitToSend, IsSettled, IsUnsettled, sends_worked, Parts}
 use Rattle.rk_types.specs.declared.node.Node.TheVariants as nodes
-use Rattle.rk_world.specs.Master.{Master}
-use Rattle.rk_world.specs.MasterTurn.{master_turn}
-use Rattle.rk_world.specs.Premises.{IsMaster}
 use Rattle.rk_world.specs.declared.error.StepError.TheVariants as errors
 use Rattle.rk_world.specs.declared.event.Event.TheVariants as events
-use Rattle.rk_lane.specs.Masters.{IsAt}
-use Rattle.rk_lane.specs.Sends.{IsFitToSend}
-use Rattle.rk_lane.specs.Working.{IsSettled, IsUnsettled, sends_worked}
-use Rattle.rk_lane.specs.declared.parts.Parts.{Parts}
 use Rattle.rk_lane.proofs.Idle.{rests_made}
 use Rattle.rk_lane.proofs.MasterWork.{StandsAt, stands_at, turn_is, weight_is, weight_within, work_faulty, work_fits, work_made}
 use Rattle.rk_lane.proofs.Quiet.{alive, masters_counted}

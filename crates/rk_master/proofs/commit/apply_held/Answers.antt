@@ -1,10 +1,6 @@
-use Rattle.std.proofs.Common.{◌≡◌, ◌<◌, ◌≤◌, List, length, sym, ap, ◌∙◌, subst, arith}
-use Rattle.rk_entry.specs.declared.entry.Entry.{Entry}
-use Rattle.rk_log.specs.Log.{Log, committed}
-use Rattle.rk_world.specs.Master.{Master}
-use Rattle.rk_world.specs.Commits.{apply_entries}
-use Rattle.rk_master.specs.Parts.{behind}
-use Rattle.rk_master.specs.State.{master_of}
+use Rattle.rk_master.proofs.Words.{◌≡◌, ◌<◌, ◌≤◌, List, length, sym, ap, ◌∙◌, subst, arith, Entry, Log, Master, apply_entries, behind}
+use Rattle.rk_master.proofs.Words.{master_of}
+use Rattle.rk_log.specs.Log.{committed}
 use Rattle.rk_master.proofs.Applying.{behind_changed, stands, none_held, applied_next}
 use Rattle.rk_master.proofs.commit.apply_held.Goals as goal
 

@@ -1,7 +1,5 @@
-use Rattle.std.proofs.Common.{◌≡◌, ◌-◌}
-use Rattle.rk_world.specs.Commits.{apply_entries, newly_held}
-use Rattle.rk_master.specs.Parts.{behind}
-use Rattle.rk_master.specs.State.{IsState, master_of}
+use Rattle.rk_master.proofs.Words.{◌≡◌, ◌-◌, apply_entries, behind, IsState, master_of}
+use Rattle.rk_world.specs.Commits.{newly_held}
 use Rattle.rk_master.proofs.commit.apply_held.Given as goal
 
 abbrev pub invariant-held : goal.invariant-held

@@ -1,12 +1,7 @@
-use Rattle.std.proofs.Common.{◌≡◌, ℕ, ◌+◌, ◌∷◌, List, Option, Some, slice_get, sym, ap, ◌∙◌, subst, arith}
-use Rattle.rk_entry.specs.declared.entry.Entry.{Entry}
+use Rattle.rk_master.proofs.Words.{◌≡◌, ℕ, ◌+◌, ◌∷◌, List, Option, Some, slice_get, sym, ap, ◌∙◌, subst, arith, Entry, told_by, Master}
+use Rattle.rk_master.proofs.Words.{Held, AreStagedFrom, master_of}
 use Rattle.rk_world.specs.Commits.{with_applied}
-use Rattle.rk_world.specs.Ends.{told_by}
-use Rattle.rk_world.specs.Master.{Master}
-use Rattle.rk_types.specs.declared.held.Held.{Held}
-use Rattle.rk_master.specs.Kept.{AreStagedFrom}
 use Rattle.rk_master.specs.Parts.{with_items_of}
-use Rattle.rk_master.specs.State.{master_of}
 use Rattle.rk_master.proofs.Applying.{entry_item_is}
 use Rattle.rk_master.proofs.Staged.{first_is, others_there, there_is}
 use Rattle.rk_master.proofs.commit.apply_item.Goals as goal

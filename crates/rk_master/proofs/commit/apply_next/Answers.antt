@@ -1,9 +1,4 @@
-use Rattle.std.proofs.Common.{drop, sym, ap, ◌∙◌}
-use Rattle.rk_world.specs.Master.{Master}
-use Rattle.rk_world.specs.Ends.{told_by}
-use Rattle.rk_world.specs.Worked.{changed}
-use Rattle.rk_master.specs.Parts.{behind}
-use Rattle.rk_master.specs.State.{master_of}
+use Rattle.rk_master.proofs.Words.{drop, sym, ap, ◌∙◌, Master, told_by, changed, behind, master_of}
 use Rattle.rk_master.proofs.Applying.{behind_changed, applied_quietly, applied_ending}
 use Rattle.rk_master.proofs.commit.apply_next.Goals as goal
 

@@ -1,16 +1,9 @@
-use Rattle.std.proofs.Common.{Option, List, [], ◌∷◌, ◌++◌, map, refl, sym, ap, ◌∙◌}
-use Rattle.std.proofs.lemmas.List.{append-nil, with_items_is}
-use Rattle.rk_types.specs.NumberMap.{NumberMap, get}
+use Rattle.rk_master.proofs.Words.{Option, List, [], ◌∷◌, ◌++◌, map, refl, sym, ap, ◌∙◌, append-nil, with_items_is, NumberMap, get, Call}
+use Rattle.rk_master.proofs.Words.{Message, noting, Master, Row, behind, changing, marks_of, tablets_of, worked_of, master_of}
 use Rattle.rk_types.specs.declared.call.Answer.TheVariants.{Done}
-use Rattle.rk_types.specs.declared.call.Call.{Call}
 use Rattle.rk_types.specs.declared.call.Outcome.{Outcome}
-use Rattle.rk_message.specs.declared.message.Message.{Message}
 use Rattle.rk_world.specs.Requests.{answering}
-use Rattle.rk_world.specs.Commits.{noting, with_ended}
-use Rattle.rk_world.specs.Master.{Master}
-use Rattle.rk_master.specs.Places.{Row}
-use Rattle.rk_master.specs.Parts.{behind, changing, marks_of, tablets_of, worked_of}
-use Rattle.rk_master.specs.State.{master_of}
+use Rattle.rk_world.specs.Commits.{with_ended}
 use Rattle.rk_master.proofs.Applying.{behind_changed, ended_none}
 use Rattle.rk_master.proofs.commit.end_call.Goals as goal
 

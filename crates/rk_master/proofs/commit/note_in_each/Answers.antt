@@ -1,8 +1,5 @@
-use Rattle.std.proofs.Common.{◌∙◌, ◌<◌, ℕ, List, length, get_or, arith, sym, subst}
-use Rattle.rk_world.specs.Commits.{noting}
-use Rattle.rk_master.specs.Parts.{IsClosable, tablet_of}
+use Rattle.rk_master.proofs.Words.{◌∙◌, ◌<◌, ℕ, List, length, get_or, arith, sym, subst, noting, IsClosable, tablet_of, Row}
 use Rattle.rk_master.proofs.Closable.{closable_at, lawful_set, noted_closable}
-use Rattle.rk_master.specs.Places.{Row}
 use Rattle.rk_master.proofs.Places.{changed_next}
 use Rattle.rk_master.proofs.commit.note_in_each.Goals as goal
 

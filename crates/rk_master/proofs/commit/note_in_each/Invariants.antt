@@ -1,6 +1,4 @@
-use Rattle.std.proofs.Common.{◌≡◌, map}
-use Rattle.rk_world.specs.Commits.{noting}
-use Rattle.rk_master.specs.Parts.{AreTablets, changing, tablets_of}
+use Rattle.rk_master.proofs.Words.{◌≡◌, map, noting, AreTablets, changing, tablets_of}
 use Rattle.rk_master.proofs.Places.{changed_from}
 use Rattle.rk_master.proofs.commit.note_in_each.Given as goal
 

@@ -1,8 +1,5 @@
 -- The tablets that were looked at so far add nothing to what is sent.
-use Rattle.std.proofs.Common.{◌≡◌, drop}
-use Rattle.rk_world.specs.Master.{Master}
-use Rattle.rk_world.specs.MasterTurn.{duties}
-use Rattle.rk_master.specs.Parts.{tablets_of}
+use Rattle.rk_master.proofs.Words.{◌≡◌, drop, Master, duties, tablets_of}
 use Rattle.rk_master.proofs.duties.are_at_rest.Given as goal
 
 abbrev pub invariant-loop-entry : goal.invariant-loop-entry

@@ -1,13 +1,6 @@
-use Rattle.std.proofs.Common.{◌≡◌, ℕ, List, [], ◌∷◌, ◌++◌, set, refl, sym, ap, ◌∙◌, subst}
-use Rattle.rk_message.specs.declared.message.Message.{Message}
-use Rattle.rk_types.specs.NumberMap.{NumberMap}
-use Rattle.rk_world.specs.Master.{Master}
+use Rattle.rk_master.proofs.Words.{◌≡◌, ℕ, List, [], ◌∷◌, ◌++◌, set, refl, sym, ap, ◌∙◌, subst, Message, NumberMap, Master, Tablet}
+use Rattle.rk_master.proofs.Words.{TabletLane, IsClosable, behind, tablet_of, worked_of, Row, master_of}
 use Rattle.rk_world.specs.MasterTurn.{receiving_duty, want_of}
-use Rattle.rk_world.specs.Tablet.{Tablet}
-use Rattle.rk_master.specs.declared.tablet_lane.TabletLane.{TabletLane}
-use Rattle.rk_master.specs.Parts.{IsClosable, behind, tablet_of, worked_of}
-use Rattle.rk_master.specs.Places.{Row}
-use Rattle.rk_master.specs.State.{master_of}
 use Rattle.rk_master.proofs.Closable.{closable_at, lawful_read}
 use Rattle.rk_master.proofs.Handovers.{changed_read, with_rows}
 use Rattle.rk_master.proofs.Places.{row_there}

@@ -1,9 +1,4 @@
-use Rattle.std.proofs.Common.{◌<◌, ◌≤◌, ℕ, List, length, ap, ◌∙◌, arith}
-use Rattle.rk_world.specs.Master.{Master}
-use Rattle.rk_world.specs.MasterTurn.{duties}
-use Rattle.rk_master.specs.Parts.{behind, tablets_of}
-use Rattle.rk_master.specs.Places.{Row}
-use Rattle.rk_master.specs.State.{master_of}
+use Rattle.rk_master.proofs.Words.{◌<◌, ◌≤◌, ℕ, List, length, ap, ◌∙◌, arith, Master, duties, behind, tablets_of, Row, master_of}
 use Rattle.rk_master.proofs.Applying.{stands}
 use Rattle.rk_master.proofs.TurnDuties.{duty_done, duties_done}
 use Rattle.rk_master.proofs.duties.do_duties.Goals as goal

@@ -1,7 +1,4 @@
-use Rattle.std.proofs.Common.{◌≡◌, length, drop}
-use Rattle.rk_world.specs.MasterTurn.{duties}
-use Rattle.rk_master.specs.Parts.{behind, tablets_of}
-use Rattle.rk_master.specs.State.{IsState, master_of}
+use Rattle.rk_master.proofs.Words.{◌≡◌, length, drop, duties, behind, tablets_of, IsState, master_of}
 use Rattle.rk_master.proofs.duties.do_duties.Given as goal
 
 abbrev pub invariant-loop-at : goal.invariant-loop-at

@@ -1,7 +1,4 @@
-use Rattle.std.proofs.Common.{◌≡◌, refl, ap, ◌∙◌}
-use Rattle.rk_master.specs.Parts.{tablet_of}
-use Rattle.rk_master.specs.Places.{Row}
-use Rattle.rk_master.specs.State.{master_of}
+use Rattle.rk_master.proofs.Words.{◌≡◌, refl, ap, ◌∙◌, tablet_of, Row, master_of}
 use Rattle.rk_master.proofs.Places.{row_there}
 use Rattle.rk_master.proofs.TurnDuties.{no_duty}
 use Rattle.rk_master.proofs.duties.do_duty.Goals as goal

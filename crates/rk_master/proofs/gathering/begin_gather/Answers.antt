@@ -1,10 +1,4 @@
-use Rattle.std.proofs.Common.{◌≡◌, true, List, sym, ap, ◌∙◌}
-use Rattle.std.proofs.lemmas.Bool.{false≢true}
-use Rattle.rk_world.specs.RoleTests.{is_gathering}
-use Rattle.rk_world.specs.Tablet.{Tablet}
-use Rattle.rk_master.specs.Parts.{tablet_of}
-use Rattle.rk_master.specs.Places.{Row}
-use Rattle.rk_master.specs.Rebuilding.{with_gather}
+use Rattle.rk_master.proofs.Words.{◌≡◌, true, List, sym, ap, ◌∙◌, false≢true, is_gathering, Tablet, tablet_of, Row, with_gather}
 use Rattle.rk_master.proofs.Closable.{closable_else, lawful_set}
 use Rattle.rk_master.proofs.Places.{changed_so, tablet_there}
 use Rattle.rk_master.proofs.gathering.begin_gather.Goals as goal

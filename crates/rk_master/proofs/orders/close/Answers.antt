@@ -1,15 +1,8 @@
-use Rattle.std.proofs.Common.{◌≡◌, List, set, Option, sym, ap, ◌∙◌}
+use Rattle.rk_master.proofs.Words.{◌≡◌, List, set, Option, sym, ap, ◌∙◌, Handover, Master, Tablet, TabletLane, tablet_of, Row, master_of}
 use Rattle.std.proofs.lemmas.List.{get_or-set_same}
 use Rattle.rk_transfer.specs.Handover.{closed}
-use Rattle.rk_transfer.specs.declared.handover.Handover.{Handover}
 use Rattle.rk_transfer.specs.declared.role.Role.TheVariants as roles
 use Rattle.rk_world.specs.Handovers.{closing}
-use Rattle.rk_world.specs.Master.{Master}
-use Rattle.rk_world.specs.Tablet.{Tablet}
-use Rattle.rk_master.specs.declared.tablet_lane.TabletLane.{TabletLane}
-use Rattle.rk_master.specs.Parts.{tablet_of}
-use Rattle.rk_master.specs.Places.{Row}
-use Rattle.rk_master.specs.State.{master_of}
 use Rattle.rk_master.proofs.Closable.{closable_in, lawful_read}
 use Rattle.rk_master.proofs.Handovers.{has_moved, not_moved, stays_so, closed_role, with_rows, at_set, tablet_read, same_set, set_there, closing_so}
 use Rattle.rk_master.proofs.Places.{row_there}

@@ -1,12 +1,6 @@
-use Rattle.std.proofs.Common.{List, map, ap, sym, ◌∙◌}
-use Rattle.std.proofs.lemmas.List.{with_items_is}
-use Rattle.rk_bucket_table.specs.Tables.{items_of as records_of}
+use Rattle.rk_master.proofs.Words.{List, map, ap, sym, ◌∙◌, with_items_is, records_of, Handover, Master, changing, given_up_but, tablets_of}
+use Rattle.rk_master.proofs.Words.{Row, master_of}
 use Rattle.rk_transfer.specs.Handover.{prepared}
-use Rattle.rk_transfer.specs.declared.handover.Handover.{Handover}
-use Rattle.rk_world.specs.Master.{Master}
-use Rattle.rk_master.specs.Parts.{changing, given_up_but, tablets_of}
-use Rattle.rk_master.specs.Places.{Row}
-use Rattle.rk_master.specs.State.{master_of}
 use Rattle.rk_master.proofs.Handovers.{begins, has_moved, prepared_so}
 use Rattle.rk_master.proofs.orders.make_ready.Goals as goal
 

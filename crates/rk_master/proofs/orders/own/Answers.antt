@@ -1,13 +1,6 @@
-use Rattle.std.proofs.Common.{◌≡◌, List, Option, sym, ap, ◌∙◌}
+use Rattle.rk_master.proofs.Words.{◌≡◌, List, Option, sym, ap, ◌∙◌, Handover, Master, Tablet, changed, tablet_of, Row, master_of}
 use Rattle.rk_transfer.specs.Handover.{owned}
-use Rattle.rk_transfer.specs.declared.handover.Handover.{Handover}
 use Rattle.rk_transfer.specs.declared.role.Role.TheVariants as roles
-use Rattle.rk_world.specs.Master.{Master}
-use Rattle.rk_world.specs.Tablet.{Tablet}
-use Rattle.rk_world.specs.Worked.{changed}
-use Rattle.rk_master.specs.Parts.{tablet_of}
-use Rattle.rk_master.specs.Places.{Row}
-use Rattle.rk_master.specs.State.{master_of}
 use Rattle.rk_master.proofs.Closable.{closable_in, lawful_read}
 use Rattle.rk_master.proofs.Handovers.{has_moved, not_moved, stays_so, owned_role, with_rows, tablet_read, same_set, own_failed, own_made}
 use Rattle.rk_master.proofs.orders.own.Goals as goal

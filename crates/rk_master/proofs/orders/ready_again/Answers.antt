@@ -1,9 +1,5 @@
-use Rattle.std.proofs.Common.{◌≡◌, refl, ◌∙◌}
-use Rattle.std.proofs.lemmas.Result.{IfOk-weaker}
+use Rattle.rk_master.proofs.Words.{◌≡◌, refl, ◌∙◌, IfOk-weaker, Master, worked_of, master_of}
 use Rattle.rk_world.specs.Handovers.{ready_again}
-use Rattle.rk_world.specs.Master.{Master}
-use Rattle.rk_master.specs.Parts.{worked_of}
-use Rattle.rk_master.specs.State.{master_of}
 use Rattle.rk_master.proofs.Handovers.{ready_so}
 use Rattle.rk_master.proofs.orders.ready_again.Goals as goal
 

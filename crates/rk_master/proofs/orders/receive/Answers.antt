@@ -1,17 +1,8 @@
-use Rattle.std.proofs.Common.{◌≡◌, ◌≤◌, List, [], ◌∷◌, ◌++◌, length, length-append, arith, Option, refl, sym, ap, ◌∙◌, subst}
-use Rattle.rk_done.specs.Completions.{Completions, completions_from}
-use Rattle.rk_entry.specs.Lawful.{IsLawfulEntry}
-use Rattle.rk_entry.specs.declared.entry.Entry.{Entry}
-use Rattle.rk_log.specs.Log.{Log, with_entry}
+use Rattle.rk_master.proofs.Words.{◌≡◌, ◌≤◌, List, [], ◌∷◌, ◌++◌, length, length-append, arith, Option, refl, sym, ap, ◌∙◌, subst}
+use Rattle.rk_master.proofs.Words.{completions_from, IsLawfulEntry, Entry, Log, with_entry, Handover, Master, Tablet, pulling_from}
+use Rattle.rk_master.proofs.Words.{without_merged, changed, tablet_of, Row, AreSpelled, master_of}
+use Rattle.rk_done.specs.Completions.{Completions}
 use Rattle.rk_transfer.specs.Handover.{granted}
-use Rattle.rk_transfer.specs.declared.handover.Handover.{Handover}
-use Rattle.rk_world.specs.Master.{Master}
-use Rattle.rk_world.specs.Tablet.{Tablet, pulling_from, without_merged}
-use Rattle.rk_world.specs.Worked.{changed}
-use Rattle.rk_master.specs.Parts.{tablet_of}
-use Rattle.rk_master.specs.Places.{Row}
-use Rattle.rk_master.specs.Sides.{AreSpelled}
-use Rattle.rk_master.specs.State.{master_of}
 use Rattle.rk_master.proofs.Closable.{lawful_read}
 use Rattle.rk_master.proofs.Handovers.{has_moved, not_moved, stays_so, granted_role, moved_lane, with_rows, tablet_read, same_set, grant_failed, grant_made, grant_closable, grant_lawful}
 use Rattle.rk_master.proofs.orders.receive.Goals as goal

@@ -1,16 +1,7 @@
-use Rattle.std.proofs.Common.{List, Option, sym, ap, ◌∙◌}
-use Rattle.rk_bucket_table.specs.Tables.{items_of as records_of}
+use Rattle.rk_master.proofs.Words.{List, Option, sym, ap, ◌∙◌, records_of, Handover, Master, changed, tablet_of, Tablet, TabletLane, Row}
+use Rattle.rk_master.proofs.Words.{master_of}
 use Rattle.rk_transfer.specs.Handover.{released}
-use Rattle.rk_transfer.specs.declared.handover.Handover.{Handover}
 use Rattle.rk_transfer.specs.declared.role.Role.TheVariants as roles
-use Rattle.rk_world.specs.Master.{Master}
-use Rattle.rk_world.specs.Worked.{changed}
-use Rattle.rk_master.specs.Parts.{tablet_of}
-use Rattle.rk_world.specs.Tablet.{Tablet}
-use Rattle.rk_master.specs.declared.tablet_lane.TabletLane.{TabletLane}
-use Rattle.rk_master.specs.Parts.{tablet_of}
-use Rattle.rk_master.specs.Places.{Row}
-use Rattle.rk_master.specs.State.{master_of}
 use Rattle.rk_master.proofs.Closable.{closable_in, lawful_read}
 use Rattle.rk_master.proofs.Handovers.{has_moved, not_moved, stays_so, released_role, with_rows, tablet_read, same_set, release_failed, release_made}
 use Rattle.rk_master.proofs.orders.release.Goals as goal

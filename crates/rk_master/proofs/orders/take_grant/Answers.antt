@@ -1,7 +1,4 @@
-use Rattle.std.proofs.Common.{List, ◌∙◌}
-use Rattle.rk_world.specs.Master.{Master}
-use Rattle.rk_master.specs.Places.{Row}
-use Rattle.rk_master.specs.State.{master_of}
+use Rattle.rk_master.proofs.Words.{List, ◌∙◌, Master, Row, master_of}
 use Rattle.rk_master.proofs.Handovers.{worked_quietly, none_lent, grant_absent}
 use Rattle.rk_master.proofs.orders.take_grant.Goals as goal
 

@@ -1,13 +1,6 @@
-use Rattle.std.proofs.Common.{◌≡◌, ◌<◌, true, List, length, ap, sym, ◌∙◌, subst}
-use Rattle.std.specs.List.{list_all}
-use Rattle.std.proofs.lemmas.Result.{IfOk-weaker}
-use Rattle.rk_log.specs.Log.{Log}
-use Rattle.rk_world.specs.Handovers.{is_above, prepare_taken}
-use Rattle.rk_world.specs.Master.{Master, tablet_at}
-use Rattle.rk_transfer.specs.declared.handover.Handover.{Handover}
-use Rattle.rk_master.specs.Parts.{tablet_in, tablets_of, worked_of}
-use Rattle.rk_master.specs.Places.{Row}
-use Rattle.rk_master.specs.State.{master_of}
+use Rattle.rk_master.proofs.Words.{◌≡◌, ◌<◌, true, List, length, ap, sym, ◌∙◌, subst, list_all, IfOk-weaker, Log, is_above, Master}
+use Rattle.rk_master.proofs.Words.{tablet_at, Handover, tablet_in, tablets_of, worked_of, Row, master_of}
+use Rattle.rk_world.specs.Handovers.{prepare_taken}
 use Rattle.rk_master.proofs.Handovers.{prepare_made}
 use Rattle.rk_master.proofs.orders.take_prepare.Goals as goal
 

@@ -1,9 +1,5 @@
-use Rattle.std.proofs.Common.{[], ◌∷◌, ◌++◌, refl, sym, ◌∙◌}
+use Rattle.rk_master.proofs.Words.{[], ◌∷◌, ◌++◌, refl, sym, ◌∙◌, Master, tablet_of, Row, master_of}
 use Rattle.rk_world.specs.Handovers.{transfer}
-use Rattle.rk_world.specs.Master.{Master}
-use Rattle.rk_master.specs.Parts.{tablet_of}
-use Rattle.rk_master.specs.Places.{Row}
-use Rattle.rk_master.specs.State.{master_of}
 use Rattle.rk_master.proofs.Handovers.{tablet_read, is_told, not_told, worked_quietly, worked_sending}
 use Rattle.rk_master.proofs.orders.tell_frozen.Goals as goal
 

@@ -1,15 +1,9 @@
-use Rattle.std.proofs.Common.{◌≡◌, List, drop, sym, ap, ◌∙◌, subst}
-use Rattle.std.proofs.lemmas.Result.{IfOk-weaker}
+use Rattle.rk_master.proofs.Words.{◌≡◌, List, drop, sym, ap, ◌∙◌, subst, IfOk-weaker, NumberMap, Range, Entry, Log, Tablet, tablet_of}
+use Rattle.rk_master.proofs.Words.{own_counted}
 use denote.Ref.{Bor}
-use Rattle.rk_types.specs.NumberMap.{NumberMap}
-use Rattle.rk_types.specs.declared.range.Range.{Range}
-use Rattle.rk_entry.specs.declared.entry.Entry.{Entry}
-use Rattle.rk_log.specs.Log.{Log}
 use Rattle.rk_rebuild.specs.Lent.{lent}
 use Rattle.rk_world.specs.Material.{named}
-use Rattle.rk_world.specs.Tablet.{Tablet}
-use Rattle.rk_master.specs.Parts.{tablet_of}
-use Rattle.rk_master.specs.Rebuilding.{AreRead, merged_with, own_counted}
+use Rattle.rk_master.specs.Rebuilding.{AreRead, merged_with}
 use Rattle.rk_master.proofs.OwnEntries.{own_counts}
 use Rattle.rk_master.proofs.own_entries.merged.Goals as goal
 

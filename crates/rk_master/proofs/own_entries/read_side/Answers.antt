@@ -1,5 +1,4 @@
-use Rattle.std.proofs.Common.{◌∙◌}
-use Rattle.rk_types.specs.NumberMap.{insert}
+use Rattle.rk_master.proofs.Words.{◌∙◌, insert}
 use Rattle.rk_master.proofs.own_entries.read_side.Goals as goal
 
 pub returns : goal.returns

@@ -1,5 +1,4 @@
-use Rattle.std.proofs.Common.{ap, ◌∙◌}
-use Rattle.rk_entry.specs.Entries.{entries_of}
+use Rattle.rk_master.proofs.Words.{ap, ◌∙◌, entries_of}
 use Rattle.rk_master.proofs.OwnEntries.{read_there}
 use Rattle.rk_master.proofs.own_entries.side_read.Goals as goal
 

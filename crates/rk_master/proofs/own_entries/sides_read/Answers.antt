@@ -1,7 +1,5 @@
-use Rattle.std.proofs.Common.{[], fold, ap, ◌∙◌}
+use Rattle.rk_master.proofs.Words.{[], fold, ap, ◌∙◌, Log, with_side_read}
 use lib.Seq.{take_all}
-use Rattle.rk_log.specs.Log.{Log}
-use Rattle.rk_master.specs.Rebuilding.{with_side_read}
 use Rattle.rk_master.proofs.OwnEntries.{all_read}
 use Rattle.rk_master.proofs.own_entries.sides_read.Goals as goal
 

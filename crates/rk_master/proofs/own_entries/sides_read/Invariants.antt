@@ -1,5 +1,4 @@
-use Rattle.std.proofs.Common.{◌≡◌, [], fold, take}
-use Rattle.rk_master.specs.Rebuilding.{with_side_read}
+use Rattle.rk_master.proofs.Words.{◌≡◌, [], fold, take, with_side_read}
 use Rattle.rk_master.proofs.own_entries.sides_read.Given as goal
 
 -- the side segments so far were read

@@ -1,13 +1,7 @@
-use Rattle.std.proofs.Common.{◌≡◌, ◌+◌, List, [], ◌∷◌, ◌++◌, length, sym, ap, ◌∙◌, subst}
-use Rattle.std.specs.Int.{w32}
-use Rattle.std.specs.List.{All, range_with_len}
-use Rattle.std.specs.Vec.Iter.{into_iter_items}
+use Rattle.rk_master.proofs.Words.{◌≡◌, ◌+◌, List, [], ◌∷◌, ◌++◌, length, sym, ap, ◌∙◌, subst, w32, All, range_with_len, into_iter_items}
+use Rattle.rk_master.proofs.Words.{IsNumber, FIRST_SIDE_SEGMENT, bytes_in, with_sides}
 use Rattle.std.proofs.lemmas.List.Elements.{All-append, All-cons, All-nil}
-use Rattle.rk_entry.specs.Numbers.{IsNumber}
-use Rattle.rk_entry.specs.declared.lists.TheConstants.{FIRST_SIDE_SEGMENT}
 use Rattle.rk_segment.specs.declared.segment.Segment.{Segment}
-use Rattle.rk_side_log.specs.Spelled.{bytes_in}
-use Rattle.rk_master.specs.Pulls.{with_sides}
 use Rattle.rk_master.proofs.Sides.{number_added, side_added}
 use Rattle.rk_master.proofs.pulled.add_sides.Goals as goal
 

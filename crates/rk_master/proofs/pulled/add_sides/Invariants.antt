@@ -1,11 +1,5 @@
-use Rattle.std.proofs.Common.{◌≡◌, ◌+◌, ◌++◌, length}
-use Rattle.std.specs.Int.{w32}
-use Rattle.std.specs.List.{All, range_with_len}
-use Rattle.std.specs.Vec.Iter.{into_iter_items}
-use Rattle.rk_entry.specs.Numbers.{IsNumber}
-use Rattle.rk_entry.specs.declared.lists.TheConstants.{FIRST_SIDE_SEGMENT}
-use Rattle.rk_side_log.specs.Spelled.{bytes_in}
-use Rattle.rk_master.specs.Pulls.{with_sides}
+use Rattle.rk_master.proofs.Words.{◌≡◌, ◌+◌, ◌++◌, length, w32, All, range_with_len, into_iter_items, IsNumber, FIRST_SIDE_SEGMENT}
+use Rattle.rk_master.proofs.Words.{bytes_in, with_sides}
 use Rattle.rk_master.proofs.pulled.add_sides.Given as goal
 
 abbrev pub invariant-loop-segment : goal.invariant-loop-segment

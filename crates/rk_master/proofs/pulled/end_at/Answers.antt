@@ -1,17 +1,7 @@
-use Rattle.std.proofs.Common.{◌≡◌, ◌≤◌, ℕ, eqb, List, [], ◌∷◌, ◌++◌, length, length-append, arith, Some, None, refl, sym, ap, ◌∙◌, subst}
-use Rattle.rk_entry.specs.Lawful.{IsLawfulEntry}
-use Rattle.rk_entry.specs.declared.entry.Entry.{Entry}
-use Rattle.rk_log.specs.Log.{Log, with_entry}
-use Rattle.rk_transfer.specs.Handover.{joined}
-use Rattle.rk_transfer.specs.declared.handover.Handover.{Handover}
+use Rattle.rk_master.proofs.Words.{◌≡◌, ◌≤◌, ℕ, eqb, List, [], ◌∷◌, ◌++◌, length, length-append, arith, Some, None, refl, sym, ap, ◌∙◌}
+use Rattle.rk_master.proofs.Words.{subst, IsLawfulEntry, Entry, Log, with_entry, joined, Handover, Master, with_handover, TabletLane}
+use Rattle.rk_master.proofs.Words.{IsClosable, tablet_of, Row, AreSpelled, master_of}
 use Rattle.rk_transfer.specs.declared.role.Role.TheVariants as roles
-use Rattle.rk_world.specs.Master.{Master}
-use Rattle.rk_world.specs.Tablet.{with_handover}
-use Rattle.rk_master.specs.declared.tablet_lane.TabletLane.{TabletLane}
-use Rattle.rk_master.specs.Parts.{IsClosable, tablet_of}
-use Rattle.rk_master.specs.Places.{Row}
-use Rattle.rk_master.specs.Sides.{AreSpelled}
-use Rattle.rk_master.specs.State.{master_of}
 use Rattle.rk_master.proofs.Closable.{closable_in, lawful_read}
 use Rattle.rk_master.proofs.Receiving.{closes_made, none_sealed, read_there, some_sealed, waits_made}
 use Rattle.rk_master.proofs.pulled.end_at.Goals as goal

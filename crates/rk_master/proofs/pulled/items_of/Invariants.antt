@@ -1,5 +1,4 @@
-use Rattle.std.proofs.Common.{◌≡◌, take}
-use Rattle.rk_world.specs.Ends.{items_of}
+use Rattle.rk_master.proofs.Words.{◌≡◌, take, items_of}
 use Rattle.rk_master.proofs.pulled.items_of.Given as goal
 
 abbrev pub invariant-loop-entry : goal.invariant-loop-entry

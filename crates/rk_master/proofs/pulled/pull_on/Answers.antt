@@ -1,8 +1,4 @@
-use Rattle.std.proofs.Common.{ℕ, sym, subst, ◌∙◌}
-use Rattle.std.specs.List.{All}
-use Rattle.rk_entry.specs.Lawful.{IsLawfulHeld}
-use Rattle.rk_world.specs.Master.{Master}
-use Rattle.rk_master.specs.State.{master_of}
+use Rattle.rk_master.proofs.Words.{ℕ, sym, subst, ◌∙◌, All, IsLawfulHeld, Master, master_of}
 use Rattle.rk_master.proofs.Receiving.{batch_last, batch_more}
 use Rattle.rk_master.proofs.pulled.pull_on.Goals as goal
 

@@ -1,20 +1,8 @@
-use Rattle.std.proofs.Common.{◌≡◌, ◌<◌, ◌&&◌, true, false, Bool, ℕ, List, [], length, get_or, sym, ap, subst, ◌∙◌}
-use Rattle.rk_types.specs.declared.held.Held.{Held}
-use Rattle.std.specs.List.{All}
-use Rattle.rk_entry.specs.Lawful.{IsLawfulHeld}
-use Rattle.rk_priority.specs.Hashes.{is_batch}
-use Rattle.rk_side_log.specs.Replayed.{Replayed, side_replayed}
-use Rattle.rk_bucket_table.specs.Tables.{items_of as records_of}
-use Rattle.rk_types.specs.NumberMap.{NumberMap}
-use Rattle.rk_world.specs.Master.{Master}
+use Rattle.rk_master.proofs.Words.{◌≡◌, ◌<◌, ◌&&◌, true, false, Bool, ℕ, List, [], length, get_or, sym, ap, subst, ◌∙◌, Held, All}
+use Rattle.rk_master.proofs.Words.{IsLawfulHeld, is_batch, Replayed, side_replayed, records_of, NumberMap, Master, Tablet, changed}
+use Rattle.rk_master.proofs.Words.{TabletLane, IsClosable, tablet_of, Row, with_side, master_of}
 use Rattle.rk_world.specs.RoleTests.{is_receiving_at}
-use Rattle.rk_world.specs.Tablet.{Tablet}
-use Rattle.rk_world.specs.Worked.{changed}
-use Rattle.rk_master.specs.declared.tablet_lane.TabletLane.{TabletLane}
-use Rattle.rk_master.specs.Parts.{IsClosable, tablet_of}
-use Rattle.rk_master.specs.Places.{Row}
-use Rattle.rk_master.specs.Pulls.{with_resolved, with_side}
-use Rattle.rk_master.specs.State.{master_of}
+use Rattle.rk_master.specs.Pulls.{with_resolved}
 use Rattle.rk_master.proofs.Closable.{lawful_read}
 use Rattle.rk_master.proofs.Handovers.{tablet_read}
 use Rattle.rk_master.proofs.Receiving.{closable_read, got_failed, got_made, got_resolved, not_resolved, same_tablets}

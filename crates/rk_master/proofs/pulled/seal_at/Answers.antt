@@ -1,24 +1,9 @@
-use Rattle.std.proofs.Common.{◌≡◌, ◌+◌, ◌≤◌, List, length, map, refl, sym, ap, ◌∙◌, subst}
-use Rattle.std.specs.Int.{w64}
-use Rattle.rk_entry.specs.Ends.{IsLawfulRange}
-use Rattle.rk_entry.specs.Lawful.{IsLawfulEntry}
-use Rattle.rk_entry.specs.Numbers.{IsNumber}
-use Rattle.rk_entry.specs.declared.lists.TheConstants.{FIRST_SIDE_SEGMENT}
-use Rattle.rk_log.specs.Log.{Log}
+use Rattle.rk_master.proofs.Words.{◌≡◌, ◌+◌, ◌≤◌, List, length, map, refl, sym, ap, ◌∙◌, subst, w64, IsLawfulRange, IsLawfulEntry, IsNumber}
+use Rattle.rk_master.proofs.Words.{FIRST_SIDE_SEGMENT, Log, spelled_items, Held, Master, Tablet, joined_entry, TabletLane, AreStagedFrom}
+use Rattle.rk_master.proofs.Words.{tablet_of, Row, with_sides, AreSpelled, master_of}
 use Rattle.rk_side_log.proofs.CutItems.{sealed_lawful}
-use Rattle.rk_side_log.specs.Spelled.{spelled_items}
-use Rattle.rk_types.specs.declared.held.Held.{Held}
-use Rattle.rk_world.specs.Master.{Master}
 use Rattle.rk_world.specs.SideLogs.{sealed_sides}
-use Rattle.rk_world.specs.Tablet.{Tablet}
-use Rattle.rk_world.specs.Waiting.{joined_entry}
-use Rattle.rk_master.specs.declared.tablet_lane.TabletLane.{TabletLane}
-use Rattle.rk_master.specs.Kept.{AreStagedFrom}
-use Rattle.rk_master.specs.Parts.{tablet_of}
-use Rattle.rk_master.specs.Places.{Row}
-use Rattle.rk_master.specs.Pulls.{with_sealed, with_sides}
-use Rattle.rk_master.specs.Sides.{AreSpelled}
-use Rattle.rk_master.specs.State.{master_of}
+use Rattle.rk_master.specs.Pulls.{with_sealed}
 use Rattle.rk_master.proofs.Closable.{closable_as, lawful_read}
 use Rattle.rk_master.proofs.Handovers.{at_set}
 use Rattle.rk_master.proofs.Receiving.{closable_read, closes_set, joined_lawful, names_itself, pulls_still, read_there, sealing_made, spelled_added}

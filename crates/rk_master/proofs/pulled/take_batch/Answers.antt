@@ -1,14 +1,8 @@
-use Rattle.std.proofs.Common.{◌≡◌, ◌%◌, ℕ, List, [], get_or, sym, ap, ◌∙◌, subst}
-use Rattle.rk_side_log.specs.Replayed.{Replayed, side_replayed}
-use Rattle.rk_bucket_table.specs.Tables.{items_of as records_of}
-use Rattle.rk_world.specs.Master.{Master}
+use Rattle.rk_master.proofs.Words.{◌≡◌, ℕ, List, [], get_or, sym, ap, ◌∙◌, subst, Replayed, side_replayed, records_of, Master, Tablet}
+use Rattle.rk_master.proofs.Words.{TabletLane, IsClosable, tablet_of, Row, with_side, master_of}
+use Rattle.std.proofs.Common.{◌%◌}
 use Rattle.rk_world.specs.Pulls.{replay, token_passed}
-use Rattle.rk_world.specs.Tablet.{Tablet}
-use Rattle.rk_master.specs.declared.tablet_lane.TabletLane.{TabletLane}
-use Rattle.rk_master.specs.Parts.{IsClosable, tablet_of}
-use Rattle.rk_master.specs.Places.{Row}
-use Rattle.rk_master.specs.Pulls.{with_side, with_token}
-use Rattle.rk_master.specs.State.{master_of}
+use Rattle.rk_master.specs.Pulls.{with_token}
 use Rattle.rk_master.proofs.Closable.{lawful_read}
 use Rattle.rk_master.proofs.Handovers.{at_set, tablet_read}
 use Rattle.rk_master.proofs.Receiving.{batch_made, closable_read, pulls_still}

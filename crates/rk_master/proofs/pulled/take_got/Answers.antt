@@ -1,12 +1,6 @@
-use Rattle.std.proofs.Common.{List, ◌&&◌, ap, refl, sym, subst, ◌∙◌}
-use Rattle.rk_world.specs.Master.{Master}
+use Rattle.rk_master.proofs.Words.{List, ◌&&◌, ap, refl, sym, subst, ◌∙◌, Master, Tablet, no_tablet, is_batch, tablet_of, IsAt, Row}
+use Rattle.rk_master.proofs.Words.{master_of}
 use Rattle.rk_world.specs.RoleTests.{is_receiving_at}
-use Rattle.rk_world.specs.Tablet.{Tablet, no_tablet}
-use Rattle.rk_priority.specs.Hashes.{is_batch}
-use Rattle.rk_master.specs.Parts.{tablet_of}
-use Rattle.rk_types.specs.Places.{IsAt}
-use Rattle.rk_master.specs.Places.{Row}
-use Rattle.rk_master.specs.State.{master_of}
 use Rattle.rk_master.proofs.Handovers.{none_lent, tablet_read, worked_quietly}
 use Rattle.rk_master.proofs.Receiving.{got_failed}
 use Rattle.rk_master.proofs.pulled.take_got.Goals as goal

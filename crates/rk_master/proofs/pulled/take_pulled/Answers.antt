@@ -1,11 +1,5 @@
-use Rattle.std.proofs.Common.{List, refl, sym, subst, ◌∙◌}
-use Rattle.rk_world.specs.Master.{Master}
-use Rattle.rk_master.specs.Parts.{tablet_of}
-use Rattle.rk_types.specs.Places.{IsAt}
-use Rattle.rk_master.specs.Places.{Row}
-use Rattle.rk_master.specs.State.{master_of}
+use Rattle.rk_master.proofs.Words.{List, refl, sym, subst, ◌∙◌, Master, tablet_of, IsAt, Row, master_of, no_tablet}
 use Rattle.rk_master.proofs.Handovers.{none_lent, tablet_read, worked_quietly}
-use Rattle.rk_world.specs.Tablet.{no_tablet}
 use Rattle.rk_master.proofs.Receiving.{awaits_pulls, pulled_failed, pulled_made}
 use Rattle.rk_master.proofs.pulled.take_pulled.Goals as goal
 

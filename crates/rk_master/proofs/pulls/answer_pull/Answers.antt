@@ -1,9 +1,5 @@
-use Rattle.std.proofs.Common.{[], ◌∷◌, ◌++◌, sym, ◌∙◌}
-use Rattle.rk_world.specs.Master.{Master}
-use Rattle.rk_master.specs.Parts.{tablet_of}
-use Rattle.rk_master.specs.Places.{Row}
+use Rattle.rk_master.proofs.Words.{[], ◌∷◌, ◌++◌, sym, ◌∙◌, Master, tablet_of, Row, master_of}
 use Rattle.rk_master.specs.Pulls.{batch_answer}
-use Rattle.rk_master.specs.State.{master_of}
 use Rattle.rk_master.proofs.Answering.{pull_answered, pull_ignored}
 use Rattle.rk_master.proofs.Handovers.{tablet_read, worked_quietly, worked_sending}
 use Rattle.rk_master.proofs.pulls.answer_pull.Goals as goal

@@ -1,6 +1,4 @@
-use Rattle.std.proofs.Common.{◌≡◌, ◌++◌}
-use Rattle.std.specs.Vec.Iter.{into_iter_items}
-use Rattle.rk_world.specs.Material.{as_entries}
+use Rattle.rk_master.proofs.Words.{◌≡◌, ◌++◌, into_iter_items, as_entries}
 use Rattle.rk_master.proofs.pulls.entries_of.Given as goal
 
 abbrev pub invariant-loop-item : goal.invariant-loop-item

@@ -1,9 +1,4 @@
-use Rattle.std.proofs.Common.{List, refl, subst, ◌∙◌}
-use Rattle.rk_world.specs.Master.{Master}
-use Rattle.rk_world.specs.Tablet.{no_tablet}
-use Rattle.rk_types.specs.Places.{IsAt}
-use Rattle.rk_master.specs.Places.{Row}
-use Rattle.rk_master.specs.State.{master_of}
+use Rattle.rk_master.proofs.Words.{List, refl, subst, ◌∙◌, Master, no_tablet, IsAt, Row, master_of}
 use Rattle.rk_master.proofs.Answering.{pull_ignored}
 use Rattle.rk_master.proofs.Handovers.{none_lent, worked_quietly}
 use Rattle.rk_master.proofs.pulls.take_pull.Goals as goal

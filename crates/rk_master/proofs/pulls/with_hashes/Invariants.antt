@@ -1,7 +1,5 @@
-use Rattle.std.proofs.Common.{◌≡◌, take}
-use Rattle.std.specs.List.{flat_map}
+use Rattle.rk_master.proofs.Words.{◌≡◌, take, flat_map, records_of}
 use Rattle.rk_table.specs.Items.{at_hash, live_in}
-use Rattle.rk_bucket_table.specs.Tables.{items_of as records_of}
 use Rattle.rk_master.proofs.pulls.with_hashes.Given as goal
 
 abbrev pub invariant-loop-hash : goal.invariant-loop-hash

@@ -1,17 +1,8 @@
-use Rattle.std.proofs.Common.{◌≡◌, List, map, sym, ap, ◌∙◌, subst}
-use Rattle.std.proofs.lemmas.List.{with_items_is}
+use Rattle.rk_master.proofs.Words.{◌≡◌, List, map, sym, ap, ◌∙◌, subst, with_items_is, IsInOrder, insert, Handover, Master, is_gathering}
+use Rattle.rk_master.proofs.Words.{Tablet, AreTablets, changing, given_up_but, tablet_in, tablets_of, Row, with_gather, master_of}
 use Rattle.std.specs.Vec.{with_items}
-use Rattle.rk_types.specs.NumberMap.{IsInOrder, insert}
 use Rattle.rk_transfer.specs.Handover.{rebuilt}
-use Rattle.rk_transfer.specs.declared.handover.Handover.{Handover}
 use Rattle.rk_world.specs.Gather.{gather_begun}
-use Rattle.rk_world.specs.Master.{Master}
-use Rattle.rk_world.specs.RoleTests.{is_gathering}
-use Rattle.rk_world.specs.Tablet.{Tablet}
-use Rattle.rk_master.specs.Parts.{AreTablets, changing, given_up_but, tablet_in, tablets_of}
-use Rattle.rk_master.specs.Places.{Row}
-use Rattle.rk_master.specs.Rebuilding.{with_gather}
-use Rattle.rk_master.specs.State.{master_of}
 use Rattle.rk_master.proofs.Handovers.{has_moved}
 use Rattle.rk_master.proofs.Receiving.{order_tablets}
 use Rattle.rk_master.proofs.Rebuilt.{begins_so, begun_role, begun_so, handed_tablet, handed_there}

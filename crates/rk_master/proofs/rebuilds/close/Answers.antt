@@ -1,21 +1,10 @@
-use Rattle.std.proofs.Common.{◌≡◌, ◌≤◌, ℕ, List, length, set, Some, refl, sym, ap, ◌∙◌, subst, arith}
-use Rattle.std.specs.List.{All}
-use Rattle.rk_types.specs.NumberMap.{insert}
-use Rattle.rk_entry.specs.Lawful.{IsLawfulEntry, IsLawfulHeld}
-use Rattle.rk_log.specs.Log.{Log, with_entry}
+use Rattle.rk_master.proofs.Words.{◌≡◌, ◌≤◌, ℕ, List, length, set, Some, refl, sym, ap, ◌∙◌, subst, arith, All, insert, IsLawfulEntry}
+use Rattle.rk_master.proofs.Words.{IsLawfulHeld, Log, with_entry, Master, is_gathering, Tablet, TabletLane, tablet_in, tablet_of}
+use Rattle.rk_master.proofs.Words.{tablets_of, Row, with_items, AreSpelled, master_of}
 use Rattle.rk_transfer.specs.Handover.{carried}
-use Rattle.rk_world.specs.Master.{Master}
 use Rattle.rk_world.specs.Rebuilds.{merged_at, rebuilt_entry}
-use Rattle.rk_world.specs.RoleTests.{is_gathering}
-use Rattle.rk_world.specs.Tablet.{Tablet}
 use Rattle.rk_world.specs.declared.work.Mark.{Mark}
 use Rattle.rk_world.specs.declared.work.Merged.{Merged}
-use Rattle.rk_master.specs.declared.tablet_lane.TabletLane.{TabletLane}
-use Rattle.rk_master.specs.Parts.{tablet_in, tablet_of, tablets_of}
-use Rattle.rk_master.specs.Places.{Row}
-use Rattle.rk_master.specs.Rebuilding.{with_items}
-use Rattle.rk_master.specs.Sides.{AreSpelled}
-use Rattle.rk_master.specs.State.{master_of}
 use Rattle.rk_master.proofs.Closable.{closable_else, lawful_read}
 use Rattle.rk_master.proofs.Handovers.{changed_read, tablet_read}
 use Rattle.rk_master.proofs.Rebuilt.{carried_stays, closes_so, closing_lawful, copies_lawful, items_longer, log_closes, not_joining, not_receiving, one_longer}

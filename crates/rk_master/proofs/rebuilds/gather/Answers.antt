@@ -1,10 +1,5 @@
-use Rattle.std.proofs.Common.{List, sym, ap, ◌∙◌, subst}
-use Rattle.rk_world.specs.Tablet.{Tablet}
-use Rattle.rk_master.specs.declared.tablet_lane.TabletLane.{TabletLane}
-use Rattle.rk_types.specs.Places.{IsAt}
-use Rattle.rk_master.specs.Places.{Row}
+use Rattle.rk_master.proofs.Words.{List, sym, ap, ◌∙◌, subst, Tablet, TabletLane, IsAt, Row, master_of}
 use Rattle.rk_master.specs.Rebuilding.{is_awaiting}
-use Rattle.rk_master.specs.State.{master_of}
 use Rattle.rk_master.proofs.Closable.{lawful_read}
 use Rattle.rk_master.proofs.Handovers.{none_lent, tablet_read}
 use Rattle.rk_master.proofs.Rebuilt.{closable_same, gathered_at, ignored_at}

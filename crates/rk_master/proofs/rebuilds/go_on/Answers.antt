@@ -1,16 +1,6 @@
-use Rattle.std.proofs.Common.{◌≡◌, List, refl, sym, ap, ◌∙◌, subst}
-use Rattle.std.specs.Prelude.{IfOk}
+use Rattle.rk_master.proofs.Words.{◌≡◌, List, refl, sym, ap, ◌∙◌, subst, IfOk, Master, is_gathering, Tablet, no_tablet, Worked, Work}
+use Rattle.rk_master.proofs.Words.{tablet_of, worked_of, IsAt, Row, CanBeSpelled, master_of}
 use Rattle.rk_world.specs.Gather.{next_reading}
-use Rattle.rk_world.specs.Master.{Master}
-use Rattle.rk_world.specs.RoleTests.{is_gathering}
-use Rattle.rk_world.specs.Tablet.{Tablet, no_tablet}
-use Rattle.rk_world.specs.Worked.{Worked}
-use Rattle.rk_master.specs.declared.work.Worked.{Worked as Work}
-use Rattle.rk_master.specs.Parts.{tablet_of, worked_of}
-use Rattle.rk_types.specs.Places.{IsAt}
-use Rattle.rk_master.specs.Places.{Row}
-use Rattle.rk_master.specs.Rebuilding.{CanBeSpelled}
-use Rattle.rk_master.specs.State.{master_of}
 use Rattle.rk_master.proofs.Handovers.{none_lent, tablet_read, worked_quietly}
 use Rattle.rk_master.proofs.Rebuilt.{goes_on_so, is_gathering_so, stays_so}
 use Rattle.rk_master.proofs.rebuilds.go_on.Goals as goal

@@ -1,7 +1,4 @@
-use Rattle.std.proofs.Common.{sym, subst}
-use Rattle.rk_world.specs.Worked.{Worked}
-use Rattle.rk_master.specs.Rebuilding.{CanBeSpelled}
-use Rattle.rk_master.specs.State.{master_of}
+use Rattle.rk_master.proofs.Words.{sym, subst, Worked, CanBeSpelled, master_of}
 use Rattle.rk_master.proofs.Rebuilt.{copy_gathered}
 use Rattle.rk_master.proofs.rebuilds.take_copy.Goals as goal
 

@@ -1,13 +1,5 @@
-use Rattle.std.proofs.Common.{◌≡◌, ◌<◌, true, List, ap, sym, ◌∙◌, subst}
-use Rattle.std.specs.List.{list_all}
-use Rattle.rk_transfer.specs.declared.handover.Handover.{Handover}
-use Rattle.rk_world.specs.Handovers.{is_above}
-use Rattle.rk_world.specs.Master.{Master, tablet_at}
-use Rattle.rk_world.specs.Worked.{Worked}
-use Rattle.rk_master.specs.Parts.{tablet_in, tablets_of}
-use Rattle.rk_master.specs.Places.{Row}
-use Rattle.rk_master.specs.Rebuilding.{CanBeSpelled}
-use Rattle.rk_master.specs.State.{master_of}
+use Rattle.rk_master.proofs.Words.{◌≡◌, ◌<◌, true, List, ap, sym, ◌∙◌, subst, list_all, Handover, is_above, Master, tablet_at, Worked}
+use Rattle.rk_master.proofs.Words.{tablet_in, tablets_of, Row, CanBeSpelled, master_of}
 use Rattle.rk_master.proofs.Rebuilt.{rebuild_made}
 use Rattle.rk_master.proofs.rebuilds.take_rebuild.Goals as goal
 

@@ -1,14 +1,7 @@
-use Rattle.std.proofs.Common.{◌≡◌, List, subst, sym}
-use Rattle.std.specs.Prelude.{IsSome, IfOk}
-use Rattle.std.proofs.lemmas.Result.{IfOk-weaker}
-use Rattle.rk_types.specs.NumberMap.{get}
+use Rattle.rk_master.proofs.Words.{◌≡◌, List, subst, sym, IsSome, IfOk, IfOk-weaker, get, IsFit, tablets_of, worked_of, Row, master_of}
 use Rattle.rk_world.specs.declared.choice.Choice.{Choice}
 use Rattle.rk_world.specs.declared.choice.Choice.TheVariants.{Reads}
 use Rattle.rk_world.specs.Requests.{chosen}
-use Rattle.rk_master.specs.Choices.{IsFit}
-use Rattle.rk_master.specs.Parts.{tablets_of, worked_of}
-use Rattle.rk_master.specs.Places.{Row}
-use Rattle.rk_master.specs.State.{master_of}
 use Rattle.rk_master.proofs.Places.{there_too}
 use Rattle.rk_master.proofs.requests.carry_out.Goals as goal
 

@@ -1,8 +1,5 @@
-use Rattle.std.proofs.Common.{subst, sym, ◌∙◌, ap}
-use Rattle.rk_types.specs.declared.call.Call.{Call}
-use Rattle.rk_world.specs.Requests.{call_of, choice_of}
-use Rattle.rk_master.specs.Choices.{IsFit}
-use Rattle.rk_master.specs.State.{master_of}
+use Rattle.rk_master.proofs.Words.{subst, sym, ◌∙◌, ap, Call, choice_of, IsFit, master_of}
+use Rattle.rk_world.specs.Requests.{call_of}
 use Rattle.rk_master.proofs.Fitting.{choice_fits}
 use Rattle.rk_master.proofs.requests.take_request.Goals as goal
 

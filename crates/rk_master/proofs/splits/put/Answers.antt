@@ -1,10 +1,5 @@
-use Rattle.std.proofs.Common.{List, set, sym, ap, ◌∙◌, subst}
-use Rattle.std.specs.List.{insert as insert_at}
-use Rattle.rk_master.specs.declared.tablet_lane.TabletLane.{TabletLane}
-use Rattle.rk_master.specs.Parts.{AreClosable, AreTablets, tablet_of, tablets_of}
-use Rattle.rk_types.specs.Places.{IsAt, IsBetween}
-use Rattle.rk_master.specs.Places.{Row}
-use Rattle.rk_world.specs.Tablet.{Tablet}
+use Rattle.rk_master.proofs.Words.{List, set, sym, ap, ◌∙◌, subst, insert_at, TabletLane, AreClosable, AreTablets, tablet_of, tablets_of}
+use Rattle.rk_master.proofs.Words.{IsAt, IsBetween, Row, Tablet}
 use Rattle.rk_master.proofs.Closable.{closable_insert, lawful_read}
 use Rattle.rk_master.proofs.Places.{added_between, added_order, changed_so}
 use Rattle.rk_master.proofs.splits.put.Goals as goal

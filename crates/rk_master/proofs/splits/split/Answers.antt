@@ -1,15 +1,8 @@
-use Rattle.std.proofs.Common.{◌≡◌, ℕ, true, false, List, sym, ap, subst, ◌∙◌}
-use Rattle.rk_types.specs.NumberMap.{NumberMap, insert}
-use Rattle.rk_transfer.specs.declared.handover.Handover.{Handover}
+use Rattle.rk_master.proofs.Words.{◌≡◌, ℕ, true, false, List, sym, ap, subst, ◌∙◌, NumberMap, insert, Handover, Master, Tablet, no_tablet}
+use Rattle.rk_master.proofs.Words.{with_handover, without_merged, IsClosable, tablet_in, tablet_of, tablets_of, IsAt, Row, master_of}
 use Rattle.rk_transfer.specs.declared.role.Role.TheVariants as roles
-use Rattle.rk_world.specs.Master.{Master}
 use Rattle.rk_world.specs.Ranges.{range_below, range_from}
 use Rattle.rk_world.specs.Splits.{with_half}
-use Rattle.rk_world.specs.Tablet.{Tablet, no_tablet, with_handover, without_merged}
-use Rattle.rk_master.specs.Parts.{IsClosable, tablet_in, tablet_of, tablets_of}
-use Rattle.rk_types.specs.Places.{IsAt}
-use Rattle.rk_master.specs.Places.{Row}
-use Rattle.rk_master.specs.State.{master_of}
 use Rattle.rk_master.proofs.Closable.{closable_else}
 use Rattle.rk_master.proofs.Halves.{nothing_parts, parts_some, split_is}
 use Rattle.rk_master.proofs.Handovers.{none_lent, tablet_read}

@@ -1,5 +1,4 @@
-use Rattle.std.proofs.Common.{subst, sym, ◌∙◌}
-use Rattle.rk_master.specs.Counts.{IsCounted}
+use Rattle.rk_master.proofs.Words.{subst, sym, ◌∙◌, IsCounted}
 use Rattle.rk_master.proofs.Counting.{counted_removed}
 use Rattle.rk_master.proofs.staged_calls.remove.Goals as goal
 

@@ -1,5 +1,4 @@
-use Rattle.std.proofs.Common.{◌<◌, arith}
-use Rattle.rk_world.specs.Ends.{items_of}
+use Rattle.rk_master.proofs.Words.{◌<◌, arith, items_of}
 use Rattle.rk_master.proofs.Keeping.{kept_none, kept_newer, is_named}
 use Rattle.rk_master.proofs.staged_entries.left.Goals as goal
 

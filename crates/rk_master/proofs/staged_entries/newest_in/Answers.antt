@@ -1,7 +1,4 @@
-use Rattle.std.proofs.Common.{◌≡◌, List, [], ◌++◌, refl, ap, ◌∙◌}
-use Rattle.rk_entry.specs.declared.entry.Entry.{Entry}
-use Rattle.rk_overlay.specs.Newest.{newest}
-use Rattle.rk_world.specs.Ends.{items_of}
+use Rattle.rk_master.proofs.Words.{◌≡◌, List, [], ◌++◌, refl, ap, ◌∙◌, Entry, newest, items_of}
 use Rattle.rk_master.proofs.staged_entries.newest_in.Goals as goal
 
 pub returns : goal.returns

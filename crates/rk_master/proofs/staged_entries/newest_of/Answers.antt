@@ -1,9 +1,5 @@
-use Rattle.std.proofs.Common.{◌≡◌, ◌+◌, List, [], ◌∷◌, ◌++◌, take, append_assoc, sym, ap, ◌∙◌}
-use Rattle.std.specs.Option.{option_copied}
+use Rattle.rk_master.proofs.Words.{◌≡◌, ◌+◌, List, [], ◌∷◌, ◌++◌, take, append_assoc, sym, ap, ◌∙◌, option_copied, Entry, newest, items_of}
 use Rattle.std.proofs.lemmas.List.{take_more}
-use Rattle.rk_entry.specs.declared.entry.Entry.{Entry}
-use Rattle.rk_overlay.specs.Newest.{newest}
-use Rattle.rk_world.specs.Ends.{items_of}
 use Rattle.rk_master.proofs.Keeping.{newest_pushed}
 use Rattle.rk_master.proofs.staged_entries.newest_of.Goals as goal
 

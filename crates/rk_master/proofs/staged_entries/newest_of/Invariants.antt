@@ -1,8 +1,4 @@
-use Rattle.std.proofs.Common.{◌≡◌, List, ◌++◌, take}
-use Rattle.std.specs.Option.{option_copied}
-use Rattle.rk_entry.specs.declared.entry.Entry.{Entry}
-use Rattle.rk_overlay.specs.Newest.{newest}
-use Rattle.rk_world.specs.Ends.{items_of}
+use Rattle.rk_master.proofs.Words.{◌≡◌, List, ◌++◌, take, option_copied, Entry, newest, items_of}
 use Rattle.rk_master.proofs.staged_entries.newest_of.Given as goal
 
 abbrev pub invariant-loop-entry : goal.invariant-loop-entry

@@ -1,6 +1,4 @@
-use Rattle.std.proofs.Common.{◌≡◌, ℕ, ◌≤◌, length}
-use Rattle.rk_master.specs.Kept.{AreStagedFrom}
-use Rattle.rk_master.specs.Rebuilding.{with_items}
+use Rattle.rk_master.proofs.Words.{◌≡◌, ℕ, ◌≤◌, length, AreStagedFrom, with_items}
 use Rattle.rk_master.proofs.staging.append_items.Given as goal
 
 -- the items so far are at the end of the log, and staged

@@ -1,7 +1,4 @@
-use Rattle.std.proofs.Common.{◌≤◌, List, [], ◌∷◌, ◌++◌, length, length-append, sym, ap, ◌∙◌, subst, arith}
-use Rattle.rk_entry.specs.declared.entry.Entry.{Entry}
-use Rattle.rk_log.specs.Log.{Log}
-use Rattle.rk_master.specs.Sides.{AreSpelled}
+use Rattle.rk_master.proofs.Words.{◌≤◌, List, [], ◌∷◌, ◌++◌, length, length-append, sym, ap, ◌∙◌, subst, arith, Entry, Log, AreSpelled}
 use Rattle.rk_master.proofs.staging.stage.Goals as goal
 
 pub returns-clause-state : goal.returns-clause-state

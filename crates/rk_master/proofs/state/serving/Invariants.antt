@@ -1,7 +1,4 @@
-use Rattle.std.proofs.Common.{◌≡◌, drop}
-use Rattle.std.specs.List.{find}
-use Rattle.rk_world.specs.Master.{serves_key}
-use Rattle.rk_master.specs.Parts.{tablets_of}
+use Rattle.rk_master.proofs.Words.{◌≡◌, drop, find, serves_key, tablets_of}
 use Rattle.rk_master.proofs.state.serving.Given as goal
 
 abbrev pub invariant-loop-entry : goal.invariant-loop-entry

@@ -1,6 +1,5 @@
-use Rattle.std.proofs.Common.{◌≡◌, map, take}
+use Rattle.rk_master.proofs.Words.{◌≡◌, map, take, tablets_of}
 use Rattle.rk_world.specs.World.{greatest}
-use Rattle.rk_master.specs.Parts.{tablets_of}
 use Rattle.rk_master.proofs.sums.greatest_counter.Given as goal
 
 abbrev pub invariant-loop-entry : goal.invariant-loop-entry

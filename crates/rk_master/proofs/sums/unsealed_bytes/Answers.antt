@@ -1,7 +1,5 @@
-use Rattle.std.proofs.Common.{◌≡◌, ℕ, ◌+◌, ◌-◌, ◌^◌, List, drop, min, sym, ap, ◌∙◌, arith}
+use Rattle.rk_master.proofs.Words.{◌≡◌, ℕ, ◌+◌, ◌-◌, ◌^◌, List, drop, min, sym, ap, ◌∙◌, arith, tablet_of, Row}
 use Rattle.rk_world.specs.Master.{unsealed_bytes}
-use Rattle.rk_master.specs.Parts.{tablet_of}
-use Rattle.rk_master.specs.Places.{Row}
 use Rattle.rk_master.proofs.Unsealed.{stopped_last, stopped_next, unsealed_next, unsealed_none, unsealed_of}
 use Rattle.rk_master.proofs.sums.unsealed_bytes.Goals as goal
 

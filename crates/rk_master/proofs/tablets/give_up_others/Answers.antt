@@ -1,6 +1,4 @@
-use Rattle.std.proofs.Common.{◌<◌, ℕ, List, length, get_or, arith, sym, ◌∙◌, subst}
-use Rattle.rk_master.specs.Parts.{IsClosable, given_up_but, tablet_of}
-use Rattle.rk_master.specs.Places.{Row}
+use Rattle.rk_master.proofs.Words.{◌<◌, ℕ, List, length, get_or, arith, sym, ◌∙◌, subst, IsClosable, given_up_but, tablet_of, Row}
 use Rattle.rk_master.proofs.Closable.{closable_at, lawful_set, given_up_closable}
 use Rattle.rk_master.proofs.Places.{changed_next}
 use Rattle.rk_master.proofs.tablets.give_up_others.Goals as goal

@@ -1,5 +1,4 @@
-use Rattle.std.proofs.Common.{◌≡◌, map}
-use Rattle.rk_master.specs.Parts.{AreTablets, changing, given_up_but, tablets_of}
+use Rattle.rk_master.proofs.Words.{◌≡◌, map, AreTablets, changing, given_up_but, tablets_of}
 use Rattle.rk_master.proofs.Places.{changed_from}
 use Rattle.rk_master.proofs.tablets.give_up_others.Given as goal
 

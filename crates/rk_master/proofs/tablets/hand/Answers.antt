@@ -1,11 +1,5 @@
-use Rattle.std.proofs.Common.{List, set, sym, ap, ◌∙◌, subst}
-use Rattle.rk_types.specs.NumberMap.{insert}
-use Rattle.rk_transfer.specs.declared.handover.Handover.{Handover}
-use Rattle.rk_world.specs.Tablet.{Tablet, with_handover, without_merged}
-use Rattle.rk_master.specs.declared.tablet_lane.TabletLane.{TabletLane}
-use Rattle.rk_master.specs.Parts.{IsClosable, tablet_of, tablets_of}
-use Rattle.rk_types.specs.Places.{IsAt, IsBetween}
-use Rattle.rk_master.specs.Places.{Row}
+use Rattle.rk_master.proofs.Words.{List, set, sym, ap, ◌∙◌, subst, insert, Handover, Tablet, with_handover, without_merged, TabletLane}
+use Rattle.rk_master.proofs.Words.{IsClosable, tablet_of, tablets_of, IsAt, IsBetween, Row}
 use Rattle.rk_master.proofs.Closable.{closable_else, lawful_read}
 use Rattle.rk_master.proofs.Places.{changed_so, none_there}
 use Rattle.rk_master.proofs.tablets.hand.Goals as goal

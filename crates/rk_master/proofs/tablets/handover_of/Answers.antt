@@ -1,5 +1,4 @@
-use Rattle.std.proofs.Common.{sym, ap}
-use Rattle.rk_world.specs.Tablet.{Tablet}
+use Rattle.rk_master.proofs.Words.{sym, ap, Tablet}
 use Rattle.rk_master.proofs.Places.{none_there, tablet_there}
 use Rattle.rk_master.proofs.tablets.handover_of.Goals as goal
 

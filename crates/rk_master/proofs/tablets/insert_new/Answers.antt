@@ -1,9 +1,5 @@
-use Rattle.std.proofs.Common.{List, sym, ap, ◌∙◌, subst}
-use Rattle.std.specs.List.{insert as insert_at}
-use Rattle.rk_types.specs.NumberMap.{insert}
-use Rattle.rk_world.specs.Tablet.{no_tablet, with_handover}
-use Rattle.rk_master.specs.Parts.{tablet_of, tablets_of, IsClosable, AreClosable, AreTablets}
-use Rattle.rk_master.specs.Places.{Row}
+use Rattle.rk_master.proofs.Words.{List, sym, ap, ◌∙◌, subst, insert_at, insert, no_tablet, with_handover, tablet_of, tablets_of}
+use Rattle.rk_master.proofs.Words.{IsClosable, AreClosable, AreTablets, Row}
 use Rattle.rk_master.proofs.Closable.{closable_else, closable_insert}
 use Rattle.rk_master.proofs.Places.{added_between, added_order}
 use Rattle.rk_master.proofs.tablets.insert_new.Goals as goal

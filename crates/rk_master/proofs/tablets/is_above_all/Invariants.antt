@@ -1,7 +1,4 @@
-use Rattle.std.proofs.Common.{◌≡◌, drop}
-use Rattle.std.specs.List.{list_all}
-use Rattle.rk_world.specs.Handovers.{is_above}
-use Rattle.rk_master.specs.Parts.{tablets_of}
+use Rattle.rk_master.proofs.Words.{◌≡◌, drop, list_all, is_above, tablets_of}
 use Rattle.rk_master.proofs.tablets.is_above_all.Given as goal
 
 abbrev pub invariant-loop-entry : goal.invariant-loop-entry

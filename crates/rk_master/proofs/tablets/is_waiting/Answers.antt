@@ -1,6 +1,5 @@
-use Rattle.std.proofs.Common.{sym, ap, ◌∙◌}
+use Rattle.rk_master.proofs.Words.{sym, ap, ◌∙◌, Tablet}
 use Rattle.rk_priority.specs.Hashes.{is_waiting}
-use Rattle.rk_world.specs.Tablet.{Tablet}
 use Rattle.rk_master.proofs.Places.{none_there, tablet_there}
 use Rattle.rk_master.proofs.tablets.is_waiting.Goals as goal
 

@@ -1,8 +1,5 @@
-use Rattle.std.proofs.Common.{List, ap, sym, ◌∙◌, subst}
-use Rattle.rk_world.specs.Tablet.{Tablet}
+use Rattle.rk_master.proofs.Words.{List, ap, sym, ◌∙◌, subst, Tablet, IsClosable, Row}
 use Rattle.rk_world.specs.Requests.{counted_up}
-use Rattle.rk_master.specs.Parts.{IsClosable}
-use Rattle.rk_master.specs.Places.{Row}
 use Rattle.rk_master.proofs.Closable.{closable_at, lawful_set}
 use Rattle.rk_master.proofs.Places.{tablet_there, changed_so}
 use Rattle.rk_master.proofs.tablets.next_version.Goals as goal

@@ -1,8 +1,5 @@
-use Rattle.std.proofs.Common.{List, sym, subst}
-use Rattle.rk_world.specs.Tablet.{Tablet}
+use Rattle.rk_master.proofs.Words.{List, sym, subst, Tablet, IsClosable, Row}
 use Rattle.rk_world.specs.Requests.{with_wanted}
-use Rattle.rk_master.specs.Parts.{IsClosable}
-use Rattle.rk_master.specs.Places.{Row}
 use Rattle.rk_master.proofs.Closable.{closable_at, lawful_set}
 use Rattle.rk_master.proofs.Places.{changed_so}
 use Rattle.rk_master.proofs.tablets.want.Goals as goal

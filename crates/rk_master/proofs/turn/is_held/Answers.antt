@@ -1,8 +1,5 @@
-use Rattle.std.proofs.Common.{◌+◌, [], Option, sym, ap, ◌∙◌}
+use Rattle.rk_master.proofs.Words.{◌+◌, [], Option, sym, ap, ◌∙◌, Master, append_of, master_of}
 use Rattle.rk_log.specs.Piece.{PlacedBytes}
-use Rattle.rk_world.specs.Master.{Master}
-use Rattle.rk_world.specs.MasterTurn.{append_of}
-use Rattle.rk_master.specs.State.{master_of}
 use Rattle.rk_master.proofs.Appends.{all_behind, all_sent, sent_next}
 use Rattle.rk_master.proofs.turn.is_held.Goals as goal
 

@@ -1,6 +1,5 @@
 -- What the backups that were looked at so far are sent is nothing.
-use Rattle.std.proofs.Common.{◌≡◌}
-use Rattle.rk_master.specs.State.{master_of}
+use Rattle.rk_master.proofs.Words.{◌≡◌, master_of}
 use Rattle.rk_master.proofs.Appends.{sent_behind}
 use Rattle.rk_master.proofs.turn.is_held.Given as goal
 

@@ -1,7 +1,4 @@
-use Rattle.std.proofs.Common.{◌++◌, ap, ◌∙◌, List}
-use Rattle.rk_message.specs.declared.message.Message.{Message}
-use Rattle.rk_world.specs.Master.{Master}
-use Rattle.rk_master.specs.State.{master_of}
+use Rattle.rk_master.proofs.Words.{◌++◌, ap, ◌∙◌, List, Message, Master, master_of}
 use Rattle.rk_master.proofs.Appends.{sent_next, all_sent, all_behind}
 use Rattle.rk_master.proofs.turn.send_pending.Goals as goal
 

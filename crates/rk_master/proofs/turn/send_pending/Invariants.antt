@@ -1,5 +1,4 @@
-use Rattle.std.proofs.Common.{◌≡◌, ◌++◌}
-use Rattle.rk_master.specs.State.{master_of}
+use Rattle.rk_master.proofs.Words.{◌≡◌, ◌++◌, master_of}
 use Rattle.rk_master.proofs.Appends.{sent_behind}
 use Rattle.rk_master.proofs.turn.send_pending.Given as goal
 

@@ -1,10 +1,5 @@
-use Rattle.std.proofs.Common.{[], ◌∷◌, ◌++◌, Option, refl, sym, ap, ◌∙◌}
-use Rattle.std.proofs.lemmas.List.{append-nil}
+use Rattle.rk_master.proofs.Words.{[], ◌∷◌, ◌++◌, Option, refl, sym, ap, ◌∙◌, append-nil, Message, Master, append_of, master_of}
 use Rattle.rk_log.specs.Piece.{PlacedBytes}
-use Rattle.rk_message.specs.declared.message.Message.{Message}
-use Rattle.rk_world.specs.Master.{Master}
-use Rattle.rk_world.specs.MasterTurn.{append_of}
-use Rattle.rk_master.specs.State.{master_of}
 use Rattle.rk_master.proofs.turn.send_to.Goals as goal
 
 pub returns-in_default-clause-sends : goal.returns-in_default-clause-sends

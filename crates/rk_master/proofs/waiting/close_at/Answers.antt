@@ -1,18 +1,8 @@
-use Rattle.std.proofs.Common.{◌≡◌, ◌≤◌, true, false, ℕ, arith, length-append, [], ◌∷◌, ◌++◌, List, length, Option, Some, sym, ap, ◌∙◌, subst}
-use Rattle.std.proofs.lemmas.Option.{slice_get-get_or}
-use Rattle.rk_entry.specs.Lawful.{IsLawfulEntry}
-use Rattle.rk_entry.specs.declared.entry.Entry.{Entry}
-use Rattle.rk_transfer.specs.Handover.{joined}
-use Rattle.rk_transfer.specs.declared.handover.Handover.{Handover}
-use Rattle.rk_transfer.specs.declared.role.Role.{Role}
+use Rattle.rk_master.proofs.Words.{◌≡◌, ◌≤◌, true, false, ℕ, arith, length-append, [], ◌∷◌, ◌++◌, List, length, Option, Some, sym, ap, ◌∙◌}
+use Rattle.rk_master.proofs.Words.{subst, slice_get-get_or, IsLawfulEntry, Entry, joined, Handover, Role, Log, with_entry, Master}
+use Rattle.rk_master.proofs.Words.{joined_entry, can_close, IsClosable, tablet_of, Row, AreSpelled, items_of_sides, master_of}
 use Rattle.rk_transfer.specs.declared.role.Role.TheVariants as roles
-use Rattle.rk_log.specs.Log.{Log, with_entry}
-use Rattle.rk_world.specs.Master.{Master}
-use Rattle.rk_world.specs.Waiting.{is_sealed_stored, joined_entry}
-use Rattle.rk_master.specs.Parts.{can_close, IsClosable, tablet_of}
-use Rattle.rk_master.specs.Places.{Row}
-use Rattle.rk_master.specs.Sides.{AreSpelled, items_of_sides}
-use Rattle.rk_master.specs.State.{master_of}
+use Rattle.rk_world.specs.Waiting.{is_sealed_stored}
 use Rattle.rk_master.proofs.Closable.{closable_at, closable_in, closing_joined, lawful_read}
 use Rattle.rk_master.proofs.GoingOn.{closed_so, still_waits}
 use Rattle.rk_master.proofs.Places.{row_there, moved_there}

@@ -1,15 +1,9 @@
-use Rattle.std.proofs.Common.{◌≡◌, true, not, List, Some, sym, ap, ◌∙◌, subst}
-use Rattle.rk_types.specs.NumberMap.{NumberMap}
+use Rattle.rk_master.proofs.Words.{◌≡◌, true, not, List, Some, sym, ap, ◌∙◌, subst, NumberMap, Handover, Master, Entry, Tablet, tablet_of}
+use Rattle.rk_master.proofs.Words.{Row, master_of}
 use Rattle.rk_transfer.specs.Handover.{frozen}
-use Rattle.rk_transfer.specs.declared.handover.Handover.{Handover}
 use Rattle.rk_transfer.specs.declared.role.Role.TheVariants as roles
-use Rattle.rk_world.specs.Master.{Master, is_settled, touches}
+use Rattle.rk_world.specs.Master.{is_settled, touches}
 use Rattle.std.specs.List.{list_any}
-use Rattle.rk_entry.specs.declared.entry.Entry.{Entry}
-use Rattle.rk_world.specs.Tablet.{Tablet}
-use Rattle.rk_master.specs.Parts.{tablet_of}
-use Rattle.rk_master.specs.Places.{Row}
-use Rattle.rk_master.specs.State.{master_of}
 use Rattle.rk_master.proofs.Closable.{closable_in, lawful_read}
 use Rattle.rk_master.proofs.GoingOn.{frozen_so}
 use Rattle.rk_master.proofs.Places.{row_there, moved_there}

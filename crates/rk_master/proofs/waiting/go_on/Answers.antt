@@ -1,9 +1,4 @@
-use Rattle.std.proofs.Common.{◌<◌, ℕ, List, length, ap, ◌∙◌, arith}
-use Rattle.rk_world.specs.Waiting.{all_going_on}
-use Rattle.rk_world.specs.Master.{Master}
-use Rattle.rk_master.specs.Parts.{tablets_of}
-use Rattle.rk_master.specs.Places.{Row}
-use Rattle.rk_master.specs.State.{master_of}
+use Rattle.rk_master.proofs.Words.{◌<◌, ℕ, List, length, ap, ◌∙◌, arith, all_going_on, Master, tablets_of, Row, master_of}
 use Rattle.rk_master.proofs.Applying.{stands}
 use Rattle.rk_master.proofs.GoingOn.{gone_on}
 use Rattle.rk_master.proofs.waiting.go_on.Goals as goal

@@ -1,7 +1,4 @@
-use Rattle.std.proofs.Common.{◌≡◌, length, drop}
-use Rattle.rk_world.specs.Waiting.{all_going_on}
-use Rattle.rk_master.specs.Parts.{tablets_of}
-use Rattle.rk_master.specs.State.{IsState, master_of}
+use Rattle.rk_master.proofs.Words.{◌≡◌, length, drop, all_going_on, tablets_of, IsState, master_of}
 use Rattle.rk_master.proofs.waiting.go_on.Given as goal
 
 abbrev pub invariant-loop-at : goal.invariant-loop-at

@@ -1,10 +1,6 @@
-use Rattle.std.proofs.Common.{◌≡◌, ℕ, Option, None, sym, refl, ap, ◌∙◌}
+use Rattle.rk_master.proofs.Words.{◌≡◌, ℕ, Option, None, sym, refl, ap, ◌∙◌, Master, tablet_of, Row, master_of}
 use Rattle.rk_transfer.specs.declared.role.Role.TheVariants as roles
-use Rattle.rk_world.specs.Master.{Master}
 use Rattle.rk_world.specs.Waiting.{going_on_in}
-use Rattle.rk_master.specs.Parts.{tablet_of}
-use Rattle.rk_master.specs.Places.{Row}
-use Rattle.rk_master.specs.State.{master_of}
 use Rattle.rk_master.proofs.GoingOn.{waits_not, not_there}
 use Rattle.rk_master.proofs.Places.{row_there}
 use Rattle.rk_master.proofs.waiting.go_on_at.Goals as goal

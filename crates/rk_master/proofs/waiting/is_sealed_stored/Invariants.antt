@@ -1,5 +1,4 @@
-use Rattle.std.proofs.Common.{◌≡◌, drop}
-use Rattle.std.specs.List.{list_all}
+use Rattle.rk_master.proofs.Words.{◌≡◌, drop, list_all}
 use Rattle.rk_log.specs.Log.{is_side_stored}
 use Rattle.rk_master.proofs.waiting.is_sealed_stored.Given as goal
 

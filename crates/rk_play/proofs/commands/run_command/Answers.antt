@@ -1,8 +1,5 @@
-use Rattle.std.proofs.Common.{[], ◌∷◌, ap}
+use Rattle.rk_play.proofs.Words.{[], ◌∷◌, ap, counts_same, Command, effect}
 use Rattle.rk_cluster.specs.Makes.{turn_makes}
-use Rattle.rk_cluster.proofs.Faults.{counts_same}
-use Rattle.rk_script.specs.declared.command.Command.{Command}
-use Rattle.rk_play.specs.Effects.{effect}
 use Rattle.rk_play.proofs.Carried.{carried_out, delivered, ends_in, undelivered}
 use Rattle.rk_play.proofs.Failing.{never_cause, told_cause}
 use Rattle.rk_play.proofs.commands.run_command.Goals as goal

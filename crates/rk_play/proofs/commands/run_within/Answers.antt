@@ -1,7 +1,4 @@
-use Rattle.std.proofs.Common.{subst}
-use Rattle.rk_cluster.specs.Told.{Tells}
-use Rattle.rk_cluster.proofs.Faults.{counts_same}
-use Rattle.rk_play.specs.Effects.{is_full}
+use Rattle.rk_play.proofs.Words.{subst, Tells, counts_same, is_full}
 use Rattle.rk_play.proofs.Carried.{ends_within, full_refuses, ran_within}
 use Rattle.rk_play.proofs.commands.run_within.Goals as goal
 

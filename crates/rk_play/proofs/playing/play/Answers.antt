@@ -1,14 +1,8 @@
 -- A script that is refused, a line of it or as a whole, is refused before anything runs.
-use Rattle.std.proofs.Common.{ℕ, List, [], ap, sym, subst, ◌∙◌}
-use Rattle.std.specs.Prelude.{Err, Result}
+use Rattle.rk_play.proofs.Words.{ℕ, List, [], ap, sym, subst, ◌∙◌, Err, Result, script_of, Numbered, ParseError, MayComeTo, PlaysBy}
+use Rattle.rk_play.proofs.Words.{cluster_by, part_of, refused_at, unset, go_on_same, count_of, replica_counts}
 use Rattle.std.proofs.lemmas.Option.{IfSome_then}
-use Rattle.rk_script.specs.Script.{script_of}
-use Rattle.rk_script.specs.declared.command.Numbered.{Numbered}
-use Rattle.rk_script.specs.declared.script.ParseError.{ParseError}
-use Rattle.rk_play.specs.Concluded.{MayComeTo, PlaysBy}
-use Rattle.rk_play.specs.Played.{cluster_by, part_of, played_of, refused_at, unset}
-use Rattle.rk_cluster.proofs.Faults.{go_on_same}
-use Rattle.rk_play.specs.Runs.{count_of, replica_counts}
+use Rattle.rk_play.specs.Played.{played_of}
 use Rattle.rk_play.proofs.Concluding.{concluded_apart, none_played, refused_comes}
 use Rattle.rk_play.proofs.Failing.{refused_fault}
 use Rattle.rk_play.proofs.Telling.{refused_plays, script_plays, unread_told, unset_may, wanting_told}

@@ -1,12 +1,6 @@
 -- A number that is set twice refuses the script before anything runs.
-use Rattle.std.proofs.Common.{ℕ, List, [], length, refl, ap, sym, subst, ◌∙◌}
-use Rattle.std.specs.Prelude.{Ok}
-use Rattle.rk_script.specs.declared.command.Numbered.{Numbered}
-use Rattle.rk_play.specs.Concluded.{PlaysBy, part_in}
-use Rattle.rk_play.specs.Played.{cluster_by, part_of, refused_at}
-use Rattle.rk_cluster.proofs.Faults.{go_on_same}
-use Rattle.rk_play.specs.Runs.{replica_counts}
-use Rattle.rk_play.specs.Settings.{IsOpened, IsRefusedEarly, setting_of}
+use Rattle.rk_play.proofs.Words.{ℕ, List, [], length, refl, ap, sym, subst, ◌∙◌, Ok, Numbered, PlaysBy, part_in, cluster_by, part_of}
+use Rattle.rk_play.proofs.Words.{refused_at, go_on_same, replica_counts, IsOpened, IsRefusedEarly, setting_of}
 use Rattle.rk_play.proofs.Concluding.{refused_comes}
 use Rattle.rk_play.proofs.Failing.{refused_fault}
 use Rattle.rk_play.proofs.Openings.{opened_plays}

@@ -1,9 +1,5 @@
 -- The run is played to its end in the cluster that was asked for, and the replicas come back.
-use Rattle.std.proofs.Common.{[], ◌*◌, refl, sym, ◌∙◌}
-use Rattle.std.proofs.KnownBytes.{Keeps-refl}
-use Rattle.rk_types.specs.declared.hashing.TheConstants.{LANES}
-use Rattle.rk_play.specs.Played.{cluster_by}
-use Rattle.rk_play.specs.Settings.{setting_of}
+use Rattle.rk_play.proofs.Words.{[], ◌*◌, refl, sym, ◌∙◌, Keeps-refl, LANES, cluster_by, setting_of}
 use Rattle.rk_play.proofs.Concluding.{ended_cause, ended_comes}
 use Rattle.rk_play.proofs.Failing.{ended_fault}
 use Rattle.rk_play.proofs.Leaving.{halted_out, played_out}

@@ -1,13 +1,8 @@
 -- A script that is not too long was fed whole when the source is at its end, and only then it is refused.
-use Rattle.std.proofs.Common.{◌≡◌, ◌++◌, take, sym, ap, subst, ◌∙◌, arith, length-append, length-take}
-use Rattle.std.specs.Prelude.{Ok, Err}
-use Rattle.std.proofs.KnownBytes.{Consumes-trans}
-use Rattle.std.proofs.lemmas.Result.{err_from_is_err_and}
-use Rattle.rk_script.specs.Feeding.{WasFed}
-use Rattle.rk_script.specs.declared.code.Code.TheVariants.{ScriptLength}
-use Rattle.rk_script.specs.declared.script.ParseError.{ParseError}
+use Rattle.rk_play.proofs.Words.{◌≡◌, ◌++◌, take, sym, ap, subst, ◌∙◌, arith, length-append, Ok, Err, Consumes-trans, err_from_is_err_and}
+use Rattle.rk_play.proofs.Words.{WasFed, ScriptLength, ParseError, Says, script_error_by}
+use Rattle.std.proofs.Common.{length-take}
 use Rattle.rk_script.specs.declared.script.ParseError.TheVariants as of_script
-use Rattle.rk_play.specs.Reading.{Says, script_error_by}
 use Rattle.rk_play.specs.declared.reading.ScriptError.TheVariants as errors
 use Rattle.rk_play.proofs.Feeding.{reads_few, reads_on, reads_too_long, reads_whole, refusal_from}
 use Rattle.rk_play.proofs.reading.read_script.Goals as goal

@@ -1,6 +1,5 @@
 -- What is gone from the source is what the reader was fed, and each piece brings a byte at least.
-use Rattle.std.proofs.Common.{◌≡◌, ◌+◌, ◌-◌, length}
-use Rattle.rk_script.specs.declared.script.TheConstants.{LONGEST_SCRIPT}
+use Rattle.rk_play.proofs.Words.{◌≡◌, ◌+◌, ◌-◌, length, LONGEST_SCRIPT}
 use Rattle.rk_play.proofs.Feeding.{ReadsFrom}
 use Rattle.rk_play.proofs.reading.read_script.Given as goal
 

@@ -1,11 +1,7 @@
 -- The run goes on by one command a turn.
-use Rattle.std.proofs.Common.{[], length, nat_lt, refl, sym, subst, ◌∙◌, arith}
+use Rattle.rk_play.proofs.Words.{[], length, refl, sym, subst, ◌∙◌, arith, PIECE, counts_same, counts_then, IsLawful, EndsBy, End}
+use Rattle.std.proofs.Common.{nat_lt}
 use Rattle.std.proofs.lemmas.List.Elements.{All-tail}
-use Rattle.rk_outside.specs.declared.reading.TheConstants.{PIECE}
-use Rattle.rk_cluster.proofs.Faults.{counts_same, counts_then}
-use Rattle.rk_script.specs.Lawful.{IsLawful}
-use Rattle.rk_play.specs.Ended.{EndsBy}
-use Rattle.rk_play.specs.declared.end.End.{End}
 use Rattle.rk_play.proofs.Failing.{ended_often}
 use Rattle.rk_play.proofs.Reaching.{end_apart, on_ended, on_failed, on_spilled, on_start, on_step}
 use Rattle.rk_play.proofs.Sending.{where_err, where_ok}

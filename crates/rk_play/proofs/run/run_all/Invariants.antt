@@ -1,9 +1,5 @@
 -- The commands that have run have written their pieces, and the others are left.
-use Rattle.std.proofs.Common.{◌≡◌, [], All, length}
-use Rattle.rk_cluster.specs.Faults.{CountsGoOn}
-use Rattle.rk_cluster.specs.Masters.{backups_of}
-use Rattle.rk_script.specs.Lawful.{IsLawful}
-use Rattle.rk_play.specs.Reached.{IsOn}
+use Rattle.rk_play.proofs.Words.{◌≡◌, [], All, length, CountsGoOn, backups_of, IsLawful, IsOn}
 use Rattle.rk_play.proofs.run.run_all.Given as goal
 
 abbrev pub invariant-commands : goal.invariant-commands

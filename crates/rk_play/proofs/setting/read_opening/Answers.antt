@@ -1,6 +1,5 @@
 -- The commands before the first that sets no number have set theirs once.
-use Rattle.std.proofs.Common.{◌≡◌, true, arith}
-use Rattle.std.specs.Prelude.{is_some}
+use Rattle.rk_play.proofs.Words.{◌≡◌, true, arith, is_some}
 use Rattle.rk_play.proofs.Openings.{early_backups, early_masters, next_is, opened_all, opened_before}
 use Rattle.rk_play.proofs.setting.read_opening.Goals as goal
 

@@ -1,17 +1,9 @@
-use Rattle.std.proofs.Common.{◌++◌, List, Option, sym, ap, subst, ◌∙◌}
-use Rattle.std.proofs.lemmas.Result.{err_from_is_err_and}
-use Rattle.rk_types.specs.declared.node.Said.{Said}
-use Rattle.rk_lines.specs.Lines.{said_lines}
-use Rattle.rk_cluster.specs.declared.code.Code.{Code}
-use Rattle.rk_cluster.proofs.Faults.{counts_same}
-use Rattle.rk_settle.specs.Course.{course_of, moved_all}
+use Rattle.rk_play.proofs.Words.{◌++◌, List, Option, sym, ap, subst, ◌∙◌, err_from_is_err_and, Said, said_lines, Code, counts_same}
+use Rattle.rk_play.proofs.Words.{course_of, moved_all, Ran, Stopped, effect, settled, error_by_settling}
 use Rattle.rk_settle.specs.Codes.{advance_code}
 use Rattle.rk_settle.specs.Advance.{advance}
 use Rattle.rk_settle.specs.declared.reach.Reach.{Reach}
 use Rattle.rk_script.specs.declared.command.Command.TheVariants.{Advance}
-use Rattle.rk_play.specs.Came.{Ran, Stopped}
-use Rattle.rk_play.specs.Effects.{effect, settled}
-use Rattle.rk_play.specs.Stops.{error_by_settling}
 use Rattle.rk_play.proofs.Settled.{settled_ran, settled_stopped}
 use Rattle.rk_play.proofs.Shown.{came_refused}
 use Rattle.rk_play.proofs.Failing.{of_settling_replicas}

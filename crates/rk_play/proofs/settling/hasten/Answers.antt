@@ -1,14 +1,8 @@
-use Rattle.std.proofs.Common.{◌++◌, List, Option, ap, ◌∙◌}
-use Rattle.std.proofs.lemmas.Result.{err_from_is_err_and}
-use Rattle.rk_types.specs.declared.node.Said.{Said}
-use Rattle.rk_lines.specs.Lines.{said_lines}
-use Rattle.rk_cluster.specs.declared.code.Code.{Code}
-use Rattle.rk_cluster.proofs.Faults.{counts_same}
-use Rattle.rk_settle.specs.Course.{course_of}
+use Rattle.rk_play.proofs.Words.{◌++◌, List, Option, ap, ◌∙◌, err_from_is_err_and, Said, said_lines, Code, counts_same, course_of, effect}
+use Rattle.rk_play.proofs.Words.{settled}
 use Rattle.rk_settle.specs.Codes.{priority_code}
 use Rattle.rk_settle.specs.Priority.{priority}
 use Rattle.rk_script.specs.declared.command.Command.TheVariants.{Priority}
-use Rattle.rk_play.specs.Effects.{effect, settled}
 use Rattle.rk_play.proofs.Settled.{settled_ran, settled_stopped}
 use Rattle.rk_play.proofs.Shown.{came_refused}
 use Rattle.rk_play.proofs.Failing.{of_settling_replicas}

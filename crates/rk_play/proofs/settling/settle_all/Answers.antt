@@ -1,7 +1,4 @@
-use Rattle.std.proofs.Common.{◌++◌, List, None, refl, ap, ◌∙◌}
-use Rattle.std.proofs.lemmas.Result.{err_from_is_err_and}
-use Rattle.rk_types.specs.declared.node.Said.{Said}
-use Rattle.rk_lines.specs.Lines.{said_lines}
+use Rattle.rk_play.proofs.Words.{◌++◌, List, None, refl, ap, ◌∙◌, err_from_is_err_and, Said, said_lines}
 use Rattle.rk_settle.specs.Settle.{settle}
 use Rattle.rk_play.proofs.Settled.{settled_ran, settled_stopped}
 use Rattle.rk_play.proofs.Failing.{of_settling_replicas}

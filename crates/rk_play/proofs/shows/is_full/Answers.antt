@@ -1,8 +1,6 @@
-use Rattle.std.proofs.Common.{◌≡◌, ◌||◌, nat_le, true, false, Bool, List, rules, sym, ap, subst, ◌∙◌}
-use Rattle.rk_lane.specs.LaneState.{LaneState}
-use Rattle.rk_cluster.specs.State.{IsOf}
-use Rattle.rk_cluster.specs.Steps.{state_of}
-use Rattle.rk_play.specs.Effects.{MOST_BYTES, journal_bytes, wire_bytes}
+use Rattle.rk_play.proofs.Words.{◌≡◌, ◌||◌, nat_le, true, false, Bool, List, sym, ap, subst, ◌∙◌, LaneState, IsOf, state_of, MOST_BYTES}
+use Rattle.std.proofs.Common.{rules}
+use Rattle.rk_play.specs.Effects.{journal_bytes, wire_bytes}
 use Rattle.rk_play.proofs.Gathered.{below_limit}
 use Rattle.rk_play.proofs.shows.is_full.Goals as goal
 

@@ -1,7 +1,4 @@
-use Rattle.std.proofs.Common.{◌+◌, ◌-◌, ◌^◌, ℕ, map, min, sum, List, sym, ap, ◌∙◌, arith}
-use Rattle.rk_ledger.specs.Values.{value_bytes}
-use Rattle.rk_world.specs.World.{World}
-use Rattle.rk_cluster.proofs.Worlds.{there_read}
+use Rattle.rk_play.proofs.Words.{◌+◌, ◌-◌, ◌^◌, ℕ, map, min, sum, List, sym, ap, ◌∙◌, arith, value_bytes, World, there_read}
 use Rattle.rk_play.proofs.Gathered.{gathered_all, gathered_next, sums_grow}
 use Rattle.rk_play.proofs.shows.journal_bytes.Goals as goal
 

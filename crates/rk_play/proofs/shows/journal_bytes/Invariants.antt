@@ -1,6 +1,4 @@
-use Rattle.std.proofs.Common.{◌-◌, ◌^◌, map, min, sum, take}
-use Rattle.rk_ledger.specs.Values.{value_bytes}
-use Rattle.rk_cluster.specs.Told.{LanesTell}
+use Rattle.rk_play.proofs.Words.{◌-◌, ◌^◌, map, min, sum, take, value_bytes, LanesTell}
 use Rattle.rk_play.proofs.shows.journal_bytes.Given as goal
 
 -- the bytes in the journals so far

@@ -1,12 +1,7 @@
-use Rattle.std.proofs.Common.{◌≡◌, ◌∷◌, ◌++◌, [], Bor, map, All, List, sym, ap, subst, ◌∙◌, arith}
+use Rattle.rk_play.proofs.Words.{◌≡◌, ◌∷◌, ◌++◌, [], Bor, map, All, List, sym, ap, subst, ◌∙◌, arith, map_push, Placed, IsRisingAbove}
+use Rattle.rk_play.proofs.Words.{journals_of, World, there_read}
 use Rattle.std.proofs.lemmas.Grind.{common_steps}
-use Rattle.std.proofs.lemmas.List.{map_push}
 use Rattle.std.proofs.lemmas.List.Elements.{All-push}
-use Rattle.rk_types.specs.declared.history.Placed.{Placed}
-use Rattle.rk_model.specs.Merged.{IsRisingAbove}
-use Rattle.rk_history.specs.Journals.{journals_of}
-use Rattle.rk_world.specs.World.{World}
-use Rattle.rk_cluster.proofs.Worlds.{there_read}
 use Rattle.rk_play.proofs.Gathered.{each_grow, gathered_all, gathered_next}
 use Rattle.rk_play.proofs.shows.journals_of.Goals as goal
 

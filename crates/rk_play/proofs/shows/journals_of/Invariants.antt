@@ -1,7 +1,4 @@
-use Rattle.std.proofs.Common.{◌≡◌, All, length, map, take}
-use Rattle.rk_history.specs.Journals.{journals_of}
-use Rattle.rk_model.specs.Merged.{IsRisingAbove}
-use Rattle.rk_cluster.specs.Told.{LanesTell}
+use Rattle.rk_play.proofs.Words.{◌≡◌, All, length, map, take, journals_of, IsRisingAbove, LanesTell}
 use Rattle.rk_play.proofs.shows.journals_of.Given as goal
 
 -- the journals of the lanes so far

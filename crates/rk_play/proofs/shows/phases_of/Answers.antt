@@ -1,12 +1,7 @@
-use Rattle.std.proofs.Common.{◌++◌, Bor, ℕ, flat_map, map, List, Option, sym, ap, ◌∙◌, append-nil, arith}
+use Rattle.rk_play.proofs.Words.{◌++◌, Bor, ℕ, flat_map, map, List, Option, sym, ap, ◌∙◌, append-nil, arith, map_push, row_of, Phase, World}
+use Rattle.rk_play.proofs.Words.{there_read, phase_of}
 use Rattle.std.specs.Option.{option_copied}
-use Rattle.std.proofs.lemmas.List.{map_push}
-use Rattle.rk_tablet_map.specs.Rows.{row_of}
-use Rattle.rk_tablet_map.specs.declared.phase.Phase.{Phase}
 use Rattle.rk_tablet_map.specs.declared.row.Row.{Row}
-use Rattle.rk_world.specs.World.{World}
-use Rattle.rk_cluster.proofs.Worlds.{there_read}
-use Rattle.rk_play.specs.Shows.{phase_of}
 use Rattle.rk_play.proofs.Gathered.{gathered_all, gathered_next, lists_grow}
 use Rattle.rk_play.proofs.shows.phases_of.Goals as goal
 use Rattle.rk_play.proofs.shows.phases_of.Goals.{in-Some+in_ok-push, in_default}

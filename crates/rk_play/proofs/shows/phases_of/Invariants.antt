@@ -1,7 +1,4 @@
-use Rattle.std.proofs.Common.{flat_map, map, take}
-use Rattle.rk_tablet_map.specs.Rows.{row_of}
-use Rattle.rk_cluster.specs.Told.{LanesTell}
-use Rattle.rk_play.specs.Shows.{phase_of}
+use Rattle.rk_play.proofs.Words.{flat_map, map, take, row_of, LanesTell, phase_of}
 use Rattle.rk_play.proofs.shows.phases_of.Given as goal
 
 -- the phases in the lanes so far

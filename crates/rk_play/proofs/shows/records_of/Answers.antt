@@ -1,12 +1,7 @@
-use Rattle.std.proofs.Common.{◌++◌, ℕ, List, flat_map, arith}
+use Rattle.rk_play.proofs.Words.{◌++◌, ℕ, List, flat_map, arith, World, err_from_is_err_and, row_of, owner_in, there_read, items_of}
+use Rattle.rk_play.proofs.Words.{lives_owner}
 use Rattle.rk_types.specs.declared.held.Held.{Held}
-use Rattle.rk_world.specs.World.{World}
-use Rattle.std.proofs.lemmas.Result.{err_from_is_err_and}
-use Rattle.rk_tablet_map.specs.Rows.{row_of}
-use Rattle.rk_cluster.specs.Looks.{owner_in}
 use Rattle.rk_cluster.proofs.Telling.{all_but, all_next, all_past}
-use Rattle.rk_cluster.proofs.Worlds.{there_read}
-use Rattle.rk_play.specs.Shows.{items_of, lives_owner}
 use Rattle.rk_play.proofs.Gathered.{gathered_all, gathered_next, lists_grow}
 use Rattle.rk_play.proofs.Shown.{refused_weaker}
 use Rattle.rk_play.proofs.shows.records_of.Goals as goal

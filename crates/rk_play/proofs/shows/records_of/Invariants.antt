@@ -1,9 +1,4 @@
-use Rattle.std.proofs.Common.{true, flat_map, take}
-use Rattle.std.specs.List.{list_all}
-use Rattle.rk_tablet_map.specs.Rows.{row_of}
-use Rattle.rk_cluster.specs.Looks.{owner_in}
-use Rattle.rk_cluster.specs.Told.{LanesTell}
-use Rattle.rk_play.specs.Shows.{items_of, lives_owner}
+use Rattle.rk_play.proofs.Words.{true, flat_map, take, list_all, row_of, owner_in, LanesTell, items_of, lives_owner}
 use Rattle.rk_play.proofs.shows.records_of.Given as goal
 
 -- the records in the lanes so far; in each of them a master that lives owns the tablet

@@ -1,12 +1,6 @@
-use Rattle.std.proofs.Common.{◌++◌, Bor, None, List, refl, sym, ap, subst, ◌∙◌}
-use Rattle.rk_types.specs.declared.history.Placed.{Placed}
+use Rattle.rk_play.proofs.Words.{◌++◌, Bor, None, List, refl, sym, ap, subst, ◌∙◌, Placed, journals_of, Cluster, LaneState, IsOf, state_of}
 use Rattle.rk_model.specs.Merged.{merged}
 use Rattle.rk_model.specs.declared.line.Line.{Line}
-use Rattle.rk_history.specs.Journals.{journals_of}
-use Rattle.rk_world.specs.Cluster.{Cluster}
-use Rattle.rk_lane.specs.LaneState.{LaneState}
-use Rattle.rk_cluster.specs.State.{IsOf}
-use Rattle.rk_cluster.specs.Steps.{state_of}
 use Rattle.rk_lines.specs.History.{history_lines}
 use Rattle.rk_play.specs.Shows.{history_text}
 use Rattle.rk_play.proofs.Shown.{shown_written}

@@ -1,7 +1,6 @@
-use Rattle.std.proofs.Common.{Some, true, false, sym, ap, ◌∙◌}
-use Rattle.std.proofs.lemmas.Result.{err_from_is_err_and}
+use Rattle.rk_play.proofs.Words.{Some, true, false, sym, ap, ◌∙◌, err_from_is_err_and, dump_code, is_held}
 use Rattle.rk_lines.specs.Records.{record_lines}
-use Rattle.rk_play.specs.Shows.{dump_code, dump_text, is_held, items_in}
+use Rattle.rk_play.specs.Shows.{dump_text, items_in}
 use Rattle.rk_play.proofs.Failing.{refused_apart}
 use Rattle.rk_play.proofs.Held.{dump_held}
 use Rattle.rk_play.proofs.Shown.{in_lanes, refused_stops, shown_refused, shown_written}

@@ -1,7 +1,4 @@
-use Rattle.std.proofs.Common.{◌++◌, Bool, Bor, List, not, map, ap, ◌∙◌}
-use Rattle.rk_tablet_map.specs.declared.phase.Phase.{Phase}
-use Rattle.rk_cluster.specs.Codes.{code_where}
-use Rattle.rk_cluster.specs.declared.code.Code.TheVariants.{Unknown}
+use Rattle.rk_play.proofs.Words.{◌++◌, Bool, Bor, List, not, map, ap, ◌∙◌, Phase, code_where, Unknown}
 use Rattle.rk_lines.specs.Tablets.{tablet_lines}
 use Rattle.rk_play.specs.Shows.{phases_of, where_code, where_text}
 use Rattle.rk_play.proofs.Shown.{in_lanes, shown_written}

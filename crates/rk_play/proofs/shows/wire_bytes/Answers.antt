@@ -1,7 +1,5 @@
-use Rattle.std.proofs.Common.{◌≡◌, ◌+◌, ◌-◌, ◌^◌, ℕ, map, min, sum, List, refl, sym, ap, ◌∙◌, arith}
-use Rattle.rk_message.specs.Wire.{Traffic, bytes_on}
-use Rattle.rk_world.specs.World.{World}
-use Rattle.rk_cluster.proofs.Worlds.{there_read}
+use Rattle.rk_play.proofs.Words.{◌≡◌, ◌+◌, ◌-◌, ◌^◌, ℕ, map, min, sum, List, refl, sym, ap, ◌∙◌, arith, bytes_on, World, there_read}
+use Rattle.rk_message.specs.Wire.{Traffic}
 use Rattle.rk_play.proofs.Gathered.{gathered_all, gathered_next, seen_running, sums_grow}
 use Rattle.rk_play.proofs.shows.wire_bytes.Goals as goal
 

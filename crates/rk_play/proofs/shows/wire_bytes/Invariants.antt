@@ -1,6 +1,4 @@
-use Rattle.std.proofs.Common.{◌-◌, ◌^◌, map, min, sum, take}
-use Rattle.rk_message.specs.Wire.{bytes_on}
-use Rattle.rk_cluster.specs.Told.{LanesTell}
+use Rattle.rk_play.proofs.Words.{◌-◌, ◌^◌, map, min, sum, take, bytes_on, LanesTell}
 use Rattle.rk_play.proofs.shows.wire_bytes.Given as goal
 
 -- the bytes on the wires so far

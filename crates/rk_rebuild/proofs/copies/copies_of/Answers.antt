@@ -1,14 +1,9 @@
-use Rattle.std.proofs.Common.{◌≡◌, List, [], map, not, ap, ◌∙◌}
-use Rattle.std.specs.Prelude.{filter}
+use Rattle.rk_rebuild.proofs.Words.{◌≡◌, List, [], map, not, ap, ◌∙◌, filter, Bor, Held, items_of, lent}
 use Rattle.std.proofs.lemmas.Result.{IfOk-weaker}
-use denote.Ref.{Bor}
-use Rattle.rk_types.specs.declared.held.Held.{Held}
 use Rattle.rk_overlay.specs.Newest.{none_found}
 use Rattle.rk_overlay.specs.Overlay.{newest_items}
 use Rattle.rk_overlay.proofs.Trees.{tree_of_nothing}
-use Rattle.rk_world.specs.Ends.{items_of}
 use Rattle.rk_world.specs.Merge.{copies_of, has_version}
-use Rattle.rk_rebuild.specs.Lent.{lent}
 use Rattle.rk_rebuild.proofs.Versions.{no_versions}
 use Rattle.rk_rebuild.proofs.copies.copies_of.Goals as goal
 

@@ -1,8 +1,5 @@
-use Rattle.std.proofs.Common.{◌≡◌, List, take, map, not}
-use Rattle.std.specs.Prelude.{filter}
-use Rattle.rk_types.specs.declared.held.Held.{Held}
+use Rattle.rk_rebuild.proofs.Words.{◌≡◌, List, take, map, not, filter, Held, HasVersions}
 use Rattle.rk_world.specs.Merge.{has_version}
-use Rattle.rk_rebuild.specs.Versions.{HasVersions}
 use Rattle.rk_rebuild.proofs.copies.lacking.Given as goal
 
 -- the items so far that are lacking are copied

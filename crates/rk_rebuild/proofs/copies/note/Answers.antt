@@ -1,7 +1,4 @@
-use Rattle.std.proofs.Common.{◌++◌, sym, subst}
-use Rattle.rk_entry.specs.declared.entry.Entry.{Entry}
-use Rattle.rk_world.specs.Ends.{items_in}
-use Rattle.rk_rebuild.specs.Versions.{HasVersions}
+use Rattle.rk_rebuild.proofs.Words.{◌++◌, sym, subst, Entry, items_in, HasVersions}
 use Rattle.rk_rebuild.proofs.Versions.{version_noted}
 use Rattle.rk_rebuild.proofs.copies.note.Goals as goal
 

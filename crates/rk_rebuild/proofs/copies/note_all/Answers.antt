@@ -1,8 +1,5 @@
-use Rattle.std.proofs.Common.{List, ◌++◌, take, sym, ap, ◌∙◌, subst, append_assoc}
-use Rattle.rk_types.specs.declared.held.Held.{Held}
-use Rattle.rk_world.specs.Ends.{items_in, items_of}
-use Rattle.rk_rebuild.specs.Lent.{lent}
-use Rattle.rk_rebuild.specs.Versions.{HasVersions}
+use Rattle.rk_rebuild.proofs.Words.{List, ◌++◌, take, sym, ap, ◌∙◌, subst, Held, items_in, items_of, lent, HasVersions}
+use Rattle.std.proofs.Common.{append_assoc}
 use Rattle.rk_rebuild.proofs.Versions.{lent_taken}
 use Rattle.rk_rebuild.proofs.copies.note_all.Goals as goal
 

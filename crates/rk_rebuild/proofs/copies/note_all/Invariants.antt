@@ -1,8 +1,4 @@
-use Rattle.std.proofs.Common.{List, ◌++◌, take}
-use Rattle.rk_types.specs.declared.held.Held.{Held}
-use Rattle.rk_world.specs.Ends.{items_of}
-use Rattle.rk_rebuild.specs.Lent.{lent}
-use Rattle.rk_rebuild.specs.Versions.{HasVersions}
+use Rattle.rk_rebuild.proofs.Words.{List, ◌++◌, take, Held, items_of, lent, HasVersions}
 use Rattle.rk_rebuild.proofs.copies.note_all.Given as goal
 
 -- the versions so far are noted

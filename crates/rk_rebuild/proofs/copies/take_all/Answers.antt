@@ -1,9 +1,7 @@
-use Rattle.std.proofs.Common.{take, sym, ap, ◌∙◌, subst}
+use Rattle.rk_rebuild.proofs.Words.{take, sym, ap, ◌∙◌, subst, items_in, items_of, lent}
 use Rattle.rk_overlay.specs.Newest.{newest_from}
 use Rattle.rk_overlay.specs.Lent.{IsTreeOf}
 use Rattle.rk_overlay.proofs.Folds.{newest_from-append}
-use Rattle.rk_world.specs.Ends.{items_in, items_of}
-use Rattle.rk_rebuild.specs.Lent.{lent}
 use Rattle.rk_rebuild.proofs.Versions.{lent_taken}
 use Rattle.rk_rebuild.proofs.copies.take_all.Goals as goal
 

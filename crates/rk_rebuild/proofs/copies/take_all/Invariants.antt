@@ -1,8 +1,6 @@
-use Rattle.std.proofs.Common.{take}
+use Rattle.rk_rebuild.proofs.Words.{take, items_of, lent}
 use Rattle.rk_overlay.specs.Newest.{Found, newest_from}
 use Rattle.rk_overlay.specs.Lent.{IsTreeOf}
-use Rattle.rk_world.specs.Ends.{items_of}
-use Rattle.rk_rebuild.specs.Lent.{lent}
 use Rattle.rk_rebuild.proofs.copies.take_all.Given as goal
 
 -- the items so far are taken in

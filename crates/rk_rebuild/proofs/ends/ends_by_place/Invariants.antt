@@ -1,7 +1,4 @@
-use Rattle.std.proofs.Common.{◌≡◌, ◌≤◌, List, [], drop, length}
-use Rattle.rk_types.specs.declared.call.Ended.{Ended}
-use Rattle.rk_done.specs.Completions.{completions_from}
-use Rattle.rk_world.specs.Merge.{ends_by_place}
+use Rattle.rk_rebuild.proofs.Words.{◌≡◌, ◌≤◌, List, [], drop, length, Ended, completions_from, ends_by_place}
 use Rattle.rk_rebuild.proofs.ends.ends_by_place.Given as goal
 
 -- the ends that have their place at the members so far, which are the later ones

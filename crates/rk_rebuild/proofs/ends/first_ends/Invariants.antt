@@ -1,5 +1,4 @@
-use Rattle.std.proofs.Common.{◌≡◌, map, take}
-use Rattle.rk_types.specs.NumberMap.{get}
+use Rattle.rk_rebuild.proofs.Words.{◌≡◌, map, take, get}
 use Rattle.rk_world.specs.Merge.{first_told}
 use Rattle.rk_rebuild.proofs.ends.first_ends.Given as goal
 

@@ -1,6 +1,5 @@
-use Rattle.std.proofs.Common.{Option, ap, ◌∙◌}
+use Rattle.rk_rebuild.proofs.Words.{Option, ap, ◌∙◌, get}
 use Rattle.rk_done.specs.declared.completion.Completion.{Completion}
-use Rattle.rk_types.specs.NumberMap.{get}
 use Rattle.rk_rebuild.proofs.Placing.{outruns, outrun_told}
 use Rattle.rk_rebuild.proofs.ends.is_outrun.Goals as goal
 

@@ -1,5 +1,4 @@
-use Rattle.std.proofs.Common.{◌≡◌, ◌||◌, Bool, true, false, not, sym, ap, ◌∙◌}
-use Rattle.std.specs.List.{flat_map, list_any}
+use Rattle.rk_rebuild.proofs.Words.{◌≡◌, ◌||◌, Bool, true, false, not, sym, ap, ◌∙◌, flat_map, list_any}
 use Rattle.rk_world.specs.Merge.{is_outrun_by, is_same_call}
 use Rattle.rk_rebuild.proofs.Placing.{outrun_unplaced, placed_where}
 use Rattle.rk_rebuild.proofs.ends.is_placed.Goals as goal

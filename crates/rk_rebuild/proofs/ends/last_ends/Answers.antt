@@ -1,6 +1,5 @@
-use Rattle.std.proofs.Common.{◌+◌, drop, sym, ap, ◌∙◌}
-use Rattle.std.specs.List.{flat_map}
-use Rattle.rk_done.specs.Completions.{Completions, completions_from}
+use Rattle.rk_rebuild.proofs.Words.{◌+◌, drop, sym, ap, ◌∙◌, flat_map, completions_from}
+use Rattle.rk_done.specs.Completions.{Completions}
 use Rattle.rk_rebuild.proofs.Placing.{noted_more}
 use Rattle.rk_rebuild.proofs.ends.last_ends.Goals as goal
 

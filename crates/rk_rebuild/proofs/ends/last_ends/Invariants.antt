@@ -1,6 +1,4 @@
-use Rattle.std.proofs.Common.{◌≡◌, [], drop}
-use Rattle.std.specs.List.{flat_map}
-use Rattle.rk_done.specs.Completions.{completions_from}
+use Rattle.rk_rebuild.proofs.Words.{◌≡◌, [], drop, flat_map, completions_from}
 use Rattle.rk_rebuild.proofs.ends.last_ends.Given as goal
 
 -- with what is left noted, all is noted

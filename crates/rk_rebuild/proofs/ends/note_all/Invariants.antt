@@ -1,5 +1,4 @@
-use Rattle.std.proofs.Common.{◌≡◌, drop}
-use Rattle.rk_done.specs.Completions.{completions_from}
+use Rattle.rk_rebuild.proofs.Words.{◌≡◌, drop, completions_from}
 use Rattle.rk_rebuild.proofs.ends.note_all.Given as goal
 
 -- with what is left noted, all is noted

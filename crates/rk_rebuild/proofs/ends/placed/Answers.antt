@@ -1,7 +1,5 @@
-use Rattle.std.proofs.Common.{List, take, sym, ap, ◌∙◌}
-use Rattle.std.specs.List.{flat_map}
+use Rattle.rk_rebuild.proofs.Words.{List, take, sym, ap, ◌∙◌, flat_map, Ended}
 use Rattle.rk_types.specs.declared.call.End.TheVariants.{Written}
-use Rattle.rk_types.specs.declared.call.Ended.{Ended}
 use Rattle.rk_rebuild.proofs.Placing.{placed_here, placed_elsewhere}
 use Rattle.rk_rebuild.proofs.ends.placed.Goals as goal
 use Rattle.rk_rebuild.proofs.ends.placed.Goals.{then-is_placed+in_ok-push, else-is_placed}

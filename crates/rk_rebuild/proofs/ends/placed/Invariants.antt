@@ -1,8 +1,5 @@
-use Rattle.std.proofs.Common.{◌≡◌, List, [], take}
-use Rattle.std.specs.List.{flat_map}
-use Rattle.rk_types.specs.declared.call.Ended.{Ended}
-use Rattle.rk_done.specs.Completions.{completions_from}
-use Rattle.rk_world.specs.Merge.{ends_by_place, placed_ends}
+use Rattle.rk_rebuild.proofs.Words.{◌≡◌, List, [], take, flat_map, Ended, completions_from, ends_by_place}
+use Rattle.rk_world.specs.Merge.{placed_ends}
 use Rattle.rk_rebuild.proofs.ends.placed.Given as goal
 
 -- the ends so far that have their place here

@@ -1,6 +1,5 @@
-use Rattle.std.proofs.Common.{◌≡◌, ◌++◌, drop}
+use Rattle.rk_rebuild.proofs.Words.{◌≡◌, ◌++◌, drop, lent}
 use Rattle.rk_world.specs.Ends.{told}
-use Rattle.rk_rebuild.specs.Lent.{lent}
 use Rattle.rk_rebuild.proofs.ends.told.Given as goal
 
 -- the ends so far, and those of what is left, are those of all

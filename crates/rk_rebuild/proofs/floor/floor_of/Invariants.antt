@@ -1,7 +1,6 @@
-use Rattle.std.proofs.Common.{◌≡◌, drop}
+use Rattle.rk_rebuild.proofs.Words.{◌≡◌, drop, lent}
 use Rattle.std.specs.Prelude.{fold}
 use Rattle.rk_world.specs.Merge.{floor_by, floor_of}
-use Rattle.rk_rebuild.specs.Lent.{lent}
 use Rattle.rk_rebuild.proofs.floor.floor_of.Given as goal
 
 -- the floor so far, raised by what is left, is the floor of all

@@ -1,7 +1,6 @@
-use Rattle.std.proofs.Common.{map, take}
+use Rattle.rk_rebuild.proofs.Words.{map, take, lent}
 use Rattle.rk_world.specs.Gather.{material_by}
 use Rattle.rk_rebuild.specs.Counted.{IsCounted}
-use Rattle.rk_rebuild.specs.Lent.{lent}
 use Rattle.rk_rebuild.proofs.gather.counted_members.Given as goal
 
 -- what counts of the members so far

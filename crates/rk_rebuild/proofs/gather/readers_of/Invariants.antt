@@ -1,5 +1,4 @@
-use Rattle.std.proofs.Common.{◌≡◌, eqb, map, not, take}
-use Rattle.std.specs.Prelude.{filter}
+use Rattle.rk_rebuild.proofs.Words.{◌≡◌, eqb, map, not, take, filter}
 use Rattle.rk_rebuild.proofs.gather.readers_of.Given as goal
 
 abbrev pub invariant-loop-member : goal.invariant-loop-member

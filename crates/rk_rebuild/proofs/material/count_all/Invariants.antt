@@ -1,6 +1,4 @@
-use Rattle.std.proofs.Common.{◌≡◌, ◌++◌, take}
-use Rattle.rk_world.specs.Material.{counting}
-use Rattle.rk_rebuild.specs.Lent.{lent}
+use Rattle.rk_rebuild.proofs.Words.{◌≡◌, ◌++◌, take, counting, lent}
 use Rattle.rk_rebuild.proofs.material.count_all.Given as goal
 
 -- those so far that count

@@ -1,8 +1,5 @@
-use Rattle.std.proofs.Common.{◌≡◌, ◌++◌, [], take}
-use Rattle.std.specs.List.{flat_map}
+use Rattle.rk_rebuild.proofs.Words.{◌≡◌, ◌++◌, [], take, flat_map, counting, lent}
 use Rattle.rk_types.specs.NumberMap.{get_or}
-use Rattle.rk_world.specs.Material.{counting}
-use Rattle.rk_rebuild.specs.Lent.{lent}
 use Rattle.rk_rebuild.proofs.material.count_sides.Given as goal
 
 -- those of the segments so far that count

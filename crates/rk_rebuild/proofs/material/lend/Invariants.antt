@@ -1,5 +1,4 @@
-use Rattle.std.proofs.Common.{◌≡◌, ◌++◌, take}
-use Rattle.rk_rebuild.specs.Lent.{lent}
+use Rattle.rk_rebuild.proofs.Words.{◌≡◌, ◌++◌, take, lent}
 use Rattle.rk_rebuild.proofs.material.lend.Given as goal
 
 abbrev pub invariant-loop-entry : goal.invariant-loop-entry

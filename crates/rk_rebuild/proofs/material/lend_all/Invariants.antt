@@ -1,6 +1,4 @@
-use Rattle.std.proofs.Common.{◌≡◌, take}
-use Rattle.std.specs.List.{flat_map}
-use Rattle.rk_rebuild.specs.Lent.{lent}
+use Rattle.rk_rebuild.proofs.Words.{◌≡◌, take, flat_map, lent}
 use Rattle.rk_rebuild.proofs.material.lend_all.Given as goal
 
 abbrev pub invariant-loop-segment : goal.invariant-loop-segment

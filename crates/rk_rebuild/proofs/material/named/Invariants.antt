@@ -1,6 +1,4 @@
-use Rattle.std.proofs.Common.{◌≡◌, take}
-use Rattle.rk_world.specs.Material.{named}
-use Rattle.rk_rebuild.specs.Lent.{lent}
+use Rattle.rk_rebuild.proofs.Words.{◌≡◌, take, named, lent}
 use Rattle.rk_rebuild.specs.Numbers.{IsSetOf}
 use Rattle.rk_rebuild.proofs.material.named.Given as goal
 

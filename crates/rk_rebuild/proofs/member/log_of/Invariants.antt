@@ -1,5 +1,4 @@
-use Rattle.std.proofs.Common.{◌≡◌, drop}
-use Rattle.rk_rebuild.specs.Logs.{log_of}
+use Rattle.rk_rebuild.proofs.Words.{◌≡◌, drop, log_of}
 use Rattle.rk_rebuild.proofs.member.log_of.Given as goal
 
 abbrev pub invariant-loop-log : goal.invariant-loop-log

@@ -1,5 +1,4 @@
-use Rattle.std.proofs.Common.{sym, ◌∙◌}
-use Rattle.rk_rebuild.specs.Logs.{KnowsNamed}
+use Rattle.rk_rebuild.proofs.Words.{sym, ◌∙◌, KnowsNamed}
 use Rattle.rk_rebuild.proofs.Logs.{next_here, next_behind, stands_has}
 use Rattle.rk_rebuild.proofs.member.next_of.Goals as goal
 

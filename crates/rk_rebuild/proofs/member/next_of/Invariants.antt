@@ -1,8 +1,5 @@
-use Rattle.std.proofs.Common.{◌≡◌, drop}
-use Rattle.rk_types.specs.declared.range.Range.{Range}
+use Rattle.rk_rebuild.proofs.Words.{◌≡◌, drop, Range, AllByRecursion, KnowsNamed, members_of}
 use Rattle.rk_world.specs.Gather.{next_of}
-use Rattle.std.specs.List.{AllByRecursion}
-use Rattle.rk_rebuild.specs.Logs.{KnowsNamed, members_of}
 use Rattle.rk_rebuild.proofs.member.next_of.Given as goal
 
 abbrev pub invariant-loop-reader : goal.invariant-loop-reader

@@ -1,9 +1,7 @@
-use Rattle.std.proofs.Common.{◌≡◌, ◌<◌, length, sym, ap, arith, ◌+◌, Bool, true, cond, Option, Some, drop, ◌∙◌, subst}
-use Rattle.std.specs.List.{find}
-use Rattle.rk_world.specs.Gather.{Gathered, next_segment, next_side}
-use Rattle.rk_rebuild.specs.declared.member.ReadLog.{ReadLog}
-use Rattle.rk_rebuild.specs.declared.member.Reader.{Reader}
-use Rattle.rk_rebuild.specs.Logs.{IsUpTo, gathered_of, is_unread}
+use Rattle.rk_rebuild.proofs.Words.{◌≡◌, ◌<◌, length, sym, ap, arith, ◌+◌, Bool, true, cond, Option, Some, drop, ◌∙◌, subst, find, Gathered}
+use Rattle.rk_rebuild.proofs.Words.{ReadLog, Reader, gathered_of, is_unread}
+use Rattle.rk_world.specs.Gather.{next_segment, next_side}
+use Rattle.rk_rebuild.specs.Logs.{IsUpTo}
 use Rattle.rk_rebuild.proofs.Logs.{find_behind, short_found}
 use Rattle.rk_rebuild.proofs.member.next_segment.Goals as goal
 

@@ -1,6 +1,4 @@
-use Rattle.std.proofs.Common.{◌≡◌, drop}
-use Rattle.std.specs.List.{find}
-use Rattle.rk_rebuild.specs.Logs.{is_unread}
+use Rattle.rk_rebuild.proofs.Words.{◌≡◌, drop, find, is_unread}
 use Rattle.rk_rebuild.proofs.member.next_side.Given as goal
 
 abbrev pub invariant-loop-segment : goal.invariant-loop-segment

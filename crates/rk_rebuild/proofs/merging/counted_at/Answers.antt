@@ -1,15 +1,9 @@
-use Rattle.std.proofs.Common.{◌≡◌, List, [], Option, drop, sym, ap, ◌∙◌}
-use Rattle.std.specs.List.{flat_map}
+use Rattle.rk_rebuild.proofs.Words.{◌≡◌, List, [], Option, drop, sym, ap, ◌∙◌, flat_map, Bor, Entry, counted_of, ReadLog, lent, gathered_at}
+use Rattle.rk_rebuild.proofs.Words.{gathered_of}
 use Rattle.std.proofs.lemmas.List.{drop-map}
 use Rattle.std.proofs.lemmas.Result.{IfOk-weaker}
-use denote.Ref.{Bor}
 use Rattle.rk_types.specs.NumberMap.{get_or}
-use Rattle.rk_entry.specs.declared.entry.Entry.{Entry}
 use Rattle.rk_world.specs.Material.{material_of}
-use Rattle.rk_world.specs.Gather.{counted_of}
-use Rattle.rk_rebuild.specs.declared.member.ReadLog.{ReadLog}
-use Rattle.rk_rebuild.specs.Lent.{lent}
-use Rattle.rk_rebuild.specs.Logs.{gathered_at, gathered_of}
 use Rattle.rk_rebuild.proofs.merging.counted_at.Goals as goal
 
 pub returns : goal.returns

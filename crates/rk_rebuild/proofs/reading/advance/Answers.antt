@@ -1,7 +1,5 @@
-use Rattle.std.proofs.Common.{List, set, sym, ap, ◌∙◌}
+use Rattle.rk_rebuild.proofs.Words.{List, set, sym, ap, ◌∙◌, Reader, advanced}
 use Rattle.std.proofs.lemmas.List.Edits.{map_over_more}
-use Rattle.rk_rebuild.specs.declared.member.Reader.{Reader}
-use Rattle.rk_rebuild.specs.Logs.{advanced}
 use Rattle.rk_rebuild.proofs.reading.advance.Goals as goal
 
 pub loop-reader-preserved : goal.loop-reader-preserved

@@ -1,5 +1,4 @@
-use Rattle.std.proofs.Common.{◌≡◌, ◌++◌, drop, map, take}
-use Rattle.rk_rebuild.specs.Logs.{advanced}
+use Rattle.rk_rebuild.proofs.Words.{◌≡◌, ◌++◌, drop, map, take, advanced}
 use Rattle.rk_rebuild.proofs.reading.advance.Given as goal
 
 -- the readers so far are moved on

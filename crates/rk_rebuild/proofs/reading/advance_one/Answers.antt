@@ -1,7 +1,6 @@
-use Rattle.std.proofs.Common.{◌≤◌, length, not, ap, arith, length-drop}
-use Rattle.std.specs.List.{position_or_len}
+use Rattle.rk_rebuild.proofs.Words.{◌≤◌, length, not, ap, arith, position_or_len, is_unread}
+use Rattle.std.proofs.Common.{length-drop}
 use Rattle.std.proofs.lemmas.List.Sums.{prefix_len-le-length}
-use Rattle.rk_rebuild.specs.Logs.{is_unread}
 use Rattle.rk_rebuild.proofs.reading.advance_one.Goals as goal
 
 pub overflow_add-reader : goal.overflow_add-reader

@@ -1,5 +1,4 @@
-use Rattle.std.proofs.Common.{◌≡◌, map, take}
-use Rattle.rk_rebuild.specs.Logs.{passed}
+use Rattle.rk_rebuild.proofs.Words.{◌≡◌, map, take, passed}
 use Rattle.rk_rebuild.proofs.reading.all_passed.Given as goal
 
 abbrev pub invariant-loop-reader : goal.invariant-loop-reader

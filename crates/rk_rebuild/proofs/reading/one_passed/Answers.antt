@@ -1,12 +1,5 @@
-use Rattle.std.proofs.Common.{◌≡◌, Bool, cond, List, drop, sym, ap, ◌∙◌}
-use Rattle.std.specs.List.{flat_map}
-use Rattle.std.proofs.lemmas.Bool.{eq-eqb}
+use Rattle.rk_rebuild.proofs.Words.{◌≡◌, Bool, cond, List, drop, sym, ap, ◌∙◌, flat_map, eq-eqb, Bor, Entry, named, Reader, lent}
 use Rattle.std.proofs.lemmas.List.{drop-map}
-use denote.Ref.{Bor}
-use Rattle.rk_entry.specs.declared.entry.Entry.{Entry}
-use Rattle.rk_world.specs.Material.{named}
-use Rattle.rk_rebuild.specs.declared.member.Reader.{Reader}
-use Rattle.rk_rebuild.specs.Lent.{lent}
 use Rattle.rk_rebuild.proofs.reading.one_passed.Goals as goal
 
 pub returns : goal.returns

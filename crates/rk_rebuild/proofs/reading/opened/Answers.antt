@@ -1,7 +1,5 @@
-use Rattle.std.proofs.Common.{◌≤◌, not, length, ap, ◌∙◌, arith}
-use Rattle.std.specs.List.{position_or_len}
+use Rattle.rk_rebuild.proofs.Words.{◌≤◌, not, length, ap, ◌∙◌, arith, position_or_len, gathered_at, is_by}
 use Rattle.std.proofs.lemmas.List.Sums.{prefix_len-le-length}
-use Rattle.rk_rebuild.specs.Logs.{gathered_at, is_by}
 use Rattle.rk_rebuild.proofs.Changes.{opened_same}
 use Rattle.rk_rebuild.proofs.reading.opened.Goals as goal
 

@@ -1,8 +1,5 @@
-use Rattle.std.proofs.Common.{false, [], length, sym, ap, ◌∙◌, arith}
-use Rattle.std.proofs.lemmas.Bool.{eq-eqb}
+use Rattle.rk_rebuild.proofs.Words.{false, [], length, sym, ap, ◌∙◌, arith, eq-eqb, ReadLog, is_by}
 use Rattle.std.proofs.lemmas.List.Sums.{position_or_len_is}
-use Rattle.rk_rebuild.specs.declared.member.ReadLog.{ReadLog}
-use Rattle.rk_rebuild.specs.Logs.{is_by}
 use Rattle.rk_rebuild.proofs.reading.place_of.Goals as goal
 
 -- a log, where none is

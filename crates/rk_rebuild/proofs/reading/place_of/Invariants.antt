@@ -1,6 +1,4 @@
-use Rattle.std.proofs.Common.{◌≡◌, ℕ, ◌<◌, false, get_or}
-use Rattle.rk_rebuild.specs.declared.member.ReadLog.{ReadLog}
-use Rattle.rk_rebuild.specs.Logs.{is_by}
+use Rattle.rk_rebuild.proofs.Words.{◌≡◌, ℕ, ◌<◌, false, get_or, ReadLog, is_by}
 use Rattle.rk_rebuild.proofs.reading.place_of.Given as goal
 
 -- none of the logs so far is that of the master

@@ -1,13 +1,10 @@
-use Rattle.std.proofs.Common.{◌≡◌, ◌+◌, ◌<◌, ◌∷◌, ◌++◌, ℕ, [], List, Option, Some, None, true, map, set, length, sym, ap, ◌∙◌, subst, arith}
+use Rattle.rk_rebuild.proofs.Words.{◌≡◌, ◌+◌, ◌<◌, ◌∷◌, ◌++◌, ℕ, [], List, Option, Some, None, true, map, set, length, sym, ap, ◌∙◌, subst}
+use Rattle.rk_rebuild.proofs.Words.{arith, Bor, insert, ReadLog, Reader, gathered_of, members_of, passed}
 use Rattle.std.specs.Option.{option_map}
-use denote.Ref.{Bor}
-use Rattle.rk_types.specs.NumberMap.{insert}
 use Rattle.rk_outside.specs.Segments.{bytes_of}
 use Rattle.rk_entry.specs.Entries.{entries_of}
 use Rattle.rk_world.specs.Gather.{with_read, LAST_MAIN_SEGMENT}
-use Rattle.rk_rebuild.specs.declared.member.ReadLog.{ReadLog}
-use Rattle.rk_rebuild.specs.declared.member.Reader.{Reader}
-use Rattle.rk_rebuild.specs.Logs.{IsGathered, gathered_of, members_of, passed}
+use Rattle.rk_rebuild.specs.Logs.{IsGathered}
 use Rattle.rk_rebuild.proofs.Changes.{StandsAt, log_master, members_read, members_same, members_advanced, members_passed, side_reads, main_reads, pass_reads, gathered_same, gathered_side, gathered_main, gathered_pass, put_back, short_main, either, both, both_err, ok_gives, err_gives, on_err}
 use Rattle.rk_rebuild.proofs.reading.read.Goals as goal
 

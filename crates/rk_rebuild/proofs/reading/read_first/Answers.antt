@@ -1,6 +1,5 @@
-use Rattle.std.proofs.Common.{length, sym, ◌∙◌, arith}
+use Rattle.rk_rebuild.proofs.Words.{length, sym, ◌∙◌, arith, is_unread}
 use Rattle.std.proofs.lemmas.List.Sums.{position_or_len_is}
-use Rattle.rk_rebuild.specs.Logs.{is_unread}
 use Rattle.rk_rebuild.proofs.reading.read_first.Goals as goal
 
 pub returns-then-is_unread : goal.returns-then-is_unread

@@ -1,5 +1,4 @@
-use Rattle.std.proofs.Common.{◌≡◌, ℕ, ◌<◌, false, get_or}
-use Rattle.rk_rebuild.specs.Logs.{is_unread}
+use Rattle.rk_rebuild.proofs.Words.{◌≡◌, ℕ, ◌<◌, false, get_or, is_unread}
 use Rattle.rk_rebuild.proofs.reading.read_first.Given as goal
 
 -- the segments so far were read

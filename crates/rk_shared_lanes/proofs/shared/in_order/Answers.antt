@@ -1,7 +1,6 @@
-use Rattle.std.proofs.Common.{List, sym, ap, ◌∙◌, subst, arith}
+use Rattle.rk_shared_lanes.proofs.Words.{List, sym, ap, ◌∙◌, subst, arith, numbers_of}
 use Rattle.std.specs.List.Sorted.{IsPermutation}
 use Rattle.rk_shared.proofs.Ordered.{are_in_order, written_over}
-use Rattle.rk_shared_lanes.specs.Together.{numbers_of}
 use Rattle.rk_shared_lanes.proofs.shared.in_order.Goals as goal
 
 pub returns-clause-numbers : goal.returns-clause-numbers

@@ -1,6 +1,5 @@
-use Rattle.std.proofs.Common.{length, ap, arith}
+use Rattle.rk_side_log.proofs.Words.{length, ap, arith, side_replayed}
 use Rattle.std.specs.Vec.Iter.{into_iter_items}
-use Rattle.rk_side_log.specs.Replayed.{side_replayed}
 use Rattle.rk_side_log.proofs.Replaying.{goes_some, goes_none, next_room}
 use Rattle.rk_side_log.proofs.replay.replay_all.Goals as goal
 

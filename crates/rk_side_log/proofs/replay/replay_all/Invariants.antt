@@ -1,7 +1,5 @@
-use Rattle.std.proofs.Common.{◌≤◌, length, vec_capacity}
+use Rattle.rk_side_log.proofs.Words.{◌≤◌, length, vec_capacity, LONGEST_SPELLED, side_replayed}
 use Rattle.std.specs.Vec.Iter.{into_iter_items}
-use Rattle.rk_types.specs.declared.held.TheConstants.{LONGEST_SPELLED}
-use Rattle.rk_side_log.specs.Replayed.{side_replayed}
 use Rattle.rk_side_log.proofs.Replaying.{GoesOn}
 use Rattle.rk_side_log.proofs.replay.replay_all.Given as goal
 

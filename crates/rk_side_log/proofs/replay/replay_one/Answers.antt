@@ -1,13 +1,7 @@
-use Rattle.std.proofs.Common.{◌≡◌, ◌∙◌, ◌≤◌, ◌++◌, ◌∷◌, [], ℕ, Some, None, length, true, sym, ap, subst, arith}
-use Rattle.std.proofs.lemmas.Bool.{cond-true}
-use Rattle.rk_types.specs.Held.{spelled_of}
-use Rattle.rk_types.specs.declared.held.Held.{Held}
+use Rattle.rk_side_log.proofs.Words.{◌≡◌, ◌∙◌, ◌≤◌, ◌++◌, ◌∷◌, [], ℕ, Some, None, length, true, sym, ap, subst, arith, cond-true}
+use Rattle.rk_side_log.proofs.Words.{spelled_of, Held, IsLawfulHeld, spelled, held_spelled, found, is_newer, segments_of}
 use Rattle.rk_entry.specs.declared.entry.Entry.TheVariants as entries
-use Rattle.rk_entry.specs.Lawful.{IsLawfulHeld}
-use Rattle.rk_entry.specs.Spelling.{spelled}
-use Rattle.rk_entry.proofs.Sizes.{held_spelled}
-use Rattle.rk_table.specs.Items.{found, is_newer}
-use Rattle.rk_side_log.specs.Side.{segments_of, with_last}
+use Rattle.rk_side_log.specs.Side.{with_last}
 use Rattle.rk_side_log.proofs.Filled.{bytes_most, item_is}
 use Rattle.rk_side_log.proofs.replay.replay_one.Goals as goal
 

@@ -1,5 +1,4 @@
-use Rattle.std.proofs.Common.{arith}
-use Rattle.rk_entry.proofs.Sizes.{held_spelled}
+use Rattle.rk_side_log.proofs.Words.{arith, held_spelled}
 use Rattle.rk_side_log.proofs.Filled.{spelled_most}
 use Rattle.rk_side_log.proofs.replay.spell.Goals as goal
 

@@ -1,5 +1,4 @@
-use Rattle.std.proofs.Common.{◌≡◌, ◌+◌, ◌≤◌, drop}
-use Rattle.rk_side_log.specs.Side.{begun}
+use Rattle.rk_side_log.proofs.Words.{◌≡◌, ◌+◌, ◌≤◌, drop, begun}
 use Rattle.rk_side_log.proofs.side_log.begun_by.Given as goal
 
 abbrev pub invariant-loop-item : goal.invariant-loop-item

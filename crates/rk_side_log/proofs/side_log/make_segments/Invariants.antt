@@ -1,5 +1,4 @@
-use Rattle.std.proofs.Common.{◌≡◌, ◌+◌, ◌++◌, [], replicate, vec_len}
-use Rattle.rk_side_log.specs.Spelled.{bytes_in}
+use Rattle.rk_side_log.proofs.Words.{◌≡◌, ◌+◌, ◌++◌, [], replicate, vec_len, bytes_in}
 use Rattle.rk_side_log.proofs.side_log.make_segments.Given as goal
 
 abbrev pub invariant-loop : goal.invariant-loop

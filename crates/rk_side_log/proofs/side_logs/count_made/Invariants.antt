@@ -1,5 +1,4 @@
-use Rattle.std.proofs.Common.{◌≡◌, take}
-use Rattle.rk_side_log.specs.Sides.{made_in}
+use Rattle.rk_side_log.proofs.Words.{◌≡◌, take, made_in}
 use Rattle.rk_side_log.proofs.side_logs.count_made.Given as goal
 
 abbrev pub invariant-loop-side : goal.invariant-loop-side

@@ -1,11 +1,7 @@
-use Rattle.std.proofs.Common.{◌≡◌, ◌∙◌, ◌++◌, ℕ, List, get_or, length, map, replicate, vec_len, vec_capacity, sym, ap, subst, arith}
-use Rattle.std.specs.List.{All}
+use Rattle.rk_side_log.proofs.Words.{◌≡◌, ◌∙◌, ◌++◌, ℕ, List, get_or, length, map, replicate, vec_len, vec_capacity, sym, ap, subst, arith}
+use Rattle.rk_side_log.proofs.Words.{All, IsLawfulHeld, cut_items, Side, no_side, bytes_in, spelled_items}
 use Rattle.std.proofs.lemmas.List.{take_all}
 use Rattle.std.proofs.lemmas.List.Elements.{All-more}
-use Rattle.rk_entry.specs.Lawful.{IsLawfulHeld}
-use Rattle.rk_world.specs.SideLogs.{cut_items}
-use Rattle.rk_side_log.specs.Side.{Side, no_side}
-use Rattle.rk_side_log.specs.Spelled.{bytes_in, spelled_items}
 use Rattle.rk_side_log.proofs.Sealing.{drop_more_set, room_more, same_there, sealed_more, take_more_none}
 use Rattle.rk_side_log.proofs.side_logs.seal_all.Goals as goal
 

@@ -1,10 +1,5 @@
-use Rattle.std.proofs.Common.{◌≡◌, ◌+◌, ◌≤◌, ◌++◌, map, take, drop, replicate, vec_len, vec_capacity}
-use Rattle.std.specs.List.{All}
-use Rattle.rk_entry.specs.Lawful.{IsLawfulHeld}
-use Rattle.rk_world.specs.SideLogs.{sealed_sides}
-use Rattle.rk_side_log.specs.Side.{no_side}
-use Rattle.rk_side_log.specs.Sides.{items_of_each, made_in}
-use Rattle.rk_side_log.specs.Spelled.{bytes_in, spelled_items}
+use Rattle.rk_side_log.proofs.Words.{◌≡◌, ◌+◌, ◌≤◌, ◌++◌, map, take, drop, replicate, vec_len, vec_capacity, All, IsLawfulHeld}
+use Rattle.rk_side_log.proofs.Words.{sealed_sides, no_side, items_of_each, made_in, bytes_in, spelled_items}
 use Rattle.rk_side_log.proofs.side_logs.seal_all.Given as goal
 
 abbrev pub invariant-loop-side : goal.invariant-loop-side

@@ -1,9 +1,5 @@
-use Rattle.std.proofs.Common.{◌≡◌, ℕ, ◌<◌, ◌^◌, ◌∷◌, ◌++◌, [], List, drop, get_or, length, take, sym, ap, ◌∙◌, subst, arith}
-use Rattle.rk_types.specs.declared.held.Held.{Held}
-use Rattle.rk_table.specs.Items.{at_hash, live_in}
-use Rattle.rk_bucket_table.specs.declared.cell.TheConstants.{END}
-use Rattle.rk_bucket_table.specs.Cells.{AreChains, items_in, joined}
-use Rattle.rk_bucket_table.specs.Shown.{Shown}
+use Rattle.rk_bucket_table.proofs.Words.{◌≡◌, ℕ, ◌<◌, ◌^◌, ◌∷◌, ◌++◌, [], List, drop, get_or, length, take, sym, ap, ◌∙◌, subst, arith}
+use Rattle.rk_bucket_table.proofs.Words.{Held, at_hash, live_in, END, AreChains, items_in, joined, Shown}
 use Rattle.rk_bucket_table.proofs.Lookups.{in_heads}
 use Rattle.rk_bucket_table.proofs.Scanning.{hash_in_chain, one_head}
 use Rattle.rk_bucket_table.proofs.Tables.{chain_ends, table_items}

@@ -1,6 +1,4 @@
-use Rattle.std.proofs.Common.{◌*◌, ℕ, List, length, sym, ap, ◌∙◌, subst, arith}
-use Rattle.rk_bucket_table.specs.Cells.{IsTable}
-use Rattle.rk_bucket_table.specs.Shown.{Shown}
+use Rattle.rk_bucket_table.proofs.Words.{◌*◌, ℕ, List, length, sym, ap, ◌∙◌, subst, arith, IsTable, Shown}
 use Rattle.rk_bucket_table.proofs.Tables.{table_items}
 use Rattle.rk_bucket_table.proofs.chains.Chains.double.Goals as goal
 

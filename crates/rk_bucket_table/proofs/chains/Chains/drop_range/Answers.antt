@@ -1,7 +1,4 @@
-use Rattle.std.proofs.Common.{length, map, sym, ap, ◌∙◌, arith}
-use Rattle.rk_table.specs.Items.{without}
-use Rattle.rk_bucket_table.specs.Cells.{IsTable, joined}
-use Rattle.rk_bucket_table.specs.Shown.{Shown}
+use Rattle.rk_bucket_table.proofs.Words.{length, map, sym, ap, ◌∙◌, arith, without, IsTable, joined, Shown}
 use Rattle.rk_bucket_table.proofs.Dropping.{joined_without, without_less}
 use Rattle.rk_bucket_table.proofs.Tables.{table_items}
 use Rattle.rk_bucket_table.proofs.chains.Chains.drop_range.Goals as goal

@@ -1,7 +1,4 @@
-use Rattle.std.proofs.Common.{Some, sym, ap, ◌∙◌}
-use Rattle.rk_types.specs.Hashing.{hash_of}
-use Rattle.rk_bucket_table.specs.Cells.{place_seen}
-use Rattle.rk_bucket_table.specs.Shown.{Shown}
+use Rattle.rk_bucket_table.proofs.Words.{Some, sym, ap, ◌∙◌, hash_of, place_seen, Shown}
 use Rattle.rk_bucket_table.proofs.Gets.{got_cell, got_none, got_other, number_of}
 use Rattle.rk_bucket_table.proofs.Lookups.{head_ends}
 use Rattle.rk_bucket_table.proofs.Numbers.{hash_below}

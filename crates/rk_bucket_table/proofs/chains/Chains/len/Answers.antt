@@ -1,5 +1,4 @@
-use Rattle.std.proofs.Common.{length, sym, ap, ◌∙◌}
-use Rattle.rk_bucket_table.specs.Shown.{Shown}
+use Rattle.rk_bucket_table.proofs.Words.{length, sym, ap, ◌∙◌, Shown}
 use Rattle.rk_bucket_table.proofs.Tables.{table_items}
 use Rattle.rk_bucket_table.proofs.chains.Chains.len.Goals as goal
 

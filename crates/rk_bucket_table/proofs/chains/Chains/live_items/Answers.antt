@@ -1,6 +1,4 @@
-use Rattle.std.proofs.Common.{sym, subst}
-use Rattle.std.proofs.Common.{List, ℕ}
-use Rattle.rk_bucket_table.specs.Cells.{AreChains}
+use Rattle.rk_bucket_table.proofs.Words.{sym, subst, List, ℕ, AreChains}
 use Rattle.rk_bucket_table.proofs.Tables.{table_chains}
 use Rattle.rk_bucket_table.proofs.chains.Chains.live_items.Goals as goal
 

@@ -1,8 +1,5 @@
-use Rattle.std.proofs.Common.{◌≡◌, sym, ap, ◌∙◌, arith}
-use Rattle.rk_types.specs.Hashing.{hash_of}
-use Rattle.rk_table.specs.Items.{found, is_newer, with_newer}
-use Rattle.rk_bucket_table.specs.Cells.{chain_of, joined, place_seen}
-use Rattle.rk_bucket_table.specs.Shown.{Shown}
+use Rattle.rk_bucket_table.proofs.Words.{◌≡◌, sym, ap, ◌∙◌, arith, hash_of, found, chain_of, joined, place_seen, Shown}
+use Rattle.rk_table.specs.Items.{is_newer, with_newer}
 use Rattle.rk_bucket_table.proofs.Lookups.{head_ends}
 use Rattle.rk_bucket_table.proofs.Numbers.{hash_below}
 use Rattle.rk_bucket_table.proofs.Puts.{HasItems, added_code, newer_added, replaced_code, shown_items}

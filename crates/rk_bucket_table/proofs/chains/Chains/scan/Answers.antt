@@ -1,11 +1,5 @@
-use Rattle.std.proofs.Common.{◌≡◌, ◌*◌, ◌<◌, ◌++◌, List, drop, length, refl, sym, ap, ◌∙◌, subst, arith}
-use Rattle.rk_types.specs.declared.held.Held.{Held}
-use Rattle.rk_table.specs.Items.{live_in}
-use Rattle.rk_table.specs.Order.{IsInScanOrder}
-use Rattle.rk_table.specs.Scans.{batch_at, next_token, passed, rest_at, token_behind}
-use Rattle.rk_bucket_table.specs.Cells.{joined}
-use Rattle.rk_bucket_table.specs.Scanning.{IsFrom}
-use Rattle.rk_bucket_table.specs.Shown.{Shown}
+use Rattle.rk_bucket_table.proofs.Words.{◌≡◌, ◌*◌, ◌<◌, ◌++◌, List, drop, length, refl, sym, ap, ◌∙◌, subst, arith, Held, live_in}
+use Rattle.rk_bucket_table.proofs.Words.{IsInScanOrder, batch_at, next_token, passed, rest_at, token_behind, joined, IsFrom, Shown}
 use Rattle.rk_bucket_table.proofs.Answering.{onward_chains, onward_from, onward_is, onward_order, scan_batch, scan_end, scan_more}
 use Rattle.rk_bucket_table.proofs.Tables.{table_items}
 use Rattle.rk_bucket_table.proofs.chains.Chains.scan.Goals as goal

@@ -1,5 +1,4 @@
-use Rattle.std.proofs.Common.{◌≡◌, ◌++◌, [], sym, ◌∙◌}
-use Rattle.rk_bucket_table.specs.Cells.{chain, items_in}
+use Rattle.rk_bucket_table.proofs.Words.{◌≡◌, ◌++◌, [], sym, ◌∙◌, chain, items_in}
 use Rattle.rk_bucket_table.proofs.Segments.{rest_ends, rest_in_chain}
 use Rattle.rk_bucket_table.proofs.rest.Rest.next.Goals as goal
 

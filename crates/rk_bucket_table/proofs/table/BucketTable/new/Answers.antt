@@ -1,6 +1,4 @@
-use Rattle.std.proofs.Common.{sym, subst}
-use Rattle.std.specs.List.Sorted.{IsStrictlySortedBy}
-use Rattle.rk_table.specs.Order.{IsInScanOrder}
+use Rattle.rk_bucket_table.proofs.Words.{sym, subst, IsStrictlySortedBy, IsInScanOrder}
 use Rattle.rk_bucket_table.proofs.table.BucketTable.new.Goals as goal
 
 -- no items are in scan order

@@ -1,5 +1,4 @@
-use Rattle.std.proofs.Common.{sym, subst}
-use Rattle.rk_table.specs.Order.{IsInScanOrder}
+use Rattle.rk_bucket_table.proofs.Words.{sym, subst, IsInScanOrder}
 use Rattle.rk_table.proofs.Changes.{order_after}
 use Rattle.rk_bucket_table.proofs.table.BucketTableRecordTable.put_if_newer.Goals as goal
 

@@ -1,34 +1,17 @@
-use Rattle.std.proofs.Common.{length, Some, refl, sym, ap, subst, ◌∙◌, arith}
-use Rattle.std.proofs.lemmas.Result.{err_from_is_err_and}
-use Rattle.rk_types.specs.NumberMap.{get, insert}
-use Rattle.rk_types.proofs.NumberMaps.{each_insert}
-use Rattle.rk_world.specs.Client.{new_session}
-use Rattle.rk_world.specs.Premises.{MayAct}
+use Rattle.rk_cluster.proofs.Words.{length, refl, sym, ap, subst, ◌∙◌, arith, err_from_is_err_and, get, insert, each_insert, new_session}
+use Rattle.rk_cluster.proofs.Words.{MayAct, cluster_of, MayAllAct, StepsEndWorn, Joins, [], ◌∷◌}
 use Rattle.rk_world.specs.declared.event.Event.TheVariants as events
-use Rattle.rk_cluster.specs.Codes.{client_code}
-use Rattle.rk_cluster.specs.Effects.{CutShortBy, EndsIn, HasCode, IsCarriedOut}
-use Rattle.rk_cluster.specs.Inside.{cluster_of}
-use Rattle.rk_cluster.specs.Makes.{client_makes}
-use Rattle.rk_cluster.specs.State.{ClusterState}
-use Rattle.rk_cluster.specs.Steps.{MayAllAct, StepsEndWorn, state_of}
-use Rattle.rk_cluster.specs.declared.code.Code.TheVariants.{Limit, Taken}
-use Rattle.rk_world.specs.Cluster.{Joins}
-use Rattle.std.proofs.Common.{[], ◌∷◌}
 use Rattle.rk_cluster.proofs.Joining.{absent_none, all_short_before, all_worn, client_acts, client_free, client_full, client_taken, deeds_fit, deeds_in, ends_in, few, joins_short, many, new_acts}
 use Rattle.rk_cluster.proofs.Faults.{counts_same}
 use Rattle.rk_cluster.proofs.cluster.Cluster.add_client.Goals as goal
 
 pub returns-then-has_session-clause-err : goal.returns-then-has_session-clause-err
-returns-then-has_session-clause-err g c = (
-  subst (λ (state : ClusterState g.row.R.Denot). HasCode g.R.Replica.segments state (λ cluster. client_code cluster c.args.client) (Some Taken)) c.self.view_is
-      (client_taken g.R.Replica.segments (cluster_of c.self.inside) c.args.client (sym c.has_session.ensures ∙ c.if-has_session.true)),
-  refl,
-)
+returns-then-has_session-clause-err g c =
+    (rw (← c.self.view_is) (client_taken _ (cluster_of c.self.inside) c.args.client (sym c.has_session.ensures ∙ c.if-has_session.true)), refl)
 
 pub returns-then-count-ge-MOST_CLIENTS-clause-err : goal.returns-then-count-ge-MOST_CLIENTS-clause-err
 returns-then-count-ge-MOST_CLIENTS-clause-err g c = (
-  subst (λ (state : ClusterState g.row.R.Denot). HasCode g.R.Replica.segments state (λ cluster. client_code cluster c.args.client) (Some Limit)) c.self.view_is
-      (client_full g.R.Replica.segments (cluster_of c.self.inside) c.args.client (sym c.has_session.ensures ∙ c.if-has_session.false)
+  rw (← c.self.view_is) (client_full _ (cluster_of c.self.inside) c.args.client (sym c.has_session.ensures ∙ c.if-has_session.false)
       (many (length c.self.inside.sessions.entries) (omega (arith, c.count.ensures, c.if-count-ge-MOST_CLIENTS.true)))),
   refl,
 )
@@ -36,35 +19,28 @@ returns-then-count-ge-MOST_CLIENTS-clause-err g c = (
 pub act_all-requires-clause-may : goal.act_all-requires-clause-may
 act_all-requires-clause-may g c =
     rw c.in_all_lanes-deeds.ensures
-    (deeds_fit c.self.inside.masters (length c.self.inside.lanes.items) (events.AddClient c.args.client) c.self.invariant.count tt (record { least_is = c.requires; fits = c.ranges.client.fits }))
+    (deeds_fit c.self.inside.masters _ (events.AddClient c.args.client) c.self.invariant.count tt (record { least_is = c.requires; fits = c.ranges.client.fits }))
 
 pub returns-in_err-act_all-clause-err : goal.returns-in_err-act_all-clause-err
 returns-in_err-act_all-clause-err g c =
     let lost = err_from_is_err_and c.from_residual.result c.from_residual.ensures.1 in
-    let now = c.self.inside.sessions.entries in
     let old = c.self.inside.lanes.items in
     let new = c.act_all.new.lanes.items in
-    rw (lost.1, lost.2)
-    (subst (λ (state : ClusterState g.row.R.Denot). EndsIn g.R.Replica.segments state (state_of new now) (λ cluster. client_code cluster c.args.client) (λ cluster. client_makes cluster c.args.client) c.in_err-act_all.field-0.0)
-    c.self.view_is
-    (ends_in g.R.Replica.segments (StepsEndWorn g.R.Replica.segments old new (deeds_in (events.AddClient c.args.client))) (state_of old now) (state_of new now)
-    (λ cluster. client_code cluster c.args.client) (λ cluster. client_makes cluster c.args.client) c.in_err-act_all.field-0.0
-    (client_free g.R.Replica.segments (cluster_of c.self.inside) c.args.client (sym c.has_session.ensures ∙ c.if-has_session.false)
+    rw (lost.1, lost.2, ← c.self.view_is)
+    (ends_in _ (StepsEndWorn g.R.Replica.segments old new (deeds_in (events.AddClient c.args.client))) _ _ _ _ _
+    (client_free _ (cluster_of c.self.inside) c.args.client (sym c.has_session.ensures ∙ c.if-has_session.false)
     (few (length c.self.inside.sessions.entries) (omega (arith, c.count.ensures, c.if-count-ge-MOST_CLIENTS.false))))
-    (λ number worn. all_worn g.R.Replica.segments old new now (events.AddClient c.args.client) (Joins c.args.client ∷ []) number c.self.invariant.count worn)
+    (λ number worn. all_worn _ old new c.self.inside.sessions.entries (events.AddClient c.args.client) (Joins c.args.client ∷ []) number c.self.invariant.count worn)
     (rw c.in_all_lanes-deeds.ensures at c.in_err-act_all.ensures.err)
-    (all_short_before g.R.Replica.segments old new now (events.AddClient c.args.client) (Joins c.args.client ∷ []) c.self.invariant.count
-    (rw c.in_all_lanes-deeds.ensures at c.in_err-act_all.ensures.short))))
+    (all_short_before _ old new _ (events.AddClient c.args.client) (Joins c.args.client ∷ []) c.self.invariant.count
+    (rw c.in_all_lanes-deeds.ensures at c.in_err-act_all.ensures.short)))
 
 pub returns-in_err-put_session-clause-err : goal.returns-in_err-put_session-clause-err
 returns-in_err-put_session-clause-err g c =
     let lost = err_from_is_err_and c.from_residual-in_err-put_session.result c.from_residual-in_err-put_session.ensures.1 in
-    let new = c.act_all.new.lanes.items in
-    let later = c.put_session.new.sessions.entries in
-    rw (lost.1, lost.2)
-    (subst (λ (state : ClusterState g.row.R.Denot). CutShortBy g.R.Replica.segments state (state_of new later) (λ cluster. client_makes cluster c.args.client)) c.self.view_is
-    (joins_short g.R.Replica.segments c.self.inside.lanes.items new c.self.inside.sessions.entries later c.args.client c.self.invariant.count c.in_err-put_session.ensures.err
-    (rw c.in_all_lanes-deeds.ensures at c.in_ok-act_all.ensures.ok)))
+    rw (lost.1, lost.2, ← c.self.view_is)
+    (joins_short _ _ c.act_all.new.lanes.items _ c.put_session.new.sessions.entries c.args.client c.self.invariant.count
+    c.in_err-put_session.ensures.err (rw c.in_all_lanes-deeds.ensures at c.in_ok-act_all.ensures.ok))
 
 pub invariant_of-self-in_err-put_session : goal.invariant_of-self-in_err-put_session
 invariant_of-self-in_err-put_session g c = record {
@@ -89,19 +65,15 @@ invariant_of-self-2 g c = record {
 pub returns-clause-ok : goal.returns-clause-ok
 returns-clause-ok g c =
     let now = c.self.inside.sessions.entries in
-    let old = c.self.inside.lanes.items in
-    let new = c.act_all.new.lanes.items in
-    subst (λ (state : ClusterState g.row.R.Denot). IsCarriedOut g.R.Replica.segments state (state_of new c.put_session.new.sessions.entries) (λ cluster. client_code cluster c.args.client)
-    (λ cluster. client_makes cluster c.args.client) c.nothing_said.result.items) c.self.view_is
-    (subst (IsCarriedOut g.R.Replica.segments (state_of old now) (state_of new c.put_session.new.sessions.entries) (λ cluster. client_code cluster c.args.client)
-    (λ cluster. client_makes cluster c.args.client)) (sym c.nothing_said.ensures)
+    rw (c.nothing_said.ensures, ← c.self.view_is)
     (record {
-      code = client_free g.R.Replica.segments (cluster_of c.self.inside) c.args.client (sym c.has_session.ensures ∙ c.if-has_session.false)
-          (few (length c.self.inside.sessions.entries) (omega (arith, c.count.ensures, c.if-count-ge-MOST_CLIENTS.false)));
-      acts = client_acts g.R.Replica.segments old new now c.put_session.new.sessions.entries c.args.client (record { least_is = c.requires; fits = c.ranges.client.fits }) c.self.invariant.count
-          (absent_none (get now c.args.client) (sym c.has_session.ensures ∙ c.if-has_session.false)) (c.in_ok-put_session.ensures.ok ∙ ap (insert now c.args.client) c.new.ensures)
-          (rw c.in_all_lanes-deeds.ensures at c.in_ok-act_all.ensures.ok);
-    }))
+      code = client_free _ (cluster_of c.self.inside) c.args.client (sym c.has_session.ensures ∙ c.if-has_session.false)
+          (few (length now) (omega (arith, c.count.ensures, c.if-count-ge-MOST_CLIENTS.false)));
+      acts = client_acts _ _ c.act_all.new.lanes.items now c.put_session.new.sessions.entries c.args.client
+          (record { least_is = c.requires; fits = c.ranges.client.fits }) c.self.invariant.count
+          (absent_none (get now c.args.client) (sym c.has_session.ensures ∙ c.if-has_session.false))
+          (c.in_ok-put_session.ensures.ok ∙ ap (insert now c.args.client) c.new.ensures) (rw c.in_all_lanes-deeds.ensures at c.in_ok-act_all.ensures.ok);
+    })
 
 pub returns-then-has_session-clause-counts : goal.returns-then-has_session-clause-counts
 returns-then-has_session-clause-counts g c = counts_same g.R.Replica.faults c.args.self.now

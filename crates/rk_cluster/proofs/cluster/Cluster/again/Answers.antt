@@ -1,14 +1,4 @@
-use Rattle.std.proofs.Common.{◌≡◌, ◌+◌, None, Some, refl, sym, subst, ◌∙◌, arith}
-use Rattle.std.proofs.lemmas.Result.{err_from_is_err_and}
-use Rattle.rk_types.specs.NumberMap.{get}
-use Rattle.rk_types.proofs.Trees.{get_tree}
-use Rattle.rk_cluster.specs.Again.{IsNextIn, IsSentAgain}
-use Rattle.rk_cluster.specs.Codes.{again_code}
-use Rattle.rk_cluster.specs.Effects.{EndsIn, HasCode, IsCarriedOut}
-use Rattle.rk_cluster.specs.Makes.{again_makes}
-use Rattle.rk_cluster.specs.State.{ClusterState}
-use Rattle.rk_cluster.specs.Steps.{state_of}
-use Rattle.rk_cluster.specs.declared.code.Code.TheVariants.{NothingSent, Unknown}
+use Rattle.rk_cluster.proofs.Words.{◌≡◌, ◌+◌, None, Some, refl, sym, ◌∙◌, arith, err_from_is_err_and, get, get_tree, IsSentAgain}
 use Rattle.rk_cluster.proofs.Joining.{ends_in}
 use Rattle.rk_cluster.proofs.Resending.{again_acts, again_code_by, again_short, again_unknown, few_sent, next_in}
 use Rattle.rk_cluster.proofs.Worlds.{there_read}
@@ -18,20 +8,14 @@ use Rattle.rk_cluster.proofs.cluster.Cluster.again.Goals as goal
 
 pub returns-in_default-clause-err : goal.returns-in_default-clause-err
 returns-in_default-clause-err g c =
-    let absent : get c.self.inside.sessions.entries c.args.client ≡ None = get_tree c.self.inside.sessions c.args.client ∙ sym c.in_default.ensures.value in (
-      subst (λ (state : ClusterState g.row.R.Denot). HasCode g.R.Replica.segments state (λ cluster. again_code cluster c.args.client) (Some Unknown)) c.self.view_is
-          (again_unknown g.R.Replica.segments c.self.inside.lanes.items c.self.inside.sessions.entries c.args.client absent),
-      refl,
-    )
+    let absent : get c.self.inside.sessions.entries c.args.client ≡ None = get_tree c.self.inside.sessions c.args.client ∙ sym c.in_default.ensures.value in
+    (rw (← c.self.view_is) (again_unknown _ c.self.inside.lanes.items _ c.args.client absent), refl)
 
 pub returns-in_default-last_request-clause-err : goal.returns-in_default-last_request-clause-err
 returns-in_default-last_request-clause-err g c =
     let now = c.self.inside.sessions.entries in
-    let found : get now c.args.client ≡ Some c.in-Some.session.now = get_tree c.self.inside.sessions c.args.client ∙ sym c.in-Some.ensures.value in (
-      subst (λ (state : ClusterState g.row.R.Denot). HasCode g.R.Replica.segments state (λ cluster. again_code cluster c.args.client) (Some NothingSent)) c.self.view_is
-          (again_code_by g.R.Replica.segments c.self.inside.lanes.items now c.args.client c.in-Some.session.now None found (sym c.in_default-last_request.ensures)),
-      refl,
-    )
+    let found : get now c.args.client ≡ Some c.in-Some.session.now = get_tree c.self.inside.sessions c.args.client ∙ sym c.in-Some.ensures.value in
+    (rw (← c.self.view_is) (again_code_by _ c.self.inside.lanes.items now c.args.client _ None found (sym c.in_default-last_request.ensures)), refl)
 
 pub overflow_add-next : goal.overflow_add-next
 overflow_add-next g c =
@@ -40,13 +24,11 @@ overflow_add-next g c =
     omega (arith, few)
 
 pub again_in-requires-clause-next : goal.again_in-requires-clause-next
-again_in-requires-clause-next g c =
-    λ lane there.
+again_in-requires-clause-next g c = λ lane there.
     let its = c.index-its.result.now in
     let here = there_read c.self.inside.lanes.items c.request_lane-lane.result its (omega (arith, c.request_lane-lane.ensures.there, c.self.invariant.count)) c.index-its.ensures in
     let same : its ≡ lane = cc (here, there) in
-    subst (IsNextIn (c.sent-next.result + 1)) same
-    (next_in its c.wire.result.now c.sent-next.result c.sent-next.ensures c.wire.ensures c.spent.ensures.formed c.spent.ensures.requests)
+    rw (← same) (next_in its _ c.sent-next.result c.sent-next.ensures c.wire.ensures c.spent.ensures.formed c.spent.ensures.requests)
 
 pub returns-in_err-again_in-clause-err : goal.returns-in_err-again_in-clause-err
 returns-in_err-again_in-clause-err g c =
@@ -54,48 +36,37 @@ returns-in_err-again_in-clause-err g c =
     let lanes = c.self.inside.lanes.items in
     let now = c.self.inside.sessions.entries in
     let new = c.again_in.new.lanes.items in
-    let lane = c.request_lane-lane.result in
+    let number = c.sent-next.result + 1 in
     let its = c.index-its.result.now in
-    let here = there_read lanes lane its (omega (arith, c.request_lane-lane.ensures.there, c.self.invariant.count)) c.index-its.ensures in
+    let here = there_read lanes c.request_lane-lane.result its (omega (arith, c.request_lane-lane.ensures.there, c.self.invariant.count)) c.index-its.ensures in
     let next = next_in its c.wire.result.now c.sent-next.result c.sent-next.ensures c.wire.ensures c.spent.ensures.formed c.spent.ensures.requests in
     let found : get now c.args.client ≡ Some c.in-Some.session.now = get_tree c.self.inside.sessions c.args.client ∙ sym c.in-Some.ensures.value in
     let asked = sym c.in-Some-last_request.ensures in
-    rw (lost.1, lost.2)
-    (subst (λ (state : ClusterState g.row.R.Denot). EndsIn g.R.Replica.segments state (state_of new now) (λ cluster. again_code cluster c.args.client)
-    (λ cluster. again_makes cluster c.args.client) c.in_err-again_in.field-0.0) c.self.view_is
-    (ends_in g.R.Replica.segments (λ broken. IsSentAgain g.R.Replica.segments lanes new lane c.args.client (c.sent-next.result + 1) (Some broken)) (state_of lanes now) (state_of new now)
-    (λ cluster. again_code cluster c.args.client) (λ cluster. again_makes cluster c.args.client) c.in_err-again_in.field-0.0
-    (again_code_by g.R.Replica.segments lanes now c.args.client c.in-Some.session.now (Some c.in-Some-last_request.request.now) found asked)
-    (λ broken. again_acts g.R.Replica.segments lanes now c.args.client c.in-Some.session.now c.in-Some-last_request.request.now lane (c.sent-next.result + 1) its new (Some broken) found asked
-    (sym c.request_lane-lane.ensures.lane) here next)
-    c.in_err-again_in.ensures.err
-    (again_short g.R.Replica.segments lanes now c.args.client c.in-Some.session.now c.in-Some-last_request.request.now lane (c.sent-next.result + 1) its new found asked
-    (sym c.request_lane-lane.ensures.lane) here next c.in_err-again_in.ensures.short)))
+    let lane = sym c.request_lane-lane.ensures.lane in
+    rw (lost.1, lost.2, ← c.self.view_is)
+    (ends_in _ (λ broken. IsSentAgain g.R.Replica.segments lanes new c.request_lane-lane.result c.args.client number (Some broken)) _ _ _ _ _
+    (again_code_by _ lanes now c.args.client _ _ found asked)
+    (λ broken. again_acts _ lanes now c.args.client _ _ _ number its new (Some broken) found asked lane here next) c.in_err-again_in.ensures.err
+    (again_short _ lanes now c.args.client _ _ _ number its new found asked lane here next c.in_err-again_in.ensures.short))
 
 pub returns-then-spent-clause-err : goal.returns-then-spent-clause-err
-returns-then-spent-clause-err g c =
-    nothing_done g.R.Replica.segments c.args.self.now c.args.self.now (λ cluster. again_makes cluster c.args.client) (same_short c.args.self.now)
+returns-then-spent-clause-err g c = nothing_done _ _ _ _ (same_short c.args.self.now)
 
 pub returns-clause-ok : goal.returns-clause-ok
 returns-clause-ok g c =
     let lanes = c.self.inside.lanes.items in
     let now = c.self.inside.sessions.entries in
-    let new = c.again_in.new.lanes.items in
-    let lane = c.request_lane-lane.result in
     let its = c.index-its.result.now in
-    let here = there_read lanes lane its (omega (arith, c.request_lane-lane.ensures.there, c.self.invariant.count)) c.index-its.ensures in
+    let here = there_read lanes c.request_lane-lane.result its (omega (arith, c.request_lane-lane.ensures.there, c.self.invariant.count)) c.index-its.ensures in
     let next = next_in its c.wire.result.now c.sent-next.result c.sent-next.ensures c.wire.ensures c.spent.ensures.formed c.spent.ensures.requests in
     let found : get now c.args.client ≡ Some c.in-Some.session.now = get_tree c.self.inside.sessions c.args.client ∙ sym c.in-Some.ensures.value in
     let asked = sym c.in-Some-last_request.ensures in
-    subst (λ (state : ClusterState g.row.R.Denot). IsCarriedOut g.R.Replica.segments state (state_of new now) (λ cluster. again_code cluster c.args.client)
-    (λ cluster. again_makes cluster c.args.client) c.nothing_said.result.items) c.self.view_is
-    (subst (IsCarriedOut g.R.Replica.segments (state_of lanes now) (state_of new now) (λ cluster. again_code cluster c.args.client)
-    (λ cluster. again_makes cluster c.args.client)) (sym c.nothing_said.ensures)
+    rw (c.nothing_said.ensures, ← c.self.view_is)
     (record {
-      code = again_code_by g.R.Replica.segments lanes now c.args.client c.in-Some.session.now (Some c.in-Some-last_request.request.now) found asked;
-      acts = again_acts g.R.Replica.segments lanes now c.args.client c.in-Some.session.now c.in-Some-last_request.request.now lane (c.sent-next.result + 1) its new None found asked
-          (sym c.request_lane-lane.ensures.lane) here next c.in_ok-again_in.ensures.ok;
-    }))
+      code = again_code_by _ lanes now c.args.client _ _ found asked;
+      acts = again_acts _ lanes now c.args.client _ _ _ (c.sent-next.result + 1) its _ None found asked (sym c.request_lane-lane.ensures.lane) here next
+          c.in_ok-again_in.ensures.ok;
+    })
 
 pub returns-in_default-clause-counts : goal.returns-in_default-clause-counts
 returns-in_default-clause-counts g c = counts_same g.R.Replica.faults c.args.self.now

@@ -1,7 +1,4 @@
-use Rattle.std.proofs.Common.{All, subst}
-use Rattle.rk_types.specs.declared.hashing.TheConstants.{LANES}
-use Rattle.rk_cluster.specs.Masters.{HasBackups}
-use Rattle.rk_cluster.specs.State.{ClusterState}
+use Rattle.rk_cluster.proofs.Words.{All, subst, LANES, HasBackups, ClusterState}
 use Rattle.rk_cluster.proofs.Counting.{each_backed}
 use Rattle.rk_cluster.proofs.cluster.Cluster.backups.Goals as goal
 

@@ -1,22 +1,8 @@
-use Rattle.std.proofs.Common.{[], ◌≡◌, ℕ, Bool, true, false, Bor, List, map, sum, nat_le, Option, None, Some, is_some, refl, sym, ap, subst, ◌∙◌, inl, arith}
-use Rattle.std.proofs.lemmas.Result.{err_from_is_err_and}
-use Rattle.std.specs.Option.{option_copied}
-use Rattle.rk_types.specs.NumberMap.{get}
-use Rattle.rk_types.proofs.Trees.{get_tree}
-use Rattle.rk_types.specs.declared.call.Call.{Call}
-use Rattle.rk_tablet_map.specs.declared.row.Row.{Row}
-use Rattle.rk_world.specs.Client.{Session}
-use Rattle.rk_cluster.specs.Codes.{MOST_CALLS, call_code}
-use Rattle.rk_cluster.specs.Effects.{CutShortBy, HasCode, IsCarriedOut}
-use Rattle.rk_cluster.specs.Looks.{calls_of, has_table}
-use Rattle.rk_cluster.specs.Makes.{call_makes}
-use Rattle.rk_cluster.specs.State.{ClusterState}
-use Rattle.rk_cluster.specs.Steps.{state_of}
-use Rattle.rk_cluster.specs.declared.code.Code.TheVariants.{Busy, Limit, Unknown}
+use Rattle.rk_cluster.proofs.Words.{map, sum, calls_of, ◌≡◌, ℕ, Bool, true, false, Bor, List, Option, None, Some, is_some, refl, sym, ap}
+use Rattle.rk_cluster.proofs.Words.{◌∙◌, inl, arith, err_from_is_err_and, option_copied, get, get_tree, Call, Row, Session, has_table}
 use Rattle.rk_cluster.proofs.Calling.{call_by, call_lawful, call_unknown, calls, calls_few, calls_many, copied_some, tables_count}
 use Rattle.rk_cluster.proofs.Worlds.{there_read}
-use Rattle.rk_cluster.specs.Inside.{cluster_of}
-use Rattle.rk_cluster.proofs.Faults.{counts_from, counts_same, lanes_same}
+use Rattle.rk_cluster.proofs.Faults.{counts_same, lanes_same}
 use Rattle.rk_cluster.proofs.Shortage.{nothing_done, same_short}
 use Rattle.rk_cluster.proofs.cluster.Cluster.call.Goals as goal
 
@@ -29,68 +15,52 @@ waits_told session lent told same is = ap (λ (call : Option Call). is_some call
 
 pub returns-in_default-clause-err : goal.returns-in_default-clause-err
 returns-in_default-clause-err g c =
-    let absent : get c.self.inside.sessions.entries c.args.client ≡ None = get_tree c.self.inside.sessions c.args.client ∙ sym c.in_default.ensures.value in (
-      subst (λ (state : ClusterState g.row.R.Denot). HasCode g.R.Replica.segments state (λ cluster. call_code cluster c.args.client c.args.table) (Some Unknown)) c.self.view_is
-          (call_unknown g.R.Replica.segments c.self.inside.lanes.items c.self.inside.sessions.entries c.args.client c.args.table absent),
-      refl,
-    )
+    let absent : get c.self.inside.sessions.entries c.args.client ≡ None = get_tree c.self.inside.sessions c.args.client ∙ sym c.in_default.ensures.value in
+    (rw (← c.self.view_is) (call_unknown _ c.self.inside.lanes.items _ c.args.client c.args.table absent), refl)
 
 pub returns-then-is_some-clause-err : goal.returns-then-is_some-clause-err
 returns-then-is_some-clause-err g c =
     let lanes = c.self.inside.lanes.items in
     let now = c.self.inside.sessions.entries in
-    let first = c.index-first.result.now in
-    let there = there_read lanes 0 first (omega (arith, c.self.invariant.count)) c.index-first.ensures in
+    let there = there_read lanes 0 c.index-first.result.now (omega (arith, c.self.invariant.count)) c.index-first.ensures in
     let found : get now c.args.client ≡ Some c.in-Some.session.now = get_tree c.self.inside.sessions c.args.client ∙ sym c.in-Some.ensures.value in
     let has = has_told c.rows.result.now c.rows-2.result.now c.args.table c.has_table.result c.rows-2.ensures.value c.has_table.ensures ∙ c.if-not-has_table.false in
-    let waits = waits_told c.in-Some.session.now c.outstanding.result c.is_some.result c.outstanding.ensures c.is_some.ensures ∙ c.if-is_some.true in (
-      subst (λ (state : ClusterState g.row.R.Denot). HasCode g.R.Replica.segments state (λ cluster. call_code cluster c.args.client c.args.table) (Some Busy)) c.self.view_is
-          (call_by g.R.Replica.segments lanes now c.args.client c.args.table first c.rows.result.now c.in-Some.session.now true true
-          (nat_le MOST_CALLS (sum (map (λ (entry : ℕ × Session). calls_of entry.1) now))) there c.rows.ensures found has waits refl),
-      refl,
-    )
+    let waits = waits_told c.in-Some.session.now c.outstanding.result c.is_some.result c.outstanding.ensures c.is_some.ensures ∙ c.if-is_some.true in
+    (rw (← c.self.view_is) (call_by _ lanes now c.args.client c.args.table _ _ _ true true _ there c.rows.ensures found has waits refl), refl)
 
 pub returns-then-calls_asked-ge-MOST_CALLS-clause-err : goal.returns-then-calls_asked-ge-MOST_CALLS-clause-err
 returns-then-calls_asked-ge-MOST_CALLS-clause-err g c =
     let lanes = c.self.inside.lanes.items in
     let now = c.self.inside.sessions.entries in
-    let first = c.index-first.result.now in
-    let there = there_read lanes 0 first (omega (arith, c.self.invariant.count)) c.index-first.ensures in
+    let there = there_read lanes 0 c.index-first.result.now (omega (arith, c.self.invariant.count)) c.index-first.ensures in
     let found : get now c.args.client ≡ Some c.in-Some.session.now = get_tree c.self.inside.sessions c.args.client ∙ sym c.in-Some.ensures.value in
     let has = has_told c.rows.result.now c.rows-2.result.now c.args.table c.has_table.result c.rows-2.ensures.value c.has_table.ensures ∙ c.if-not-has_table.false in
     let waits = waits_told c.in-Some.session.now c.outstanding.result c.is_some.result c.outstanding.ensures c.is_some.ensures ∙ c.if-is_some.false in
-    let many = calls_many (sum (map (λ (entry : ℕ × Session). calls_of entry.1) now)) c.calls_asked.result c.calls_asked.ensures c.if-calls_asked-ge-MOST_CALLS.true in (
-      subst (λ (state : ClusterState g.row.R.Denot). HasCode g.R.Replica.segments state (λ cluster. call_code cluster c.args.client c.args.table) (Some Limit)) c.self.view_is
-          (call_by g.R.Replica.segments lanes now c.args.client c.args.table first c.rows.result.now c.in-Some.session.now true false true there c.rows.ensures found has waits many),
-      refl,
-    )
+    let many = calls_many (sum (map (λ (entry : ℕ × Session). calls_of entry.1) now)) c.calls_asked.result c.calls_asked.ensures c.if-calls_asked-ge-MOST_CALLS.true in
+    (rw (← c.self.view_is) (call_by _ lanes now c.args.client c.args.table _ _ _ true false true there c.rows.ensures found has waits many), refl)
 
 pub ask_next-requires-clause-table : goal.ask_next-requires-clause-table
 ask_next-requires-clause-table g c =
-    tables_count c.index-first.result.now c.rows.result.now c.args.table c.spent.result c.spent.ensures.spent c.if-spent.false c.spent.ensures.formed c.rows.ensures
+    tables_count c.index-first.result.now c.rows.result.now c.args.table _ c.spent.ensures.spent c.if-spent.false c.spent.ensures.formed c.rows.ensures
     (has_told c.rows.result.now c.rows-2.result.now c.args.table c.has_table.result c.rows-2.ensures.value c.has_table.ensures ∙ c.if-not-has_table.false)
 
 pub returns-clause-ok : goal.returns-clause-ok
 returns-clause-ok g c =
     let lanes = c.self.inside.lanes.items in
     let now = c.self.inside.sessions.entries in
-    let first = c.index-first.result.now in
-    let there = there_read lanes 0 first (omega (arith, c.self.invariant.count)) c.index-first.ensures in
+    let there = there_read lanes 0 c.index-first.result.now (omega (arith, c.self.invariant.count)) c.index-first.ensures in
     let found : get now c.args.client ≡ Some c.in-Some.session.now = get_tree c.self.inside.sessions c.args.client ∙ sym c.in-Some.ensures.value in
     let has = has_told c.rows.result.now c.rows-2.result.now c.args.table c.has_table.result c.rows-2.ensures.value c.has_table.ensures ∙ c.if-not-has_table.false in
     let waits = waits_told c.in-Some.session.now c.outstanding.result c.is_some.result c.outstanding.ensures c.is_some.ensures ∙ c.if-is_some.false in
     let few = calls_few (sum (map (λ (entry : ℕ × Session). calls_of entry.1) now)) c.calls_asked.result c.calls_asked.ensures (omega (arith, c.if-calls_asked-ge-MOST_CALLS.false)) in
-    subst (λ (state : ClusterState g.row.R.Denot). IsCarriedOut g.R.Replica.segments state (state_of lanes c.ask_next.new.sessions.entries)
-    (λ cluster. call_code cluster c.args.client c.args.table) (λ cluster. call_makes c.args.client c.args.table c.args.key c.args.op) c.nothing_said.result.items) c.self.view_is
-    (subst (IsCarriedOut g.R.Replica.segments (state_of lanes now) (state_of lanes c.ask_next.new.sessions.entries)
-    (λ cluster. call_code cluster c.args.client c.args.table) (λ cluster. call_makes c.args.client c.args.table c.args.key c.args.op)) (sym c.nothing_said.ensures)
+    let asked = c.in_ok-ask_next.ensures.ok in
+    rw (c.nothing_said.ensures, ← c.self.view_is)
     (record {
-      code = call_by g.R.Replica.segments lanes now c.args.client c.args.table first c.rows.result.now c.in-Some.session.now true false false there c.rows.ensures found has waits few;
+      code = call_by _ lanes now c.args.client c.args.table _ _ _ true false false there c.rows.ensures found has waits few;
       acts =
-          calls g.R.Replica.segments lanes now c.args.client c.args.table c.ask_next.new.sessions.entries c.args.key c.args.op c.in_ok-ask_next.ensures.ok
-          (call_lawful g.R.Replica.segments lanes now c.args.client c.args.table c.ask_next.new.sessions.entries c.args.key c.args.op c.in_ok-ask_next.ensures.ok
-          c.self.inside.masters (c.ask_next.ensures.acts c.self.inside.masters c.self.invariant.sessions));
-    }))
+          calls _ lanes now _ _ _ _ _ asked
+          (call_lawful g.R.Replica.segments lanes now _ _ _ _ _ asked c.self.inside.masters (c.ask_next.ensures.acts c.self.inside.masters c.self.invariant.sessions));
+    })
 
 pub invariant_of-self : goal.invariant_of-self
 invariant_of-self g c = record {
@@ -126,23 +96,15 @@ pub returns-then-calls_asked-ge-MOST_CALLS-clause-counts : goal.returns-then-cal
 returns-then-calls_asked-ge-MOST_CALLS-clause-counts g c = counts_same g.R.Replica.faults c.args.self.now
 
 pub returns-in_err-ask_next-clause-counts : goal.returns-in_err-ask_next-clause-counts
-returns-in_err-ask_next-clause-counts g c =
-    counts_from g.R.Replica.faults [] (cluster_of c.self.inside) c.args.self.now c.self.inside.lanes.items c.self.view_is (lanes_same g.R.Replica.faults c.self.inside.lanes.items)
+returns-in_err-ask_next-clause-counts g c = rw (← c.self.view_is) (lanes_same g.R.Replica.faults c.self.inside.lanes.items)
 
 pub returns-clause-counts : goal.returns-clause-counts
-returns-clause-counts g c =
-    counts_from g.R.Replica.faults [] (cluster_of c.self.inside) c.args.self.now c.self.inside.lanes.items c.self.view_is (lanes_same g.R.Replica.faults c.self.inside.lanes.items)
+returns-clause-counts g c = rw (← c.self.view_is) (lanes_same g.R.Replica.faults c.self.inside.lanes.items)
 
 pub returns-then-spent-clause-err : goal.returns-then-spent-clause-err
-returns-then-spent-clause-err g c =
-    nothing_done g.R.Replica.segments c.args.self.now c.args.self.now (λ cluster. call_makes c.args.client c.args.table c.args.key c.args.op) (same_short c.args.self.now)
+returns-then-spent-clause-err g c = nothing_done _ _ _ _ (same_short c.args.self.now)
 
 pub returns-in_err-ask_next-clause-err : goal.returns-in_err-ask_next-clause-err
 returns-in_err-ask_next-clause-err g c =
     let lost = err_from_is_err_and c.from_residual.result c.from_residual.ensures.1 in
-    let lanes = c.self.inside.lanes.items in
-    let later = c.ask_next.new.sessions.entries in
-    rw (lost.1, lost.2)
-    (subst (λ (state : ClusterState g.row.R.Denot). CutShortBy g.R.Replica.segments state (state_of lanes later) (λ cluster. call_makes c.args.client c.args.table c.args.key c.args.op)) c.self.view_is
-    (nothing_done g.R.Replica.segments (state_of lanes c.self.inside.sessions.entries) (state_of lanes later) (λ cluster. call_makes c.args.client c.args.table c.args.key c.args.op)
-    (record { lanes = inl refl; sessions = inl c.in_err-ask_next.ensures.err })))
+    rw (lost.1, lost.2, ← c.self.view_is) (nothing_done _ _ _ _ (record { lanes = inl refl; sessions = inl c.in_err-ask_next.ensures.err }))

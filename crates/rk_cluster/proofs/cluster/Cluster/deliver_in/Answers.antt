@@ -1,6 +1,4 @@
-use Rattle.std.proofs.Common.{ap, sym, ◌∙◌}
-use Rattle.rk_cluster.specs.Masters.{masters_of}
-use Rattle.rk_cluster.specs.State.{ClusterState}
+use Rattle.rk_cluster.proofs.Words.{ap, sym, ◌∙◌, masters_of, ClusterState}
 use Rattle.rk_cluster.proofs.Counting.{masters_are}
 use Rattle.rk_cluster.proofs.cluster.Cluster.deliver_in.Goals as goal
 

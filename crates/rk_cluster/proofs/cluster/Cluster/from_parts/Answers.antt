@@ -1,7 +1,4 @@
-use Rattle.std.proofs.Common.{◌≡◌, ℕ, List, All, length, replicate, ap, ◌∙◌}
-use Rattle.rk_types.specs.declared.hashing.TheConstants.{LANES}
-use Rattle.rk_lane.specs.LaneState.{LaneState}
-use Rattle.rk_cluster.specs.Masters.{HasBackups, backup_counts}
+use Rattle.rk_cluster.proofs.Words.{◌≡◌, ℕ, List, All, length, replicate, ap, ◌∙◌, LANES, LaneState, HasBackups, backup_counts}
 use Rattle.rk_cluster.proofs.Counting.{backups_are, counts_alike}
 use Rattle.rk_cluster.proofs.cluster.Cluster.from_parts.Goals as goal
 

@@ -1,8 +1,5 @@
 -- The sessions may act in the lanes of the cluster that they came out of.
-use Rattle.std.proofs.Common.{ℕ, sym, subst}
-use Rattle.rk_cluster.specs.Masters.{masters_of}
-use Rattle.rk_cluster.specs.State.{ClusterState}
-use Rattle.rk_cluster.specs.Steps.{MayAllAct}
+use Rattle.rk_cluster.proofs.Words.{ℕ, sym, subst, masters_of, ClusterState, MayAllAct}
 use Rattle.rk_cluster.proofs.Counting.{masters_are}
 use Rattle.rk_cluster.proofs.cluster.Cluster.into_parts.Goals as goal
 

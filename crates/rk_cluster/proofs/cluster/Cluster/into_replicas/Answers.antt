@@ -1,9 +1,5 @@
-use Rattle.std.proofs.Common.{◌≡◌, ◌*◌, ℕ, map, sym, ap, ◌∙◌, arith}
-use Rattle.std.proofs.lemmas.Result.{IfOk-weaker}
-use Rattle.rk_types.specs.declared.hashing.TheConstants.{LANES}
-use Rattle.rk_lane.specs.LaneState.{LaneState, replicas_of}
-use Rattle.rk_cluster.specs.Masters.{backups_of}
-use Rattle.rk_cluster.specs.State.{ClusterState}
+use Rattle.rk_cluster.proofs.Words.{◌≡◌, ◌*◌, ℕ, map, sym, ap, ◌∙◌, arith, IfOk-weaker, LANES, LaneState, replicas_of, backups_of}
+use Rattle.rk_cluster.proofs.Words.{ClusterState}
 use Rattle.rk_cluster.proofs.Counting.{backups_are, each_backed}
 use Rattle.rk_cluster.proofs.Gathers.{gathered_of, hands_many}
 use Rattle.rk_cluster.proofs.cluster.Cluster.into_replicas.Goals as goal

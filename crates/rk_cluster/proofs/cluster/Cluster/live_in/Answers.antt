@@ -1,12 +1,5 @@
-use Rattle.std.proofs.Common.{◌≡◌, ℕ, All, Option, IfSome, sym, ap, subst, ◌∙◌, arith}
-use Rattle.std.proofs.lemmas.Result.{IfOk-weaker}
-use Rattle.rk_types.specs.NumberMap.{numbers}
-use Rattle.rk_world.specs.Premises.{IsMaster}
-use Rattle.rk_world.specs.World.{World, live_masters, new_world}
-use Rattle.rk_lane.specs.LaneState.{Running}
-use Rattle.rk_cluster.specs.Masters.{masters_of}
-use Rattle.rk_cluster.specs.State.{ClusterState, IsOf}
-use Rattle.rk_cluster.specs.Turns.{live_in}
+use Rattle.rk_cluster.proofs.Words.{◌≡◌, ℕ, All, Option, IfSome, sym, ap, subst, ◌∙◌, arith, IfOk-weaker, numbers, IsMaster, World}
+use Rattle.rk_cluster.proofs.Words.{live_masters, new_world, Running, masters_of, ClusterState, IsOf, live_in}
 use Rattle.rk_cluster.proofs.Counting.{masters_are}
 use Rattle.rk_cluster.proofs.Worlds.{masters_at, there_read, world_at}
 use Rattle.rk_cluster.proofs.cluster.Cluster.live_in.Goals as goal

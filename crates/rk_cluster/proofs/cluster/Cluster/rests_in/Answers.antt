@@ -1,7 +1,4 @@
-use Rattle.std.proofs.Common.{sym, subst, ◌∙◌, arith}
-use Rattle.rk_world.specs.Cluster.{lane_at}
-use Rattle.rk_world.specs.World.{new_world}
-use Rattle.rk_cluster.specs.State.{ClusterState}
+use Rattle.rk_cluster.proofs.Words.{sym, subst, ◌∙◌, arith, lane_at, new_world, ClusterState}
 use Rattle.rk_cluster.specs.Turns.{IsIdleIn}
 use Rattle.rk_cluster.proofs.Idle.{none_asks, rests_there}
 use Rattle.rk_cluster.proofs.Worlds.{there_read, world_at}

@@ -1,10 +1,5 @@
-use Rattle.std.proofs.Common.{◌≡◌, ℕ, Option, None, Some, IfSome, refl, ◌∙◌, ap, subst, sym}
-use Rattle.rk_types.specs.NumberMap.{get}
-use Rattle.rk_types.proofs.Trees.{get_tree}
-use Rattle.rk_world.specs.Client.{Session}
-use Rattle.rk_world.specs.Premises.{MayAct}
-use Rattle.rk_cluster.specs.Masters.{masters_of}
-use Rattle.rk_cluster.specs.State.{ClusterState}
+use Rattle.rk_cluster.proofs.Words.{◌≡◌, ℕ, Option, None, Some, IfSome, refl, ◌∙◌, ap, subst, sym, get, get_tree, Session, MayAct}
+use Rattle.rk_cluster.proofs.Words.{masters_of, ClusterState}
 use Rattle.rk_cluster.proofs.Counting.{masters_are}
 use Rattle.rk_cluster.proofs.cluster.Cluster.session.Goals as goal
 

@@ -1,6 +1,4 @@
-use Rattle.std.proofs.Common.{List, slice_get, sym, ap, ◌∙◌}
-use Rattle.rk_world.specs.Cluster.{new_cluster}
-use Rattle.rk_lane.specs.LaneState.{LaneState}
+use Rattle.rk_cluster.proofs.Words.{List, slice_get, sym, ap, ◌∙◌, new_cluster, LaneState}
 use Rattle.rk_cluster.proofs.NewLanes.{hands_fit, made_backed, made_cluster, made_count, made_here, made_lanes, of_parts}
 use Rattle.rk_cluster.proofs.cluster.Cluster.with_replicas.Goals as goal
 

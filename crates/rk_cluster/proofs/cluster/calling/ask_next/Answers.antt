@@ -1,11 +1,5 @@
-use Rattle.std.proofs.Common.{◌≡◌, None, Option, Some, IsSome, IsSomeAnd, refl, ap, sym, subst, ◌∙◌}
-use Rattle.std.proofs.lemmas.Result.{on_err_weaker, on_ok_weaker}
-use Rattle.rk_types.specs.NumberMap.{get, insert}
-use Rattle.rk_types.proofs.NumberMaps.{each_insert}
-use Rattle.rk_types.proofs.Trees.{get_tree, in_order_tree, insert_tree}
-use Rattle.rk_world.specs.Client.{Session}
-use Rattle.rk_world.specs.Premises.{MayAct}
-use Rattle.rk_cluster.specs.Steps.{MayAllAct}
+use Rattle.rk_cluster.proofs.Words.{◌≡◌, None, Option, Some, IsSome, IsSomeAnd, refl, ap, sym, subst, ◌∙◌, on_err_weaker, on_ok_weaker, get}
+use Rattle.rk_cluster.proofs.Words.{insert, each_insert, get_tree, in_order_tree, insert_tree, Session, MayAct, MayAllAct}
 use Rattle.rk_cluster.proofs.Coming.{insert_there}
 use Rattle.rk_cluster.proofs.cluster.calling.ask_next.Goals as goal
 

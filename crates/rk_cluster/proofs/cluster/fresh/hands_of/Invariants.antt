@@ -1,6 +1,4 @@
-use Rattle.std.proofs.Common.{◌≡◌, ◌++◌, map}
-use Rattle.std.specs.Vec.Iter.{into_iter_items}
-use Rattle.rk_lane.specs.LaneState.{replicas_of}
+use Rattle.rk_cluster.proofs.Words.{◌≡◌, ◌++◌, map, into_iter_items, replicas_of}
 use Rattle.rk_cluster.proofs.cluster.fresh.hands_of.Given as goal
 
 abbrev pub invariant-loop-lane : goal.invariant-loop-lane

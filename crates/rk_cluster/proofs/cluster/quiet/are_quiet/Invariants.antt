@@ -1,6 +1,4 @@
-use Rattle.std.proofs.Common.{All, take}
-use Rattle.rk_cluster.specs.Quiet.{is_quiet_lane}
-use Rattle.rk_cluster.specs.Tests.{HoldsIn}
+use Rattle.rk_cluster.proofs.Words.{All, take, is_quiet_lane, HoldsIn}
 use Rattle.rk_cluster.proofs.cluster.quiet.are_quiet.Given as goal
 
 abbrev pub invariant-loop-lane : goal.invariant-loop-lane

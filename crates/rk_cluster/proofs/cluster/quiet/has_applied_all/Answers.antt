@@ -1,7 +1,6 @@
-use Rattle.std.proofs.Common.{◌≡◌, ◌+◌, ◌<◌, ℕ, false, true, [], length, slice_index_or, ◌∙◌, arith}
-use Rattle.std.specs.List.{range_with_len}
-use Rattle.std.proofs.lemmas.List.FromFn.{get_or-range_with_len, length-range_with_len}
-use Rattle.rk_lane.specs.LaneState.{Running, world_with}
+use Rattle.rk_cluster.proofs.Words.{◌≡◌, ◌+◌, ◌<◌, ℕ, false, true, [], length, slice_index_or, ◌∙◌, arith, range_with_len}
+use Rattle.rk_cluster.proofs.Words.{length-range_with_len, Running, world_with}
+use Rattle.std.proofs.lemmas.List.FromFn.{get_or-range_with_len}
 use Rattle.rk_cluster.proofs.Resting.{applied_told, rests, rests_told}
 use Rattle.rk_cluster.proofs.Testing.{holds_more, holds_not, holds_of_all}
 use Rattle.rk_cluster.proofs.cluster.quiet.has_applied_all.Goals as goal

@@ -1,6 +1,4 @@
-use Rattle.std.proofs.Common.{[]}
-use Rattle.std.specs.List.{range_with_len}
-use Rattle.rk_lane.specs.LaneState.{Running, world_with}
+use Rattle.rk_cluster.proofs.Words.{[], range_with_len, Running, world_with}
 use Rattle.rk_cluster.proofs.Resting.{rests}
 use Rattle.rk_cluster.proofs.Testing.{HoldsSoFar}
 use Rattle.rk_cluster.proofs.cluster.quiet.has_applied_all.Given as goal

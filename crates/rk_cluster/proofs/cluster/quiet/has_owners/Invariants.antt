@@ -1,6 +1,4 @@
-use Rattle.std.proofs.Common.{[]}
-use Rattle.rk_tablet_map.specs.declared.row.Row.{Row}
-use Rattle.rk_lane.specs.LaneState.{Running, world_with}
+use Rattle.rk_cluster.proofs.Words.{[], Row, Running, world_with}
 use Rattle.rk_cluster.specs.Quiet.{is_owned_live}
 use Rattle.rk_cluster.proofs.Testing.{HoldsSoFar}
 use Rattle.rk_cluster.proofs.cluster.quiet.has_owners.Given as goal

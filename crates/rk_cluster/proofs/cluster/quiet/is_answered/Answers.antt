@@ -1,10 +1,5 @@
-use Rattle.std.proofs.Common.{◌≡◌, ℕ, is_none, rules, tests, ◌∙◌}
-use Rattle.std.specs.List.{list_all}
-use Rattle.std.specs.BTreeMap.{values}
-use Rattle.std.proofs.lemmas.Iterator.Consumers.{YieldsList-from_rest}
-use Rattle.std.proofs.lemmas.Iterator.Search.{all_from_yields_List}
-use Rattle.std.proofs.lemmas.List.Folds.{list_all-map}
-use Rattle.rk_world.specs.Client.{Session}
+use Rattle.rk_cluster.proofs.Words.{◌≡◌, ℕ, is_none, rules, tests, ◌∙◌, list_all, values, YieldsList-from_rest, all_from_yields_List}
+use Rattle.rk_cluster.proofs.Words.{list_all-map, Session}
 use Rattle.rk_cluster.proofs.cluster.quiet.is_answered.Goals as goal
 
 pub returns : goal.returns

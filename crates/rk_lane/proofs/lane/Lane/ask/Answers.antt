@@ -1,10 +1,5 @@
-use Rattle.std.proofs.Common.{sym, subst}
-use Rattle.std.proofs.lemmas.Result.{IfOk-weaker}
+use Rattle.rk_lane.proofs.Words.{sym, subst, IfOk-weaker, MayAct, lane_of, IsSameLane, LaneState, IsVisitOf}
 use Rattle.rk_world.specs.Calls as calls
-use Rattle.rk_world.specs.Premises.{MayAct}
-use Rattle.rk_lane.specs.Lane.{lane_of}
-use Rattle.rk_lane.specs.LaneState.{IsSameLane, LaneState}
-use Rattle.rk_lane.specs.Visits.{IsVisitOf}
 use Rattle.rk_lane.proofs.Acting.{acts_there, acts_by_turn}
 use Rattle.rk_lane.proofs.LaneVisits.{same_by_visit, visit_in_lane}
 use Rattle.rk_lane.proofs.lane.Lane.ask.Goals as goal

@@ -1,8 +1,5 @@
-use Rattle.std.proofs.Common.{◌≡◌, List, length, vec_capacity, subst, sym, ap, ◌∙◌, arith}
-use Rattle.std.proofs.lemmas.List.{nil_from_length}
-use Rattle.std.specs.Vec.Iter.{into_iter_items}
-use Rattle.rk_backup.specs.declared.lane.BackupLane.{BackupLane}
-use Rattle.rk_lane.specs.LaneState.{LaneState}
+use Rattle.rk_lane.proofs.Words.{◌≡◌, List, length, vec_capacity, subst, sym, ap, ◌∙◌, arith, nil_from_length, into_iter_items, BackupLane}
+use Rattle.rk_lane.proofs.Words.{LaneState}
 use Rattle.rk_lane.proofs.Lanes.{IsGivingBack, all_given_back, none_given, one_given}
 use Rattle.rk_lane.proofs.lane.Lane.into_replicas.Goals as goal
 

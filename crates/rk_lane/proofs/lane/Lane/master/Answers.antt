@@ -1,11 +1,5 @@
-use Rattle.std.proofs.Common.{◌≡◌, ◌-◌, [], Some, IfSome, subst, sym, ap, ◌∙◌}
-use Rattle.std.proofs.lemmas.Option.{get_or_from_slice_get}
-use Rattle.rk_world.specs.Master.{Master}
-use Rattle.rk_world.specs.Premises.{IsMaster}
-use Rattle.rk_world.specs.World.{master_at}
-use Rattle.rk_lane.specs.LaneState.{LaneState, world_with}
-use Rattle.rk_lane.specs.Lane.{lane_of}
-use Rattle.rk_lane.specs.Parts.{running_of}
+use Rattle.rk_lane.proofs.Words.{◌≡◌, ◌-◌, [], Some, IfSome, subst, sym, ap, ◌∙◌, get_or_from_slice_get, Master, IsMaster, master_at}
+use Rattle.rk_lane.proofs.Words.{LaneState, world_with, lane_of, running_of}
 use Rattle.rk_lane.proofs.Lanes.{unless_spent}
 use Rattle.rk_lane.proofs.MasterWork.{StandsAt, master_is, stands_at}
 use Rattle.rk_lane.proofs.lane.Lane.master.Goals as goal

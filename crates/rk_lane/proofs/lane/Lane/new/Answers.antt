@@ -1,9 +1,6 @@
-use Rattle.std.proofs.Common.{◌≡◌, ℕ, List, All, Some, length, slice_get, subst, sym, ap, ◌∙◌, arith}
-use Rattle.std.proofs.lemmas.List.{length-map}
-use Rattle.rk_backup.specs.Lane.{replica_of}
-use Rattle.rk_world.specs.Backup.{no_segments}
+use Rattle.rk_lane.proofs.Words.{◌≡◌, ℕ, List, All, Some, length, slice_get, subst, sym, ap, ◌∙◌, arith, length-map, replica_of}
+use Rattle.rk_lane.proofs.Words.{no_segments, AreTold}
 use Rattle.rk_world.specs.World.{new_backups}
-use Rattle.rk_lane.specs.LaneState.{AreTold}
 use Rattle.rk_lane.proofs.Lanes.{told_new}
 use Rattle.rk_lane.proofs.lane.Lane.new.Goals as goal
 

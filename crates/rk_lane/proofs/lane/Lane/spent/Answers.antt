@@ -1,6 +1,4 @@
-use Rattle.std.proofs.Common.{◌≡◌, length, IfSome, subst}
-use Rattle.rk_lane.specs.LaneState.{LaneState}
-use Rattle.rk_lane.specs.Parts.{running_of}
+use Rattle.rk_lane.proofs.Words.{◌≡◌, length, IfSome, subst, LaneState, running_of}
 use Rattle.rk_lane.proofs.Lanes.{unless_spent}
 use Rattle.rk_lane.proofs.Quiet.{masters_counted}
 use Rattle.rk_lane.proofs.lane.Lane.spent.Goals as goal

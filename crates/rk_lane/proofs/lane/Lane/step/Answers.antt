@@ -1,7 +1,4 @@
-use Rattle.std.proofs.Common.{IfOk, IfSome, sym, subst}
-use Rattle.rk_lane.specs.Events.{IsStepOf, MayComeTo}
-use Rattle.rk_lane.specs.Lane.{lane_of}
-use Rattle.rk_lane.specs.LaneState.{LaneState}
+use Rattle.rk_lane.proofs.Words.{IfOk, IfSome, sym, subst, IsStepOf, MayComeTo, lane_of, LaneState}
 use Rattle.rk_lane.proofs.Steps.{lane_after, may_come, step_after, where_some}
 use Rattle.rk_lane.proofs.lane.Lane.step.Goals as goal
 

@@ -1,12 +1,6 @@
-use Rattle.std.proofs.Common.{◌≡◌, [], List, Option, length, eqb, ap, sym, ◌∙◌, subst, arith, All, IsSome}
-use Rattle.std.specs.List.{IsDistinct}
+use Rattle.rk_lane.proofs.Words.{◌≡◌, [], List, Option, length, eqb, ap, sym, ◌∙◌, subst, arith, All, IsSome, IsDistinct, Ledger, Master}
+use Rattle.rk_lane.proofs.Words.{IsFormedWithRoom, bytes_of_logs, new_world, masters_from, world_of, AreForMasters}
 use Rattle.std.proofs.lemmas.List.FromFn.{length-map-range_with_len}
-use Rattle.rk_world.specs.Ledger.{Ledger}
-use Rattle.rk_world.specs.Master.{Master}
-use Rattle.rk_world.specs.Runs.{IsFormedWithRoom}
-use Rattle.rk_world.specs.World.{bytes_of_logs, new_world}
-use Rattle.rk_lane.specs.Parts.{masters_from, world_of}
-use Rattle.rk_lane.specs.Requests.{AreForMasters}
 use Rattle.rk_lane.proofs.New.{new_at, new_masters_are, new_present, new_is_formed, none_crashed, new_counted}
 use Rattle.rk_lane.proofs.parts.Parts.new.Goals as goal
 

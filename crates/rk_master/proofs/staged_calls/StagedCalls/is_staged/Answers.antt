@@ -1,6 +1,5 @@
-use Rattle.std.proofs.Common.{ap, ◌∙◌, nat_lt, ℕ}
-use Rattle.rk_types.specs.NumberMap.{NumberMap}
-use Rattle.rk_types.specs.declared.call.Call.{Call}
+use Rattle.rk_master.proofs.Words.{ap, ◌∙◌, ℕ, NumberMap, Call}
+use Rattle.std.proofs.Common.{nat_lt}
 use Rattle.rk_master.specs.Counts.{has_call}
 use Rattle.rk_master.proofs.Counting.{some_counted}
 use Rattle.rk_master.proofs.staged_calls.StagedCalls.is_staged.Goals as goal

@@ -1,5 +1,4 @@
-use Rattle.std.proofs.Common.{◌≡◌, ◌∷◌, Some, sym, ◌∙◌}
-use Rattle.rk_world.specs.Ends.{items_of}
+use Rattle.rk_master.proofs.Words.{◌≡◌, ◌∷◌, Some, sym, ◌∙◌, items_of}
 use Rattle.rk_master.specs.Kept.{kept}
 use Rattle.rk_master.proofs.Keeping.{kept_subtracted, kept_some, is_named}
 use Rattle.rk_master.proofs.staged_entries.StagedEntries.subtract.Goals as goal

@@ -1,10 +1,5 @@
-use Rattle.std.proofs.Common.{◌≡◌, Option, refl, sym, ap, ◌∙◌}
-use Rattle.std.proofs.lemmas.Result.{IfOk-weaker}
-use Rattle.rk_types.specs.declared.held.Held.{Held}
-use Rattle.rk_world.specs.Master.{Master}
-use Rattle.rk_world.specs.Requests.{choice_of, fresh_choice}
-use Rattle.rk_master.specs.State.{master_of}
-use Rattle.rk_master.specs.Parts.{tablet_of}
+use Rattle.rk_master.proofs.Words.{◌≡◌, Option, refl, sym, ap, ◌∙◌, IfOk-weaker, Held, Master, choice_of, fresh_choice, master_of}
+use Rattle.rk_master.proofs.Words.{tablet_of}
 use Rattle.rk_master.proofs.Choosing.{served_found, mutation_chosen, read_chosen}
 use Rattle.rk_master.proofs.state.MasterState.choice_of.Goals as goal
 

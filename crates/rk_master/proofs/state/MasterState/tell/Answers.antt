@@ -1,6 +1,4 @@
-use Rattle.std.proofs.Common.{[], ◌∷◌, ◌++◌, refl, ◌∙◌}
-use Rattle.rk_master.specs.Parts.{marks_of}
-use Rattle.rk_master.specs.State.{master_of}
+use Rattle.rk_master.proofs.Words.{[], ◌∷◌, ◌++◌, refl, ◌∙◌, marks_of, master_of}
 use Rattle.rk_master.proofs.state.MasterState.tell.Goals as goal
 
 pub returns : goal.returns

@@ -1,9 +1,5 @@
-use Rattle.std.proofs.Common.{◌≡◌, List, map, not, eqb, ap, ◌∙◌}
-use Rattle.std.specs.Prelude.{filter}
-use Rattle.rk_types.specs.declared.lineage.Member.{Member}
-use Rattle.rk_world.specs.Gather.{Gathered, unread, gather_begun}
-use Rattle.rk_rebuild.specs.declared.member.ReadLog.{ReadLog}
-use Rattle.rk_rebuild.specs.Logs.{members_of}
+use Rattle.rk_rebuild.proofs.Words.{◌≡◌, List, map, not, eqb, ap, ◌∙◌, filter, Member, Gathered, ReadLog, members_of}
+use Rattle.rk_world.specs.Gather.{unread, gather_begun}
 use Rattle.rk_rebuild.proofs.Logs.{members_unread}
 use Rattle.rk_rebuild.proofs.gather.Gather.new.Goals as goal
 

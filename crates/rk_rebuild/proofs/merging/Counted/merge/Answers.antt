@@ -1,14 +1,7 @@
-use Rattle.std.proofs.Common.{◌≡◌, List, [], ◌∷◌, ◌++◌, map, refl, ap, ◌∙◌}
-use Rattle.std.specs.List.{flat_map}
-use denote.Ref.{Bor}
-use Rattle.rk_types.specs.NumberMap.{get}
-use Rattle.rk_types.specs.declared.call.Ended.{Ended}
-use Rattle.rk_types.specs.declared.held.Held.{Held}
-use Rattle.rk_entry.specs.declared.entry.Entry.{Entry}
-use Rattle.rk_done.specs.Completions.{completions_from}
-use Rattle.rk_world.specs.Ends.{items_of, told}
-use Rattle.rk_world.specs.Merge.{copies_of, floor_of, merged_ends, ends_by_place, first_told}
-use Rattle.rk_rebuild.specs.Lent.{lent}
+use Rattle.rk_rebuild.proofs.Words.{◌≡◌, List, [], ◌∷◌, ◌++◌, map, refl, ap, ◌∙◌, flat_map, Bor, get, Ended, Held, Entry, completions_from}
+use Rattle.rk_rebuild.proofs.Words.{items_of, ends_by_place, lent}
+use Rattle.rk_world.specs.Ends.{told}
+use Rattle.rk_world.specs.Merge.{copies_of, floor_of, merged_ends, first_told}
 use Rattle.rk_rebuild.specs.Told.{ends_told}
 use Rattle.rk_rebuild.proofs.merging.Counted.merge.Goals as goal
 

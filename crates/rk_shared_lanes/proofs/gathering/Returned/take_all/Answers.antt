@@ -1,6 +1,4 @@
-use Rattle.std.proofs.Common.{List, arith, subst, sym}
-use Rattle.std.proofs.lemmas.Grind.{common_steps}
-use Rattle.rk_world.specs.Client.{Session}
+use Rattle.rk_shared_lanes.proofs.Words.{List, arith, subst, sym, common_steps, Session}
 use Rattle.rk_shared_lanes.proofs.Taking.{AreReturned, one_more_returned}
 use Rattle.rk_shared_lanes.proofs.gathering.Returned.take_all.Goals as goal
 

@@ -1,5 +1,4 @@
-use Rattle.std.proofs.Common.{◌≡◌, ◌+◌, ◌≤◌, ◌++◌, vec_len, vec_capacity, length, reverse}
-use Rattle.rk_shared_lanes.specs.Together.{sessions_of}
+use Rattle.rk_shared_lanes.proofs.Words.{◌≡◌, ◌+◌, ◌≤◌, ◌++◌, vec_len, vec_capacity, length, reverse, sessions_of}
 use Rattle.rk_shared_lanes.proofs.Taking.{AreReturned}
 use Rattle.rk_shared_lanes.proofs.gathering.Returned.take_all.Given as goal
 

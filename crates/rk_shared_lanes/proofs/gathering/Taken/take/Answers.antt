@@ -1,8 +1,4 @@
-use Rattle.std.proofs.Common.{subst}
-use Rattle.rk_lane.specs.LaneState.{LaneState}
-use Rattle.rk_laws_gathered.specs.OpenCalls.{HasCountedCalls}
-use Rattle.rk_shared_lanes.specs.Kept.{IsNoneBelow}
-use Rattle.rk_shared_lanes.specs.Together.{IsOfRoster}
+use Rattle.rk_shared_lanes.proofs.Words.{subst, LaneState, HasCountedCalls, IsNoneBelow, IsOfRoster}
 use Rattle.rk_shared_lanes.proofs.gathering.Taken.take.Goals as goal
 
 pub returns-clause-counted : goal.returns-clause-counted

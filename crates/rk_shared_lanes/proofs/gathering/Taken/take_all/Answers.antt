@@ -1,6 +1,4 @@
-use Rattle.std.proofs.Common.{List, arith, subst, sym}
-use Rattle.std.proofs.lemmas.Grind.{common_steps}
-use Rattle.rk_lane.specs.LaneState.{LaneState}
+use Rattle.rk_shared_lanes.proofs.Words.{List, arith, subst, sym, common_steps, LaneState}
 use Rattle.rk_shared_lanes.proofs.Taking.{AreTaken, one_more_taken}
 use Rattle.rk_shared_lanes.proofs.gathering.Taken.take_all.Goals as goal
 

@@ -1,11 +1,6 @@
-use Rattle.std.proofs.Common.{◌≡◌, ◌&&◌, Bool, true, ℕ, not, ap, subst, ◌∙◌}
-use Rattle.rk_world.specs.Calls.{accept}
-use Rattle.rk_world.specs.Client.{Session}
-use Rattle.rk_world.specs.Premises.{MayAct}
-use Rattle.rk_lane.specs.LaneState.{LaneState}
-use Rattle.rk_lane.specs.Visits.{IsVisitOf}
-use Rattle.rk_shared_lanes.specs.Counting.{is_answer}
-use Rattle.rk_shared_lanes.specs.Passes.{PassState}
+use Rattle.rk_shared_lanes.proofs.Words.{◌≡◌, Bool, true, ℕ, not, ap, subst, ◌∙◌, accept, Session, MayAct, LaneState, IsVisitOf, is_answer}
+use Rattle.rk_shared_lanes.proofs.Words.{PassState}
+use Rattle.std.proofs.Common.{◌&&◌}
 use Rattle.rk_shared_lanes.proofs.Accepting.{client_same, kept_accepted, pass_accepted}
 use Rattle.rk_shared_lanes.proofs.kept.KeptLane.accept.Goals as goal
 

@@ -1,6 +1,4 @@
-use Rattle.std.proofs.Common.{Bool, ℕ, sym, ap, subst, ◌∙◌}
-use Rattle.rk_world.specs.Premises.{MayAct}
-use Rattle.rk_shared_lanes.specs.Passes.{IsPass, PassState}
+use Rattle.rk_shared_lanes.proofs.Words.{Bool, ℕ, sym, ap, subst, ◌∙◌, MayAct, IsPass, PassState}
 use Rattle.rk_shared_lanes.proofs.Asking.{counted_here, kept_asked, pass_asked, pass_kept, session_same, suits_in, turned_or_not}
 use Rattle.rk_shared_lanes.proofs.kept.KeptLane.ask.Goals as goal
 

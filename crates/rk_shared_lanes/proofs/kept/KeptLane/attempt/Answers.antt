@@ -1,5 +1,4 @@
-use Rattle.std.proofs.Common.{None, refl}
-use Rattle.std.proofs.lemmas.Result.{err_from_is_err_and}
+use Rattle.rk_shared_lanes.proofs.Words.{None, refl, err_from_is_err_and}
 use Rattle.rk_shared_lanes.proofs.Attempted.{attempt_said, attempt_stopped, attempt_unasked}
 use Rattle.rk_shared_lanes.proofs.Turned.{never_stops, same_then}
 use Rattle.rk_shared_lanes.proofs.kept.KeptLane.attempt.Goals as goal

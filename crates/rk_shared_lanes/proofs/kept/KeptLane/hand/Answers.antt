@@ -1,5 +1,4 @@
-use Rattle.std.proofs.Common.{None, refl}
-use Rattle.std.proofs.lemmas.Result.{err_from_is_err_and}
+use Rattle.rk_shared_lanes.proofs.Words.{None, refl, err_from_is_err_and}
 use Rattle.rk_attempts.proofs.Works.{handed_both}
 use Rattle.rk_shared_lanes.proofs.Turned.{hand_stopped, same_then}
 use Rattle.rk_shared_lanes.proofs.kept.KeptLane.hand.Goals as goal

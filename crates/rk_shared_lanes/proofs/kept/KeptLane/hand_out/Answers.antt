@@ -1,8 +1,5 @@
-use Rattle.std.proofs.Common.{◌≡◌, ℕ, [], None, Some, Option, IfSome, refl, subst}
-use Rattle.std.proofs.lemmas.Result.{err_from_is_err_and}
-use Rattle.rk_lane.specs.LaneState.{Running, world_with}
-use Rattle.rk_attempts.specs.Turns.{next_message}
-use Rattle.rk_attempts.proofs.Works.{all_handed_out, none_handed_out, one_handed_out}
+use Rattle.rk_shared_lanes.proofs.Words.{None, refl, err_from_is_err_and, one_handed_out}
+use Rattle.rk_attempts.proofs.Works.{none_handed_out}
 use Rattle.rk_shared_lanes.proofs.Turned.{handing_stopped, running_there, same_lane, same_then}
 use Rattle.rk_shared_lanes.proofs.kept.KeptLane.hand_out.Goals as goal
 

@@ -1,6 +1,4 @@
-use Rattle.std.proofs.Common.{◌≡◌, true, None, is_some}
-use Rattle.rk_lane.specs.LaneState.{IsSameLane}
-use Rattle.rk_attempts.proofs.Works.{IsHandingOut}
+use Rattle.rk_shared_lanes.proofs.Words.{◌≡◌, true, None, is_some, IsSameLane, IsHandingOut}
 use Rattle.rk_shared_lanes.proofs.kept.KeptLane.hand_out.Given as goal
 
 abbrev pub invariant-messages : goal.invariant-messages

@@ -1,5 +1,4 @@
-use Rattle.std.proofs.Common.{sym, subst, Option}
-use Rattle.rk_attempts.specs.Ends.{IsSending}
+use Rattle.rk_shared_lanes.proofs.Words.{sym, subst, IsSending}
 use Rattle.rk_attempts.proofs.Attempting.{sending_none, sending_one}
 use Rattle.rk_shared_lanes.proofs.Attempted.{sent_none, sent_some}
 use Rattle.rk_shared_lanes.proofs.Turned.{running_there}

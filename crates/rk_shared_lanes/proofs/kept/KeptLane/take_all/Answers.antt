@@ -1,4 +1,4 @@
-use Rattle.std.proofs.Common.{None, Some, refl, subst, ◌∙◌, arith}
+use Rattle.std.proofs.Common.{refl, ◌∙◌, arith}
 use Rattle.rk_attempts.proofs.Attempting.{taking_begins, taking_ends, taking_more, taking_waits}
 use Rattle.rk_shared_lanes.proofs.Turned.{running_there, same_lane, same_then}
 use Rattle.rk_shared_lanes.proofs.kept.KeptLane.take_all.Goals as goal

@@ -1,5 +1,4 @@
-use Rattle.std.proofs.Common.{◌≡◌, true, is_some}
-use Rattle.rk_lane.specs.LaneState.{IsSameLane}
+use Rattle.rk_shared_lanes.proofs.Words.{◌≡◌, true, is_some, IsSameLane}
 use Rattle.rk_attempts.proofs.Attempting.{IsTaking}
 use Rattle.rk_shared_lanes.proofs.kept.KeptLane.take_all.Given as goal
 

@@ -1,5 +1,5 @@
 use Rattle.std.proofs.lemmas.Result.{err_from_is_err_and}
-use Rattle.rk_shared_lanes.proofs.Turned.{ends_well, not_spent, same_then, turn_handed, turn_stopped}
+use Rattle.rk_shared_lanes.proofs.Turned.{ends_well, same_then, turn_handed, turn_stopped}
 use Rattle.rk_shared_lanes.proofs.kept.KeptLane.turn.Goals as goal
 
 pub returns-in_err-turn_nodes-clause-came : goal.returns-in_err-turn_nodes-clause-came

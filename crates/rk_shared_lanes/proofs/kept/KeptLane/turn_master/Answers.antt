@@ -1,4 +1,4 @@
-use Rattle.rk_shared_lanes.proofs.Turned.{crashed_passes, living_turns, same_lane}
+use Rattle.rk_shared_lanes.proofs.Turned.{crashed_passes, living_turns}
 use Rattle.rk_shared_lanes.proofs.kept.KeptLane.turn_master.Goals as goal
 
 pub returns-then-crashed-clause-came : goal.returns-then-crashed-clause-came

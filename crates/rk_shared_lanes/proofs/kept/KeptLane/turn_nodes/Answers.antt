@@ -1,5 +1,4 @@
-use Rattle.std.proofs.Common.{◌≡◌, ◌≤◌, ◌+◌, None, refl, ◌∙◌, arith}
-use Rattle.std.proofs.lemmas.Result.{err_from_is_err_and}
+use Rattle.rk_shared_lanes.proofs.Words.{◌≡◌, ◌≤◌, ◌+◌, None, refl, ◌∙◌, arith, err_from_is_err_and}
 use Rattle.rk_attempts.proofs.Works.{coordinator_turned, one_more_turned}
 use Rattle.rk_shared_lanes.proofs.Turned.{all_turned, same_then, turns_stopped}
 use Rattle.rk_shared_lanes.proofs.kept.KeptLane.turn_nodes.Goals as goal

@@ -1,8 +1,4 @@
-use Rattle.std.proofs.Common.{◌≡◌, true, is_some}
-use Rattle.rk_lane.specs.LaneState.{IsSameLane}
-use Rattle.rk_attempts.specs.Came.{Comes}
-use Rattle.rk_attempts.specs.Progress.{started}
-use Rattle.rk_attempts.proofs.Works.{first_turned}
+use Rattle.rk_shared_lanes.proofs.Words.{◌≡◌, true, is_some, IsSameLane, Comes, started, first_turned}
 use Rattle.rk_shared_lanes.proofs.kept.KeptLane.turn_nodes.Given as goal
 
 abbrev pub invariant-loop-index : goal.invariant-loop-index

@@ -1,8 +1,7 @@
-use Rattle.std.proofs.Common.{◌≡◌, ◌↔◌, ℕ, Err, Some, sym, subst}
+use Rattle.rk_shared_lanes.proofs.Words.{◌≡◌, ℕ, Err, Some, sym, subst, next_call, IsLawfulCall, PassState}
+use Rattle.std.proofs.Common.{◌↔◌}
 use Rattle.rk_session.specs.declared.error.AskError.TheVariants as errors
-use Rattle.rk_world.specs.Client.{busy, next_call}
-use Rattle.rk_world.specs.Premises.{IsLawfulCall}
-use Rattle.rk_shared_lanes.specs.Passes.{PassState}
+use Rattle.rk_world.specs.Client.{busy}
 use Rattle.rk_shared_lanes.proofs.Calling.{calling_uncounted, pass_calling}
 use Rattle.rk_shared_lanes.proofs.pass.Pass.ask.Goals as goal
 

@@ -1,8 +1,5 @@
 use Rattle.std.proofs.lemmas.List.Sorted.{All-permutation}
-use Rattle.rk_lane.specs.LaneState.{LaneState}
-use Rattle.rk_laws_gathered.specs.OpenCalls.{HasCountedCalls}
-use Rattle.rk_shared_lanes.specs.Kept.{IsNoneBelow, IsSoundOrSpent}
-use Rattle.rk_shared_lanes.specs.Together.{IsOfRoster}
+use Rattle.rk_shared_lanes.proofs.Words.{LaneState, HasCountedCalls, IsNoneBelow, IsSoundOrSpent, IsOfRoster}
 use Rattle.rk_shared_lanes.proofs.Below.{all_above}
 use Rattle.rk_shared_lanes.proofs.shared.SharedLanes.gather.Goals as goal
 

@@ -1,11 +1,6 @@
-use Rattle.std.proofs.Common.{◌^◌, ◌<◌, Some, ap, arith}
-use Rattle.std.proofs.lemmas.Grind.{common_steps}
+use Rattle.rk_shared_lanes.proofs.Words.{◌^◌, ◌<◌, Some, ap, arith, common_steps, sum_by_push, LANES, LaneState, IsNoneBelow}
+use Rattle.rk_shared_lanes.proofs.Words.{IsSoundOrSpent, IsOfRoster, IsUnasked, powers_of}
 use Rattle.std.proofs.lemmas.List.Elements.{All-pop}
-use Rattle.std.proofs.lemmas.List.Sums.{sum_by_push}
-use Rattle.rk_types.specs.declared.hashing.TheConstants.{LANES}
-use Rattle.rk_lane.specs.LaneState.{LaneState}
-use Rattle.rk_shared_lanes.specs.Kept.{IsNoneBelow, IsSoundOrSpent}
-use Rattle.rk_shared_lanes.specs.Together.{IsOfRoster, IsUnasked, powers_of}
 use Rattle.rk_shared_lanes.proofs.sharing.Locking.lock_all.Goals as goal
 
 pub lock-requires-clause-unasked : goal.lock-requires-clause-unasked

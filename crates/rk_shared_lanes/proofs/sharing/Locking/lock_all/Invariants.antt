@@ -1,8 +1,5 @@
-use Rattle.std.proofs.Common.{◌≡◌, ◌+◌, ◌<◌, ◌≤◌, vec_len, vec_capacity}
-use Rattle.std.specs.List.{All}
-use Rattle.rk_types.specs.declared.hashing.TheConstants.{LANES}
-use Rattle.rk_shared_lanes.specs.Kept.{IsNoneBelow}
-use Rattle.rk_shared_lanes.specs.Together.{AllSoundOrSpent, IsOfRoster, IsUnasked, powers_of}
+use Rattle.rk_shared_lanes.proofs.Words.{◌≡◌, ◌+◌, ◌<◌, ◌≤◌, vec_len, vec_capacity, All, LANES, IsNoneBelow, AllSoundOrSpent, IsOfRoster}
+use Rattle.rk_shared_lanes.proofs.Words.{IsUnasked, powers_of}
 use Rattle.rk_shared_lanes.proofs.sharing.Locking.lock_all.Given as goal
 
 abbrev pub invariant-loop-lane : goal.invariant-loop-lane

@@ -1,7 +1,4 @@
-use Rattle.std.proofs.Common.{◌≡◌, ◌+◌, ◌≤◌, ◌++◌, vec_len, vec_capacity, reverse}
-use Rattle.std.specs.List.{All}
-use Rattle.rk_world.specs.Premises.{MayAct}
-use Rattle.rk_shared_lanes.specs.Together.{IsIdle, sessions_of}
+use Rattle.rk_shared_lanes.proofs.Words.{◌≡◌, ◌+◌, ◌≤◌, ◌++◌, vec_len, vec_capacity, reverse, All, MayAct, IsIdle, sessions_of}
 use Rattle.rk_shared_lanes.proofs.sharing.Passing.pass_all.Given as goal
 
 abbrev pub invariant-loop-session : goal.invariant-loop-session

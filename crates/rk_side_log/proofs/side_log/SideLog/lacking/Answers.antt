@@ -1,10 +1,5 @@
-use Rattle.std.proofs.Common.{◌≡◌, ◌∙◌, ◌++◌, ℕ, List, length, take, ap, arith}
-use Rattle.rk_types.specs.declared.held.Held.{Held}
-use Rattle.rk_segment.specs.Segment.{NumberedBytes}
-use Rattle.rk_log.specs.Cut.{cut}
-use Rattle.rk_world.specs.Material.{as_entries}
-use Rattle.rk_side_log.specs.Side.{Side, begun, room_in, segments_of}
-use Rattle.rk_side_log.specs.Spelled.{bytes_in, items_read}
+use Rattle.rk_side_log.proofs.Words.{◌≡◌, ◌∙◌, ◌++◌, ℕ, List, length, take, ap, arith, Held, NumberedBytes, cut, as_entries, Side, begun}
+use Rattle.rk_side_log.proofs.Words.{room_in, segments_of, bytes_in, items_read}
 use Rattle.rk_side_log.proofs.Begun.{segments-append}
 use Rattle.rk_side_log.proofs.Filled.{segments_cut, take-filled}
 use Rattle.rk_side_log.proofs.side_log.SideLog.lacking.Goals as goal

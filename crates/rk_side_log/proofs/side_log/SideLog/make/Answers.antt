@@ -1,7 +1,4 @@
-use Rattle.std.proofs.Common.{◌∙◌, ◌-◌, ℕ, List, vec_len, sym, ap, subst}
-use Rattle.rk_types.specs.declared.held.Held.{Held}
-use Rattle.rk_side_log.specs.Side.{Side, IsFilled}
-use Rattle.rk_side_log.specs.Spelled.{bytes_in, items_read}
+use Rattle.rk_side_log.proofs.Words.{◌∙◌, ◌-◌, ℕ, List, vec_len, sym, ap, subst, Held, Side, IsFilled, bytes_in, items_read}
 use Rattle.rk_side_log.proofs.Filled.{items_filled, filled_again, filled_more}
 use Rattle.rk_side_log.proofs.side_log.SideLog.make.Goals as goal
 

@@ -1,7 +1,5 @@
-use Rattle.std.proofs.Common.{◌≡◌, ◌∙◌, ◌+◌, ◌++◌, ◌∷◌, [], ℕ, List, length, set, sym, ap, subst, arith, length-set}
-use Rattle.std.specs.Prelude.{is_ok}
-use Rattle.rk_side_log.specs.Side.{Side, IsFilled}
-use Rattle.rk_side_log.specs.Spelled.{bytes_in, items_read}
+use Rattle.rk_side_log.proofs.Words.{◌≡◌, ◌∙◌, ◌+◌, ◌++◌, ◌∷◌, [], ℕ, List, length, set, sym, ap, subst, arith, length-set, is_ok, Side}
+use Rattle.rk_side_log.proofs.Words.{IsFilled, bytes_in, items_read}
 use Rattle.rk_side_log.proofs.Filled.{GoesInto, bytes_most, items_filled, filled_again}
 use Rattle.rk_side_log.proofs.Views.{length-bytes_in, goes_seen, taken_at, put_seen}
 use Rattle.rk_side_log.proofs.side_log.SideLog.put.Goals as goal

@@ -1,13 +1,6 @@
-use Rattle.std.proofs.Common.{◌≡◌, ◌∙◌, ◌++◌, ℕ, List, take, map, sym, ap, subst}
-use Rattle.std.specs.List.{All}
-use Rattle.std.specs.Prelude.{is_ok}
-use Rattle.std.proofs.lemmas.Bool.{cond-true}
-use Rattle.std.proofs.lemmas.List.{map-append, take-map}
-use Rattle.rk_entry.specs.Lawful.{IsLawfulHeld}
-use Rattle.rk_segment.specs.Segment.{NumberedBytes}
-use Rattle.rk_world.specs.SideLogs.{cut_items}
-use Rattle.rk_side_log.specs.Side.{Side}
-use Rattle.rk_side_log.specs.Spelled.{bytes_in, items_read, spelled_items}
+use Rattle.rk_side_log.proofs.Words.{◌≡◌, ◌∙◌, ◌++◌, ℕ, List, take, map, sym, ap, subst, All, is_ok, cond-true, map-append, IsLawfulHeld}
+use Rattle.rk_side_log.proofs.Words.{NumberedBytes, cut_items, Side, bytes_in, items_read, spelled_items}
+use Rattle.std.proofs.lemmas.List.{take-map}
 use Rattle.rk_side_log.proofs.Cutting.{spelled_cut}
 use Rattle.rk_side_log.proofs.Filled.{take-filled}
 use Rattle.rk_side_log.proofs.side_log.SideLog.seal_into.Goals as goal

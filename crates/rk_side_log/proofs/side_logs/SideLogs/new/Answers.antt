@@ -1,6 +1,4 @@
-use Rattle.std.proofs.Common.{◌∙◌, ◌∷◌, [], sym, ap, arith}
-use Rattle.rk_side_log.specs.Side.{Side}
-use Rattle.rk_side_log.specs.Spelled.{unsealed_in}
+use Rattle.rk_side_log.proofs.Words.{◌∙◌, ◌∷◌, [], sym, ap, arith, Side, unsealed_in}
 use Rattle.rk_side_log.proofs.Sides.{unsealed_none}
 use Rattle.rk_side_log.proofs.side_logs.SideLogs.new.Goals as goal
 

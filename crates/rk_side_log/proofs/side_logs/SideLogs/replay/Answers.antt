@@ -1,5 +1,4 @@
-use Rattle.std.proofs.Common.{◌∙◌, ◌<◌, length, sym, ap, arith}
-use Rattle.rk_side_log.specs.Spelled.{unsealed_in}
+use Rattle.rk_side_log.proofs.Words.{◌∙◌, ◌<◌, length, sym, ap, arith, unsealed_in}
 use Rattle.rk_side_log.proofs.Sides.{count_set, made_same, replayed_set, unsealed_more}
 use Rattle.rk_side_log.proofs.side_logs.SideLogs.replay.Goals as goal
 

@@ -1,13 +1,8 @@
-use Rattle.std.proofs.Common.{◌≡◌, ◌∙◌, ℕ, List, Vec, length, replicate, sym, ap, subst, arith}
-use Rattle.std.specs.List.{All}
+use Rattle.rk_side_log.proofs.Words.{◌≡◌, ◌∙◌, ℕ, List, length, replicate, sym, ap, subst, arith, All, IsLawfulHeld, Held, NumberedBytes}
+use Rattle.rk_side_log.proofs.Words.{Side, no_side, items_of_each, made_in, unsealed_in}
+use Rattle.std.proofs.Common.{Vec}
 use Rattle.std.proofs.lemmas.List.Elements.{All-map}
-use Rattle.rk_entry.specs.Lawful.{IsLawfulHeld}
-use Rattle.rk_types.specs.declared.held.Held.{Held}
 use Rattle.std.specs.Global.{Global}
-use Rattle.rk_segment.specs.Segment.{NumberedBytes}
-use Rattle.rk_side_log.specs.Side.{Side, no_side}
-use Rattle.rk_side_log.specs.Sides.{items_of_each, made_in}
-use Rattle.rk_side_log.specs.Spelled.{unsealed_in}
 use Rattle.rk_side_log.proofs.Sealing.{made_none, unsealed_no_sides}
 use Rattle.rk_side_log.proofs.side_logs.SideLogs.seal.Goals as goal
 
