@@ -1,18 +1,10 @@
 -- Where `settle` ends its cluster is at rest.
-use Rattle.std.proofs.Common.{◌≡◌, Bool, true, false, List, [], ◌∷◌, ◌++◌, inl, inr, map, refl, sym, subst, ◌∙◌, append_assoc, append-nil, ⊎_elim}
+use Rattle.rk_settle.proofs.Words.{◌≡◌, Bool, true, false, List, [], ◌∷◌, ◌++◌, map, refl, sym, subst, ◌∙◌, append_assoc, append-nil}
+use Rattle.rk_settle.proofs.Words.{flat_map, Cluster, Occurrence, Acted, all_acted, is_lost_at_backup, deliver_in_makes, Fate, Course}
+use Rattle.rk_settle.proofs.Words.{act_makes, course_of, is_at_limit, moved, moved_all, moved_by, occurring, occurring_by, round_over}
+use Rattle.rk_settle.proofs.Words.{with_tasks, is_at_rest, lane_numbers, lane_tasks, settle, round_of, unfolded, Task}
+use Rattle.std.proofs.Common.{inl, inr, ⊎_elim}
 use Rattle.std.specs.Prelude.{ℕ, ◌⊎◌, Option, None, Some, if◌then◌else◌}
-use Rattle.std.specs.List.{flat_map}
-use Rattle.rk_world.specs.Cluster.{Cluster, Occurrence}
-use Rattle.rk_cluster.specs.Acted.{Acted, all_acted}
-use Rattle.rk_cluster.specs.Delivering.{is_lost_at_backup}
-use Rattle.rk_cluster.specs.Makes.{deliver_in_makes}
-use Rattle.rk_cluster.specs.Replicas.{Fate}
-use Rattle.rk_settle.specs.Course.{Course, act_makes, course_of, is_at_limit, moved, moved_all, moved_by, occurring, occurring_by, round_over, with_tasks}
-use Rattle.rk_settle.specs.Rest.{is_at_rest}
-use Rattle.rk_settle.specs.Settle.{lane_numbers, lane_tasks, settle}
-use Rattle.rk_settle.specs.Tasks.{round_of}
-use Rattle.rk_settle.specs.Unfolding.{unfolded}
-use Rattle.rk_settle.specs.declared.task.Task.{Task}
 use Rattle.rk_settle.specs.declared.task.Task.TheVariants as tasks
 
 -- the last of some tasks settles

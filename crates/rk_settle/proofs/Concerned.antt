@@ -1,24 +1,18 @@
 -- The lanes that a command on a tablet's migration concerns, one lane after the other, and whether the source or the target has crashed there.
-use Rattle.std.proofs.Common.{◌≡◌, ◌+◌, ℕ, suc, Bool, true, false, not, ◌||◌, nat_le, cond, List, [], ◌∷◌, ◌++◌, filter, length, slice_get, Option, Some, sym, ap, ◌∙◌, append-nil, arith}
-use Rattle.std.specs.List.{list_any, range_with_len}
+use Rattle.rk_settle.proofs.Words.{◌≡◌, ◌+◌, ℕ, suc, Bool, true, false, not, ◌||◌, nat_le, cond, List, [], ◌∷◌, ◌++◌, filter, length}
+use Rattle.rk_settle.proofs.Words.{Option, Some, sym, ap, ◌∙◌, append-nil, arith, range_with_len, Segments, row_of, Session, Cluster}
+use Rattle.rk_settle.proofs.Words.{lane_at, World, LaneState, IsOf, state_of, same_count}
+use Rattle.std.proofs.Common.{slice_get}
+use Rattle.std.specs.List.{list_any}
 use Rattle.std.proofs.Math.Bool.{or-false}
 use Rattle.std.proofs.lemmas.Bool.Decides.{nat_tests}
 use Rattle.std.proofs.lemmas.List.Folds.{list_any-append}
-use Rattle.rk_outside.specs.Segments.{Segments}
 use Rattle.rk_types.specs.NumberMap.{NumberMap}
-use Rattle.rk_tablet_map.specs.Rows.{row_of}
-use Rattle.rk_world.specs.Client.{Session}
-use Rattle.rk_world.specs.Cluster.{Cluster, lane_at}
-use Rattle.rk_world.specs.World.{World}
-use Rattle.rk_lane.specs.LaneState.{LaneState}
 use Rattle.rk_cluster.specs.Codes.{code_where, first_code}
 use Rattle.rk_cluster.specs.Looks.{is_tablet}
-use Rattle.rk_cluster.specs.State.{IsOf}
-use Rattle.rk_cluster.specs.Steps.{state_of}
 use Rattle.rk_cluster.specs.Told.{LaneTells, LanesTell}
 use Rattle.rk_cluster.specs.declared.code.Code.TheVariants.{Crashed, NotMigrating, Unknown}
 use Rattle.rk_cluster.proofs.Telling.{filter_more, lane_tells}
-use Rattle.rk_cluster.proofs.Worlds.{same_count}
 use Rattle.rk_settle.specs.Codes.{is_dead_migration, migration_code}
 
 above_none : (n : ℕ) → nat_le (suc n) 0 ≡ false

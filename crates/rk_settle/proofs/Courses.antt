@@ -1,48 +1,40 @@
 -- How the course of a command goes on by an occurrence that a cluster in code made.
-use Rattle.std.proofs.Common.{◌≡◌, ℕ, Bool, true, false, ◌||◌, List, [], ◌∷◌, ◌++◌, Option, None, Some, is_some, Result, Ok, Err, if◌then◌else◌, refl, sym, ap, subst, ◌∙◌}
+use Rattle.rk_settle.proofs.Words.{◌≡◌, ℕ, Bool, true, false, ◌||◌, List, [], ◌∷◌, ◌++◌, Option, None, Some, is_some, Ok, if◌then◌else◌}
+use Rattle.rk_settle.proofs.Words.{refl, sym, ap, subst, ◌∙◌, get, Node, Said, Message, Segments, StepError, Gave, Session, Calls, Cluster}
+use Rattle.rk_settle.proofs.Words.{Happens, Occurrence, lane_at, session_at, World, Acted, all_acted, is_lost_at_backup, CountsGoOn}
+use Rattle.rk_settle.proofs.Words.{counts_in, deliver_in_makes, delivery, delivery_of, has_receiver, Fate, Kept, ClusterState, IsOf}
+use Rattle.rk_settle.proofs.Words.{counts_same, Course, error_by, has_actor, moved, moved_by, occurring, occurring_by, IsCourse, Moves}
+use Rattle.rk_settle.proofs.Words.{Stops, occurrence_of, Act, Progress, Task}
+use Rattle.std.proofs.Common.{Result, Err}
 use Rattle.std.proofs.lemmas.List.{append-nil, append_assoc}
 use Rattle.std.proofs.lemmas.Option.{none-some}
-use Rattle.rk_types.specs.NumberMap.{NumberMap, get}
+use Rattle.rk_types.specs.NumberMap.{NumberMap}
 use Rattle.std.specs.Option.{option_to_list}
 use Rattle.std.specs.Prelude.{⊤}
-use Rattle.rk_types.specs.declared.node.Node.{Node}
 use Rattle.rk_types.specs.declared.node.Node.TheVariants as nodes
-use Rattle.rk_types.specs.declared.node.Said.{Said}
-use Rattle.rk_message.specs.declared.message.Message.{Message}
-use Rattle.rk_outside.specs.Segments.{Segments}
-use Rattle.rk_world.specs.declared.error.StepError.{StepError}
 use Rattle.rk_world.specs.declared.event.Event.{Event}
 use Rattle.rk_world.specs.declared.event.Event.TheVariants as events
-use Rattle.rk_world.specs.Backup.{Called, Gave}
+use Rattle.rk_world.specs.Backup.{Called}
 use Rattle.rk_world.specs.Calls.{Visited, accept, ask}
-use Rattle.rk_world.specs.Client.{Session}
-use Rattle.rk_world.specs.Cluster.{Accepts, Asks, Calls, Cluster, Happens, Joins, Occurrence, cluster_stepped, cluster_visited, lane_at, session_at}
+use Rattle.rk_world.specs.Cluster.{Accepts, Asks, Joins, cluster_stepped, cluster_visited}
 use Rattle.rk_world.specs.Refusals.{refusal}
 use Rattle.rk_world.specs.Step.{Stepped, step, stepped_by}
-use Rattle.rk_world.specs.World.{World}
-use Rattle.rk_cluster.specs.Acted.{Acted, acted, all_acted, going_on, worn_in}
-use Rattle.rk_cluster.specs.Delivering.{Delivers, IsDelivery, is_lost_at_backup}
+use Rattle.rk_cluster.specs.Acted.{acted, going_on, worn_in}
+use Rattle.rk_cluster.specs.Delivering.{Delivers, IsDelivery}
 use Rattle.rk_cluster.specs.Effects.{ActsOne, IsActedAs, RunsTo}
-use Rattle.rk_cluster.specs.Faults.{BySomeFate, CountsGoOn, counts_in}
-use Rattle.rk_cluster.specs.Makes.{deliver_in_makes, delivery, delivery_of, has_receiver}
-use Rattle.rk_cluster.specs.Replicas.{Fate, Kept, answer_of}
+use Rattle.rk_cluster.specs.Faults.{BySomeFate}
+use Rattle.rk_cluster.specs.Replicas.{answer_of}
 use Rattle.rk_cluster.specs.declared.delivering.Delivered.{Delivered}
-use Rattle.rk_cluster.specs.State.{ClusterState, IsOf}
 use Rattle.rk_cluster.specs.Steps.{WhereWorn}
 use Rattle.rk_cluster.specs.declared.error.ClusterError.{ClusterError}
 use Rattle.rk_cluster.specs.declared.error.ClusterError.TheVariants as causes
-use Rattle.rk_cluster.proofs.Faults.{counts_same, go_on_kept}
+use Rattle.rk_cluster.proofs.Faults.{go_on_kept}
 use Rattle.rk_cluster.proofs.Leading.{leads_on}
-use Rattle.rk_settle.specs.Course.{Course, error_by, has_actor, moved, moved_by, occurring, occurring_by, worn_error}
+use Rattle.rk_settle.specs.Course.{worn_error}
 use Rattle.rk_settle.specs.Failures.{failure_by}
 use Rattle.rk_settle.specs.Outcomes.{IsStopped}
-use Rattle.rk_settle.specs.States.{IsCourse, Moves, Stops}
-use Rattle.rk_settle.specs.Tasks.{occurrence_of}
-use Rattle.rk_settle.specs.declared.task.Act.{Act}
 use Rattle.rk_settle.specs.declared.task.Act.TheVariants as acts
-use Rattle.rk_settle.specs.declared.course.Progress.{Progress}
 use Rattle.rk_settle.specs.declared.error.SettleError.TheVariants as errors
-use Rattle.rk_settle.specs.declared.task.Task.{Task}
 use Rattle.rk_settle.specs.declared.task.Task.TheVariants as made
 use Rattle.rk_settle.proofs.Keeping.{keeps_same}
 

@@ -1,26 +1,13 @@
 -- How a command in code comes to its end, or stops.
-use Rattle.std.proofs.Common.{◌≡◌, ℕ, ◌≤◌, false, List, [], ◌++◌, length, map, Option, sym, ap, ◌∙◌}
+use Rattle.rk_settle.proofs.Words.{◌≡◌, ℕ, ◌≤◌, false, List, [], ◌++◌, length, map, Option, sym, ap, ◌∙◌, range_with_len, LANES, Said}
+use Rattle.rk_settle.proofs.Words.{Segments, Cluster, masters_of, ClusterState, IsOf, counts_same, same_count, course_of, FailsInRounds}
+use Rattle.rk_settle.proofs.Words.{failed_rounds, AreTasks, Fails, lane_numbers, IsCourse, MovesAll, Progress, SettleError, Task}
 use Rattle.std.proofs.lemmas.List.{append-nil}
-use Rattle.std.specs.List.{range_with_len}
-use Rattle.rk_types.specs.declared.hashing.TheConstants.{LANES}
-use Rattle.rk_types.specs.declared.node.Said.{Said}
-use Rattle.rk_outside.specs.Segments.{Segments}
-use Rattle.rk_world.specs.Cluster.{Cluster}
-use Rattle.rk_cluster.specs.Masters.{backups_of, masters_of}
-use Rattle.rk_cluster.specs.State.{ClusterState, IsOf}
-use Rattle.rk_cluster.proofs.Faults.{counts_same}
+use Rattle.rk_cluster.specs.Masters.{backups_of}
 use Rattle.rk_cluster.proofs.Leading.{leads_nowhere}
-use Rattle.rk_cluster.proofs.Worlds.{same_count}
-use Rattle.rk_settle.specs.Course.{course_of}
-use Rattle.rk_settle.specs.Faults.{FailsInRounds, failed_rounds}
-use Rattle.rk_settle.specs.Lawful.{AreTasks}
-use Rattle.rk_settle.specs.Outcomes.{Ends, Fails, SaidSoFar, StopsBefore}
-use Rattle.rk_settle.specs.Settle.{lane_numbers}
-use Rattle.rk_settle.specs.States.{ClusterTells, EightTell, IsCourse, MovesAll}
-use Rattle.rk_settle.specs.declared.course.Progress.{Progress}
-use Rattle.rk_settle.specs.declared.error.SettleError.{SettleError}
+use Rattle.rk_settle.specs.Outcomes.{Ends, SaidSoFar, StopsBefore}
+use Rattle.rk_settle.specs.States.{ClusterTells, EightTell}
 use Rattle.rk_settle.specs.declared.error.SettleError.TheVariants as errors
-use Rattle.rk_settle.specs.declared.task.Task.{Task}
 use Rattle.rk_settle.proofs.Moving.{SaysAfter, StopsAfter, StopsIn}
 
 -- no replica has failed yet

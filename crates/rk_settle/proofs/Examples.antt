@@ -5,21 +5,16 @@ use Rattle.rk_types.specs.Held.{spelled_of}
 use Rattle.rk_types.specs.declared.call.Outcome.TheVariants.{Written}
 use Rattle.rk_types.specs.declared.node.Said.TheVariants as says
 use Rattle.rk_transfer.specs.declared.role.Role.TheVariants as roles
-use Rattle.rk_tablet_map.specs.declared.phase.Phase.TheVariants.{Moving}
+use Rattle.rk_settle.proofs.Words.{Moving, advance, Granted, course_of, is_at_rest, serve, settle}
 use Rattle.rk_entry.specs.Ends.{range_bytes, outcome_bytes, end_bytes}
 use Rattle.rk_entry.specs.Entries.{spelled_all}
 use Rattle.rk_entry.specs.Lists.{ends_bytes, segments_bytes}
 use Rattle.rk_entry.specs.Numbers.{number_bytes}
 use Rattle.rk_entry.specs.Spelling.{head_bytes, held_bytes, refused_bytes, carried_bytes, joined_bytes, body_length, front_bytes, spelled, mark_of}
 use Rattle.rk_entry.specs.Texts.{key_bytes, value_bytes}
-use Rattle.rk_settle.specs.Advance.{advance}
-use Rattle.rk_settle.specs.declared.reach.Reach.TheVariants.{Granted}
-use Rattle.rk_settle.specs.Course.{course_of, error_of}
+use Rattle.rk_settle.specs.Course.{error_of}
 use Rattle.rk_settle.specs.declared.task.Task.TheVariants.{Begins}
 use Rattle.rk_settle.specs.declared.error.SettleError.TheVariants.{Replica}
-use Rattle.rk_settle.specs.Rest.{is_at_rest}
-use Rattle.rk_settle.specs.Serve.{serve}
-use Rattle.rk_settle.specs.Settle.{settle}
 use Rattle.rk_settle.proofs.Scene.{calling, course_after, migrating, shown_of}
 
 -- serve brings a put to its end

@@ -1,16 +1,15 @@
 -- In how many rounds of a command replicas failed, by their counts of faults.
-use Rattle.std.proofs.Common.{◌≡◌, ◌≤◌, ◌+◌, ◌||◌, ◌++◌, ℕ, Bool, true, false, if◌then◌else◌, List, [], ◌∷◌, length, refl, sym, subst, arith}
+use Rattle.rk_settle.proofs.Words.{◌≡◌, ◌≤◌, ◌+◌, ◌||◌, ◌++◌, ℕ, Bool, true, false, if◌then◌else◌, List, [], ◌∷◌, length, refl, sym, subst}
+use Rattle.rk_settle.proofs.Words.{arith, All-append, All-cons, All-nil, CountsGoOn, counts_in, Fate, ClusterState, FailsInRounds}
+use Rattle.rk_settle.proofs.Words.{failed_rounds, Progress}
 use Rattle.std.proofs.lemmas.List.{append-nil, length-append}
-use Rattle.std.proofs.lemmas.List.Elements.{All-append, All-cons, All-nil}
-use Rattle.rk_cluster.specs.Faults.{CountsGoOn, GoOn, SomeLaneFailed, counts_in}
-use Rattle.rk_cluster.specs.Replicas.{Fate, IsLost, Lost}
-use Rattle.rk_cluster.specs.State.{ClusterState}
+use Rattle.rk_cluster.specs.Faults.{GoOn, SomeLaneFailed}
+use Rattle.rk_cluster.specs.Replicas.{IsLost, Lost}
 use Rattle.rk_cluster.specs.declared.error.ClusterError.{ClusterError}
 use Rattle.rk_cluster.specs.declared.error.ClusterError.TheVariants as causes
 use Rattle.rk_cluster.proofs.Faults.{counts_none, go_on_same, go_on_then}
 use Rattle.rk_settle.specs.Failures.{failure_by}
-use Rattle.rk_settle.specs.Faults.{FailsInRounds, IsOfReplicas, KeepsUp, failed_rounds}
-use Rattle.rk_settle.specs.declared.course.Progress.{Progress}
+use Rattle.rk_settle.specs.Faults.{IsOfReplicas, KeepsUp}
 
 -- no error of a cluster says that replicas failed too often
 pub of_no_replica : (e : ClusterError) → IsOfReplicas (failure_by e) → ⊥

@@ -1,26 +1,22 @@
 -- What is found in lists of a lane and of a session names masters that are there.
-use Rattle.std.proofs.Common.{◌≡◌, ◌<◌, ◌≤◌, ◌==◌, ℕ, Bool, true, false, cond, not, is_some, List, [], ◌∷◌, slice_index_or, All, find, Option, None, Some, IfSome, sym, ap, subst, ◌∙◌, ⊎_elim, length, arith}
+use Rattle.rk_settle.proofs.Words.{◌≡◌, ◌<◌, ◌≤◌, ℕ, Bool, true, false, cond, not, is_some, List, [], ◌∷◌, slice_index_or, All, find}
+use Rattle.rk_settle.proofs.Words.{Option, None, Some, IfSome, sym, ap, subst, ◌∙◌, length, arith, All-head, All-nil, All-tail, Segments}
+use Rattle.rk_settle.proofs.Words.{row_of, Phase, Moving, Opening, Row, Session, IsMaster, World, LaneState, AreNamed}
+use Rattle.std.proofs.Common.{◌==◌, ⊎_elim}
 use Rattle.std.proofs.lemmas.Bool.{cases_lt}
 use Rattle.std.proofs.lemmas.List.{get_or_past}
-use Rattle.std.proofs.lemmas.List.Elements.{All-head, All-nil, All-tail}
-use Rattle.rk_outside.specs.Segments.{Segments}
 use Rattle.rk_types.specs.declared.call.Call.{Call}
 use Rattle.rk_message.specs.declared.calls.Located.{Located}
 use Rattle.rk_tablet_map.specs.Phase.{member}
-use Rattle.rk_tablet_map.specs.Rows.{row_of}
-use Rattle.rk_tablet_map.specs.declared.phase.Phase.{Phase}
-use Rattle.rk_tablet_map.specs.declared.phase.Phase.TheVariants.{Moving, Opening, Owned, Rebuilding}
-use Rattle.rk_tablet_map.specs.declared.row.Row.{Row}
+use Rattle.rk_tablet_map.specs.declared.phase.Phase.TheVariants.{Owned, Rebuilding}
 use Rattle.rk_session.specs.Owners.{cached_owner, known_owner, owner_by_call}
-use Rattle.rk_world.specs.Client.{Session, call_lane, has_call, range_of, ranges_in}
+use Rattle.rk_world.specs.Client.{call_lane, has_call, range_of, ranges_in}
 use Rattle.rk_world.specs.Formed.{IsFormedRow, named_in}
 use Rattle.rk_world.specs.Limits.{IsFormedMember, Limits, limits_of}
-use Rattle.rk_world.specs.Premises.{IsCached, IsMaster, MayAct}
+use Rattle.rk_world.specs.Premises.{IsCached, MayAct}
 use Rattle.rk_world.specs.Runs.{IsFormedWithRoom}
-use Rattle.rk_world.specs.World.{World}
-use Rattle.rk_lane.specs.LaneState.{LaneState, Running, world_with}
+use Rattle.rk_lane.specs.LaneState.{Running, world_with}
 use Rattle.rk_cluster.specs.State.{IsWorld}
-use Rattle.rk_settle.specs.Lawful.{AreNamed}
 
 -- what holds of each holds of the first that passes a test
 passing : {X : Type 0} (Holds : X → Type 0) (b : Bool) (x : X) (found : Option X) → Holds x → IfSome found Holds → IfSome (cond b (Some x) found) Holds

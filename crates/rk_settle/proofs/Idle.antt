@@ -1,25 +1,19 @@
 -- The turns in a lane where none would leave anything: their moves leave the cluster as it is.
-use Rattle.std.proofs.Common.{◌≡◌, ℕ, zero, suc, All, List, [], ◌∷◌, ◌++◌, map, slice_get, slice_index_or, Option, None, Some, refl, sym, ap, subst, ◌∙◌}
-use Rattle.std.proofs.lemmas.List.Elements.{All-head, All-tail}
+use Rattle.rk_settle.proofs.Words.{◌≡◌, ℕ, suc, All, List, [], ◌∷◌, ◌++◌, map, slice_index_or, Option, None, Some, refl, sym, ap, subst}
+use Rattle.rk_settle.proofs.Words.{◌∙◌, All-head, All-tail, Node, Segments, Cluster, lane_at, World, new_world, LaneState, ClusterState}
+use Rattle.rk_settle.proofs.Words.{IsOf, counts_same, turns_of, MovesAll, Progress, Task}
+use Rattle.std.proofs.Common.{zero, slice_get}
 use Rattle.rk_types.specs.NumberMap.{numbers}
-use Rattle.rk_types.specs.declared.node.Node.{Node}
 use Rattle.rk_types.specs.declared.node.Node.TheVariants as nodes
-use Rattle.rk_outside.specs.Segments.{Segments}
-use Rattle.rk_world.specs.Cluster.{Cluster, lane_at}
-use Rattle.rk_world.specs.World.{World, live_masters, new_world}
+use Rattle.rk_world.specs.World.{live_masters}
 use Rattle.rk_world.specs.declared.event.Event.TheVariants as events
-use Rattle.rk_lane.specs.LaneState.{LaneState, Running}
+use Rattle.rk_lane.specs.LaneState.{Running}
 use Rattle.rk_lane.specs.Resting.{IsIdle}
-use Rattle.rk_cluster.specs.State.{AreWorlds, ClusterState, IsOf}
+use Rattle.rk_cluster.specs.State.{AreWorlds}
 use Rattle.rk_cluster.specs.Turns.{IsIdleIn, clients_in, live_in}
-use Rattle.rk_cluster.proofs.Faults.{counts_same}
 use Rattle.rk_cluster.proofs.Idle.{idle_acts}
-use Rattle.rk_settle.specs.Settle.{turns_of}
-use Rattle.rk_settle.specs.States.{MovesAll}
 use Rattle.rk_settle.specs.Tasks.{takes_turn}
-use Rattle.rk_settle.specs.declared.course.Progress.{Progress}
 use Rattle.rk_settle.specs.declared.task.Act.TheVariants as acts
-use Rattle.rk_settle.specs.declared.task.Task.{Task}
 use Rattle.rk_settle.specs.declared.task.Task.TheVariants as made
 use Rattle.rk_settle.proofs.Courses.{happens_moves}
 use Rattle.rk_settle.proofs.Moving.{more_moved, none_moved, one_moved, unfolds_moves}

@@ -1,8 +1,6 @@
 -- What clients had said stays.
-use Rattle.std.proofs.Common.{List, [], ◌++◌, sym, ap, ◌∙◌}
+use Rattle.rk_settle.proofs.Words.{List, [], ◌++◌, sym, ap, ◌∙◌, Said, Keeps}
 use Rattle.std.proofs.lemmas.List.{append-nil, append_assoc}
-use Rattle.rk_types.specs.declared.node.Said.{Said}
-use Rattle.rk_settle.specs.Outcomes.{Keeps}
 
 -- if nothing more is said
 pub keeps_same : (had : List Said) → Keeps had had

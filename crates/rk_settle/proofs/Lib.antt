@@ -1,8 +1,10 @@
+pub mod Words
 pub mod Keeping
 pub mod Courses
 pub mod Failing
 pub mod Moving
 pub mod Idle
+pub mod Handing
 pub mod Ending
 pub mod Following
 pub mod Named

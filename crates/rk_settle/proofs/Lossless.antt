@@ -1,30 +1,24 @@
 -- A course in which no call of a replica fails: where its command stops it stands still, and that is never because replicas failed.
-use Rattle.std.proofs.Common.{◌≡◌, ℕ, ◌+◌, ◌&&◌, nat_le, true, false, Bool, List, [], ◌∷◌, Option, None, Some, if◌then◌else◌, refl, ap, subst, ◌∙◌}
+use Rattle.rk_settle.proofs.Words.{◌≡◌, ℕ, ◌+◌, nat_le, true, false, Bool, List, [], ◌∷◌, Option, None, Some, if◌then◌else◌, refl, ap}
+use Rattle.rk_settle.proofs.Words.{subst, ◌∙◌, get, Node, Segments, Message, Cluster, lane_at, World, StepError, Acted, all_acted}
+use Rattle.rk_settle.proofs.Words.{is_lost_at_backup, deliver_in_makes, Kept, Course, MOST_FAULTS, act_makes, error_by, is_at_limit, moved}
+use Rattle.rk_settle.proofs.Words.{moved_by, occurring_by, with_tasks, SettleError, Task}
+use Rattle.std.proofs.Common.{◌&&◌}
 use Rattle.std.specs.Option.{option_map}
 use Rattle.std.proofs.lemmas.Bool.{and_right, or_from}
 use Rattle.std.proofs.lemmas.Option.{none-some}
-use Rattle.rk_types.specs.NumberMap.{get}
-use Rattle.rk_types.specs.declared.node.Node.{Node}
 use Rattle.rk_types.specs.declared.node.Node.TheVariants as nodes
-use Rattle.rk_outside.specs.Segments.{Segments}
 use Rattle.rk_message.specs.declared.message.Body.{Body}
 use Rattle.rk_message.specs.declared.message.Body.TheVariants as bodies
-use Rattle.rk_message.specs.declared.message.Message.{Message}
 use Rattle.rk_world.specs.Backup.{Backed, backup_step, called_by, stored_after}
-use Rattle.rk_world.specs.Cluster.{Cluster, lane_at}
 use Rattle.rk_world.specs.Refusals.{refusal}
 use Rattle.rk_world.specs.Step.{backed_at, delivered, log_bytes_of, losing, quietly, stepped_by, to_backup, told_for, with_sends}
-use Rattle.rk_world.specs.World.{World, backup_at, is_backup as has_backup, with_stored_by}
-use Rattle.rk_world.specs.declared.error.StepError.{StepError}
+use Rattle.rk_world.specs.World.{backup_at, is_backup as has_backup, with_stored_by}
 use Rattle.rk_world.specs.declared.event.Event.TheVariants as events
-use Rattle.rk_cluster.specs.Acted.{Acted, all_acted, lost_in}
-use Rattle.rk_cluster.specs.Delivering.{is_backup, is_lost_at_backup}
-use Rattle.rk_cluster.specs.Makes.{deliver_in_makes}
-use Rattle.rk_cluster.specs.Replicas.{Kept}
-use Rattle.rk_settle.specs.Course.{Course, MOST_FAULTS, act_makes, error_by, error_of, is_at_limit, moved, moved_by, occurring_by, with_tasks, worn_error}
-use Rattle.rk_settle.specs.declared.error.SettleError.{SettleError}
+use Rattle.rk_cluster.specs.Acted.{lost_in}
+use Rattle.rk_cluster.specs.Delivering.{is_backup}
+use Rattle.rk_settle.specs.Course.{error_of, worn_error}
 use Rattle.rk_settle.specs.declared.error.SettleError.TheVariants as errors
-use Rattle.rk_settle.specs.declared.task.Task.{Task}
 use Rattle.rk_settle.specs.declared.task.Task.TheVariants as tasks
 
 -- ---- a command that stops

@@ -1,23 +1,14 @@
 -- What a move of a course makes: some occurrences, or none, of which no lane is worn.
-use Rattle.std.proofs.Common.{◌≡◌, ℕ, Bool, true, false, cond, List, [], ◌∷◌, ◌++◌, All, refl, sym, ◌∙◌, append-nil, inl, inr}
+use Rattle.rk_settle.proofs.Words.{◌≡◌, ℕ, Bool, true, false, cond, List, [], ◌∷◌, ◌++◌, All, refl, sym, ◌∙◌, append-nil, All-cons, All-nil}
+use Rattle.rk_settle.proofs.Words.{get, Node, Message, Gave, Cluster, Happens, Occurrence, lane_at, all_acted, is_lost_at_backup}
+use Rattle.rk_settle.proofs.Words.{deliver_in_makes, delivery, delivery_of, has_receiver, Fate, Course, act_makes, has_actor, is_at_limit}
+use Rattle.rk_settle.proofs.Words.{moved, moved_by, occurring, occurring_by, round_over, with_tasks, occurrence_of, Act, Task}
+use Rattle.std.proofs.Common.{inl, inr}
 use Rattle.std.specs.Prelude.{◌⊎◌, Option, None, Some, ⊤}
 use Rattle.std.proofs.lemmas.Bool.{cond_both}
-use Rattle.std.proofs.lemmas.List.Elements.{All-cons, All-nil}
-use Rattle.rk_types.specs.NumberMap.{get}
-use Rattle.rk_types.specs.declared.node.Node.{Node}
 use Rattle.rk_types.specs.declared.node.Node.TheVariants as nodes
-use Rattle.rk_message.specs.declared.message.Message.{Message}
-use Rattle.rk_world.specs.Backup.{Gave}
-use Rattle.rk_world.specs.Cluster.{Cluster, Happens, Occurrence, lane_at}
-use Rattle.rk_cluster.specs.Acted.{all_acted}
-use Rattle.rk_cluster.specs.Delivering.{is_lost_at_backup}
-use Rattle.rk_cluster.specs.Makes.{deliver_in_makes, delivery, delivery_of, has_receiver}
-use Rattle.rk_cluster.specs.Replicas.{Fate, answer_of}
-use Rattle.rk_settle.specs.Course.{Course, act_makes, has_actor, is_at_limit, moved, moved_by, occurring, occurring_by, round_over, with_tasks}
-use Rattle.rk_settle.specs.Tasks.{occurrence_of}
-use Rattle.rk_settle.specs.declared.task.Act.{Act}
+use Rattle.rk_cluster.specs.Replicas.{answer_of}
 use Rattle.rk_settle.specs.declared.task.Act.TheVariants as acts
-use Rattle.rk_settle.specs.declared.task.Task.{Task}
 use Rattle.rk_settle.specs.declared.task.Task.TheVariants as tasks
 
 -- an occurrence calls no replica of a cluster, or its call came to what that replica answers by this fate

@@ -1,24 +1,15 @@
 -- The moves of a command in code, one after the other.
-use Rattle.std.proofs.Common.{◌≡◌, ℕ, ◌+◌, ◌<◌, ◌≤◌, Bool, true, false, nat_le, List, [], ◌∷◌, ◌++◌, Option, None, Some, if◌then◌else◌, refl, sym, ap, subst, ◌∙◌}
+use Rattle.rk_settle.proofs.Words.{◌≡◌, ℕ, ◌+◌, ◌<◌, ◌≤◌, Bool, true, false, nat_le, List, [], ◌∷◌, ◌++◌, Option, None, Some, if◌then◌else◌}
+use Rattle.rk_settle.proofs.Words.{refl, sym, ap, subst, ◌∙◌, Segments, Said, Cluster, CountsGoOn, counts_in, Fate, Kept, ClusterState}
+use Rattle.rk_settle.proofs.Words.{counts_same, Course, MOST_FAULTS, error_by, moved, moved_all, moved_by, round_over, with_tasks, Keeps}
+use Rattle.rk_settle.proofs.Words.{IsCourse, Moves, MovesAll, Stops, unfolded, Progress, SettleError, Act, Task}
 use Rattle.std.proofs.lemmas.Bool.{le-leb, lt-leb}
 use Rattle.std.proofs.lemmas.List.{append-nil}
 use Rattle.std.proofs.lemmas.List.Sums.{fold-append}
-use Rattle.rk_outside.specs.Segments.{Segments}
-use Rattle.rk_types.specs.declared.node.Said.{Said}
-use Rattle.rk_world.specs.Cluster.{Cluster}
-use Rattle.rk_cluster.specs.Faults.{CountsGoOn, counts_in}
-use Rattle.rk_cluster.specs.Replicas.{Fate, Kept}
-use Rattle.rk_cluster.specs.State.{ClusterState}
-use Rattle.rk_cluster.proofs.Faults.{counts_same, counts_then, go_on_kept}
-use Rattle.rk_settle.specs.Course.{Course, MOST_FAULTS, error_by, moved, moved_all, moved_by, round_over, with_tasks}
-use Rattle.rk_settle.specs.Outcomes.{IsStopped, Keeps}
-use Rattle.rk_settle.specs.States.{ClusterTells, IsCourse, Moves, MovesAll, Stops}
-use Rattle.rk_settle.specs.Unfolding.{unfolded}
-use Rattle.rk_settle.specs.declared.course.Progress.{Progress}
-use Rattle.rk_settle.specs.declared.error.SettleError.{SettleError}
+use Rattle.rk_cluster.proofs.Faults.{counts_then, go_on_kept}
+use Rattle.rk_settle.specs.Outcomes.{IsStopped}
+use Rattle.rk_settle.specs.States.{ClusterTells}
 use Rattle.rk_settle.specs.declared.error.SettleError.TheVariants as errors
-use Rattle.rk_settle.specs.declared.task.Act.{Act}
-use Rattle.rk_settle.specs.declared.task.Task.{Task}
 use Rattle.rk_settle.specs.declared.task.Task.TheVariants as made
 use Rattle.rk_settle.proofs.Keeping.{keeps_same, keeps_then}
 

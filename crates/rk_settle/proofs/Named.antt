@@ -1,14 +1,10 @@
 -- That tasks name lanes and masters that are there.
-use Rattle.std.proofs.Common.{◌<◌, ◌≤◌, ◌+◌, ◌++◌, ◌∷◌, ℕ, zero, suc, List, [], map, All, arith}
-use Rattle.std.proofs.lemmas.List.Elements.{All-append, All-cons, All-map, All-nil, All-weaker}
-use Rattle.std.specs.List.{flat_map, range_with_len}
-use Rattle.rk_types.specs.declared.hashing.TheConstants.{LANES}
+use Rattle.rk_settle.proofs.Words.{◌<◌, ◌≤◌, ◌+◌, ◌++◌, ◌∷◌, ℕ, suc, List, [], map, All, arith, All-append, All-cons, All-nil, flat_map}
+use Rattle.rk_settle.proofs.Words.{range_with_len, LANES, IsMaster, AreTasks, IsTask, lane_tasks, turns_of, forgets, round_of, Task}
+use Rattle.std.proofs.Common.{zero}
+use Rattle.std.proofs.lemmas.List.Elements.{All-map, All-weaker}
 use Rattle.rk_types.specs.declared.node.Node.TheVariants as nodes
-use Rattle.rk_world.specs.Premises.{IsMaster}
-use Rattle.rk_settle.specs.Lawful.{AreTasks, IsTask}
-use Rattle.rk_settle.specs.Settle.{lane_tasks, turns_of}
-use Rattle.rk_settle.specs.Tasks.{asks, forgets, round_of, takes_turn}
-use Rattle.rk_settle.specs.declared.task.Task.{Task}
+use Rattle.rk_settle.specs.Tasks.{asks, takes_turn}
 use Rattle.rk_settle.specs.declared.task.Task.TheVariants as tasks
 
 module _ (masters : ℕ) where

@@ -1,38 +1,29 @@
 -- What occurs in the course of a command makes its cluster, and may occur there at any time.
-use Rattle.std.proofs.Common.{◌≡◌, ℕ, ◌<◌, Bool, true, false, List, [], ◌∷◌, ◌++◌, All, Option, None, Some, Result, Ok, Err, if◌then◌else◌, refl, sym, ap, subst, ◌∙◌}
+use Rattle.rk_settle.proofs.Words.{◌≡◌, ℕ, ◌<◌, Bool, true, false, List, [], ◌∷◌, ◌++◌, All, Option, None, Some, Ok, if◌then◌else◌, refl}
+use Rattle.rk_settle.proofs.Words.{sym, ap, subst, ◌∙◌, All-append, All-cons, All-head, All-nil, All-tail, get, LANES, Node, Message}
+use Rattle.rk_settle.proofs.Words.{StepError, Gave, Calls, Cluster, Happens, Occurrence, lane_at, session_at, World, new_world, Acted}
+use Rattle.rk_settle.proofs.Words.{all_acted, is_lost_at_backup, deliver_in_makes, delivery, delivery_of, has_receiver, Fate, Course}
+use Rattle.rk_settle.proofs.Words.{act_makes, has_actor, is_at_limit, moved, moved_by, occurring, occurring_by, with_tasks, AreTasks}
+use Rattle.rk_settle.proofs.Words.{IsTask, occurrence_of, unfolded, Act, Task}
+use Rattle.std.proofs.Common.{Result, Err}
 use Rattle.std.specs.Int.{w32}
 use Rattle.std.proofs.lemmas.List.{append-nil}
-use Rattle.std.proofs.lemmas.List.Elements.{All-append, All-cons, All-head, All-nil, All-tail}
-use Rattle.rk_types.specs.NumberMap.{get}
-use Rattle.rk_types.specs.declared.hashing.TheConstants.{LANES}
-use Rattle.rk_types.specs.declared.node.Node.{Node}
 use Rattle.rk_types.specs.declared.node.Node.TheVariants as nodes
 use Rattle.rk_entry.specs.Numbers.{IsNumber}
-use Rattle.rk_message.specs.declared.message.Message.{Message}
-use Rattle.rk_world.specs.declared.error.StepError.{StepError}
-use Rattle.rk_world.specs.Backup.{Gave}
 use Rattle.rk_world.specs.Calls.{Visited, accept, ask}
-use Rattle.rk_world.specs.Cluster.{Accepts, Asks, Calls, Cluster, Happens, Joins, Occurrence, cluster_after, cluster_run, cluster_stepped, cluster_visited, lane_at, session_at}
+use Rattle.rk_world.specs.Cluster.{Accepts, Asks, Joins, cluster_after, cluster_run, cluster_stepped, cluster_visited}
 use Rattle.rk_world.specs.Premises.{MayHappen}
 use Rattle.rk_world.specs.Replicas.{IsTold}
 use Rattle.rk_world.specs.Step.{Stepped, step}
-use Rattle.rk_world.specs.World.{World, new_world}
 use Rattle.rk_world.specs.declared.event.Event.{Event}
 use Rattle.rk_world.specs.declared.event.Event.TheVariants as events
 use Rattle.rk_lane.specs.Events.{receiver_by}
-use Rattle.rk_cluster.specs.Acted.{Acted, acted, all_acted, came_in, going_on}
-use Rattle.rk_cluster.specs.Delivering.{is_lost_at_backup}
-use Rattle.rk_cluster.specs.Makes.{deliver_in_makes, delivery, delivery_of, has_receiver}
-use Rattle.rk_cluster.specs.Replicas.{Fate, left_by}
+use Rattle.rk_cluster.specs.Acted.{acted, came_in, going_on}
+use Rattle.rk_cluster.specs.Replicas.{left_by}
 use Rattle.rk_cluster.specs.Steps.{IsPlain}
 use Rattle.rk_cluster.proofs.Leading.{runs_join}
-use Rattle.rk_settle.specs.Course.{Course, act_makes, has_actor, is_at_limit, moved, moved_by, occurring, occurring_by, with_tasks}
-use Rattle.rk_settle.specs.Lawful.{AreTasks, IsAct, IsTask}
-use Rattle.rk_settle.specs.Tasks.{occurrence_of}
-use Rattle.rk_settle.specs.Unfolding.{unfolded}
-use Rattle.rk_settle.specs.declared.task.Act.{Act}
+use Rattle.rk_settle.specs.Lawful.{IsAct}
 use Rattle.rk_settle.specs.declared.task.Act.TheVariants as acts
-use Rattle.rk_settle.specs.declared.task.Task.{Task}
 use Rattle.rk_settle.specs.declared.task.Task.TheVariants as tasks
 use Rattle.rk_settle.proofs.Unfolded.{NamesMasters, unfolded_are}
 

@@ -1,11 +1,8 @@
 -- How far a migration has come, by its phase and the reach.
-use Rattle.std.proofs.Common.{◌≡◌, ℕ, Option, refl}
-use Rattle.rk_tablet_map.specs.declared.phase.Phase.TheVariants.{Moving, Opening}
-use Rattle.rk_tablet_map.specs.declared.row.Row.{Row}
-use Rattle.rk_world.specs.World.{World}
+use Rattle.rk_settle.proofs.Words.{◌≡◌, ℕ, Option, refl, Moving, Opening, Row, World, Granted}
 use Rattle.rk_settle.specs.Reaches.{is_at_reach, is_moved_to}
 use Rattle.rk_settle.specs.declared.reach.Reach.{Reach}
-use Rattle.rk_settle.specs.declared.reach.Reach.TheVariants.{Begun, Frozen, Granted, Pulled, Joined, Finished}
+use Rattle.rk_settle.specs.declared.reach.Reach.TheVariants.{Begun, Frozen, Pulled, Joined, Finished}
 
 module _ (w : World) (row : Row) (source target sfrom : ℕ) where
   -- an opening one that is to do more than begin and freeze its source

@@ -3,13 +3,10 @@
 use Rattle.std.specs.Prelude.{length, replicate, ℕ, List, [], ◌∷◌, map}
 use Rattle.rk_types.specs.declared.call.Op.TheVariants.{Put}
 use Rattle.rk_transfer.specs.declared.role.Role.{Role}
-use Rattle.rk_tablet_map.specs.declared.phase.Phase.{Phase}
-use Rattle.rk_world.specs.Cluster.{Calls, Cluster, cluster_after, cluster_run, new_cluster}
+use Rattle.rk_settle.proofs.Words.{Phase, Calls, Cluster, Kept, Course, course_of, moved_all, Task}
+use Rattle.rk_world.specs.Cluster.{cluster_after, cluster_run, new_cluster}
 use Rattle.rk_world.specs.World.{tablet_in}
 use Rattle.rk_cluster.specs.Makes.{client_makes, migrate_makes, table_makes}
-use Rattle.rk_cluster.specs.Replicas.{Kept}
-use Rattle.rk_settle.specs.Course.{Course, course_of, moved_all}
-use Rattle.rk_settle.specs.declared.task.Task.{Task}
 
 -- the course of these tasks after so many moves
 abbrev pub course_after : ℕ → Cluster → List Task → Course

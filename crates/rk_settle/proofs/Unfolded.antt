@@ -1,43 +1,35 @@
 -- What a task unfolds into names lanes and masters that are there, where the cluster does.
-use Rattle.std.proofs.Common.{◌≡◌, ℕ, ◌<◌, ◌==◌, Bool, true, false, List, [], ◌∷◌, ◌++◌, filter, length, map, All, Option, None, Some, if◌then◌else◌, refl, sym, subst, arith}
+use Rattle.rk_settle.proofs.Words.{◌≡◌, ℕ, ◌<◌, Bool, true, false, List, [], ◌∷◌, ◌++◌, filter, length, map, All, Option, None, Some}
+use Rattle.rk_settle.proofs.Words.{if◌then◌else◌, refl, sym, subst, arith, flat_map, range_with_len, All-append, All-cons, All-nil, LANES}
+use Rattle.rk_settle.proofs.Words.{number_at, row_of, Phase, Moving, Opening, Row, Session, Cluster, lane_at, session_at, IsMaster, World}
+use Rattle.rk_settle.proofs.Words.{advance, is_number_off, sent_after, AreNamed, AreTasks, IsTask, is_short_of, is_at_rest, serve}
+use Rattle.rk_settle.proofs.Words.{lane_numbers, lane_tasks, settle, forgets, round_of, unfolded, Granted, Task}
+use Rattle.std.proofs.Common.{◌==◌}
 use Rattle.std.specs.Prelude.{IfSome}
-use Rattle.std.specs.List.{flat_map, range_with_len}
 use Rattle.std.proofs.Math.Nat.{mod-lt}
-use Rattle.std.proofs.lemmas.List.Elements.{All-append, All-cons, All-map, All-nil}
+use Rattle.std.proofs.lemmas.List.Elements.{All-map}
 use Rattle.std.proofs.lemmas.List.FromFn.{get_or-range_with_len, length-range_with_len}
 use Rattle.rk_types.specs.Hashing.{hash_of}
 use Rattle.rk_types.specs.NumberMap.{numbers}
 use Rattle.rk_types.specs.declared.call.Call.{Call}
-use Rattle.rk_types.specs.declared.hashing.TheConstants.{LANES}
 use Rattle.rk_types.specs.declared.node.Node.TheVariants as nodes
-use Rattle.rk_message.specs.Wire.{Traffic, number_at}
-use Rattle.rk_tablet_map.specs.Rows.{row_of}
-use Rattle.rk_tablet_map.specs.declared.phase.Phase.{Phase}
-use Rattle.rk_tablet_map.specs.declared.phase.Phase.TheVariants.{Moving, Opening}
-use Rattle.rk_tablet_map.specs.declared.row.Row.{Row}
+use Rattle.rk_message.specs.Wire.{Traffic}
 use Rattle.rk_transfer.specs.declared.role.Role.{Role}
 use Rattle.rk_transfer.specs.declared.role.Role.TheVariants as roles
 use Rattle.rk_session.specs.Owners.{known_owner, looks_up}
-use Rattle.rk_world.specs.Client.{Session, call_lane}
-use Rattle.rk_world.specs.Cluster.{Cluster, lane_at, session_at}
-use Rattle.rk_world.specs.Premises.{IsMaster}
-use Rattle.rk_world.specs.World.{World, live_masters, tablet_in}
+use Rattle.rk_world.specs.Client.{call_lane}
+use Rattle.rk_world.specs.World.{live_masters, tablet_in}
 use Rattle.rk_world.specs.declared.event.Event.TheVariants as events
 use Rattle.rk_cluster.specs.Turns.{clients_in}
-use Rattle.rk_settle.specs.Advance.{advance, advance_tasks, coordinator_exchange, freeze_by, grant_task, log_round, reach_between, reach_phase, reach_row, reaches_to, transfer_tasks}
-use Rattle.rk_settle.specs.Exchange.{hand_by, is_number_off, oldest_after, sent_after, sort_tasks}
-use Rattle.rk_settle.specs.Lawful.{AreNamed, AreTasks, IsTask}
+use Rattle.rk_settle.specs.Advance.{advance_tasks, coordinator_exchange, freeze_by, grant_task, log_round, reach_between, reach_phase, reach_row, reaches_to, transfer_tasks}
+use Rattle.rk_settle.specs.Exchange.{hand_by, oldest_after, sort_tasks}
 use Rattle.rk_settle.specs.Priority.{hasten_phase, hasten_row, priority, wants_first}
-use Rattle.rk_settle.specs.Reaches.{is_short_of}
-use Rattle.rk_settle.specs.Rest.{is_at_rest}
-use Rattle.rk_settle.specs.Serve.{MOST_TRIES, ask_exchange, commit_tasks, hear_tasks, is_staged_by, request_by, serve, serve_by, try_tasks, was_moved}
-use Rattle.rk_settle.specs.Settle.{empty_by, lane_numbers, lane_tasks, notice_by, settle, settling_tasks, unnoticed}
-use Rattle.rk_settle.specs.Tasks.{forgets, round_of, turn_exchange}
-use Rattle.rk_settle.specs.Unfolding.{unfolded}
+use Rattle.rk_settle.specs.Serve.{MOST_TRIES, ask_exchange, commit_tasks, hear_tasks, is_staged_by, request_by, serve_by, try_tasks, was_moved}
+use Rattle.rk_settle.specs.Settle.{empty_by, notice_by, settling_tasks, unnoticed}
+use Rattle.rk_settle.specs.Tasks.{turn_exchange}
 use Rattle.rk_settle.specs.declared.reach.Reach.{Reach}
-use Rattle.rk_settle.specs.declared.reach.Reach.TheVariants.{Begun, Finished, Frozen, Granted, Joined, Pulled}
+use Rattle.rk_settle.specs.declared.reach.Reach.TheVariants.{Begun, Finished, Frozen, Joined, Pulled}
 use Rattle.rk_settle.specs.declared.task.Act.TheVariants as acts
-use Rattle.rk_settle.specs.declared.task.Task.{Task}
 use Rattle.rk_settle.specs.declared.task.Task.TheVariants as tasks
 use Rattle.rk_settle.specs.declared.topic.Topic.{Topic}
 use Rattle.rk_settle.specs.declared.topic.Topic.TheVariants as topics

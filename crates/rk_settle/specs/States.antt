@@ -49,6 +49,16 @@ Stops segments old new left progress error =
     (start : Cluster) (had : List Said) (course : Course) → IsCourse segments start had old left progress course
     → IsStopped segments start new had progress.said.items error course
 
+-- some moves were made, and then a command stops where it is, for this reason; clients have said this
+pub record StopsLater {R : Type 0} (segments : R → Option Segments) (faults : R → ℕ) (old new : ClusterState R) (before : List Task) (was : Progress) (has : List Said) (error : SettleError) : Type 0 where
+  pub now : ClusterState R
+  pub left : List Task
+  pub is : Progress
+  pub moves : MovesAll segments faults old now before left was is
+  pub said : has ≡ is.said.items
+  pub counts : CountsGoOn faults [] now new
+  pub stops : Stops segments now new left is error
+
 -- in each cluster that one in code stands for, this is seen
 abbrev pub ClusterTells : {R T : Type 0} → (R → Option Segments) → ClusterState R → (Cluster → T) → T → Type 0
 ClusterTells segments state look seen = (cluster : Cluster) → IsOf segments state cluster → look cluster ≡ seen

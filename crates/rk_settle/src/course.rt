@@ -1,5 +1,5 @@
 // The course of a command: its tasks are done move by move.
-ghost use Rattle.std.specs.Prelude.{◌≡◌, ◌+◌, ◌-◌, ◌^◌, ◌<◌, ◌≤◌, ◌∷◌, ◌++◌, [], false, true, if◌then◌else◌, List, IfErr, OnOk};
+ghost use Rattle.std.specs.Prelude.{◌≡◌, ◌+◌, ◌-◌, ◌^◌, ◌<◌, ◌≤◌, ◌∷◌, ◌++◌, [], false, true, if◌then◌else◌, List, IfErr, IfSome, OnOk};
 ghost use Rattle.std.specs.Option.{option_to_list};
 ghost use Rattle.rk_types.specs.declared.hashing.TheConstants.{LANES};
 ghost use Rattle.rk_cluster.specs.Faults.{CountsGoOn};
@@ -9,19 +9,23 @@ ghost use Rattle.rk_settle.specs.Lawful.{AreTasks, IsAct, IsTask};
 ghost use Rattle.rk_settle.specs.Course.{MOST_FAULTS as most_faults};
 ghost use Rattle.rk_settle.specs.Faults.{HasFaults, IsOfReplicas, KeepsUp};
 ghost use Rattle.rk_settle.specs.Outcomes.{Ends, Fails, Keeps};
-ghost use Rattle.rk_settle.specs.States.{EightTell, Moves, MovesAll, Stops};
+ghost use Rattle.rk_settle.specs.States.{EightTell, Moves, MovesAll, Stops, StopsLater};
 ghost use Rattle.rk_settle.specs.declared.course.Progress.{Progress as Came};
 ghost use Rattle.rk_settle.specs.declared.error.SettleError.TheVariants as errors;
 ghost use Rattle.rk_settle.specs.declared.task.Task.{Task as Step};
 ghost use Rattle.rk_settle.specs.declared.task.Task.TheVariants as made;
 
 use crate::error::SettleError;
+use crate::exchange::{first_off, oldest_after};
+use crate::looks::wire_of;
 use crate::task::{Act, Task};
 use crate::tasks::Tasks;
-use crate::unfolding::unfold;
+use crate::topic::Topic;
+use crate::unfolding::{lane_of, unfold};
 use rk_cluster::{Cluster, Delivered};
 use rk_outside::Replica;
 use rk_types::{NoMemory, Said};
+use rk_world::Event;
 use std::alloc::Global;
 use std::mem;
 
@@ -104,7 +108,7 @@ fn make_moves<R: Replica + Drop>(
             return Ok(());
         };
         if !is_spared(cluster, task) {
-            make_move(cluster, &mut tasks, progress, task)?;
+            perform(cluster, &mut tasks, progress, task)?;
         }
     }
     Err(SettleError::TooLong)
@@ -120,6 +124,100 @@ fn is_spared<R: Replica + Drop>(cluster: &Cluster<R>, task: Task) -> bool
         Task::Turns { lane } => cluster.rests_in(lane),
         _ => false,
     }
+}
+
+// What is handed out: the messages of a lane that were sent after a number, with the answers to them, as far as they are on a topic.
+struct Handing {
+    lane: u8,
+    topic: Topic,
+    from: u64,
+}
+
+// The first task makes its move. Where it sorts messages of which none is to be forgotten, the next of them is handed out at once.
+fn perform<R: Replica + Drop>(
+    cluster: &mut Cluster<R>,
+    tasks: &mut Tasks,
+    progress: &mut Progress,
+    task: Task,
+) -> Result<(), SettleError>
+    requires task { IsTask (masters_of cluster.old) task }
+    requires left { AreTasks (masters_of cluster.old) tasks.old }
+    requires faults { progress.old.faults < 2 ^ 64 - 1 }
+    ensures ok { OnOk result (MovesAll R.segments R.faults cluster.old cluster.new (task ∷ tasks.old) tasks.new progress.old progress.new) }
+    ensures err { IfErr result (StopsLater R.segments R.faults cluster.old cluster.new (task ∷ tasks.old) progress.old progress.new.said.items) }
+    ensures lawful { OnOk result (AreTasks (masters_of cluster.new) tasks.new) }
+    ensures faults { progress.new.faults ≤ progress.old.faults + 1 }
+    ensures masters { masters_of cluster.new ≡ masters_of cluster.old }
+    ensures backups { backups_of cluster.new ≡ backups_of cluster.old }
+    ensures counts { CountsGoOn R.faults [] cluster.old cluster.new }
+    ensures failed { OnOk result (KeepsUp R.faults cluster.old cluster.new progress.old progress.new) }
+    ensures cause { IfErr result (λ e. IsOfReplicas e → most_faults ≤ progress.old.faults) }
+{
+    match handing_of(cluster, task) {
+        Some(handing) => hand_out(cluster, tasks, progress, handing),
+        None => make_move(cluster, tasks, progress, task),
+    }
+}
+
+// What a task that sorts messages hands out, where none of them is to be forgotten; none for other tasks. A search for each message.
+fn handing_of<R: Replica + Drop>(cluster: &Cluster<R>, task: Task) -> Option<Handing>
+    requires { IsTask (masters_of cluster.now) task }
+    ensures there { IfSome result (λ it. it.lane < LANES) }
+    ensures moves { IfSome result (λ it. (rest : List Step) (progress : Came) → Moves R.segments R.faults cluster.now cluster.now
+        (task ∷ rest) (made.Hands it.lane it.topic it.from ∷ rest) progress progress) }
+{
+    let Task::Sorts {
+        lane,
+        topic,
+        from,
+        last,
+    } = task
+    else {
+        return None;
+    };
+    match first_off(wire_of(lane_of(cluster, lane)), topic, last) {
+        Some(_) => None,
+        None => Some(Handing { lane, topic, from }),
+    }
+}
+
+// The oldest message of those that are handed out, if there is one, is delivered and forgotten; then what that made its receiver send is
+// to be sorted.
+fn hand_out<R: Replica + Drop>(
+    cluster: &mut Cluster<R>,
+    tasks: &mut Tasks,
+    progress: &mut Progress,
+    handing: Handing,
+) -> Result<(), SettleError>
+    requires there { handing.lane < LANES }
+    requires left { AreTasks (masters_of cluster.old) tasks.old }
+    ensures ok { OnOk result (MovesAll R.segments R.faults cluster.old cluster.new
+        (made.Hands handing.lane handing.topic handing.from ∷ tasks.old) tasks.new progress.old progress.new) }
+    ensures err { IfErr result (StopsLater R.segments R.faults cluster.old cluster.new
+        (made.Hands handing.lane handing.topic handing.from ∷ tasks.old) progress.old progress.new.said.items) }
+    ensures lawful { OnOk result (AreTasks (masters_of cluster.new) tasks.new) }
+    ensures faults { progress.new.faults ≡ progress.old.faults }
+    ensures masters { masters_of cluster.new ≡ masters_of cluster.old }
+    ensures backups { backups_of cluster.new ≡ backups_of cluster.old }
+    ensures counts { CountsGoOn R.faults [] cluster.old cluster.new }
+    ensures failed { OnOk result (KeepsUp R.faults cluster.old cluster.new progress.old progress.new) }
+    ensures cause { IfErr result (λ e. IsOfReplicas e → ⊥) }
+{
+    let Handing { lane, topic, from } = handing;
+    let wire = wire_of(lane_of(cluster, lane));
+    let Some(number) = oldest_after(wire, from) else {
+        return Ok(());
+    };
+    let last = wire.sent();
+    tasks.push(Task::Sorts {
+        lane,
+        topic,
+        from: number,
+        last,
+    })?;
+    deliver(cluster, progress, lane, number)?;
+    cluster.happen(lane, Event::Forget(number))?;
+    Ok(())
 }
 
 // The first task makes its move.

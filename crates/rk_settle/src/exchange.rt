@@ -1,5 +1,5 @@
 // How an exchange goes on: what is forgotten, and what is delivered.
-ghost use Rattle.std.specs.Prelude.{◌≡◌, ◌++◌, map, filter, IfOk, OnOk, ℕ, ◌<◌};
+ghost use Rattle.std.specs.Prelude.{◌≡◌, ◌++◌, map, filter, find, IfOk, OnOk, ℕ, ◌<◌};
 ghost use Rattle.rk_settle.specs.Lawful.{AreTasks, IsAct};
 ghost use Rattle.rk_types.specs.declared.hashing.TheConstants.{LANES};
 ghost use Rattle.rk_settle.specs.Exchange as exchange;
@@ -112,8 +112,20 @@ pub(crate) fn hand(
     ])
 }
 
-// The oldest message that is there of those sent after this number.
-fn oldest_after(wire: &Wire, from: u64) -> Option<u64>
+/// The first message that was sent after `last` and is there, but is not on a topic. A search for each number up to it.
+pub(crate) fn first_off(wire: &Wire, topic: Topic, last: u64) -> Option<u64>
+    ensures { result ≡ find (exchange.is_number_off wire.now topic) (exchange.sent_after wire.now last) }
+{
+    for before in last..wire.sent() {
+        if is_off(wire, topic, before + 1) {
+            return Some(before + 1);
+        }
+    }
+    None
+}
+
+/// The oldest message that is there of those sent after this number. A search for each number up to it.
+pub(crate) fn oldest_after(wire: &Wire, from: u64) -> Option<u64>
     ensures { result ≡ exchange.oldest_after wire.now from }
 {
     for before in from..wire.sent() {

@@ -1,9 +1,4 @@
-use Rattle.std.proofs.Common.{◌≡◌, true, List, rules, sym, subst, ◌∙◌, arith}
-use Rattle.rk_lane.specs.LaneState.{LaneState}
-use Rattle.rk_cluster.specs.State.{IsOf}
-use Rattle.rk_cluster.specs.Steps.{state_of}
-use Rattle.rk_cluster.proofs.Worlds.{there_read}
-use Rattle.rk_settle.specs.Reaches.{is_short_of}
+use Rattle.rk_settle.proofs.Words.{◌≡◌, true, List, rules, sym, subst, ◌∙◌, arith, LaneState, IsOf, state_of, there_read, is_short_of}
 use Rattle.rk_settle.proofs.Concerned.{code_seen, seen_beside, seen_here}
 use Rattle.rk_settle.proofs.codes.advance_code.Goals as goal
 use Rattle.rk_settle.proofs.codes.advance_code.Goals.{then-is_short_of, else-is_short_of}

@@ -1,11 +1,7 @@
-use Rattle.std.proofs.Common.{List, [], ◌++◌, append-nil, ap, sym, ◌∙◌}
-use Rattle.std.proofs.lemmas.Result.{err_from_is_err_and}
-use Rattle.rk_settle.specs.Advance.{advance}
-use Rattle.rk_settle.specs.declared.task.Task.{Task}
+use Rattle.rk_settle.proofs.Words.{List, [], ◌++◌, append-nil, ap, sym, ◌∙◌, err_from_is_err_and, advance, Task, counts_same}
 use Rattle.rk_settle.specs.declared.task.Task.TheVariants.{Advances}
 use Rattle.rk_settle.proofs.Ending.{each_tells, nothing_said}
 use Rattle.rk_settle.proofs.Keeping.{keeps_same}
-use Rattle.rk_cluster.proofs.Faults.{counts_same}
 use Rattle.rk_settle.proofs.commands.advance.Goals as goal
 
 pub returns-clause-ok : goal.returns-clause-ok

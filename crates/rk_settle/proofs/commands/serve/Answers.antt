@@ -1,10 +1,6 @@
-use Rattle.std.proofs.Common.{List, ◌++◌, append-nil, ap, sym, ◌∙◌}
-use Rattle.std.proofs.lemmas.Result.{err_from_is_err_and}
-use Rattle.rk_settle.specs.Serve.{serve}
-use Rattle.rk_settle.specs.declared.task.Task.{Task}
+use Rattle.rk_settle.proofs.Words.{List, ◌++◌, append-nil, ap, sym, ◌∙◌, err_from_is_err_and, serve, Task, counts_same}
 use Rattle.rk_settle.proofs.Ending.{nothing_said, tells_anyway}
 use Rattle.rk_settle.proofs.Keeping.{keeps_same}
-use Rattle.rk_cluster.proofs.Faults.{counts_same}
 use Rattle.rk_settle.proofs.commands.serve.Goals as goal
 
 pub returns-clause-ok : goal.returns-clause-ok

@@ -1,11 +1,7 @@
-use Rattle.std.proofs.Common.{List, [], ◌∷◌, ◌++◌, ap, ◌∙◌}
-use Rattle.std.proofs.lemmas.Result.{err_from_is_err_and}
-use Rattle.rk_settle.specs.Settle.{settle}
-use Rattle.rk_settle.specs.declared.task.Task.{Task}
+use Rattle.rk_settle.proofs.Words.{List, [], ◌∷◌, ◌++◌, ap, ◌∙◌, err_from_is_err_and, settle, Task, counts_same}
 use Rattle.rk_settle.specs.declared.task.Task.TheVariants.{Notices, Settles}
 use Rattle.rk_settle.proofs.Ending.{each_tells, nothing_said}
 use Rattle.rk_settle.proofs.Keeping.{keeps_same}
-use Rattle.rk_cluster.proofs.Faults.{counts_same}
 use Rattle.rk_settle.proofs.commands.settle.Goals as goal
 
 pub returns-clause-ok : goal.returns-clause-ok

@@ -1,5 +1,4 @@
-use Rattle.std.proofs.Common.{◌||◌, refl}
-use Rattle.rk_settle.specs.declared.course.Progress.{Progress}
+use Rattle.rk_settle.proofs.Words.{◌||◌, refl, Progress}
 use Rattle.rk_settle.proofs.Courses.{delivers_moves}
 use Rattle.rk_settle.proofs.Failing.{keeps_up_once}
 use Rattle.rk_settle.proofs.course.deliver.Goals as goal

@@ -1,6 +1,4 @@
-use Rattle.std.proofs.Common.{◌∷◌, sym, subst}
-use Rattle.rk_settle.specs.States.{MovesAll}
-use Rattle.rk_settle.specs.declared.task.Task.{Task}
+use Rattle.rk_settle.proofs.Words.{◌∷◌, sym, subst, MovesAll, Task}
 use Rattle.rk_settle.proofs.Idle.{idle_moves}
 use Rattle.rk_settle.proofs.course.is_spared.Goals as goal
 

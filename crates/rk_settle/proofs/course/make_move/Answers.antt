@@ -1,6 +1,5 @@
-use Rattle.std.proofs.Common.{refl, arith}
-use Rattle.std.proofs.lemmas.Result.{IfErr-weaker, on_ok_weaker}
-use Rattle.rk_cluster.proofs.Faults.{counts_same}
+use Rattle.rk_settle.proofs.Words.{refl, arith, on_ok_weaker, counts_same}
+use Rattle.std.proofs.lemmas.Result.{IfErr-weaker}
 use Rattle.rk_settle.proofs.Moving.{begins_moves, begins_stops, ends_moves, unfolds_moves}
 use Rattle.rk_settle.proofs.Failing.{keeps_up}
 use Rattle.rk_settle.proofs.course.make_move.Goals as goal

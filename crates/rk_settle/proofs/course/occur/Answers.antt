@@ -1,7 +1,5 @@
-use Rattle.std.proofs.Common.{rules}
-use Rattle.std.proofs.lemmas.Result.{err_from_is_err_and}
+use Rattle.rk_settle.proofs.Words.{rules, err_from_is_err_and, counts_same}
 use Rattle.rk_settle.proofs.Courses.{asks_moves, asks_stops, happens_moves, happens_stops, nobody_moves}
-use Rattle.rk_cluster.proofs.Faults.{counts_same}
 use Rattle.rk_settle.proofs.course.occur.Goals as goal
 
 pub returns-in_err-happen-in-Happens-clause-err : goal.returns-in_err-happen-in-Happens-clause-err

@@ -1,8 +1,5 @@
-use Rattle.std.proofs.Common.{◌<◌, ◌≤◌, ◌+◌, ◌++◌, ◌∷◌, [], List, filter, sym, ap, subst, ◌∙◌, arith}
-use Rattle.rk_settle.specs.Exchange.{is_number_off, sent_after}
-use Rattle.rk_settle.specs.Lawful.{AreTasks}
-use Rattle.rk_settle.specs.Tasks.{forgets}
-use Rattle.rk_settle.specs.declared.task.Task.{Task}
+use Rattle.rk_settle.proofs.Words.{◌<◌, ◌≤◌, ◌+◌, ◌++◌, ◌∷◌, [], List, filter, sym, ap, subst, ◌∙◌, arith, is_number_off, sent_after}
+use Rattle.rk_settle.proofs.Words.{AreTasks, forgets, Task}
 use Rattle.rk_settle.proofs.Following.{all_made, one_made, one_passed, made_after}
 use Rattle.rk_settle.proofs.Named.{forgets_are}
 use Rattle.rk_settle.proofs.exchange.off_topic.Goals as goal

@@ -1,6 +1,4 @@
-use Rattle.std.proofs.Common.{◌≡◌, ◌++◌, filter, map}
-use Rattle.rk_settle.specs.Exchange.{is_number_off, sent_after}
-use Rattle.rk_settle.specs.Tasks.{forgets}
+use Rattle.rk_settle.proofs.Words.{◌≡◌, ◌++◌, filter, map, is_number_off, sent_after, forgets}
 use Rattle.rk_settle.proofs.exchange.off_topic.Given as goal
 
 -- those so far, and those after them

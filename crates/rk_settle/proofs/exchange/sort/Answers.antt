@@ -1,7 +1,4 @@
-use Rattle.std.proofs.Common.{sym, subst, ◌∙◌, ◌++◌}
-use Rattle.std.proofs.lemmas.List.Elements.{All-append, All-cons}
-use Rattle.std.proofs.lemmas.Result.{on_ok_weaker}
-use Rattle.rk_settle.specs.Lawful.{AreTasks, IsTask}
+use Rattle.rk_settle.proofs.Words.{sym, subst, ◌∙◌, ◌++◌, All-append, All-cons, on_ok_weaker, AreTasks, IsTask}
 use Rattle.rk_settle.specs.declared.task.Task.TheVariants as tasks
 use Rattle.rk_settle.proofs.exchange.sort.Goals as goal
 

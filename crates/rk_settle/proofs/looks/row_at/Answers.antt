@@ -1,6 +1,4 @@
-use Rattle.std.proofs.Common.{Option, IfSome, sym, subst, ◌∙◌}
-use Rattle.rk_tablet_map.specs.declared.row.Row.{Row}
-use Rattle.rk_settle.specs.Lawful.{AreNamed}
+use Rattle.rk_settle.proofs.Words.{Option, IfSome, sym, subst, ◌∙◌, Row, AreNamed}
 use Rattle.rk_settle.proofs.Found.{row_there}
 use Rattle.rk_settle.proofs.looks.row_at.Goals as goal
 

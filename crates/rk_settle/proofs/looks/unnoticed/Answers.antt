@@ -1,5 +1,4 @@
-use Rattle.std.proofs.Common.{◌≡◌, ◌-◌, ℕ, find, sym, ap, ◌∙◌, arith}
-use Rattle.std.specs.List.{range_with_len}
+use Rattle.rk_settle.proofs.Words.{◌≡◌, ◌-◌, ℕ, find, sym, ap, ◌∙◌, arith, range_with_len}
 use Rattle.rk_settle.specs.Settle.{is_unnoticed}
 use Rattle.rk_settle.proofs.Found.{masters_in}
 use Rattle.rk_settle.proofs.Following.{first_here, first_later, first_none}

@@ -1,6 +1,5 @@
-use Rattle.std.proofs.Common.{◌≡◌, find}
+use Rattle.rk_settle.proofs.Words.{◌≡◌, find, World}
 use Rattle.rk_cluster.specs.State.{IsWorld}
-use Rattle.rk_world.specs.World.{World}
 use Rattle.rk_settle.specs.Settle.{is_unnoticed, unnoticed}
 use Rattle.rk_settle.proofs.Following.{after}
 use Rattle.rk_settle.proofs.looks.unnoticed.Given as goal

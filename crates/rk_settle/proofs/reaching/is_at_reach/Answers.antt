@@ -1,5 +1,4 @@
-use Rattle.std.proofs.Common.{ap, ◌∙◌}
-use Rattle.rk_tablet_map.specs.declared.phase.Phase.{Phase}
+use Rattle.rk_settle.proofs.Words.{ap, ◌∙◌, Phase}
 use Rattle.rk_settle.specs.Reaches.{is_at_reach}
 use Rattle.rk_settle.proofs.Reached.{moving_moved, opening_moved}
 use Rattle.rk_settle.proofs.reaching.is_at_reach.Goals as goal

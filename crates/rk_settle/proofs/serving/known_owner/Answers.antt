@@ -1,5 +1,4 @@
-use Rattle.std.proofs.Common.{ℕ, Option, IfSome, sym, subst}
-use Rattle.rk_world.specs.Premises.{IsMaster}
+use Rattle.rk_settle.proofs.Words.{ℕ, Option, IfSome, sym, subst, IsMaster}
 use Rattle.rk_settle.proofs.Found.{owner_there}
 use Rattle.rk_settle.proofs.serving.known_owner.Goals as goal
 

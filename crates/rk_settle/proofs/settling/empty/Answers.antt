@@ -1,8 +1,5 @@
-use Rattle.std.proofs.Common.{◌++◌, ◌∷◌, ℕ, Option, sym, ap, ◌∙◌}
-use Rattle.std.proofs.lemmas.Result.{on_ok_weaker}
-use Rattle.rk_message.specs.Wire.{number_at}
+use Rattle.rk_settle.proofs.Words.{◌++◌, ◌∷◌, ℕ, Option, sym, ap, ◌∙◌, on_ok_weaker, number_at, Task}
 use Rattle.rk_settle.specs.Settle.{empty_by}
-use Rattle.rk_settle.specs.declared.task.Task.{Task}
 use Rattle.rk_settle.specs.declared.task.Task.TheVariants as tasks
 use Rattle.rk_settle.proofs.settling.empty.Goals as goal
 

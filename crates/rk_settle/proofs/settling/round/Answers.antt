@@ -1,10 +1,5 @@
-use Rattle.std.proofs.Common.{◌≡◌, ◌<◌, ◌+◌, ◌-◌, ◌∷◌, ◌++◌, ℕ, suc, List, sym, ap, subst, ◌∙◌, arith}
-use Rattle.std.proofs.lemmas.Result.{on_ok_weaker}
-use Rattle.std.specs.List.{flat_map, range_with_len}
-use Rattle.rk_types.specs.declared.hashing.TheConstants.{LANES}
-use Rattle.rk_settle.specs.Lawful.{AreTasks}
-use Rattle.rk_settle.specs.Settle.{lane_tasks}
-use Rattle.rk_settle.specs.declared.task.Task.{Task}
+use Rattle.rk_settle.proofs.Words.{◌≡◌, ◌<◌, ◌+◌, ◌-◌, ◌∷◌, ◌++◌, ℕ, suc, List, sym, ap, subst, ◌∙◌, arith, on_ok_weaker, flat_map}
+use Rattle.rk_settle.proofs.Words.{range_with_len, LANES, AreTasks, lane_tasks, Task}
 use Rattle.rk_settle.specs.declared.task.Task.TheVariants as tasks
 use Rattle.rk_settle.proofs.Named.{round_are}
 use Rattle.rk_settle.proofs.settling.round.Goals as goal

@@ -1,7 +1,4 @@
-use Rattle.std.proofs.Common.{◌≡◌, ◌-◌, ◌++◌}
-use Rattle.std.specs.List.{flat_map, range_with_len}
-use Rattle.rk_types.specs.declared.hashing.TheConstants.{LANES}
-use Rattle.rk_settle.specs.Settle.{lane_tasks}
+use Rattle.rk_settle.proofs.Words.{◌≡◌, ◌-◌, ◌++◌, flat_map, range_with_len, LANES, lane_tasks}
 use Rattle.rk_settle.proofs.settling.round.Given as goal
 
 -- the last lanes, so many, have their tasks, and the end of the round is behind them

@@ -1,8 +1,4 @@
-use Rattle.std.proofs.Common.{◌++◌, List, sym, ap, subst, ◌∙◌}
-use Rattle.std.proofs.lemmas.List.Elements.{All-append}
-use Rattle.std.proofs.lemmas.Result.{on_ok_weaker}
-use Rattle.rk_settle.specs.Lawful.{AreTasks, IsTask}
-use Rattle.rk_settle.specs.declared.task.Task.{Task}
+use Rattle.rk_settle.proofs.Words.{◌++◌, List, sym, ap, subst, ◌∙◌, All-append, on_ok_weaker, AreTasks, IsTask, Task}
 use Rattle.rk_settle.proofs.settling.turns.Goals as goal
 
 pub returns-clause-lawful : goal.returns-clause-lawful

@@ -1,7 +1,5 @@
-use Rattle.std.proofs.Common.{sym, subst, take}
+use Rattle.rk_settle.proofs.Words.{sym, subst, take, IsMaster, AreTasks}
 use Rattle.std.proofs.lemmas.List.Elements.{All-take}
-use Rattle.rk_world.specs.Premises.{IsMaster}
-use Rattle.rk_settle.specs.Lawful.{AreTasks}
 use Rattle.rk_settle.proofs.Named.{turns_are}
 use Rattle.rk_settle.proofs.settling.turns_of.Goals as goal
 

@@ -1,5 +1,4 @@
-use Rattle.std.proofs.Common.{◌≡◌, take}
-use Rattle.rk_settle.specs.Settle.{turns_of}
+use Rattle.rk_settle.proofs.Words.{◌≡◌, take, turns_of}
 use Rattle.rk_settle.proofs.settling.turns_of.Given as goal
 
 abbrev pub invariant-loop-master : goal.invariant-loop-master

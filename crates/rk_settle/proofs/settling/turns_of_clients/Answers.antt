@@ -1,5 +1,4 @@
-use Rattle.std.proofs.Common.{sym, subst, take}
-use Rattle.rk_settle.specs.Lawful.{AreTasks}
+use Rattle.rk_settle.proofs.Words.{sym, subst, take, AreTasks}
 use Rattle.rk_settle.proofs.Named.{asks_are}
 use Rattle.rk_settle.proofs.settling.turns_of_clients.Goals as goal
 

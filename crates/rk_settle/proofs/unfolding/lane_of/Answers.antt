@@ -1,7 +1,5 @@
-use Rattle.std.proofs.Common.{◌≡◌, List, slice_index_or, ap, ◌∙◌, arith}
-use Rattle.rk_world.specs.World.{new_world}
-use Rattle.rk_lane.specs.LaneState.{LaneState}
-use Rattle.rk_cluster.proofs.Worlds.{masters_at, there_read, world_at}
+use Rattle.rk_settle.proofs.Words.{◌≡◌, List, slice_index_or, ap, ◌∙◌, arith, new_world, LaneState, there_read}
+use Rattle.rk_cluster.proofs.Worlds.{masters_at, world_at}
 use Rattle.rk_settle.proofs.unfolding.lane_of.Goals as goal
 
 pub returns-clause-lane : goal.returns-clause-lane

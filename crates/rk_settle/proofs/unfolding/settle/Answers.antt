@@ -1,9 +1,5 @@
-use Rattle.std.proofs.Common.{ℕ, Bool, [], ◌∷◌, ◌++◌, append_assoc, if◌then◌else◌, length, sym, ap, ◌∙◌}
-use Rattle.std.specs.List.{flat_map, range_with_len}
-use Rattle.std.proofs.lemmas.Result.{on_ok_weaker}
-use Rattle.rk_cluster.proofs.Worlds.{same_count}
-use Rattle.rk_settle.specs.Settle.{lane_tasks}
-use Rattle.rk_settle.specs.Tasks.{round_of}
+use Rattle.rk_settle.proofs.Words.{ℕ, Bool, [], ◌∷◌, ◌++◌, append_assoc, if◌then◌else◌, length, sym, ap, ◌∙◌, flat_map, range_with_len}
+use Rattle.rk_settle.proofs.Words.{on_ok_weaker, same_count, lane_tasks, round_of}
 use Rattle.rk_settle.specs.declared.task.Task.TheVariants.{Settles}
 use Rattle.rk_settle.proofs.unfolding.settle.Goals as goal
 

@@ -1,7 +1,4 @@
-use Rattle.std.proofs.Common.{ℕ, List, All, sym, subst}
-use Rattle.std.proofs.lemmas.Result.{on_ok_weaker}
-use Rattle.rk_world.specs.Premises.{IsMaster}
-use Rattle.rk_cluster.specs.Masters.{masters_of}
+use Rattle.rk_settle.proofs.Words.{ℕ, List, All, sym, subst, on_ok_weaker, IsMaster, masters_of}
 use Rattle.rk_settle.proofs.unfolding.turn.Goals as goal
 
 pub returns-clause-lawful : goal.returns-clause-lawful

@@ -1,8 +1,4 @@
-use Rattle.std.proofs.Common.{subst}
-use Rattle.std.proofs.lemmas.Result.{on_ok_weaker}
-use Rattle.rk_cluster.specs.Masters.{masters_of}
-use Rattle.rk_settle.specs.Lawful.{IsTask}
-use Rattle.rk_settle.specs.declared.task.Task.{Task}
+use Rattle.rk_settle.proofs.Words.{subst, on_ok_weaker, masters_of, IsTask, Task}
 use Rattle.rk_settle.proofs.unfolding.unfold_migrating.Goals as goal
 
 pub returns-in-Advances-clause-lawful : goal.returns-in-Advances-clause-lawful
