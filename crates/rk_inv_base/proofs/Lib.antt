@@ -1,4 +1,5 @@
 pub mod Words
+pub mod Base
 pub mod views
 pub mod logs
 pub mod rows

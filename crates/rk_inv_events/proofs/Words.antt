@@ -23,6 +23,7 @@ pub use Rattle.rk_sound.specs.Small.{message_sent, refusal_staged_in, request_sa
 pub use Rattle.rk_inv_wellformed.proofs.lanes.Worlds.{master_of, room_of_master}
 pub use Rattle.rk_inv_wellformed.proofs.maps.Bounds.{all_in_map, within_sum_of}
 pub use Rattle.rk_inv_wellformed.proofs.maps.Completed.{ends_from_pairs, pairs_from_ends}
+pub use Rattle.rk_inv_wellformed.proofs.maps.Lists.{all_find, all_flat, by_found, either_way, find_passes}
 pub use Rattle.rk_inv_wellformed.proofs.maps.Maps.{All_pairs, above_all, each_from_pairs, find_is_got, first, order_tail}
 pub use Rattle.rk_inv_base.proofs.calls.Rebuilders.{last_member}
 pub use Rattle.rk_inv_base.proofs.calls.Receives.{IsTargetIn}

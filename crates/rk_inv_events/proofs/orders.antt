@@ -1,5 +1,3 @@
-pub mod Reports
-pub mod Greater
 pub mod Owning
 pub mod Preparing
 pub mod Granting

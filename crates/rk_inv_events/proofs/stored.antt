@@ -1,5 +1,1 @@
-pub mod Work
-pub mod AllApplied
-pub mod Replies
-pub mod GoingOn
 pub mod StoredTaken

@@ -1,5 +1,3 @@
-pub mod NewCalls
-pub mod StagedItems
 pub mod Choosing
 pub mod Ending
 pub mod Staging

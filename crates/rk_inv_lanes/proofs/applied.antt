@@ -1,5 +1,4 @@
 pub mod Logs
 pub mod Commits
 pub mod Lanes
-pub mod Lacking
 pub mod Sends

@@ -3,8 +3,6 @@ pub mod Replays
 pub mod Pulled
 pub mod CopiesWritten
 pub mod Copied
-pub mod Logging
-pub mod RecordLanes
 pub mod SealedFew
 pub mod Fitting
 pub mod FittingLanes

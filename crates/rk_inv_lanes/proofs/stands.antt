@@ -1,5 +1,2 @@
-pub mod MainStored
-pub mod SideStored
-pub mod LogBack
 pub mod Standing
 pub mod Telling

@@ -1,14 +1,5 @@
-pub mod ReadMain
 pub mod ReadLog
 pub mod ReadMember
-pub mod ReadSame
-pub mod ReadTells
-pub mod ReadPlaced
-pub mod ReadOwn
 pub mod ReadLists
 pub mod ReadOf
-pub mod MemberBack
-pub mod GivenUp
-pub mod ByMember
-pub mod Cases
 pub mod ReadBack

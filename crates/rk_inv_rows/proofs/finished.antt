@@ -1,5 +1,3 @@
-pub mod OwnItems
-pub mod TargetAlone
 pub mod JoinedDelivered
 pub mod Unowned
 pub mod OnlyJoined

@@ -1,8 +1,6 @@
 pub mod Among
-pub mod Passing
 pub mod Histories
 pub mod LineageSays
-pub mod LineageTaken
 pub mod FloorsOf
 pub mod Untouched
 pub mod RowMoved
@@ -10,7 +8,6 @@ pub mod Pieces
 pub mod Scanned
 pub mod TakenOver
 pub mod TargetMaterial
-pub mod JoinedTarget
 pub mod JoinedTaken
 pub mod FewerMarks
 pub mod MarksTaken

@@ -1,7 +1,3 @@
-pub mod Ranges
-pub mod HalfCounts
-pub mod HalfTells
-pub mod HalfRests
 pub mod HalfOfRow
 pub mod Splitting
 pub mod HalvedMessages

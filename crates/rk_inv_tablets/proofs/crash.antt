@@ -1,6 +1,5 @@
 pub mod Among
 pub mod Groups
-pub mod Spelt
 pub mod FirstRead
 pub mod LogRead
 pub mod MergeTells

@@ -1,5 +1,4 @@
 pub mod Ends
-pub mod Takers
 pub mod Granting
 pub mod GrantedMessages
 pub mod Granted

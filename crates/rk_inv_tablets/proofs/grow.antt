@@ -1,4 +1,3 @@
-pub mod Targets
 pub mod MoreLog
 pub mod Grown
 pub mod Turned

@@ -3,8 +3,6 @@ pub mod OfRange
 pub mod Heirs
 pub mod LogsMore
 pub mod Merging
-pub mod MaterialTold
-pub mod MergedLogs
 pub mod Collected
 pub mod MergedMessages
 pub mod Merged

@@ -1,5 +1,4 @@
 pub mod Outside
-pub mod Left
 pub mod Yielding
 pub mod YieldedMessages
 pub mod Yielded

@@ -13,6 +13,8 @@ pub mod Resending
 pub mod Going
 pub mod Led
 pub mod Stepping
+pub mod Openings
+pub mod Kinds
 pub mod Playing
 pub mod Quiet
 pub mod Alone

@@ -1,13 +1,12 @@
 -- A lane stays sound when the record of a client's last call is accepted, where no record of it was.
-use Rattle.std.proofs.Common.{◌≡◌, ℕ, ◌<◌, true, List, ◌++◌, Option, Some, None, sym, ap, ◌∙◌, subst, ⊎_elim, inl, inr, arith, slice_get}
-use Rattle.std.proofs.Common.{slice_set, IfSome, Contains}
+use Rattle.rk_inv_base.proofs.Words.{◌≡◌, ℕ, ◌<◌, true, List, ◌++◌, Option, Some, None, sym, ap, ◌∙◌, subst, ⊎_elim, inl, inr, arith}
+use Rattle.rk_inv_base.proofs.Words.{slice_get, slice_set, IfSome, Contains, All-weaker, slice_get-get_or, slice_get_within}
+use Rattle.rk_inv_base.proofs.Words.{get_or_from_slice_get, hash_of, Call, Ended, Placed, Range, is_mutation, lane_of_key, AreOneMutation}
+use Rattle.rk_inv_base.proofs.Words.{Entry, is_covered, Reply, Request, base_map, ends_told, told, accepted_at, as_accepted, of_key}
+use Rattle.rk_inv_base.proofs.Words.{IsAfterStart, has_key, World, LastCall, AreOneAccepted, IsAccepted, RequestFits, WasAsked, IsKnown}
+use Rattle.rk_inv_base.proofs.Words.{IsReached, IsRecorded, ReachAll, TellAll, is_record_in, MayAccept, IsAfterSeen, View, view, AskedOf}
+use Rattle.rk_inv_base.proofs.Words.{IsSound, SoundView, IsRecordAt, Outcome, accepted, record_accepted_in}
 use Rattle.rk_inv_base.proofs.calls.OtherJournals.{asked_by_other, is_request_by, request_by_other, request_says_by, says_by}
-use Rattle.rk_inv_base.proofs.Words.{All-weaker, All-contains, slice_get-get_or, slice_get_within, get_or_from_slice_get, hash_of, Call}
-use Rattle.rk_inv_base.proofs.Words.{Ended, Placed, Range, is_mutation, lane_of_key, AreOneMutation, Entry, is_covered, Reply, Request}
-use Rattle.rk_inv_base.proofs.Words.{base_map, ends_told, told, accepted_at, as_accepted, of_key, IsAfterStart, has_key, World, LastCall}
-use Rattle.rk_inv_base.proofs.Words.{AreOneAccepted, IsAccepted, RequestFits, WasAsked, IsKnown, IsReached, IsRecorded, ReachAll, TellAll}
-use Rattle.rk_inv_base.proofs.Words.{is_record_in, MayAccept, IsAfterSeen, View, view, AskedOf, IsSound, SoundView, IsRecordAt, Outcome}
-use Rattle.rk_sound.specs.Small.{accepted, record_accepted_in}
 use Rattle.rk_inv_base.proofs.calls.Journals.{view_with_journal}
 use Rattle.rk_inv_base.proofs.calls.SameRecords.{AreSameRecords, IsSameRecord, accepted_cases, accepted_same, all_records_same}
 use Rattle.rk_inv_base.proofs.calls.SameRecords.{has_record_same, legal_same, map_after_same, reached_same, record_after, record_before}
@@ -95,22 +94,11 @@ module _ (v : View) (place : ℕ) (sound : SoundView v) (may : MayAccept v place
 
   -- a call of the client with the seq of its last one is that
   is_last : (last : Option LastCall) (call : Call) → IfSome last (λ l. l.call ≡ may.placed.call) → WasAsked last v.journal call → call.seq ≡ may.placed.call.seq → call ≡ may.placed.call
-  is_last None call of_last was seq = absurd was
-  is_last (Some last) call of_last was seq =
-      ⊎_elim (λ (is : last.call ≡ call). sym is ∙ of_last)
-      (λ (before : (call.seq < last.call.seq) × IsAccepted v.journal call).
-      absurd (omega (arith, before.0, seq, ap (λ (c : Call). c.seq) of_last))) was
+  is_last last call of_last was seq = grind arith
 
   -- no other record of it is accepted
   none_accepted : (i : ℕ) (other : Placed) → slice_get v.journal i ≡ Some other → other.accepted ≡ true → other.call.client ≡ may.placed.call.client → other.call.seq ≡ may.placed.call.seq → ⊥
-  none_accepted i other at accepted client seq =
-      let stands : Contains v.journal other = stands_there v.journal i other at in
-      let was : WasAsked (v.asked other.call.client) v.journal other.call =
-      All-contains (λ (placed : Placed). WasAsked (v.asked placed.call.client) v.journal placed.call) v.journal other sound.asked.recorded stands in
-      let is : other.call ≡ may.placed.call =
-      is_last (v.asked may.placed.call.client) other.call may.last
-      (subst (λ (n : ℕ). WasAsked (v.asked n) v.journal other.call) client was) seq in
-      may.first (record { placed = other; stands = stands; call_is = is; accepted = accepted })
+  none_accepted i other at accepted client seq = grind (arith, stands_there, is_last)
 
   once : (i j : ℕ) (a b : Placed) → slice_get after i ≡ Some a → slice_get after j ≡ Some b → AreOneAccepted a b → i ≡ j
   once i j a b at_i at_j one =

@@ -1,8 +1,7 @@
 -- Lineages: what their truth is by what counts of each member, and that the first of two members is not the last one.
-use Rattle.std.proofs.Common.{◌≡◌, ℕ, suc, List, [], ◌∷◌, Some, refl, sym, ap, ◌∙◌, arith, Contains, flat_map}
-use Rattle.rk_inv_base.proofs.Words.{Member, Range, Entry, lineage_of, Phase, Moving, Rebuilding, Base, last_of, Written, member_truth}
-use Rattle.rk_inv_base.proofs.Words.{lineage_truth, AreApart, IsFormed}
-use Rattle.rk_world.specs.Base.{base_entries}
+use Rattle.rk_inv_base.proofs.Words.{◌≡◌, ℕ, suc, List, [], ◌∷◌, Some, refl, sym, ap, ◌∙◌, arith, Contains, flat_map, Member, Range, Entry}
+use Rattle.rk_inv_base.proofs.Words.{lineage_of, Phase, Moving, Rebuilding, Base, last_of, Written, member_truth, lineage_truth, AreApart}
+use Rattle.rk_inv_base.proofs.Words.{IsFormed, base_entries}
 
 -- the truth of a lineage, by what counts of each member
 abbrev pub truth_by : Base → (Range → Member → List Entry) → Range → List Member → List Entry

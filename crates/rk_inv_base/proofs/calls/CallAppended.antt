@@ -1,34 +1,23 @@
 -- A view stays sound when the entry of a call is appended to the log of a master that answers calls for its key.
-use Rattle.std.proofs.Common.{◌≡◌, ℕ, ◌≤◌, ◌<◌, true, false, List, [], ◌∷◌, ◌++◌, length, Option, None, Some, refl, sym, ap, subst, ◌∙◌}
-use Rattle.std.proofs.Common.{⊎_elim, inl, arith, slice_get, IfSome, All, Contains, append-nil, append_assoc}
-use Rattle.rk_inv_base.proofs.Words.{cond-false, flat_map-append, All-head, All-tail, All-weaker, Contains-append_left, each_insert}
-use Rattle.rk_inv_base.proofs.Words.{get_same, get_other, slice_get_within, NumberMap, EachIn, insert, get, hash_of, has_key, meets, Call}
-use Rattle.rk_inv_base.proofs.Words.{Ended, Held, Member, Range, slice_get_push_cases, Entry, is_serving, Handover, lineage_of, Row, Handed}
+use Rattle.rk_inv_base.proofs.Words.{◌≡◌, ℕ, ◌≤◌, ◌<◌, true, false, List, [], ◌∷◌, ◌++◌, length, Option, None, Some, refl, sym, ap, subst}
+use Rattle.rk_inv_base.proofs.Words.{◌∙◌, ⊎_elim, inl, arith, slice_get, IfSome, All, Contains, append-nil, append_assoc, cond-false}
+use Rattle.rk_inv_base.proofs.Words.{flat_map-append, All-head, All-tail, All-weaker, Contains-append_left, each_insert, get_same}
+use Rattle.rk_inv_base.proofs.Words.{get_other, slice_get_within, NumberMap, EachIn, insert, get, hash_of, has_key, meets, Call, Ended}
+use Rattle.rk_inv_base.proofs.Words.{Held, Member, Range, slice_get_push_cases, Entry, is_serving, Handover, lineage_of, Row, Handed}
 use Rattle.rk_inv_base.proofs.Words.{items_in, items_of, told, told_by, floor_of, touches, counts, Written, member_material, IsNext}
 use Rattle.rk_inv_base.proofs.Words.{IsEntryWithin, IsOfWholeRows, AreAbove, post_of, handed_by, handed_for_grant, IsEntryOf, IsPlaced}
 use Rattle.rk_inv_base.proofs.Words.{IsRest, MembersFit, FirstIsDone, EachHasCall, IsLast, Waits, MayAppend, with_counter, with_one_more}
 use Rattle.rk_inv_base.proofs.Words.{View, truths, rests, SoundView, All-contains, AreApart, is_granted, is_marked, last_of, lineage_truth}
-use Rattle.rk_inv_base.proofs.Words.{may_have_staged, member_truth, put, false_from_ne_true, is_of, IsAboveAll}
-use Rattle.rk_model.proofs.Places.{slice_get_end}
+use Rattle.rk_inv_base.proofs.Words.{may_have_staged, member_truth, put, false_from_ne_true, is_of, IsAboveAll, slice_get_end, appended}
 use Rattle.rk_entry.specs.declared.entry.Entry.TheVariants as entries
-use Rattle.rk_sound.specs.Small.{appended}
+use Rattle.rk_inv_base.proofs.Base.{none_stored, counts_call, joins_call, marked_none, names_call, segments_call, touches_call, in_one_row}
+use Rattle.rk_inv_base.proofs.Base.{no_meeting, speaker_of, speaker_is, speaks_serving, none_waits, none_hands, CountsFor, SoundRow}
+use Rattle.rk_inv_base.proofs.Base.{SpeaksFor, row_in, covered_by, put_by, put2_by, counted_looks, first_not_last, formed_apart}
+use Rattle.rk_inv_base.proofs.Base.{last_stands, IsTargetIn, above_source, AreBelow, target_counted, all_by, floor_above}
 use Rattle.rk_inv_base.proofs.logs.EntryAppended.{view_with_entry, waits_on, IsAtEnd}
-use Rattle.rk_inv_base.proofs.logs.Logs.{none_stored}
 use Rattle.rk_inv_base.proofs.logs.OneMore.{of_written, within, applied_same, lineage_grown}
-use Rattle.rk_inv_base.proofs.logs.Shares.{counts_call, joins_call, marked_none, names_call, segments_call, touches_call}
-use Rattle.rk_inv_base.proofs.rows.Apart.{in_one_row, no_meeting}
 use Rattle.rk_inv_base.proofs.rows.RowAppended.{RestFits, StaysAs, names_grown, target_grown}
 use Rattle.rk_inv_base.proofs.rows.Serving.{serving_stages}
-use Rattle.rk_inv_base.proofs.rows.Speakers.{speaker_of, speaker_is, speaks_serving, none_waits, none_hands}
-use Rattle.rk_inv_base.proofs.views.ByRows.{CountsFor, SoundRow, SpeaksFor, row_in}
-use Rattle.rk_inv_base.proofs.views.Cover.{covered_by}
-use Rattle.rk_inv_base.proofs.views.Put.{put_by, put2_by}
-use Rattle.rk_inv_base.proofs.views.Seen.{counted_looks}
-use Rattle.rk_inv_base.proofs.calls.Appending.{first_not_last, formed_apart, last_stands}
-use Rattle.rk_inv_base.proofs.calls.Receives.{IsTargetIn, above_source}
-use Rattle.rk_inv_base.proofs.calls.Targets.{AreBelow, target_counted}
-use Rattle.rk_inv_base.proofs.views.Lists.{all_by}
-use Rattle.rk_inv_base.proofs.logs.Floors.{floor_above}
 
 -- one more item at the end, above all before it
 pub above_push : (before items : List Held) (item : Held) → AreAbove before items → IsAboveAll (before ++ items) item → AreAbove before (items ++ item ∷ [])
@@ -57,14 +46,7 @@ whole_rows rows call _ own = tt
 
 -- behind the rest of a row stands an item that is above all that counts for it, or none
 pub above_pushed : (truth rest : List Entry) (call : Call) (entry : Entry) → IsEntryOf call entry → All (λ item. IsNext (truth ++ rest) item.version) (items_in entry) → AreAbove (items_of truth) (items_of rest) → AreAbove (items_of truth) (items_of (rest ++ entry ∷ []))
-above_pushed truth rest call (entries.Held held) own low above =
-    subst (AreAbove (items_of truth)) (sym (flat_map-append items_in rest (entries.Held held ∷ [])))
-    (above_push (items_of truth) (items_of rest) held above
-    (above_floor truth rest held (All-head (λ (item : Held). IsNext (truth ++ rest) item.version) held [] low)))
-above_pushed truth rest call (entries.Refused refused) own low above =
-    subst (AreAbove (items_of truth))
-    (sym (flat_map-append items_in rest (entries.Refused refused ∷ []) ∙ append-nil (items_of rest))) above
-above_pushed truth rest call _ own low above = absurd own
+above_pushed truth rest call entry own low above = grind (arith, items_of, flat_map-append, items_in, above_push, above_floor, append-nil)
 
 -- each entry of a call has it, with one more entry and its call
 pub calls_push : (calls : NumberMap Call) (written : Written) (call : Call) (entry : Entry) → IsEntryOf call entry → EachHasCall calls written → EachHasCall (insert calls (length written.entries) call) (with_one_more written entry)
@@ -163,8 +145,7 @@ module _ (v : View) (master : ℕ) (call : Call) (entry : Entry) (counter : ℕ)
             subst (λ (o : Option Handed). IfSome o (λ h. IsNext (truths v row ++ rests now row) h.floor)) (sym none) tt;
         goes_on = subst (λ (list : List Entry). IsRest v.base row.range (truths v row) list v.journal v.asked) (sym rest_is) may.goes_on;
         tells = λ end there.
-            subst (λ (list : List Entry). Contains (told list) end) (sym rest_is)
-            (subst (λ (l : List Ended). Contains l end) (sym (flat_map-append told_by (rests v row) (entry ∷ [])))
+            rw rest_is (subst (λ (l : List Ended). Contains l end) (sym (flat_map-append told_by (rests v row) (entry ∷ [])))
             (Contains-append_left (told (rests v row)) (told (entry ∷ [])) end there));
       }
 
@@ -177,8 +158,7 @@ module _ (v : View) (master : ℕ) (call : Call) (entry : Entry) (counter : ℕ)
       All-weaker (λ (item : Held). IsNext (truths v row ++ rests v row) item.version)
       (AreBelow (items_of (member_material v.written row.range source)))
       (λ item low.
-      subst (λ (list : List Entry). AreBelow (items_of list) item) (sym first.all)
-      (above_source v.base row.range v.written (rests v row) source target item
+      rw first.all (above_source v.base row.range v.written (rests v row) source target item
       (subst (λ (members : List Member). floor_of (lineage_truth v.base v.written row.range members ++ rests v row) ≤ item.version) is low)))
       (items_in entry) may.above
 

@@ -1,32 +1,21 @@
 -- A lane stays sound when a client asks a call, where its last one, if any, is older and accepted: nothing of the client is staged then.
-use Rattle.std.proofs.Common.{◌≡◌, ℕ, ◌<◌, true, List, [], ◌∷◌, ◌++◌, Option, Some, None, refl, sym, ap, ◌∙◌, subst, ⊎_elim, inr, arith}
-use Rattle.std.proofs.Common.{IfSome, unwrap_or, All, eq-eqb, length}
-use Rattle.rk_inv_base.proofs.calls.OtherJournals.{is_request_by, request_says_by}
-use Rattle.rk_inv_base.proofs.Words.{and_from, false≢true, All-contains, All-head, All-tail, All-weaker, list_any_at, get_other, get_same}
-use Rattle.rk_inv_base.proofs.Words.{Call, Placed, Range, IsLegal, live_after, is_mutation, Entry, Row, Request, base_map, item_end}
-use Rattle.rk_inv_base.proofs.Words.{items_of, refusal_end, has_record, is_of_mutation, Ledger, asked_by, with_asked, AgreeIn, call_of}
-use Rattle.rk_inv_base.proofs.Words.{World, LastCall, HasSeen, IsAccepted, IsLastCall, RequestFits, WasAsked, IsEntryOf, IsLast}
-use Rattle.rk_inv_base.proofs.Words.{IsLastAsked, IsRest, IsStaged, Waits, call_ends, record_of_last, records_of, put, IsAfterSeen, View}
-use Rattle.rk_inv_base.proofs.Words.{view, truths, rests, AskedOf, IsSound, RestOf, SoundView, TruthOf, Message, get}
+use Rattle.rk_inv_base.proofs.Words.{◌≡◌, ℕ, ◌<◌, true, List, [], ◌∷◌, ◌++◌, Option, Some, refl, sym, ap, ◌∙◌, subst, inr}
+use Rattle.rk_inv_base.proofs.Words.{arith, IfSome, unwrap_or, All, eq-eqb, length, and_from, false≢true, All-contains, All-head, All-tail}
+use Rattle.rk_inv_base.proofs.Words.{All-weaker, list_any_at, get_other, get_same, Call, Placed, Range, IsLegal, live_after, is_mutation}
+use Rattle.rk_inv_base.proofs.Words.{Entry, Row, Request, base_map, item_end, items_of, refusal_end, has_record, is_of_mutation, Ledger}
+use Rattle.rk_inv_base.proofs.Words.{asked_by, with_asked, AgreeIn, call_of, World, LastCall, IsAccepted, IsLastCall, RequestFits}
+use Rattle.rk_inv_base.proofs.Words.{WasAsked, IsEntryOf, IsLast, IsLastAsked, IsRest, IsStaged, Waits, call_ends, record_of_last}
+use Rattle.rk_inv_base.proofs.Words.{records_of, put, IsAfterSeen, View, view, truths, rests, AskedOf, IsSound, RestOf, SoundView, TruthOf}
+use Rattle.rk_inv_base.proofs.Words.{Message, get, MayAsk, call_asked, call_asked_in}
 use Rattle.rk_entry.specs.declared.entry.Entry.TheVariants as entries
 use Rattle.rk_overlay.specs.Live.{live as live_items}
-use Rattle.rk_sound.specs.Changes.{MayAsk}
-use Rattle.rk_sound.specs.Small.{call_asked, call_asked_in}
-use Rattle.rk_inv_base.proofs.logs.InRest.{of_waiting}
-use Rattle.rk_inv_base.proofs.views.Lists.{all_in}
-use Rattle.rk_inv_base.proofs.views.Put.{put_by, put_is, put_other}
-use Rattle.rk_inv_base.proofs.views.ByRows.{row_in}
+use Rattle.rk_inv_base.proofs.Base.{of_waiting, all_in, put_by, put_is, put_other, row_in}
+use Rattle.rk_inv_base.proofs.calls.OtherJournals.{is_request_by, request_says_by}
 
 -- an accepted mutation has its record
 pub recorded_there : (journal : List Placed) (call : Call) (client seq : ℕ) → IsAccepted journal call → is_mutation call.op ≡ true → call.client ≡ client → call.seq ≡ seq → has_record journal client seq ≡ true
 recorded_there journal call client seq accepted mutation client_is seq_is =
-    let placed : Placed = accepted.placed in
-    let stands = accepted.stands in
-    let of_client = eq-eqb placed.call.client client (ap (λ (c : Call). c.client) accepted.call_is ∙ client_is) in
-    let of_seq = eq-eqb placed.call.seq seq (ap (λ (c : Call). c.seq) accepted.call_is ∙ seq_is) in
-    list_any_at (is_of_mutation client seq) journal stands.0 placed stands.1
-    (ap (is_of_mutation client seq) stands.2
-    ∙ and_from (is_mutation placed.call.op) _ (ap (λ (c : Call). is_mutation c.op) accepted.call_is ∙ mutation) (and_from _ _ of_client of_seq))
+    grind (arith, eq-eqb, list_any_at, is_of_mutation, and_from, is_mutation)
 
 module _ (v : View) (client : ℕ) (last : LastCall) (sound : SoundView v) (may : MayAsk v client last) where
   abbrev now : View
@@ -46,10 +35,7 @@ module _ (v : View) (client : ℕ) (last : LastCall) (sound : SoundView v) (may 
 
   -- and each that it asked
   older_of : (old : Option LastCall) (call : Call) → IfSome old (λ o. IsOlder o.call) → WasAsked old v.journal call → IsOlder call
-  older_of None call before was = absurd was
-  older_of (Some old) call before was =
-      ⊎_elim (λ (is : old.call ≡ call). subst IsOlder is before)
-      (λ (earlier : (call.seq < old.call.seq) × IsAccepted v.journal call). (omega (arith, earlier.0, before.0), earlier.1)) was
+  older_of old call before was = grind arith
 
   older : (c : ℕ) (call : Call) → c ≡ client → WasAsked (v.asked c) v.journal call → IsOlder call
   older c call is was = older_of (v.asked c) call (before c is) was
@@ -93,15 +79,7 @@ module _ (v : View) (client : ℕ) (last : LastCall) (sound : SoundView v) (may 
   same_asked c seq table key staged = put_other v.asked client (Some last) c (unstaged c seq table key staged)
 
   still_last : (c seq table : ℕ) (key : List ℕ) → IsLastAsked v.asked v.journal c seq table key → IsLastAsked now.asked v.journal c seq table key
-  still_last c seq table key staged = record {
-    last = staged.last;
-    asked_is = same_asked c seq table key staged ∙ staged.asked_is;
-    seq_is = staged.seq_is;
-    table_is = staged.table_is;
-    key_is = staged.key_is;
-    mutation = staged.mutation;
-    unrecorded = staged.unrecorded;
-  }
+  still_last c seq table key staged = grind (arith, same_asked)
 
   still_staged : (entry : Entry) → IsStaged v.base v.asked v.journal entry → IsStaged v.base now.asked v.journal entry
   unfolding still_last
@@ -170,12 +148,7 @@ module _ (v : View) (client : ℕ) (last : LastCall) (sound : SoundView v) (may 
 
   -- requests are of calls that were asked
   request_fits : (c : ℕ) (request : Request) → RequestFits v.asked v.journal c request → RequestFits now.asked v.journal c request
-  request_fits c request fits = record {
-    was_asked = still_asked c (call_of c request) fits.was_asked;
-    seen =
-        of_client (λ old. HasSeen old (call_of c request) request.seen) c
-        (λ is same. absurd (another c (call_of c request) is fits.was_asked same)) (λ apart. fits.seen);
-  }
+  request_fits c request fits = grind (arith, still_asked, call_of, of_client, another)
 
   asked : AskedOf now
   asked =
@@ -196,10 +169,7 @@ module _ (v : View) (client : ℕ) (last : LastCall) (sound : SoundView v) (may 
 
 -- a ledger where a client asked a call has it, and what other clients asked
 pub asked_put : (ledger : Ledger) (client : ℕ) (last : LastCall) (q : ℕ) → asked_by (with_asked ledger client last) q ≡ put (asked_by ledger) client (Some last) q
-asked_put ledger client last q =
-    put_is (asked_by ledger) client (Some last) q (asked_by (with_asked ledger client last) q)
-    (λ is. ap (λ (kept : Option (Option LastCall)). unwrap_or kept None) (get_same ledger.clients client (Some last) q is))
-    (λ apart. ap (λ (kept : Option (Option LastCall)). unwrap_or kept None) (get_other ledger.clients client (Some last) q apart))
+asked_put ledger client last q = grind (arith, put_is, asked_by, with_asked, unwrap_or, get_same, get_other)
 
 pub view_is : (w : World) (client : ℕ) (last : LastCall) → view (call_asked_in w client last) ≡ call_asked (view w) client last
 view_is w client last i = record (view w) { asked = λ q. asked_put w.ledger client last q i }

@@ -1,9 +1,9 @@
 -- The part Calls through small changes.
-use Rattle.std.proofs.Common.{◌≡◌, ℕ, List, Option, sym, subst, ◌∙◌, ⊎_elim, inl, inr, All, IfSome, ◌⊎◌, Contains, slice_index_or}
+use Rattle.rk_inv_base.proofs.Words.{◌≡◌, ℕ, List, Option, sym, subst, ◌∙◌, ⊎_elim, inl, inr, All, IfSome, ◌⊎◌, Contains, slice_index_or}
 use Rattle.rk_inv_base.proofs.Words.{All-weaker, Ended, Member, Range, Entry, ends_of, Handover, Row, Handed, told, Written, member_truth}
-use Rattle.rk_inv_base.proofs.Words.{AreHandedOver, IsKnown, IsStagedEnd, TellAll, post_of, View, CallsOf}
-use Rattle.rk_inv_base.proofs.views.Alike.{AreAlike, still_counts, speaks_alike, handed_for_grant_alike, handed_by_alike, target_truth_same}
-use Rattle.rk_inv_base.proofs.views.ByRows.{staged_as}
+use Rattle.rk_inv_base.proofs.Words.{AreHandedOver, IsKnown, IsStagedEnd, post_of, View, CallsOf}
+use Rattle.rk_inv_base.proofs.Base.{AreAlike, still_counts, speaks_alike, handed_for_grant_alike, handed_by_alike, target_truth_same}
+use Rattle.rk_inv_base.proofs.Base.{staged_as}
 
 -- tablets become others that answer alike
 pub calls_alike : (v : View) (truths rests : Row → List Entry) (now : ℕ → ℕ → Handover) → CallsOf v truths rests → AreAlike v.handovers now → CallsOf (record v { handovers = now }) truths rests
@@ -43,8 +43,7 @@ calls_more v truths rests more written old tells same = record {
   recorded = old.recorded;
   moving = λ k d within.
       let row : Row = slice_index_or v.rows k d in
-      subst (λ (o : Option (List Entry)). IfSome o (TellAll row.range v.journal))
-      (sym (target_truth_same v.written written v.handed row row.phase same)) (old.moving k d within);
+      rw (target_truth_same v.written written v.handed row row.phase same) (old.moving k d within);
   answering = old.answering;
   handed_on = old.handed_on;
   sent = old.sent;

@@ -1,19 +1,11 @@
 -- A lane stays sound when a client comes that has asked nothing: nothing is seen of it.
-use Rattle.std.proofs.Common.{◌≡◌, ℕ, None, Option, sym, ap, subst, ◌∙◌, ⊎_elim, unwrap_or}
-use Rattle.rk_inv_base.proofs.Words.{cases_eq, get_same, get_other, Ledger, asked_by, with_client, World, LastCall, view, IsSound}
-use Rattle.rk_inv_base.proofs.Words.{SoundView}
-use Rattle.rk_sound.specs.Changes.{MayCome}
-use Rattle.rk_sound.specs.Small.{client_come}
+use Rattle.rk_inv_base.proofs.Words.{arith}
+use Rattle.rk_inv_base.proofs.Words.{◌≡◌, ℕ, None, sym, subst, unwrap_or, cases_eq, get_same, get_other, Ledger}
+use Rattle.rk_inv_base.proofs.Words.{asked_by, with_client, World, view, IsSound, SoundView, MayCome, client_come}
 
 -- a client that comes has asked nothing, and had asked nothing
 pub asked_same : (ledger : Ledger) (client : ℕ) → asked_by ledger client ≡ None → (q : ℕ) → asked_by (with_client ledger client) q ≡ asked_by ledger q
-asked_same ledger client new q =
-    ⊎_elim
-    (λ (is : q ≡ client).
-    ap (λ (kept : Option (Option LastCall)). unwrap_or kept None) (get_same ledger.clients client None q is)
-    ∙ sym (ap (asked_by ledger) is ∙ new))
-    (λ (apart : q ≡ client → ⊥). ap (λ (kept : Option (Option LastCall)). unwrap_or kept None) (get_other ledger.clients client None q apart))
-    (cases_eq q client)
+asked_same ledger client new q = grind (arith, unwrap_or, get_same, asked_by, get_other, cases_eq)
 
 pub view_come : (w : World) (client : ℕ) → asked_by w.ledger client ≡ None → view (client_come w client) ≡ view w
 view_come w client new i = record (view w) { asked = λ q. asked_same w.ledger client new q i }

@@ -1,20 +1,18 @@
 -- The history that staged calls will make, with one more call, and the records that it leaves.
-use Rattle.std.proofs.Common.{◌≡◌, ℕ, ◌<◌, true, Bool, false, ◌&&◌, eqb, List, [], ◌∷◌, ◌++◌, Option, Some, None, refl, sym, ap, ◌∙◌, subst}
-use Rattle.std.proofs.Common.{⊎_elim, arith, append_assoc, bytes_eq, ◌≢◌, if◌then◌else◌, AllPairs, append-nil}
-use Rattle.std.proofs.lemmas.List.Quantifiers.{all_pairs_push}
+use Rattle.rk_inv_base.proofs.Words.{◌≡◌, ℕ, ◌<◌, true, Bool, false, ◌&&◌, eqb, List, [], ◌∷◌, ◌++◌, Option, Some, None, refl, sym, ap, ◌∙◌}
+use Rattle.rk_inv_base.proofs.Words.{subst, ⊎_elim, arith, append_assoc, bytes_eq, ◌≢◌, if◌then◌else◌, append-nil, all_pairs_push}
 use Rattle.rk_inv_base.proofs.Words.{cases_Bool, cond-true, cond-false, flat_map-append, All-push, Call, End, Ended, Outcome, Held, Placed}
 use Rattle.rk_inv_base.proofs.Words.{Range, legal_push, map_after-append, name-swap, Map, IsLegal, map_after, with_change, Allowed}
 use Rattle.rk_inv_base.proofs.Words.{change_of, Entry, newest_is, newest_from-append, with_newer_here, with_newer_other, newer_item}
 use Rattle.rk_inv_base.proofs.Words.{record_of, is_of, newest, none_found, Base, base_map, map_entry_of, items_of, items_in, end_of_item}
 use Rattle.rk_inv_base.proofs.Words.{outcome_of, floor_of, has_key, item_of, refusal_of, LastCall, refused_as, IsNext, IsLast, IsLastAsked}
-use Rattle.rk_inv_base.proofs.Words.{IsRest, IsStaged, call_end, call_ends, record_of_last, records_of}
+use Rattle.rk_inv_base.proofs.Words.{IsRest, IsStaged, call_end, call_ends, record_of_last, records_of, MayEnd}
 use Rattle.rk_types.specs.declared.call.End.TheVariants as ends
+use Rattle.rk_entry.specs.declared.entry.Entry.TheVariants as entries
 use Rattle.rk_model.specs.History.{with_entry, record_of as map_record_of}
 use Rattle.rk_model.specs.Machine.{Entry as MapEntry}
-use Rattle.rk_entry.specs.declared.entry.Entry.TheVariants as entries
 use Rattle.rk_overlay.specs.Live.{live as live_items}
-use Rattle.rk_sound.specs.Changes.{MayEnd}
-use Rattle.rk_inv_base.proofs.logs.Floors.{floor_above}
+use Rattle.rk_inv_base.proofs.Base.{floor_above}
 
 -- the record that a call will make
 abbrev pub record_for : Call → Outcome → Placed
@@ -22,10 +20,7 @@ record_for call outcome = record { call = call; outcome = outcome; stamp = 0; ac
 
 -- the records that ends will make, with one more
 pub records_push : (asked : ℕ → Option LastCall) (list : List Ended) (end : Ended) (last : LastCall) (call : Call) → asked end.client ≡ Some last → last.call ≡ call → records_of asked (list ++ end ∷ []) ≡ records_of asked list ++ record_for call (outcome_of end.end) ∷ []
-records_push asked list end last call kept same =
-    flat_map-append (λ end. record_of_last end (asked end.client)) list (end ∷ [])
-    ∙ ap (λ (o : Option LastCall). records_of asked list ++ (record_of_last end o ++ [])) kept
-    ∙ ap (λ (c : Call). records_of asked list ++ record_for c (outcome_of end.end) ∷ []) same
+records_push asked list end last call kept same = grind (arith, flat_map-append, record_of_last, records_of, outcome_of)
 
 -- the map has of an item that was put what the item is
 pub record_put : (item : Held) (value : Option (List ℕ)) → item.value ≡ value → record_of (Some item) ≡ map_record_of (map_entry_of item value)
@@ -73,10 +68,7 @@ module _ (start : Map) (journal records : List Placed) (call : Call) (outcome : 
 
 -- the items of truth and rest, with one more entry behind
 pub items_pushed : (truth rest : List Entry) (entry : Entry) → items_of (truth ++ (rest ++ entry ∷ [])) ≡ items_of (truth ++ rest) ++ items_in entry
-items_pushed truth rest entry =
-    ap items_of (sym (append_assoc truth rest (entry ∷ [])))
-    ∙ flat_map-append items_in (truth ++ rest) (entry ∷ [])
-    ∙ ap (λ (items : List Held). items_of (truth ++ rest) ++ items) (append-nil (items_in entry))
+items_pushed truth rest entry = grind (arith, items_of, append_assoc, flat_map-append, items_in, append-nil)
 
 -- the call that may end so is the last that its client asked
 pub last_asked : (asked : ℕ → Option LastCall) (journal : List Placed) (call : Call) (last : IsLastAsked asked journal call.client call.seq call.table call.key) → last.last.call ≡ call → IsLast (asked call.client) call
@@ -114,17 +106,13 @@ module _ (base : Base) (range : Range) (truth rest : List Entry) (journal : List
       let records_are : records_of asked (call_ends (rest ++ entry ∷ [])) ≡ records ++ record_for call outcome ∷ [] =
       ap (records_of asked) ends_are ∙ records_push asked (call_ends rest) (ended end) may.last.last call may.last.asked_is may.same_call in
       record {
-        legal =
-            subst (λ (more : List Placed). IsLegal (base_map base) (journal ++ more)) (sym records_are)
-            (legal_pushed (base_map base) journal records call outcome old.legal may.allowed);
+        legal = rw records_are (legal_pushed (base_map base) journal records call outcome old.legal may.allowed);
         live = λ table key inside.
             leaves table key inside
             ∙ ap (λ (map : Map). map_record_of (map table key)) (sym (map_pushed (base_map base) journal records call outcome))
             ∙ ap (λ (more : List Placed). map_record_of (map_after (base_map base) (journal ++ more) table key)) (sym records_are);
         staged = All-push (IsStaged base asked journal) rest entry old.staged staged;
-        one =
-            subst (λ (list : List Ended). AllPairs (λ a b. a.client ≢ b.client) list) (sym ends_are)
-            (all_pairs_push (λ a b. a.client ≢ b.client) (call_ends rest) (ended end) old.one may.unstaged);
+        one = rw ends_are (all_pairs_push (λ a b. a.client ≢ b.client) (call_ends rest) (ended end) old.one may.unstaged);
       }
 
   -- so the item of a write goes, with a version that is above all of the row

@@ -1,11 +1,11 @@
 -- The law of the journal: a view stays sound with another journal that leaves the same and loses no record.
-use Rattle.std.proofs.Common.{◌≡◌, ℕ, false, true, List, ◌++◌, Some, sym, ap, ◌∙◌, ⊎_elim, inl, inr, All, slice_get, ◌<◌, length}
-use Rattle.std.proofs.Common.{slice_index_or}
-use Rattle.rk_inv_base.proofs.Words.{All-weaker, IfSome_then, hash_of, Ended, Placed, Range, IsLegal, Map, map_after, IsRisingAbove}
-use Rattle.rk_inv_base.proofs.Words.{AreOneMutation, Entry, ends_of, is_covered, Row, Node, Body, base_map, told, has_record, AreHandedOver}
-use Rattle.rk_inv_base.proofs.Words.{IsKnown, IsStagedEnd, ReachAll, TellAll, Says, IsLastAsked, IsRest, IsStaged, call_ends, records_of}
-use Rattle.rk_inv_base.proofs.Words.{IsAfterSeen, View, truths, rests, SoundView, CallsOf, AskedOf, IsTruth, Message, get, target_truth}
-use Rattle.rk_inv_base.proofs.Words.{handed_for_grant, handed_by}
+use Rattle.rk_inv_base.proofs.Words.{arith}
+use Rattle.rk_inv_base.proofs.Words.{◌≡◌, ℕ, false, true, List, ◌++◌, Some, sym, ap, ◌∙◌, ⊎_elim, inl, inr, All, slice_get, ◌<◌, length}
+use Rattle.rk_inv_base.proofs.Words.{slice_index_or, All-weaker, IfSome_then, hash_of, Ended, Placed, Range, IsLegal, Map, map_after}
+use Rattle.rk_inv_base.proofs.Words.{IsRisingAbove, AreOneMutation, Entry, ends_of, is_covered, Row, Node, Body, base_map, told, has_record}
+use Rattle.rk_inv_base.proofs.Words.{AreHandedOver, IsKnown, IsStagedEnd, ReachAll, TellAll, Says, IsLastAsked, IsRest, IsStaged, call_ends}
+use Rattle.rk_inv_base.proofs.Words.{records_of, IsAfterSeen, View, truths, rests, SoundView, CallsOf, AskedOf, IsTruth, Message, get}
+use Rattle.rk_inv_base.proofs.Words.{target_truth, handed_for_grant, handed_by}
 use Rattle.rk_entry.specs.declared.entry.Entry.TheVariants as entries
 use Rattle.rk_model.specs.History.{record_of}
 
@@ -64,15 +64,7 @@ module _ (v : View) (after : List Placed) (sound : SoundView v) (may : MayReplac
 
   -- what is staged has no record as before
   still_last : (client seq table : ℕ) (key : List ℕ) → IsLastAsked v.asked v.journal client seq table key → IsLastAsked v.asked after client seq table key
-  still_last client seq table key last = record {
-    last = last.last;
-    asked_is = last.asked_is;
-    seq_is = last.seq_is;
-    table_is = last.table_is;
-    key_is = last.key_is;
-    mutation = last.mutation;
-    unrecorded = may.unrecorded client seq last.unrecorded;
-  }
+  still_last client seq table key last = grind arith
 
   still_staged : (entry : Entry) → IsStaged v.base v.asked v.journal entry → IsStaged v.base v.asked after entry
   unfolding still_last
@@ -83,14 +75,7 @@ module _ (v : View) (after : List Placed) (sound : SoundView v) (may : MayReplac
   still_staged (entries.Joined joined) = λ staged. staged
 
   goes_on : (range : Range) (sure left : List Entry) → IsRest v.base range sure left v.journal v.asked → IsRest v.base range sure left after v.asked
-  goes_on range sure left old =
-      let more : List Placed = records_of v.asked (call_ends left) in
-      record {
-        legal = may.legal_behind more old.legal;
-        live = λ table key inside. old.live table key inside ∙ ap (λ (m : Map). record_of (m table key)) (sym (may.leaves_behind more));
-        staged = All-weaker (IsStaged v.base v.asked v.journal) (IsStaged v.base v.asked after) still_staged left old.staged;
-        one = old.one;
-      }
+  goes_on range sure left old = grind (arith, records_of, call_ends, record_of, still_staged)
 
   pub view_with_journal : SoundView now
   view_with_journal =

@@ -1,9 +1,9 @@
 -- A journal with more records behind it: what was known, asked, accepted or told by it still is.
-use Rattle.std.proofs.Common.{◌≡◌, ℕ, ◌<◌, List, [], ◌∷◌, ◌++◌, Option, Some, ⊎_elim, inl, inr, ◌⊎◌, length, slice_get, Contains}
+use Rattle.rk_inv_base.proofs.Words.{arith}
+use Rattle.rk_inv_base.proofs.Words.{◌≡◌, ℕ, ◌<◌, List, [], ◌∷◌, ◌++◌, Option, Some, ⊎_elim, inl, inr, ◌⊎◌, length, slice_get, Contains}
 use Rattle.rk_inv_base.proofs.Words.{Contains-append_left, Call, Ended, Placed, Node, IsRisingAbove, Reply, Body, Base, ends_told, LastCall}
 use Rattle.rk_inv_base.proofs.Words.{IsAccepted, IsRequest, RequestSays, WasAsked, IsKnown, IsRecorded, Says, IsRecordAt, Outcome}
-use Rattle.rk_inv_base.proofs.Words.{slice_get_front, slice_get_push_cases}
-use Rattle.rk_world.specs.Journal.{last_stamp_from}
+use Rattle.rk_inv_base.proofs.Words.{slice_get_front, slice_get_push_cases, last_stamp_from}
 use Rattle.rk_inv_base.proofs.calls.OtherJournals.{asked_by_other, is_request_by, request_by_other, request_says_by, says_by}
 
 -- ---- places
@@ -47,14 +47,7 @@ module _ (journal more : List Placed) where
 
   -- a Reply tells the same record
   told_still : (client : ℕ) (reply : Reply) (outcome : Outcome) → IsRecordAt journal client reply outcome → IsRecordAt (journal ++ more) client reply outcome
-  told_still client reply outcome fits = record {
-    placed = fits.placed;
-    stands = slice_get_front journal more reply.place fits.placed fits.stands;
-    client_is = fits.client_is;
-    seq_is = fits.seq_is;
-    outcome_is = fits.outcome_is;
-    stamp_is = fits.stamp_is;
-  }
+  told_still client reply outcome fits = grind (arith, slice_get_front)
 
   pub says_still : (to : Node) (body : Body) → Says journal to body → Says (journal ++ more) to body
   says_still = says_by journal (journal ++ more) told_still

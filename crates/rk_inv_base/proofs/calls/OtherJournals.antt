@@ -1,11 +1,11 @@
 -- What is said of calls by a journal is said by another one that has an accepted record of each accepted call, and each record at its place.
-use Rattle.std.proofs.Common.{◌≡◌, ℕ, ◌<◌, List, Option, Some, None, ⊎_elim, inl, inr}
-use Rattle.rk_inv_base.proofs.Words.{Answer, Call, Outcome, Placed, Node, Reply, Request, Body, call_of, LastCall, IsAccepted, IsRequest}
-use Rattle.rk_inv_base.proofs.Words.{RequestFits, RequestSays, WasAsked, AnswerFits, IsRecordAt, Says}
+use Rattle.rk_inv_base.proofs.Words.{arith}
+use Rattle.rk_inv_base.proofs.Words.{ℕ, List, Option, Answer, Call, Outcome, Placed, Node, Reply}
+use Rattle.rk_inv_base.proofs.Words.{Request, Body, call_of, LastCall, IsAccepted, IsRequest, RequestFits, RequestSays, WasAsked}
+use Rattle.rk_inv_base.proofs.Words.{AnswerFits, IsRecordAt, Says, ReplyFits}
 use Rattle.rk_types.specs.declared.call.Answer.TheVariants as answers
 use Rattle.rk_types.specs.declared.node.Node.TheVariants as nodes
 use Rattle.rk_message.specs.declared.message.Body.TheVariants as bodies
-use Rattle.rk_sound.specs.Messages.{ReplyFits}
 
 -- what Requests say, where each that fitted fits
 module _ (asked asked' : ℕ → Option LastCall) (journal after : List Placed) (fits : (client : ℕ) (request : Request) → RequestFits asked journal client request → RequestFits asked' after client request) where
@@ -19,16 +19,10 @@ module _ (asked asked' : ℕ → Option LastCall) (journal after : List Placed) 
 
 module _ (journal after : List Placed) (accepted : (call : Call) → IsAccepted journal call → IsAccepted after call) where
   pub asked_by_other : (last : Option LastCall) (call : Call) → WasAsked last journal call → WasAsked last after call
-  asked_by_other None call was = was
-  asked_by_other (Some last) call was =
-      ⊎_elim (λ (is : last.call ≡ call). inl is)
-      (λ (before : (call.seq < last.call.seq) × IsAccepted journal call). inr (before.0, accepted call before.1)) was
+  asked_by_other last call was = grind arith
 
   pub request_by_other : (asked : ℕ → Option LastCall) (client : ℕ) (request : Request) → RequestFits asked journal client request → RequestFits asked after client request
-  request_by_other asked client request fits = record {
-    was_asked = asked_by_other (asked client) (call_of client request) fits.was_asked;
-    seen = fits.seen;
-  }
+  request_by_other asked client request fits = grind (arith, asked_by_other, call_of)
 
 -- what Replies say
 module _ (journal after : List Placed) (told : (client : ℕ) (reply : Reply) (outcome : Outcome) → IsRecordAt journal client reply outcome → IsRecordAt after client reply outcome) where

@@ -1,17 +1,14 @@
 -- A lane stays sound when a read gets its record, which tells what the journal leaves and changes nothing of it.
-use Rattle.std.proofs.Common.{◌≡◌, ℕ, ◌<◌, Bool, true, false, ◌&&◌, ◌||◌, List, [], ◌∷◌, ◌++◌, Option, Some, None, sym, ap, ◌∙◌, subst}
-use Rattle.std.proofs.Common.{⊎_elim, arith, slice_get, IfSome, length, All}
-use Rattle.rk_inv_base.proofs.Words.{All-weaker, All-contains, All-push, list_any-append, slice_get-get_or, slice_get_within}
-use Rattle.rk_inv_base.proofs.Words.{get_or_from_slice_get, hash_of, Call, Ended, Outcome, Placed, Range, IsLegal-append, legal_back}
-use Rattle.rk_inv_base.proofs.Words.{legal_push, map_after-append, IsLegal, Map, map_after, with_change, is_mutation, lane_of_key}
-use Rattle.rk_inv_base.proofs.Words.{AreOneMutation, Entry, is_covered, base_map, told, has_record, is_of_call, is_of_mutation, next_record}
-use Rattle.rk_inv_base.proofs.Words.{of_key, IsAfterStart, World, LastCall, AreOneAccepted, HasSeen, IsAccepted, WasAsked, IsReached}
-use Rattle.rk_inv_base.proofs.Words.{ReachAll, TellAll, is_record_in, IsAfterSeen, View, view, AskedOf, IsSound, SoundView, IfSome_then}
-use Rattle.rk_model.proofs.Between.{unkept_changes_nothing}
-use Rattle.rk_model.specs.Machine.{Entry as MapEntry}
-use Rattle.rk_sound.specs.Changes.{MayRead}
-use Rattle.rk_sound.specs.Small.{recorded, recorded_in}
-use Rattle.rk_inv_base.proofs.views.Cover.{covered_by}
+use Rattle.rk_inv_base.proofs.Words.{◌≡◌, ℕ, ◌<◌, true, false, List, [], ◌∷◌, ◌++◌, Option, Some, None, sym, ap, ◌∙◌}
+use Rattle.rk_inv_base.proofs.Words.{subst, ⊎_elim, arith, slice_get, IfSome, length, All, All-weaker, All-contains, All-push}
+use Rattle.rk_inv_base.proofs.Words.{list_any-append, slice_get-get_or, slice_get_within, get_or_from_slice_get, hash_of, Call, Ended}
+use Rattle.rk_inv_base.proofs.Words.{Outcome, Placed, Range, IsLegal-append, legal_back, legal_push, map_after-append, IsLegal, Map}
+use Rattle.rk_inv_base.proofs.Words.{map_after, with_change, is_mutation, lane_of_key, AreOneMutation, Entry, is_covered, base_map, told}
+use Rattle.rk_inv_base.proofs.Words.{has_record, is_of_call, is_of_mutation, next_record, of_key, IsAfterStart, World, LastCall}
+use Rattle.rk_inv_base.proofs.Words.{AreOneAccepted, HasSeen, IsAccepted, WasAsked, IsReached, ReachAll, TellAll, is_record_in, IsAfterSeen}
+use Rattle.rk_inv_base.proofs.Words.{View, view, AskedOf, IsSound, SoundView, IfSome_then, unkept_changes_nothing, MayRead, recorded}
+use Rattle.rk_inv_base.proofs.Words.{recorded_in}
+use Rattle.rk_inv_base.proofs.Base.{covered_by}
 use Rattle.rk_inv_base.proofs.calls.Journals.{view_with_journal}
 use Rattle.rk_inv_base.proofs.calls.MoreRecords.{asked_still, got_cases, is_request_still, known_still, request_says_still, rising_push}
 use Rattle.rk_inv_base.proofs.calls.MoreRecords.{says_still}
@@ -25,41 +22,11 @@ AcceptsOnce journal =
 module _ (journal : List Placed) (once : AcceptsOnce journal) (a b : Call) (client : a.client ≡ b.client) (seq : a.seq ≡ b.seq) where
   -- where both are accepted
   one_accepted : IsAccepted journal a → IsAccepted journal b → a ≡ b
-  one_accepted first second =
-      let i : ℕ = first.stands.0 in
-      let j : ℕ = second.stands.0 in
-      let at_i : slice_get journal i ≡ Some first.placed =
-      slice_get-get_or journal i first.placed first.stands.1 ∙ ap Some first.stands.2 in
-      let at_j : slice_get journal j ≡ Some second.placed =
-      slice_get-get_or journal j second.placed second.stands.1 ∙ ap Some second.stands.2 in
-      let here : i ≡ j =
-      once i j first.placed second.placed at_i at_j
-      (record {
-        first = first.accepted;
-        second = second.accepted;
-        client = ap (λ (c : Call). c.client) first.call_is ∙ client ∙ ap (λ (c : Call). c.client) (sym second.call_is);
-        seq = ap (λ (c : Call). c.seq) first.call_is ∙ seq ∙ ap (λ (c : Call). c.seq) (sym second.call_is);
-      }) in
-      let same : first.placed ≡ second.placed = cc (sym at_i ∙ ap (slice_get journal) here ∙ at_j) in
-      sym first.call_is ∙ ap (λ (p : Placed). p.call) same ∙ second.call_is
+  one_accepted first second = grind (arith, slice_get, slice_get-get_or)
 
   -- and where both were asked
   one_asked : (last : Option LastCall) → WasAsked last journal a → WasAsked last journal b → a ≡ b
-  one_asked None first second = absurd first
-  one_asked (Some last) first second =
-      ⊎_elim
-      (λ (is : last.call ≡ a).
-      ⊎_elim
-      (λ (too : last.call ≡ b). sym is ∙ too)
-      (λ (before : (b.seq < last.call.seq) × IsAccepted journal b).
-      absurd (omega (arith, before.0, seq, ap (λ (c : Call). c.seq) is)))
-      second)
-      (λ (earlier : (a.seq < last.call.seq) × IsAccepted journal a).
-      ⊎_elim
-      (λ (too : last.call ≡ b). absurd (omega (arith, earlier.0, seq, ap (λ (c : Call). c.seq) too)))
-      (λ (before : (b.seq < last.call.seq) × IsAccepted journal b). one_accepted earlier.1 before.1)
-      second)
-      first
+  one_asked last first second = grind (arith, one_accepted)
 
 module _ (v : View) (master : ℕ) (call : Call) (seen : ℕ) (outcome : Outcome) (sound : SoundView v) (may : MayRead v master call seen outcome) where
   -- the record of the read, and the journal with it
@@ -76,16 +43,10 @@ module _ (v : View) (master : ℕ) (call : Call) (seen : ℕ) (outcome : Outcome
   -- ---- the map that the journal leaves
 
   leaves : ◌≡◌ {A = Map} (map_after (base_map v.base) after) (map_after (base_map v.base) v.journal)
-  leaves =
-      map_after-append (base_map v.base) v.journal (new ∷ [])
-      ∙ ap (λ (change : Option MapEntry). with_change (map_after (base_map v.base) v.journal) call.table call.key change)
-      (unkept_changes_nothing new may.read)
+  leaves = grind (arith, map_after-append, base_map, with_change, map_after, unkept_changes_nothing)
 
   leaves_behind : (more : List Placed) → ◌≡◌ {A = Map} (map_after (base_map v.base) (after ++ more)) (map_after (base_map v.base) (v.journal ++ more))
-  leaves_behind more =
-      map_after-append (base_map v.base) after more
-      ∙ ap (λ (m : Map). map_after m more) leaves
-      ∙ sym (map_after-append (base_map v.base) v.journal more)
+  leaves_behind more = grind (arith, map_after-append, base_map, map_after, leaves)
 
   legal : IsLegal (base_map v.base) after
   legal = legal_push (base_map v.base) v.journal new sound.truth.legal may.allowed
@@ -142,10 +103,7 @@ module _ (v : View) (master : ℕ) (call : Call) (seen : ℕ) (outcome : Outcome
   -- ---- what is staged
 
   still_unrecorded : (client seq : ℕ) → has_record v.journal client seq ≡ false → has_record after client seq ≡ false
-  still_unrecorded client seq none =
-      list_any-append (is_of_mutation client seq) v.journal (new ∷ [])
-      ∙ ap (λ (b : Bool). b || (is_of_mutation client seq new || false)) none
-      ∙ ap (λ (b : Bool). (b && is_of_call client seq new) || false) may.read
+  still_unrecorded client seq none = grind (arith, list_any-append, is_of_mutation, is_of_call)
 
   -- ---- what was asked
 

@@ -1,13 +1,12 @@
 -- What a master that rebuilds has, once the entry of a call is appended to its log.
-use Rattle.std.proofs.Common.{◌≡◌, ℕ, ◌≤◌, ◌<◌, ◌-◌, suc, true, false, List, [], ◌∷◌, ◌++◌, length, Some, sym, ap, ◌∙◌, subst, ⊎_elim}
-use Rattle.std.proofs.Common.{arith, drop, filter, take, ◌==◌, Bool, All, Contains, flat_map, eq-eqb, append-nil, length-append}
-use Rattle.std.proofs.Common.{length-drop}
-use Rattle.rk_inv_base.proofs.Words.{cases_lt, false≢true, or_left, or_right, take-append-le, drop-append-le, All-contains, IfSome_then}
-use Rattle.rk_inv_base.proofs.Words.{list_any, Held, Member, Range, Entry, is_in, is_serving, Handover, Role, Row, known_of, EntryEnd}
-use Rattle.rk_inv_base.proofs.Words.{items_of, is_member, last_of, is_marked, unmarked_from, touches, material_of, named, named_by}
-use Rattle.rk_inv_base.proofs.Words.{side_entries, own_place, Written, Mark, Merged, stored_of, IsMergedOf, has_merged, merged_place}
-use Rattle.rk_inv_base.proofs.Words.{IsPieceOf, IsRebuilder, IsRebuildTable, READ_BACKUP, applied_from, IsFound, named_items, with_one_more}
-use Rattle.rk_inv_base.proofs.Words.{View, truths, LogsOf}
+use Rattle.rk_inv_base.proofs.Words.{◌≡◌, ℕ, ◌≤◌, ◌<◌, ◌-◌, suc, true, false, List, [], ◌∷◌, ◌++◌, length, Some, sym, ap, ◌∙◌, subst}
+use Rattle.rk_inv_base.proofs.Words.{⊎_elim, arith, drop, filter, take, ◌==◌, Bool, All, Contains, flat_map, eq-eqb, append-nil}
+use Rattle.rk_inv_base.proofs.Words.{length-append, length-drop, cases_lt, false≢true, or_left, or_right, take-append-le, drop-append-le}
+use Rattle.rk_inv_base.proofs.Words.{IfSome_then, list_any, Held, Member, Range, Entry, is_in, is_serving, Handover, Role}
+use Rattle.rk_inv_base.proofs.Words.{Row, known_of, EntryEnd, items_of, is_member, last_of, is_marked, unmarked_from, touches, material_of}
+use Rattle.rk_inv_base.proofs.Words.{named, named_by, side_entries, own_place, Written, Mark, Merged, stored_of, IsMergedOf, has_merged}
+use Rattle.rk_inv_base.proofs.Words.{merged_place, IsPieceOf, IsRebuilder, IsRebuildTable, READ_BACKUP, applied_from, IsFound, named_items}
+use Rattle.rk_inv_base.proofs.Words.{with_one_more, View, truths, LogsOf}
 use Rattle.rk_transfer.specs.declared.role.Role.TheVariants as roles
 use Rattle.rk_inv_base.proofs.logs.Shares.{named_same, unless_marked, unmarked_from_last, unmarked_from_none}
 use Rattle.rk_inv_base.proofs.logs.Applied.{applied_within}
@@ -39,22 +38,11 @@ unmarked_push p marks place list entry fails none =
 -- the side segments that a master names have what they had, where one more entry names none
 pub named_stays : (range : Range) (from : ℕ) (w : Written) (entry : Entry) → named_by range entry ≡ [] → from ≤ length w.entries → named_items range from (with_one_more w entry) ≡ named_items range from w
 named_stays range from w entry none placed =
-    ap (λ (segments : List ℕ). filter (is_in range) (items_of (flat_map (side_entries w.sides) segments)))
-    (ap (named range) (unmarked_from_last w.marks from w.entries entry placed)
-    ∙ named_same range entry (unmarked_from w.marks from w.entries) (is_marked w.marks (length w.entries)) none)
+    grind (arith, filter, is_in, items_of, flat_map, side_entries, named, unmarked_from_last, named_same, unmarked_from, is_marked, length)
 
 -- a piece of a list stands there with more behind the list
 pub piece_push : {X : Type 0} (first past : ℕ) (xs ys : List X) → past ≤ length xs → take (past - first) (drop first (xs ++ ys)) ≡ take (past - first) (drop first xs)
-piece_push first past xs ys within =
-    ⊎_elim
-    (λ (beyond : length xs < first).
-    let none : past - first ≡ 0 = omega arith in
-    ap (λ (n : ℕ). take n (drop first (xs ++ ys))) none ∙ sym (ap (λ (n : ℕ). take n (drop first xs)) none))
-    (λ (inside : first ≤ length xs).
-    let size = length-drop first xs in
-    ap (take (past - first)) (drop-append-le first xs ys inside)
-    ∙ take-append-le (past - first) (drop first xs) ys (omega (arith, size)))
-    (cases_lt (length xs) first)
+piece_push first past xs ys within = grind (arith, length, take, drop, length-drop, drop-append-le, take-append-le, cases_lt)
 
 -- a role that serves has merged nothing
 pub serving_unmerged : (role : Role) → is_serving role ≡ true → has_merged role ≡ true → ⊥
@@ -93,21 +81,7 @@ module _ (v : View) (sound : LogsOf v) (new : Entry) (row : Row) (lineage : List
 
   -- the piece of a rebuild stands where it did, and still nothing of its range stands behind it
   piece_stays : (merged : Merged) (entry : ℕ) → touches handover.range new ≡ false → IsPieceOf row.tablet from handover merged w entry → IsPieceOf row.tablet from handover merged more entry
-  piece_stays merged entry outside piece =
-      let inside : piece.mark.past ≤ length w.entries =
-      All-contains (λ (mark : Mark). mark.past ≤ length w.entries) w.marks piece.mark marked piece.marked in
-      let within : suc entry ≤ length w.entries = omega (arith, inside, piece.past_is) in
-      record {
-        mark = piece.mark;
-        marked = piece.marked;
-        past_is = piece.past_is;
-        tablet_is = piece.tablet_is;
-        term_is = piece.term_is;
-        behind = piece.behind;
-        alone = piece.alone;
-        stands = piece_push piece.mark.first (suc entry) w.entries (new ∷ []) within ∙ piece.stands;
-        last = behind_none (touches handover.range) w.entries (suc entry) new piece.last outside;
-      }
+  piece_stays merged entry outside piece = grind (arith, length, marked, suc, piece_push, behind_none, touches)
 
   -- what was merged is what it was
   abbrev IsMergedWith : List Entry → Written → Handover → ℕ → Type 0
@@ -115,15 +89,7 @@ module _ (v : View) (sound : LogsOf v) (new : Entry) (row : Row) (lineage : List
       IsMergedOf row.tablet from own handover (v.completions to row.tablet) (v.gathers to row.tablet) (v.merged to row.tablet) written entry
 
   merged_stays : (own : List Entry) (entry : ℕ) → touches handover.range new ≡ false → IsMergedWith own w handover entry → IsMergedWith own more handover entry
-  merged_stays own entry outside merged = record {
-    gathered_all = merged.gathered_all;
-    merged = merged.merged;
-    merged_is = merged.merged_is;
-    ends_are = merged.ends_are;
-    piece = piece_stays merged.merged entry outside merged.piece;
-    counter = merged.counter;
-    completions = merged.completions;
-  }
+  merged_stays own entry outside merged = grind (arith, piece_stays)
 
   -- the table of a master that rebuilds has what is applied, as before
   records_stay : IsRebuildTable row.range (truths v row) (applied_from row.range from w) (v.records to) → IsRebuildTable row.range (truths v row) (applied_from row.range from more) (v.records to)

@@ -1,10 +1,10 @@
 -- The part Rebuilds where the entry of a call is appended.
-use Rattle.std.proofs.Common.{◌≡◌, ℕ, Bool, true, cond, inl, List, sym, ◌∙◌, subst, ◌==◌, Contains, ne_eqb}
-use Rattle.rk_inv_base.proofs.Words.{cond-false, cond-true, All-contains, Ended, Held, Member, Segments, Entry, Completions, Handover, Role}
-use Rattle.rk_inv_base.proofs.Words.{Phase, Rebuilding, Row, Log, known_of, EntryEnd, Gather, is_member, own_place, Written}
-use Rattle.rk_inv_base.proofs.Words.{member_material, Mark, stored_of, Bystander, FormerMember, Holds, Post, bond_of, post_of}
-use Rattle.rk_inv_base.proofs.Words.{rebuilder_post, IsRebuilder, MarkFits, NeededOf, READ_BACKUP, StandsLast, has_merged, RoleFits, View}
-use Rattle.rk_inv_base.proofs.Words.{RolesOf, lineage_of}
+use Rattle.rk_inv_base.proofs.Words.{arith}
+use Rattle.rk_inv_base.proofs.Words.{◌≡◌, ℕ, Bool, true, List, Contains, ne_eqb, cond-false, cond-true}
+use Rattle.rk_inv_base.proofs.Words.{All-contains, Ended, Held, Member, Segments, Entry, Completions, Handover, Role, Rebuilding}
+use Rattle.rk_inv_base.proofs.Words.{Row, Log, known_of, EntryEnd, Gather, is_member, own_place, Written, member_material, Mark, stored_of}
+use Rattle.rk_inv_base.proofs.Words.{FormerMember, Holds, bond_of, post_of, rebuilder_post, IsRebuilder, MarkFits}
+use Rattle.rk_inv_base.proofs.Words.{NeededOf, READ_BACKUP, StandsLast, has_merged, RoleFits, View, RolesOf, lineage_of}
 use Rattle.rk_tablet_map.specs.Phase.{member as member_at}
 use Rattle.rk_inv_base.proofs.views.ByRows.{CountsFor}
 
@@ -21,10 +21,7 @@ IsRebuilderIn logs written stored row lineage master truth handover completions 
 
 -- a mark fits a tablet of the same term that has merged as much, where its piece still stands last
 pub mark_same : (row : Row) (master : ℕ) (old new : Handover) (live : Bool) (was is : Written) (mark : Mark) → new.term ≡ old.term → has_merged new.role ≡ has_merged old.role → StandsLast row.range is mark → MarkFits row master old live was mark → MarkFits row master new live is mark
-mark_same row master old new live was is mark term merged behind fit =
-    let by_rebuilder : mark.term ≡ row.term → (row.phase ≡ Rebuilding (lineage_of row.phase) master) × (new.term ≡ row.term) × (has_merged new.role ≡ true) = λ its.
-    let by = fit.by_rebuilder its in (by.0, term ∙ by.1, merged ∙ by.2) in
-    assumption
+mark_same row master old new live was is mark term merged behind fit = grind (arith, lineage_of, has_merged)
 
 -- a former member has no tablet that counts
 pub former_never : (role : Role) (term own applied : ℕ) → Holds (bond_of FormerMember role) term own applied → ⊥
@@ -33,13 +30,7 @@ former_never role term own applied holds = holds
 -- so a living master is no member of a row that another one rebuilds
 pub former_alone : (v : View) (row : Row) → ((q : ℕ) → CountsFor v row q → RoleFits row q (v.handovers q row.tablet) (v.written q).applied) → (lineage : List Member) (to q : ℕ) → row.phase ≡ Rebuilding lineage to → v.live q ≡ true → (q ≡ to → ⊥) → is_member lineage q ≡ true → ⊥
 former_alone v row fitting lineage to q is lives away member =
-    let h : Handover = v.handovers q row.tablet in
-    let post : post_of (Rebuilding lineage to) q ≡ FormerMember =
-    cond-false (to == q) (rebuilder_post lineage q) (cond (is_member lineage q) FormerMember Bystander) (ne_eqb to q (λ same. away (sym same)))
-    ∙ cond-true (is_member lineage q) FormerMember Bystander member in
-    former_never h.role row.term h.term (v.written q).applied
-    (subst (λ (post : Post). Holds (bond_of post h.role) row.term h.term (v.written q).applied) post
-    (subst (λ (phase : Phase). Holds (bond_of (post_of phase q) h.role) row.term h.term (v.written q).applied) is (fitting q (inl lives))))
+    grind (arith, post_of, cond-false, rebuilder_post, is_member, ne_eqb, cond-true, former_never, bond_of)
 
 pub former_gone : (v : View) → RolesOf v → (row : Row) → Contains v.rows row → (lineage : List Member) (to q : ℕ) → row.phase ≡ Rebuilding lineage to → v.live q ≡ true → (q ≡ to → ⊥) → is_member lineage q ≡ true → ⊥
 former_gone v roles row has =

@@ -1,5 +1,5 @@
 -- Targets of rows, and masters that made ready, by what they have written.
-use Rattle.std.proofs.Common.{◌≡◌, ℕ, ◌≤◌, ◌<◌, true, false, List, [], ◌∷◌, ◌++◌, refl, arith, IfSome, Option, Contains, flat_map}
+use Rattle.rk_inv_base.proofs.Words.{◌≡◌, ℕ, ◌≤◌, ◌<◌, true, false, List, [], ◌∷◌, ◌++◌, refl, arith, IfSome, Option, Contains, flat_map}
 use Rattle.rk_inv_base.proofs.Words.{All-weaker, All-contains_itself, Held, Member, Range, Entry, is_serving, Handover, Role, Row, Base}
 use Rattle.rk_inv_base.proofs.Words.{Handed, items_of, floor_of, is_absent, Pulling, Written, lineage_truth, member_material, member_truth}
 use Rattle.rk_inv_base.proofs.Words.{IsBare, IsTarget, wanted_place}

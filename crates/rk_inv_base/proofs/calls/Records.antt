@@ -1,20 +1,17 @@
 -- Records once one more item was put, which stays where nothing newer of its key is there; and what stands in a scan of entries.
-use Rattle.std.proofs.Common.{◌≡◌, ℕ, ltb, Bool, true, false, cond, List, [], ◌∷◌, Some, refl, sym, ap, ◌∙◌, subst, ◌⊎◌, inl, inr, ⊎_elim}
-use Rattle.std.proofs.Common.{arith, filter, fold, is_some, All, Contains, flat_map, is_lt, ltb-true}
-use Rattle.std.specs.List.Sorted.{IsStrictlySortedBy}
-use Rattle.std.specs.Ordering.{ordering_reverse}
+use Rattle.rk_inv_base.proofs.Words.{◌≡◌, ℕ, ltb, Bool, true, false, cond, List, [], ◌∷◌, Some, refl, sym, ap, ◌∙◌, subst, ◌⊎◌, inl, inr}
+use Rattle.rk_inv_base.proofs.Words.{⊎_elim, arith, filter, fold, is_some, All, Contains, flat_map, is_lt, ltb-true, ordering_reverse}
 use Rattle.rk_inv_base.proofs.Words.{cases_Bool, cond-true, cond-false, false≢true, All-append, All-contains, All-contains_itself, All-cons}
 use Rattle.rk_inv_base.proofs.Words.{All-filter, All-from_recursion, All-nil, Contains-append_cases, Contains-append_left}
 use Rattle.rk_inv_base.proofs.Words.{Contains-append_right, Ordering, Less, Equal, Greater, hash_of, has, Held, Range, Entry, same_older}
 use Rattle.rk_inv_base.proofs.Words.{filter_kept, filter_left_out, found, is_in, is_newer, with_item, with_newer, is_before, IsInScanOrder}
 use Rattle.rk_inv_base.proofs.Words.{newest_is, none_stands, first_stands, behind_stands, stands_cases, is_of_parts, is_of_from}
 use Rattle.rk_inv_base.proofs.Words.{newest_items_are, newest_items, items_in, items_of, counts, counting, material_of, named, IsFound}
-use Rattle.rk_inv_base.proofs.Words.{scan_items, All-head, All-tail, filter_passes}
+use Rattle.rk_inv_base.proofs.Words.{scan_items, All-head, All-tail, filter_passes, item_cmp, item_place, at_from_tie, not_at_before}
+use Rattle.rk_inv_base.proofs.Words.{place_total}
+use Rattle.std.specs.List.Sorted.{IsStrictlySortedBy}
 use Rattle.rk_entry.specs.declared.entry.Entry.TheVariants as entries
 use Rattle.rk_table.specs.Items.{is_at}
-use Rattle.rk_table.specs.Order.{item_cmp, item_place}
-use Rattle.rk_table.proofs.Found.{at_from_tie, not_at_before}
-use Rattle.rk_table.proofs.InOrder.{place_total}
 
 -- ---- lists
 
@@ -24,13 +21,11 @@ filter_stands p [] x stands passes = absurd (none_stands x stands)
 filter_stands p (y ∷ xs) x stands passes =
     ⊎_elim
     (λ (is : y ≡ x).
-    subst (λ list. Contains list x) (sym (filter_kept p y xs (ap p is ∙ passes)))
-    (subst (Contains (y ∷ filter p xs)) is (first_stands y (filter p xs))))
+    rw (filter_kept p y xs (ap p is ∙ passes)) (subst (Contains (y ∷ filter p xs)) is (first_stands y (filter p xs))))
     (λ (behind : Contains xs x).
     ⊎_elim
     (λ (kept : p y ≡ true).
-    subst (λ list. Contains list x) (sym (filter_kept p y xs kept))
-    (behind_stands y (filter p xs) x (filter_stands p xs x behind passes)))
+    rw (filter_kept p y xs kept) (behind_stands y (filter p xs) x (filter_stands p xs x behind passes)))
     (λ (out : p y ≡ false).
     subst (λ list. Contains list x) (sym (filter_left_out p y xs out)) (filter_stands p xs x behind passes))
     (cases_Bool (p y)))
@@ -109,8 +104,7 @@ put_stands item items =
 
 pub newer_stands : (item : Held) (items : List Held) → is_newer item (found item.table item.key items) ≡ true → Contains (with_newer item items) item
 newer_stands item items newer =
-    subst (λ (list : List Held). Contains list item)
-    (sym (cond-true (is_newer item (found item.table item.key items)) (with_item item items) items newer)) (put_stands item items)
+    rw (cond-true (is_newer item (found item.table item.key items)) (with_item item items) items newer) (put_stands item items)
 
 -- what was found is found still
 pub found_still : (item : Held) (items : List Held) (x : Held) → IsInScanOrder items → IsFound items x → IsFound (with_newer item items) x

@@ -1,17 +1,10 @@
 -- A view stays sound when a refusal is staged that its master may serve and that goes on lawfully.
-use Rattle.std.proofs.Common.{◌≡◌, ℕ, Bool, refl, sym, subst, ◌∙◌, ◌++◌}
-use Rattle.rk_inv_base.proofs.Words.{All-nil, Call, Held, Row, refusal_of, World, master_at, tablet_in, MayAppend, refused_as, IsNext, View}
-use Rattle.rk_inv_base.proofs.Words.{view, truths, rests, IsSound, SoundView}
-use Rattle.rk_world.specs.Requests.{refusal_staged}
-use Rattle.rk_sound.specs.Changes.{MayRefuse}
-use Rattle.rk_sound.specs.Small.{refused, refusal_staged_in}
-use Rattle.rk_inv_base.proofs.views.Put.{put_same, put2_same}
-use Rattle.rk_inv_base.proofs.views.Views.{view_master}
-use Rattle.rk_inv_base.proofs.logs.Floors.{next_stays}
+use Rattle.rk_inv_base.proofs.Words.{◌≡◌, ℕ, Bool, refl, sym, subst, ◌∙◌, ◌++◌, All-nil, Call, Held, Row, refusal_of, World, master_at}
+use Rattle.rk_inv_base.proofs.Words.{tablet_in, MayAppend, refused_as, IsNext, View, view, truths, rests, IsSound, SoundView}
+use Rattle.rk_inv_base.proofs.Words.{refusal_staged, MayRefuse, refused, refusal_staged_in}
+use Rattle.rk_inv_base.proofs.Base.{put_same, put2_same, view_master, next_stays, counter_low, row_in}
 use Rattle.rk_inv_base.proofs.calls.Histories.{last_asked, refusal_goes_on}
-use Rattle.rk_inv_base.proofs.calls.Counters.{counter_low}
 use Rattle.rk_inv_base.proofs.calls.CallAppended.{view_appended}
-use Rattle.rk_inv_base.proofs.views.ByRows.{row_in}
 
 module _ (v : View) (master : ℕ) (call : Call) (found : ℕ) (absent : Bool) (sound : SoundView v) (may : MayRefuse v master call (refused_as found absent)) where
   abbrev row : Row

@@ -1,6 +1,5 @@
 -- Which ranges the entry of a call touches.
-use Rattle.std.proofs.Common.{◌≡◌, true, ◌∙◌}
-use Rattle.rk_inv_base.proofs.Words.{Call, Range, Entry, touches, has_key, IsEntryOf}
+use Rattle.rk_inv_base.proofs.Words.{◌≡◌, true, ◌∙◌, Call, Range, Entry, touches, has_key, IsEntryOf}
 use Rattle.rk_inv_base.proofs.logs.Shares.{counts_call, touches_call}
 
 -- an entry of a call is of each range that has the call's key

@@ -1,10 +1,10 @@
 -- Journals whose records are the same but for whether they are accepted, where accepted ones stay so: they leave the same map, are as
 -- lawful, and tell the same ends.
-use Rattle.std.proofs.Common.{◌≡◌, ℕ, zero, suc, ◌<◌, true, ◌||◌, ◌&&◌, eqb, List, [], ◌∷◌, ◌++◌, Some, refl, sym, ap, ◌∙◌, subst, ⊎_elim}
-use Rattle.std.proofs.Common.{inl, inr, ◌⊎◌, slice_get, slice_set, All}
-use Rattle.rk_inv_base.proofs.Words.{All-head, All-tail, All-cons, ⊤, Call, Ended, Outcome, Placed, IsLegal, Map, map_after, map_with}
-use Rattle.rk_inv_base.proofs.Words.{Allowed, IsRisingAbove, is_mutation, outcome_of, as_accepted, has_record, IsReached, Reaches}
-use Rattle.rk_sound.specs.Calls.{IsRecordOf}
+use Rattle.rk_inv_base.proofs.Words.{arith}
+use Rattle.rk_inv_base.proofs.Words.{◌≡◌, ℕ, zero, suc, ◌<◌, true, ◌||◌, ◌&&◌, eqb, List, [], ◌∷◌, ◌++◌, Some, refl, sym, ap, ◌∙◌, subst}
+use Rattle.rk_inv_base.proofs.Words.{⊎_elim, inl, inr, ◌⊎◌, slice_get, slice_set, All, All-head, All-tail, All-cons, ⊤, Call, Ended}
+use Rattle.rk_inv_base.proofs.Words.{Placed, IsLegal, Map, map_after, map_with, Allowed, IsRisingAbove, is_mutation, outcome_of}
+use Rattle.rk_inv_base.proofs.Words.{as_accepted, has_record, IsReached, Reaches, IsRecordOf}
 
 -- a record is another one but for whether it is accepted, and is accepted where that is
 pub record IsSameRecord (old new : Placed) : Type 0 where
@@ -74,8 +74,7 @@ map_after_same start _ _ same = absurd same
 pub legal_same : (start : Map) (olds news : List Placed) → AreSameRecords olds news → IsLegal start olds → IsLegal start news
 legal_same start [] [] same legal = tt
 legal_same start (old ∷ olds) (new ∷ news) same legal = (
-  subst (λ (o : Outcome). Allowed (start new.call.table new.call.key) new.call.op o) (sym same.0.outcome)
-      (subst (λ (c : Call). Allowed (start c.table c.key) c.op old.outcome) (sym same.0.call) legal.0),
+  rw same.0.outcome (subst (λ (c : Call). Allowed (start c.table c.key) c.op old.outcome) (sym same.0.call) legal.0),
   legal_same (map_with start new) olds news same.1
       (subst (λ (m : Map). IsLegal m olds) (sym (map_with_same start old new same.0)) legal.1),
 )
@@ -125,12 +124,7 @@ record_after _ _ i old same stands = absurd same
 
 -- an end reaches the same record
 pub reaches_same : (end : Ended) (old new : Placed) → IsSameRecord old new → Reaches end old → Reaches end new
-reaches_same end old new same reaches = record {
-  client = reaches.client ∙ ap (λ (c : Call). c.client) (sym same.call);
-  reached =
-      subst (λ (o : Outcome). (new.call.seq < end.seq) ⊎ ((new.call.seq ≡ end.seq) × (outcome_of end.end ≡ o))) (sym same.outcome)
-      (subst (λ (c : Call). (c.seq < end.seq) ⊎ ((c.seq ≡ end.seq) × (outcome_of end.end ≡ old.outcome))) (sym same.call) reaches.reached);
-}
+reaches_same end old new same reaches = grind (arith, outcome_of)
 
 pub reached_same : (ends : List Ended) (old new : Placed) → IsSameRecord old new → IsReached ends old → IsReached ends new
 reached_same ends old new same reached =
@@ -138,9 +132,4 @@ reached_same ends old new same reached =
 
 -- it is the end of the same record
 pub record_of_same : (end : Ended) (old new : Placed) → IsSameRecord old new → IsRecordOf end old → IsRecordOf end new
-record_of_same end old new same fits = record {
-  mutation = ap (λ (c : Call). is_mutation c.op) same.call ∙ fits.mutation;
-  client = ap (λ (c : Call). c.client) same.call ∙ fits.client;
-  seq = ap (λ (c : Call). c.seq) same.call ∙ fits.seq;
-  outcome = same.outcome ∙ fits.outcome;
-}
+record_of_same end old new same fits = grind (arith, is_mutation)

@@ -1,8 +1,5 @@
 -- A view stays sound when a request is saved that its client may send again.
-use Rattle.std.proofs.Common.{ℕ}
-use Rattle.rk_inv_base.proofs.Words.{each_insert, insert, Message, World, IsRequest, View, view, IsSound}
-use Rattle.rk_sound.specs.Changes.{MaySave}
-use Rattle.rk_sound.specs.Small.{request_saved}
+use Rattle.rk_inv_base.proofs.Words.{ℕ, each_insert, insert, Message, World, IsRequest, View, view, IsSound, MaySave, request_saved}
 use Rattle.rk_inv_base.proofs.wire.Wire.{each_may_be_sent, view_with_messages}
 
 pub sound_saved : (w : World) (client : ℕ) (message : Message) → IsSound w → MaySave (view w) client message → IsSound (request_saved w client message)

@@ -1,11 +1,11 @@
 -- What a target has that pulls, once its log has one more entry at its end.
-use Rattle.std.proofs.Common.{◌≡◌, ℕ, ◌≤◌, ◌<◌, true, false, List, [], ◌∷◌, ◌++◌, length, Option, Some, None, sym, ap, ◌∙◌, subst, ⊎_elim}
-use Rattle.std.proofs.Common.{arith, drop, take, All, Contains, append-nil, length-append}
-use Rattle.rk_inv_base.proofs.Words.{cases_Bool, cond-true, cond-false, take-append-le, drop-append-le, flat_map-append, All-append}
-use Rattle.rk_inv_base.proofs.Words.{filter-append, IfSome_then, list_any, Held, Range, slice_get_front, Entry, Handover, Handed, items_in}
-use Rattle.rk_inv_base.proofs.Words.{items_of, touches, counts, counting, is_joined_in, Pulling, Written, IsTarget, IsReceived, IsBare}
-use Rattle.rk_inv_base.proofs.Words.{HasArrived, HasClosing, beginning_of, before_closing, closing_joined, copied_items, entries_from}
-use Rattle.rk_inv_base.proofs.Words.{scan_items, joined_place, with_counter, with_one_more}
+use Rattle.rk_inv_base.proofs.Words.{◌≡◌, ℕ, ◌≤◌, ◌<◌, true, false, List, [], ◌∷◌, ◌++◌, length, Option, Some, None, sym, ap, ◌∙◌, subst}
+use Rattle.rk_inv_base.proofs.Words.{⊎_elim, arith, drop, take, All, Contains, append-nil, length-append, cases_Bool, cond-true, cond-false}
+use Rattle.rk_inv_base.proofs.Words.{take-append-le, drop-append-le, flat_map-append, All-append, filter-append, IfSome_then, list_any}
+use Rattle.rk_inv_base.proofs.Words.{Held, Range, slice_get_front, Entry, Handover, Handed, items_in, items_of, touches, counts, counting}
+use Rattle.rk_inv_base.proofs.Words.{is_joined_in, Pulling, Written, IsTarget, IsReceived, IsBare, HasArrived, HasClosing, beginning_of}
+use Rattle.rk_inv_base.proofs.Words.{before_closing, closing_joined, copied_items, entries_from, scan_items, joined_place, with_counter}
+use Rattle.rk_inv_base.proofs.Words.{with_one_more}
 use Rattle.rk_inv_base.proofs.logs.Shares.{joined_same}
 use Rattle.rk_inv_base.proofs.views.Places.{behind_none}
 use Rattle.rk_inv_base.proofs.logs.Grows.{Extends, drop_extends, still_contains, take_extends}
@@ -16,20 +16,14 @@ AreBelow others item = All (λ other. other.version < item.version) others
 
 -- the closing entries of a log with one more entry, which is none
 pub closing_push : (place : Option ℕ) (closing : Entry) (range : Range) (from : ℕ) (list : List Entry) (entry : Entry) → is_joined_in range entry ≡ false → HasClosing place closing range from list → HasClosing place closing range from (list ++ entry ∷ [])
-closing_push None closing range from list entry other has = joined_same range from list entry other ∙ has
-closing_push (Some place) closing range from list entry other has = record {
-  stands = slice_get_front list (entry ∷ []) place closing has.stands;
-  alone = joined_same range from list entry other ∙ has.alone;
-  behind = has.behind;
-}
+closing_push place closing range from list entry other has = grind (arith, joined_same, slice_get_front)
 
 -- what the source told stands before the closing entry, also with more at the end
 pub told_push : (place : Option ℕ) (from : ℕ) (list behind : List Entry) (entry : Entry) → Contains (drop from (before_closing place list)) entry → Contains (drop from (before_closing place (list ++ behind))) entry
 told_push None from list behind entry told = still_contains _ _ entry (drop_extends from list behind) told
 told_push (Some place) from list behind entry told =
     let first : Extends (take place list) (take place (list ++ behind)) = take_extends place place list behind (omega arith) in
-    subst (λ (all : List Entry). Contains (drop from all) entry) (sym first.parts)
-    (still_contains _ _ entry (drop_extends from (take place list) first.more) told)
+    rw first.parts (still_contains _ _ entry (drop_extends from (take place list) first.more) told)
 
 -- what holds of a target's own items holds with those of one more entry, if it is of the range
 module _ (range : Range) (from : ℕ) (list : List Entry) (entry : Entry) (within : from ≤ length list) where
@@ -38,12 +32,9 @@ module _ (range : Range) (from : ℕ) (list : List Entry) (entry : Entry) (withi
       let own : List Entry = entries_from range from list in
       let parts : entries_from range from (list ++ entry ∷ []) ≡ own ++ counting range (entry ∷ []) =
       ap (counting range) (drop-append-le from list (entry ∷ []) within) ∙ filter-append (counts range) (drop from list) (entry ∷ []) in
-      subst (λ (all : List Entry). All P (items_of all)) (sym parts)
-      (⊎_elim
+      rw parts (⊎_elim
       (λ (inside : counts range entry ≡ true).
-      subst (λ (more : List Entry). All P (items_of (own ++ more))) (sym (cond-true (counts range entry) (entry ∷ []) [] inside))
-      (subst (λ (items : List Held). All P items)
-      (sym (flat_map-append items_in own (entry ∷ []) ∙ ap (λ (l : List Held). items_of own ++ l) (append-nil (items_in entry))))
+      rw (cond-true (counts range entry) (entry ∷ []) [] inside) (rw (flat_map-append items_in own (entry ∷ []) ∙ ap (λ (l : List Held). items_of own ++ l) (append-nil (items_in entry)))
       (All-append P (items_of own) (items_in entry) old (new inside))))
       (λ (outside : counts range entry ≡ false).
       subst (λ (more : List Entry). All P (items_of (own ++ more))) (sym (cond-false (counts range entry) (entry ∷ []) [] outside))
@@ -75,8 +66,4 @@ module _ (range : Range) (source : ℕ) (truth material : List Entry) (from : �
 
 -- a master that made ready for a tablet, and wrote an entry of another range, has nothing of the tablet
 pub bare_pushed : (range : Range) (from : ℕ) (w : Written) (table : List Held) (entry : Entry) → touches range entry ≡ false → IsBare range from w table → IsBare range from (with_one_more w entry) table
-bare_pushed range from w table entry outside bare = record {
-  placed = omega (arith, bare.placed, length-append w.entries (entry ∷ []));
-  nothing = behind_none (touches range) w.entries from entry bare.nothing outside;
-  empty = bare.empty;
-}
+bare_pushed range from w table entry outside bare = grind (arith, length-append, behind_none, touches)

@@ -1,19 +1,12 @@
 -- A view stays sound when a write is staged that its master may serve and that goes on lawfully.
-use Rattle.std.proofs.Common.{◌≡◌, ℕ, ◌+◌, List, [], Option, refl, sym, subst, ◌∙◌, ◌++◌}
-use Rattle.rk_inv_base.proofs.Words.{All-cons, All-nil, Call, Held, Row, counted_up, item_of, with_staged, World, master_at, tablet_in}
-use Rattle.rk_inv_base.proofs.Words.{MayAppend, IsNext, View, view, truths, rests, IsSound, SoundView}
+use Rattle.rk_inv_base.proofs.Words.{◌≡◌, ℕ, ◌+◌, List, [], Option, refl, sym, subst, ◌∙◌, ◌++◌, All-cons, All-nil, Call, Held, Row}
+use Rattle.rk_inv_base.proofs.Words.{counted_up, item_of, with_staged, World, master_at, tablet_in, MayAppend, IsNext, View, view, truths}
+use Rattle.rk_inv_base.proofs.Words.{rests, IsSound, SoundView, write_staged, MayStage, write_staged_in}
 use Rattle.rk_entry.specs.declared.entry.Entry.TheVariants as entries
-use Rattle.rk_world.specs.Requests.{write_staged}
-use Rattle.rk_sound.specs.Changes.{MayStage}
-use Rattle.rk_sound.specs.Small.{staged, write_staged_in}
-use Rattle.rk_inv_base.proofs.views.Put.{put_same, put2_same}
-use Rattle.rk_inv_base.proofs.views.Masters.{tablet_here, tablet_apart}
-use Rattle.rk_inv_base.proofs.views.Views.{view_master}
-use Rattle.rk_inv_base.proofs.logs.Floors.{next_push}
+use Rattle.rk_sound.specs.Small.{staged}
+use Rattle.rk_inv_base.proofs.Base.{put_same, put2_same, tablet_here, tablet_apart, view_master, next_push, counter_low, row_in}
 use Rattle.rk_inv_base.proofs.calls.Histories.{last_asked, write_goes_on}
-use Rattle.rk_inv_base.proofs.calls.Counters.{counter_low}
 use Rattle.rk_inv_base.proofs.calls.CallAppended.{view_appended}
-use Rattle.rk_inv_base.proofs.views.ByRows.{row_in}
 
 module _ (v : View) (master : ℕ) (call : Call) (value : Option (List ℕ)) (sound : SoundView v) (may : MayStage v master call value) where
   abbrev row : Row

@@ -1,19 +1,17 @@
 -- A small world: a lane after one put that is applied and answered, with one master, one backup and one client.
-use Rattle.std.proofs.Common.{ℕ, false, List, [], ◌∷◌, length, Some}
-use Rattle.rk_inv_base.proofs.Words.{NumberMap, Call, Ended, Held, Placed, Range, Segments, spelled, Entry, Owned, Row, Known, nothing, Log}
-use Rattle.rk_inv_base.proofs.Words.{Reply, Request, Message, Append, Stored, no_segments, no_base, Ledger, Master, Tablet, no_tablet}
-use Rattle.rk_inv_base.proofs.Words.{World, written_in, rest_of, LastCall, View, view}
+use Rattle.rk_inv_base.proofs.Words.{ℕ, false, List, [], ◌∷◌, length, Some, NumberMap, Call, Ended, Held, Placed, Range, Segments, spelled}
+use Rattle.rk_inv_base.proofs.Words.{Entry, Owned, Row, Known, nothing, Log, Reply, Request, Message, Append, Stored, no_segments, no_base}
+use Rattle.rk_inv_base.proofs.Words.{Ledger, Master, Tablet, no_tablet, World, written_in, rest_of, LastCall, View, view, with_stored}
+use Rattle.rk_inv_base.proofs.Words.{truth_of}
 use Rattle.rk_types.specs.declared.call.Answer.TheVariants as answers
 use Rattle.rk_types.specs.declared.call.End.TheVariants as ends
 use Rattle.rk_types.specs.declared.call.Op.TheVariants as ops
 use Rattle.rk_types.specs.declared.call.Outcome.TheVariants as outcomes
 use Rattle.rk_types.specs.declared.node.Node.TheVariants as nodes
 use Rattle.rk_entry.specs.declared.entry.Entry.TheVariants as entries
-use Rattle.rk_log.specs.Known.{told}
 use Rattle.rk_transfer.specs.declared.role.Role.TheVariants as roles
 use Rattle.rk_message.specs.declared.message.Body.TheVariants as bodies
-use Rattle.rk_world.specs.Backup.{with_stored}
-use Rattle.rk_world.specs.Written.{truth_of}
+use Rattle.rk_log.specs.Known.{told}
 
 -- all hashes of table 1
 abbrev pub small_range : Range

@@ -1,14 +1,13 @@
 -- The small world keeps the part Logs: the backup stores all bytes of the log, and is known to. The bytes stay opaque.
-use Rattle.std.proofs.Common.{◌≡◌, ◌≢◌, ℕ, ◌≤◌, max, Bool, true, cond, List, [], ◌++◌, length, Some, None, refl, sym, ap, subst, ◌∙◌}
-use Rattle.std.proofs.Common.{⊎_elim, arith, append-nil, All, ne_eqb, le-leb}
-use Rattle.rk_inv_base.proofs.Words.{cases_eq, cond-true, and_from, All-nil, option_map_or, NumberedBytes, told_other, known_length}
-use Rattle.rk_inv_base.proofs.Words.{nothing, bytes_of, committed, known_of, is_side_stored, new_master, backup_at, log_in, written_in}
-use Rattle.rk_inv_base.proofs.Words.{written_by, Logs, IsLog, IsCopy, IsFirstPart, IsKnownBefore, IsFromLog, LogSays, segments_in}
-use Rattle.rk_inv_base.proofs.Words.{stored_of}
+use Rattle.rk_inv_base.proofs.Words.{◌≡◌, ◌≢◌, ℕ, ◌≤◌, max, Bool, true, cond, List, [], ◌++◌, length, Some, None, refl, sym, ap, subst, ◌∙◌}
+use Rattle.rk_inv_base.proofs.Words.{⊎_elim, arith, append-nil, All, ne_eqb, le-leb, cases_eq, cond-true, and_from, All-nil, option_map_or}
+use Rattle.rk_inv_base.proofs.Words.{NumberedBytes, told_other, known_length, nothing, bytes_of, committed, known_of, is_side_stored}
+use Rattle.rk_inv_base.proofs.Words.{new_master, backup_at, log_in, written_in, written_by, Logs, IsLog, IsCopy, IsFirstPart, IsKnownBefore}
+use Rattle.rk_inv_base.proofs.Words.{IsFromLog, LogSays, segments_in, stored_of, new_log}
 use Rattle.rk_outside.specs.Segments.{bytes_of as stored_bytes}
 use Rattle.rk_log.proofs.KnownLaws.{told_length}
-use Rattle.rk_log.specs.Log.{new_log}
-use Rattle.rk_inv_base.proofs.example.SmallWorld.{small_world, small_bytes, small_entry, small_known, small_log, small_master, small_piece, small_stored, small_wire}
+use Rattle.rk_inv_base.proofs.example.SmallWorld.{small_world, small_bytes, small_entry, small_known, small_log, small_master, small_piece}
+use Rattle.rk_inv_base.proofs.example.SmallWorld.{small_stored, small_wire}
 use Rattle.rk_inv_base.proofs.example.SmallWorldLooks.{each_master, each_message, all_one}
 
 -- the backup is known to hold as many bytes as the log has
@@ -48,8 +47,7 @@ known_before later is segment before same =
 pub copy_front : (segment : ℕ) → IsFirstPart (stored_bytes (small_stored 1 segment)) (bytes_of small_log segment)
 copy_front segment =
     ⊎_elim
-    (λ (is : segment ≡ 1). subst (λ (n : ℕ). IsFirstPart (stored_bytes (small_stored 1 n)) (bytes_of small_log n)) (sym is)
-    (record { more = []; parts = sym (append-nil small_bytes) }))
+    (λ (is : segment ≡ 1). rw is (record { more = []; parts = sym (append-nil small_bytes) }))
     (λ (apart : segment ≡ 1 → ⊥). record {
       more = bytes_of small_log segment;
       parts = ap (λ (xs : List ℕ). xs ++ bytes_of small_log segment) (sym (stored_elsewhere segment apart));

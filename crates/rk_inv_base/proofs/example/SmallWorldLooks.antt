@@ -1,9 +1,8 @@
 -- What is found in the small world: its one master, tablet, backup and client, and its four messages.
-use Rattle.std.proofs.Common.{◌≡◌, ℕ, zero, suc, Bool, false, cond, eqb, [], ◌∷◌, Option, Some, None, refl, sym, ap, subst, ◌∙◌, ⊎_elim}
-use Rattle.std.proofs.Common.{arith, All, Contains, slice_get, unwrap_or, eq-eqb, ne_eqb}
-use Rattle.rk_inv_base.proofs.Words.{cases_eq, cond-true, cond-false, All-nil, All-cons, All-contains, unsigned_tied, each_insert, EachIn}
-use Rattle.rk_inv_base.proofs.Words.{get, Message, asked_by, Master, new_master, tablet_at, Tablet, no_tablet, master_at, tablet_in}
-use Rattle.rk_inv_base.proofs.Words.{LastCall, Owner, Bystander, post_of}
+use Rattle.rk_inv_base.proofs.Words.{◌≡◌, ℕ, zero, suc, Bool, false, cond, eqb, [], ◌∷◌, Option, Some, None, refl, sym, ap, subst, ◌∙◌}
+use Rattle.rk_inv_base.proofs.Words.{⊎_elim, arith, All, Contains, slice_get, unwrap_or, eq-eqb, ne_eqb, cases_eq, cond-true, cond-false}
+use Rattle.rk_inv_base.proofs.Words.{All-nil, All-cons, All-contains, unsigned_tied, each_insert, EachIn, get, Message, asked_by, Master}
+use Rattle.rk_inv_base.proofs.Words.{new_master, tablet_at, Tablet, no_tablet, master_at, tablet_in, LastCall, Owner, Bystander, post_of}
 use Rattle.rk_inv_base.proofs.example.SmallWorld.{small_world, small_master, small_tablet, small_last, small_wire, small_request}
 use Rattle.rk_inv_base.proofs.example.SmallWorld.{small_append, small_told, small_reply, small_ledger, small_row}
 

@@ -1,27 +1,25 @@
 -- The parts of the small world: what is said of its row, and beside it.
-use Rattle.std.proofs.Common.{◌≡◌, ◌≤◌, ◌<◌, Bool, true, false, cond, eqb, ◌&&◌, List, [], ◌∷◌, ◌++◌, Some, None, refl, sym, subst, ◌∙◌}
-use Rattle.std.proofs.Common.{arith, bytes_eq, ℕ, ◌||◌, ap, All, IfSome, is_some, flat_map, eqb-true, inl, inr, Contains}
+use Rattle.rk_inv_base.proofs.Words.{◌≡◌, ◌≤◌, ◌<◌, Bool, true, false, cond, eqb, ◌&&◌, List, [], ◌∷◌, ◌++◌, Some, None, refl, sym, subst}
+use Rattle.rk_inv_base.proofs.Words.{◌∙◌, arith, bytes_eq, ℕ, ◌||◌, ap, All, IfSome, is_some, flat_map, eqb-true, inl, inr, Contains}
 use Rattle.rk_inv_base.proofs.Words.{name-swap, IsLegal, live_after, map_after, never, last_version, Entry, IsPlain, no_base, of_key}
 use Rattle.rk_inv_base.proofs.Words.{floor_of, AgreeIn, IsNext, AreAboveMap, IsTruth, All-nil, lineage_of, row_of, is_covered, Body}
 use Rattle.rk_inv_base.proofs.Words.{is_member, names, IsMaster, is_absent, no_tablet, tablet_in, IsWithinRows, IsItemWithin, IsEntryWithin}
-use Rattle.rk_inv_base.proofs.Words.{IsOfWholeRows, Post, Holds, bond_of, RoleFits, HandoverFits, SentFits, IsWithinTerm, IsBelowOthers}
-use Rattle.rk_inv_base.proofs.Words.{tenure_in, range_in, CoverOf, Held, is_mutation, IsInScanOrder, member, newest, is_of, told, asked_by}
-use Rattle.rk_inv_base.proofs.Words.{written_in, member_truth, IsKnown, IsReached, ReachAll, TellAll, is_record_in, post_of, IsRest}
-use Rattle.rk_inv_base.proofs.Words.{HasItems, IsTableOf, has_all_items, lane_of_key, IsAfterStart, IsLastCall, IsRequest, RequestFits}
-use Rattle.rk_inv_base.proofs.Words.{RequestSays, WasAsked, IsRecordAt}
+use Rattle.rk_inv_base.proofs.Words.{IsOfWholeRows, Post, RoleFits, HandoverFits, SentFits, IsWithinTerm, IsBelowOthers, tenure_in}
+use Rattle.rk_inv_base.proofs.Words.{range_in, CoverOf, Held, is_mutation, IsInScanOrder, member, newest, is_of, told, asked_by, written_in}
+use Rattle.rk_inv_base.proofs.Words.{member_truth, IsKnown, IsReached, ReachAll, TellAll, is_record_in, post_of, IsRest, HasItems}
+use Rattle.rk_inv_base.proofs.Words.{IsTableOf, has_all_items, lane_of_key, IsAfterStart, IsLastCall, IsRequest, RequestFits, RequestSays}
+use Rattle.rk_inv_base.proofs.Words.{WasAsked, IsRecordAt, Asked, empty_map}
 use Rattle.rk_types.specs.Hashing.{hash_of}
+use Rattle.std.specs.List.Sorted.{IsStrictlySortedBy}
+use Rattle.rk_types.specs.declared.call.Outcome.TheVariants as outcomes
+use Rattle.rk_model.specs.History.{record_of as entry_record}
+use Rattle.rk_model.specs.Machine.{live as live_entry}
+use Rattle.rk_overlay.specs.Live.{record_of as item_record, live as live_items}
 use Rattle.rk_inv_base.proofs.example.SmallWorld.{small_entry, small_item, small_key, small_range, small_row, small_journal, small_truths}
 use Rattle.rk_inv_base.proofs.example.SmallWorld.{small_rests, small_value, small_world, small_tablet, small_map, small_view, small_ledger}
 use Rattle.rk_inv_base.proofs.example.SmallWorld.{small_end, small_placed, small_answer, small_asks, small_wire}
 use Rattle.rk_inv_base.proofs.example.SmallWorldLooks.{only_one, each_master, each_message, each_tablet, all_one, not_owner, post_elsewhere}
 use Rattle.rk_inv_base.proofs.example.SmallWorldLooks.{one_stands, each_client, each_request, first_place}
-use Rattle.std.specs.List.Sorted.{IsStrictlySortedBy}
-use Rattle.rk_sound.specs.Asked.{Asked}
-use Rattle.rk_model.specs.History.{record_of as entry_record, empty_map}
-use Rattle.rk_model.specs.Machine.{live as live_entry}
-use Rattle.rk_overlay.specs.Live.{record_of as item_record, live as live_items}
-use Rattle.rk_transfer.specs.declared.role.Role.TheVariants as roles
-use Rattle.rk_types.specs.declared.call.Outcome.TheVariants as outcomes
 
 -- ---- its log and its journal tell of one put
 
@@ -50,9 +48,7 @@ small_legal = (omega arith, tt)
 
 -- the truth of the row tells the journal
 pub truth_one : IsTruth no_base small_range (small_truths small_row) small_journal
-truth_one =
-    subst (λ (truth : List Entry). IsTruth no_base small_range truth small_journal) (sym truth_is)
-    (record { plain = small_plain; live = small_live })
+truth_one = rw truth_is (record { plain = small_plain; live = small_live })
 
 -- the version that was given is below the next one
 pub low_either : (found : Bool) → last_version (cond found (live_entry 1 small_value) never) < floor_of (cond found (small_entry ∷ []) [])
@@ -68,8 +64,7 @@ small_low table key here =
 
 -- and for the truth of the row
 pub low_one : AreAboveMap small_range (map_after empty_map small_journal) (small_truths small_row)
-low_one =
-    subst (λ (truth : List Entry). AreAboveMap small_range (map_after empty_map small_journal) truth) (sym truth_is) small_low
+low_one = rw truth_is small_low
 
 -- the tablet's counter is above all that was written
 pub next_one : IsNext (small_truths small_row ++ small_rests small_row) 2
@@ -140,8 +135,7 @@ small_cover = record {
 
 -- another master is absent, and its post asks no more
 pub role_elsewhere : (q : ℕ) → (q ≡ 1 → ⊥) → RoleFits small_row q no_tablet.handover 0
-role_elsewhere q apart =
-    subst (λ (post : Post). Holds (bond_of post roles.Absent) 1 0 0) (sym (post_elsewhere q apart)) (omega arith)
+role_elsewhere q apart = rw (post_elsewhere q apart) (omega arith)
 
 -- and it is not of the lineage
 pub not_member : (q : ℕ) → (q ≡ 1 → ⊥) → is_member (lineage_of small_row.phase) q ≡ true → ⊥
@@ -222,11 +216,6 @@ nothing_full n apart all =
 pub order_one : (item : Held) → IsInScanOrder (item ∷ [])
 unfolding IsStrictlySortedBy
 order_one item = (tt, tt)
-
--- so is none
-pub order_none : IsInScanOrder []
-unfolding IsStrictlySortedBy
-order_none = tt
 
 -- ---- its reply and its request, and the part Asked
 

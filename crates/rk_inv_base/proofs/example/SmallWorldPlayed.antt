@@ -1,10 +1,8 @@
 -- The small world comes about: from a new lane a put is asked, staged, stored by the backup, applied and answered.
-use Rattle.std.proofs.Common.{sym, subst, slice_set, replicate, ◌≡◌, [], ◌∷◌, Some, refl}
-use Rattle.rk_inv_base.proofs.Words.{NumberMap, LANES, Message, Session, new_session, new_world, IsSound}
+use Rattle.rk_inv_base.proofs.Words.{sym, subst, slice_set, replicate, ◌≡◌, [], ◌∷◌, Some, refl, NumberMap, LANES, Message, Session}
+use Rattle.rk_inv_base.proofs.Words.{new_session, new_world, IsSound, Scene, Does, Delivers, played}
 use Rattle.rk_types.specs.Hashing.{hash_of}
 use Rattle.rk_types.specs.Held.{spelled_of}
-use Rattle.rk_types.specs.declared.call.Op.TheVariants as ops
-use Rattle.rk_types.specs.declared.node.Node.TheVariants as nodes
 use Rattle.rk_entry.specs.Ends.{range_bytes, outcome_bytes, end_bytes}
 use Rattle.rk_entry.specs.Entries.{spelled_all}
 use Rattle.rk_entry.specs.Lists.{ends_bytes, segments_bytes}
@@ -12,9 +10,12 @@ use Rattle.rk_entry.specs.Numbers.{number_bytes}
 use Rattle.rk_entry.specs.Spelling.{head_bytes, held_bytes, refused_bytes, carried_bytes, joined_bytes, body_length, front_bytes, spelled}
 use Rattle.rk_entry.specs.Spelling.{mark_of}
 use Rattle.rk_entry.specs.Texts.{key_bytes, value_bytes}
+use Rattle.rk_types.specs.declared.call.Op.TheVariants as ops
+use Rattle.rk_types.specs.declared.node.Node.TheVariants as nodes
 use Rattle.rk_world.specs.declared.event.Event.TheVariants as events
-use Rattle.rk_world.proofs.Scene.{Scene, Does, Calls, Asks, Delivers, played}
-use Rattle.rk_inv_base.proofs.example.SmallWorld.{small_world, small_range, small_key, small_value, small_request, small_append, small_told, small_reply}
+use Rattle.rk_world.proofs.Scene.{Calls, Asks}
+use Rattle.rk_inv_base.proofs.example.SmallWorld.{small_world, small_range, small_key, small_value, small_request, small_append, small_told}
+use Rattle.rk_inv_base.proofs.example.SmallWorld.{small_reply}
 use Rattle.rk_inv_base.proofs.example.SmallWorldSound.{small_is_sound}
 
 -- a client that knows who owns the range

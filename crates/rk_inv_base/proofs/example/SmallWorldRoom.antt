@@ -1,12 +1,10 @@
 -- The numbers of the small world have room.
-use Rattle.std.proofs.Common.{◌≡◌, ◌≤◌, refl, arith, All, flat_map}
-use Rattle.rk_inv_base.proofs.Words.{All-nil, All-from_recursion, bytes_of_logs}
+use Rattle.rk_inv_base.proofs.Words.{◌≡◌, ◌≤◌, refl, arith, All, flat_map, All-nil, All-from_recursion, bytes_of_logs, standing, AreAtMost}
+use Rattle.rk_inv_base.proofs.Words.{numbers_of, numbers_told}
 use Rattle.rk_entry.specs.Entries.{spelled_all}
 use Rattle.rk_entry.specs.Numbers.{number_bytes}
 use Rattle.rk_entry.specs.Spelling.{head_bytes, held_bytes, body_length, front_bytes, spelled, mark_of}
 use Rattle.rk_entry.specs.Texts.{key_bytes, value_bytes}
-use Rattle.rk_world.specs.World.{standing}
-use Rattle.rk_sound.specs.Room.{AreAtMost, numbers_of, numbers_told}
 use Rattle.rk_sound.specs.Whole.{HasRoom}
 use Rattle.rk_inv_base.proofs.example.SmallWorld.{small_entry, small_request, small_world}
 use Rattle.rk_inv_base.proofs.example.SmallWorldLooks.{all_one, each_master, each_message, each_none, each_request}

@@ -1,24 +1,23 @@
 -- The small world is sound: all that is said of rows holds of its one row, and so does what is said beside that.
-use Rattle.std.proofs.Common.{◌≡◌, All, IfSome, List, [], ap, arith, drop, false, inl, is_some, length, refl, subst, sym, true, ℕ, ◌∙◌, ◌≤◌}
-use Rattle.std.proofs.Common.{◌⊎◌}
-use Rattle.rk_inv_base.proofs.Words.{All-nil, member, AreHandedOver, EachHasCall, EachIn, Entry, HandoverFits, HasItems, IsAfterSeen}
-use Rattle.rk_inv_base.proofs.Words.{IsBare, IsInScanOrder, IsKnown, IsLast, IsMaster, IsPlaced, IsSound, IsStagedEnd, Master, Post}
-use Rattle.rk_inv_base.proofs.Words.{ReachAll, RoleFits, Says, SentFits, TellAll, Waits, told, asked_by, ends_of, false≢true, handed_by}
-use Rattle.rk_inv_base.proofs.Words.{has_all_items, hash_of, is_absent, is_covered, is_idle, is_member, lineage_of, list_any, master_at}
-use Rattle.rk_inv_base.proofs.Words.{no_base, no_tablet, post_of, row_of, speaks, tablet_at, touches, wanted_place, written_by, written_in}
-use Rattle.rk_inv_base.proofs.Words.{MarkFits, HasOwnRange}
-use Rattle.rk_inv_base.proofs.views.ByRows.{IsNextOf, SaysIn, SoundBeside, SoundRow, SpeaksFor, view_by_rows, CountsFor}
+use Rattle.rk_inv_base.proofs.Words.{◌≡◌, All, IfSome, List, [], ap, arith, drop, false, inl, is_some, length, refl, subst, sym, true, ℕ}
+use Rattle.rk_inv_base.proofs.Words.{◌∙◌, ◌≤◌, ◌⊎◌, All-nil, member, AreHandedOver, EachHasCall, EachIn, Entry, HandoverFits, HasItems}
+use Rattle.rk_inv_base.proofs.Words.{IsAfterSeen, IsBare, IsInScanOrder, IsKnown, IsLast, IsMaster, IsPlaced, IsSound, IsStagedEnd, Master}
+use Rattle.rk_inv_base.proofs.Words.{Post, ReachAll, RoleFits, Says, SentFits, TellAll, Waits, told, asked_by, ends_of, false≢true}
+use Rattle.rk_inv_base.proofs.Words.{handed_by, has_all_items, hash_of, is_absent, is_covered, is_idle, is_member, lineage_of, list_any}
+use Rattle.rk_inv_base.proofs.Words.{master_at, no_base, no_tablet, post_of, row_of, speaks, tablet_at, touches, wanted_place, written_by}
+use Rattle.rk_inv_base.proofs.Words.{written_in, MarkFits, HasOwnRange, records_in}
+use Rattle.rk_inv_base.proofs.Base.{IsNextOf, SaysIn, SoundBeside, SoundRow, SpeaksFor, view_by_rows, CountsFor}
 use Rattle.rk_inv_base.proofs.example.SmallWorldLooks.{all_one, each_master, each_message, each_none, each_tablet, first_place}
 use Rattle.rk_inv_base.proofs.example.SmallWorldLooks.{post_elsewhere}
-use Rattle.rk_world.specs.World.{records_in}
 use Rattle.rk_inv_base.proofs.example.SmallWorldParts.{covered_one, handover_here, handover_nowhere, named_is_there, no_tenure, not_member}
 use Rattle.rk_inv_base.proofs.example.SmallWorldParts.{present_one, role_elsewhere, small_cover, low_one, next_one, small_legal, truth_is}
-use Rattle.rk_inv_base.proofs.example.SmallWorldParts.{truth_one, items_one, known_one, nothing_full, order_none, order_one, reached_one}
-use Rattle.rk_inv_base.proofs.example.SmallWorldParts.{rest_one, told_one, reply_one, small_asked}
+use Rattle.rk_inv_base.proofs.example.SmallWorldParts.{truth_one, items_one, known_one, nothing_full, order_one, reached_one, rest_one}
+use Rattle.rk_inv_base.proofs.example.SmallWorldParts.{told_one, reply_one, small_asked}
 use Rattle.rk_inv_base.proofs.example.SmallWorldLogs.{small_logs}
 use Rattle.rk_inv_base.proofs.example.SmallWorld.{small_append, small_end, small_entry, small_item, small_journal, small_ledger, small_map}
 use Rattle.rk_inv_base.proofs.example.SmallWorld.{small_master, small_placed, small_range, small_reply, small_request, small_rests}
 use Rattle.rk_inv_base.proofs.example.SmallWorld.{small_row, small_tablet, small_told, small_view, small_world}
+use Rattle.rk_inv_base.proofs.views.Empty.{in_order_none}
 
 -- what holds of the master, where it answers calls, or will; another one does not
 pub speaking : (P : Master → Type 0) → P small_master → (q : ℕ) → SpeaksFor small_view small_row q → P (master_at small_world q)
@@ -109,7 +108,7 @@ small_beside = record {
   found = λ q live. each_master (λ n m. EachHasCall m.calls (written_by m []))
       (λ place entry behind stands call unmarked. absurd (omega (arith, behind, first_place small_entry entry place stands)))
       (λ n apart place entry behind stands call unmarked. absurd (cc stands)) q;
-  ordered = each_master (λ n m. IsInScanOrder m.records) (order_one small_item) (λ n apart. order_none);
+  ordered = each_master (λ n m. IsInScanOrder m.records) (order_one small_item) (λ n apart. in_order_none);
   bare = each_tablet
       (λ n t tablet. IfSome (wanted_place tablet.handover.role)
       (λ from. IsBare tablet.handover.range from (written_in small_world n) (records_in small_world n)))

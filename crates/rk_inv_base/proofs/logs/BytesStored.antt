@@ -1,16 +1,13 @@
 -- A lane stays sound when a backup stores more of a master's log: each segment that it stored is a first part of what it stores then.
-use Rattle.std.proofs.Common.{◌≡◌, ℕ, List, [], ◌∷◌, ◌++◌, Option, Some, None, refl, sym, ap, ◌∙◌, subst, arith, ◌≢◌, ◌==◌, ◌&&◌, unwrap_or}
-use Rattle.std.proofs.Common.{eqb-true, append-nil}
-use Rattle.rk_inv_base.proofs.Words.{and_parts, cond_both, get_other, get_same, get, insert, Node, Segments, bytes_of, known_of, Body}
-use Rattle.rk_inv_base.proofs.Words.{no_segments, World, backup_at, with_stored_by, IsCopy, IsFirstPart, IsKnownBefore, LogSays, stored_of}
-use Rattle.rk_inv_base.proofs.Words.{READ_BACKUP, View, view, IsSound, LogsOf, SoundView, IsBackup}
+use Rattle.rk_inv_base.proofs.Words.{◌≡◌, ℕ, List, [], ◌∷◌, ◌++◌, Option, Some, None, refl, sym, ap, ◌∙◌, subst, arith, ◌≢◌}
+use Rattle.rk_inv_base.proofs.Words.{unwrap_or, eqb-true, append-nil, and_parts, cond_both, get_other, get_same, get, insert, Node}
+use Rattle.rk_inv_base.proofs.Words.{Segments, bytes_of, known_of, Body, no_segments, World, backup_at, with_stored_by, IsCopy, IsFirstPart}
+use Rattle.rk_inv_base.proofs.Words.{IsKnownBefore, LogSays, stored_of, READ_BACKUP, View, view, IsSound, LogsOf, SoundView, IsBackup}
+use Rattle.rk_inv_base.proofs.Words.{with_part, with_more, MayStore, bytes_stored_in, stored_more}
 use Rattle.rk_types.specs.declared.node.Node.TheVariants as nodes
-use Rattle.rk_outside.specs.Segments.{bytes_of as stored_bytes, with_part}
 use Rattle.rk_message.specs.declared.message.Body.TheVariants as bodies
-use Rattle.rk_world.specs.Backup.{with_more}
-use Rattle.rk_sound.specs.Changes.{MayStore}
-use Rattle.rk_sound.specs.Small.{bytes_stored_in, stored_more}
-use Rattle.rk_inv_base.proofs.views.Put.{put_by, put_is}
+use Rattle.rk_outside.specs.Segments.{bytes_of as stored_bytes}
+use Rattle.rk_inv_base.proofs.Base.{put_by, put_is}
 use Rattle.rk_inv_base.proofs.logs.Copies.{view_with_copies}
 pub use Rattle.rk_inv_base.proofs.logs.Copies.{first_part_length}
 
@@ -35,19 +32,7 @@ module _ (v : View) (master backup segment : ℕ) (bytes : List ℕ) (sound : So
   -- a statement of what is stored holds of the segment that took the bytes, and of the others
   by_more : (P : List ℕ → Type 0) (q b s : ℕ) → (q ≡ master → b ≡ backup → s ≡ segment → P (stored_of v.stored q b s ++ bytes)) → P (stored_of v.stored q b s) → P (stored_of now.stored q b s)
   by_more P q b s here apart =
-      put_by v.stored backup (λ segments. with_more segments master segment bytes) (λ segments. P (stored_bytes (segments q s))) b
-      (λ on.
-      cond_both (q == master && (s == segment)) (with_part (v.stored b master segment) bytes) (v.stored b q s)
-      (λ (stored : Option (List ℕ)). P (stored_bytes stored))
-      (λ same.
-      let its = and_parts (q == master) (s == segment) same in
-      let at : q ≡ master = eqb-true q master its.0 in
-      let of : s ≡ segment = eqb-true s segment its.1 in
-      subst P
-      ((λ i. stored_of v.stored (at i) b (of i) ++ bytes) ∙ sym (part_taken (v.stored b master segment) bytes))
-      (here at on of))
-      (λ other. apart))
-      (λ other. apart)
+      grind (arith, put_by, with_more, stored_bytes, cond_both, with_part, and_parts, eqb-true, stored_of, part_taken)
 
   -- each backup stores more, or as much
   more : (q b s : ℕ) → IsFirstPart (stored_of v.stored q b s) (stored_of now.stored q b s)
@@ -59,8 +44,7 @@ module _ (v : View) (master backup segment : ℕ) (bytes : List ℕ) (sound : So
   -- what the change asks, of these numbers
   may_here : (q b s : ℕ) → q ≡ master → b ≡ backup → s ≡ segment → MayStore v q b s bytes
   may_here q b s at on of =
-      subst (λ (n : ℕ). MayStore v n b s bytes) (sym at)
-      (subst (λ (n : ℕ). MayStore v master n s bytes) (sym on) (subst (λ (n : ℕ). MayStore v master backup n bytes) (sym of) may))
+      rw at (subst (λ (n : ℕ). MayStore v master n s bytes) (sym on) (subst (λ (n : ℕ). MayStore v master backup n bytes) (sym of) may))
 
   copy_now : (q b : ℕ) → IsCopy (v.logs q) (stored_of v.stored q b) (known_of (v.logs q) b) → IsCopy (v.logs q) (stored_of now.stored q b) (known_of (v.logs q) b)
   copy_now q b old = record {

@@ -1,32 +1,23 @@
 -- A lane stays sound when a target whose side segments are stored appends the entry that closes its joining.
-use Rattle.std.proofs.Common.{◌≡◌, ℕ, ◌≤◌, Bool, true, ◌&&◌, eqb, leb, List, [], ◌∷◌, ◌++◌, length, fold, Some, None, refl, sym, ap, ◌∙◌}
-use Rattle.std.proofs.Common.{subst, ⊎_elim, inl, arith, slice_get, All, Contains, flat_map, append-nil, slice_index_or}
+use Rattle.rk_inv_base.proofs.Words.{◌≡◌, ℕ, ◌≤◌, Bool, true, ◌&&◌, eqb, leb, List, [], ◌∷◌, ◌++◌, length, fold, Some, None, refl, sym, ap}
+use Rattle.rk_inv_base.proofs.Words.{◌∙◌, subst, ⊎_elim, inl, arith, slice_get, All, Contains, flat_map, append-nil, slice_index_or}
 use Rattle.rk_inv_base.proofs.Words.{cases_eq, cond-true, false≢true, both_ways, nat_tests, flat_map-append, All-head, All-tail}
 use Rattle.rk_inv_base.proofs.Words.{Contains-get_or, get, meets, Member, Range, slice_get_push_cases, Entry, is_in, Handover, lineage_of}
 use Rattle.rk_inv_base.proofs.Words.{Row, items_of, last_of, unmarked_from, named, named_by, side_entries, with_number, has_all, is_absent}
 use Rattle.rk_inv_base.proofs.Words.{with_handover, closing_appended, World, log_in, master_at, tablet_in, Written, member_material}
-use Rattle.rk_inv_base.proofs.Words.{member_truth, bond_of, post_of, Holds, IsTarget, MembersFit, NamedFit, closing_joined, copied_items}
-use Rattle.rk_inv_base.proofs.Words.{is_granted, named_items, EachHasCall, is_call_entry, IsPlaced, as_closed, View, view, IsSound}
-use Rattle.rk_inv_base.proofs.Words.{SoundView, Role, has_merged, is_idle, is_rebuilding, is_serving, is_wanting, may_have_staged}
-use Rattle.rk_inv_base.proofs.Words.{wanted_place}
+use Rattle.rk_inv_base.proofs.Words.{member_truth, bond_of, post_of, IsTarget, MembersFit, NamedFit, closing_joined, is_granted}
+use Rattle.rk_inv_base.proofs.Words.{named_items, EachHasCall, is_call_entry, IsPlaced, as_closed, View, view, IsSound, SoundView}
+use Rattle.rk_inv_base.proofs.Words.{has_merged, is_idle, is_rebuilding, is_serving, is_wanting, may_have_staged, wanted_place, MayJoin}
+use Rattle.rk_inv_base.proofs.Words.{closed_off, closing_appended_in}
 use Rattle.rk_transfer.specs.declared.role.Role.TheVariants as roles
-use Rattle.rk_sound.specs.Moves.{MayJoin}
-use Rattle.rk_sound.specs.Small.{closed_off, closing_appended_in}
-use Rattle.rk_inv_base.proofs.views.ByRows.{SoundRow, row_in}
-use Rattle.rk_inv_base.proofs.views.Masters.{tablet_here, tablet_apart}
-use Rattle.rk_inv_base.proofs.views.Put.{put2_by, put_same, put2_same}
-use Rattle.rk_inv_base.proofs.views.Views.{view_master}
-use Rattle.rk_inv_base.proofs.views.Seen.{GoesOn}
-use Rattle.rk_inv_base.proofs.calls.Rebuilders.{last_member}
+use Rattle.rk_inv_base.proofs.Base.{SoundRow, row_in, tablet_here, tablet_apart, put2_by, put_same, put2_same, view_master}
+use Rattle.rk_inv_base.proofs.Base.{last_member, marked_none, unmarked_from_last, unless_marked, same_number, numbers_append}
 use Rattle.rk_inv_base.proofs.logs.ClosingTarget.{closed_goes_on, target_here}
 use Rattle.rk_inv_base.proofs.logs.EntryAppended.{row_beside, view_with_entry, waits_on}
 use Rattle.rk_inv_base.proofs.logs.OneMore.{material_same, of_written, rest_at, truth_same, within}
-use Rattle.rk_inv_base.proofs.logs.Shares.{marked_none, unmarked_from_last, unless_marked}
 use Rattle.rk_inv_base.proofs.pulls.Joining.{IsSecond, joining_second, kept_stands, numbered, scanned, stands_kept}
-use Rattle.rk_inv_base.proofs.rows.Apart.{same_number}
 use Rattle.rk_inv_base.proofs.rows.RowAppended.{StaysAs, rest_fits}
 use Rattle.rk_inv_base.proofs.rows.Serving.{meets_either, of_its_row}
-use Rattle.rk_inv_base.proofs.views.Needed.{numbers_append}
 
 module _ (v : View) (row : Row) (master : ℕ) (sound : SoundView v) (has_row : Contains v.rows row) (may : MayJoin v master row.tablet) where
   abbrev old : Handover
@@ -50,17 +41,7 @@ module _ (v : View) (row : Row) (master : ℕ) (sound : SoundView v) (has_row : 
   -- the tablet goes on as it was
   stays : StaysAs old (as_closed place old)
   stays =
-      assumption (
-        subst (λ (role : Role). GoesOn role (roles.Joining (Some place))) (sym may.joining) (closed_goes_on place),
-        ap is_serving (sym may.joining),
-        ap is_rebuilding (sym may.joining),
-        ap is_wanting (sym may.joining),
-        ap is_idle (sym may.joining),
-        ap has_merged (sym may.joining),
-        ap is_granted (sym may.joining),
-        ap may_have_staged (sym may.joining),
-        ap wanted_place (sym may.joining),
-      )
+      grind (arith, closed_goes_on, is_serving, is_rebuilding, is_wanting, is_idle, has_merged, is_granted, may_have_staged, wanted_place)
 
   at_end : place ≡ length (v.written master).entries
   at_end = ap (λ (list : List Entry). length list) (sound.logs.each master).entries_are
@@ -68,10 +49,7 @@ module _ (v : View) (row : Row) (master : ℕ) (sound : SoundView v) (has_row : 
   -- ---- the row
 
   second : IsSecond row.phase master row.term old.term
-  second =
-      joining_second master row.term old.term (v.written master).applied row.phase was.formed
-      (subst (λ (role : Role). Holds (bond_of (post_of row.phase master) role) row.term old.term (v.written master).applied) may.joining
-      (was.fitting master (inl may.lives)))
+  second = grind (arith, joining_second, was, bond_of, post_of)
 
   ranged : old.range ≡ row.range
   ranged =
@@ -83,11 +61,7 @@ module _ (v : View) (row : Row) (master : ℕ) (sound : SoundView v) (has_row : 
 
   -- the two members are those of the lineage
   pair : (source target : Member) → lineage_of row.phase ≡ source ∷ target ∷ [] → (source.master ≡ master → ⊥) × (target.master ≡ master)
-  pair source target is =
-      let both : source ∷ target ∷ [] ≡ second.source ∷ second.target ∷ [] = sym is ∙ second.lineage_is in
-      let one : source ≡ second.source = cc both in
-      let other : target ≡ second.target = cc both in
-      (λ at. second.apart (ap (λ (m : Member). m.master) (sym one) ∙ at), ap (λ (m : Member). m.master) other ∙ second.here)
+  pair source target is = grind (arith, second)
 
   -- the entry has all of each row that it meets, which is this one
   whole : (x : Row) → Contains v.rows x → meets x.range old.range ≡ true → has_all old.range x.range ≡ true
@@ -124,11 +98,8 @@ module _ (v : View) (row : Row) (master : ℕ) (sound : SoundView v) (has_row : 
       let joins : (v.handovers q row.tablet).role ≡ roles.Joining None = ap (λ (n : ℕ). (v.handovers n row.tablet).role) at ∙ may.joining in
       let truth : List Entry = member_truth v.written row.range source in
       let material : List Entry = member_material v.written row.range source in
-      subst (λ (list : List Entry). Fits source target list (member_material now.written row.range source) (now.written q)
-      (now.handovers q row.tablet))
-      (sym (truth_same v master closing sound.logs row.range source))
-      (subst (λ (list : List Entry). Fits source target truth list (now.written q) (now.handovers q row.tablet))
-      (sym (material_same v master closing sound.logs row.range source (λ here. absurd ((pair source target is).0 here))))
+      rw (truth_same v master closing sound.logs row.range source)
+      (rw (material_same v master closing sound.logs row.range source (λ here. absurd ((pair source target is).0 here)))
       (put2_by v.handovers master row.tablet (as_closed place) (Fits source target truth material (now.written q)) q row.tablet
       (λ _ _.
       of_written v master closing sound.logs (λ (w : Written). Fits source target truth material w (as_closed place (v.handovers q row.tablet))) q
@@ -159,8 +130,7 @@ module _ (v : View) (row : Row) (master : ℕ) (sound : SoundView v) (has_row : 
       ∙ numbers_append [] (flat_map (named_by row.range) known) (named_by row.range closing ++ [])
       ∙ ap (fold with_number (named row.range known))
       (append-nil (named_by row.range closing) ∙ cond-true (meets old.range row.range) sealed [] inside) in
-      subst (λ (truth : List Entry). Contains (items_of truth) item) (sym (truth_same v master closing sound.logs row.range first))
-      (of_written v master closing sound.logs
+      rw (truth_same v master closing sound.logs row.range first) (of_written v master closing sound.logs
       (λ (w : Written). Contains (named_items row.range last.from w) item → Contains (items_of (member_truth v.written row.range first)) item) q
       (λ _ there.
       let kept =
@@ -172,8 +142,7 @@ module _ (v : View) (row : Row) (master : ℕ) (sound : SoundView v) (has_row : 
       (λ (new : Contains (items_of (flat_map side sealed)) item).
       scanned (member_truth v.written row.range first) item
       ((fits (ap is_granted joins)).received.within item
-      (subst (λ (role : Role). Contains (copied_items role (v.pullings q row.tablet) w.sides) item) (sym joins)
-      (subst (λ (n : ℕ). Contains (items_of (flat_map side (v.pullings n row.tablet).sealed)) item) (sym at) new))))
+      (rw joins (subst (λ (n : ℕ). Contains (items_of (flat_map side (v.pullings n row.tablet).sealed)) item) (sym at) new))))
       (numbered side (named row.range known) sealed item
       (subst (λ (numbers : List ℕ). Contains (items_of (flat_map side numbers)) item) all kept.0)))
       (λ apart. absurd (apart at)) there)

@@ -1,16 +1,13 @@
 -- A target that joins stays a target of its row with the entry that closes its joining.
-use Rattle.std.proofs.Common.{◌≡◌, ℕ, ◌≤◌, true, List, [], ◌∷◌, ◌++◌, length, filter, Option, Some, None, refl, sym, ap, ◌∙◌, subst, arith}
-use Rattle.std.proofs.Common.{slice_get, drop, take, Contains}
-use Rattle.rk_inv_base.proofs.Words.{cond-true, drop-append-le, take-append-le, All-nil, filter-append, IfSome_then, list_any, meets, Held}
-use Rattle.rk_inv_base.proofs.Words.{Member, Entry, Handover, Role, Row, Handed, items_of, touches, is_joined_in, joined_from, Pulling}
-use Rattle.rk_inv_base.proofs.Words.{Written, applied_entries, Post, MovingTarget, LastRebuilder, bond_of, Holds, HasArrived, HasClosing}
-use Rattle.rk_inv_base.proofs.Words.{IsReceived, IsTarget, before_closing, beginning_of, closing_joined, copied_items, entries_from}
-use Rattle.rk_inv_base.proofs.Words.{is_joining, joined_place, scan_items, as_closed, with_one_more}
-use Rattle.rk_model.proofs.Places.{slice_get_end}
+use Rattle.rk_inv_base.proofs.Words.{◌≡◌, ℕ, ◌≤◌, true, List, [], ◌∷◌, ◌++◌, length, filter, Option, Some, None, sym, ap, ◌∙◌, subst}
+use Rattle.rk_inv_base.proofs.Words.{arith, slice_get, drop, take, Contains, cond-true, drop-append-le, take-append-le, All-nil}
+use Rattle.rk_inv_base.proofs.Words.{filter-append, IfSome_then, list_any, meets, Held, Member, Entry, Handover, Role, Row, Handed}
+use Rattle.rk_inv_base.proofs.Words.{items_of, touches, is_joined_in, joined_from, Pulling, Written, applied_entries, Post, MovingTarget}
+use Rattle.rk_inv_base.proofs.Words.{LastRebuilder, bond_of, Holds, HasArrived, HasClosing, IsReceived, IsTarget, before_closing}
+use Rattle.rk_inv_base.proofs.Words.{beginning_of, closing_joined, copied_items, entries_from, is_joining, joined_place, scan_items}
+use Rattle.rk_inv_base.proofs.Words.{as_closed, with_one_more, slice_get_end, take_all}
 use Rattle.rk_transfer.specs.declared.role.Role.TheVariants as roles
-use Rattle.rk_inv_base.proofs.views.Seen.{GoesOn}
-use Rattle.rk_inv_base.proofs.calls.Targets.{AreBelow, own_push}
-use Rattle.std.proofs.lemmas.List.{take_all}
+use Rattle.rk_inv_base.proofs.Base.{GoesOn, AreBelow, own_push}
 
 -- a post that takes a target that joins takes it with its closing entry too
 pub fits_closed : (post : Post) (term own applied place : ℕ) → Holds (bond_of post (roles.Joining None)) term own applied → Holds (bond_of post (roles.Joining (Some place))) term own applied
@@ -20,15 +17,7 @@ fits_closed _ term own applied place holds = absurd holds
 
 -- so it goes on as it was
 pub closed_goes_on : (place : ℕ) → GoesOn (roles.Joining None) (roles.Joining (Some place))
-closed_goes_on place = record {
-  absent = refl;
-  wanting = refl;
-  waits = λ n is. absurd (cc is);
-  frozen = λ is. absurd (cc is);
-  joined = λ applied has. absurd has;
-  rebuilt = λ applied n has. absurd has;
-  fits = λ post term own applied holds. fits_closed post term own applied place holds;
-}
+closed_goes_on place = grind (arith, fits_closed)
 
 module _ (place : ℕ) (old : Handover) (sealed : List ℕ) where
   abbrev closing : Entry

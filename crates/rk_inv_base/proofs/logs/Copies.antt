@@ -1,25 +1,20 @@
 -- The law of copies: of what backups store, and are known to store, rows and messages speak only where the log of a dead master is read. So a
 -- view stays sound where backups store more, and dead masters knew as much of it.
-use Rattle.std.proofs.Common.{◌≡◌, ℕ, ◌≤◌, Bool, true, false, List, [], ◌∷◌, ◌++◌, length, map, sym, ap, ◌∙◌, subst, arith, length-append}
-use Rattle.std.proofs.Common.{◌==◌, not, nat_le, slice_index_or, take, All, Contains, append-nil, eq-eqb, le-leb, leb-true, refl, Some, ◌<◌}
-use Rattle.rk_inv_base.proofs.Words.{All-cons, All-filter, All-head, All-nil, All-tail, false≢true, filter_passes, list_any_at, Member}
-use Rattle.rk_inv_base.proofs.Words.{Node, Range, Segments, Entry, Phase, Rebuilding, Row, ends, Known, Log, known_of, EntryEnd, Body}
-use Rattle.rk_inv_base.proofs.Words.{CopySegment, Gathered, is_member, member_material, IsFirstPart, stored_of, CopyIn, IsGathered}
-use Rattle.rk_inv_base.proofs.Words.{IsReadPart, MarkedFit, NeededOf, READ_BACKUP, member_marked, member_stored, stored_count, View, truths}
-use Rattle.rk_inv_base.proofs.Words.{LogsOf, SoundView, prefix_len, IsMaster, Message, get, Contains-get_or, false_from_ne_true}
-use Rattle.rk_outside.specs.Segments.{bytes_of as stored_bytes}
-use Rattle.rk_log.proofs.Prefixes.{prefix_len_weaker}
+use Rattle.rk_inv_base.proofs.Words.{◌≡◌, ℕ, ◌≤◌, Bool, true, false, List, [], ◌∷◌, ◌++◌, length, map, sym, ap, ◌∙◌, subst, arith}
+use Rattle.rk_inv_base.proofs.Words.{length-append, ◌==◌, not, nat_le, slice_index_or, take, All, Contains, append-nil, eq-eqb, le-leb}
+use Rattle.rk_inv_base.proofs.Words.{leb-true, refl, Some, ◌<◌, All-cons, All-filter, All-head, All-nil, All-tail, false≢true}
+use Rattle.rk_inv_base.proofs.Words.{filter_passes, list_any_at, Member, Node, Range, Segments, Entry, Phase, Rebuilding, Row, ends, Known}
+use Rattle.rk_inv_base.proofs.Words.{Log, known_of, EntryEnd, Body, CopySegment, Gathered, is_member, member_material, IsFirstPart}
+use Rattle.rk_inv_base.proofs.Words.{stored_of, CopyIn, IsGathered, IsReadPart, MarkedFit, NeededOf, READ_BACKUP, member_marked}
+use Rattle.rk_inv_base.proofs.Words.{member_stored, stored_count, View, truths, LogsOf, SoundView, IsMaster, Message, get, Contains-get_or}
+use Rattle.rk_inv_base.proofs.Words.{false_from_ne_true, prefix_len_weaker, AreGathered}
 use Rattle.rk_message.specs.declared.message.Body.TheVariants as bodies
-use Rattle.rk_inv_base.proofs.logs.Grows.{Extends, counting_extends, extends_behind, take_extends, tells_extended}
-use Rattle.rk_inv_base.proofs.logs.Logs.{first_part_more}
-use Rattle.rk_inv_base.proofs.calls.Rebuilds.{IsRebuilderIn, former_gone}
-use Rattle.rk_inv_base.proofs.views.Needed.{gathered_by}
-use Rattle.rk_sound.specs.Rebuilds.{AreGathered}
-use Rattle.rk_inv_base.proofs.views.ByRows.{IsRebuiltIn, SaysIn}
+use Rattle.rk_outside.specs.Segments.{bytes_of as stored_bytes}
+use Rattle.rk_inv_base.proofs.Base.{Extends, counting_extends, extends_behind, take_extends, tells_extended, first_part_more, IsRebuilderIn}
+use Rattle.rk_inv_base.proofs.Base.{former_gone, gathered_by, IsRebuiltIn, SaysIn}
 
 pub first_part_length : (bytes whole : List ℕ) → IsFirstPart bytes whole → length bytes ≤ length whole
-first_part_length bytes whole front =
-    subst (λ (all : List ℕ). length bytes ≤ length all) (sym front.parts) (omega (arith, length-append bytes front.more))
+first_part_length bytes whole front = rw front.parts (omega (arith, length-append bytes front.more))
 
 -- a part that was read is one of what is stored then
 pub part_stored : (Needed : EntryEnd → Type 0) (known : Known) (stored stored' : ℕ → List ℕ) (more : (segment : ℕ) → IsFirstPart (stored segment) (stored' segment)) (segment : ℕ) (bytes : List ℕ) → IsReadPart Needed known stored segment bytes → IsReadPart Needed known stored' segment bytes
@@ -44,13 +39,7 @@ each_member lineage k d within =
 
 -- no fewer first entries are stored where more is stored of each segment
 pub count_more : (log : Log) (stored stored' : ℕ → List ℕ) → ((segment : ℕ) → IsFirstPart (stored segment) (stored' segment)) → stored_count log stored ≤ stored_count log stored'
-count_more log stored stored' more =
-    prefix_len_weaker (λ (end : EntryEnd). nat_le end.offset (length (stored end.segment)))
-    (λ (end : EntryEnd). nat_le end.offset (length (stored' end.segment))) (ends log.entries)
-    (λ end held.
-    let within : end.offset ≤ length (stored end.segment) = leb-true end.offset (length (stored end.segment)) held in
-    let longer = first_part_length (stored end.segment) (stored' end.segment) (more end.segment) in
-    le-leb end.offset (length (stored' end.segment)) (omega (arith, within, longer)))
+count_more log stored stored' more = grind (arith, prefix_len_weaker, nat_le, length, ends, leb-true, first_part_length, le-leb)
 
 -- ---- the law
 
@@ -75,8 +64,7 @@ module _ (v : View) (logs : ℕ → Log) (stored : ℕ → Segments) (sound : So
       let few : ℕ = stored_count (v.logs q) (stored_of v.stored q READ_BACKUP) in
       let many : ℕ = stored_count (logs q) (stored_of stored q READ_BACKUP) in
       let rises : few ≤ many =
-      subst (λ (l : List Entry). few ≤ prefix_len (λ end. nat_le end.offset (length (stored_of stored q READ_BACKUP end.segment))) (ends l))
-      (sym (may.entries q)) (count_more (v.logs q) (stored_of v.stored q READ_BACKUP) (stored_of stored q READ_BACKUP) (may.more q)) in
+      rw (may.entries q) (count_more (v.logs q) (stored_of v.stored q READ_BACKUP) (stored_of stored q READ_BACKUP) (may.more q)) in
       counting_extends range (v.written q).marks member.from (take few list) (take many list)
       (subst (λ (all : List Entry). Extends (take few list) (take many all)) (append-nil list) (take_extends few many list [] rises))
 

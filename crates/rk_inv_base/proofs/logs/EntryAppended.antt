@@ -1,26 +1,17 @@
 -- The law of entries: a view stays sound when a master appends an entry to its log for a tablet that it serves, where the entry is of no
 -- other row, and what it adds to its own row fits. What is said of other rows, masters and logs is not shown again.
-use Rattle.std.proofs.Common.{◌≡◌, ℕ, ◌≤◌, false, true, List, [], ◌∷◌, length, Some, refl, sym, ap, subst, ◌∙◌, ⊎_elim, inl, inr, ◌⊎◌}
-use Rattle.std.proofs.Common.{Option, IfSome, All, Contains, slice_get, arith}
-use Rattle.rk_inv_base.proofs.Words.{cases_eq, All-push, All-weaker, EachIn, NumberMap, Call, Ended, meets, Range, slice_get_front, Entry}
-use Rattle.rk_inv_base.proofs.Words.{Handover, Row, Known, ends_of, touches, counts, is_absent, is_marked, Written, IsKnown, IsStagedEnd}
-use Rattle.rk_inv_base.proofs.Words.{HasSegmentLeft, IsEntryWithin, IsOfWholeRows, IsBare, MembersFit, NamedFit, EachHasCall, IsLast, Waits}
-use Rattle.rk_inv_base.proofs.Words.{View, rests, SoundView, CoverOf, AreApart, put2, Member, last_of, lineage_of, Rebuilding, both_ways}
-use Rattle.rk_inv_base.proofs.Words.{is_serving, is_joined_in, Holds, Phase, bond_of, post_of, false_from_ne_true, IsMaster}
-use Rattle.rk_inv_base.proofs.views.ByRows.{SoundBeside, SoundRow, row_in, view_by_rows, staged_as}
-use Rattle.rk_inv_base.proofs.views.Cover.{cover_looks, cover_written}
-use Rattle.rk_inv_base.proofs.views.Lists.{all_by}
-use Rattle.rk_inv_base.proofs.views.Put.{put2_by}
+use Rattle.rk_inv_base.proofs.Words.{◌≡◌, ℕ, ◌≤◌, false, true, List, [], ◌∷◌, length, Some, refl, sym, ap, subst, ◌∙◌, ⊎_elim, inl, inr}
+use Rattle.rk_inv_base.proofs.Words.{◌⊎◌, All, Contains, slice_get, arith, cases_eq, All-push, All-weaker, EachIn, NumberMap, Call, Ended}
+use Rattle.rk_inv_base.proofs.Words.{meets, Range, slice_get_front, Entry, Handover, Row, Known, ends_of, touches, counts, is_absent}
+use Rattle.rk_inv_base.proofs.Words.{is_marked, Written, IsKnown, IsStagedEnd, HasSegmentLeft, IsEntryWithin, IsOfWholeRows, IsBare}
+use Rattle.rk_inv_base.proofs.Words.{MembersFit, NamedFit, EachHasCall, IsLast, Waits, View, rests, SoundView, CoverOf, AreApart, put2}
+use Rattle.rk_inv_base.proofs.Words.{Member, last_of, lineage_of, Rebuilding, both_ways, is_serving, is_joined_in, bond_of}
+use Rattle.rk_inv_base.proofs.Words.{post_of, false_from_ne_true, IsMaster}
+use Rattle.rk_inv_base.proofs.Base.{SoundBeside, SoundRow, row_in, view_by_rows, staged_as, cover_looks, cover_written, all_by, put2_by}
+use Rattle.rk_inv_base.proofs.Base.{first_not_last, formed_apart, last_member, serving_unmerged, IsBareOf, serving_waits, waits_then}
+use Rattle.rk_inv_base.proofs.Base.{bare_pushed, AreStored, logs_grown, rows_apart, same_number, not_begun}
 use Rattle.rk_inv_base.proofs.views.Terms.{terms_looks}
-use Rattle.rk_inv_base.proofs.calls.Appending.{first_not_last, formed_apart}
-use Rattle.rk_inv_base.proofs.calls.Rebuilders.{last_member, serving_unmerged}
-use Rattle.rk_inv_base.proofs.calls.Receives.{IsBareOf, serving_waits, waits_then}
-use Rattle.rk_inv_base.proofs.calls.Targets.{bare_pushed}
-use Rattle.rk_inv_base.proofs.logs.Logs.{AreStored, logs_grown}
 use Rattle.rk_inv_base.proofs.logs.OneMore.{IsBeside, applied_same, known_same, of_written, written_with}
-use Rattle.rk_inv_base.proofs.roles.RoleTaken.{rows_apart}
-use Rattle.rk_inv_base.proofs.rows.Apart.{same_number}
-use Rattle.rk_inv_base.proofs.rows.Heirs.{not_begun}
 use Rattle.rk_inv_base.proofs.rows.Serving.{present, serving_busy, serving_rebuilds}
 use Rattle.rk_inv_base.proofs.rows.RowAppended.{RestFits, RowGrows, StaysAs, beside_grows, each_stays, entry_appended, row_appended}
 
@@ -77,13 +68,7 @@ module _ (v : View) (row : Row) (master : ℕ) (entry : Entry) (calls : ℕ → 
 
   -- and where the master is to rebuild the row, it has not begun
   idles : (lineage : List Member) → row.phase ≡ Rebuilding lineage master → (v.handovers master row.tablet).term ≡ row.term → ⊥
-  idles lineage is term =
-      let h : Handover = v.handovers master row.tablet in
-      let below =
-      not_begun lineage master h.role row.term h.term (v.written master).applied (serving_rebuilds h.role may.serves)
-      (subst (λ (phase : Phase). Holds (bond_of (post_of phase master) h.role) row.term h.term (v.written master).applied) is
-      (was.fitting master (inl may.lives))) in
-      omega (arith, below, term)
+  idles lineage is term = grind (arith, not_begun, serving_rebuilds, bond_of, post_of, was)
 
   grows : RowGrows v now master row.tablet entry row
   grows = record {
@@ -144,8 +129,7 @@ module _ (v : View) (row : Row) (master : ℕ) (entry : Entry) (calls : ℕ → 
       let Bare : Handover → Type 0 = λ h. IsBareOf h (now.written q) (v.records q) in
       put2_by v.handovers master row.tablet (λ _. new) Bare q r
       (λ at its.
-      subst (λ (place : Option ℕ). IfSome place (λ from. IsBare new.range from (now.written q) (v.records q))) (sym may.stays.wanted)
-      (serving_waits (v.handovers master row.tablet).role _ may.serves))
+      rw may.stays.wanted (serving_waits (v.handovers master row.tablet).role _ may.serves))
       (λ apart.
       of_written v master entry sound.logs (λ (w : Written). IsBareOf (v.handovers q r) w (v.records q)) q
       (λ at.

@@ -1,9 +1,8 @@
 -- The number from which the next version is taken is above each version, and does not fall with more entries.
-use Rattle.std.proofs.Common.{◌≡◌, ℕ, ◌≤◌, ◌<◌, ◌+◌, List, [], ◌∷◌, ◌++◌, sym, ap, subst, ◌∙◌, ⊎_elim, arith, append_assoc, fold, max}
-use Rattle.std.proofs.Common.{Contains}
-use Rattle.rk_inv_base.proofs.Words.{fold-append, Held, Entry, none_stands, stands_cases, items_of, floor_by, floor_of, IsNext}
+use Rattle.rk_inv_base.proofs.Words.{◌≡◌, ℕ, ◌≤◌, ◌<◌, ◌+◌, List, [], ◌∷◌, ◌++◌, subst, ⊎_elim, arith, append_assoc, fold}
+use Rattle.rk_inv_base.proofs.Words.{max, Contains, fold-append, Held, Entry, none_stands, stands_cases, items_of, floor_by, floor_of}
+use Rattle.rk_inv_base.proofs.Words.{IsNext, Refused}
 use Rattle.rk_entry.specs.declared.entry.Entry.TheVariants as entries
-use Rattle.rk_entry.specs.declared.entry.Refused.{Refused}
 
 -- a floor does not fall with an entry
 pub floor_step : (floor : ℕ) (entry : Entry) → floor ≤ floor_by floor entry
@@ -44,16 +43,8 @@ floor_append floor (entry ∷ list) more = floor_append (floor_by floor entry) l
 
 -- so one more item that took the next number as its version has the one after it behind it
 pub next_push : (truth rest : List Entry) (number : ℕ) (item : Held) → item.version ≡ number → IsNext (truth ++ rest) number → IsNext (truth ++ (rest ++ entries.Held item ∷ [])) (number + 1)
-next_push truth rest number item version next =
-    let same : floor_of (truth ++ (rest ++ entries.Held item ∷ [])) ≡ max (floor_of (truth ++ rest)) (item.version + 1) =
-    ap floor_of (sym (append_assoc truth rest (entries.Held item ∷ []))) ∙ fold-append floor_by 1 (truth ++ rest) (entries.Held item ∷ []) in
-    omega (arith, same, version, next)
+next_push truth rest number item version next = grind (arith, floor_of, max, append_assoc, fold-append, floor_by)
 
 -- an entry that bears neither a version nor a floor leaves the next number what it is
 pub next_stays : (truth rest : List Entry) (number : ℕ) (refused : Refused) → IsNext (truth ++ rest) number → IsNext (truth ++ (rest ++ entries.Refused refused ∷ [])) number
-next_stays truth rest number refused next =
-    subst (λ (floor : ℕ). floor ≤ number)
-    (sym
-    (ap floor_of (sym (append_assoc truth rest (entries.Refused refused ∷ [])))
-    ∙ fold-append floor_by 1 (truth ++ rest) (entries.Refused refused ∷ [])))
-    next
+next_stays truth rest number refused next = grind (arith, floor_of, append_assoc, fold-append, floor_by)

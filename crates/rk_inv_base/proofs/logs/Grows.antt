@@ -1,11 +1,9 @@
 -- What a backup stores of a member, and what it tells, once the member's log has more entries at its end.
-use Rattle.std.proofs.Common.{◌≡◌, ℕ, zero, suc, ◌≤◌, Bool, true, false, cond, List, [], ◌∷◌, ◌++◌, refl, sym, ap, ◌∙◌, subst, arith}
-use Rattle.std.proofs.Common.{append_assoc, drop, take, length, nat_le, All, Contains}
-use Rattle.rk_inv_base.proofs.Words.{flat_map-append, All-weaker, Contains-append_left, filter-append, prefix_len, Ended, Held, Range}
-use Rattle.rk_inv_base.proofs.Words.{spelled, Entry, ends, end_of, cut, with_bytes, Log, with_entry, EntryEnd, items_in, items_of, told}
-use Rattle.rk_inv_base.proofs.Words.{told_by, is_marked, unmarked, unmarked_from, counts, counting, Mark, TellNoMore, stored_count}
-use Rattle.rk_log.proofs.Cuts.{ends_push}
-use Rattle.rk_log.proofs.Prefixes.{prefix_len_push_le}
+use Rattle.rk_inv_base.proofs.Words.{◌≡◌, ℕ, zero, suc, ◌≤◌, Bool, true, false, cond, List, [], ◌∷◌, ◌++◌, refl, sym, ap, ◌∙◌, subst, arith}
+use Rattle.rk_inv_base.proofs.Words.{append_assoc, drop, take, length, nat_le, Contains, flat_map-append, All-weaker, Contains-append_left}
+use Rattle.rk_inv_base.proofs.Words.{filter-append, Held, Range, spelled, Entry, ends, end_of, cut, with_bytes, Log, with_entry, EntryEnd}
+use Rattle.rk_inv_base.proofs.Words.{items_in, items_of, told, told_by, is_marked, unmarked, unmarked_from, counts, counting, Mark}
+use Rattle.rk_inv_base.proofs.Words.{TellNoMore, stored_count, ends_push, prefix_len_push_le}
 use Rattle.rk_inv_base.proofs.logs.Floors.{floor_append}
 
 -- entries are others with more behind them
@@ -15,15 +13,11 @@ pub record Extends (old new : List Entry) : Type 0 where
 
 -- what is among some is among these with others
 pub still_contains : (old new : List Entry) (entry : Entry) → Extends old new → Contains old entry → Contains new entry
-still_contains old new entry grown has =
-    subst (λ (all : List Entry). Contains all entry) (sym grown.parts) (Contains-append_left old grown.more entry has)
+still_contains old new entry grown has = rw grown.parts (Contains-append_left old grown.more entry has)
 
 -- also behind further ones
 pub extends_behind : (front old new : List Entry) → Extends old new → Extends (front ++ old) (front ++ new)
-extends_behind front old new grown = record {
-  more = grown.more;
-  parts = ap (λ (all : List Entry). front ++ all) grown.parts ∙ sym (append_assoc front old grown.more);
-}
+extends_behind front old new grown = grind (arith, append_assoc)
 
 -- so are the first of them, where no fewer are taken
 pub take_extends : (few many : ℕ) (list behind : List Entry) → few ≤ many → Extends (take few list) (take many (list ++ behind))
@@ -67,8 +61,7 @@ counting_extends range marks place old new grown =
 pub stored_push : (log : Log) (entry : Entry) (stored : ℕ → List ℕ) → stored_count log stored ≤ stored_count (with_entry log entry) stored
 stored_push log entry stored =
     let p : EntryEnd → Bool = λ (end : EntryEnd). nat_le end.offset (length (stored end.segment)) in
-    subst (λ (all : List EntryEnd). prefix_len p (ends log.entries) ≤ prefix_len p all) (sym (ends_push [] log.entries entry))
-    (prefix_len_push_le p (ends log.entries) (end_of (with_bytes (cut log.entries) (spelled entry))))
+    rw (ends_push [] log.entries entry) (prefix_len_push_le p (ends log.entries) (end_of (with_bytes (cut log.entries) (spelled entry))))
 
 -- what tells no more than some tells no more than these with others
 pub tells_extended : (list old new : List Entry) → Extends old new → TellNoMore list old → TellNoMore list new
@@ -78,8 +71,7 @@ tells_extended list old new grown tells =
           subst (λ (items : List Held). Contains items item) (sym (flat_map-append items_in old grown.more))
           (Contains-append_left (items_of old) (items_of grown.more) item (tells.items item at));
       ends =
-          subst (λ (all : List Ended). All (Contains all) (told list)) (sym (flat_map-append told_by old grown.more))
-          (All-weaker (Contains (told old)) (Contains (told old ++ told grown.more))
+          rw (flat_map-append told_by old grown.more) (All-weaker (Contains (told old)) (Contains (told old ++ told grown.more))
           (λ end at. Contains-append_left (told old) (told grown.more) end at) (told list) tells.ends);
       floor =
           let rises = floor_append 1 old grown.more in

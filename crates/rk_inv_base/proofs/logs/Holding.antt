@@ -1,7 +1,6 @@
 -- Every backup holds what is applied.
-use Rattle.std.proofs.Common.{ℕ, ◌<◌, ◌≤◌, List, length, Option, Some, None, subst, arith, IfSome, slice_get}
-use Rattle.rk_inv_base.proofs.Words.{Entry, ends, Known, known_length, Log, IsBackup, known_of, EntryEnd, Written, IsLog}
-use Rattle.rk_log.proofs.LogLaws.{committed_held}
+use Rattle.rk_inv_base.proofs.Words.{ℕ, ◌<◌, ◌≤◌, List, length, Option, Some, None, subst, arith, IfSome, slice_get, Entry, ends, Known}
+use Rattle.rk_inv_base.proofs.Words.{known_length, Log, IsBackup, known_of, EntryEnd, Written, IsLog, committed_held}
 
 -- what is known to be stored is stored
 pub told_stored : (known : Known) (stored : ℕ → List ℕ) → ((segment : ℕ) → known_length known segment ≤ length (stored segment)) → (found : Option EntryEnd) → IfSome found (λ end. end.offset ≤ known_length known end.segment) → IfSome found (λ end. end.offset ≤ length (stored end.segment))

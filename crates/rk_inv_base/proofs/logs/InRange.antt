@@ -1,15 +1,13 @@
 -- What of a range stands in records once the items of a range are dropped that does not meet it.
-use Rattle.std.proofs.Common.{◌≡◌, ℕ, Bool, true, false, not, ◌||◌, List, ap, ◌∙◌, ⊎_elim, filter, drop, All, Contains, sym, ◌⊎◌, Option}
-use Rattle.rk_inv_base.proofs.Words.{All-contains, list_any, meets, Held, Member, Range, Entry, is_in, without, is_of, items_of}
+use Rattle.rk_inv_base.proofs.Words.{arith}
+use Rattle.rk_inv_base.proofs.Words.{◌≡◌, ℕ, Bool, true, false, not, ◌||◌, List, ap, ◌∙◌, ⊎_elim, filter, drop, All, Contains, sym, ◌⊎◌}
+use Rattle.rk_inv_base.proofs.Words.{Option, All-contains, list_any, meets, Held, Member, Range, Entry, is_in, without, is_of, items_of}
 use Rattle.rk_inv_base.proofs.Words.{unmarked_from, material_of, side_entries, Written, applied_entries, member_truth, applied_from}
 use Rattle.rk_inv_base.proofs.Words.{IsFound, entries_from, scan_items, IsTableOf, list_any_none, Handover, Handed, IsRebuildTable}
 use Rattle.rk_inv_base.proofs.Words.{HasArrived, copied_items, own_place, named_items, Row, View, truths, false_from_ne_true, false≢true}
-use Rattle.rk_inv_base.proofs.Words.{filter_passes, counting, counts}
-use Rattle.rk_inv_base.proofs.rows.Apart.{key_outside}
+use Rattle.rk_inv_base.proofs.Words.{filter_passes, counting, counts, Pulling, IsTarget, HasCome}
+use Rattle.rk_inv_base.proofs.Base.{key_outside, all_by, none_pass}
 use Rattle.rk_inv_base.proofs.calls.Records.{filter_from, filter_stands, scanned_from, entries_in}
-use Rattle.rk_inv_base.proofs.views.Lists.{all_by, none_pass}
-use Rattle.rk_world.specs.Tablet.{Pulling}
-use Rattle.rk_sound.specs.Receives.{IsTarget, HasCome}
 use Rattle.rk_inv_base.proofs.views.WithRecords.{RebuildsWith}
 
 -- an item is in a range
@@ -84,10 +82,7 @@ module _ (range : Range) (old new : List Held) (same : HaveSame range old new) w
 
   -- the records have the newest items
   pub table_same : (list : List Entry) → IsTableOf range list old → IsTableOf range list new
-  table_same list was item inside = (
-    λ left. (was item inside).0 (same.come item inside left),
-    λ newest. same.stays item inside ((was item inside).1 newest),
-  )
+  table_same list was item inside = grind arith
 
   -- or none
   pub none_same : list_any (is_in range) old ≡ false → list_any (is_in range) new ≡ false

@@ -1,9 +1,8 @@
 -- What counts for the last member of a lineage and is not applied stands in the rest of the row; so does the entry of a call that waits.
-use Rattle.std.proofs.Common.{◌≡◌, ℕ, zero, suc, ◌+◌, ◌≤◌, Bool, true, false, cond, List, [], ◌∷◌, Some, ap, ◌∙◌, subst, arith, drop, max}
-use Rattle.std.proofs.Common.{slice_get, All}
-use Rattle.rk_inv_base.proofs.Words.{cond-true, All-head, All-tail, Call, Member, Range, Entry, Handover, lineage_of, Row, last_of}
-use Rattle.rk_inv_base.proofs.Words.{is_marked, unmarked, unmarked_from, counting, counts, Written, lineage_rest, member_rest, rest_of}
-use Rattle.rk_inv_base.proofs.Words.{Mark, Waits}
+use Rattle.rk_inv_base.proofs.Words.{◌≡◌, ℕ, zero, suc, ◌+◌, ◌≤◌, Bool, true, false, cond, List, [], ◌∷◌, Some, ap, ◌∙◌, subst, arith, drop}
+use Rattle.rk_inv_base.proofs.Words.{max, slice_get, All, cond-true, All-head, All-tail, Call, Member, Range, Entry, Handover, lineage_of}
+use Rattle.rk_inv_base.proofs.Words.{Row, last_of, is_marked, unmarked, unmarked_from, counting, counts, Written, lineage_rest, member_rest}
+use Rattle.rk_inv_base.proofs.Words.{rest_of, Mark, Waits}
 use Rattle.rk_inv_base.proofs.logs.Shares.{counts_call}
 
 -- what stands at a place stands behind each place before it

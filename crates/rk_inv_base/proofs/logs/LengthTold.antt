@@ -1,24 +1,20 @@
 -- A lane stays sound when a master is told that a backup stores so many bytes of a segment. What it believes then of the other backups,
 -- and what each other master believes, is as it was; what is needed of dead masters too, since this one lives.
-use Rattle.std.proofs.Common.{◌≡◌, ℕ, ◌-◌, ◌<◌, ◌≤◌, Bool, true, false, List, [], length, get_or, set, Option, Some, None, refl, sym, ap}
-use Rattle.std.proofs.Common.{◌∙◌, subst, ⊎_elim, arith, length-set, get_or-set_same, get_or-set_other, le-leb, leb-true, append-nil, All}
-use Rattle.rk_inv_base.proofs.Words.{cases_eq, false≢true, All-weaker, list_all, option_map_or, Node, NumberedBytes, told_other}
+use Rattle.rk_inv_base.proofs.Words.{◌≡◌, ℕ, ◌-◌, ◌≤◌, true, false, List, [], length, set, Option, refl, sym, ap}
+use Rattle.rk_inv_base.proofs.Words.{◌∙◌, subst, arith, length-set, get_or-set_same, get_or-set_other, le-leb, leb-true, append-nil}
+use Rattle.rk_inv_base.proofs.Words.{All, cases_eq, false≢true, All-weaker, list_all, option_map_or, Node, NumberedBytes, told_other}
 use Rattle.rk_inv_base.proofs.Words.{list_all_each, Known, is_whole, known_length, nothing, IsBackup, Log, is_side_stored, known_of}
 use Rattle.rk_inv_base.proofs.Words.{segment_of, side_segments, Body, Append, with_known, World, master_at, tablet_in, Written, IsCopy}
 use Rattle.rk_inv_base.proofs.Words.{IsFromLog, IsKnownBefore, IsLog, LogSays, segments_in, stored_of, READ_BACKUP, View, view, IsSound}
-use Rattle.rk_inv_base.proofs.Words.{LogsOf, SoundView, committed}
+use Rattle.rk_inv_base.proofs.Words.{LogsOf, SoundView, committed, told_more, committed_told, list_all-set, with_told, MayTell, length_told}
+use Rattle.rk_inv_base.proofs.Words.{length_told_in}
 use Rattle.rk_types.specs.declared.node.Node.TheVariants as nodes
-use Rattle.rk_log.proofs.KnownLaws.{told_length, told_more}
-use Rattle.rk_log.proofs.LogLaws.{committed_told}
-use Rattle.rk_log.proofs.Prefixes.{list_all-set}
-use Rattle.rk_log.specs.Known.{told}
-use Rattle.rk_log.specs.Log.{with_told}
 use Rattle.rk_message.specs.declared.message.Body.TheVariants as bodies
-use Rattle.rk_sound.specs.Changes.{MayTell}
-use Rattle.rk_sound.specs.Small.{length_told, length_told_in}
-use Rattle.rk_inv_base.proofs.views.Put.{put2_same, put_by, put_other, put_same}
+use Rattle.std.proofs.Common.{get_or}
+use Rattle.rk_log.proofs.KnownLaws.{told_length}
+use Rattle.rk_log.specs.Known.{told}
+use Rattle.rk_inv_base.proofs.Base.{put2_same, put_by, put_other, put_same, view_master}
 use Rattle.rk_inv_base.proofs.logs.Copies.{view_with_copies}
-use Rattle.rk_inv_base.proofs.views.Views.{view_master}
 pub use Rattle.rk_inv_base.proofs.logs.Copies.{each_member, members_by}
 
 -- ---- what a log knows of its backups
@@ -34,18 +30,7 @@ module _ (log : Log) (backup segment size : ℕ) (numbered : IsBackup log backup
 
   -- a statement of what a backup is known to hold is one of the teller or one of another
   by_teller : (P : Known → Type 0) (b : ℕ) → (b - 1 ≡ backup - 1 → P (told (known_of log b) segment size)) → P (known_of log b) → P (known_of new b)
-  by_teller P b here apart =
-      ⊎_elim
-      (λ (same : b - 1 ≡ backup - 1).
-      subst P
-      (sym
-      (ap (λ (n : ℕ). get_or (set log.known (backup - 1) now_known) n nothing) same
-      ∙ get_or-set_same log.known (backup - 1) now_known nothing (omega (arith, numbered.first, numbered.last))
-      ∙ ap (λ (n : ℕ). told (get_or log.known n nothing) segment size) (sym same)))
-      (here same))
-      (λ (other : b - 1 ≡ backup - 1 → ⊥).
-      subst P (sym (get_or-set_other log.known (backup - 1) (b - 1) now_known nothing (λ e. other (omega (arith, e))))) apart)
-      (cases_eq (b - 1) (backup - 1))
+  by_teller P b here apart = grind (arith, get_or, set, nothing, get_or-set_same, told, get_or-set_other, cases_eq)
 
   -- no less is known than before
   known_rises : (b s : ℕ) → known_length (known_of log b) s ≤ known_length (known_of new b) s
@@ -59,13 +44,7 @@ module _ (log : Log) (backup segment size : ℕ) (numbered : IsBackup log backup
 
   -- what is told is stored
   told_within : (known : Known) (stored : ℕ → List ℕ) (s : ℕ) → size ≤ length (stored segment) → known_length known s ≤ length (stored s) → known_length (told known segment size) s ≤ length (stored s)
-  told_within known stored s is_stored old =
-      ⊎_elim
-      (λ (its : s ≡ segment).
-      let least = subst (λ (n : ℕ). size ≤ length (stored n)) (sym its) is_stored in
-      omega (arith, told_length known segment size s its, least, old))
-      (λ (other : s ≡ segment → ⊥). omega (arith, told_other known segment size s other, old))
-      (cases_eq s segment)
+  told_within known stored s is_stored old = grind (arith, length, told_length, told_other, cases_eq)
 
   copy_told : (stored : ℕ → List ℕ) (b : ℕ) → IsBackup log b → (b ≡ backup → size ≤ length (stored segment)) → IsCopy log stored (known_of log b) → IsCopy new stored (known_of new b)
   copy_told stored b there is_stored old = record {
@@ -80,15 +59,8 @@ module _ (log : Log) (backup segment size : ℕ) (numbered : IsBackup log backup
 
   -- a side segment that every backup is known to hold is so still
   part_told : (found : Option NumberedBytes) → option_map_or (λ part. list_all (λ known. is_whole known part) log.known) found false ≡ true → option_map_or (λ part. list_all (λ known. is_whole known part) new.known) found false ≡ true
-  part_told None stored = stored
-  part_told (Some part) stored =
-      let whole : Known → Bool = λ (known : Known). is_whole known part in
-      let within : backup - 1 < length log.known = omega (arith, numbered.first, numbered.last) in
-      let was = leb-true (length part.bytes) (known_length (known_of log backup) part.number)
-      (list_all_each whole log.known (backup - 1) nothing stored within) in
-      list_all-set whole log.known (backup - 1) now_known stored
-      (le-leb (length part.bytes) (known_length now_known part.number)
-      (omega (arith, was, told_more (known_of log backup) segment size part.number)))
+  part_told found stored =
+      grind (arith, is_whole, length, leb-true, known_length, known_of, list_all_each, nothing, list_all-set, le-leb, told_more)
 
   side_told : (number : ℕ) → is_side_stored log number ≡ true → is_side_stored new number ≡ true
   side_told number = part_told (segment_of number (side_segments log))

@@ -1,14 +1,12 @@
 -- The part Logs through small changes.
-use Rattle.std.proofs.Common.{◌≡◌, ℕ, ◌≤◌, true, List, [], ◌∷◌, ◌++◌, length, refl, sym, ap, subst, ◌∙◌, ⊎_elim, arith, append_assoc}
-use Rattle.std.proofs.Common.{length-append, ◌≢◌, All}
-use Rattle.rk_inv_base.proofs.Words.{cases_eq, All-nil, All-push, All-weaker, each_weaker, Node, Entry, Known, Log, bytes_of}
+use Rattle.rk_inv_base.proofs.Words.{◌≡◌, ℕ, ◌≤◌, true, List, [], ◌∷◌, ◌++◌, length, refl, sym, ap, subst, ◌∙◌, arith, append_assoc}
+use Rattle.rk_inv_base.proofs.Words.{length-append, ◌≢◌, All, All-nil, All-push, All-weaker, Node, Entry, Known, Log, bytes_of}
 use Rattle.rk_inv_base.proofs.Words.{is_side_stored, known_of, with_entry, Body, Append, Written, Mark, HasSegmentLeft, IsFirstPart, IsCopy}
 use Rattle.rk_inv_base.proofs.Words.{IsKnownBefore, IsLog, IsFromLog, Logs, LogSays, segments_in, stored_of, put, with_one_more, View}
-use Rattle.rk_inv_base.proofs.Words.{LogsOf}
+use Rattle.rk_inv_base.proofs.Words.{LogsOf, committed_entry}
 use Rattle.rk_types.specs.declared.node.Node.TheVariants as nodes
-use Rattle.rk_log.proofs.LogLaws.{committed_entry}
 use Rattle.rk_message.specs.declared.message.Body.TheVariants as bodies
-use Rattle.rk_inv_base.proofs.views.Put.{put_by, put_here, put_other}
+use Rattle.rk_inv_base.proofs.views.Put.{put_by}
 use Rattle.rk_inv_base.proofs.logs.Segments.{Grows, grows_entry}
 
 -- ---- a log grows at its end
@@ -23,10 +21,7 @@ none_stored log entry none =
     subst (All (λ segment. is_side_stored log segment ≡ true)) (sym none) (All-nil (λ segment. is_side_stored log segment ≡ true))
 
 pub first_part_more : (a b c : List ℕ) → IsFirstPart a b → IsFirstPart b c → IsFirstPart a c
-first_part_more a b c first next = record {
-  more = first.more ++ next.more;
-  parts = next.parts ∙ ap (λ (l : List ℕ). l ++ next.more) first.parts ∙ append_assoc a first.more next.more;
-}
+first_part_more a b c first next = grind (arith, append_assoc)
 
 -- bytes behind others are none where all are
 pub none_behind : (before bytes behind : List ℕ) → before ++ (bytes ++ behind) ≡ [] → bytes ≡ []
@@ -92,8 +87,7 @@ module _ (v : View) (master : ℕ) (entry : Entry) (few : HasSegmentLeft (v.logs
   says_grown (nodes.Master q) (nodes.Backup backup) (bodies.Append append) piece =
       put_by v.logs master (λ log. with_entry log entry) (λ log. IsFromLog log (known_of log backup) append) q
       (λ here.
-      subst (λ (m : ℕ). IsFromLog (with_entry (v.logs m) entry) (known_of (v.logs m) backup) append) (sym here)
-      (piece_grown (v.logs master) (with_entry (v.logs master) entry) (known_of (v.logs master) backup) append
+      rw here (piece_grown (v.logs master) (with_entry (v.logs master) entry) (known_of (v.logs master) backup) append
       (grows_entry (v.logs master) entry few)
       (subst (λ (m : ℕ). IsFromLog (v.logs m) (known_of (v.logs m) backup) append) here piece)))
       (λ apart. piece)
@@ -101,26 +95,18 @@ module _ (v : View) (master : ℕ) (entry : Entry) (few : HasSegmentLeft (v.logs
 
   -- one more entry at the end of a master's log, which names only side segments that every backup is known to hold
   pub logs_grown : LogsOf v → AreStored (v.logs master) entry → Logs logs (put v.written master (with_one_more (v.written master) entry)) v.stored v.wire
-  logs_grown old held = record {
-    each = λ q.
-        ⊎_elim
-        (λ (here : q ≡ master).
-        subst (λ (m : ℕ). IsLog (logs m) (put v.written master (with_one_more (v.written master) entry) m) (stored_of v.stored m)) (sym here)
-        (subst (λ (l : Log). IsLog l (put v.written master (with_one_more (v.written master) entry) master) (stored_of v.stored master))
-        (sym (put_here v.logs master (with_entry (v.logs master) entry) master refl))
-        (subst (λ (w : Written). IsLog (with_entry (v.logs master) entry) w (stored_of v.stored master))
-        (sym (put_here v.written master (with_one_more (v.written master) entry) master refl))
-        (log_grown (v.logs master) (v.written master) (stored_of v.stored master) entry (grows_entry (v.logs master) entry few) held
-        (old.each master)))))
-        (λ (apart : q ≡ master → ⊥).
-        subst (λ (l : Log). IsLog l (put v.written master (with_one_more (v.written master) entry) q) (stored_of v.stored q))
-        (sym (put_other v.logs master (with_entry (v.logs master) entry) q apart))
-        (subst (λ (w : Written). IsLog (v.logs q) w (stored_of v.stored q))
-        (sym (put_other v.written master (with_one_more (v.written master) entry) q apart)) (old.each q)))
-        (cases_eq q master);
-    sent =
-        each_weaker (λ number message. LogSays v.logs v.stored message.from message.to message.body)
-        (λ number message. LogSays logs v.stored message.from message.to message.body) v.wire
-        (λ number message. says_grown message.from message.to message.body)
-        old.sent;
-  }
+  logs_grown old held =
+      let Grown : Log → Written → ℕ → Type 0 = λ l w q. IsLog l w (stored_of v.stored q) in
+      let grown : (q : ℕ) → q ≡ master → Grown (with_entry (v.logs q) entry) (with_one_more (v.written q) entry) q = λ q at.
+      rw at (log_grown (v.logs master) (v.written master) (stored_of v.stored master) entry (grows_entry (v.logs master) entry few) held
+      (old.each master)) in
+      let now : ℕ → Written = put v.written master (with_one_more (v.written master) entry) in
+      let more : (l : Log) (q : ℕ) → (q ≡ master → Grown l (with_one_more (v.written q) entry) q) → ((q ≡ master → ⊥) → Grown l (v.written q) q) → Grown l (now q) q = λ l q.
+      put_by v.written master (λ w. with_one_more w entry) (λ (w : Written). Grown l w q) q in
+      record {
+        each = λ q.
+            put_by v.logs master (λ l. with_entry l entry) (λ (l : Log). Grown l (now q) q) q
+            (λ at. more (with_entry (v.logs q) entry) q (grown q) (λ apart. absurd (apart at)))
+            (λ apart. more (v.logs q) q (λ at. absurd (apart at)) (λ _. old.each q));
+        sent = λ n m there. says_grown m.from m.to m.body (old.sent n m there);
+      }

@@ -1,17 +1,13 @@
 -- What is marked in a log is of rows that are rebuilt, and counts for no other row.
-use Rattle.std.proofs.Common.{◌≡◌, ℕ, zero, suc, ◌+◌, ◌-◌, ◌<◌, ◌≤◌, true, false, ◌&&◌, List, [], ◌∷◌, Option, Some, None, refl, sym, ap}
-use Rattle.std.proofs.Common.{subst, ◌∙◌, ⊎_elim, arith, drop, is_some, nat_le, nat_lt, slice_get, take, Contains, leb-true, ltb-true}
-use Rattle.rk_inv_base.proofs.Words.{and_parts, cond-false, cond_both, false≢true, nat_tests, All-contains, All-nil, Any-from_list_any}
-use Rattle.rk_inv_base.proofs.Words.{meets, Member, Range, Entry, number_of, Precedes, row_of, Rebuilding, Row, told, is_marked, counting}
-use Rattle.rk_inv_base.proofs.Words.{counts, has_all, Mark, HasOwnRange, IsOfRange, MarkFits, MarkedFit, TellNoMore, marked_entries}
-use Rattle.rk_inv_base.proofs.Words.{member_marked, View, SoundView}
+use Rattle.rk_inv_base.proofs.Words.{◌≡◌, ℕ, zero, suc, ◌+◌, ◌-◌, ◌<◌, ◌≤◌, true, false, ◌&&◌, List, [], ◌∷◌, Option, Some, None, refl, sym}
+use Rattle.rk_inv_base.proofs.Words.{ap, subst, ◌∙◌, ⊎_elim, arith, drop, is_some, nat_le, nat_lt, slice_get, take, Contains, leb-true}
+use Rattle.rk_inv_base.proofs.Words.{ltb-true, and_parts, cond-false, cond_both, false≢true, nat_tests, All-contains}
+use Rattle.rk_inv_base.proofs.Words.{Any-from_list_any, meets, Member, Range, Entry, number_of, Precedes, row_of, Rebuilding, Row, told}
+use Rattle.rk_inv_base.proofs.Words.{is_marked, counting, counts, has_all, Mark, HasOwnRange, IsOfRange, MarkFits, MarkedFit, TellNoMore}
+use Rattle.rk_inv_base.proofs.Words.{marked_entries, member_marked, View, SoundView}
 use Rattle.rk_entry.specs.declared.entry.Entry.TheVariants as entries
-use Rattle.rk_inv_base.proofs.rows.Apart.{key_outside, one_precedes}
-use Rattle.rk_inv_base.proofs.logs.InRest.{behind_at}
+use Rattle.rk_inv_base.proofs.Base.{key_outside, one_precedes, behind_at, behind_first, row_in, floor_rises}
 use Rattle.rk_inv_base.proofs.rows.Serving.{found_stands}
-use Rattle.rk_inv_base.proofs.rows.TurnedRows.{behind_first}
-use Rattle.rk_inv_base.proofs.views.ByRows.{row_in}
-use Rattle.rk_inv_base.proofs.logs.Floors.{floor_rises}
 
 -- ---- places
 
@@ -46,8 +42,7 @@ not_all a b apart some = grind (arith, nat_tests)
 -- an entry of a rebuild of another range does not count
 pub entry_apart : (a b : Range) → meets a b ≡ false → meets b a ≡ false → b.first ≤ b.last → (entry : Entry) → IsOfRange a entry → counts b entry ≡ false
 entry_apart a b apart back some (entries.Held held) of = key_outside b a held.table held.key back of
-entry_apart a b apart back some (entries.Carried carried) of =
-    subst (λ (range : Range). has_all range b ≡ false) (sym of) (not_all a b apart some)
+entry_apart a b apart back some (entries.Carried carried) of = rw of (not_all a b apart some)
 entry_apart a b apart back some _ of = absurd of
 
 -- ranges that do not meet do not the other way round
@@ -75,11 +70,7 @@ none_counted range marks (entry ∷ list) place none =
 -- ---- nothing tells no more than any entries
 
 pub none_tells : (others : List Entry) → TellNoMore [] others
-none_tells others = record {
-  items = λ item at. absurd (omega (arith, at.1));
-  ends = All-nil (Contains (told others));
-  floor = floor_rises 1 others;
-}
+none_tells others = grind (arith, told, floor_rises)
 
 -- ---- a row that is not rebuilt
 

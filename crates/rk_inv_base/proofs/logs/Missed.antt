@@ -1,12 +1,12 @@
 -- What entries that do not touch a range tell of it: nothing; and what a history leaves at a key that it has no record of.
-use Rattle.std.proofs.Common.{◌≡◌, ℕ, suc, ◌≤◌, Bool, true, false, cond, ◌&&◌, eqb, leb, List, [], ◌∷◌, ◌++◌, None, Some, Option, refl, ap}
-use Rattle.std.proofs.Common.{◌∙◌, arith, drop, filter, fold, All, flat_map}
-use Rattle.rk_inv_base.proofs.Words.{nat_tests, All-cons, All-head, All-tail, list_any, Placed, Range, name-swap, Map, is_at, map_after}
-use Rattle.rk_inv_base.proofs.Words.{map_with, with_change, change_of, Entry, is_marked, unmarked, unmarked_from, touches, counting, counts}
-use Rattle.rk_inv_base.proofs.Words.{is_joined_in, material_of, named, named_by, with_number, Mark, All-drop, list_any_none, All-weaker}
-use Rattle.rk_model.specs.Machine.{Entry as MapEntry}
+use Rattle.rk_inv_base.proofs.Words.{◌≡◌, ℕ, suc, ◌≤◌, Bool, true, false, cond, ◌&&◌, eqb, leb, List, [], ◌∷◌, ◌++◌, None, Some, Option}
+use Rattle.rk_inv_base.proofs.Words.{refl, ap, ◌∙◌, arith, drop, filter, fold, All, flat_map, nat_tests, All-cons, All-head, All-tail}
+use Rattle.rk_inv_base.proofs.Words.{list_any, Placed, Range, name-swap, Map, is_at, map_after, map_with, with_change, change_of, Entry}
+use Rattle.rk_inv_base.proofs.Words.{is_marked, unmarked, unmarked_from, touches, counting, counts, is_joined_in, material_of, named}
+use Rattle.rk_inv_base.proofs.Words.{named_by, with_number, Mark, All-drop, list_any_none, All-weaker}
 use Rattle.rk_entry.specs.declared.entry.Entry.TheVariants as entries
-use Rattle.rk_inv_base.proofs.views.Lists.{none_kept}
+use Rattle.rk_model.specs.Machine.{Entry as MapEntry}
+use Rattle.rk_inv_base.proofs.Base.{none_kept}
 
 -- an entry does not touch a range
 abbrev pub Misses : Range → Entry → Type 0
@@ -37,10 +37,7 @@ pub not_all : (s f l t g m : ℕ) → g ≤ m → (eqb s t && leb f m && leb g l
 not_all s f l t g m some apart = grind (arith, nat_tests)
 
 pub counts_none : (range : Range) (entry : Entry) → range.first ≤ range.last → Misses range entry → counts range entry ≡ false
-counts_none range (entries.Carried carried) some misses =
-    not_all carried.range.table carried.range.first carried.range.last range.table range.first range.last some misses
-counts_none range (entries.Joined joined) some misses = refl
-counts_none range _ some misses = misses
+counts_none range entry some misses = grind (arith, not_all)
 
 pub counting_none : (range : Range) (list : List Entry) → range.first ≤ range.last → All (Misses range) list → counting range list ≡ []
 counting_none range list some all =

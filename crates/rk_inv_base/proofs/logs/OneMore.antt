@@ -1,21 +1,15 @@
 -- One more entry at the end of a master's log: what counts of logs, what backups store of them and what has to be read of them stays as it
 -- was, but for the range that the entry is of.
-use Rattle.std.proofs.Common.{◌≡◌, ℕ, ◌≤◌, max, true, false, List, [], ◌∷◌, ◌++◌, length, Some, refl, sym, ap, subst, ◌∙◌, arith, All, drop}
-use Rattle.std.proofs.Common.{take, length-append, append-nil}
-use Rattle.rk_inv_base.proofs.Words.{All-head, All-tail, cond-false, false≢true, IsPlaced, last_of, take-append-le, meets, Member, Range}
-use Rattle.rk_inv_base.proofs.Words.{Entry, lineage_of, Row, Log, with_entry, unmarked_from, counting, counts, touches, log_material}
-use Rattle.rk_inv_base.proofs.Words.{named_by, is_joined_in, Written, applied_entries, member_truth, member_rest, member_material}
-use Rattle.rk_inv_base.proofs.Words.{lineage_rest, rest_of, stored_of, MarkedFit, READ_BACKUP, TellNoMore, marked_entries, member_marked}
-use Rattle.rk_inv_base.proofs.Words.{member_stored, stored_count, put, with_one_more, View, truths, rests, LogsOf}
+use Rattle.rk_inv_base.proofs.Words.{◌≡◌, ℕ, ◌≤◌, max, true, false, List, [], ◌∷◌, ◌++◌, length, Some, refl, sym, ap, subst, ◌∙◌, arith}
+use Rattle.rk_inv_base.proofs.Words.{All, drop, take, length-append, append-nil, All-head, All-tail, cond-false, false≢true, IsPlaced}
+use Rattle.rk_inv_base.proofs.Words.{last_of, take-append-le, meets, Member, Range, Entry, lineage_of, Row, Log, with_entry, unmarked_from}
+use Rattle.rk_inv_base.proofs.Words.{counting, counts, touches, log_material, named_by, is_joined_in, Written, applied_entries}
+use Rattle.rk_inv_base.proofs.Words.{member_truth, member_rest, member_material, lineage_rest, rest_of, stored_of, MarkedFit, READ_BACKUP}
+use Rattle.rk_inv_base.proofs.Words.{TellNoMore, marked_entries, member_marked, member_stored, stored_count, put, with_one_more, View}
+use Rattle.rk_inv_base.proofs.Words.{truths, rests, LogsOf, truth_of}
 use Rattle.rk_entry.specs.declared.entry.Entry.TheVariants as entries
-use Rattle.rk_world.specs.Written.{truth_of}
-use Rattle.rk_inv_base.proofs.views.Put.{put_by}
-use Rattle.rk_inv_base.proofs.calls.Appending.{truth_by, truth_is}
-use Rattle.rk_inv_base.proofs.logs.Applied.{applied_within}
-use Rattle.rk_inv_base.proofs.logs.Grows.{Extends, counting_extends, extends_behind, stored_push, take_extends, tells_extended}
-use Rattle.rk_inv_base.proofs.logs.Shares.{material_outside, rest_inside, rest_outside}
-use Rattle.rk_inv_base.proofs.wire.Messages.{NeedNoMore}
-use Rattle.rk_inv_base.proofs.views.Needed.{needed_grown}
+use Rattle.rk_inv_base.proofs.Base.{put_by, truth_by, truth_is, applied_within, Extends, counting_extends, extends_behind, stored_push}
+use Rattle.rk_inv_base.proofs.Base.{take_extends, tells_extended, material_outside, rest_inside, rest_outside, NeedNoMore, needed_grown}
 
 -- an entry is of other ranges than this
 pub record IsBeside (range : Range) (entry : Entry) : Type 0 where
@@ -80,13 +74,7 @@ module _ (v : View) (master : ℕ) (entry : Entry) (sound : LogsOf v) where
 
   -- what is applied counts as before
   pub truth_same : (range : Range) (member : Member) → member_truth written range member ≡ member_truth v.written range member
-  truth_same range member =
-      of_written
-      (λ (w : Written). log_material range w.marks w.sides member.from (applied_entries w) ≡ member_truth v.written range member) member.master
-      (λ at.
-      let w : Written = v.written member.master in
-      ap (log_material range w.marks w.sides member.from) (take-append-le w.applied w.entries (entry ∷ []) (within member.master)))
-      (λ apart. refl)
+  truth_same range member = grind (arith, of_written, log_material, applied_entries, member_truth, take-append-le, within)
 
   -- so does what a member has written, unless it is the one that appends, and of the range
   pub material_same : (range : Range) (member : Member) → (member.master ≡ master → IsBeside range entry) → member_material written range member ≡ member_material v.written range member
@@ -99,14 +87,7 @@ module _ (v : View) (master : ℕ) (entry : Entry) (sound : LogsOf v) where
       (λ apart. refl)
 
   pub rest_same : (range : Range) (member : Member) → (member.master ≡ master → counts range entry ≡ false) → member_rest written range member ≡ member_rest v.written range member
-  rest_same range member beside =
-      of_written
-      (λ (w : Written). counting range (unmarked_from w.marks (max member.from w.applied) w.entries) ≡ member_rest v.written range member)
-      member.master
-      (λ at.
-      let w : Written = v.written member.master in
-      rest_outside range entry (beside at) w.marks (max member.from w.applied) w.entries)
-      (λ apart. refl)
+  rest_same range member beside = grind (arith, of_written, counting, unmarked_from, max, member_rest, rest_outside)
 
   -- the truth of each row is as before, and the rest of each one for which the entry does not count
   pub truth_at : (x : Row) → truth_of v.base written x ≡ truths v x
@@ -192,8 +173,7 @@ module _ (v : View) (master : ℕ) (entry : Entry) (sound : LogsOf v) where
         let material : member_material written range one ≡ own = material_same range one (first one last more refl) in (
           λ dead.
               subst (λ (list : List Entry). TellNoMore list (member_material written range one ++ new)) (sym (marked_dead range one dead))
-              (subst (λ (list : List Entry). TellNoMore (member_marked v.written range one) (list ++ new)) (sym material)
-              (tells_extended (member_marked v.written range one) (own ++ was) (own ++ new)
+              (rw material (tells_extended (member_marked v.written range one) (own ++ was) (own ++ new)
               (extends_behind own was new (stored_after range last)) (fit.0 dead))),
           λ dead.
               rw (marked_dead range last dead, material, material_dead range last dead) (fit.1 dead),

@@ -1,14 +1,12 @@
 -- The bytes of a log's segments, and how they grow by one more entry.
-use Rattle.std.proofs.Common.{◌≡◌, ℕ, zero, suc, ◌+◌, ◌-◌, ◌<◌, ◌≤◌, ◌^◌, eqb, List, [], ◌∷◌, ◌++◌, length, get_or, Option, Some, None}
-use Rattle.std.proofs.Common.{refl, sym, ap, subst, ◌∙◌, ⊎_elim, arith, length-set, length-append, get_or-set_same, get_or-set_other, ◌≢◌}
-use Rattle.std.proofs.Common.{eq-eqb, ne_eqb, lt-ltb, ltb-true, append-nil}
-use Rattle.rk_inv_base.proofs.Words.{cases_eq, cases_lt, cond-true, cond-false, cond_both, get_or_append_left, get_or_past, find-append}
-use Rattle.rk_inv_base.proofs.Words.{option_map_or, option_or, NumberedBytes, spelled, Entry, FIRST_SIDE_SEGMENT, cut_push, cut_filled}
-use Rattle.rk_inv_base.proofs.Words.{room_some, has_room, in_last, with_bytes, cut, Log, bytes_of, numbered, segment_of, side_segments}
-use Rattle.rk_inv_base.proofs.Words.{with_entry, IsFirstPart, is_main}
-use Rattle.rk_log.proofs.Cuts.{length-le-bytes}
+use Rattle.rk_inv_base.proofs.Words.{◌≡◌, ℕ, zero, suc, ◌+◌, ◌-◌, ◌<◌, ◌≤◌, ◌^◌, eqb, List, [], ◌∷◌, ◌++◌, length, Option, Some, None, refl}
+use Rattle.rk_inv_base.proofs.Words.{sym, ap, subst, ◌∙◌, ⊎_elim, arith, length-set, length-append, get_or-set_same, get_or-set_other, ◌≢◌}
+use Rattle.rk_inv_base.proofs.Words.{eq-eqb, ne_eqb, lt-ltb, ltb-true, append-nil, cases_eq, cases_lt, cond-true, cond-false, cond_both}
+use Rattle.rk_inv_base.proofs.Words.{get_or_append_left, get_or_past, find-append, option_map_or, option_or, NumberedBytes, spelled, Entry}
+use Rattle.rk_inv_base.proofs.Words.{FIRST_SIDE_SEGMENT, cut_push, cut_filled, room_some, has_room, in_last, with_bytes, cut, Log, bytes_of}
+use Rattle.rk_inv_base.proofs.Words.{numbered, segment_of, side_segments, with_entry, IsFirstPart, is_main, length-le-bytes, segment_bytes}
+use Rattle.std.proofs.Common.{get_or}
 use Rattle.rk_log.specs.Cut.{last_of}
-use Rattle.rk_log.specs.Log.{segment_bytes}
 
 -- ---- segments by their numbers
 
@@ -55,16 +53,7 @@ bytes_main log number some less =
 
 -- a main segment has bytes where a later one has some
 pub bytes_before : (log : Log) (earlier later : ℕ) → 1 ≤ earlier → earlier < later → later < FIRST_SIDE_SEGMENT → 0 < length (bytes_of log later) → 0 < length (bytes_of log earlier)
-bytes_before log earlier later some before less filled =
-    ⊎_elim
-    (λ (within : later - 1 < length (cut log.entries)).
-    subst (λ (bytes : List ℕ). 0 < length bytes) (sym (bytes_main log earlier some (omega arith)))
-    (cut_filled [] log.entries (λ k h. absurd (omega arith)) (earlier - 1) (omega arith)))
-    (λ (past : length (cut log.entries) ≤ later - 1).
-    let none : bytes_of log later ≡ [] =
-    bytes_main log later (omega arith) less ∙ get_or_past (cut log.entries) (later - 1) [] past in
-    absurd (omega (arith, filled, ap length none)))
-    (cases_lt (later - 1) (length (cut log.entries)))
+bytes_before log earlier later some before less filled = grind (arith, length, cut, bytes_main, cut_filled, bytes_of, get_or_past, cases_lt)
 
 -- no segment has the number 0
 pub bytes_zero : (log : Log) (number : ℕ) → number < 1 → bytes_of log number ≡ []
@@ -118,16 +107,11 @@ with_bytes_front segments bytes k =
 -- one with another behind it stays as it is
 pub with_bytes_full : (segments : List (List ℕ)) (bytes : List ℕ) (k : ℕ) → k + 1 < length segments → get_or (with_bytes segments bytes) k [] ≡ get_or segments k []
 with_bytes_full segments bytes k before =
-    cond_both (has_room segments bytes) (in_last segments bytes) (segments ++ bytes ∷ []) (λ s. get_or s k [] ≡ get_or segments k [])
-    (λ e. get_or-set_other segments (length segments - 1) k (last_of segments ++ bytes) [] (λ same. omega arith))
-    (λ e. get_or_append_left segments (bytes ∷ []) [] k (omega arith))
+    grind (arith, cond_both, has_room, in_last, get_or, get_or-set_other, length, last_of, get_or_append_left)
 
 -- they are one more at most
 pub with_bytes_few : (segments : List (List ℕ)) (bytes : List ℕ) → length (with_bytes segments bytes) ≤ length segments + 1
-with_bytes_few segments bytes =
-    cond_both (has_room segments bytes) (in_last segments bytes) (segments ++ bytes ∷ []) (λ s. length s ≤ length segments + 1)
-    (λ e. omega (arith, length-set segments (length segments - 1) (last_of segments ++ bytes)))
-    (λ e. omega (arith, length-append segments (bytes ∷ [])))
+with_bytes_few segments bytes = grind (arith, cond_both, has_room, in_last, length, length-set, last_of, length-append)
 
 -- ---- logs that grow
 
@@ -173,11 +157,7 @@ module _ (log : Log) (entry : Entry) (few : length (cut log.entries) + 1 < FIRST
 
   -- a main segment that has bytes is one of those that were cut
   within_cut : (later : ℕ) → 1 ≤ later → later < FIRST_SIDE_SEGMENT → bytes_of log later ≢ [] → later - 1 < length (cut log.entries)
-  within_cut later some less filled =
-      ⊎_elim
-      (λ (within : later - 1 < length (cut log.entries)). within)
-      (λ (past : length (cut log.entries) ≤ later - 1). absurd (filled (bytes_main log later some less ∙ get_or_past (cut log.entries) (later - 1) [] past)))
-      (cases_lt (later - 1) (length (cut log.entries)))
+  within_cut later some less filled = grind (arith, length, cut, bytes_main, get_or_past, cases_lt)
 
   grown_full : (earlier later : ℕ) → earlier < later → is_main earlier ≡ is_main later → bytes_of log later ≢ [] → bytes_of (with_entry log entry) earlier ≡ bytes_of log earlier
   grown_full earlier later before sort filled =

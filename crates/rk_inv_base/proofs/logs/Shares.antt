@@ -1,11 +1,10 @@
 -- What counts for a range of a log that grew by one entry at its end.
-use Rattle.std.proofs.Common.{◌≡◌, ℕ, suc, ◌+◌, ◌≤◌, ◌<◌, Bool, true, false, ◌&&◌, ◌||◌, cond, leb, ltb, List, [], ◌∷◌, ◌++◌, length, drop}
-use Rattle.std.proofs.Common.{fold, refl, sym, ap, ◌∙◌, ⊎_elim, arith, All, filter, flat_map, le-ltb, length-drop, append-nil}
-use Rattle.std.proofs.Common.{length-append}
-use Rattle.rk_inv_base.proofs.Words.{cases_lt, cond-true, cond-false, drop-append-le, flat_map-append, filter-append, All-head, All-tail}
-use Rattle.rk_inv_base.proofs.Words.{Call, Held, Range, Entry, is_marked, unmarked, unmarked_from, touches, counts, counting, with_number}
-use Rattle.rk_inv_base.proofs.Words.{named, named_by, material_of, side_entries, log_material, joined_from, is_joined_in, has_key, Mark}
-use Rattle.rk_inv_base.proofs.Words.{segments_in, IsEntryOf}
+use Rattle.rk_inv_base.proofs.Words.{◌≡◌, ℕ, suc, ◌+◌, ◌≤◌, ◌<◌, Bool, true, false, ◌&&◌, ◌||◌, cond, leb, ltb, List, [], ◌∷◌, ◌++◌, length}
+use Rattle.rk_inv_base.proofs.Words.{drop, fold, refl, sym, ap, ◌∙◌, ⊎_elim, arith, All, filter, flat_map, le-ltb, length-drop, append-nil}
+use Rattle.rk_inv_base.proofs.Words.{length-append, cases_lt, cond-true, cond-false, drop-append-le, flat_map-append, filter-append}
+use Rattle.rk_inv_base.proofs.Words.{All-head, All-tail, Call, Held, Range, Entry, is_marked, unmarked, unmarked_from, touches, counts}
+use Rattle.rk_inv_base.proofs.Words.{counting, with_number, named, named_by, material_of, side_entries, log_material, joined_from}
+use Rattle.rk_inv_base.proofs.Words.{is_joined_in, has_key, Mark, segments_in, IsEntryOf}
 use Rattle.rk_entry.specs.declared.entry.Entry.TheVariants as entries
 
 pub append_nil : {X : Type 0} (xs : List X) → xs ++ [] ≡ xs
@@ -19,11 +18,7 @@ abbrev pub unless_marked : Bool → Entry → List Entry
 unless_marked marked entry = cond marked [] (entry ∷ [])
 
 pub none_of : (a b c : Bool) → b ≡ false → c ≡ false → ((a && b) || c) ≡ false
-none_of a b c e f = ap (λ (x : Bool). (a && x) || c) e ∙ ap (λ (y : Bool). (a && false) || y) f ∙ none a
-  where
-    none : (a : Bool) → ((a && false) || false) ≡ false
-    none true = refl
-    none false = refl
+none_of a b c e f = grind arith
 
 -- no mark reaches a place behind all of them
 pub marked_none : (marks : List Mark) (place : ℕ) → All (λ mark. mark.past ≤ place) marks → is_marked marks place ≡ false
@@ -50,10 +45,7 @@ unmarked_last marks place (first ∷ list) entry =
 -- the same from a place on, which is one of the list or its end
 pub unmarked_from_last : (marks : List Mark) (place : ℕ) (list : List Entry) (entry : Entry) → place ≤ length list → unmarked_from marks place (list ++ entry ∷ []) ≡ unmarked_from marks place list ++ unless_marked (is_marked marks (length list)) entry
 unmarked_from_last marks place list entry within =
-    let e : place + length (drop place list) ≡ length list = omega (arith, length-drop place list) in
-    ap (unmarked marks place) (drop-append-le place list (entry ∷ []) within)
-    ∙ unmarked_last marks place (drop place list) entry
-    ∙ ap (λ (n : ℕ). unmarked_from marks place list ++ unless_marked (is_marked marks n) entry) e
+    grind (arith, length, drop, length-drop, unmarked, drop-append-le, unmarked_last, unmarked_from, is_marked)
 
 -- and from a place behind the end nothing is there
 pub drop_none : (place : ℕ) (list : List Entry) (entry : Entry) → length list < place → drop place (list ++ entry ∷ []) ≡ drop place list
@@ -65,21 +57,12 @@ unmarked_from_none marks place list entry beyond = ap (unmarked marks place) (dr
 
 -- an entry that names no side segment lets the named ones be
 pub named_same : (range : Range) (entry : Entry) (list : List Entry) (marked : Bool) → named_by range entry ≡ [] → named range (list ++ unless_marked marked entry) ≡ named range list
-named_same range entry list true none = ap (named range) (append_nil list)
-named_same range entry list false none =
-    ap (λ (segments : List ℕ). fold with_number [] segments)
-    (flat_map-append (named_by range) list (entry ∷ [])
-    ∙ ap (λ (more : List ℕ). flat_map (named_by range) list ++ (more ++ [])) none
-    ∙ append_nil (flat_map (named_by range) list))
+named_same range entry list marked none = grind (arith, named, append_nil, fold, with_number, flat_map-append, named_by, flat_map)
 
 -- an entry of another range does not count
 module _ (range : Range) (entry : Entry) (outside : counts range entry ≡ false) where
   counting_same : (list : List Entry) (marked : Bool) → counting range (list ++ unless_marked marked entry) ≡ counting range list
-  counting_same list true = ap (counting range) (append_nil list)
-  counting_same list false =
-      filter-append (counts range) list (entry ∷ [])
-      ∙ ap (λ (more : List Entry). counting range list ++ more) (cond-false (counts range entry) (entry ∷ []) [] outside)
-      ∙ append_nil (counting range list)
+  counting_same list marked = grind (arith, counting, append_nil, filter-append, counts, cond-false)
 
   pub material_outside : (marks : List Mark) (sides : List (List Held)) (place : ℕ) (list : List Entry) → named_by range entry ≡ [] → log_material range marks sides place (list ++ entry ∷ []) ≡ log_material range marks sides place list
   material_outside marks sides place list none =
@@ -95,23 +78,13 @@ module _ (range : Range) (entry : Entry) (outside : counts range entry ≡ false
 
   pub rest_outside : (marks : List Mark) (place : ℕ) (list : List Entry) → counting range (unmarked_from marks place (list ++ entry ∷ [])) ≡ counting range (unmarked_from marks place list)
   rest_outside marks place list =
-      ⊎_elim
-      (λ (beyond : length list < place). ap (counting range) (unmarked_from_none marks place list entry beyond))
-      (λ (within : place ≤ length list).
-      ap (counting range) (unmarked_from_last marks place list entry within)
-      ∙ counting_same (unmarked_from marks place list) (is_marked marks (length list)))
-      (cases_lt (length list) place)
+      grind (arith, length, counting, unmarked_from_none, unmarked_from_last, counting_same, unmarked_from, is_marked, cases_lt)
 
 -- an entry of the range, behind all marks, comes last
 module _ (range : Range) (entry : Entry) (inside : counts range entry ≡ true) where
   pub rest_inside : (marks : List Mark) (place : ℕ) (list : List Entry) → All (λ mark. mark.past ≤ length list) marks → place ≤ length list → counting range (unmarked_from marks place (list ++ entry ∷ [])) ≡ counting range (unmarked_from marks place list) ++ entry ∷ []
   rest_inside marks place list free within =
-      ap (counting range)
-      (unmarked_from_last marks place list entry within
-      ∙ ap (λ (b : Bool). unmarked_from marks place list ++ unless_marked b entry) (marked_none marks (length list) free))
-      ∙ filter-append (counts range) (unmarked_from marks place list) (entry ∷ [])
-      ∙ ap (λ (more : List Entry). counting range (unmarked_from marks place list) ++ more)
-      (cond-true (counts range entry) (entry ∷ []) [] inside)
+      grind (arith, counting, unmarked_from_last, unmarked_from, marked_none, length, filter-append, counts, cond-true)
 
 -- one more entry that is no Joined of a range lets those of the range be
 pub joined_same : (range : Range) (place : ℕ) (list : List Entry) (entry : Entry) → is_joined_in range entry ≡ false → joined_from range place (list ++ entry ∷ []) ≡ joined_from range place list
@@ -129,11 +102,7 @@ joined_same range place list entry other =
 
 -- it counts for the ranges that have the call's key, and touches these alone
 pub counts_call : (range : Range) (call : Call) (entry : Entry) → IsEntryOf call entry → counts range entry ≡ has_key range call.table call.key
-counts_call range call (entries.Held held) own =
-    sym (ap (λ (table : ℕ). has_key range table call.key) own.table_is ∙ ap (has_key range held.table) own.key_is)
-counts_call range call (entries.Refused refused) own =
-    sym (ap (λ (table : ℕ). has_key range table call.key) own.table_is ∙ ap (has_key range refused.table) own.key_is)
-counts_call range call _ own = absurd own
+counts_call range call entry own = grind (arith, has_key)
 
 pub touches_call : (range : Range) (call : Call) (entry : Entry) → IsEntryOf call entry → touches range entry ≡ counts range entry
 touches_call range call (entries.Carried carried) own = absurd own

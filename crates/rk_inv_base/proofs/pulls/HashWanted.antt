@@ -1,9 +1,8 @@
 -- A lane stays sound when a hash is wanted first, and when a batch of the wanted ones is asked for.
-use Rattle.std.proofs.Common.{◌≡◌, ℕ, ◌++◌, List, [], ◌∷◌, refl, sym, subst}
-use Rattle.rk_inv_base.proofs.Words.{cond_both, Hashes, World, view, IsSound, SoundView}
-use Rattle.rk_priority.specs.Hashes.{batched, batched_by, is_known, wanting}
-use Rattle.rk_sound.specs.Small.{asking_batch, batch_asked_in, hash_wanted_in, wanting_hash}
-use Rattle.rk_inv_base.proofs.views.Views.{view_pulled}
+use Rattle.rk_inv_base.proofs.Words.{◌≡◌, ℕ, ◌++◌, List, [], ◌∷◌, refl, sym, subst, cond_both, Hashes, World, view, IsSound, SoundView}
+use Rattle.rk_inv_base.proofs.Words.{batched, batched_by, wanting, asking_batch, batch_asked_in, hash_wanted_in, wanting_hash}
+use Rattle.rk_priority.specs.Hashes.{is_known}
+use Rattle.rk_inv_base.proofs.Base.{view_pulled}
 use Rattle.rk_inv_base.proofs.pulls.PullingChanges.{none_arrives, view_goes_on}
 
 -- a hash that is wanted resolves none

@@ -1,13 +1,10 @@
 -- A view stays sound when hashes are resolved, where all items of the source that have them have arrived.
-use Rattle.std.proofs.Common.{◌≡◌, ℕ, Bool, true, false, cond, List, [], ◌∷◌, ◌++◌, eqb, ◌⊎◌, refl, ap, sym, subst, ◌∙◌, ⊎_elim, inl, inr}
-use Rattle.std.proofs.Common.{Contains, flat_map, eq-eqb, eqb-true}
-use Rattle.rk_inv_base.proofs.Words.{Contains-append_left, Contains-append_right, list_any-append, bytes_eq-Decides, Held, Member, at_hash}
-use Rattle.rk_inv_base.proofs.Words.{Row, Hashes, contains, got, is_batch, is_receiving, World, GoesOn, source_items, View, view, IsSound}
-use Rattle.rk_inv_base.proofs.Words.{SoundView, or_cases}
-use Rattle.rk_table.specs.Order.{item_hash}
-use Rattle.rk_sound.specs.Moves.{MayResolve}
-use Rattle.rk_sound.specs.Small.{hashes_resolved_in, resolving}
-use Rattle.rk_inv_base.proofs.views.Views.{view_pulled}
+use Rattle.rk_inv_base.proofs.Words.{◌≡◌, ℕ, Bool, true, false, cond, List, [], ◌∷◌, ◌++◌, eqb, ◌⊎◌, refl, ap, sym, subst, ◌∙◌, ⊎_elim, inl}
+use Rattle.rk_inv_base.proofs.Words.{inr, Contains, flat_map, eq-eqb, eqb-true, Contains-append_left, Contains-append_right}
+use Rattle.rk_inv_base.proofs.Words.{list_any-append, bytes_eq-Decides, Held, Member, at_hash, Row, Hashes, contains, got, is_batch}
+use Rattle.rk_inv_base.proofs.Words.{is_receiving, World, GoesOn, source_items, View, view, IsSound, SoundView, or_cases, item_hash}
+use Rattle.rk_inv_base.proofs.Words.{MayResolve, hashes_resolved_in, resolving}
+use Rattle.rk_inv_base.proofs.Base.{view_pulled}
 use Rattle.rk_inv_base.proofs.pulls.PullingChanges.{of_one_row, view_goes_on}
 use Rattle.rk_inv_base.proofs.calls.Records.{filter_stands}
 

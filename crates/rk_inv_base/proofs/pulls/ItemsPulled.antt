@@ -1,10 +1,10 @@
 -- What a target has that pulls, once one more item was replayed; and what another master has of a row that the item is not of.
-use Rattle.std.proofs.Common.{◌≡◌, ℕ, zero, suc, ◌<◌, false, List, [], ◌∷◌, ◌++◌, length, Option, sym, ap, ◌∙◌, subst, ◌⊎◌, inl, inr}
-use Rattle.std.proofs.Common.{⊎_elim, arith, slice_index_or, slice_set, Contains, flat_map, length-set}
-use Rattle.rk_inv_base.proofs.Words.{false≢true, false_from_ne_true, Contains-append_cases, Contains-append_left, Contains-append_right}
-use Rattle.rk_inv_base.proofs.Words.{Contains-push, Contains-push_cases, Held, Range, Entry, is_in, with_newer, IsInScanOrder, Handover}
-use Rattle.rk_inv_base.proofs.Words.{Role, none_stands, Handed, with_pulled, Pulling, Written, IsBare, IsTarget, copied_items, is_joining}
-use Rattle.rk_inv_base.proofs.Words.{scan_items, IsTableOf}
+use Rattle.rk_inv_base.proofs.Words.{◌≡◌, ℕ, zero, suc, ◌<◌, false, List, [], ◌∷◌, ◌++◌, length, Option, sym, ap, ◌∙◌, subst, ◌⊎◌, inl, inr}
+use Rattle.rk_inv_base.proofs.Words.{⊎_elim, arith, slice_index_or, slice_set, Contains, flat_map, length-set, false≢true}
+use Rattle.rk_inv_base.proofs.Words.{false_from_ne_true, Contains-append_cases, Contains-append_left, Contains-append_right, Contains-push}
+use Rattle.rk_inv_base.proofs.Words.{Contains-push_cases, Held, Range, Entry, is_in, with_newer, IsInScanOrder, Handover, Role, none_stands}
+use Rattle.rk_inv_base.proofs.Words.{Handed, with_pulled, Pulling, Written, IsBare, IsTarget, copied_items, is_joining, scan_items}
+use Rattle.rk_inv_base.proofs.Words.{IsTableOf}
 use Rattle.rk_transfer.specs.declared.role.Role.TheVariants as roles
 use Rattle.rk_inv_base.proofs.calls.Records.{found_still, in_by_key, newer_cases, other_stays}
 use Rattle.rk_inv_base.proofs.logs.InRange.{HaveSame, none_same, table_same}
@@ -71,8 +71,7 @@ module _ (range : Range) (source : ℕ) (truth material : List Entry) (from : �
       let is : (p : Pulling) → copied_items handover.role p written.sides ≡ flat_map (λ items. items) p.sides = λ p.
       ap (λ (r : Role). copied_items r p written.sides) role_is in
       let keeps : (x : Held) → Copied pulling x → Copied now x = λ x stands.
-      subst (λ (list : List Held). Contains list x) (sym (is now))
-      (one_keeps item pulling.sides worker x (subst (λ (list : List Held). Contains list x) (is pulling) stands)) in
+      rw (is now) (one_keeps item pulling.sides worker x (subst (λ (list : List Held). Contains list x) (is pulling) stands)) in
       record {
         from_source = old.from_source;
         workers = length-set pulling.sides worker (slice_index_or pulling.sides worker [] ++ item ∷ []) ∙ old.workers;
@@ -89,8 +88,7 @@ module _ (range : Range) (source : ℕ) (truth material : List Entry) (from : �
               ⊎_elim
               (λ (same : item ≡ x).
               inr (subst (Copied now) same
-              (subst (λ (list : List Held). Contains list item) (sym (is now))
-              (one_stands item pulling.sides worker (omega (arith, few, old.workers))))))
+              (rw (is now) (one_stands item pulling.sides worker (omega (arith, few, old.workers))))))
               (λ (before : Contains records x).
               ⊎_elim (λ own. inl own) (λ copied. inr (keeps x copied)) (old.received.come x before inside))
               (newer_cases item records x stands);

@@ -1,12 +1,12 @@
 -- What a target that joins is to its row, and how what it copied tells what its source has.
-use Rattle.std.proofs.Common.{◌≡◌, ℕ, ◌<◌, ◌⊎◌, Bool, true, false, cond, List, [], ◌∷◌, ◌++◌, filter, fold, Option, Some, None, refl, sym}
-use Rattle.std.proofs.Common.{ap, ◌∙◌, subst, ⊎_elim, inl, inr, ◌==◌, Contains, flat_map, eq-eqb, eqb-true}
-use Rattle.rk_inv_base.proofs.Words.{cond_both, false≢true, flat_map-append, Contains-append_cases, Contains-append_left}
-use Rattle.rk_inv_base.proofs.Words.{Contains-append_right, Held, Member, is_among, Entry, lineage_of, Phase, Owned, Opening, Moving}
-use Rattle.rk_inv_base.proofs.Words.{Rebuilding, items_in, items_of, is_member, with_number, Post, Owner, OpeningSource, MovingSource}
-use Rattle.rk_inv_base.proofs.Words.{MovingTarget, OnlyRebuilder, FirstRebuilder, LastRebuilder, OutsideRebuilder, FormerMember, Bystander}
-use Rattle.rk_inv_base.proofs.Words.{bond_of, post_of, rebuilder_post, target_post, Holds, scan_items, IsFormed, filter_passes}
-use Rattle.rk_inv_base.proofs.Words.{All-contains}
+use Rattle.rk_inv_base.proofs.Words.{arith}
+use Rattle.rk_inv_base.proofs.Words.{◌≡◌, ℕ, ◌<◌, ◌⊎◌, Bool, true, false, cond, List, [], ◌∷◌, ◌++◌, filter, fold, Option, Some, None, refl}
+use Rattle.rk_inv_base.proofs.Words.{sym, ap, ◌∙◌, subst, ⊎_elim, inl, inr, ◌==◌, Contains, flat_map, eq-eqb, eqb-true, cond_both}
+use Rattle.rk_inv_base.proofs.Words.{false≢true, flat_map-append, Contains-append_cases, Contains-append_left, Contains-append_right, Held}
+use Rattle.rk_inv_base.proofs.Words.{Member, is_among, Entry, lineage_of, Phase, Owned, Opening, Moving, Rebuilding, items_in, items_of}
+use Rattle.rk_inv_base.proofs.Words.{is_member, with_number, Post, Owner, OpeningSource, MovingSource, MovingTarget}
+use Rattle.rk_inv_base.proofs.Words.{FormerMember, Bystander, bond_of, post_of}
+use Rattle.rk_inv_base.proofs.Words.{rebuilder_post, target_post, Holds, scan_items, IsFormed, filter_passes, All-contains}
 use Rattle.rk_transfer.specs.declared.role.Role.TheVariants as roles
 use Rattle.rk_tablet_map.specs.Phase.{member as member_at}
 use Rattle.rk_inv_base.proofs.calls.Records.{filter_from, filter_stands, scanned_from}
@@ -34,26 +34,7 @@ module _ (master term own applied : ℕ) where
   of_target source sfrom target (Some place) holds = absurd holds
 
   of_rebuilder : (lineage : List Member) (to : ℕ) → IsFormed (Rebuilding lineage to) → Joins (Rebuilding lineage to) (rebuilder_post lineage master)
-  of_rebuilder [] to formed = λ holds. absurd holds
-  of_rebuilder (only ∷ []) to formed =
-      cond_both (only.master == master) (OnlyRebuilder only.from) OutsideRebuilder (Joins (Rebuilding (only ∷ []) to))
-      (λ e holds. absurd holds) (λ e holds. absurd holds)
-  of_rebuilder (first ∷ last ∷ []) to formed =
-      cond_both (first.master == master) (FirstRebuilder first.from)
-      (cond (last.master == master) (LastRebuilder last.from) OutsideRebuilder) (Joins (Rebuilding (first ∷ last ∷ []) to))
-      (λ e holds. absurd holds)
-      (λ other.
-      cond_both (last.master == master) (LastRebuilder last.from) OutsideRebuilder (Joins (Rebuilding (first ∷ last ∷ []) to))
-      (λ e holds. record {
-        source = first;
-        target = last;
-        lineage_is = refl;
-        here = eqb-true last.master master e;
-        apart = differ first.master master other;
-        behind = λ lineage is. holds;
-      })
-      (λ e holds. absurd holds))
-  of_rebuilder (first ∷ second ∷ third ∷ more) to formed = absurd formed
+  of_rebuilder lineage to formed = grind (arith, cond_both, eqb-true, differ)
 
   -- it is the second of its row's two members
   pub joining_second : (phase : Phase) → IsFormed phase → Joins phase (post_of phase master)
@@ -123,12 +104,10 @@ module _ (sides : ℕ → List Entry) where
       (λ e there.
       ⊎_elim (λ (before : Contains (items_at some) item). inl before)
       (λ (new : Contains (items_at (number ∷ [])) item).
-      inr (subst (λ (all : List Held). Contains all item) (sym (parts (number ∷ []) others))
-      (Contains-append_left (items_at (number ∷ [])) (items_at others) item new)))
+      inr (rw (parts (number ∷ []) others) (Contains-append_left (items_at (number ∷ [])) (items_at others) item new)))
       (Contains-append_cases (items_at some) (items_at (number ∷ [])) item
       (subst (λ (all : List Held). Contains all item) (parts some (number ∷ [])) there)))
       one)
       (λ (later : Contains (items_at others) item).
-      inr (subst (λ (all : List Held). Contains all item) (sym (parts (number ∷ []) others))
-      (Contains-append_right (items_at (number ∷ [])) (items_at others) item later)))
+      inr (rw (parts (number ∷ []) others) (Contains-append_right (items_at (number ∷ [])) (items_at others) item later)))
       (numbered (with_number some number) others item at)

@@ -1,14 +1,10 @@
 -- A view stays sound when what is pulled of a tablet goes on: no more of the source's items count as arrived than have arrived. The
 -- token, the count of batches and the hashes may change; the items that were pulled stay.
-use Rattle.std.proofs.Common.{◌≡◌, ℕ, true, List, [], ◌∷◌, sym, ap, ◌∙◌, subst, ⊎_elim, ◌⊎◌, inl, inr, Contains}
-use Rattle.rk_inv_base.proofs.Words.{get, Token, Member, passed, lineage_of, Row, Hashes, contains, Pulling, GoesOn, IsPulling}
-use Rattle.rk_inv_base.proofs.Words.{source_items, View, SoundView}
-use Rattle.rk_table.specs.Order.{item_hash}
-use Rattle.rk_sound.specs.Moves.{MayGoOn}
-use Rattle.rk_sound.specs.Small.{gone_on, pulled}
-use Rattle.rk_inv_base.proofs.rows.Apart.{same_number}
-use Rattle.rk_inv_base.proofs.views.Put.{put2_by}
-use Rattle.rk_inv_base.proofs.calls.Receives.{IsTargetIn}
+use Rattle.rk_inv_base.proofs.Words.{arith}
+use Rattle.rk_inv_base.proofs.Words.{◌≡◌, ℕ, [], ◌∷◌, sym, ap, ◌∙◌, subst, ⊎_elim, inl, inr, get, Token, Member}
+use Rattle.rk_inv_base.proofs.Words.{passed, lineage_of, Row, Hashes, contains, Pulling, GoesOn, IsPulling, source_items, View, SoundView}
+use Rattle.rk_inv_base.proofs.Words.{item_hash, MayGoOn, gone_on, pulled}
+use Rattle.rk_inv_base.proofs.Base.{same_number, put2_by, IsTargetIn}
 use Rattle.rk_inv_base.proofs.views.WithRecords.{view_with_pullings}
 
 module _ (v : View) (token : Pulling → Token) (batches : Pulling → ℕ) (hashes : Pulling → Hashes) (row : Row) (source target : Member) where
@@ -65,16 +61,7 @@ module _ (v : View) (master number : ℕ) (token : Pulling → Token) (batches :
 
 -- where neither the token changes nor what was resolved, no more counts as arrived
 pub none_arrives : (v : View) (master number : ℕ) (batches : Pulling → ℕ) (hashes : Pulling → Hashes) → ((p : Pulling) → (hashes p).resolved ≡ p.hashes.resolved) → MayGoOn v master number (gone_on (λ p. p.token) batches hashes)
-none_arrives v master number batches hashes same row source target has at its is =
-    let old = v.pullings target.master row.tablet in
-    record {
-      at_end = λ joins had. had.at_end;
-      arrived = λ item stands arrives.
-          inl (λ receives.
-          subst
-          (λ (resolved : List ℕ). Contains (passed old.token (source_items v row source)) item ⊎ (contains resolved (item_hash item) ≡ true))
-          (same old) (arrives receives));
-    }
+none_arrives v master number batches hashes same row source target has at its is = grind (arith, passed, source_items, contains, item_hash)
 
 -- a change that goes on for one row goes on for each, since no other row has the number
 pub of_one_row : (v : View) (row : Row) (source target : Member) (change : Pulling → Pulling) → SoundView v → IsPulling v row source target → GoesOn v row source target (change (v.pullings target.master row.tablet)) → MayGoOn v target.master row.tablet change
@@ -83,6 +70,5 @@ of_one_row v row source target change sound pulls goes other first last has at i
     let members : source ∷ target ∷ [] ≡ first ∷ last ∷ [] = sym pulls.lineage_is ∙ ap (λ (r : Row). lineage_of r.phase) (sym same) ∙ is in
     let source_is : source ≡ first = cc in
     let target_is : target ≡ last = cc in
-    subst (λ (r : Row). GoesOn v r first last (change (v.pullings last.master r.tablet))) (sym same)
-    (subst (λ (m : Member). GoesOn v row m last (change (v.pullings last.master row.tablet))) source_is
+    rw same (subst (λ (m : Member). GoesOn v row m last (change (v.pullings last.master row.tablet))) source_is
     (subst (λ (m : Member). GoesOn v row source m (change (v.pullings m.master row.tablet))) target_is goes))

@@ -1,42 +1,27 @@
 -- A view stays sound when a target replays an item of its source: the item goes into the records, where it is newer than what is there,
 -- and to the items that the target copied.
-use Rattle.std.proofs.Common.{◌≡◌, ℕ, ◌<◌, true, false, List, [], ◌∷◌, refl, sym, ap, ◌∙◌, subst, ⊎_elim, inl, arith, IfSome, All, Contains}
-use Rattle.rk_inv_base.proofs.Words.{false≢true, All-contains, IfSome_then, hash_of, get, meets, Held, Member, Range, order_after, is_in}
-use Rattle.rk_inv_base.proofs.Words.{with_newer, IsInScanOrder, Handover, Role, lineage_of, Phase, Rebuilding, Row, items_of, first_of}
-use Rattle.rk_inv_base.proofs.Words.{is_member, unmarked_from, Master, tablet_at, side_entries, item_replayed, with_pulled, with_pulling}
-use Rattle.rk_inv_base.proofs.Words.{is_absent, is_receiving, Pulling, Tablet, World, master_at, applied_entries, member_material}
-use Rattle.rk_inv_base.proofs.Words.{member_truth, IsItemWithin, source_items, Post, Owner, OpeningSource, MovingSource, OnlyRebuilder}
-use Rattle.rk_inv_base.proofs.Words.{FirstRebuilder, Holds, bond_of, post_of, IsBare, wanted_place, HasItems, has_all_items, View, view}
-use Rattle.rk_inv_base.proofs.Words.{IsSound, SoundView, is_granted}
+use Rattle.rk_inv_base.proofs.Words.{◌≡◌, ℕ, ◌<◌, true, false, List, [], ◌∷◌, refl, sym, ap, ◌∙◌, subst, ⊎_elim, inl, arith, IfSome, All}
+use Rattle.rk_inv_base.proofs.Words.{Contains, false≢true, All-contains, IfSome_then, hash_of, get, meets, Held, Member, Range, order_after}
+use Rattle.rk_inv_base.proofs.Words.{is_in, with_newer, IsInScanOrder, Handover, Role, lineage_of, Phase, Rebuilding, Row, items_of}
+use Rattle.rk_inv_base.proofs.Words.{first_of, is_member, unmarked_from, Master, tablet_at, side_entries, item_replayed, with_pulled}
+use Rattle.rk_inv_base.proofs.Words.{with_pulling, is_absent, is_receiving, Pulling, Tablet, World, master_at, applied_entries}
+use Rattle.rk_inv_base.proofs.Words.{member_material, member_truth, IsItemWithin, source_items, Post}
+use Rattle.rk_inv_base.proofs.Words.{Holds, bond_of, post_of, IsBare, wanted_place, HasItems, has_all_items}
+use Rattle.rk_inv_base.proofs.Words.{View, view, IsSound, SoundView, is_granted, MayReplay, item_replayed_in, replayed}
 use Rattle.rk_transfer.specs.declared.role.Role.TheVariants as roles
 use Rattle.rk_world.specs.Master.{with_item}
-use Rattle.rk_sound.specs.Moves.{MayReplay}
-use Rattle.rk_sound.specs.Small.{item_replayed_in, replayed}
-use Rattle.rk_inv_base.proofs.rows.Apart.{in_one_row, key_outside, same_number}
-use Rattle.rk_inv_base.proofs.views.Cover.{covered_by}
+use Rattle.rk_inv_base.proofs.Base.{in_one_row, key_outside, same_number, covered_by, all_by, tablet_apart, tablet_here, put_by, put_same}
+use Rattle.rk_inv_base.proofs.Base.{put2_by, put2_same, last_member, IsBareOf, IsTargetIn, not_begun, view_master, row_in}
 use Rattle.rk_inv_base.proofs.pulls.ItemsPulled.{bare_beside, table_beside, target_replays, beside_same}
-use Rattle.rk_inv_base.proofs.views.Lists.{all_by}
-use Rattle.rk_inv_base.proofs.views.Masters.{tablet_apart, tablet_here}
-use Rattle.rk_inv_base.proofs.views.Put.{put_by, put_same, put2_by, put2_same}
-use Rattle.rk_inv_base.proofs.calls.Rebuilders.{last_member}
-use Rattle.rk_inv_base.proofs.calls.Receives.{IsBareOf, IsTargetIn}
-use Rattle.rk_inv_base.proofs.rows.Heirs.{not_begun}
 use Rattle.rk_inv_base.proofs.views.WithRecords.{IsTargetOf, RebuildsWith, view_with_kept}
 use Rattle.rk_inv_base.proofs.calls.Records.{material_in, newer_cases, scanned_from}
-use Rattle.rk_inv_base.proofs.views.Views.{view_master}
-use Rattle.rk_inv_base.proofs.views.ByRows.{row_in}
 use Rattle.rk_inv_base.proofs.logs.InRange.{rebuilder_same, scan_in, target_same, truth_in}
 
 -- ---- what a post says of a master that pulls
 
 -- it has not all of the tablet
 pub receiving_lacks : (post : Post) (handover : Handover) (term own applied : ℕ) → Holds (bond_of post roles.Receiving) term own applied → has_all_items post handover term ≡ false
-receiving_lacks (Owner place) handover term own applied holds = absurd holds
-receiving_lacks OpeningSource handover term own applied holds = absurd holds
-receiving_lacks MovingSource handover term own applied holds = absurd holds
-receiving_lacks (OnlyRebuilder place) handover term own applied holds = absurd holds
-receiving_lacks (FirstRebuilder place) handover term own applied holds = absurd holds
-receiving_lacks _ handover term own applied holds = refl
+receiving_lacks post handover term own applied holds = grind arith
 
 -- and if it is to rebuild the tablet, it has not begun
 pub receiving_behind : (lineage : List Member) (master term own applied : ℕ) → Holds (bond_of (post_of (Rebuilding lineage master) master) roles.Receiving) term own applied → own < term
@@ -78,10 +63,7 @@ module _ (v : View) (row : Row) (source target : Member) (worker : ℕ) (item : 
 
   -- the role of the target fits its post
   fits : Holds (bond_of (post_of row.phase target.master) roles.Receiving) row.term kept.term (v.written target.master).applied
-  fits =
-      subst (λ (role : Role). Holds (bond_of (post_of row.phase target.master) role) row.term kept.term (v.written target.master).applied)
-      may.pulling.receiving
-      ((row_in v sound row may.pulling.has_row).fitting target.master (inl may.pulling.lives))
+  fits = grind (arith, bond_of, post_of, row_in)
 
   -- it keeps the row's range
   ranged : kept.range ≡ row.range
@@ -150,10 +132,8 @@ module _ (v : View) (row : Row) (source target : Member) (worker : ℕ) (item : 
         sym may.pulling.lineage_is ∙ ap (λ (r : Row). lineage_of r.phase) (sym same) ∙ is in
         let source_is : source ≡ first = cc in
         let target_is : target ≡ last = cc in (
-          subst (λ (r : Row). Contains (source_items v r first) item) (sym same)
-              (subst (λ (m : Member). Contains (source_items v row m) item) source_is may.of_source),
-          subst (λ (r : Row). (v.handovers last.master r.tablet).role ≡ roles.Receiving) (sym same)
-              (subst (λ (m : Member). (v.handovers m.master row.tablet).role ≡ roles.Receiving) target_is may.pulling.receiving),
+          rw same (subst (λ (m : Member). Contains (source_items v row m) item) source_is may.of_source),
+          rw same (subst (λ (m : Member). (v.handovers m.master row.tablet).role ≡ roles.Receiving) target_is may.pulling.receiving),
         )
 
     -- it goes on, and so does a target of another row

@@ -1,10 +1,7 @@
 -- A view stays sound when a target passes on to a token, where all items that the token has passed have arrived.
-use Rattle.std.proofs.Common.{ap, sym, subst, ◌∙◌, ⊎_elim, inl, inr, ◌+◌}
-use Rattle.rk_inv_base.proofs.Words.{false≢true, Token, Member, Row, is_receiving, World, GoesOn, is_joining, View, view, IsSound}
-use Rattle.rk_inv_base.proofs.Words.{SoundView}
-use Rattle.rk_sound.specs.Moves.{MayPass}
-use Rattle.rk_sound.specs.Small.{passing, token_passed_in}
-use Rattle.rk_inv_base.proofs.views.Views.{view_pulled}
+use Rattle.rk_inv_base.proofs.Words.{ap, sym, subst, ◌∙◌, ⊎_elim, inl, inr, ◌+◌, false≢true, Token, Member, Row, is_receiving, World}
+use Rattle.rk_inv_base.proofs.Words.{GoesOn, is_joining, View, view, IsSound, SoundView, MayPass, passing, token_passed_in}
+use Rattle.rk_inv_base.proofs.Base.{view_pulled}
 use Rattle.rk_inv_base.proofs.pulls.PullingChanges.{of_one_row, view_goes_on}
 
 pub goes_on : (v : View) (row : Row) (source target : Member) (next : Token) → MayPass v row source target next → GoesOn v row source target (passing next (v.pullings target.master row.tablet))

@@ -1,13 +1,12 @@
 -- What is read of a lineage's members, once the segment that was awaited is gathered: it goes to one member, and to the others nothing.
-use Rattle.std.proofs.Common.{◌≡◌, ℕ, ◌+◌, ◌<◌, ◌≤◌, Bool, true, List, [], ◌∷◌, map, filter, length, Option, Some, None, refl, sym, ap, ◌∙◌}
-use Rattle.std.proofs.Common.{subst, ⊎_elim, ◌⊎◌, inl, inr, arith, length-append, ◌≢◌, ◌==◌, if◌then◌else◌, All, option_map, eq-eqb, ne_eqb}
-use Rattle.std.proofs.Common.{eqb-true, ltb-true}
-use Rattle.rk_inv_base.proofs.Words.{cases_eq, cases_lt, cond-true, cond-false, cond_both, and_parts, false≢true, get_or_push}
-use Rattle.rk_inv_base.proofs.Words.{get_or_append_left, All-head, All-tail, All-cons, option_or, ⊤, each_insert, Member, Range, entries_of}
-use Rattle.rk_inv_base.proofs.Words.{Known, known_length, EntryEnd, Gathered, LAST_MAIN_SEGMENT, is_awaited, next_of, next_segment}
-use Rattle.rk_inv_base.proofs.Words.{reading_of, is_main, AreRead, IsGathered, IsReadPart, AreApart}
+use Rattle.rk_inv_base.proofs.Words.{◌≡◌, ℕ, ◌+◌, ◌<◌, ◌≤◌, Bool, true, List, [], ◌∷◌, map, filter, length, Option, Some, None, refl, sym}
+use Rattle.rk_inv_base.proofs.Words.{ap, ◌∙◌, subst, ⊎_elim, ◌⊎◌, inl, inr, arith, length-append, ◌≢◌, ◌==◌, if◌then◌else◌, All, option_map}
+use Rattle.rk_inv_base.proofs.Words.{eq-eqb, ne_eqb, eqb-true, ltb-true, cases_eq, cases_lt, cond-true, cond-false, cond_both, and_parts}
+use Rattle.rk_inv_base.proofs.Words.{false≢true, get_or_push, get_or_append_left, All-head, All-tail, All-cons, option_or, ⊤, each_insert}
+use Rattle.rk_inv_base.proofs.Words.{Member, Range, entries_of, Known, known_length, EntryEnd, Gathered, LAST_MAIN_SEGMENT, is_awaited}
+use Rattle.rk_inv_base.proofs.Words.{next_of, next_segment, reading_of, is_main, AreRead, IsGathered, IsReadPart, AreApart, next_side}
+use Rattle.rk_inv_base.proofs.Words.{with_main, with_read, with_segment}
 use Rattle.rk_outside.specs.Segments.{bytes_of}
-use Rattle.rk_world.specs.Gather.{next_side, with_main, with_read, with_segment}
 
 -- ---- members are apart
 
@@ -23,10 +22,7 @@ AllApart (member ∷ others) = IsAway member.master others × AllApart others
 
 -- those of a lineage are
 pub lineage_apart : (lineage : List Member) → AreApart lineage → AllApart lineage
-lineage_apart [] apart = tt
-lineage_apart (only ∷ []) apart = (tt, tt)
-lineage_apart (first ∷ last ∷ []) apart = ((λ same. apart (sym same), tt), (tt, tt))
-lineage_apart (first ∷ second ∷ third ∷ more) apart = absurd apart
+lineage_apart lineage apart = grind arith
 
 pub away_kept : (keep : Member → Bool) (master : ℕ) (members : List Member) → IsAway master members → IsAway master (filter keep members)
 away_kept keep master [] away = tt
@@ -74,16 +70,7 @@ pub record NeedsFew (Needed : EntryEnd → Type 0) (known : Known) : Type 0 wher
 module _ (Needed : EntryEnd → Type 0) (known : Known) (stored : ℕ → List ℕ) (gathered : Gathered) (segment : ℕ) (few : NeedsFew Needed known) (old : IsGathered Needed known stored gathered) where
   -- nothing is needed from its next main segment on, where that was never written
   none_needed : length gathered.main + 1 ≡ segment → IsReadPart Needed known stored segment [] → (end : EntryEnd) → Needed end → is_main end.segment ≡ true → end.segment ≤ length gathered.main
-  none_needed is part end its main =
-      ⊎_elim
-      (λ (behind : length gathered.main < end.segment).
-      ⊎_elim
-      (λ (same : end.segment ≡ segment). absurd (omega (arith, part.needed end its same, few.some end its)))
-      (λ (other : end.segment ≡ segment → ⊥).
-      absurd (few.behind end its segment (omega (arith, is)) (omega (arith, is, behind, other)) main (omega (arith, part.enough))))
-      (cases_eq end.segment segment))
-      (λ (within : end.segment ≤ length gathered.main). within)
-      (cases_lt (length gathered.main) end.segment)
+  none_needed is part end its main = grind (arith, length, cases_eq, cases_lt)
 
   -- its next main segment was read, or was never written
   main_gathered : (bytes : Option (List ℕ)) → NoneBehind known → length gathered.main + 1 ≡ segment → IsReadPart Needed known stored segment (bytes_of bytes) → IsGathered Needed known stored (with_main gathered bytes)

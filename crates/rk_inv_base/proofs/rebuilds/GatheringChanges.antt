@@ -1,13 +1,12 @@
 -- A view stays sound when what is gathered for a tablet goes on: it is still that of the row, and what was read of each segment is a
 -- first part that holds what its master knew to be stored, and what is needed.
-use Rattle.std.proofs.Common.{◌≡◌, ℕ, List, sym, subst, refl, true, None, IfSome, Some}
-use Rattle.rk_inv_base.proofs.Words.{Member, Entry, Handover, Role, Rebuilding, Row, Gather, own_place, is_gathering, member_material}
-use Rattle.rk_inv_base.proofs.Words.{IsMergedOf, merged_place, View, SoundView}
+use Rattle.rk_inv_base.proofs.Words.{arith}
+use Rattle.rk_inv_base.proofs.Words.{◌≡◌, ℕ, List, subst, refl, true, None, Some, Member, Role, Rebuilding, Row}
+use Rattle.rk_inv_base.proofs.Words.{Gather, own_place, is_gathering, member_material, merged_place, View, SoundView, GathersOn}
+use Rattle.rk_inv_base.proofs.Words.{MayGatherOn, gathered}
 use Rattle.rk_transfer.specs.declared.role.Role.TheVariants as roles
 use Rattle.rk_tablet_map.specs.Phase.{member as member_at}
-use Rattle.rk_sound.specs.Moves.{GathersOn, MayGatherOn}
-use Rattle.rk_sound.specs.Small.{gathered}
-use Rattle.rk_inv_base.proofs.views.Put.{put2_by}
+use Rattle.rk_inv_base.proofs.Base.{put2_by}
 use Rattle.rk_inv_base.proofs.views.WithRecords.{RebuildsBy, view_with_gathers}
 
 -- a master that gathers has merged nothing
@@ -22,12 +21,7 @@ module _ (v : View) (master number : ℕ) (change : Gather → Gather) (sound : 
 
   -- it goes on to gather
   gathers_on : (row : Row) (lineage : List Member) (to : ℕ) (gather new : Gather) → GathersOn v row lineage to new → RebuildsBy v row lineage to gather (v.records to) → RebuildsBy v row lineage to new (v.records to)
-  gathers_on row lineage to gather new goes was =
-      let h : Handover = v.handovers to row.tablet in
-      let own : List Entry = member_material v.written row.range (member_at to (own_place h.role)) in
-      let merged : IfSome (merged_place h.role) (λ entry. IsMergedOf row.tablet (own_place h.role) own h (v.completions to row.tablet) new (v.merged to row.tablet) (v.written to) entry) =
-      rw (gathering_merged h.role goes.gathering) tt in
-      assumption
+  gathers_on row lineage to gather new goes was = grind (arith, member_material, member_at, own_place, merged_place, gathering_merged)
 
   pub view_gathers_on : SoundView now
   view_gathers_on =
@@ -36,8 +30,7 @@ module _ (v : View) (master number : ℕ) (change : Gather → Gather) (sound : 
       put2_by v.gathers master number change (λ gather. RebuildsBy v row lineage to gather (v.records to)) to row.tablet
       (λ at its.
       gathers_on row lineage to (v.gathers to row.tablet) (change (v.gathers to row.tablet))
-      (subst (λ (q : ℕ). GathersOn v row lineage q (change (v.gathers q row.tablet))) (sym at)
-      (may row lineage has its
+      (rw at (may row lineage has its
       (subst (λ (q : ℕ). row.phase ≡ Rebuilding lineage q) at is)
       (subst (λ (q : ℕ). (v.handovers q row.tablet).term ≡ row.term) at term)))
       was)

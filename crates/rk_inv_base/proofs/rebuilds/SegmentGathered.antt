@@ -1,25 +1,18 @@
 -- A lane stays sound when a rebuild gathers the segment that it awaits, where what was read is a first part of what is stored that
 -- holds all that its master knew to be stored, and all that is needed.
-use Rattle.std.proofs.Common.{◌≡◌, ℕ, ◌<◌, ◌≤◌, Bool, true, false, List, [], ◌∷◌, ◌++◌, length, refl, sym, ap, ◌∙◌, subst, ⊎_elim, arith}
-use Rattle.std.proofs.Common.{not, ◌==◌, Contains, ltb-true, lt-ltb, length-append}
-use Rattle.rk_inv_base.proofs.Words.{cases_lt, or_right, get_or_past, All-weaker, Member, Entry, FIRST_SIDE_SEGMENT, Phase, Rebuilding, Row}
-use Rattle.rk_inv_base.proofs.Words.{Known, known_length, nothing, IsBackup, Log, bytes_of, known_of, EntryEnd, CopySegment, Gather}
-use Rattle.rk_inv_base.proofs.Words.{is_member, names, IsMaster, World, Written, member_material, Mark, IsCopy, is_main, stored_of}
-use Rattle.rk_inv_base.proofs.Words.{IsGathered, IsReadPart, MarkFits, MarkedFit, NeededOf, READ_BACKUP, member_given_up, member_marked}
-use Rattle.rk_inv_base.proofs.Words.{member_stored, stored_count, IsFormed, segment_gathered_in, View, view, IsSound, SoundView}
+use Rattle.rk_inv_base.proofs.Words.{◌≡◌, ℕ, ◌<◌, ◌≤◌, Bool, true, false, List, [], ◌∷◌, ◌++◌, length, refl, sym, ap, ◌∙◌, subst, ⊎_elim}
+use Rattle.rk_inv_base.proofs.Words.{arith, not, ◌==◌, Contains, ltb-true, lt-ltb, length-append, cases_lt, or_right, get_or_past}
+use Rattle.rk_inv_base.proofs.Words.{All-weaker, Member, Entry, FIRST_SIDE_SEGMENT, Phase, Rebuilding, Row, Known, known_length, nothing}
+use Rattle.rk_inv_base.proofs.Words.{IsBackup, Log, bytes_of, known_of, EntryEnd, CopySegment, Gather, is_member, names, IsMaster, World}
+use Rattle.rk_inv_base.proofs.Words.{Written, member_material, Mark, IsCopy, is_main, stored_of, IsGathered, IsReadPart, MarkFits}
+use Rattle.rk_inv_base.proofs.Words.{MarkedFit, NeededOf, READ_BACKUP, member_given_up, member_marked, member_stored, stored_count}
+use Rattle.rk_inv_base.proofs.Words.{IsFormed, segment_gathered_in, View, view, IsSound, SoundView, with_segment, IsGatherOf, GathersOn}
+use Rattle.rk_inv_base.proofs.Words.{MayGather, MayGatherOn, reading}
 use Rattle.rk_outside.specs.Segments.{bytes_of as read_bytes}
-use Rattle.rk_world.specs.Gather.{with_segment}
-use Rattle.rk_sound.specs.Rebuilds.{IsGatherOf}
-use Rattle.rk_sound.specs.Moves.{GathersOn, MayGather, MayGatherOn}
-use Rattle.rk_sound.specs.Small.{reading}
-use Rattle.rk_inv_base.proofs.rebuilds.Gathered.{NeedsFew, NoneBehind, members_read, read_apart, same_member, same_members, segment_read}
-use Rattle.rk_inv_base.proofs.rows.Apart.{same_number}
-use Rattle.rk_inv_base.proofs.views.Needed.{AreAmong, IsStoredEnd, among_then, end_stored, given_up_among, living_among, needed_member}
-use Rattle.rk_inv_base.proofs.views.Needed.{needed_within, tells_among}
+use Rattle.rk_inv_base.proofs.Base.{NeedsFew, NoneBehind, members_read, read_apart, same_member, same_members, segment_read, same_number}
+use Rattle.rk_inv_base.proofs.Base.{AreAmong, IsStoredEnd, among_then, end_stored, given_up_among, living_among, needed_member}
+use Rattle.rk_inv_base.proofs.Base.{needed_within, tells_among, bytes_before, view_gathered, row_in, IsRebuiltIn}
 use Rattle.rk_inv_base.proofs.rebuilds.GatheringChanges.{view_gathers_on}
-use Rattle.rk_inv_base.proofs.logs.Segments.{bytes_before}
-use Rattle.rk_inv_base.proofs.views.Views.{view_gathered}
-use Rattle.rk_inv_base.proofs.views.ByRows.{row_in, IsRebuiltIn}
 
 -- of a copy where nothing of a main segment is known to be stored, nothing is stored of a later one
 pub copy_none_stored : (log : Log) (stored : ℕ → List ℕ) (known : Known) → IsCopy log stored known → (earlier later : ℕ) → 1 ≤ earlier → earlier < later → is_main later ≡ true → known_length known earlier ≡ 0 → 0 < length (stored later) → ⊥
@@ -34,12 +27,7 @@ copy_none_stored log stored known copy earlier later some before main none fille
 
 -- and nothing is known to be
 pub copy_none_behind : (log : Log) (stored : ℕ → List ℕ) (known : Known) → IsCopy log stored known → NoneBehind known
-copy_none_behind log stored known copy earlier later some before main none =
-    ⊎_elim
-    (λ (told : 0 < known_length known later).
-    absurd (copy_none_stored log stored known copy earlier later some before main none (omega (arith, told, copy.told later))))
-    (λ (few : known_length known later ≤ 0). omega (arith, few))
-    (cases_lt 0 (known_length known later))
+copy_none_behind log stored known copy earlier later some before main none = grind (arith, known_length, copy_none_stored, cases_lt)
 
 -- so it is of each master
 pub none_behind : (v : View) → SoundView v → (master : ℕ) → NoneBehind (known_of (v.logs master) READ_BACKUP)

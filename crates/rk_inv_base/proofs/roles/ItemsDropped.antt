@@ -1,45 +1,28 @@
 -- A view stays sound when a master that is frozen at a tablet, and not of its row's lineage, drops the items of the tablet's range.
-use Rattle.std.proofs.Common.{◌≡◌, ℕ, true, false, not, List, [], ◌∷◌, refl, sym, ap, ◌∙◌, subst, inl, arith, ◌==◌, All, Contains, eq-eqb}
-use Rattle.std.proofs.Common.{◌||◌}
-use Rattle.rk_inv_base.proofs.Words.{false≢true, or_left, or_right, All-filter, IfSome_then, get, meets, Held, Member, Range, order_without}
-use Rattle.rk_inv_base.proofs.Words.{is_in, without, IsInScanOrder, Handover, Role, lineage_of, Phase, Rebuilding, Row, first_of, is_member}
-use Rattle.rk_inv_base.proofs.Words.{is_absent, member_truth, IsItemWithin, MayRelease, Post, Owner, OpeningSource, MovingSource}
-use Rattle.rk_inv_base.proofs.Words.{OnlyRebuilder, FirstRebuilder, OutsideRebuilder, Bystander, post_of, bond_of, Holds, IsBare}
-use Rattle.rk_inv_base.proofs.Words.{is_granted, wanted_place, RoleFits, HasItems, has_all_items, View, SoundView, ReadyTarget}
-use Rattle.rk_inv_base.proofs.Words.{InvitedTarget}
+use Rattle.rk_inv_base.proofs.Words.{◌≡◌, ℕ, true, false, not, List, [], ◌∷◌, refl, sym, ap, ◌∙◌, subst, inl, arith, All, Contains}
+use Rattle.rk_inv_base.proofs.Words.{eq-eqb, false≢true, or_left, or_right, All-filter, IfSome_then, get, meets, Held, Member, Range}
+use Rattle.rk_inv_base.proofs.Words.{order_without, is_in, without, IsInScanOrder, Handover, Role, lineage_of, Phase, Rebuilding, Row}
+use Rattle.rk_inv_base.proofs.Words.{first_of, is_member, is_absent, member_truth, IsItemWithin, MayRelease, Post}
+use Rattle.rk_inv_base.proofs.Words.{post_of, bond_of, Holds}
+use Rattle.rk_inv_base.proofs.Words.{IsBare, is_granted, wanted_place, RoleFits, HasItems, has_all_items, View, SoundView}
+use Rattle.rk_inv_base.proofs.Words.{is_steady, items_dropped}
 use Rattle.rk_transfer.specs.declared.role.Role.TheVariants as roles
-use Rattle.rk_sound.specs.Moves.{is_steady}
-use Rattle.rk_sound.specs.Small.{items_dropped}
-use Rattle.rk_inv_base.proofs.views.Put.{put_by}
-use Rattle.rk_inv_base.proofs.rows.Apart.{same_number}
+use Rattle.rk_inv_base.proofs.Base.{put_by, same_number, IsTargetIn, rebuilding_behind, row_in, is_inside, inside_member}
 use Rattle.rk_inv_base.proofs.logs.InRange.{none_left, scan_in, truth_in, dropped_same, rebuilder_same, table_same, target_same}
-use Rattle.rk_inv_base.proofs.calls.Receives.{IsTargetIn}
 use Rattle.rk_inv_base.proofs.views.WithRecords.{RebuildsWith, view_with_kept}
-use Rattle.rk_inv_base.proofs.roles.Steady.{rebuilding_behind}
-use Rattle.rk_inv_base.proofs.views.ByRows.{row_in}
-use Rattle.rk_inv_base.proofs.rows.Members.{is_inside, inside_member}
 
 -- ---- who has all items of a tablet
 
 -- a master that has them is of the lineage
 pub full_inside : (post : Post) (handover : Handover) (term : ℕ) → has_all_items post handover term ≡ true → is_inside post ≡ true
-full_inside InvitedTarget handover term has = has
-full_inside (ReadyTarget place) handover term has = has
-full_inside OutsideRebuilder handover term has = has
-full_inside Bystander handover term has = has
-full_inside _ handover term has = refl
+full_inside post handover term has = grind arith
 
 pub has_all_member : (phase : Phase) (master term : ℕ) (handover : Handover) → has_all_items (post_of phase master) handover term ≡ true → is_member (lineage_of phase) master ≡ true
 has_all_member phase master term handover has = inside_member phase master (full_inside (post_of phase master) handover term has)
 
 -- none of them is absent
 pub absent_has_none : (post : Post) (handover : Handover) (term applied : ℕ) → has_all_items post handover term ≡ true → Holds (bond_of post roles.Absent) term handover.term applied → ⊥
-absent_has_none (Owner place) handover term applied has holds = holds
-absent_has_none OpeningSource handover term applied has holds = holds
-absent_has_none MovingSource handover term applied has holds = holds
-absent_has_none (OnlyRebuilder place) handover term applied has holds = holds
-absent_has_none (FirstRebuilder place) handover term applied has holds = holds
-absent_has_none _ handover term applied has holds = absurd (cc)
+absent_has_none post handover term applied has holds = grind arith
 
 pub not_absent : (role : Role) → (role ≡ roles.Absent → ⊥) → is_absent role ≡ false
 not_absent roles.Absent none = absurd (none refl)
@@ -110,15 +93,7 @@ module _ (v : View) (row : Row) (master : ℕ) (sound : SoundView v) (may : MayR
   -- where the master was granted a tablet, it is another one
   target_apart : (x : Row) → Contains v.rows x → (source target : Member) → lineage_of x.phase ≡ source ∷ target ∷ [] → target.master ≡ master → is_granted (v.handovers target.master x.tablet).role ≡ true → meets gone x.range ≡ false
   target_apart x has source target two at granted =
-      let other : x.tablet ≡ row.tablet → ⊥ = λ its.
-      false≢true
-      (sym (ap is_granted may.frozen) ∙ ap (λ (n : ℕ). is_granted (v.handovers master n).role) (sym its)
-      ∙ ap (λ (n : ℕ). is_granted (v.handovers n x.tablet).role) (sym at) ∙ granted) in
-      let member : is_member (lineage_of x.phase) target.master ≡ true =
-      ap (λ (lineage : List Member). is_member lineage target.master) two
-      ∙ or_right (source.master == target.master) ((target.master == target.master) || false)
-      (or_left (target.master == target.master) false (eq-eqb target.master target.master refl)) in
-      outside x has target.master at other (granted_present (v.handovers target.master x.tablet).role granted) member
+      grind (arith, false≢true, is_granted, is_member, lineage_of, or_right, or_left, eq-eqb, outside, granted_present)
 
   -- ---- masters that rebuild
 

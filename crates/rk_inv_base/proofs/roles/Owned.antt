@@ -1,18 +1,12 @@
 -- A lane stays sound when the owner of a row, or one that owned it at the term that it keeps, serves once its closing entry is applied.
-use Rattle.std.proofs.Common.{◌≡◌, ℕ, true, false, [], Some, refl, sym, ap, ◌∙◌, subst, inl, arith, lt-ltb}
-use Rattle.rk_inv_base.proofs.Words.{false≢true, get, Handover, Role, Row, no_gather, is_absent, Pulling, pulling_from, without_merged}
-use Rattle.rk_inv_base.proofs.Words.{World, tablet_in, is_wanting, IsOwner, MayTakeRole, Post, Owner, OpeningSource, OnlyRebuilder, post_of}
-use Rattle.rk_inv_base.proofs.Words.{bond_of, Holds, speaks, is_granted, role_taken, View, view, IsSound, SoundView}
+use Rattle.rk_inv_base.proofs.Words.{◌≡◌, ℕ, true, false, [], Some, refl, sym, ap, ◌∙◌, subst, arith, lt-ltb, false≢true, get}
+use Rattle.rk_inv_base.proofs.Words.{Handover, Role, Row, no_gather, is_absent, Pulling, pulling_from, without_merged, World, tablet_in}
+use Rattle.rk_inv_base.proofs.Words.{is_wanting, IsOwner, MayTakeRole, Post, post_of, bond_of, Holds}
+use Rattle.rk_inv_base.proofs.Words.{speaks, is_granted, role_taken, View, view, IsSound, SoundView, IsClosed, MayOwn, as_serving, pulled}
+use Rattle.rk_inv_base.proofs.Words.{tablet_owned_in}
 use Rattle.rk_transfer.specs.declared.role.Role.TheVariants as roles
-use Rattle.rk_sound.specs.Moves.{IsClosed, MayOwn}
-use Rattle.rk_sound.specs.Small.{as_serving, pulled, tablet_owned_in}
-use Rattle.rk_inv_base.proofs.views.Put.{put2_by, put2_here, put2_same}
-use Rattle.rk_inv_base.proofs.calls.Receives.{IsTargetIn}
+use Rattle.rk_inv_base.proofs.Base.{put2_by, put2_here, put2_same, IsTargetIn, view_role_taken, view_kept, row_in, at_most}
 use Rattle.rk_inv_base.proofs.views.WithRecords.{view_with_pullings}
-use Rattle.rk_inv_base.proofs.roles.RoleTaken.{view_role_taken}
-use Rattle.rk_inv_base.proofs.views.Views.{view_kept}
-use Rattle.rk_inv_base.proofs.views.ByRows.{row_in}
-use Rattle.rk_inv_base.proofs.rows.BeforeTurn.{at_most}
 
 -- ---- roles whose closing entry is applied
 
@@ -30,25 +24,11 @@ closed_wants _ applied closed = absurd closed
 
 -- such a post takes a role that serves at the terms at which it takes a closed one
 pub fits_serving : (post : Post) (role : Role) (term own applied : ℕ) → IsOwner post own term → IsClosed role applied → Holds (bond_of post role) term own applied → Holds (bond_of post roles.Serving) term own applied
-fits_serving (Owner place) (roles.Joining (Some entry)) term own applied owner closed holds = holds.0
-fits_serving (Owner place) (roles.Rebuilding from (Some entry)) term own applied owner closed holds = holds.0
-fits_serving (Owner place) _ term own applied owner closed holds = absurd closed
-fits_serving OpeningSource (roles.Joining (Some entry)) term own applied owner closed holds = holds.0
-fits_serving OpeningSource (roles.Rebuilding from (Some entry)) term own applied owner closed holds = holds.0
-fits_serving OpeningSource _ term own applied owner closed holds = absurd closed
-fits_serving (OnlyRebuilder place) role term own applied owner closed holds = owner
-fits_serving _ role term own applied owner closed holds = absurd owner
+fits_serving post role term own applied owner closed holds = grind arith
 
 -- what has a closed role speaks for such a post already
 pub speaks_closed : (post : Post) (role : Role) (old : Handover) (term applied : ℕ) → old.role ≡ role → IsOwner post old.term term → IsClosed role applied → speaks post old term ≡ true
-speaks_closed (Owner place) role old term applied is owner closed = refl
-speaks_closed OpeningSource role old term applied is owner closed = refl
-speaks_closed (OnlyRebuilder place) (roles.Joining (Some entry)) old term applied is owner closed =
-    ap (λ (role : Role). speaks (OnlyRebuilder place) (record old { role = role }) term) is
-speaks_closed (OnlyRebuilder place) (roles.Rebuilding from (Some entry)) old term applied is owner closed =
-    ap (λ (role : Role). speaks (OnlyRebuilder place) (record old { role = role }) term) is ∙ lt-ltb old.term term owner
-speaks_closed (OnlyRebuilder place) _ old term applied is owner closed = absurd closed
-speaks_closed _ role old term applied is owner closed = absurd owner
+speaks_closed post role old term applied is owner closed = grind (arith, speaks, lt-ltb)
 
 -- ---- the role
 
@@ -60,23 +40,7 @@ module _ (v : View) (row : Row) (master : ℕ) (sound : SoundView v) (may : MayO
   applied = (v.written master).applied
 
   pub serves : MayTakeRole v row master (as_serving old)
-  serves = record {
-    lives = may.lives;
-    has_row = may.has_row;
-    range_is = refl;
-    counter_is = refl;
-    grows = omega arith;
-    within = at_most v row master sound may.has_row;
-    term_is = inl refl;
-    steady = refl;
-    present = λ there. closed_present old.role applied may.closed;
-    waited = closed_wants old.role applied may.closed;
-    given_up = λ frozen. absurd (subst (λ (role : Role). IsClosed role applied) frozen may.closed);
-    fits = fits_serving (post_of row.phase master) old.role row.term old.term applied may.owner may.closed
-        ((row_in v sound row may.has_row).fitting master (inl may.lives));
-    speaks = λ says. speaks_closed (post_of row.phase master) old.role old row.term applied refl may.owner may.closed;
-    settled = λ idles. absurd (cc idles);
-  }
+  serves = grind (arith, at_most, closed_present, closed_wants, fits_serving, post_of, row_in, speaks, speaks_closed)
 
 -- ---- what was pulled
 

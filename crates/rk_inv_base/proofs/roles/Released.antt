@@ -1,20 +1,14 @@
 -- A lane stays sound when a master that is not of the lineage gives a frozen tablet up, and drops its items.
-use Rattle.std.proofs.Common.{◌≡◌, ℕ, true, false, List, [], refl, sym, ap, ◌∙◌, subst, inl, arith, drop}
-use Rattle.rk_inv_base.proofs.Words.{false≢true, list_any, ⊤, Member, Handover, Role, lineage_of, Phase, Row, no_gather, is_member, Master}
-use Rattle.rk_inv_base.proofs.Words.{tablet_at, touches, without_items, is_idle, Tablet, with_handover, without_merged, World, master_at}
-use Rattle.rk_inv_base.proofs.Words.{tablet_in, is_wanting, MayRelease, MayTakeRole, Post, InvitedTarget, ReadyTarget, OutsideRebuilder}
-use Rattle.rk_inv_base.proofs.Words.{Bystander, rebuilder_post, post_of, bond_of, Holds, speaks, role_taken, View, view, IsSound, SoundView}
+use Rattle.rk_inv_base.proofs.Words.{◌≡◌, ℕ, true, false, List, [], refl, sym, ap, ◌∙◌, subst, inl, arith, drop, false≢true, list_any, ⊤}
+use Rattle.rk_inv_base.proofs.Words.{Member, Handover, Role, lineage_of, Phase, Row, no_gather, is_member, Master, tablet_at, touches}
+use Rattle.rk_inv_base.proofs.Words.{without_items, is_idle, Tablet, with_handover, without_merged, World, master_at, tablet_in, is_wanting}
+use Rattle.rk_inv_base.proofs.Words.{MayRelease, MayTakeRole, Post, InvitedTarget, ReadyTarget, OutsideRebuilder, Bystander, rebuilder_post}
+use Rattle.rk_inv_base.proofs.Words.{post_of, bond_of, Holds, speaks, role_taken, View, view, IsSound, SoundView, tablet_released}
+use Rattle.rk_inv_base.proofs.Words.{as_released, items_dropped, tablet_released_in}
 use Rattle.rk_transfer.specs.declared.role.Role.TheVariants as roles
-use Rattle.rk_world.specs.Handovers.{tablet_released}
-use Rattle.rk_sound.specs.Small.{as_released, items_dropped, tablet_released_in}
+use Rattle.rk_inv_base.proofs.Base.{tablet_apart, tablet_here, put_same, put2_same, view_role_taken, view_master, row_in, is_inside}
+use Rattle.rk_inv_base.proofs.Base.{inside_heir, inside_member, at_most}
 use Rattle.rk_inv_base.proofs.roles.ItemsDropped.{view_dropped}
-use Rattle.rk_inv_base.proofs.views.Masters.{tablet_apart, tablet_here}
-use Rattle.rk_inv_base.proofs.views.Put.{put_same, put2_same}
-use Rattle.rk_inv_base.proofs.roles.RoleTaken.{view_role_taken}
-use Rattle.rk_inv_base.proofs.views.Views.{view_master}
-use Rattle.rk_inv_base.proofs.views.ByRows.{row_in}
-use Rattle.rk_inv_base.proofs.rows.Members.{is_inside, inside_heir, inside_member}
-use Rattle.rk_inv_base.proofs.rows.BeforeTurn.{at_most}
 
 -- ---- posts of masters that are not of the lineage
 
@@ -27,11 +21,7 @@ IsOutside Bystander = ⊤
 IsOutside _ = ⊥
 
 pub not_inside : (post : Post) → (is_inside post ≡ true → ⊥) → IsOutside post
-not_inside InvitedTarget outside = tt
-not_inside (ReadyTarget place) outside = tt
-not_inside OutsideRebuilder outside = tt
-not_inside Bystander outside = tt
-not_inside _ outside = outside refl
+not_inside post outside = grind arith
 
 -- one that rebuilds it from without is none
 pub heir_outside : (lineage : List Member) (master : ℕ) → is_member lineage master ≡ false → IsOutside (rebuilder_post lineage master)
@@ -46,19 +36,11 @@ outside_post phase master outside =
 
 -- such a post takes an absent role at the terms of a frozen one
 pub fits_absent : (post : Post) (term own applied : ℕ) → IsOutside post → Holds (bond_of post roles.Frozen) term own applied → Holds (bond_of post roles.Absent) term own applied
-fits_absent InvitedTarget term own applied outside holds = holds
-fits_absent (ReadyTarget place) term own applied outside holds = absurd holds
-fits_absent OutsideRebuilder term own applied outside holds = holds
-fits_absent Bystander term own applied outside holds = holds
-fits_absent _ term own applied outside holds = absurd outside
+fits_absent post term own applied outside holds = grind arith
 
 -- and speaks for nothing in it
 pub absent_speaks : (post : Post) (old : Handover) (term : ℕ) → IsOutside post → speaks post (as_released old) term ≡ true → ⊥
-absent_speaks InvitedTarget old term outside says = false≢true says
-absent_speaks (ReadyTarget place) old term outside says = false≢true says
-absent_speaks OutsideRebuilder old term outside says = false≢true says
-absent_speaks Bystander old term outside says = false≢true says
-absent_speaks _ old term outside says = outside
+absent_speaks post old term outside says = grind (arith, false≢true)
 
 -- ---- a frozen tablet is given up
 
@@ -82,22 +64,7 @@ module _ (v : View) (row : Row) (master : ℕ) (sound : SoundView v) (may : MayR
       (row_in v sound row may.has_row).idle master (inl may.lives) (ap is_idle may.frozen)
 
   takes_role : MayTakeRole (items_dropped v master old.range) row master (as_released old)
-  takes_role = record {
-    lives = may.lives;
-    has_row = may.has_row;
-    range_is = refl;
-    counter_is = refl;
-    grows = omega arith;
-    within = at_most v row master sound may.has_row;
-    term_is = inl refl;
-    steady = refl;
-    present = λ there. absurd (cc there);
-    waited = ap is_wanting may.frozen;
-    given_up = λ frozen. may.outside;
-    fits = fits_absent (post_of row.phase master) row.term old.term applied post_outside fits;
-    speaks = λ says. absurd (absent_speaks (post_of row.phase master) old row.term post_outside says);
-    settled = λ idles. settled;
-  }
+  takes_role = grind (arith, at_most, is_wanting, fits, fits_absent, post_of, post_outside, speaks, absent_speaks, settled)
 
   pub view_given_up : SoundView (role_taken (items_dropped v master old.range) master row.tablet (as_released old) no_gather [])
   view_given_up =

@@ -1,19 +1,18 @@
 -- A view stays sound when a master takes a steady role of a tablet that fits its post, at a term that is at most the row's. What it
 -- gathered and merged for the tablet may change too, since no row is rebuilt by a master in a steady role.
-use Rattle.std.proofs.Common.{◌≡◌, ℕ, ◌<◌, ◌≤◌, Bool, true, false, ◌&&◌, List, [], ◌∷◌, Option, Some, None, cond, eqb, refl, sym, ap, ◌∙◌}
-use Rattle.std.proofs.Common.{subst, ⊎_elim, ◌⊎◌, inl, inr, arith, drop, ◌==◌, Contains, eq-eqb, All, ◌≢◌}
-use Rattle.rk_inv_base.proofs.Words.{Call, Waits, ByMaster, IfMaster, cases_eq, and_left, or_left, false≢true, both_ways, All-weaker}
-use Rattle.rk_inv_base.proofs.Words.{list_any, get, meets, Ended, Member, Node, Range, Completions, ends_of, Handover, lineage_of, row_of}
-use Rattle.rk_inv_base.proofs.Words.{Phase, Opening, Moving, Rebuilding, Row, Tenure, Transfer, Body, Got, Pulled, Rebuilt, Gather}
-use Rattle.rk_inv_base.proofs.Words.{is_member, second_of, touches, is_absent, is_idle, may_have_staged, IsKnown, IsStagedEnd, ReachAll}
-use Rattle.rk_inv_base.proofs.Words.{IsWithinRows, handed_by, handed_for_grant, is_waiting, is_waiting_at, is_wanting, second_has}
-use Rattle.rk_inv_base.proofs.Words.{AskAgrees, CloseFits, GotAgrees, GrantAgrees, IsOf, IsOfTarget, IsOwner, JoinedIn, OwnFits}
-use Rattle.rk_inv_base.proofs.Words.{PrepareFits, PulledAgrees, ReadyIn, RebuildFits, RebuiltIn, ReleaseFits, TransferIn, MayTakeRole}
-use Rattle.rk_inv_base.proofs.Words.{post_of, bond_of, Holds, speaks, StillCounts, MarkFits, HandedFits, MembersFit, is_granted, KeepTerm}
-use Rattle.rk_inv_base.proofs.Words.{RoleFits, IsFormed, role_taken, HasItems, has_all_items, HandoverFits, View, truths, rests, CoverOf}
-use Rattle.rk_inv_base.proofs.Words.{SoundView, Message, has_merged}
+use Rattle.rk_inv_base.proofs.Words.{◌≡◌, ℕ, ◌<◌, ◌≤◌, Bool, true, false, ◌&&◌, List, [], ◌∷◌, Option, Some, None, cond, eqb, refl, sym, ap}
+use Rattle.rk_inv_base.proofs.Words.{◌∙◌, subst, ⊎_elim, ◌⊎◌, inl, inr, arith, drop, ◌==◌, Contains, eq-eqb, All, ◌≢◌, Call, Waits}
+use Rattle.rk_inv_base.proofs.Words.{ByMaster, IfMaster, cases_eq, and_left, or_left, false≢true, both_ways, All-weaker, list_any, get}
+use Rattle.rk_inv_base.proofs.Words.{meets, Ended, Member, Node, Range, Completions, ends_of, Handover, lineage_of, row_of, Phase, Opening}
+use Rattle.rk_inv_base.proofs.Words.{Moving, Rebuilding, Row, Tenure, Transfer, Body, Got, Pulled, Rebuilt, Gather, is_member, second_of}
+use Rattle.rk_inv_base.proofs.Words.{touches, is_absent, is_idle, may_have_staged, IsKnown, IsStagedEnd, ReachAll, IsWithinRows, handed_by}
+use Rattle.rk_inv_base.proofs.Words.{handed_for_grant, is_waiting, is_waiting_at, is_wanting, second_has, AskAgrees, CloseFits, GotAgrees}
+use Rattle.rk_inv_base.proofs.Words.{GrantAgrees, IsOf, IsOfTarget, JoinedIn, OwnFits, PrepareFits, PulledAgrees, ReadyIn}
+use Rattle.rk_inv_base.proofs.Words.{RebuildFits, RebuiltIn, ReleaseFits, TransferIn, MayTakeRole, post_of, bond_of, Holds, speaks}
+use Rattle.rk_inv_base.proofs.Words.{StillCounts, MarkFits, HandedFits, MembersFit, is_granted, KeepTerm, RoleFits, role_taken}
+use Rattle.rk_inv_base.proofs.Words.{HasItems, has_all_items, HandoverFits, View, truths, rests, CoverOf, SoundView, Message, has_merged}
+use Rattle.rk_inv_base.proofs.Words.{MayRise}
 use Rattle.rk_message.specs.declared.message.Body.TheVariants as bodies
-use Rattle.rk_sound.specs.Moves.{MayRise}
 use Rattle.rk_inv_base.proofs.views.ByRows.{row_in, IsNextOf, SaysIn, SoundBeside, SoundRow, view_by_rows, waits_for, staged_as}
 use Rattle.rk_inv_base.proofs.views.ByRows.{IsRebuiltIn}
 use Rattle.rk_inv_base.proofs.views.OwnTablet.{SeenTablet, rows_but_one, seen_at}
@@ -49,12 +48,7 @@ module _ (v : View) (row : Row) (master : ℕ) (new : Handover) (gather : Gather
   by : (P : ℕ → ℕ → Handover → Type 0) (q r : ℕ) → (P master row.tablet old → P master row.tablet new) → P q r (v.handovers q r) → P q r (now.handovers q r)
   by P q r gives was =
       put2_by v.handovers master row.tablet (λ h. new) (P q r) q r
-      (λ at its.
-      subst (λ (n : ℕ). P n r new) (sym at)
-      (subst (λ (n : ℕ). P master n new) (sym its)
-      (gives
-      (subst (λ (n : ℕ). P master n (v.handovers master n)) its (subst (λ (n : ℕ). P n r (v.handovers n r)) at was)))))
-      (λ apart. was)
+      (λ at its. rw (at, its) (gives (rw (← its, ← at) was))) (λ apart. was)
 
   -- so it is for each row
   by_row : (P : Row → ℕ → Handover → Type 0) (x : Row) → Contains v.rows x → (q : ℕ) → (P row master old → P row master new) → P x q (v.handovers q x.tablet) → P x q (now.handovers q x.tablet)
@@ -62,10 +56,7 @@ module _ (v : View) (row : Row) (master : ℕ) (new : Handover) (gather : Gather
       put2_by v.handovers master row.tablet (λ h. new) (P x q) q x.tablet
       (λ at its.
       let same : x ≡ row = same_number v.rows x row sound.rows.apart has may.has_row its in
-      subst (λ (r : Row). P r q new) (sym same)
-      (subst (λ (n : ℕ). P row n new) (sym at)
-      (gives
-      (subst (λ (n : ℕ). P row n (v.handovers n row.tablet)) at (subst (λ (r : Row). P r q (v.handovers q r.tablet)) same was)))))
+      rw (same, at) (gives (rw (← at, ← same) was)))
       (λ apart. was)
 
   -- of the row's tablet it holds master by master
@@ -122,8 +113,7 @@ module _ (v : View) (row : Row) (master : ℕ) (new : Handover) (gather : Gather
     below = λ another met.
         ⊎_elim
         (λ (same : new.term ≡ old.term).
-        subst (λ (term : ℕ). term < x.term) (sym same)
-        (was.below another (ap (λ (range : Range). meets x.range range) (sym may.range_is) ∙ met)))
+        rw same (was.below another (ap (λ (range : Range). meets x.range range) (sym may.range_is) ∙ met)))
         (λ (rise : MayRise row master new).
         absurd (rows_apart v x row sound has may.has_row another (ap (λ (range : Range). meets x.range range) (sym rise.range_is) ∙ met)))
         may.term_is;
@@ -176,10 +166,7 @@ module _ (v : View) (row : Row) (master : ℕ) (new : Handover) (gather : Gather
   for_grant_same = ap (λ (b : Bool). cond b (get v.handed row.tablet) None) (waits_same (second_of (lineage_of row.phase)))
 
   by_message_same : (body : Body) → handed_by row now.handovers body ≡ handed_by row v.handovers body
-  by_message_same (bodies.Grant grant) =
-      ap (λ (b : Bool). cond (eqb grant.tenure.tablet row.tablet && b) (Some (record { floor = grant.floor; ends = grant.ends })) None)
-      (waits_at_same grant.tenure.term (second_of (lineage_of row.phase)))
-  by_message_same _ = refl
+  by_message_same body = grind (arith, eqb, waits_at_same, second_of, lineage_of)
 
   -- an end that the master keeps is known as before
   end_known : (q r : ℕ) (end : Ended) → IsKnown v.base v.journal end ⊎ IsStagedEnd v.rows (rests v) q r (v.handovers q r).term end → IsKnown v.base v.journal end ⊎ IsStagedEnd v.rows (rests v) q r (now.handovers q r).term end
@@ -226,10 +213,7 @@ module _ (v : View) (row : Row) (master : ℕ) (new : Handover) (gather : Gather
 
   -- the master does not rebuild the row
   not_by_master : (lineage : List Member) (to : ℕ) → to ≡ master → row.phase ≡ Rebuilding lineage to → (now.handovers to row.tablet).term ≡ row.term → ⊥
-  not_by_master lineage to is_own is term =
-      let own : new.term ≡ row.term =
-      ap (λ (h : Handover). h.term) (sym (put2_here v.handovers master row.tablet new to row.tablet is_own refl)) ∙ term in
-      omega (arith, behind lineage (is ∙ ap (λ (q : ℕ). Rebuilding lineage q) is_own), own)
+  not_by_master lineage to is_own is term = grind (arith, put2_here, behind)
 
   -- another master has of the tablet what it had
   other_has : (q : ℕ) → (q ≡ master → ⊥) → seen_at v row.tablet q ≡ seen_at now row.tablet q
@@ -252,13 +236,7 @@ module _ (v : View) (row : Row) (master : ℕ) (new : Handover) (gather : Gather
   -- ---- messages
 
   own_on : (live : Bool) (tenure : Tenure) → OwnFits row old live master tenure → OwnFits row new live master tenure
-  own_on live tenure =
-      own_rises row old new live master may.grows tenure
-      (λ owner at.
-      ⊎_elim
-      (λ (term : new.term ≡ old.term). subst (λ (n : ℕ). IsOwner (post_of row.phase master) n row.term) (sym term) (owner (sym term ∙ at)))
-      (λ (rise : MayRise row master new). rise.owner)
-      may.term_is)
+  own_on live tenure = grind (arith, own_rises, at, post_of)
 
   -- no report of the old role counts now
   ready_on : (phase : Phase) (place : ℕ) → ReadyIn phase old row.term master place → ReadyIn phase new row.term master place
@@ -267,21 +245,10 @@ module _ (v : View) (row : Row) (master : ℕ) (new : Handover) (gather : Gather
   ready_on _ place says = tt
 
   transfer_on : (phase : Phase) → row.phase ≡ phase → (completions : Completions) (transfer : Transfer) → TransferIn phase old completions row.term master transfer → TransferIn phase new completions row.term master transfer
-  transfer_on (Opening source sfrom target dfrom) is completions transfer says =
-      let outside : is_member (lineage_of (Opening source sfrom target dfrom)) master ≡ false =
-      ap (λ (phase : Phase). is_member (lineage_of phase) master) (sym is) ∙ may.given_up says.1.role_is in
-      absurd (false≢true (sym outside ∙ or_left (source == master) false (eq-eqb source master says.0)))
-  transfer_on _ is completions transfer says = tt
+  transfer_on phase is completions transfer says = grind (arith, is_member, lineage_of, false≢true, or_left, eq-eqb)
 
   joined_on : (phase : Phase) → row.phase ≡ phase → (applied : ℕ) → JoinedIn phase old applied row.term master → JoinedIn phase new applied row.term master
-  joined_on (Moving source sfrom target dfrom) is applied says =
-      let formed : IsFormed (Moving source sfrom target dfrom) =
-      subst IsFormed is (row_in v sound row may.has_row).formed in
-      absurd (moving_steady source sfrom target dfrom new.role row.term new.term (v.written master).applied formed may.steady
-      (subst (λ (q : ℕ). Holds (bond_of (post_of (Moving source sfrom target dfrom) q) new.role) row.term new.term (v.written master).applied)
-      (sym says.0)
-      (subst (λ (phase : Phase). Holds (bond_of (post_of phase master) new.role) row.term new.term (v.written master).applied) is may.fits)))
-  joined_on _ is applied says = says
+  joined_on phase is applied says = grind (arith, row_in, moving_steady, bond_of, post_of)
 
   abbrev TellsRebuilt : Phase → ℕ → Rebuilt → SeenTablet → Type 0
   TellsRebuilt phase q rebuilt t = RebuiltIn phase t.handover t.merged (v.written q).applied row.term q rebuilt

@@ -1,12 +1,8 @@
 -- Rows of a tablet map with one more in its place.
-use Rattle.std.proofs.Common.{◌≡◌, ℕ, Bool, true, false, cond, ◌||◌, ◌&&◌, List, [], ◌∷◌, eqb, leb, refl, sym, ap, subst, ◌∙◌, ⊎_elim}
-use Rattle.std.proofs.Common.{arith, ◌⊎◌, inl, inr, is_some, nat_le, All, Contains}
-use Rattle.rk_inv_base.proofs.Words.{nat_tests, list_any, has, meets, Range, is_covered, placed, row_of, Row, behind_stands, or_right}
-use Rattle.rk_inv_base.proofs.Words.{Any-from_list_any}
-use Rattle.rk_tablet_map.specs.Rows.{meets_any}
-use Rattle.rk_inv_base.proofs.rows.Apart.{contains_cases}
-use Rattle.rk_inv_base.proofs.views.Lists.{all_by, none_pass}
-use Rattle.rk_inv_base.proofs.rows.TurnedRows.{found_any}
+use Rattle.rk_inv_base.proofs.Words.{◌≡◌, ℕ, Bool, true, false, cond, ◌||◌, ◌&&◌, List, [], ◌∷◌, eqb, leb, refl, sym, ap, subst, ◌∙◌}
+use Rattle.rk_inv_base.proofs.Words.{⊎_elim, arith, ◌⊎◌, inl, inr, is_some, nat_le, All, Contains, nat_tests, list_any, has, meets, Range}
+use Rattle.rk_inv_base.proofs.Words.{is_covered, placed, row_of, Row, behind_stands, or_right, Any-from_list_any, meets_any}
+use Rattle.rk_inv_base.proofs.Base.{contains_cases, all_by, none_pass, found_any}
 
 -- what stands then is the new one, or stood before
 pub stood_placed : (row x : Row) (rows : List Row) → Contains (placed row rows) x → (x ≡ row) ⊎ Contains rows x
@@ -70,10 +66,7 @@ any_placed test row (first ∷ rest) = go (nat_le row.tablet first.tablet) (any_
 
 -- the numbers that are known then
 pub known_placed : (row : Row) (rows : List Row) (number : ℕ) → is_some (row_of (placed row rows) number) ≡ (eqb row.tablet number || is_some (row_of rows number))
-known_placed row rows number =
-    found_any (λ r. eqb r.tablet number) (placed row rows)
-    ∙ any_placed (λ r. eqb r.tablet number) row rows
-    ∙ ap (λ (b : Bool). eqb row.tablet number || b) (sym (found_any (λ r. eqb r.tablet number) rows))
+known_placed row rows number = grind (arith, found_any, eqb, placed, any_placed)
 
 -- what was covered is
 pub covered_still : (row : Row) (rows : List Row) (table hash : ℕ) → is_covered rows table hash ≡ true → is_covered (placed row rows) table hash ≡ true

@@ -1,12 +1,10 @@
 -- Where a row is added for a master that served nothing of it, nothing was said of it.
-use Rattle.std.proofs.Common.{◌≡◌, ℕ, true, false, List, [], ◌∷◌, refl, sym, ◌∙◌, ⊎_elim, arith, IfSome, is_some, Contains}
+use Rattle.rk_inv_base.proofs.Words.{◌≡◌, ℕ, true, false, List, [], ◌∷◌, refl, sym, ◌∙◌, ⊎_elim, arith, IfSome, is_some, Contains}
 use Rattle.rk_inv_base.proofs.Words.{false≢true, ⊤, meets, Node, Range, row_of, Row, Tenure, Body, new_row, IfMaster, range_in, tenure_in}
-use Rattle.rk_inv_base.proofs.Words.{View}
+use Rattle.rk_inv_base.proofs.Words.{View, added}
 use Rattle.rk_types.specs.declared.node.Node.TheVariants as nodes
 use Rattle.rk_message.specs.declared.message.Body.TheVariants as bodies
-use Rattle.rk_sound.specs.Small.{added}
-use Rattle.rk_inv_base.proofs.views.ByRows.{SaysIn}
-use Rattle.rk_inv_base.proofs.wire.Messages.{by_master}
+use Rattle.rk_inv_base.proofs.Base.{SaysIn, by_master}
 
 module _ (v : View) (tablet : ℕ) (range : Range) (master : ℕ) (unsaid : (tenure : Tenure) → is_some (row_of v.rows tenure.tablet) ≡ true → tenure.tablet ≡ tablet → ⊥) where
   if_any : (to : Node) (P : ℕ → Type 0) → ((q : ℕ) → P q) → IfMaster to P

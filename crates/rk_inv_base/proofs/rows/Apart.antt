@@ -1,5 +1,5 @@
 -- Rows of a tablet map: a number names one of them, and a key lies in one of them.
-use Rattle.std.proofs.Common.{◌≡◌, ℕ, true, false, List, [], ◌∷◌, sym, ap, subst, ◌∙◌, ⊎_elim, arith, ◌⊎◌, inl, inr, Contains}
+use Rattle.rk_inv_base.proofs.Words.{◌≡◌, ℕ, true, false, List, [], ◌∷◌, sym, ap, subst, ◌∙◌, ⊎_elim, arith, ◌⊎◌, inl, inr, Contains}
 use Rattle.rk_inv_base.proofs.Words.{nat_tests, All-from_recursion, All-contains, meets, Range, Precedes, IsTabletMap, Row, has_key}
 use Rattle.rk_inv_base.proofs.Words.{stands_cases, false≢true, false_from_ne_true}
 
@@ -37,13 +37,7 @@ same_number rows a b apart first second same =
 
 -- and so are rows that meet
 pub one_met : (rows : List Row) (a b : Row) → IsTabletMap rows → Contains rows a → Contains rows b → meets a.range b.range ≡ true → a ≡ b
-one_met rows a b apart first second met =
-    let back : meets b.range a.range ≡ true = grind (arith, nat_tests, met) in
-    ⊎_elim
-    (λ (is : a ≡ b). is)
-    (λ (other : Precedes a b ⊎ Precedes b a).
-    absurd (⊎_elim (λ (p : Precedes a b). false≢true (sym p.apart ∙ met)) (λ (p : Precedes b a). false≢true (sym p.apart ∙ back)) other))
-    (one_precedes rows a b apart first second)
+one_met rows a b apart first second met = grind (arith, meets, nat_tests, false≢true, one_precedes)
 
 -- a key of a range is in none that does not meet it
 pub key_outside : (a b : Range) (table : ℕ) (key : List ℕ) → meets a b ≡ false → has_key b table key ≡ true → has_key a table key ≡ false

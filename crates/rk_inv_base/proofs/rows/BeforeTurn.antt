@@ -1,10 +1,9 @@
 -- What is known of a row that is to be turned: what its masters have is at most at its term; and one that is owned, or opens before its
 -- target told a place, asks for no Close and is not rebuilt.
-use Rattle.std.proofs.Common.{◌≡◌, ℕ, ◌≤◌, ◌<◌, Bool, true, cond, eqb, Some, None, refl, subst, ⊎_elim, arith, inl, inr, All, Contains}
-use Rattle.rk_inv_base.proofs.Words.{cond_both, All-contains, All-weaker, ⊤, Phase, Owned, Opening, Rebuilding, Row, IsRebuiltBy, IsClosing}
-use Rattle.rk_inv_base.proofs.Words.{IsOnlyRebuilder, row_at, Owner, InvitedTarget, OpeningSource, Bystander, post_of, StillCounts}
-use Rattle.rk_inv_base.proofs.Words.{MarkFits, HandoverFits, View, SoundView}
-use Rattle.rk_sound.specs.Messages.{MayFollowClose}
+use Rattle.rk_inv_base.proofs.Words.{◌≡◌, ℕ, ◌≤◌, ◌<◌, Bool, true, eqb, Some, None, refl, ⊎_elim, arith, inl, inr, All}
+use Rattle.rk_inv_base.proofs.Words.{Contains, cond_both, All-contains, ⊤, Phase, Owned, Opening, Rebuilding, Row, IsRebuiltBy}
+use Rattle.rk_inv_base.proofs.Words.{IsClosing, IsOnlyRebuilder, row_at, post_of}
+use Rattle.rk_inv_base.proofs.Words.{StillCounts, MarkFits, HandoverFits, View, SoundView, MayFollowClose}
 use Rattle.rk_inv_base.proofs.views.ByRows.{row_in}
 
 -- what counts at a term counted at one that is not greater, if it is at most that
@@ -29,14 +28,7 @@ early_closes (Opening source sfrom target (Some dfrom)) master early closes = ea
 early_closes _ master early closes = closes
 
 pub early_rebuilds : (phase : Phase) (master : ℕ) → IsEarly phase → IsOnlyRebuilder (post_of phase master) → ⊥
-early_rebuilds (Owned owner from) master early only =
-    cond_both (eqb owner master) (Owner from) Bystander (λ post. IsOnlyRebuilder post → ⊥) (λ e only. only) (λ e only. only) only
-early_rebuilds (Opening source sfrom target None) master early only =
-    cond_both (eqb source master) OpeningSource (cond (eqb target master) InvitedTarget Bystander) (λ post. IsOnlyRebuilder post → ⊥)
-    (λ e only. only)
-    (λ e.
-    cond_both (eqb target master) InvitedTarget Bystander (λ post. IsOnlyRebuilder post → ⊥) (λ e only. only) (λ e only. only)) only
-early_rebuilds _ master early only = absurd early
+early_rebuilds phase master early only = grind (arith, cond_both, eqb)
 
 pub early_rebuilt : (phase : Phase) (master : ℕ) → IsEarly phase → IsRebuiltBy phase master → ⊥
 early_rebuilt (Rebuilding lineage to) master early by = early
@@ -45,21 +37,11 @@ early_rebuilt _ master early by = by
 module _ (v : View) (row : Row) (term : ℕ) (phase : Phase) (sound : SoundView v) (has_row : Contains v.rows row) (early : IsEarly row.phase) where
   -- no living master follows a Close
   pub none_closes : (q order : ℕ) → v.live q ≡ true → (v.handovers q row.tablet).term < order → MayFollowClose row q order → MayFollowClose (row_at row term phase) q order
-  none_closes q order lives below follows =
-      ⊎_elim
-      (λ (asked : (order ≡ row.term) × IsClosing row.phase q). absurd (early_closes row.phase q early asked.1))
-      (λ (heir : (order < row.term) × IsOnlyRebuilder (post_of row.phase q)). absurd (early_rebuilds row.phase q early heir.1))
-      follows
+  none_closes q order lives below follows = grind (arith, early_closes, post_of, early_rebuilds)
 
   pub none_rebuilds : (q : ℕ) → v.live q ≡ true → IsRebuiltBy row.phase q → ⊥
   none_rebuilds q lives by = early_rebuilt row.phase q early by
 
   -- no mark of the tablet stands
   pub none_marked : (q : ℕ) → All (λ mark. mark.tablet ≡ row.tablet → MarkFits (row_at row term phase) q (v.handovers q row.tablet) (v.live q) (v.written q) mark) (v.written q).marks
-  none_marked q =
-      All-weaker (λ mark. mark.tablet ≡ row.tablet → MarkFits row q (v.handovers q row.tablet) (v.live q) (v.written q) mark)
-      (λ mark. mark.tablet ≡ row.tablet → MarkFits (row_at row term phase) q (v.handovers q row.tablet) (v.live q) (v.written q) mark)
-      (λ mark fits its.
-      let rebuilt = (fits its).rebuilt in absurd (subst IsEarly rebuilt.2 early))
-      (v.written q).marks
-      ((row_in v sound row has_row).marks q)
+  none_marked q = grind (arith, row_at, row_in)

@@ -1,81 +1,19 @@
 -- A lane stays sound when a crash is noticed: the master is marked as dead, and each row that was its own, or that it was to give or to
 -- take over, or to rebuild, is turned, and is rebuilt at the next term.
-use Rattle.std.proofs.Common.{◌≡◌, ℕ, ◌+◌, ◌≤◌, ◌<◌, Bool, true, false, cond, eqb, not, ◌||◌, List, [], ◌∷◌, ◌++◌, map, Option, Some, None}
-use Rattle.std.proofs.Common.{refl, sym, ap, subst, ◌∙◌, ⊎_elim, arith, inl, inr, All, Contains, eq-eqb, eqb-true, ne_eqb, ◌⊎◌, zero, suc}
-use Rattle.std.proofs.Common.{find, unwrap_or}
-use Rattle.rk_inv_base.proofs.Words.{cond-false, cond-true, false≢true, or_cases, or_left, or_right, All-contains, All-from_recursion}
-use Rattle.rk_inv_base.proofs.Words.{All-head, All-map, All-push, All-tail, All-weaker, Contains-append_right, list_any_at, list_any_none}
-use Rattle.rk_inv_base.proofs.Words.{Member, lineage_of, member, IsTabletMap, Precedes, replaced, Phase, Owned, Opening, Moving, Rebuilding}
-use Rattle.rk_inv_base.proofs.Words.{Row, Coordinator, is_noticed, is_member, names, phase_noticed, row_noticed, IsMaster, World, Mark}
-use Rattle.rk_inv_base.proofs.Words.{IsClosing, IsOnlyRebuilder, IsRebuiltBy, MayTakePost, MayTurn, row_at, post_of, StillCounts, MarkFits}
-use Rattle.rk_inv_base.proofs.Words.{MarkedFit, RowIsRebuilt, View, view, truths, IsSound, SoundView, cond_both, range_with_len, or_parts}
-use Rattle.rk_inv_base.proofs.Words.{Handover, Role, Post, Owner, OpeningSource, InvitedTarget, ReadyTarget, MovingSource, MovingTarget}
-use Rattle.rk_inv_base.proofs.Words.{OnlyRebuilder, FirstRebuilder, LastRebuilder, OutsideRebuilder, FormerMember, Bystander}
-use Rattle.rk_inv_base.proofs.Words.{rebuilder_post, target_post, bond_of, Holds, closing}
-use Rattle.rk_world.specs.Coordinator.{lowest_left}
-use Rattle.rk_world.specs.Notices.{next_rebuilder}
-use Rattle.rk_sound.specs.Messages.{MayFollowClose}
-use Rattle.rk_sound.specs.Moves.{MayNotice, OpensOn}
-use Rattle.rk_sound.specs.Small.{crash_noticed_in}
-use Rattle.rk_inv_base.proofs.rows.BeforeTurn.{at_most}
-use Rattle.rk_inv_base.proofs.views.Lists.{all_by}
+use Rattle.rk_inv_base.proofs.Words.{◌≡◌, ℕ, ◌+◌, ◌≤◌, ◌<◌, Bool, true, false, cond, eqb, not, List, [], ◌∷◌, ◌++◌, map, Option, Some}
+use Rattle.rk_inv_base.proofs.Words.{None, refl, sym, ap, subst, ◌∙◌, ⊎_elim, arith, inl, All, Contains, eq-eqb, eqb-true, ne_eqb, ◌⊎◌}
+use Rattle.rk_inv_base.proofs.Words.{zero, suc, find, unwrap_or, cond-false, cond-true, false≢true, or_cases, or_left, or_right}
+use Rattle.rk_inv_base.proofs.Words.{All-contains, All-from_recursion, All-head, All-map, All-push, All-tail, All-weaker}
+use Rattle.rk_inv_base.proofs.Words.{Contains-append_right, list_any_at, list_any_none, Member, lineage_of, IsTabletMap, Precedes}
+use Rattle.rk_inv_base.proofs.Words.{replaced, Phase, Owned, Opening, Moving, Rebuilding, Row, Coordinator, is_noticed, is_member, names}
+use Rattle.rk_inv_base.proofs.Words.{phase_noticed, row_noticed, IsMaster, World, Mark, IsClosing, IsOnlyRebuilder, IsRebuiltBy}
+use Rattle.rk_inv_base.proofs.Words.{MayTakePost, MayTurn, row_at, post_of, StillCounts, MarkFits, MarkedFit, RowIsRebuilt, View, view}
+use Rattle.rk_inv_base.proofs.Words.{truths, IsSound, SoundView, cond_both, range_with_len, or_parts, Handover, Post}
+use Rattle.rk_inv_base.proofs.Words.{OutsideRebuilder, FormerMember, Bystander, rebuilder_post, bond_of, Holds}
+use Rattle.rk_inv_base.proofs.Words.{closing, lowest_left, next_rebuilder, MayFollowClose, MayNotice, OpensOn, crash_noticed_in}
+use Rattle.rk_inv_base.proofs.Base.{at_most, all_by, SoundRow, row_in, IsRebuiltIn, formed_apart}
 use Rattle.rk_inv_base.proofs.logs.MarkedApart.{marked_fit}
 use Rattle.rk_inv_base.proofs.rows.RowTurned.{view_turned}
-use Rattle.rk_inv_base.proofs.views.ByRows.{SoundRow, row_in, IsRebuiltIn}
-use Rattle.rk_inv_base.proofs.calls.Appending.{formed_apart}
-use Rattle.rk_transfer.specs.declared.role.Role.TheVariants as roles
-use Rattle.rk_inv_base.proofs.rows.MigrationBegun.{bystander_stays}
-use Rattle.rk_inv_base.proofs.rows.Heirs.{neither_heir, only_in_rebuild}
-
--- ---- posts at the next term
-
-abbrev pub Fits : Post → ℕ → Role → ℕ → ℕ → Type 0
-Fits post term role own applied = Holds (bond_of post role) term own applied
-
-pub bystander_outside : (role : Role) (term own applied : ℕ) → Fits Bystander term role own applied → Fits OutsideRebuilder (term + 1) role own applied
-bystander_outside roles.Absent term own applied fits = omega (arith, fits)
-bystander_outside roles.Frozen term own applied fits = omega (arith, fits)
-bystander_outside (roles.Wanting from) term own applied fits = omega (arith, fits)
-bystander_outside _ term own applied fits = absurd fits
-
-pub invited_outside : (role : Role) (term own applied : ℕ) → Fits InvitedTarget term role own applied → Fits OutsideRebuilder (term + 1) role own applied
-invited_outside roles.Absent term own applied fits = omega (arith, fits)
-invited_outside roles.Frozen term own applied fits = omega (arith, fits)
-invited_outside (roles.Wanting from) term own applied fits = omega (arith, fits)
-invited_outside _ term own applied fits = absurd fits
-
-pub invited_leaves : (role : Role) (term own applied : ℕ) → Fits InvitedTarget term role own applied → Fits Bystander (term + 1) role own applied
-invited_leaves roles.Absent term own applied fits = omega (arith, fits)
-invited_leaves roles.Frozen term own applied fits = omega (arith, fits)
-invited_leaves (roles.Wanting from) term own applied fits = omega (arith, fits)
-invited_leaves _ term own applied fits = absurd fits
-
-pub ready_outside : (place : ℕ) (role : Role) (term own applied : ℕ) → Fits (ReadyTarget place) term role own applied → Fits OutsideRebuilder (term + 1) role own applied
-ready_outside place (roles.Wanting from) term own applied fits = let same = fits.0 in omega (arith, same)
-ready_outside place _ term own applied fits = absurd fits
-
-pub ready_leaves : (place : ℕ) (role : Role) (term own applied : ℕ) → Fits (ReadyTarget place) term role own applied → Fits Bystander (term + 1) role own applied
-ready_leaves place (roles.Wanting from) term own applied fits = let same = fits.0 in omega (arith, same)
-ready_leaves place _ term own applied fits = absurd fits
-
-pub opening_rebuilds : (place : ℕ) (role : Role) (term own applied : ℕ) → Fits OpeningSource term role own applied → Fits (OnlyRebuilder place) (term + 1) role own applied
-opening_rebuilds place roles.Serving term own applied fits = omega (arith, fits)
-opening_rebuilds place (roles.Joining (Some entry)) term own applied fits = let less = fits.0 in (omega (arith, less), fits.1)
-opening_rebuilds place (roles.Rebuilding from (Some entry)) term own applied fits =
-    let less = fits.0 in inl (omega (arith, less), fits.1)
-opening_rebuilds place roles.Closing term own applied fits = omega (arith, fits)
-opening_rebuilds place roles.Frozen term own applied fits = omega (arith, fits)
-opening_rebuilds place _ term own applied fits = absurd fits
-
-pub target_rebuilds : (place : ℕ) (role : Role) (term own applied : ℕ) → Fits (MovingTarget place) term role own applied → Fits (LastRebuilder place) (term + 1) role own applied
-target_rebuilds place (roles.Wanting from) term own applied fits = let same = fits.0 in (omega (arith, same), fits.1)
-target_rebuilds place roles.Receiving term own applied fits = omega (arith, fits)
-target_rebuilds place (roles.Joining entry) term own applied fits = omega (arith, fits)
-target_rebuilds place _ term own applied fits = absurd fits
-
-pub source_rebuilds : (place : ℕ) (role : Role) (term own applied : ℕ) → Fits MovingSource term role own applied → Fits (FirstRebuilder place) (term + 1) role own applied
-source_rebuilds place roles.Frozen term own applied fits = omega (arith, fits)
-source_rebuilds place _ term own applied fits = absurd fits
 
 -- ---- who takes a row over
 
@@ -91,13 +29,7 @@ abbrev pub rebuilding : Phase → ℕ → Phase
 rebuilding phase to = Rebuilding (lineage_of phase) to
 
 pub outside_post : (lineage : List Member) (q : ℕ) → is_member lineage q ≡ false → rebuilder_post lineage q ≡ OutsideRebuilder
-outside_post [] q none = refl
-outside_post (single ∷ []) q none =
-    cond-false (eqb single.master q) (OnlyRebuilder single.from) OutsideRebuilder (or_parts (eqb single.master q) false none).0
-outside_post (first ∷ last ∷ more) q none =
-    let parts = or_parts (eqb first.master q) (is_member (last ∷ more) q) none in
-    cond-false (eqb first.master q) (FirstRebuilder first.from) (cond (eqb last.master q) (LastRebuilder last.from) OutsideRebuilder) parts.0
-    ∙ cond-false (eqb last.master q) (LastRebuilder last.from) OutsideRebuilder (or_parts (eqb last.master q) (is_member more q) parts.1).0
+outside_post lineage q none = grind (arith, cond-false, eqb, or_parts, is_member)
 
 module _ (dead to q : ℕ) (apart : q ≡ dead → ⊥) (term : ℕ) (handover : Handover) (applied : ℕ) (low : handover.term ≤ term) where
   abbrev FitsPost : Post → Type 0
@@ -106,128 +38,46 @@ module _ (dead to q : ℕ) (apart : q ≡ dead → ⊥) (term : ℕ) (handover :
   abbrev TakesPost : Post → Post → Type 0
   TakesPost was is = MayTakePost was is term (term + 1) handover applied
 
-  other : (master : ℕ) → master ≡ dead → eqb master q ≡ false
-  other master is = ne_eqb master q (λ same. apart (sym same ∙ is))
-
   outside : FitsPost Bystander → TakesPost Bystander OutsideRebuilder
-  outside fits = assumption (bystander_outside handover.role term handover.term applied fits)
+  outside fits = grind arith
 
   stays : FitsPost Bystander → TakesPost Bystander Bystander
-  stays fits = assumption (bystander_stays handover.role term handover.term applied fits)
+  stays fits = grind arith
 
-  target_outside : (dfrom : Option ℕ) → FitsPost (target_post dfrom) → TakesPost (target_post dfrom) OutsideRebuilder
-  target_outside None fits = assumption (invited_outside handover.role term handover.term applied fits)
-  target_outside (Some place) fits = assumption (ready_outside place handover.role term handover.term applied fits)
+  abbrev Passing : Phase → Type 0
+  Passing phase = PassesTo dead phase to → FitsPost (post_of phase q) → TakesPost (post_of phase q) (post_of (rebuilding phase to) q)
 
-  target_leaves : (dfrom : Option ℕ) → FitsPost (target_post dfrom) → TakesPost (target_post dfrom) Bystander
-  target_leaves None fits = assumption (invited_leaves handover.role term handover.term applied fits)
-  target_leaves (Some place) fits = assumption (ready_leaves place handover.role term handover.term applied fits)
+  owned : (master from : ℕ) → Passing (Owned master from)
+  owned master from passes fits = grind arith
 
-  only : (place : ℕ) → FitsPost OpeningSource → TakesPost OpeningSource (OnlyRebuilder place)
-  only place fits =
-      let below : handover.term < term + 1 = omega (arith, low) in
-      assumption (opening_rebuilds place handover.role term handover.term applied fits)
+  opened : (source sfrom target : ℕ) (dfrom : Option ℕ) → Passing (Opening source sfrom target dfrom)
+  opened source sfrom target dfrom passes fits = grind arith
 
-  last : (place : ℕ) → FitsPost (MovingTarget place) → TakesPost (MovingTarget place) (LastRebuilder place)
-  last place fits = assumption (target_rebuilds place handover.role term handover.term applied fits)
-
-  first : (place : ℕ) → FitsPost MovingSource → TakesPost MovingSource (FirstRebuilder place)
-  first place fits = assumption (source_rebuilds place handover.role term handover.term applied fits)
-
-  -- ---- by phase: whether the master is the first member or the source, whether the target, and whether it takes the row over
-
-  owned : (from : ℕ) (a b : Bool) → a ≡ false → FitsPost (cond a (Owner from) Bystander)
-      → TakesPost (cond a (Owner from) Bystander) (cond b (cond a (OnlyRebuilder from) OutsideRebuilder) (cond (a || false) FormerMember Bystander))
-  owned from true b e fits = absurd (false≢true (sym e))
-  owned from false true e fits = outside fits
-  owned from false false e fits = stays fits
-
-  opened_alone : (sfrom : ℕ) (dfrom : Option ℕ) (a t b : Bool) → a ≡ false → FitsPost (cond a OpeningSource (cond t (target_post dfrom) Bystander))
-      → TakesPost (cond a OpeningSource (cond t (target_post dfrom) Bystander))
-      (cond b (cond a (OnlyRebuilder sfrom) OutsideRebuilder) (cond (a || false) FormerMember Bystander))
-  opened_alone sfrom dfrom true t b e fits = absurd (false≢true (sym e))
-  opened_alone sfrom dfrom false true true e fits = target_outside dfrom fits
-  opened_alone sfrom dfrom false true false e fits = target_leaves dfrom fits
-  opened_alone sfrom dfrom false false true e fits = outside fits
-  opened_alone sfrom dfrom false false false e fits = stays fits
-
-  opened_back : (sfrom : ℕ) (dfrom : Option ℕ) (a t : Bool) → t ≡ false → FitsPost (cond a OpeningSource (cond t (target_post dfrom) Bystander))
-      → TakesPost (cond a OpeningSource (cond t (target_post dfrom) Bystander))
-      (cond a (cond a (OnlyRebuilder sfrom) OutsideRebuilder) (cond (a || false) FormerMember Bystander))
-  opened_back sfrom dfrom true t e fits = only sfrom fits
-  opened_back sfrom dfrom false true e fits = absurd (false≢true (sym e))
-  opened_back sfrom dfrom false false e fits = stays fits
-
-  moved_on : (sfrom dfrom : ℕ) (a t : Bool) → a ≡ false → FitsPost (cond a MovingSource (cond t (MovingTarget dfrom) Bystander))
-      → TakesPost (cond a MovingSource (cond t (MovingTarget dfrom) Bystander))
-      (cond t (cond a (FirstRebuilder sfrom) (cond t (LastRebuilder dfrom) OutsideRebuilder)) (cond (a || (t || false)) FormerMember Bystander))
-  moved_on sfrom dfrom true t e fits = absurd (false≢true (sym e))
-  moved_on sfrom dfrom false true e fits = last dfrom fits
-  moved_on sfrom dfrom false false e fits = stays fits
-
-  moved_back : (sfrom dfrom : ℕ) (a t : Bool) → t ≡ false → FitsPost (cond a MovingSource (cond t (MovingTarget dfrom) Bystander))
-      → TakesPost (cond a MovingSource (cond t (MovingTarget dfrom) Bystander))
-      (cond a (cond a (FirstRebuilder sfrom) (cond t (LastRebuilder dfrom) OutsideRebuilder)) (cond (a || (t || false)) FormerMember Bystander))
-  moved_back sfrom dfrom true t e fits = first sfrom fits
-  moved_back sfrom dfrom false true e fits = absurd (false≢true (sym e))
-  moved_back sfrom dfrom false false e fits = stays fits
+  moved : (source sfrom target dfrom : ℕ) → Passing (Moving source sfrom target dfrom)
+  moved source sfrom target dfrom passes fits = grind arith
 
   passed_on : (rebuilder : Post) (c m b : Bool) → c ≡ false → (m ≡ false → rebuilder ≡ OutsideRebuilder) → FitsPost (cond c rebuilder (cond m FormerMember Bystander))
       → TakesPost (cond c rebuilder (cond m FormerMember Bystander)) (cond b rebuilder (cond m FormerMember Bystander))
-  passed_on rebuilder true m b e out fits = absurd (false≢true (sym e))
-  passed_on rebuilder false true b e out fits = absurd fits
-  passed_on rebuilder false false true e out fits = subst (TakesPost Bystander) (sym (out refl)) (outside fits)
-  passed_on rebuilder false false false e out fits = stays fits
+  passed_on rebuilder c m b e out fits = grind (arith, false≢true, outside, stays)
 
-  pub noticed_post : (phase : Phase) → PassesTo dead phase to → FitsPost (post_of phase q) → TakesPost (post_of phase q) (post_of (rebuilding phase to) q)
-  noticed_post (Owned master from) passes fits = owned from (eqb master q) (eqb to q) (other master passes) fits
-  noticed_post (Opening source sfrom target dfrom) passes fits =
-      ⊎_elim
-      (λ (is : source ≡ dead). opened_alone sfrom dfrom (eqb source q) (eqb target q) (eqb to q) (other source is) fits)
-      (λ (both : (target ≡ dead) × (source ≡ to)).
-      subst (λ (n : ℕ). TakesPost (post_of (Opening source sfrom target dfrom) q) (post_of (Rebuilding (member source sfrom ∷ []) n) q)) both.1
-      (opened_back sfrom dfrom (eqb source q) (eqb target q) (other target both.0) fits)) passes
-  noticed_post (Moving source sfrom target dfrom) passes fits =
-      ⊎_elim
-      (λ (both : (source ≡ dead) × (target ≡ to)).
-      subst
-      (λ (n : ℕ).
-      TakesPost (post_of (Moving source sfrom target dfrom) q)
-      (post_of (Rebuilding (member source sfrom ∷ member target dfrom ∷ []) n) q)) both.1
-      (moved_on sfrom dfrom (eqb source q) (eqb target q) (other source both.0) fits))
-      (λ (both : (target ≡ dead) × (source ≡ to)).
-      subst
-      (λ (n : ℕ).
-      TakesPost (post_of (Moving source sfrom target dfrom) q)
-      (post_of (Rebuilding (member source sfrom ∷ member target dfrom ∷ []) n) q)) both.1
-      (moved_back sfrom dfrom (eqb source q) (eqb target q) (other target both.0) fits)) passes
+  pub noticed_post : (phase : Phase) → Passing phase
+  noticed_post (Owned master from) passes fits = owned master from passes fits
+  noticed_post (Opening source sfrom target dfrom) passes fits = opened source sfrom target dfrom passes fits
+  noticed_post (Moving source sfrom target dfrom) passes fits = moved source sfrom target dfrom passes fits
   noticed_post (Rebuilding lineage was) passes fits =
-      passed_on (rebuilder_post lineage q) (eqb was q) (is_member lineage q) (eqb to q) (other was passes) (outside_post lineage q) fits
+      passed_on (rebuilder_post lineage q) (eqb was q) (is_member lineage q) (eqb to q) (ne_eqb was q (λ same. apart (sym same ∙ passes)))
+      (outside_post lineage q) fits
 
 -- ---- what living masters do
 
 module _ (dead to q : ℕ) (apart : q ≡ dead → ⊥) where
   -- a living source that was asked to close is to rebuild the tablet
   pub noticed_closing : (phase : Phase) → PassesTo dead phase to → IsClosing phase q → IsOnlyRebuilder (post_of (rebuilding phase to) q)
-  noticed_closing (Opening source sfrom target (Some dfrom)) passes closing =
-      ⊎_elim (λ (is : source ≡ dead). absurd (apart (sym closing ∙ is)))
-      (λ (both : (target ≡ dead) × (source ≡ to)).
-      let former : Post = cond (is_member (member source sfrom ∷ []) q) FormerMember Bystander in
-      let own : Post = cond (eqb source q) (OnlyRebuilder sfrom) OutsideRebuilder in
-      subst IsOnlyRebuilder
-      (sym (cond-true (eqb to q) own former (eq-eqb to q (sym both.1 ∙ closing))
-      ∙ cond-true (eqb source q) (OnlyRebuilder sfrom) OutsideRebuilder (eq-eqb source q closing)))
-      tt) passes
-  noticed_closing _ passes closing = absurd closing
+  noticed_closing phase passes closing = grind arith
 
   -- no living master was to rebuild the tablet, which was its own alone
   pub noticed_rebuilder : (phase : Phase) → PassesTo dead phase to → IsOnlyRebuilder (post_of phase q) → ⊥
-  noticed_rebuilder (Rebuilding lineage was) passes its =
-      neither_heir false (is_member lineage q) FormerMember FormerMember (λ its. its) (λ its. its)
-      (subst IsOnlyRebuilder
-      (cond-false (eqb was q) (rebuilder_post lineage q) (cond (is_member lineage q) FormerMember Bystander)
-      (ne_eqb was q (λ same. apart (sym same ∙ passes)))) its)
-  noticed_rebuilder phase passes its = let found = only_in_rebuild phase q its in absurd (cc found.2)
+  noticed_rebuilder phase passes its = grind arith
 
   -- nor does one rebuild it
   pub noticed_rebuilt : (phase : Phase) → PassesTo dead phase to → IsRebuiltBy phase q → ⊥
@@ -241,29 +91,18 @@ pub record IsBetween (start count number : ℕ) : Type 0 where
   first : start ≤ number
   before : number < start + count
 
--- a number that passes is not one that fails
-pub passes_apart : (test : ℕ → Bool) (number other : ℕ) → test number ≡ true → test other ≡ false → number ≡ other → ⊥
-passes_apart test number other passes fails same =
-    let both : true ≡ false = sym passes ∙ ap test same ∙ fails in
-    absurd (cc both)
+-- the first number that passes is the first one, or else it is among those behind
+pub first_here : (test : ℕ → Bool) (start count number : ℕ) → IsBetween start (suc count) number → test number ≡ true → ((number ≡ start → ⊥) → IsBetween (start + 1) count (unwrap_or (find test (range_with_len (start + 1) count)) 0)) → IsBetween start (suc count) (unwrap_or (cond (test start) (Some start) (find test (range_with_len (start + 1) count))) 0)
+first_here test start count number within passes later = grind arith
 
 -- the first number of a range that passes, where some number there passes, is within it
 pub first_between : (test : ℕ → Bool) (start count number : ℕ) → IsBetween start count number → test number ≡ true → IsBetween start count (unwrap_or (find test (range_with_len start count)) 0)
 first_between test start zero number within passes = absurd (omega (arith, within.first, within.before))
 first_between test start (suc count) number within passes =
-    go (test start) refl
+    first_here test start count number within passes
     (λ apart.
     first_between test (start + 1) count number
     (record { first = omega (arith, apart, within.first); before = omega (arith, within.before) }) passes)
-  where
-    rest : List ℕ
-    rest = range_with_len (start + 1) count
-
-    go : (b : Bool) → test start ≡ b → ((number ≡ start → ⊥) → IsBetween (start + 1) count (unwrap_or (find test rest) 0)) → IsBetween start (suc count) (unwrap_or (cond b (Some start) (find test rest)) 0)
-    go true is later = record { first = omega arith; before = omega arith }
-    go false fails later =
-        let found = later (passes_apart test number start passes fails) in
-        record { first = omega (arith, found.first); before = omega (arith, found.before) }
 
 pub lowest_there : (coordinator : Coordinator) (living : ℕ) → IsMaster coordinator.masters living → is_noticed coordinator living ≡ false → IsMaster coordinator.masters (lowest_left coordinator)
 lowest_there coordinator living there unnoticed =
@@ -281,25 +120,14 @@ found_or P test (first ∷ rest) other all it =
 
 -- ---- a phase and its members
 
-pub or_none : (a : Bool) → (a || false) ≡ a
-or_none true = refl
-or_none false = refl
-
-pub or_of : (a : Bool) → (a || false) ≡ true → a ≡ true
-or_of a some = sym (or_none a) ∙ some
-
 -- a row names its members
 pub names_members : (phase : Phase) (q : ℕ) → is_member (lineage_of phase) q ≡ true → names phase q ≡ true
-names_members (Owned master from) q inside = or_of (eqb master q) inside
-names_members (Opening source sfrom target dfrom) q inside = or_left (eqb source q) (eqb target q) (or_of (eqb source q) inside)
-names_members (Moving source sfrom target dfrom) q inside = ap (λ (b : Bool). eqb source q || b) (sym (or_none (eqb target q))) ∙ inside
-names_members (Rebuilding lineage to) q inside = or_right (eqb to q) (is_member lineage q) inside
+names_members phase q inside = grind arith
 
 -- ---- a row is turned
 
 -- a row passes on to a master that is there
-pub record Passes (v : View) (dead : ℕ) (phase new : Phase) : Type 0 where
-  to : ℕ
+pub record Passes (v : View) (dead : ℕ) (phase new : Phase) (to : ℕ) : Type 0 where
   is : new ≡ rebuilding phase to
   there : IsMaster v.masters to
   passes : PassesTo dead phase to
@@ -339,35 +167,19 @@ module _ (v : View) (row : Row) (dead : ℕ) (sound : SoundView v) (crashed : v.
       (its.fitting q (inl (living q counting)))
 
   closes : (q order : ℕ) → v.live q ≡ true → (v.handovers q row.tablet).term < order → MayFollowClose row q order → MayFollowClose (row_at row next new) q order
-  closes q order lives below follows =
-      ⊎_elim
-      (λ (asked : (order ≡ row.term) × IsClosing row.phase q).
-      let same = asked.0 in inr (omega (arith, same), noticed_closing dead to q (apart q lives) row.phase passes asked.1))
-      (λ (heir : (order < row.term) × IsOnlyRebuilder (post_of row.phase q)).
-      absurd (noticed_rebuilder dead to q (apart q lives) row.phase passes heir.1))
-      follows
+  closes q order lives below follows = grind (arith, noticed_closing, apart, post_of, noticed_rebuilder)
 
   given_up : (q : ℕ) → v.live q ≡ true → IsRebuiltBy row.phase q → ⊥
   given_up q lives = noticed_rebuilt dead to q (apart q lives) row.phase passes
 
   -- what is marked of the members tells nothing new, by the old phase
   fit_by : (phase : Phase) → row.phase ≡ phase → MarkedFit v.logs v.written v.stored v.live row.range (lineage_of row.phase)
-  fit_by (Rebuilding lineage was) is =
-      subst (λ (phase : Phase). MarkedFit v.logs v.written v.stored v.live row.range (lineage_of phase)) (sym is)
-      (subst (IsRebuiltIn v row) is its.rebuilt).1
+  fit_by (Rebuilding lineage was) is = rw is (subst (IsRebuiltIn v row) is its.rebuilt).1
   fit_by _ is = marked_fit v row sound has_row some (λ lineage t rebuilt. absurd (cc (sym is ∙ rebuilt))) (lineage_of row.phase)
 
   -- a mark of the tablet is of an older term now
   mark_fits : (q : ℕ) (mark : Mark) → MarkFits row q (v.handovers q row.tablet) (v.live q) (v.written q) mark → MarkFits (row_at row next new) q (v.handovers q row.tablet) (v.live q) (v.written q) mark
-  mark_fits q mark fits = record {
-    rebuilt = (lineage_of row.phase, to, refl);
-    within = let within = fits.within in omega (arith, within);
-    present = λ lives.
-        absurd (given_up q lives
-        (subst (λ (phase : Phase). IsRebuiltBy phase q) (sym (fits.by_rebuilder (fits.present lives)).0) refl));
-    by_rebuilder = λ at. let within = fits.within in absurd (omega (arith, at, within));
-    behind = fits.behind;
-  }
+  mark_fits q mark fits = grind (arith, lineage_of, given_up)
 
   marks : (q : ℕ) → All (λ mark. mark.tablet ≡ row.tablet → MarkFits (row_at row next new) q (v.handovers q row.tablet) (v.live q) (v.written q) mark) (v.written q).marks
   marks q =
@@ -402,11 +214,6 @@ pub one_further : (before after : List Row) (row : Row) → (before ++ row ∷ [
 one_further [] after row = refl
 one_further (first ∷ before) after row = ap (λ (rest : List Row). first ∷ rest) (one_further before after row)
 
--- what follows from either answer of a test, where it has one
-pub some_by : (b : Bool) (phase new : Phase) (other : Option Phase) (P : Type 0) → cond b (Some phase) other ≡ Some new → (b ≡ true → new ≡ phase → P) → (other ≡ Some new → P) → P
-some_by true phase new other P is here there = let same : new ≡ phase = cc is in here refl same
-some_by false phase new other P is here there = there is
-
 module _ (v : View) (dead : ℕ) (sound : SoundView v) (may : MayNotice v dead) where
   abbrev marked : List ℕ
   marked = v.noticed ++ dead ∷ []
@@ -426,10 +233,7 @@ module _ (v : View) (dead : ℕ) (sound : SoundView v) (may : MayNotice v dead) 
 
   -- who lives was not noticed
   unnoticed : (q : ℕ) → v.live q ≡ true → is_noticed coordinator q ≡ false
-  unnoticed q lives =
-      list_any_none (λ noticed. eqb noticed q) marked
-      (All-weaker (λ master. v.live master ≡ false) (λ noticed. eqb noticed q ≡ false)
-      (λ noticed gone. ne_eqb noticed q (λ same. false≢true (sym gone ∙ ap v.live same ∙ lives))) marked all_crashed)
+  unnoticed q lives = grind (arith, list_any_none, eqb, ne_eqb, false≢true, all_crashed)
 
   lowest : IsMaster v.masters (lowest_left coordinator)
   lowest =
@@ -453,75 +257,36 @@ module _ (v : View) (dead : ℕ) (sound : SoundView v) (may : MayNotice v dead) 
           list_any_at (λ (other : Member). eqb other.master m.master) lineage stands.0 m stands.1
           (ap (λ (other : Member). eqb other.master m.master) stands.2 ∙ eq-eqb m.master m.master refl)
 
-  pass : (phase new : Phase) → AreThere phase → phase_noticed coordinator dead phase ≡ Some new → Passes v dead phase new
-  pass (Owned master from) new there is =
-      let new_phase : Phase = Rebuilding (member dead from ∷ []) (lowest_left coordinator) in
-      some_by (eqb master dead) new_phase new None (Passes v dead (Owned master from) new) is
-      (λ e same.
-      let gone : master ≡ dead = eqb-true master dead e in
-      record {
-        to = lowest_left coordinator;
-        is = same ∙ ap (λ (n : ℕ). Rebuilding (member n from ∷ []) (lowest_left coordinator)) (sym gone);
-        there = lowest;
-        passes = gone;
-      })
-      (λ none. absurd (cc none))
-  pass (Opening source sfrom target dfrom) new there is =
-      let alone : Phase = Rebuilding (member dead sfrom ∷ []) (lowest_left coordinator) in
-      let back : Phase = Rebuilding (member source sfrom ∷ []) source in
-      some_by (eqb source dead) alone new (cond (eqb target dead) (Some back) None) (Passes v dead (Opening source sfrom target dfrom) new) is
-      (λ e same.
-      let gone : source ≡ dead = eqb-true source dead e in
-      record {
-        to = lowest_left coordinator;
-        is = same ∙ ap (λ (n : ℕ). Rebuilding (member n sfrom ∷ []) (lowest_left coordinator)) (sym gone);
-        there = lowest;
-        passes = inl gone;
-      })
-      (λ later.
-      some_by (eqb target dead) back new None (Passes v dead (Opening source sfrom target dfrom) new) later
-      (λ e same. record {
-        to = source;
-        is = same;
-        there = there source (or_left (eqb source source) (eqb target source) (eq-eqb source source refl));
-        passes = inr (eqb-true target dead e, refl);
-      })
-      (λ none. absurd (cc none)))
-  pass (Moving source sfrom target dfrom) new there is =
-      let on : Phase = Rebuilding (member dead sfrom ∷ member target dfrom ∷ []) target in
-      let back : Phase = Rebuilding (member source sfrom ∷ member dead dfrom ∷ []) source in
-      some_by (eqb source dead) on new (cond (eqb target dead) (Some back) None) (Passes v dead (Moving source sfrom target dfrom) new) is
-      (λ e same.
-      let gone : source ≡ dead = eqb-true source dead e in
-      record {
-        to = target;
-        is = same ∙ ap (λ (n : ℕ). Rebuilding (member n sfrom ∷ member target dfrom ∷ []) target) (sym gone);
-        there = there target (or_right (eqb source target) (eqb target target) (eq-eqb target target refl));
-        passes = inl (gone, refl);
-      })
-      (λ later.
-      some_by (eqb target dead) back new None (Passes v dead (Moving source sfrom target dfrom) new) later
-      (λ e same.
-      let gone : target ≡ dead = eqb-true target dead e in
-      record {
-        to = source;
-        is = same ∙ ap (λ (n : ℕ). Rebuilding (member source sfrom ∷ member n dfrom ∷ []) source) (sym gone);
-        there = there source (or_left (eqb source source) (eqb target source) (eq-eqb source source refl));
-        passes = inr (gone, refl);
-      })
-      (λ none. absurd (cc none)))
-  pass (Rebuilding lineage was) new there is =
-      let next : ℕ = next_rebuilder coordinator lineage in
-      some_by (eqb was dead) (Rebuilding lineage next) new None (Passes v dead (Rebuilding lineage was) new) is
-      (λ e same. record {
-        to = next;
-        is = same;
-        there = found_or (IsMaster v.masters) (λ master. not (is_noticed coordinator master)) (map (λ m. m.master) lineage)
-            (lowest_left coordinator)
-            (members_there lineage (λ q inside. there q (or_right (eqb was q) (is_member lineage q) inside))) lowest;
-        passes = eqb-true was dead e;
-      })
-      (λ none. absurd (cc none))
+  -- who is to rebuild a phase whose master, source or target is noticed
+  abbrev Becomes : Phase → ℕ → Type 0
+  Becomes phase to = (later : Phase) → AreThere phase → phase_noticed coordinator dead phase ≡ Some later → Passes v dead phase later to
+
+  owned_passes : (master from : ℕ) → Becomes (Owned master from) (lowest_left coordinator)
+  owned_passes master from later there is = grind (arith, lowest)
+
+  opening_passes : (source sfrom target : ℕ) (dfrom : Option ℕ) → Becomes (Opening source sfrom target dfrom) (cond (eqb source dead) (lowest_left coordinator) source)
+  opening_passes source sfrom target dfrom later there is =
+      let own : IsMaster v.masters source = there source (or_left (eqb source source) (eqb target source) (eq-eqb source source refl)) in
+      grind (arith, lowest, own)
+
+  moving_passes : (source sfrom target dfrom : ℕ) → Becomes (Moving source sfrom target dfrom) (cond (eqb source dead) target source)
+  moving_passes source sfrom target dfrom later there is =
+      let own : IsMaster v.masters source = there source (or_left (eqb source source) (eqb target source) (eq-eqb source source refl)) in
+      let other : IsMaster v.masters target = there target (or_right (eqb source target) (eqb target target) (eq-eqb target target refl)) in
+      grind (arith, own, other)
+
+  rebuilding_passes : (lineage : List Member) (was : ℕ) → Becomes (Rebuilding lineage was) (next_rebuilder coordinator lineage)
+  rebuilding_passes lineage was later there is =
+      let found : IsMaster v.masters (next_rebuilder coordinator lineage) =
+      found_or (IsMaster v.masters) (λ master. not (is_noticed coordinator master)) (map (λ m. m.master) lineage) (lowest_left coordinator)
+      (members_there lineage (λ q inside. there q (or_right (eqb was q) (is_member lineage q) inside))) lowest in
+      grind (arith, found)
+
+  pass : (phase later : Phase) → AreThere phase → phase_noticed coordinator dead phase ≡ Some later → (to : ℕ) × Passes v dead phase later to
+  pass (Owned master from) later there is = (_, owned_passes master from later there is)
+  pass (Opening source sfrom target dfrom) later there is = (_, opening_passes source sfrom target dfrom later there is)
+  pass (Moving source sfrom target dfrom) later there is = (_, moving_passes source sfrom target dfrom later there is)
+  pass (Rebuilding lineage was) later there is = (_, rebuilding_passes lineage was later there is)
 
   -- ---- each row
 
@@ -531,10 +296,10 @@ module _ (v : View) (dead : ℕ) (sound : SoundView v) (may : MayNotice v dead) 
       let has_row : Contains (before ++ row ∷ after) row = Contains-append_right before (row ∷ after) row (0, omega arith, refl) in
       let there : AreThere row.phase = λ q.
       All-contains (λ r. names r.phase q ≡ true → IsMaster v.masters q) (before ++ row ∷ after) row (was.nodes.named q) has_row in
-      let p : Passes v dead row.phase phase = pass row.phase phase there is in
+      let p : (to : ℕ) × Passes v dead row.phase phase to = pass row.phase phase there is in
       let turns : MayTurn (now (before ++ row ∷ after)) row (row.term + 1) phase =
-      subst (MayTurn (now (before ++ row ∷ after)) row (row.term + 1)) (sym p.is)
-      (may_pass (now (before ++ row ∷ after)) row dead was may.crashed has_row some p.to p.there p.passes) in
+      subst (MayTurn (now (before ++ row ∷ after)) row (row.term + 1)) (sym p.1.is)
+      (may_pass (now (before ++ row ∷ after)) row dead was may.crashed has_row some p.0 p.1.there p.1.passes) in
       subst (λ (rows : List Row). SoundView (now rows))
       (replaced_there before after row (row_at row (row.term + 1) phase) was.rows.apart)
       (view_turned (now (before ++ row ∷ after)) row (row.term + 1) phase was turns)

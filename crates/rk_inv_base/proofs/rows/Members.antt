@@ -1,6 +1,6 @@
 -- Posts of the members of a lineage: whoever has one is a member, and so whoever is none has another.
-use Rattle.std.proofs.Common.{◌≡◌, ℕ, Bool, true, false, cond, ◌||◌, ◌==◌, List, [], ◌∷◌, Option, Some, None, refl}
-use Rattle.rk_inv_base.proofs.Words.{false≢true, Member, lineage_of, Phase, Owned, Opening, Moving, Rebuilding, is_member, Post, Bystander}
+use Rattle.rk_inv_base.proofs.Words.{◌≡◌, ℕ, Bool, true, false, cond, ◌||◌, ◌==◌, List, [], ◌∷◌, Option, Some, None, refl, false≢true}
+use Rattle.rk_inv_base.proofs.Words.{Member, lineage_of, Phase, Owned, Opening, Moving, Rebuilding, is_member, Post, Bystander}
 use Rattle.rk_inv_base.proofs.Words.{FirstRebuilder, FormerMember, InvitedTarget, LastRebuilder, MovingSource, MovingTarget, OnlyRebuilder}
 use Rattle.rk_inv_base.proofs.Words.{OpeningSource, OutsideRebuilder, Owner, ReadyTarget, post_of, rebuilder_post, target_post}
 

@@ -1,37 +1,23 @@
 -- A lane stays sound when a row that is owned begins to move to another master that is there, at the next term.
-use Rattle.std.proofs.Common.{◌≡◌, ℕ, ◌+◌, Bool, true, false, cond, eqb, Some, None, sym, ap, subst, ◌∙◌, ⊎_elim, arith, inl, eqb-true, ◌⊎◌}
-use Rattle.std.proofs.Common.{◌<◌}
-use Rattle.rk_inv_base.proofs.Words.{or_cases, Role, lineage_of, Phase, Opening, Row, names, IsMaster, World, MayTakePost, MayTurn, Post}
-use Rattle.rk_inv_base.proofs.Words.{Owner, OpeningSource, InvitedTarget, Bystander, post_of, bond_of, Holds, StillCounts, View, view}
-use Rattle.rk_inv_base.proofs.Words.{IsSound, SoundView}
-use Rattle.rk_transfer.specs.declared.role.Role.TheVariants as roles
-use Rattle.rk_sound.specs.Moves.{MayMigrate, OpensOn}
-use Rattle.rk_sound.specs.Small.{migration_begun_in}
-use Rattle.rk_inv_base.proofs.rows.BeforeTurn.{IsEarly, at_most, counted_before, none_closes, none_marked, none_rebuilds}
+use Rattle.rk_inv_base.proofs.Words.{◌≡◌, ℕ, ◌+◌, Bool, true, cond, eqb, None, sym, ap, subst, ◌∙◌, ⊎_elim, arith, inl}
+use Rattle.rk_inv_base.proofs.Words.{eqb-true, ◌⊎◌, ◌<◌, or_cases, Role, lineage_of, Phase, Opening, Row, names, IsMaster, World}
+use Rattle.rk_inv_base.proofs.Words.{MayTakePost, MayTurn, Post, Owner, OpeningSource, InvitedTarget, Bystander, post_of, bond_of, Holds}
+use Rattle.rk_inv_base.proofs.Words.{StillCounts, View, view, IsSound, SoundView, MayMigrate, OpensOn, migration_begun_in}
+use Rattle.rk_inv_base.proofs.Base.{IsEarly, at_most, counted_before, none_closes, none_marked, none_rebuilds, SoundRow, row_in}
 use Rattle.rk_inv_base.proofs.rows.RowTurned.{view_changed}
-use Rattle.rk_inv_base.proofs.views.ByRows.{SoundRow, row_in}
 
 -- ---- posts at the next term
 
 -- an owner may open the tablet
 pub owner_fits : (role : Role) (place term own applied : ℕ) → Holds (bond_of (Owner place) role) term own applied → Holds (bond_of OpeningSource role) (term + 1) own applied
-owner_fits roles.Serving place term own applied fits = omega (arith, fits)
-owner_fits (roles.Joining (Some entry)) place term own applied fits = let same = fits.0 in (omega (arith, same), fits.1)
-owner_fits (roles.Rebuilding from (Some entry)) place term own applied fits = let same = fits.0 in (omega (arith, same), fits.1.0)
-owner_fits _ place term own applied fits = absurd fits
+owner_fits role place term own applied fits = grind arith
 
 -- a master that has nothing to do with it may be invited, or has nothing to do with it still
 pub bystander_invited : (role : Role) (term own applied : ℕ) → Holds (bond_of Bystander role) term own applied → Holds (bond_of InvitedTarget role) (term + 1) own applied
-bystander_invited roles.Absent term own applied fits = omega (arith, fits)
-bystander_invited roles.Frozen term own applied fits = omega (arith, fits)
-bystander_invited (roles.Wanting from) term own applied fits = omega (arith, fits)
-bystander_invited _ term own applied fits = absurd fits
+bystander_invited role term own applied fits = grind arith
 
 pub bystander_stays : (role : Role) (term own applied : ℕ) → Holds (bond_of Bystander role) term own applied → Holds (bond_of Bystander role) (term + 1) own applied
-bystander_stays roles.Absent term own applied fits = omega (arith, fits)
-bystander_stays roles.Frozen term own applied fits = omega (arith, fits)
-bystander_stays (roles.Wanting from) term own applied fits = omega (arith, fits)
-bystander_stays _ term own applied fits = absurd fits
+bystander_stays role term own applied fits = grind arith
 
 module _ (v : View) (row : Row) (to : ℕ) (sound : SoundView v) (may : MayMigrate v row to) where
   abbrev opening : Phase
@@ -57,12 +43,7 @@ module _ (v : View) (row : Row) (to : ℕ) (sound : SoundView v) (may : MayMigra
 
   posts_by : (q : ℕ) (a b : Bool) → FitsPost q (cond a (Owner may.from) Bystander)
       → TakesPost q (cond a (Owner may.from) Bystander) (cond a OpeningSource (cond b InvitedTarget Bystander))
-  posts_by q true b fits =
-      assumption (owner_fits (v.handovers q row.tablet).role may.from row.term (v.handovers q row.tablet).term (v.written q).applied fits)
-  posts_by q false true fits =
-      assumption (bystander_invited (v.handovers q row.tablet).role row.term (v.handovers q row.tablet).term (v.written q).applied fits)
-  posts_by q false false fits =
-      assumption (bystander_stays (v.handovers q row.tablet).role row.term (v.handovers q row.tablet).term (v.written q).applied fits)
+  posts_by q a b fits = grind (arith, owner_fits, bystander_invited, bystander_stays)
 
   posts : (q : ℕ) → StillCounts (v.live q) (v.handovers q row.tablet).term (row.term + 1) → TakesPost q (post_of row.phase q) (post_of opening q)
   posts q counting =
@@ -70,8 +51,7 @@ module _ (v : View) (row : Row) (to : ℕ) (sound : SoundView v) (may : MayMigra
       its.fitting q
       (counted_before (v.live q) (v.handovers q row.tablet).term row.term (row.term + 1) (at_most v row q sound may.has_row) (omega arith)
       counting) in
-      subst (λ (phase : Phase). TakesPost q (post_of phase q) (post_of opening q)) (sym may.phase_is)
-      (posts_by q (eqb may.owner q) (eqb to q) (subst (λ (phase : Phase). FitsPost q (post_of phase q)) may.phase_is fits))
+      rw may.phase_is (posts_by q (eqb may.owner q) (eqb to q) (subst (λ (phase : Phase). FitsPost q (post_of phase q)) may.phase_is fits))
 
   early : IsEarly row.phase
   early = subst IsEarly (sym may.phase_is) tt

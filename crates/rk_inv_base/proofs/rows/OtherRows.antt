@@ -1,10 +1,8 @@
 -- What is known of rows where one is replaced by another of its number and range: each other one is of another number.
-use Rattle.std.proofs.Common.{◌≡◌, true, false, eqb, List, sym, subst, ◌∙◌, ⊎_elim, inl, inr, ◌⊎◌, All, Contains, eqb-true}
+use Rattle.rk_inv_base.proofs.Words.{◌≡◌, true, false, eqb, List, sym, subst, ◌∙◌, ⊎_elim, inl, inr, ◌⊎◌, All, Contains, eqb-true}
 use Rattle.rk_inv_base.proofs.Words.{cases_Bool, All-contains, lawful_turned, IsTabletMap, replaced, Row}
-use Rattle.rk_inv_base.proofs.rows.Apart.{same_number}
+use Rattle.rk_inv_base.proofs.Base.{same_number, all_by, new_stands, stands_found, stood}
 use Rattle.rk_inv_base.proofs.pulls.Joining.{differ}
-use Rattle.rk_inv_base.proofs.views.Lists.{all_by}
-use Rattle.rk_inv_base.proofs.rows.TurnedRows.{new_stands, stands_found, stood}
 
 module _ (rows : List Row) (old new : Row) (apart : IsTabletMap rows) (has : Contains rows old) (number : new.tablet ≡ old.tablet) (range : new.range ≡ old.range) where
   -- what stands after a row is replaced is the new one, or stood before and has another number

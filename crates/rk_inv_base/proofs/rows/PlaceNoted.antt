@@ -1,14 +1,12 @@
 -- A view stays sound when the place of a target is noted, where that waits at it at the row's term.
-use Rattle.std.proofs.Common.{◌≡◌, ℕ, Bool, true, false, cond, eqb, Some, None, refl, sym, ap, subst, ◌∙◌, inr, eqb-true, ◌⊎◌, ◌<◌}
+use Rattle.rk_inv_base.proofs.Words.{arith}
+use Rattle.rk_inv_base.proofs.Words.{◌≡◌, ℕ, Bool, true, cond, eqb, Some, refl, sym, ap, subst, ◌∙◌, eqb-true}
 use Rattle.rk_inv_base.proofs.Words.{Handover, lineage_of, Phase, Opening, Row, names, IsMaster, World, MayTakePost, MayTurn, Post}
-use Rattle.rk_inv_base.proofs.Words.{InvitedTarget, ReadyTarget, OpeningSource, Bystander, post_of, bond_of, Holds, StillCounts, IsFormed}
-use Rattle.rk_inv_base.proofs.Words.{View, view, IsSound, SoundView}
+use Rattle.rk_inv_base.proofs.Words.{InvitedTarget, ReadyTarget, OpeningSource, Bystander, post_of, bond_of, Holds, StillCounts}
+use Rattle.rk_inv_base.proofs.Words.{View, view, IsSound, SoundView, MayNote, place_noted_in}
 use Rattle.rk_transfer.specs.declared.role.Role.TheVariants as roles
-use Rattle.rk_sound.specs.Moves.{MayNote, OpensOn}
-use Rattle.rk_sound.specs.Small.{place_noted_in}
-use Rattle.rk_inv_base.proofs.rows.BeforeTurn.{IsEarly, none_closes, none_marked, none_rebuilds}
+use Rattle.rk_inv_base.proofs.Base.{IsEarly, none_closes, none_marked, none_rebuilds, SoundRow, row_in}
 use Rattle.rk_inv_base.proofs.rows.RowTurned.{view_changed}
-use Rattle.rk_inv_base.proofs.views.ByRows.{SoundRow, row_in}
 
 -- what a master has fits its post as before, where that is the same
 pub same_post : (post : Post) (term : ℕ) (handover : Handover) (applied : ℕ) → Holds (bond_of post handover.role) term handover.term applied → MayTakePost post post term term handover applied
@@ -40,13 +38,7 @@ module _ (v : View) (row : Row) (source sfrom target place : ℕ) (sound : Sound
   posts_by : (q : ℕ) (a b : Bool) → eqb target q ≡ b
       → FitsPost q (cond a OpeningSource (cond b InvitedTarget Bystander))
       → TakesPost q (cond a OpeningSource (cond b InvitedTarget Bystander)) (cond a OpeningSource (cond b (ReadyTarget place) Bystander))
-  posts_by q true b is fits = same_post OpeningSource row.term (v.handovers q row.tablet) (v.written q).applied fits
-  posts_by q false true is fits =
-      let its = sym (eqb-true target q is) in
-      ready_post place row.term (v.handovers q row.tablet) (v.written q).applied
-      (ap (λ (n : ℕ). (v.handovers n row.tablet).role) its ∙ may.waiting.role_is)
-      (ap (λ (n : ℕ). (v.handovers n row.tablet).term) its ∙ may.waiting.term_is)
-  posts_by q false false is fits = same_post Bystander row.term (v.handovers q row.tablet) (v.written q).applied fits
+  posts_by q a b is fits = grind (arith, same_post, its, eqb-true, ready_post)
 
   posts : (q : ℕ) → StillCounts (v.live q) (v.handovers q row.tablet).term row.term → TakesPost q (post_of row.phase q) (post_of noted q)
   posts q counting =
@@ -58,20 +50,7 @@ module _ (v : View) (row : Row) (source sfrom target place : ℕ) (sound : Sound
   early = subst IsEarly (sym may.phase_is) tt
 
   pub may_be_noted : MayTurn v row row.term noted
-  may_be_noted =
-      let opens : OpensOn row.phase noted =
-      record { source = source; from = sfrom; target = target; noted = None; place = place; was = may.phase_is; is = refl } in
-      let term_is : (row.term < row.term) ⊎ ((row.term ≡ row.term) × OpensOn row.phase noted) = inr (refl, opens) in
-      assumption (
-        sym (ap lineage_of may.phase_is),
-        subst IsFormed may.phase_is its.formed,
-        named,
-        may.waiting.term_is,
-        posts,
-        none_closes v row row.term noted sound may.has_row early,
-        none_rebuilds v row row.term noted sound may.has_row early,
-        none_marked v row row.term noted sound may.has_row early,
-      )
+  may_be_noted = grind (arith, lineage_of, its, named, posts, none_closes, early, none_rebuilds, none_marked)
 
 pub sound_noted : (w : World) (row : Row) (source sfrom target place : ℕ) → IsSound w → MayNote (view w) row source sfrom target place → IsSound (place_noted_in w row source sfrom target place)
 sound_noted w row source sfrom target place sound may =

@@ -1,40 +1,28 @@
 -- A lane stays sound when a row is added for a master that serves it at once: nobody speaks of its number or of its range so far.
-use Rattle.std.proofs.Common.{◌≡◌, ℕ, ◌≤◌, ◌<◌, Bool, true, false, cond, ◌&&◌, ◌||◌, List, [], ◌∷◌, Option, Some, None, eqb, leb, refl, sym}
-use Rattle.std.proofs.Common.{ap, subst, ◌∙◌, ⊎_elim, arith, ◌⊎◌, inl, inr, IfSome, is_some, drop, All, Contains, flat_map, eq-eqb}
-use Rattle.std.proofs.Common.{eqb-true, ne_eqb, append-nil, length}
-use Rattle.rk_inv_base.proofs.Words.{cases_eq, cases_lt, false≢true, or_left, nat_tests, All-contains, All-nil, All-cons, All-weaker}
-use Rattle.rk_inv_base.proofs.Words.{IfSome_then, hash_of, has, meets, Call, Ended, Held, Waits, Placed, Member, Range, is_at_parts}
-use Rattle.rk_inv_base.proofs.Words.{IsLegal, is_at, live_after, map_after, last_version, never, is_mutation, Entry, ends_of, is_serving}
-use Rattle.rk_inv_base.proofs.Words.{Handover, Role, is_covered, placed, row_of, Owned, Row, newest_none, is_of, Tenure, Body, base_map}
-use Rattle.rk_inv_base.proofs.Words.{new_row, items_of, told, is_member, unmarked_from, of_key, side_entries, IsMaster, has_all, has_key}
-use Rattle.rk_inv_base.proofs.Words.{is_absent, may_have_staged, with_added, World, master_at, tablet_in, with_master, member_truth}
-use Rattle.rk_inv_base.proofs.Words.{applied_entries, Mark, IsKnown, IsReached, IsStagedEnd, is_record_in, AreAboveMap, HasWholeRows}
-use Rattle.rk_inv_base.proofs.Words.{IsEntryWithin, IsItemWithin, IsOfWholeRows, IsWithinRows, HasSome, AreAbove, Bystander, Owner, Post}
-use Rattle.rk_inv_base.proofs.Words.{Holds, bond_of, post_of, speaks, HasOwnRange, MarkFits, IsRest, IsPlaced, put2, IsTableOf}
-use Rattle.rk_inv_base.proofs.Words.{HandoverFits, SentFits, range_in, tenure_in, View, view, truths, rests, IsSound, SoundView, CoverOf}
-use Rattle.rk_inv_base.proofs.Words.{get, false_from_ne_true, is_of_parts, All-take, or_right}
-use Rattle.rk_model.specs.History.{record_of}
+use Rattle.rk_inv_base.proofs.Words.{◌≡◌, ℕ, ◌≤◌, ◌<◌, Bool, true, false, cond, ◌&&◌, List, [], ◌∷◌, Option, Some, None, eqb, leb}
+use Rattle.rk_inv_base.proofs.Words.{refl, sym, ap, subst, ◌∙◌, ⊎_elim, arith, ◌⊎◌, inl, inr, IfSome, is_some, drop, All, Contains}
+use Rattle.rk_inv_base.proofs.Words.{flat_map, eq-eqb, eqb-true, ne_eqb, append-nil, length, cases_eq, cases_lt, false≢true, or_left}
+use Rattle.rk_inv_base.proofs.Words.{nat_tests, All-contains, All-nil, All-cons, All-weaker, IfSome_then, hash_of, has, meets, Call, Ended}
+use Rattle.rk_inv_base.proofs.Words.{Held, Waits, Placed, Member, Range, is_at_parts, IsLegal, is_at, live_after, map_after, last_version}
+use Rattle.rk_inv_base.proofs.Words.{never, is_mutation, Entry, ends_of, is_serving, Handover, Role, is_covered, placed, row_of, Owned, Row}
+use Rattle.rk_inv_base.proofs.Words.{newest_none, is_of, Tenure, Body, base_map, new_row, items_of, told, is_member, unmarked_from, of_key}
+use Rattle.rk_inv_base.proofs.Words.{side_entries, IsMaster, has_all, has_key, is_absent, may_have_staged, with_added, World, master_at}
+use Rattle.rk_inv_base.proofs.Words.{tablet_in, with_master, member_truth, applied_entries, Mark, IsKnown, IsReached, IsStagedEnd}
+use Rattle.rk_inv_base.proofs.Words.{is_record_in, AreAboveMap, HasWholeRows, IsEntryWithin, IsItemWithin, IsOfWholeRows, IsWithinRows}
+use Rattle.rk_inv_base.proofs.Words.{HasSome, AreAbove, Bystander, Owner, Post, Holds, bond_of, post_of, speaks, HasOwnRange, MarkFits}
+use Rattle.rk_inv_base.proofs.Words.{IsPlaced, put2, IsTableOf, HandoverFits, SentFits, range_in, tenure_in, View, view, truths, rests}
+use Rattle.rk_inv_base.proofs.Words.{IsSound, SoundView, CoverOf, get, false_from_ne_true, is_of_parts, All-take, or_right, lawful_placed}
+use Rattle.rk_inv_base.proofs.Words.{meets_any, newest_entry, tablet_added, HasSomeIn, MayAdd, added, as_added, true_from_ne_false}
 use Rattle.rk_entry.specs.declared.entry.Entry.TheVariants as entries
 use Rattle.rk_transfer.specs.declared.role.Role.TheVariants as roles
-use Rattle.rk_tablet_map.proofs.Lawful.{lawful_placed}
-use Rattle.rk_tablet_map.specs.Rows.{meets_any}
-use Rattle.rk_world.specs.Base.{newest_entry}
-use Rattle.rk_world.specs.Step.{tablet_added}
-use Rattle.rk_sound.specs.Moves.{HasSomeIn, MayAdd}
-use Rattle.rk_sound.specs.Small.{added, as_added}
+use Rattle.rk_model.specs.History.{record_of}
+use Rattle.rk_inv_base.proofs.Base.{row_in, IsNextOf, SoundBeside, SoundRow, none_for_owned, view_by_rows, waits_for, staged_as, row_kept}
+use Rattle.rk_inv_base.proofs.Base.{seen_at, covered_by, all_by, none_pass, put2_by, put2_here, put2_other, put2_same, IsBareOf}
+use Rattle.rk_inv_base.proofs.Base.{stands_found, view_kept}
 use Rattle.rk_inv_base.proofs.rows.AddedRows.{all_with, covered_still, known_placed, new_placed, stands_placed, uncovered}
 use Rattle.rk_inv_base.proofs.rows.AddedSays.{says_new}
-use Rattle.rk_inv_base.proofs.views.ByRows.{row_in, IsNextOf, SoundBeside, SoundRow, none_for_owned, view_by_rows, waits_for, staged_as}
-use Rattle.rk_inv_base.proofs.views.OwnTablet.{row_kept, seen_at}
-use Rattle.rk_inv_base.proofs.views.Cover.{covered_by}
-use Rattle.rk_inv_base.proofs.views.Lists.{all_by, none_pass}
 use Rattle.rk_inv_base.proofs.logs.Missed.{Misses, counting_none, drop_missed, from_missed, joined_none, map_elsewhere, material_none}
 use Rattle.rk_inv_base.proofs.logs.Missed.{none_touches}
-use Rattle.rk_inv_base.proofs.views.Put.{put2_by, put2_here, put2_other, put2_same}
-use Rattle.rk_inv_base.proofs.calls.Receives.{IsBareOf}
-use Rattle.rk_inv_base.proofs.rows.TurnedRows.{stands_found}
-use Rattle.rk_inv_base.proofs.views.Views.{view_kept}
-use Rattle.std.proofs.lemmas.Bool.{true_from_ne_false}
 
 -- where two tests in a row find no fault, neither test passes
 pub no_fault : {X : Type 0} (a b : Bool) (one other : X) → cond a (Some one) (cond b (Some other) None) ≡ None → (a ≡ false) × (b ≡ false)
@@ -78,10 +66,7 @@ module _ (v : View) (tablet : ℕ) (range : Range) (master : ℕ) (sound : Sound
   apart q n unlike = put2_other v.handovers master tablet (as_added range) q n (λ at its. unlike its)
 
   by : (P : ℕ → ℕ → Handover → Type 0) (q n : ℕ) → P master tablet (as_added range) → P q n (v.handovers q n) → P q n (now.handovers q n)
-  by P q n here was =
-      put2_by v.handovers master tablet (λ h. as_added range) (P q n) q n
-      (λ at its. subst (λ (q : ℕ). P q n (as_added range)) (sym at) (subst (λ (n : ℕ). P master n (as_added range)) (sym its) here))
-      (λ unlike. was)
+  by P q n here was = grind (arith, put2_by, as_added)
 
   -- no master had the tablet
   term_none : (q : ℕ) → (v.handovers q tablet).term ≡ 0
@@ -106,17 +91,10 @@ module _ (v : View) (tablet : ℕ) (range : Range) (master : ℕ) (sound : Sound
       no_hash other.table both.0 (within both.0 both.1) both.2)
 
   misses : (entry : Entry) → HasSomeIn entry → IsEntryWithin v.rows entry → Misses range entry
-  misses (entries.Held held) some within = uncovered v.rows range held.table (hash_of held.key) free.1 within
-  misses (entries.Refused refused) some within = uncovered v.rows range refused.table (hash_of refused.key) free.1 within
-  misses (entries.Carried carried) some within = no_meeting carried.range some within
-  misses (entries.Joined joined) some within = no_meeting joined.range some within
+  misses entry some within = grind (arith, uncovered, hash_of, free, no_meeting)
 
   missed : (q : ℕ) → All (Misses range) (v.written q).entries
-  missed q =
-      all_by (Misses range) (v.written q).entries
-      (λ entry stands.
-      misses entry (All-contains HasSomeIn (v.written q).entries entry (may.entries q) stands)
-      (All-contains (IsEntryWithin v.rows) (v.written q).entries entry (sound.cover.entries q) stands))
+  missed q = grind (arith, all_by, misses)
 
   kept_apart : (q n : ℕ) → 1 ≤ (v.handovers q n).term → meets (v.handovers q n).range range ≡ false
   kept_apart q n begun = no_meeting (v.handovers q n).range (may.tablets q n begun) (sound.cover.ranges q n begun)
@@ -149,11 +127,7 @@ module _ (v : View) (tablet : ℕ) (range : Range) (master : ℕ) (sound : Sound
 
   -- nothing was ever at its keys
   elsewhere : (table : ℕ) (key : List ℕ) → has_key range table key ≡ true → (placed : Placed) → Contains v.journal placed → is_at table key placed ≡ false
-  elsewhere table key inside placed stands =
-      false_from_ne_true (is_at table key placed)
-      (λ at.
-      let parts = is_at_parts table key placed at in
-      no_record placed stands ((λ i. has range (parts.0 i) (hash_of (parts.1 i))) ∙ inside))
+  elsewhere table key inside placed stands = grind (arith, false_from_ne_true, is_at, is_at_parts, no_record, has, hash_of)
 
   none_based : (table : ℕ) (key : List ℕ) → has_key range table key ≡ true → (item : Held) → Contains v.base.items item → is_of table key item ≡ false
   none_based table key inside item stands =
@@ -211,8 +185,7 @@ module _ (v : View) (tablet : ℕ) (range : Range) (master : ℕ) (sound : Sound
       q a
       (λ unlike first second.
       let same : now.handovers master b ≡ v.handovers master b = apart master b (λ its. unlike (sym its)) in
-      subst (λ (h : Handover). meets range h.range ≡ false) (sym same)
-      (meets_turned (v.handovers master b).range range
+      rw same (meets_turned (v.handovers master b).range range
       (beside master b (ap (λ (h : Handover). is_absent h.role) (sym same) ∙ second))))
       (λ unlike first second.
       by
@@ -222,10 +195,7 @@ module _ (v : View) (tablet : ℕ) (range : Range) (master : ℕ) (sound : Sound
       unlike first second
 
   sent_new : (body : Body) → IfSome (tenure_in body) (λ tenure. is_some (row_of v.rows tenure.tablet) ≡ true) → IfSome (range_in body) (λ r. meets range r ≡ false) → SentFits row body
-  sent_new body known away = record {
-    within = IfSome_then (tenure_in body) known (λ tenure knows is. absurd (unsaid tenure knows (sym is)));
-    below = IfSome_then (tenure_in body) known (λ tenure knows. IfSome_then (range_in body) away (λ r none unlike met. absurd (false≢true (sym none ∙ met))));
-  }
+  sent_new body known away = grind (arith, tenure_in, unsaid, range_in, false≢true)
 
   both_some : (o : Option Range) → IfSome o HasSome → IfSome o (IsWithinRows v.rows) → IfSome o (λ r. meets range r ≡ false)
   both_some None some within = tt
@@ -238,10 +208,7 @@ module _ (v : View) (tablet : ℕ) (range : Range) (master : ℕ) (sound : Sound
   item_within item = covered_still row v.rows item.table (hash_of item.key)
 
   entry_within : (entry : Entry) → IsEntryWithin v.rows entry → IsEntryWithin now.rows entry
-  entry_within (entries.Held held) within = item_within held within
-  entry_within (entries.Refused refused) within = covered_still row v.rows refused.table (hash_of refused.key) within
-  entry_within (entries.Carried carried) within = range_within carried.range within
-  entry_within (entries.Joined joined) within = range_within joined.range within
+  entry_within entry within = grind (arith, item_within, covered_still, hash_of, range_within)
 
   whole : (r : Range) → meets r range ≡ false → HasWholeRows v.rows r → HasWholeRows now.rows r
   whole r away wholes =
@@ -295,19 +262,10 @@ module _ (v : View) (tablet : ℕ) (range : Range) (master : ℕ) (sound : Sound
 
   -- what a master has of the tablet and what it is to the row
   by_post : (P : ℕ → Post → Handover → Type 0) (q : ℕ) → P q (Owner 0) (as_added range) → ((q ≡ master → ⊥) → P q Bystander (v.handovers q tablet)) → P q (post_of (Owned master 0) q) (now.handovers q tablet)
-  by_post P q here unlike =
-      put2_by v.handovers master tablet (λ _. as_added range) (P q (post_of (Owned master 0) q)) q tablet
-      (λ at its. subst (λ (b : Bool). P q (cond b (Owner 0) Bystander) (as_added range)) (sym (eq-eqb master q (sym at))) here)
-      (λ apart.
-      let away : q ≡ master → ⊥ = λ at. apart at refl in
-      subst (λ (b : Bool). P q (cond b (Owner 0) Bystander) (v.handovers q tablet)) (sym (ne_eqb master q (λ is. away (sym is)))) (unlike away))
+  by_post P q here unlike = grind (arith, put2_by, as_added, post_of, eq-eqb, apart, ne_eqb)
 
   ranged_new : (q : ℕ) → is_member (own ∷ []) q ≡ true → (now.handovers q tablet).range ≡ range
-  ranged_new q inside =
-      ⊎_elim (λ (at : q ≡ master). ap (λ (h : Handover). h.range) (at_master q at))
-      (λ (away : q ≡ master → ⊥).
-      absurd (false≢true (sym (ap (λ (b : Bool). b || false) (ne_eqb master q (λ is. away (sym is)))) ∙ inside)))
-      (cases_eq q master)
+  ranged_new q inside = grind (arith, at_master, false≢true, ne_eqb, cases_eq)
 
   -- ---- calls and counters
 
@@ -376,9 +334,7 @@ module _ (v : View) (tablet : ℕ) (range : Range) (master : ℕ) (sound : Sound
     floor_granted = tt;
     floor_sent = λ n m there. rw (none_for_owned tablet 1 range master 0 now.handovers m.body) tt;
     goes_on =
-        subst (λ (l : List Entry). IsRest v.base range l (rests v row) v.journal v.asked) (sym truth_none)
-        (subst (λ (l : List Entry). IsRest v.base range [] l v.journal v.asked) (sym rest_none)
-        (record {
+        rw truth_none (rw rest_none (record {
           legal = subst (IsLegal (base_map v.base)) (sym (append-nil v.journal)) sound.truth.legal;
           live = λ table key inside.
               sym (ap (λ (l : List Placed). live_after (base_map v.base) l table key) (append-nil v.journal) ∙ ap record_of (untouched table key inside));

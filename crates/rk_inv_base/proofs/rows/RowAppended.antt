@@ -1,36 +1,27 @@
 -- What the invariant says of a row it says still once a master appends an entry to its log: of the row of another tablet, where the entry is
 -- of other ranges, and of the row of the tablet for which it appends it, by what the entry adds.
-use Rattle.std.proofs.Common.{◌≡◌, ℕ, true, false, List, [], ◌∷◌, ◌++◌, Option, refl, sym, ap, ◌∙◌, subst, arith, slice_index_or, IfSome}
-use Rattle.std.proofs.Common.{All, Contains, drop, max, Some}
-use Rattle.rk_inv_base.proofs.Words.{false≢true, All-head, All-tail, All-weaker, IfSome_then, get, list_any, EachIn, NumberMap, Call, Ended}
-use Rattle.rk_inv_base.proofs.Words.{Held, Member, Entry, Handover, lineage_of, Phase, Rebuilding, Row, Known, known_of, EntryEnd, Handed}
-use Rattle.rk_inv_base.proofs.Words.{items_in, items_of, told, first_of, touches, counts, joined_from, named_by, is_joined_in, is_idle}
-use Rattle.rk_inv_base.proofs.Words.{may_have_staged, own_place, Pulling, Written, member_truth, member_material, Mark, IsTruth, TellAll}
-use Rattle.rk_inv_base.proofs.Words.{IsKnown, AreAbove, AreAboveMap, IsNext, map_after, base_map, AreHandedOver, handed_by}
-use Rattle.rk_inv_base.proofs.Words.{handed_for_grant, target_truth, post_of, IsRest, FirstIsDone, OnlyIsUnnamed, HasItems, IsTableOf}
-use Rattle.rk_inv_base.proofs.Words.{IsPlaced, IsHandedBy, IsTarget, MembersFit, HandedFits, NamedFit, is_granted, named_items}
-use Rattle.rk_inv_base.proofs.Words.{wanted_place, stored_of, HasOwnRange, IsOfRange, IsRebuilder, MarkFits, NeededOf, READ_BACKUP}
-use Rattle.rk_inv_base.proofs.Words.{RowIsRebuilt, StandsLast, has_merged, put2, View, truths, rests, LogsOf, Log, Message, has_all_items}
-use Rattle.rk_inv_base.proofs.Words.{is_member}
+use Rattle.rk_inv_base.proofs.Words.{◌≡◌, ℕ, true, false, List, [], ◌∷◌, ◌++◌, Option, refl, sym, ap, ◌∙◌, subst, arith, slice_index_or}
+use Rattle.rk_inv_base.proofs.Words.{IfSome, All, Contains, drop, max, Some, false≢true, All-head, All-tail, All-weaker, IfSome_then, get}
+use Rattle.rk_inv_base.proofs.Words.{list_any, EachIn, NumberMap, Call, Ended, Held, Member, Entry, Handover, lineage_of, Phase, Rebuilding}
+use Rattle.rk_inv_base.proofs.Words.{Row, Known, known_of, EntryEnd, Handed, items_in, items_of, told, first_of, touches, counts}
+use Rattle.rk_inv_base.proofs.Words.{joined_from, named_by, is_joined_in, is_idle, may_have_staged, own_place, Pulling, Written}
+use Rattle.rk_inv_base.proofs.Words.{member_truth, member_material, Mark, IsTruth, TellAll, IsKnown, AreAbove, AreAboveMap, IsNext}
+use Rattle.rk_inv_base.proofs.Words.{map_after, base_map, AreHandedOver, handed_by, handed_for_grant, target_truth, post_of, IsRest}
+use Rattle.rk_inv_base.proofs.Words.{FirstIsDone, OnlyIsUnnamed, HasItems, IsTableOf, IsPlaced, IsTarget, MembersFit, HandedFits, NamedFit}
+use Rattle.rk_inv_base.proofs.Words.{is_granted, named_items, wanted_place, stored_of, HasOwnRange, IsRebuilder, MarkFits, NeededOf}
+use Rattle.rk_inv_base.proofs.Words.{READ_BACKUP, RowIsRebuilt, StandsLast, has_merged, put2, View, truths, rests, LogsOf, Log, Message}
+use Rattle.rk_inv_base.proofs.Words.{has_all_items, is_member}
 use Rattle.rk_tablet_map.specs.Phase.{member as member_at}
-use Rattle.rk_inv_base.proofs.views.Put.{put2_by, put2_other}
-use Rattle.rk_inv_base.proofs.views.Alike.{AreAlike, IsAlike, handed_by_alike, handed_for_grant_alike, speaks_alike, still_counts}
-use Rattle.rk_inv_base.proofs.views.Alike.{target_truth_same}
-use Rattle.rk_inv_base.proofs.views.ByRows.{CountsFor, IsNextOf, SoundRow, SpeaksFor}
-use Rattle.rk_inv_base.proofs.views.Places.{behind_none}
-use Rattle.rk_inv_base.proofs.views.Seen.{AllLook, LooksAs, looks_same}
+use Rattle.rk_inv_base.proofs.Base.{put2_by, put2_other, AreAlike, IsAlike, handed_by_alike, handed_for_grant_alike, speaks_alike}
+use Rattle.rk_inv_base.proofs.Base.{still_counts, target_truth_same, CountsFor, IsNextOf, SoundRow, SpeaksFor, behind_none, AllLook}
+use Rattle.rk_inv_base.proofs.Base.{LooksAs, looks_same, needed_grown, needed_member, rebuilder_weaker, joined_same, IsRebuilderWith}
+use Rattle.rk_inv_base.proofs.Base.{named_stays, piece_push, rebuilder_beside, unmarked_push, IsRebuilderBy, former_alone, mark_same}
+use Rattle.rk_inv_base.proofs.Base.{IsTargetIn, AreBelow, target_pushed, says_of_looks}
 use Rattle.rk_inv_base.proofs.views.Tables.{all_items_same}
-use Rattle.rk_inv_base.proofs.views.Needed.{needed_grown, needed_member, rebuilder_weaker}
 use Rattle.rk_inv_base.proofs.logs.OneMore.{FirstIsBeside, IsBeside, applied_same, joins_beside, known_same, logs_with, longer, marked}
 use Rattle.rk_inv_base.proofs.logs.OneMore.{marked_on, material_same, names_beside, needs_no_more, of_log, of_written, rest_at, rest_same}
 use Rattle.rk_inv_base.proofs.logs.OneMore.{truth_at, truth_same, within, written_with}
-use Rattle.rk_inv_base.proofs.logs.Shares.{joined_same}
-use Rattle.rk_inv_base.proofs.calls.Rebuilders.{IsRebuilderWith, named_stays, piece_push, rebuilder_beside, unmarked_push}
-use Rattle.rk_inv_base.proofs.calls.Rebuilds.{IsRebuilderBy, former_alone, mark_same}
-use Rattle.rk_inv_base.proofs.calls.Receives.{IsTargetIn}
-use Rattle.rk_inv_base.proofs.calls.Targets.{AreBelow, target_pushed}
 use Rattle.rk_inv_base.proofs.roles.Roles.{role_looks, terms_look}
-use Rattle.rk_inv_base.proofs.wire.Messages.{says_of_looks}
 
 -- a tablet is there as it was: rows and messages see it so, and its role waits, rebuilds and stages as the old one did
 pub record StaysAs (old new : Handover) : Type 0 where
@@ -68,14 +59,10 @@ rest_fits v now x was same counters =
     record {
       above = subst (λ (list : List Entry). AreAbove (items_of (truths v x)) (items_of list)) (sym same) was.above;
       counted = λ q counts says.
-          subst (λ (list : List Entry). IsNext (truths v x ++ list) (now.handovers q x.tablet).counter) (sym same)
-          (subst (IsNextOf v x) (sym (counters q)) (was.counted q counts says));
-      floor_granted =
-          subst (λ (list : List Entry). IfSome (handed_for_grant x v.handovers v.handed) (Floor list)) (sym same) was.floor_granted;
-      floor_sent =
-          subst (λ (list : List Entry). EachIn (λ n m. IfSome (handed_by x v.handovers m.body) (Floor list)) v.wire) (sym same) was.floor_sent;
-      goes_on =
-          subst (λ (list : List Entry). IsRest v.base x.range (truths v x) list v.journal v.asked) (sym same) was.goes_on;
+          rw same (subst (IsNextOf v x) (sym (counters q)) (was.counted q counts says));
+      floor_granted = rw same was.floor_granted;
+      floor_sent = rw same was.floor_sent;
+      goes_on = rw same was.goes_on;
       tells = λ end. subst (λ (list : List Entry). Contains (told list) end) (sym same);
     }
 
@@ -129,11 +116,8 @@ module _ (v : View) (master tablet : ℕ) (entry : Entry) (calls : ℕ → Numbe
       let handed : Option Handed = get v.handed x.tablet in
       let truth : List Entry = member_truth v.written x.range source in
       let material : List Entry = member_material v.written x.range source in
-      subst (λ (list : List Entry). IsTarget x.range source.master list (member_material now.written x.range source) target.from
-      (now.written q) h pulling handed (v.records q))
-      (sym (truth_same v master entry sound x.range source))
-      (subst (λ (list : List Entry). IsTarget x.range source.master truth list target.from (now.written q) h pulling handed (v.records q))
-      (sym (material_same v master entry sound x.range source beside))
+      rw (truth_same v master entry sound x.range source)
+      (rw (material_same v master entry sound x.range source beside)
       (of_written v master entry sound (λ (w : Written). IsTarget x.range source.master truth material target.from w h pulling handed (v.records q)) q
       (λ at.
       target_pushed x.range source.master truth material target.from h pulling handed (v.records q) (v.written q) entry
@@ -149,8 +133,7 @@ module _ (v : View) (master tablet : ℕ) (entry : Entry) (calls : ℕ → Numbe
       let same : named_items x.range target.from (now.written target.master) ≡ named_items x.range target.from w =
       of_written v master entry sound (λ (new : Written). named_items x.range target.from new ≡ named_items x.range target.from w) target.master
       (λ at. named_stays x.range target.from w entry none its) (λ apart. refl) in
-      subst (λ (truth : List Entry). Contains (items_of truth) item) (sym (truth_same v master entry sound x.range source))
-      (fit item (subst (λ (items : List Held). Contains items item) same there))
+      rw (truth_same v master entry sound x.range source) (fit item (subst (λ (items : List Held). Contains items item) same there))
   names_grown x _ placed none fit = tt
 
   -- ---- the row of another tablet
@@ -206,8 +189,7 @@ module _ (v : View) (master tablet : ℕ) (entry : Entry) (calls : ℕ → Numbe
     of_granted P = subst (λ (o : Option Handed). IfSome o P) (sym (handed_for_grant_alike x v.handovers now.handovers v.handed alike))
 
     of_sent : (P : Handed → Type 0) → EachIn (λ n m. IfSome (handed_by x v.handovers m.body) P) v.wire → EachIn (λ n m. IfSome (handed_by x now.handovers m.body) P) v.wire
-    of_sent P sent n m there =
-        subst (λ (o : Option Handed). IfSome o P) (sym (handed_by_alike x v.handovers now.handovers m.body alike)) (sent n m there)
+    of_sent P sent n m there = rw (handed_by_alike x v.handovers now.handovers m.body alike) (sent n m there)
 
     done : (lineage : List Member) → FirstIsBeside master entry x.range lineage → FirstIsDone v.written x.range lineage → FirstIsDone now.written x.range lineage
     done (one ∷ last ∷ more) first is = record {
@@ -245,8 +227,7 @@ module _ (v : View) (master tablet : ℕ) (entry : Entry) (calls : ℕ → Numbe
     -- the first of two members has what it had
     handed_on : (lineage : List Member) → lineage_of x.phase ≡ lineage → HandedFits x v.handovers v.completions v.handed lineage → HandedFits x now.handovers v.completions v.handed lineage
     handed_on (source ∷ target ∷ []) is fit = λ terms.
-        subst (λ (h : Handover). IsHandedBy (get v.handed x.tablet) h (v.completions source.master x.tablet))
-        (sym (handover_apart source.master x.tablet (grows.source source target [] is)))
+        rw (handover_apart source.master x.tablet (grows.source source target [] is))
         (fit (sym (alike target.master x.tablet).same_term ∙ terms ∙ (alike source.master x.tablet).same_term))
     handed_on _ is fit = tt
 
@@ -278,8 +259,7 @@ module _ (v : View) (master tablet : ℕ) (entry : Entry) (calls : ℕ → Numbe
         rebuilder_beside v sound entry x lineage to (Needed lineage) (names_beside x.range entry (other at).0.untouched) own (other at).0.untouched
         rebuilds)
         (λ apart. rebuilds) in
-        subst (λ (h : Handover). RebuildsIn now lineage to h (NeededOf x now.written lineage))
-        (sym (handover_apart to x.tablet (λ at. (other at).1)))
+        rw (handover_apart to x.tablet (λ at. (other at).1))
         (rebuilder_weaker x lineage to (truths v x) (member_material now.written x.range (member_at to (own_place h.role))) (Needed lineage)
         (NeededOf x now.written lineage) (λ q. known_of (now.logs q) READ_BACKUP) (λ q. stored_of v.stored q READ_BACKUP) (now.written to) h
         (v.completions to x.tablet) (v.gathers to x.tablet) (v.merged to x.tablet) (v.records to)
@@ -293,8 +273,7 @@ module _ (v : View) (master tablet : ℕ) (entry : Entry) (calls : ℕ → Numbe
         (Needed lineage) known (λ q. stored_of v.stored q READ_BACKUP) (now.written to) h (v.completions to x.tablet) (v.gathers to x.tablet)
         (v.merged to x.tablet) (v.records to))
         (λ i q. known_at q i)
-        (subst (λ (list : List Entry). IsRebuilderWith v x lineage to (Needed lineage) list (now.written to) h)
-        (sym (material_same v master entry sound x.range (member_at to (own_place h.role)) (λ at. (other at).0))) kept)))
+        (rw (material_same v master entry sound x.range (member_at to (own_place h.role)) (λ at. (other at).0)) kept)))
 
     abbrev IsRebuiltIn : View → Phase → Type 0
     IsRebuiltIn w phase =
@@ -342,8 +321,7 @@ module _ (v : View) (master tablet : ℕ) (entry : Entry) (calls : ℕ → Numbe
         of_written v master entry sound ArePieces q
         (λ at k d inside its.
         let mark : Mark = slice_index_or (v.written q).marks k d in
-        subst (λ (list : List Entry). All (IsOfRange x.range) list)
-        (sym (piece_push mark.first mark.past (v.written q).entries (entry ∷ []) (marked v master entry sound q k d inside)))
+        rw (piece_push mark.first mark.past (v.written q).entries (entry ∷ []) (marked v master entry sound q k d inside))
         (was.pieces q k d inside its))
         (λ apart. was.pieces q)
 

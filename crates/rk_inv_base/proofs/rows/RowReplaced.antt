@@ -1,19 +1,19 @@
 -- A view stays sound when a row is replaced by another one of its number and range, of which all holds that is said of rows, and what is
 -- noted of its tablet may change with it.
-use Rattle.std.proofs.Common.{◌≡◌, ℕ, true, List, [], ◌∷◌, Option, None, Some, cond, refl, sym, ap, subst, ◌∙◌, ⊎_elim, inl, inr, ◌⊎◌}
-use Rattle.std.proofs.Common.{IfSome, is_some, option_map, Contains, flat_map, slice_index_or, All, ◌<◌, length, false}
+use Rattle.rk_inv_base.proofs.Words.{arith}
+use Rattle.rk_inv_base.proofs.Words.{◌≡◌, ℕ, true, List, [], ◌∷◌, Some, refl, sym, ap, subst, ◌∙◌, ⊎_elim, inl, inr}
+use Rattle.rk_inv_base.proofs.Words.{◌⊎◌, IfSome, is_some, option_map, Contains, flat_map, slice_index_or, All, ◌<◌, length, false}
 use Rattle.rk_inv_base.proofs.Words.{All-weaker, IfSome_then, hash_of, NumberMap, get, meets, Call, Ended, Held, Member, Node, Range, Entry}
 use Rattle.rk_inv_base.proofs.Words.{ends_of, lawful_turned, lineage_of, is_covered, replaced, row_of, Phase, Moving, Row, Body, Handed}
 use Rattle.rk_inv_base.proofs.Words.{last_of, second_of, has_all, has_key, may_have_staged, member_truth, IsKnown, IsStagedEnd}
 use Rattle.rk_inv_base.proofs.Words.{HasWholeRows, IsEntryWithin, IsItemWithin, IsOfWholeRows, IsWithinRows, beginning_in, handed_for_grant}
-use Rattle.rk_inv_base.proofs.Words.{is_waiting, second_has, target_truth, GrantAgrees, IfMaster, IsRebuiltBy, row_at, HandedFits}
+use Rattle.rk_inv_base.proofs.Words.{is_waiting, second_has, target_truth, IsRebuiltBy, row_at, HandedFits}
 use Rattle.rk_inv_base.proofs.Words.{MembersFit, Waits, HandoverFits, tenure_in, range_in, View, rests, SoundView, CoverOf, Message, EachIn}
 use Rattle.rk_inv_base.proofs.Words.{Placed, is_absent}
 use Rattle.rk_entry.specs.declared.entry.Entry.TheVariants as entries
-use Rattle.rk_message.specs.declared.message.Body.TheVariants as bodies
-use Rattle.rk_inv_base.proofs.views.ByRows.{SaysIn, SoundRow, SoundBeside, each_row, view_by_rows, waits_for, staged_as}
+use Rattle.rk_inv_base.proofs.Base.{SaysIn, SoundRow, SoundBeside, each_row, view_by_rows, waits_for, staged_as, all_turned, covered_turned}
+use Rattle.rk_inv_base.proofs.Base.{known_turned, new_stands, none_known, stands_found, stands_still}
 use Rattle.rk_inv_base.proofs.rows.OtherRows.{all_others}
-use Rattle.rk_inv_base.proofs.rows.TurnedRows.{all_turned, covered_turned, known_turned, new_stands, none_known, stands_found, stands_still}
 
 -- the view where a row is at this term and in this phase, and this is noted of tablets
 abbrev pub row_replaced : View → Row → ℕ → Phase → NumberMap Handed → View
@@ -38,10 +38,7 @@ module _ (v : View) (rows : List Row) (handed : NumberMap Handed) (row : Row) (s
   noted = record v { rows = rows; handed = handed }
 
   granted_as : (P : Handed → Type 0) → IfSome (handed_for_grant row v.handovers v.handed) P → IfSome (handed_for_grant row v.handovers handed) P
-  granted_as P =
-      subst
-      (λ (o : Option Handed). IfSome (cond (is_waiting (second_has v.handovers row (second_of (lineage_of row.phase)))) o None) P)
-      (sym same)
+  granted_as P = grind (arith, is_waiting, second_has, second_of, lineage_of)
 
   target_as : (phase : Phase) → target_truth v.written v.handed row phase ≡ target_truth v.written handed row phase
   target_as (Moving source sfrom target dfrom) =
@@ -57,11 +54,7 @@ module _ (v : View) (rows : List Row) (handed : NumberMap Handed) (row : Row) (s
   handed_as _ fit = fit
 
   says_as : (from to : Node) (body : Body) → SaysIn v row from to body → SaysIn noted row from to body
-  says_as from to (bodies.Grant grant) said = (
-    said.0,
-    subst (λ (o : Option Handed). IfMaster to (λ q. GrantAgrees row (v.handovers q row.tablet) (v.live q) o q grant)) (sym same) said.1,
-  )
-  says_as from to _ said = said
+  says_as from to body said = grind arith
 
   -- of a row all holds that held, where the same is noted of its tablet
   row_noted : SoundRow v row → SoundRow noted row
@@ -99,10 +92,7 @@ module _ (v : View) (row new : Row) (sound : SoundView v) (has_row : Contains v.
   item_within item lies = covered_replaced item.table (hash_of item.key) ∙ lies
 
   entry_within : (entry : Entry) → IsEntryWithin v.rows entry → IsEntryWithin rows entry
-  entry_within (entries.Held held) lies = item_within held lies
-  entry_within (entries.Refused refused) lies = covered_replaced refused.table (hash_of refused.key) ∙ lies
-  entry_within (entries.Carried carried) lies = range_within carried.range lies
-  entry_within (entries.Joined joined) lies = range_within joined.range lies
+  entry_within entry lies = grind (arith, item_within, covered_replaced, hash_of, range_within)
 
   of_whole : (whole : Range) → HasWholeRows v.rows whole → HasWholeRows rows whole
   of_whole whole =

@@ -1,33 +1,24 @@
 -- What messages say of a row, and hand over for it, where that is turned.
-use Rattle.std.proofs.Common.{◌≡◌, ℕ, ◌<◌, Bool, ◌&&◌, cond, eqb, List, [], ◌∷◌, Option, Some, None, refl, sym, ap, subst, ◌∙◌, inl, IfSome}
-use Rattle.std.proofs.Common.{eq-eqb, eqb-true, true, false, ⊎_elim, arith, ◌⊎◌}
-use Rattle.rk_inv_base.proofs.Words.{and_from, and_parts, cond-true, cond_both, get, Member, Node, Handover, lineage_of, Phase, Row, Grant}
-use Rattle.rk_inv_base.proofs.Words.{Prepare, Tenure, Transfer, Body, Got, Pulled, Rebuild, Handed, told, is_member, second_of, handed_by}
-use Rattle.rk_inv_base.proofs.Words.{handed_for_grant, is_opening, is_waiting, is_waiting_at, second_has, IsOf, IsOfTarget, PrepareFits}
-use Rattle.rk_inv_base.proofs.Words.{CloseFits, OwnFits, ReleaseFits, RebuildFits, ReadyIn, TransferIn, JoinedIn, RebuiltIn, AfterMove}
-use Rattle.rk_inv_base.proofs.Words.{GrantIn, GrantAgrees, AskAgrees, PulledAgrees, GotAgrees, MayTurn, row_at, IsWithinTerm, SentFits}
-use Rattle.rk_inv_base.proofs.Words.{View, InvitedTarget, OpeningSource, Bystander, target_post, post_of, KeepTerm}
+use Rattle.rk_inv_base.proofs.Words.{◌≡◌, ℕ, ◌<◌, cond, eqb, List, [], ◌∷◌, Option, Some, None, refl, sym, ap, subst, ◌∙◌}
+use Rattle.rk_inv_base.proofs.Words.{IfSome, eq-eqb, eqb-true, arith, ◌⊎◌, and_from, and_parts, cond-true, cond_both}
+use Rattle.rk_inv_base.proofs.Words.{get, Member, Node, Handover, lineage_of, Phase, Row, Grant, Prepare, Tenure, Transfer, Body, Got}
+use Rattle.rk_inv_base.proofs.Words.{Pulled, Rebuild, Handed, told, is_member, second_of, handed_by, handed_for_grant, is_opening}
+use Rattle.rk_inv_base.proofs.Words.{is_waiting, is_waiting_at, second_has, IsOf, IsOfTarget, PrepareFits, CloseFits, OwnFits, ReleaseFits}
+use Rattle.rk_inv_base.proofs.Words.{RebuildFits, ReadyIn, TransferIn, JoinedIn, RebuiltIn, AfterMove, GrantAgrees, AskAgrees}
+use Rattle.rk_inv_base.proofs.Words.{PulledAgrees, GotAgrees, MayTurn, row_at, IsWithinTerm, SentFits, View, InvitedTarget, OpeningSource}
+use Rattle.rk_inv_base.proofs.Words.{Bystander, target_post, post_of, KeepTerm, OpensOn}
 use Rattle.rk_message.specs.declared.message.Body.TheVariants as bodies
-use Rattle.rk_inv_base.proofs.wire.Messages.{if_master, by_master}
-use Rattle.rk_sound.specs.Moves.{OpensOn}
-use Rattle.rk_inv_base.proofs.views.ByRows.{SaysIn}
+use Rattle.rk_inv_base.proofs.Base.{if_master, by_master, SaysIn}
 
 -- ---- a row that opens and goes on to open
 
 -- the target of a row that opens is invited, where any master is
 pub is_target : (source target master : ℕ) (noted : Option ℕ) → cond (eqb source master) OpeningSource (cond (eqb target master) (target_post noted) Bystander) ≡ InvitedTarget → target ≡ master
-is_target source target master noted invited = go (eqb source master) (eqb target master) refl invited
-  where
-    go : (a b : Bool) → eqb target master ≡ b → cond a OpeningSource (cond b (target_post noted) Bystander) ≡ InvitedTarget → target ≡ master
-    go false true is invited = eqb-true target master is
-    go _ _ is invited = absurd (cc)
+is_target source target master noted invited = grind (arith, eqb, target_post, eqb-true)
 
 -- its target keeps the row's term, so none is invited that keeps a smaller one
 pub none_invited : (old new : Phase) (terms : ℕ → ℕ) (term master : ℕ) → OpensOn old new → KeepTerm new terms term → post_of old master ≡ InvitedTarget → terms master < term → ⊥
-none_invited old new terms term master opens at invited below =
-    let same : terms opens.target ≡ term = rw opens.is at at in
-    let its : opens.target ≡ master = is_target opens.source opens.target master opens.noted (rw opens.was at invited) in
-    omega (arith, ap terms its, same, below)
+none_invited old new terms term master opens at invited below = grind (arith, is_target)
 
 -- a message is of a row that goes on to open, and was of it before
 pub record Stays (row : Row) (term : ℕ) (phase : Phase) (tenure : Tenure) : Type 0 where
@@ -37,14 +28,7 @@ pub record Stays (row : Row) (term : ℕ) (phase : Phase) (tenure : Tenure) : Ty
 
 -- a message of the row's new term is of one that goes on to open, where no message has a term above the old one
 pub stays_of : (row : Row) (term : ℕ) (phase : Phase) (tenure : Tenure) → (row.term < term) ⊎ ((term ≡ row.term) × OpensOn row.phase phase) → IsWithinTerm row tenure.tablet tenure.term → IsOf (row_at row term phase) tenure → Stays row term phase tenure
-stays_of row term phase tenure term_is low is =
-    ⊎_elim
-    (λ (rises : row.term < term).
-    let own : tenure.term ≡ term = is.term in
-    let fits = low (sym is.tablet) in absurd (omega (arith, rises, own, fits)))
-    (λ (same : (term ≡ row.term) × OpensOn row.phase phase).
-    record { opens = same.1; same = same.0; was = record { tablet = is.tablet; term = is.term ∙ same.0 } })
-    term_is
+stays_of row term phase tenure term_is low is = grind arith
 
 module _ (v : View) (row : Row) (term : ℕ) (phase : Phase) (may : MayTurn v row term phase) where
   abbrev new : Row
@@ -76,29 +60,10 @@ module _ (v : View) (row : Row) (term : ℕ) (phase : Phase) (may : MayTurn v ro
   -- a Transfer hands over for the new row only what it did for the old one
   transfer_hands : (P : Handed → Type 0) (transfer : Transfer) → IsWithinTerm row transfer.tenure.tablet transfer.tenure.term → IfSome (handed_by row v.handovers (bodies.Transfer transfer)) P → IfSome (handed_by new v.handovers (bodies.Transfer transfer)) P
   transfer_hands P transfer low given =
-      let handed : Handed = record { floor = transfer.floor; ends = transfer.ends } in
-      let its : Bool = eqb transfer.tenure.tablet row.tablet in
-      cond_both (is_opening phase && its && (eqb transfer.tenure.term term)) (Some handed) None (λ (o : Option Handed). IfSome o P)
-      (λ all.
-      let both = and_parts (is_opening phase && its) (eqb transfer.tenure.term term) all in
-      let parts = and_parts (is_opening phase) its both.0 in
-      let stay : Stays row term phase transfer.tenure =
-      stays transfer.tenure low
-      (record { tablet = eqb-true transfer.tenure.tablet row.tablet parts.1; term = eqb-true transfer.tenure.term term both.1 }) in
-      subst (λ (o : Option Handed). IfSome o P)
-      (cond-true (is_opening row.phase && its && (eqb transfer.tenure.term row.term)) (Some handed) None
-      (and_from (is_opening row.phase && its) (eqb transfer.tenure.term row.term)
-      (and_from (is_opening row.phase) its (ap is_opening stay.opens.was) parts.1)
-      (eq-eqb transfer.tenure.term row.term stay.was.term)))
-      given)
-      (λ none. tt)
+      grind (arith, eqb, cond_both, is_opening, and_parts, stays, eqb-true, cond-true, and_from, eq-eqb)
 
   grant_hands : (grant : Grant) → handed_by new v.handovers (bodies.Grant grant) ≡ handed_by row v.handovers (bodies.Grant grant)
-  grant_hands grant =
-      ap
-      (λ (h : Option Handover). cond ((eqb grant.tenure.tablet row.tablet) && is_waiting_at h grant.tenure.term)
-      (Some (record { floor = grant.floor; ends = grant.ends })) None)
-      seconds
+  grant_hands grant = grind (arith, eqb, is_waiting_at, seconds)
 
   pub hands : (P : Handed → Type 0) (body : Body) → SentFits row body → IfSome (handed_by row v.handovers body) P → IfSome (handed_by new v.handovers body) P
   hands P (bodies.Transfer transfer) fits given = transfer_hands P transfer fits.within given
@@ -126,44 +91,26 @@ module _ (v : View) (row : Row) (term : ℕ) (phase : Phase) (may : MayTurn v ro
   }
 
   own : (q : ℕ) (tenure : Tenure) → IsWithinTerm row tenure.tablet tenure.term → OwnFits row (v.handovers q row.tablet) (v.live q) q tenure → OwnFits new (v.handovers q row.tablet) (v.live q) q tenure
-  own q tenure low fits = record {
-    owned = λ is. let stay = stays tenure low is in absurd (rw stay.opens.was at (fits.owned stay.was));
-    reached = fits.reached;
-    owner = λ its lives at. (may.posts q (inl lives)).owns (fits.owner its lives at);
-  }
+  own q tenure low fits = grind (arith, stays)
 
   release : (q : ℕ) (tenure : Tenure) → IsWithinTerm row tenure.tablet tenure.term → ReleaseFits row (v.handovers q row.tablet) (v.live q) q tenure → ReleaseFits new (v.handovers q row.tablet) (v.live q) q tenure
-  release q tenure low fits = record {
-    owned = λ is. let stay = stays tenure low is in absurd (rw stay.opens.was at (fits.owned stay.was));
-    outside = λ its lives reached. member q ∙ fits.outside its lives reached;
-  }
+  release q tenure low fits = grind (arith, stays, member)
 
   rebuild : (q : ℕ) (order : Rebuild) → IsWithinTerm row order.tenure.tablet order.tenure.term → RebuildFits row (v.handovers q row.tablet) (v.live q) q order → RebuildFits new (v.handovers q row.tablet) (v.live q) q order
-  rebuild q order low fits = record {
-    range = λ is. let stay = stays order.tenure low is in fits.range stay.was;
-    lineage = λ is. let stay = stays order.tenure low is in rw stay.opens.is tt;
-    ordered = λ its lives below. absurd (may.given_up q lives (fits.ordered its lives below).1);
-  }
+  rebuild q order low fits = grind (arith, stays)
 
   -- none of the row's term was sent before it moves
   after : (tenure : Tenure) → IsWithinTerm row tenure.tablet tenure.term → AfterMove row tenure → AfterMove new tenure
   after tenure low said is = let stay = stays tenure low is in absurd (rw stay.opens.was at (said stay.was))
 
   grant_agrees : (q : ℕ) (grant : Grant) → GrantAgrees row (v.handovers q row.tablet) (v.live q) (get v.handed row.tablet) q grant → GrantAgrees new (v.handovers q row.tablet) (v.live q) (get v.handed row.tablet) q grant
-  grant_agrees q grant agrees = record {
-    reached = agrees.reached;
-    told = λ its lives at wants. over (λ l. GrantIn l (get v.handed row.tablet) q grant) (agrees.told its lives at wants);
-  }
+  grant_agrees q grant agrees = grind (arith, told, over, get)
 
   of_target : (handover : Handover) (tenure : Tenure) → IsOfTarget new handover tenure → IsOfTarget row handover tenure
   of_target handover tenure is = record { tablet = is.tablet; term = is.term }
 
   asks : (q : ℕ) (to : Node) (tenure : Tenure) → AskAgrees row v.handovers (lineage_of row.phase) q to tenure → AskAgrees new v.handovers (lineage_of phase) q to tenure
-  asks q to tenure agrees = over (λ l. AskAgrees new v.handovers l q to tenure) (go (lineage_of row.phase) agrees)
-    where
-      go : (l : List Member) → AskAgrees row v.handovers l q to tenure → AskAgrees new v.handovers l q to tenure
-      go (source ∷ target ∷ []) agrees = λ here is. agrees here (of_target (v.handovers q row.tablet) tenure is)
-      go _ agrees = tt
+  asks q to tenure agrees = grind (arith, over, lineage_of, of_target)
 
   pulled_agrees : (from : Node) (q : ℕ) (pulled : Pulled) → PulledAgrees row v.written v.handovers v.live (lineage_of row.phase) from q pulled → PulledAgrees new v.written v.handovers v.live (lineage_of phase) from q pulled
   pulled_agrees from q pulled agrees =
@@ -183,9 +130,7 @@ module _ (v : View) (row : Row) (term : ℕ) (phase : Phase) (may : MayTurn v ro
 
   -- what a transfer says of the new row
   transfer_in : (q : ℕ) (transfer : Transfer) → Stays row term phase transfer.tenure → TransferIn row.phase (v.handovers q row.tablet) (v.completions q row.tablet) row.term q transfer → TransferIn phase (v.handovers q row.tablet) (v.completions q row.tablet) term q transfer
-  transfer_in q transfer stay told =
-      subst (λ (n : ℕ). TransferIn phase (v.handovers q row.tablet) (v.completions q row.tablet) n q transfer) (sym stay.same)
-      (rw stay.opens.is (rw stay.opens.was at told))
+  transfer_in q transfer stay told = rw stay.same (rw stay.opens.is (rw stay.opens.was at told))
 
   -- what a message says of the row it says of the new one
   pub says : (from to : Node) (body : Body) → SentFits row body → SaysIn v row from to body → SaysIn v new from to body

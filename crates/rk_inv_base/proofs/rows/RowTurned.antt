@@ -1,18 +1,16 @@
 -- A view stays sound when a row is turned: it is at another phase of the same lineage, at a greater term, or opens and goes on to open.
-use Rattle.std.proofs.Common.{◌≡◌, ℕ, ◌≤◌, ◌<◌, true, List, [], ◌∷◌, Option, refl, sym, ap, subst, ⊎_elim, arith, inl, All, IfSome, ◌++◌}
-use Rattle.rk_inv_base.proofs.Words.{IfSome_then, Member, map_after, Entry, lineage_of, changed_rows, Phase, Row, Body, base_map, Handed}
-use Rattle.rk_inv_base.proofs.Words.{items_of, told, first_of, is_member, last_of, lineage_rest, lineage_truth, member_truth, AreHandedOver}
-use Rattle.rk_inv_base.proofs.Words.{handed_by, handed_for_grant, IsKnown, TellAll, AreAboveMap, IsNext, MayTurn, row_at, AreAbove}
-use Rattle.rk_inv_base.proofs.Words.{StillCounts, RowIsRebuilt, HandedFits, MembersFit, NamedFit, FirstIsDone, IsRest, OnlyIsUnnamed}
-use Rattle.rk_inv_base.proofs.Words.{IsPlaced, IsTableOf, HandoverFits, SentFits, tenure_in, range_in, IsTruth, View, SoundView}
+use Rattle.rk_inv_base.proofs.Words.{◌≡◌, ℕ, ◌≤◌, ◌<◌, true, List, [], ◌∷◌, Option, sym, ap, subst, ⊎_elim, arith, inl, All, IfSome}
+use Rattle.rk_inv_base.proofs.Words.{◌++◌, IfSome_then, Member, map_after, Entry, lineage_of, changed_rows, Phase, Row, Body, base_map}
+use Rattle.rk_inv_base.proofs.Words.{Handed, items_of, told, first_of, is_member, last_of, lineage_rest, lineage_truth, member_truth}
+use Rattle.rk_inv_base.proofs.Words.{AreHandedOver, handed_by, handed_for_grant, IsKnown, TellAll, AreAboveMap, IsNext, MayTurn, row_at}
+use Rattle.rk_inv_base.proofs.Words.{AreAbove, StillCounts, RowIsRebuilt, HandedFits, MembersFit, NamedFit, FirstIsDone, IsRest}
+use Rattle.rk_inv_base.proofs.Words.{OnlyIsUnnamed, IsPlaced, IsTableOf, HandoverFits, SentFits, tenure_in, range_in, IsTruth, View}
+use Rattle.rk_inv_base.proofs.Words.{SoundView, OpensOn}
 use Rattle.rk_tablet_map.specs.Rows.{turned as changed}
-use Rattle.rk_sound.specs.Moves.{OpensOn}
 use Rattle.rk_sound.specs.Small.{turned}
-use Rattle.rk_inv_base.proofs.views.ByRows.{row_in, SoundRow}
-use Rattle.rk_inv_base.proofs.rows.BeforeTurn.{at_most, counted_before}
+use Rattle.rk_inv_base.proofs.Base.{row_in, SoundRow, at_most, counted_before, stands_found}
 use Rattle.rk_inv_base.proofs.rows.RowReplaced.{view_replaced}
 use Rattle.rk_inv_base.proofs.rows.RowSays.{for_grant, hands, says}
-use Rattle.rk_inv_base.proofs.rows.TurnedRows.{stands_found}
 
 module _ (v : View) (row : Row) (term : ℕ) (phase : Phase) (sound : SoundView v) (may : MayTurn v row term phase) where
   abbrev new : Row
@@ -45,11 +43,7 @@ module _ (v : View) (row : Row) (term : ℕ) (phase : Phase) (sound : SoundView 
       counted_before (v.live q) (v.handovers q row.tablet).term row.term term (at_most v row q sound may.has_row) grows
 
   kept : (q number : ℕ) → HandoverFits row number (v.handovers q number) → HandoverFits new number (v.handovers q number)
-  kept q number fits = record {
-    within = λ its. let low = fits.within its in omega (arith, low, grows);
-    below = λ apart meeting. let low = fits.below apart meeting in omega (arith, low, grows);
-    exact = λ its at. let low = fits.within its in fits.exact its (omega (arith, low, grows, at));
-  }
+  kept q number fits = grind (arith, grows)
 
   sent_fits : (body : Body) → SentFits row body → SentFits new body
   sent_fits body fits = record {
@@ -124,16 +118,7 @@ module _ (v : View) (row : Row) (term : ℕ) (phase : Phase) (sound : SoundView 
   }
 
   pub view_turned : SoundView now
-  view_turned =
-      view_replaced v row term phase v.handed sound
-      (record {
-        has_row = may.has_row;
-        kept = kept;
-        given_up = may.given_up;
-        waits = λ q n call wait is. ap last_of may.lineage_is;
-        others = λ number apart. refl;
-        holds = holds;
-      })
+  view_turned = grind (arith, view_replaced, kept, last_of, holds)
 
   -- so it does with the rows of a lane after it
   pub view_changed : SoundView (record v { rows = changed_rows v.rows row.tablet term phase })

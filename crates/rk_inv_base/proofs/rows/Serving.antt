@@ -1,13 +1,10 @@
 -- At most one living master answers calls for a range of a row: the one that speaks for it.
-use Rattle.std.proofs.Common.{◌≡◌, ℕ, suc, Bool, true, false, eqb, cond, List, [], ◌∷◌, Option, Some, None, is_some, refl, sym, ap, subst}
-use Rattle.std.proofs.Common.{◌∙◌, arith, inl, Contains}
-use Rattle.rk_inv_base.proofs.Words.{nat_tests, All-contains, meets, Range, is_serving, Role, number_of, lineage_of, row_of, Row, is_member}
-use Rattle.rk_inv_base.proofs.Words.{is_absent, OutsideRebuilder, Bystander, post_of, bond_of, Holds, StillCounts, RoleFits, View, RowsOf}
-use Rattle.rk_inv_base.proofs.Words.{RolesOf, is_idle, may_have_staged, is_rebuilding, Post, ReadyTarget, InvitedTarget}
+use Rattle.rk_inv_base.proofs.Words.{◌≡◌, ℕ, suc, Bool, true, false, eqb, cond, List, [], ◌∷◌, Option, Some, None, is_some, refl, sym, ap}
+use Rattle.rk_inv_base.proofs.Words.{subst, ◌∙◌, arith, inl, Contains, nat_tests, All-contains, meets, Range, is_serving, Role, number_of}
+use Rattle.rk_inv_base.proofs.Words.{lineage_of, row_of, Row, is_member, is_absent, OutsideRebuilder, post_of, bond_of, Holds}
+use Rattle.rk_inv_base.proofs.Words.{StillCounts, RoleFits, View, RowsOf, RolesOf, is_idle, may_have_staged, is_rebuilding, Post}
 use Rattle.rk_transfer.specs.declared.role.Role.TheVariants as roles
-use Rattle.rk_inv_base.proofs.rows.Apart.{one_met}
-use Rattle.rk_inv_base.proofs.rows.Members.{inside_member, is_inside}
-use Rattle.rk_inv_base.proofs.rows.Speakers.{quiet_role, speaks_serving, speaker_of, speaker_is}
+use Rattle.rk_inv_base.proofs.Base.{one_met, inside_member, is_inside, quiet_role, speaks_serving, speaker_of, speaker_is}
 
 -- ranges meet either way
 pub meets_either : (a b : Range) → meets a b ≡ true → meets b a ≡ true
@@ -20,24 +17,15 @@ present role serves = refl
 
 -- an outsider does not serve
 pub outsider : (role : Role) (term own applied : ℕ) → Holds (bond_of OutsideRebuilder role) term own applied → is_serving role ≡ true → ⊥
-outsider roles.Serving term own applied fits serves = fits
-outsider roles.Receiving term own applied fits serves = fits
-outsider (roles.Joining entry) term own applied fits serves = fits
-outsider _ term own applied fits serves = absurd (cc)
+outsider role term own applied fits serves = grind arith
 
 -- a master that serves is not idle
 pub serving_busy : (role : Role) → is_serving role ≡ true → is_idle role ≡ false
-serving_busy roles.Absent serves = absurd (cc)
-serving_busy roles.Frozen serves = absurd (cc)
-serving_busy (roles.Wanting from) serves = absurd (cc)
-serving_busy role serves = refl
+serving_busy role serves = grind arith
 
 -- and may stage its calls
 pub serving_stages : (role : Role) → is_serving role ≡ true → may_have_staged role ≡ true
-serving_stages roles.Absent serves = absurd (cc)
-serving_stages roles.Frozen serves = absurd (cc)
-serving_stages (roles.Wanting from) serves = absurd (cc)
-serving_stages role serves = refl
+serving_stages role serves = grind arith
 
 -- nor does it rebuild
 pub serving_rebuilds : (role : Role) → is_serving role ≡ true → is_rebuilding role ≡ false
@@ -46,12 +34,7 @@ serving_rebuilds role serves = refl
 
 -- a master that serves has the post of a member
 pub serves_inside : (post : Post) (role : Role) (term own applied : ℕ) → Holds (bond_of post role) term own applied → is_serving role ≡ true → is_inside post ≡ true
-serves_inside InvitedTarget role term own applied fits serves = absurd (quiet_role InvitedTarget role term own applied tt fits serves)
-serves_inside (ReadyTarget place) role term own applied fits serves =
-    absurd (quiet_role (ReadyTarget place) role term own applied tt fits serves)
-serves_inside OutsideRebuilder role term own applied fits serves = absurd (outsider role term own applied fits serves)
-serves_inside Bystander role term own applied fits serves = absurd (quiet_role Bystander role term own applied tt fits serves)
-serves_inside _ role term own applied fits serves = refl
+serves_inside post role term own applied fits serves = grind (arith, quiet_role, outsider)
 
 -- what is found stands in the list
 pub first_or : (rows : List Row) (first row : Row) (number : ℕ) (later : row_of rows number ≡ Some row → Contains rows row) (here : Bool) → cond here (Some first) (row_of rows number) ≡ Some row → Contains (first ∷ rows) row
@@ -66,11 +49,7 @@ found_stands (first ∷ rows) number row found =
 
 -- what holds of the tablet of each row holds of each one that a living master is not absent from
 pub of_its_row : (v : View) (P : ℕ → Type 0) → RolesOf v → (q number : ℕ) → v.live q ≡ true → is_absent (v.handovers q number).role ≡ false → ((row : Row) → Contains v.rows row → P row.tablet) → P number
-of_its_row v P roles_fit q number lives there each = at (row_of v.rows number) refl (roles_fit.known q number lives there)
-  where
-    at : (found : Option Row) → row_of v.rows number ≡ found → is_some found ≡ true → P number
-    at None found some = absurd (cc)
-    at (Some row) found some = subst P (number_of v.rows number row found) (each row (found_stands v.rows number row found))
+of_its_row v P roles_fit q number lives there each = grind (arith, row_of, is_some, number_of, found_stands)
 
 -- a tablet that is served here and meets a row is the row's, and its master speaks for the row
 pub serves_for : (v : View) (row : Row) (master tablet : ℕ) → RowsOf v → RolesOf v → Contains v.rows row → v.live master ≡ true → is_serving (v.handovers master tablet).role ≡ true → meets (v.handovers master tablet).range row.range ≡ true → (tablet ≡ row.tablet) × (master ≡ speaker_of row.phase)
@@ -107,7 +86,4 @@ serves_for v row master tablet rows_fit roles_fit stands lives serves met =
 
 -- so two living masters that answer calls for a range of one row are one, for one tablet
 pub one_serves : (v : View) (row : Row) (a b i j : ℕ) → RowsOf v → RolesOf v → Contains v.rows row → v.live a ≡ true → v.live b ≡ true → is_serving (v.handovers a i).role ≡ true → is_serving (v.handovers b j).role ≡ true → meets (v.handovers a i).range row.range ≡ true → meets (v.handovers b j).range row.range ≡ true → (a ≡ b) × (i ≡ j)
-one_serves v row a b i j rows_fit roles_fit stands live_a live_b serves_a serves_b met_a met_b =
-    let first = serves_for v row a i rows_fit roles_fit stands live_a serves_a met_a in
-    let second = serves_for v row b j rows_fit roles_fit stands live_b serves_b met_b in
-    (first.1 ∙ sym second.1, first.0 ∙ sym second.0)
+one_serves v row a b i j rows_fit roles_fit stands live_a live_b serves_a serves_b met_a met_b = grind (arith, serves_for)

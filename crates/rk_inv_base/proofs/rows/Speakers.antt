@@ -1,23 +1,19 @@
 -- Who answers calls of a row: one living master at most, and while it does, no grant is awaited and no Transfer counts.
-use Rattle.std.proofs.Common.{◌≡◌, ℕ, Bool, true, false, ◌&&◌, ltb, eqb, List, [], ◌∷◌, Option, Some, None, refl, sym, ap, subst, ◌∙◌}
-use Rattle.std.proofs.Common.{⊎_elim, cond, ne_eqb, eqb-true}
-use Rattle.rk_inv_base.proofs.Words.{cases_eq, cond-false, cond_both, or_left, and_left, and_right, ⊤, NumberMap, Ended, Member, Node}
-use Rattle.rk_inv_base.proofs.Words.{Segments, Completions, is_serving, Handover, Role, lineage_of, Phase, Owned, Opening, Moving}
-use Rattle.rk_inv_base.proofs.Words.{Rebuilding, Row, Log, Transfer, Body, Handed, is_member, second_of, last_of, is_rebuilding, Written}
-use Rattle.rk_inv_base.proofs.Words.{is_wanting, is_opening, second_has, is_waiting, is_waiting_at, handed_by, SaysOf, TransferIn, Post}
-use Rattle.rk_inv_base.proofs.Words.{Owner, OpeningSource, InvitedTarget, ReadyTarget, MovingSource, MovingTarget, OnlyRebuilder}
-use Rattle.rk_inv_base.proofs.Words.{FormerMember, Bystander, target_post, rebuilder_post, post_of, bond_of, Holds, speaks, RoleFits}
-use Rattle.rk_inv_base.proofs.Words.{AreApart, IsFormed}
-use Rattle.rk_types.specs.declared.node.Node.TheVariants as nodes
+use Rattle.rk_inv_base.proofs.Words.{arith}
+use Rattle.rk_inv_base.proofs.Words.{◌≡◌, ℕ, Bool, true, false, ◌&&◌, ltb, eqb, List, [], ◌∷◌, Option, Some, None, refl, sym, ap, subst}
+use Rattle.rk_inv_base.proofs.Words.{◌∙◌, cond, ne_eqb, eqb-true, cases_eq, cond-false, cond_both, or_left, and_left, and_right, ⊤}
+use Rattle.rk_inv_base.proofs.Words.{NumberMap, Ended, Member, Node, Segments, Completions, is_serving, Handover, Role, lineage_of, Phase}
+use Rattle.rk_inv_base.proofs.Words.{Owned, Opening, Moving, Rebuilding, Row, Log, Transfer, Body, Handed, is_member, second_of, last_of}
+use Rattle.rk_inv_base.proofs.Words.{is_rebuilding, Written, is_wanting, is_opening, second_has, is_waiting, is_waiting_at, handed_by}
+use Rattle.rk_inv_base.proofs.Words.{SaysOf, TransferIn, Post, Owner, OpeningSource, InvitedTarget, ReadyTarget, MovingSource, MovingTarget}
+use Rattle.rk_inv_base.proofs.Words.{FormerMember, Bystander, target_post, rebuilder_post, post_of, bond_of, Holds, speaks}
+use Rattle.rk_inv_base.proofs.Words.{RoleFits, AreApart, IsFormed}
 use Rattle.rk_transfer.specs.declared.role.Role.TheVariants as roles
 use Rattle.rk_message.specs.declared.message.Body.TheVariants as bodies
 
 -- a master that serves speaks, whatever its post
 pub speaks_serving : (post : Post) (handover : Handover) (term : ℕ) → is_serving handover.role ≡ true → speaks post handover term ≡ true
-speaks_serving (Owner place) handover term serves = refl
-speaks_serving OpeningSource handover term serves = refl
-speaks_serving (OnlyRebuilder place) handover term serves = or_left (is_serving handover.role) (is_rebuilding handover.role && ltb handover.term term) serves
-speaks_serving _ handover term serves = serves
+speaks_serving post handover term serves = grind (arith, or_left, is_serving, is_rebuilding, ltb)
 
 -- posts in which no master serves
 abbrev pub IsQuiet : Post → Type 0
@@ -29,26 +25,11 @@ IsQuiet Bystander = ⊤
 IsQuiet _ = ⊥
 
 pub quiet_role : (post : Post) (role : Role) (term own applied : ℕ) → IsQuiet post → Holds (bond_of post role) term own applied → is_serving role ≡ true → ⊥
-quiet_role duty roles.Absent term own applied quiet fits serves = absurd (cc)
-quiet_role duty roles.Closing term own applied quiet fits serves = absurd (cc)
-quiet_role duty roles.Frozen term own applied quiet fits serves = absurd (cc)
-quiet_role duty (roles.Wanting from) term own applied quiet fits serves = absurd (cc)
-quiet_role duty (roles.Rebuilding from entry) term own applied quiet fits serves = absurd (cc)
-quiet_role InvitedTarget _ term own applied quiet fits serves = fits
-quiet_role (ReadyTarget place) _ term own applied quiet fits serves = fits
-quiet_role MovingSource _ term own applied quiet fits serves = fits
-quiet_role FormerMember _ term own applied quiet fits serves = fits
-quiet_role Bystander _ term own applied quiet fits serves = fits
-quiet_role _ _ term own applied quiet fits serves = quiet
+quiet_role duty role term own applied quiet fits serves = grind arith
 
 -- a master in such a post does not speak
 pub quiet_says : (post : Post) (handover : Handover) (term applied : ℕ) → IsQuiet post → Holds (bond_of post handover.role) term handover.term applied → speaks post handover term ≡ true → ⊥
-quiet_says InvitedTarget handover term applied quiet fits says = quiet_role InvitedTarget handover.role term handover.term applied quiet fits says
-quiet_says (ReadyTarget place) handover term applied quiet fits says = quiet_role (ReadyTarget place) handover.role term handover.term applied quiet fits says
-quiet_says MovingSource handover term applied quiet fits says = quiet_role MovingSource handover.role term handover.term applied quiet fits says
-quiet_says FormerMember handover term applied quiet fits says = quiet_role FormerMember handover.role term handover.term applied quiet fits says
-quiet_says Bystander handover term applied quiet fits says = quiet_role Bystander handover.role term handover.term applied quiet fits says
-quiet_says _ handover term applied quiet fits says = quiet
+quiet_says post handover term applied quiet fits says = grind (arith, quiet_role)
 
 -- the only master that may speak for a row in this phase
 abbrev pub speaker_of : Phase → ℕ
@@ -79,11 +60,7 @@ quiet_others (Rebuilding lineage to) q apart =
 
 -- so a master whose role fits its post and that speaks is that one
 pub speaker_is : (row : Row) (q : ℕ) (handover : Handover) (applied : ℕ) → RoleFits row q handover applied → speaks (post_of row.phase q) handover row.term ≡ true → q ≡ speaker_of row.phase
-speaker_is row q handover applied fits says =
-    ⊎_elim
-    (λ (same : q ≡ speaker_of row.phase). same)
-    (λ (apart : q ≡ speaker_of row.phase → ⊥). absurd (quiet_says (post_of row.phase q) handover row.term applied (quiet_others row.phase q apart) fits says))
-    (cases_eq q (speaker_of row.phase))
+speaker_is row q handover applied fits says = grind (arith, quiet_says, post_of, quiet_others, cases_eq)
 
 -- a role that serves waits for no grant
 pub serving_wants : (role : Role) → is_serving role ≡ true → is_wanting role ≡ false
@@ -115,21 +92,13 @@ waiting_at (Some handover) term none = and_left (is_wanting handover.role) (eqb 
 pub opening_hands : (phase : Phase) (tablet : ℕ) (handovers : ℕ → ℕ → Handover) (completions : Completions) (term sender : ℕ) (transfer : Transfer) (of_tablet of_term : Bool) (given : Handed)
     → (of_tablet ≡ true → of_term ≡ true → TransferIn phase (handovers sender tablet) completions term sender transfer) → is_serving (handovers (speaker_of phase) tablet).role ≡ true
     → cond (is_opening phase && of_tablet && of_term) (Some given) None ≡ None
-opening_hands (Opening source sfrom target dfrom) tablet handovers completions term sender transfer true true given says serves =
-    let said = says refl refl in
-    let frozen : is_serving (handovers source tablet).role ≡ false = ap (λ (m : ℕ). is_serving (handovers m tablet).role) said.0 ∙ ap is_serving said.1.role_is in
-    absurd (cc)
-opening_hands _ tablet handovers completions term sender transfer _ _ given says serves = refl
+opening_hands phase tablet handovers completions term sender transfer of_tablet of_term given says serves = grind (arith, is_serving)
 
 pub transfer_hands : (row : Row) (logs : ℕ → Log) (written : ℕ → Written) (stored : ℕ → Segments) (handovers : ℕ → ℕ → Handover) (completions : ℕ → ℕ → Completions) (merged : ℕ → ℕ → List Ended) (live : ℕ → Bool) (handed : NumberMap Handed) (from to : Node) (transfer : Transfer)
     → SaysOf row logs written stored handovers completions merged live handed from to (bodies.Transfer transfer) → is_serving (handovers (speaker_of row.phase) row.tablet).role ≡ true
     → handed_by row handovers (bodies.Transfer transfer) ≡ None
-transfer_hands row logs written stored handovers completions merged live handed (nodes.Master sender) to transfer says serves =
-    opening_hands row.phase row.tablet handovers (completions sender row.tablet) row.term sender transfer (eqb transfer.tenure.tablet row.tablet) (eqb transfer.tenure.term row.term)
-    (record { floor = transfer.floor; ends = transfer.ends })
-    (λ a b. says (record { tablet = eqb-true transfer.tenure.tablet row.tablet a; term = eqb-true transfer.tenure.term row.term b }))
-    serves
-transfer_hands row logs written stored handovers completions merged live handed _ to transfer says serves = absurd says
+transfer_hands row logs written stored handovers completions merged live handed from to transfer says serves =
+    grind (arith, opening_hands, eqb, eqb-true)
 
 -- of a row no message hands anything over while the last member of its lineage, its speaker, serves
 pub none_hands : (row : Row) (logs : ℕ → Log) (written : ℕ → Written) (stored : ℕ → Segments) (handovers : ℕ → ℕ → Handover) (completions : ℕ → ℕ → Completions) (merged : ℕ → ℕ → List Ended) (live : ℕ → Bool) (handed : NumberMap Handed) (from to : Node) (body : Body) (last : Member)

@@ -1,8 +1,7 @@
 -- Rows of a tablet map where one is turned into another of its number and range.
-use Rattle.std.proofs.Common.{◌≡◌, ℕ, suc, Bool, true, false, ◌||◌, cond, eqb, List, [], ◌∷◌, Option, Some, None, is_some, refl, sym, ap}
-use Rattle.std.proofs.Common.{subst, ◌∙◌, ⊎_elim, arith, ◌⊎◌, inl, inr, All, Contains, eq-eqb, eqb-true, find}
-use Rattle.rk_inv_base.proofs.Words.{cond_both, false≢true, All-contains, has, Range, IsTabletMap, is_covered, replaced, row_of, Row}
-use Rattle.rk_inv_base.proofs.Words.{list_any}
+use Rattle.rk_inv_base.proofs.Words.{◌≡◌, ℕ, suc, Bool, true, false, ◌||◌, cond, eqb, List, [], ◌∷◌, Option, Some, None, is_some, refl, sym}
+use Rattle.rk_inv_base.proofs.Words.{ap, subst, ◌∙◌, ⊎_elim, arith, ◌⊎◌, inl, inr, All, Contains, eq-eqb, eqb-true, find, cond_both}
+use Rattle.rk_inv_base.proofs.Words.{false≢true, All-contains, has, Range, IsTabletMap, is_covered, replaced, row_of, Row, list_any}
 use Rattle.rk_inv_base.proofs.rows.Apart.{contains_cases, same_number}
 use Rattle.rk_inv_base.proofs.views.Lists.{all_by}
 
@@ -103,10 +102,7 @@ found_any test (first ∷ rest) = go (test first) (found_any test rest)
 
 -- so the same numbers are known
 pub known_turned : (rows : List Row) (tablet : ℕ) (old new : Row) → row_of rows tablet ≡ Some old → new.tablet ≡ old.tablet → (number : ℕ) → is_some (row_of (replaced tablet new rows) number) ≡ is_some (row_of rows number)
-known_turned rows tablet old new found same number =
-    found_any (λ r. eqb r.tablet number) (replaced tablet new rows)
-    ∙ any_turned (λ r. eqb r.tablet number) rows tablet old new found (ap (λ (n : ℕ). eqb n number) same)
-    ∙ sym (found_any (λ r. eqb r.tablet number) rows)
+known_turned rows tablet old new found same number = grind (arith, found_any, eqb, replaced, any_turned)
 
 -- what is unknown as well is unknown
 pub none_known : (a b : Option Row) → is_some b ≡ is_some a → b ≡ None → a ≡ None

@@ -1,12 +1,11 @@
 -- Handovers that answer alike where the parts ask who answers calls, and who waits for a grant.
-use Rattle.std.proofs.Common.{◌≡◌, ℕ, Bool, true, cond, ltb, ◌||◌, ◌&&◌, eqb, List, ◌∷◌, Option, Some, None, refl, sym, ap, ◌∙◌, ⊎_elim}
-use Rattle.std.proofs.Common.{inl, inr, option_map}
-use Rattle.rk_inv_base.proofs.Words.{NumberMap, get, Member, Range, Entry, is_serving, Handover, lineage_of, Phase, Moving, Row, Body}
-use Rattle.rk_inv_base.proofs.Words.{Handed, second_of, is_rebuilding, Written, member_truth, is_wanting, second_has, is_waiting}
-use Rattle.rk_inv_base.proofs.Words.{is_waiting_at, handed_for_grant, handed_by, beginning_in, target_truth, Post, Owner, OpeningSource}
-use Rattle.rk_inv_base.proofs.Words.{OnlyRebuilder, StillCounts, speaks, as_frozen}
+use Rattle.rk_inv_base.proofs.Words.{arith}
+use Rattle.rk_inv_base.proofs.Words.{◌≡◌, ℕ, Bool, true, cond, ltb, ◌&&◌, eqb, List, ◌∷◌, Option, Some, None, refl, sym, ap, ◌∙◌}
+use Rattle.rk_inv_base.proofs.Words.{⊎_elim, inl, inr, option_map, NumberMap, get, Member, Range, Entry, is_serving, Handover, lineage_of}
+use Rattle.rk_inv_base.proofs.Words.{Phase, Moving, Row, Body, Handed, second_of, is_rebuilding, Written, member_truth, is_wanting}
+use Rattle.rk_inv_base.proofs.Words.{second_has, is_waiting, is_waiting_at, handed_for_grant, handed_by, beginning_in, target_truth, Post}
+use Rattle.rk_inv_base.proofs.Words.{StillCounts, speaks, as_frozen}
 use Rattle.rk_transfer.specs.declared.role.Role.TheVariants as roles
-use Rattle.rk_message.specs.declared.message.Body.TheVariants as bodies
 
 -- two handovers, or one before and after, that answer alike
 pub record IsAlike (old new : Handover) : Type 0 where
@@ -31,11 +30,7 @@ still_counts live old new term same counts =
 
 -- such tablets speak for a post alike
 pub speaks_alike : (post : Post) (term : ℕ) (old new : Handover) → IsAlike old new → speaks post new term ≡ speaks post old term
-speaks_alike (Owner place) term old new alike = refl
-speaks_alike OpeningSource term old new alike = refl
-speaks_alike (OnlyRebuilder place) term old new alike =
-    λ i. alike.same_serving i || (alike.same_rebuilding i && ltb (alike.same_term i) term)
-speaks_alike _ term old new alike = alike.same_serving
+speaks_alike post term old new alike = grind (arith, ltb)
 
 -- the second member of a lineage waits alike
 pub waits_alike : (row : Row) (handovers now : ℕ → ℕ → Handover) (member : Option Member) → AreAlike handovers now → is_waiting (second_has now row member) ≡ is_waiting (second_has handovers row member)
@@ -54,10 +49,7 @@ handed_for_grant_alike row handovers now handed alike =
 
 -- what a message hands over counts alike
 pub handed_by_alike : (row : Row) (handovers now : ℕ → ℕ → Handover) (body : Body) → AreAlike handovers now → handed_by row now body ≡ handed_by row handovers body
-handed_by_alike row handovers now (bodies.Grant grant) alike =
-    ap (λ (b : Bool). cond (eqb grant.tenure.tablet row.tablet && b) (Some (record { floor = grant.floor; ends = grant.ends })) None)
-    (waits_at_alike row handovers now grant.tenure.term (second_of (lineage_of row.phase)) alike)
-handed_by_alike row handovers now _ alike = refl
+handed_by_alike row handovers now body alike = grind (arith, eqb, waits_at_alike, second_of, lineage_of)
 
 -- what the target of a row that moves has applied, behind what its source told, is the same where as much is applied
 pub target_truth_same : (written now : ℕ → Written) (handed : NumberMap Handed) (row : Row) (phase : Phase) → ((range : Range) (m : Member) → member_truth now range m ≡ member_truth written range m) → target_truth now handed row phase ≡ target_truth written handed row phase

@@ -1,19 +1,17 @@
 -- The law of rows: what the invariant says of a row, row by row, and what it says beside that. A view whose rows all have the one and
 -- which has the other is sound; so a change of one row is shown by what is to hold of that row.
-use Rattle.std.proofs.Common.{Bool, ◌&&◌, None, cond, eqb, refl, List, Contains, ◌≡◌, ◌≢◌, ℕ, ◌≤◌, true, false, ◌++◌, ◌⊎◌, Some, All}
-use Rattle.std.proofs.Common.{IfSome, drop, is_some, length, slice_get}
-use Rattle.rk_inv_base.proofs.Words.{Range, Owned, Handed, All-contains, Handover, Written, Call, has_key, last_of, may_have_staged}
-use Rattle.rk_inv_base.proofs.Words.{list_any, hash_of, EachIn, meets, map_after, IsLegal, IsRisingAbove, Placed, AreOneMutation, ends_of}
-use Rattle.rk_inv_base.proofs.Words.{lineage_of, IsTabletMap, is_covered, row_of, Row, Node, Body, base_map, items_of, told, is_member}
-use Rattle.rk_inv_base.proofs.Words.{touches, names, IsMaster, is_absent, is_idle, AreHandedOver, IsKnown, IsStagedEnd, ReachAll, TellAll}
-use Rattle.rk_inv_base.proofs.Words.{AreAboveMap, IsNext, handed_by, handed_for_grant, target_truth, SaysOf, Says, AreAbove, post_of}
-use Rattle.rk_inv_base.proofs.Words.{speaks, StillCounts, HasOwnRange, MarkFits, RowIsRebuilt, HandedFits, IsBare, MembersFit, NamedFit}
-use Rattle.rk_inv_base.proofs.Words.{wanted_place, FirstIsDone, IsLast, IsRest, EachHasCall, OnlyIsUnnamed, Waits, RoleFits, KeepTerm}
-use Rattle.rk_inv_base.proofs.Words.{IsFormed, IsPlaced, HasItems, has_all_items, IsInScanOrder, HandoverFits, SentFits, IsAfterSeen}
-use Rattle.rk_inv_base.proofs.Words.{IsTruth, View, truths, rests, SoundView, CoverOf, LogsOf, AskedOf, Entry, Ended, All-weaker, Message}
-use Rattle.rk_inv_base.proofs.Words.{get, Phase}
-use Rattle.rk_message.specs.declared.message.Body.TheVariants as bodies
-use Rattle.rk_sound.specs.Nodes.{SomeLives}
+use Rattle.rk_inv_base.proofs.Words.{arith}
+use Rattle.rk_inv_base.proofs.Words.{None, eqb, List, Contains, ◌≡◌, ◌≢◌, ℕ, ◌≤◌, true, false, ◌++◌, ◌⊎◌, Some, All}
+use Rattle.rk_inv_base.proofs.Words.{IfSome, drop, is_some, length, slice_get, Range, Owned, All-contains, Handover, Written, Call}
+use Rattle.rk_inv_base.proofs.Words.{has_key, last_of, may_have_staged, list_any, hash_of, EachIn, meets, map_after, IsLegal, IsRisingAbove}
+use Rattle.rk_inv_base.proofs.Words.{Placed, AreOneMutation, ends_of, lineage_of, IsTabletMap, is_covered, row_of, Row, Node, Body}
+use Rattle.rk_inv_base.proofs.Words.{base_map, items_of, told, is_member, touches, names, IsMaster, is_absent, is_idle, AreHandedOver}
+use Rattle.rk_inv_base.proofs.Words.{IsKnown, IsStagedEnd, ReachAll, TellAll, AreAboveMap, IsNext, handed_by, handed_for_grant}
+use Rattle.rk_inv_base.proofs.Words.{target_truth, SaysOf, Says, AreAbove, post_of, speaks, StillCounts, HasOwnRange, MarkFits}
+use Rattle.rk_inv_base.proofs.Words.{RowIsRebuilt, HandedFits, IsBare, MembersFit, NamedFit, wanted_place, FirstIsDone, IsLast, IsRest}
+use Rattle.rk_inv_base.proofs.Words.{EachHasCall, OnlyIsUnnamed, Waits, RoleFits, KeepTerm, IsFormed, IsPlaced, HasItems, has_all_items}
+use Rattle.rk_inv_base.proofs.Words.{IsInScanOrder, HandoverFits, SentFits, IsAfterSeen, IsTruth, View, truths, rests, SoundView, CoverOf}
+use Rattle.rk_inv_base.proofs.Words.{LogsOf, AskedOf, Entry, Ended, All-weaker, Message, get, Phase, SomeLives}
 
 -- what a master has of a row's tablet counts
 abbrev pub CountsFor : View → Row → ℕ → Type 0
@@ -164,32 +162,11 @@ row_in v sound row has = All-contains (SoundRow v) v.rows row (each_row v sound)
 
 -- a call that waited waits for a row that covers its key and whose lineage ends with the same member
 pub waits_for : (rows now : List Row) (old new : ℕ → Handover) (written : Written) (q place : ℕ) (call : Call) (wait : Waits rows old written q place call) (row : Row) → Contains now row → has_key row.range call.table call.key ≡ true → last_of (lineage_of row.phase) ≡ Some wait.last → may_have_staged (new row.tablet).role ≡ true → Waits now new written q place call
-waits_for rows now old new written q place call wait row stands inside is stages = record {
-  behind = wait.behind;
-  entry = wait.entry;
-  stands = wait.stands;
-  own = wait.own;
-  unmarked = wait.unmarked;
-  row = row;
-  has_row = stands;
-  in_row = inside;
-  last = wait.last;
-  is_last = is;
-  here = wait.here;
-  from = wait.from;
-  may_stage = stages;
-}
+waits_for rows now old new written q place call wait row stands inside is stages = grind arith
 
 -- an end that was staged is so where its row stands, tells it and has the term of the tablet
 pub staged_as : (rows now : List Row) (rest more : Row → List Entry) (q number old new : ℕ) (end : Ended) (staged : IsStagedEnd rows rest q number old end) → Contains now staged.row → Contains (told (more staged.row)) end → new ≡ staged.row.term → IsStagedEnd now more q number new end
-staged_as rows now rest more q number old new end staged stands tells at_term = record {
-  row = staged.row;
-  stands = stands;
-  told = tells;
-  number = staged.number;
-  rebuilt = staged.rebuilt;
-  at_term = at_term;
-}
+staged_as rows now rest more q number old new end staged stands tells at_term = grind (arith, told)
 
 -- a view is sound by its rows, and by what is beside them
 pub of_rows : {v : View} {P : Row → Type 0} → ((row : Row) → SoundRow v row → P row) → All (SoundRow v) v.rows → All P v.rows
@@ -235,13 +212,4 @@ view_by_rows v beside each =
 
 -- no message hands over for a row that is owned
 pub none_for_owned : (number term : ℕ) (range : Range) (owner from : ℕ) (handovers : ℕ → ℕ → Handover) (body : Body) → handed_by (record { tablet = number; range = range; term = term; phase = Owned owner from }) handovers body ≡ None
-none_for_owned number term range owner from handovers (bodies.Transfer transfer) = refl
-none_for_owned number term range owner from handovers (bodies.Grant grant) = go (eqb grant.tenure.tablet number)
-  where
-    handed : Handed
-    handed = record { floor = grant.floor; ends = grant.ends }
-
-    go : (b : Bool) → cond (b && false) (Some handed) None ≡ None
-    go true = refl
-    go false = refl
-none_for_owned number term range owner from handovers _ = refl
+none_for_owned number term range owner from handovers body = grind (arith, eqb)

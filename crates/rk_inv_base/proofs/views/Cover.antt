@@ -1,16 +1,13 @@
 -- Laws of the part Cover: what a message that is sent, tablets that look the same, and a staged write keep of it.
-use Rattle.std.proofs.Common.{sym, ap, subst, ◌∙◌, ◌≡◌, ◌≤◌, ℕ, true, List, All, is_some, Contains, flat_map, None}
-use Rattle.rk_inv_base.proofs.Words.{list_any_at, NumberMap, has, Held, Handover, row_of, is_covered, Row, Message, Written, Mark}
-use Rattle.rk_inv_base.proofs.Words.{IsWithinRows, IsItemWithin, IsEntryWithin, IsOfWholeRows}
-use Rattle.rk_sound.specs.Cover.{Cover}
+use Rattle.rk_inv_base.proofs.Words.{arith}
+use Rattle.rk_inv_base.proofs.Words.{sym, ap, subst, ◌∙◌, ◌≡◌, ℕ, true, List, All, is_some, Contains, flat_map, list_any_at}
+use Rattle.rk_inv_base.proofs.Words.{NumberMap, has, Held, Handover, row_of, is_covered, Row, Message, Written, Mark}
+use Rattle.rk_inv_base.proofs.Words.{IsItemWithin, IsEntryWithin, IsOfWholeRows, Cover}
 use Rattle.rk_inv_base.proofs.views.Seen.{LooksAs}
 
 -- each tablet looks as before
 pub cover_looks : (rows : List Row) (written : ℕ → Written) (handovers handovers' : ℕ → ℕ → Handover) (records : ℕ → List Held) (wire : NumberMap Message) → Cover rows written handovers records wire → ((q r : ℕ) → LooksAs (handovers q r) (handovers' q r)) → Cover rows written handovers' records wire
-cover_looks rows written handovers handovers' records wire old looks =
-    let ranges : (q r : ℕ) → 1 ≤ (handovers' q r).term → IsWithinRows rows (handovers' q r).range = λ q r begun.
-    rw (looks q r).range (old.ranges q r (rw (← (looks q r).term) begun)) in
-    assumption (λ (q r : ℕ) (none : row_of rows r ≡ None). (looks q r).term ∙ old.unknown q r none)
+cover_looks rows written handovers handovers' records wire old looks = grind (arith, row_of)
 
 -- a hash of a row is covered
 pub covered_by : (rows : List Row) (row : Row) (table hash : ℕ) → Contains rows row → has row.range table hash ≡ true → is_covered rows table hash ≡ true

@@ -1,16 +1,15 @@
 -- The world where nothing has happened is sound, whatever its history starts from, with any number of masters and backups.
-use Rattle.std.proofs.Common.{◌≡◌, ℕ, zero, suc, ◌+◌, ◌≤◌, ◌-◌, false, List, [], ◌∷◌, ◌++◌, length, get_or, replicate, map, None, refl, sym}
-use Rattle.std.proofs.Common.{ap, subst, ◌∙◌, arith, All, ◌⊎◌, IfSome, flat_map}
-use Rattle.std.specs.List.Sorted.{IsStrictlySortedBy}
-use Rattle.rk_inv_base.proofs.Words.{All-nil, range_with_len, EachIn, Segments, IsInScanOrder, ends_of, Known, known_length, nothing}
+use Rattle.rk_inv_base.proofs.Words.{◌≡◌, ℕ, ◌≤◌, false, List, [], length, None, refl, sym, ap, subst, ◌∙◌, arith, All, ◌⊎◌}
+use Rattle.rk_inv_base.proofs.Words.{IfSome, flat_map, All-nil, EachIn, Segments, IsInScanOrder, ends_of, Known, known_length, nothing}
 use Rattle.rk_inv_base.proofs.Words.{known_of, no_base, Master, new_master, tablet_at, is_absent, Tablet, no_tablet, new_world, backup_at}
 use Rattle.rk_inv_base.proofs.Words.{tablet_in, written_by, IsKnown, IsStagedEnd, IsEntryWithin, IsItemWithin, IsOfWholeRows, IsLog}
 use Rattle.rk_inv_base.proofs.Words.{stored_of, IsBare, wanted_place, Waits, IsLast, View, view, rests, CoverOf, LogsOf, IsSound}
-use Rattle.rk_inv_base.proofs.Words.{EachHasCall, IsWithinRows, false≢true, master_at}
+use Rattle.rk_inv_base.proofs.Words.{EachHasCall, IsWithinRows, false≢true, master_at, new_log, length-replicate}
+use Rattle.std.specs.List.Sorted.{IsStrictlySortedBy}
+use Rattle.std.proofs.Common.{get_or}
 use Rattle.rk_outside.specs.Segments.{bytes_of as stored_bytes}
-use Rattle.rk_log.specs.Log.{new_log}
+use Rattle.rk_inv_base.proofs.Base.{view_by_rows}
 use Rattle.rk_inv_base.proofs.views.Fresh.{each_fresh, there_fresh, each_backup_fresh}
-use Rattle.rk_inv_base.proofs.views.ByRows.{view_by_rows}
 
 -- nothing is kept
 pub nothing_kept : {X : Type 0} (Fits : ℕ → X → Type 0) → EachIn Fits []
@@ -21,35 +20,9 @@ pub in_order_none : IsInScanOrder []
 unfolding IsStrictlySortedBy
 in_order_none = tt
 
--- of so many numbers there are so many
-pub length_numbers : (start count : ℕ) → length (range_with_len start count) ≡ count
-length_numbers start zero = refl
-length_numbers start (suc count) = let e = length_numbers (start + 1) count in omega (arith, e)
-
-pub length_with : {X : Type 0} (thing : ℕ → X) (numbers : List ℕ) → length {A = ℕ × X} (map (λ number. (number, thing number)) numbers) ≡ length numbers
-length_with {X} thing [] = refl
-length_with {X} thing (n ∷ numbers) = ap (λ (k : ℕ). suc k) (length_with thing numbers)
-
-pub length_replicated : {X : Type 0} (count : ℕ) (thing : X) → length (replicate count thing) ≡ count
-length_replicated zero thing = refl
-length_replicated (suc count) thing = ap (λ (k : ℕ). suc k) (length_replicated count thing)
-
 -- a new log, of which nothing is known, with what was written to it and a backup that stores nothing
 pub log_empty : (known : List Known) (stored : ℕ → ℕ → List ℕ) → ((place : ℕ) → get_or known place nothing ≡ nothing) → ((backup segment : ℕ) → stored backup segment ≡ []) → IsLog (new_log known) (written_by (new_master 0 known) []) stored
-log_empty known stored nothing_known nothing_stored = record {
-  entries_are = refl;
-  held = omega arith;
-  copies = λ backup there. record {
-    front = λ segment. record { more = []; parts = ap (λ (bytes : List ℕ). bytes ++ []) (sym (nothing_stored backup segment)) };
-    in_order = λ segment some. absurd (some (nothing_stored backup segment));
-    told = λ segment.
-        let e : known_length (known_of (new_log known) backup) segment ≡ 0 = ap (λ (k : Known). known_length k segment) (nothing_known (backup - 1)) in
-        omega (arith, e);
-  };
-  spelled = refl;
-  named = All-nil _;
-  marked = All-nil _;
-}
+log_empty known stored nothing_known nothing_stored = grind (arith, known_length, known_of, new_log)
 
 module _ (lane masters backups : ℕ) where
   -- what is seen of such a world
@@ -94,7 +67,7 @@ module _ (lane masters backups : ℕ) where
     numbered = λ q. by_master (λ m. m.number ≡ q) q (λ known. refl);
     backed = some;
     known_backups = λ q there.
-        ap (λ (m : Master). length m.log.known) (there_fresh lane masters backups q there) ∙ length_replicated backups nothing;
+        ap (λ (m : Master). length m.log.known) (there_fresh lane masters backups q there) ∙ length-replicate backups nothing;
     crashed = All-nil _;
     left = λ q dead. absurd (cc);
     rows_apart = tt;

@@ -1,9 +1,9 @@
 -- What stands in a world where nothing has happened: new masters and backups that keep nothing.
-use Rattle.std.proofs.Common.{◌≡◌, ℕ, zero, suc, ◌+◌, ◌≤◌, ◌<◌, Bool, cond, eqb, List, [], ◌∷◌, get_or, replicate, map, Option, Some, None}
-use Rattle.std.proofs.Common.{refl, sym, ap, ◌∙◌, ◌⊎◌, inl, inr, ⊎_elim, arith, unwrap_or, eq-eqb, ne_eqb}
-use Rattle.rk_inv_base.proofs.Words.{cases_eq, cases_lt, cond-true, cond-false, unsigned_tied, range_with_len, NumberMap, get, Known}
-use Rattle.rk_inv_base.proofs.Words.{nothing, no_segments, Master, new_master, IsMaster, new_world, master_at, backup_at}
-use Rattle.rk_world.specs.World.{new_masters}
+use Rattle.rk_inv_base.proofs.Words.{◌≡◌, ℕ, zero, suc, ◌+◌, ◌≤◌, ◌<◌, Bool, cond, eqb, List, [], ◌∷◌, replicate, map, Option, Some, None}
+use Rattle.rk_inv_base.proofs.Words.{refl, sym, ap, ◌∙◌, ◌⊎◌, inl, inr, ⊎_elim, arith, unwrap_or, eq-eqb, ne_eqb, cases_eq, cases_lt}
+use Rattle.rk_inv_base.proofs.Words.{cond-true, cond-false, unsigned_tied, range_with_len, NumberMap, get, Known, nothing, no_segments}
+use Rattle.rk_inv_base.proofs.Words.{Master, new_master, IsMaster, new_world, master_at, backup_at, new_masters}
+use Rattle.std.proofs.Common.{get_or}
 
 -- each number with its thing
 abbrev pub with_numbers : {X : Type 0} → (ℕ → X) → List ℕ → NumberMap X

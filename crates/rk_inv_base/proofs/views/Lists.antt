@@ -1,7 +1,7 @@
 -- Properties of each element, by the elements that stand in a list.
-use Rattle.std.proofs.Common.{List, All, Contains, refl, ap, ◌≡◌, sym, ◌∙◌, Bool, ◌∷◌, false, filter, []}
-use Rattle.rk_inv_base.proofs.Words.{All-weaker, All-contains, All-contains_itself, false_from_ne_true, false≢true, list_any_at, list_any}
-use Rattle.rk_inv_base.proofs.Words.{All-head, All-tail, cond-false}
+use Rattle.rk_inv_base.proofs.Words.{List, All, Contains, refl, ap, ◌≡◌, sym, ◌∙◌, Bool, ◌∷◌, false, filter, [], All-weaker, All-contains}
+use Rattle.rk_inv_base.proofs.Words.{All-contains_itself, false_from_ne_true, false≢true, list_any_at, list_any, All-head, All-tail}
+use Rattle.rk_inv_base.proofs.Words.{cond-false}
 
 -- what each element has that stands there
 pub all_by : {X : Type 0} (P : X → Type 0) (xs : List X) → ((x : X) → Contains xs x → P x) → All P xs

@@ -1,7 +1,7 @@
 -- What is seen of the masters of a world once one of them is another.
-use Rattle.std.proofs.Common.{[], ◌≡◌, ℕ, Option, refl, sym, ap, ◌∙◌, ⊎_elim, unwrap_or}
-use Rattle.rk_inv_base.proofs.Words.{cases_eq, get_same, get_other, Master, new_master, tablet_at, with_tablet, Tablet, no_tablet, World}
-use Rattle.rk_inv_base.proofs.Words.{master_at, tablet_in, with_master, put2}
+use Rattle.rk_inv_base.proofs.Words.{arith}
+use Rattle.rk_inv_base.proofs.Words.{[], ◌≡◌, ℕ, Option, refl, ap, unwrap_or, cases_eq, get_same, get_other, Master}
+use Rattle.rk_inv_base.proofs.Words.{new_master, tablet_at, with_tablet, Tablet, no_tablet, World, master_at, tablet_in, with_master, put2}
 use Rattle.rk_inv_base.proofs.views.Put.{put2_by}
 
 -- the master that was put
@@ -15,13 +15,7 @@ master_other w number master q apart =
 
 -- what is the same of the master that was put is the same of all
 pub same_of_each : {X : Type 0} (f : ℕ → Master → X) (w : World) (number : ℕ) (master : Master) → f number master ≡ f number (master_at w number) → (q : ℕ) → f q (master_at (with_master w number master) q) ≡ f q (master_at w q)
-same_of_each {X} f w number master same q =
-    ⊎_elim
-    (λ (is : q ≡ number).
-    ap (f q) (master_same w number master q is)
-    ∙ ap (λ (n : ℕ). f n master) is ∙ same ∙ ap (λ (n : ℕ). f n (master_at w n)) (sym is))
-    (λ (apart : q ≡ number → ⊥). ap (f q) (master_other w number master q apart))
-    (cases_eq q number)
+same_of_each {X} f w number master same q = grind (arith, master_same, master_at, master_other, cases_eq)
 
 pub same_of_all : {X : Type 0} (f : ℕ → Master → X) (w : World) (number : ℕ) (master : Master) → f number master ≡ f number (master_at w number) → ◌≡◌ {A = ℕ → X} (λ q. f q (master_at (with_master w number master) q)) (λ q. f q (master_at w q))
 same_of_all f w number master same i q = same_of_each f w number master same q i
@@ -38,16 +32,4 @@ tablet_apart master number tablet other apart =
 -- what is seen of the tablets of a world where one master keeps another one
 module _ (w : World) (master number : ℕ) (changed : Master) (tablet : Tablet) (here : tablet_at changed number ≡ tablet) (apart : (r : ℕ) → (r ≡ number → ⊥) → tablet_at changed r ≡ tablet_in w master r) where
   pub keeps_with : {X : Type 0} (f : Tablet → X) (q r : ℕ) → f (tablet_in (with_master w master changed) q r) ≡ put2 (λ q r. f (tablet_in w q r)) master number (f tablet) q r
-  keeps_with {X} f q r =
-      put2_by (λ q r. f (tablet_in w q r)) master number (λ _. f tablet) (λ (x : X). f (tablet_in (with_master w master changed) q r) ≡ x) q r
-      (λ at its.
-      ap (λ (m : Master). f (tablet_at m r)) (master_same w master changed q at)
-      ∙ ap (λ (n : ℕ). f (tablet_at changed n)) its ∙ ap f here)
-      (λ differs.
-      ⊎_elim
-      (λ (at : q ≡ master).
-      ap (λ (m : Master). f (tablet_at m r)) (master_same w master changed q at)
-      ∙ ap f (apart r (λ its. differs at its))
-      ∙ ap (λ (n : ℕ). f (tablet_in w n r)) (sym at))
-      (λ (other : q ≡ master → ⊥). ap (λ (m : Master). f (tablet_at m r)) (master_other w master changed q other))
-      (cases_eq q master))
+  keeps_with {X} f q r = grind (arith, put2_by, tablet_in, with_master, tablet_at, master_same, master_other, cases_eq)

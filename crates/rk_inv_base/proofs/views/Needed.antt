@@ -1,20 +1,19 @@
 -- What has to be read of the last of two members, beside what its master knew to be stored: it is no more once a write was staged, and
 -- backup 1 stores it.
-use Rattle.std.proofs.Common.{◌≡◌, ℕ, zero, suc, ◌+◌, ◌-◌, ◌<◌, ◌≤◌, ◌⊎◌, Bool, true, false, cond, ◌||◌, List, [], ◌∷◌, ◌++◌, length, map}
-use Rattle.std.proofs.Common.{filter, fold, get_or, Some, refl, sym, ap, ◌∙◌, subst, ⊎_elim, inl, inr, arith, ◌==◌, ◌&&◌, not, nat_le}
-use Rattle.std.proofs.Common.{nat_lt, drop, take, slice_get, slice_index_or, All, Contains, flat_map, eq-eqb, eqb-true, leb-true, ltb-true}
-use Rattle.std.proofs.Common.{append-nil, append_assoc, length-drop}
-use Rattle.std.proofs.lemmas.List.Sums.{prefix_len_passes}
-use Rattle.rk_inv_base.proofs.Words.{and_parts, cases_lt, cond-false, cond_both, false≢true, or_right, drop-append-le, flat_map-append}
-use Rattle.rk_inv_base.proofs.Words.{All-cons, All-contains, All-head, All-nil, All-tail, Contains-append_cases, Contains-append_left}
-use Rattle.rk_inv_base.proofs.Words.{Contains-append_right, filter-append, get_or_from_slice_get, slice_get_within, list_any, each_weaker}
-use Rattle.rk_inv_base.proofs.Words.{Ended, Held, Member, Range, is_among, spelled, Entry, Completions, Handover, Row, ends, ends_after}
-use Rattle.rk_inv_base.proofs.Words.{with_bytes, Known, Log, EntryEnd, items_in, items_of, told, told_by, Gather, Gathered, is_member}
-use Rattle.rk_inv_base.proofs.Words.{is_marked, unmarked, unmarked_from, counts, counting, log_material, named, named_by, side_entries}
-use Rattle.rk_inv_base.proofs.Words.{with_number, Written, Mark, AreRead, IsGathered, IsReadPart, IsRebuilder, NeededOf, NeedsEnd}
-use Rattle.rk_inv_base.proofs.Words.{TellNoMore, TellsMore, given_up_marks, marked_entries, stored_count, put, with_one_more, known_length}
-use Rattle.rk_log.proofs.Cuts.{AreFilled, filled_with, some_segments, spelled_some}
-use Rattle.rk_sound.specs.Rebuilds.{AreGathered, HasItemMore, IsNeeded, TellsEndMore}
+use Rattle.rk_inv_base.proofs.Words.{◌≡◌, ℕ, zero, suc, ◌+◌, ◌-◌, ◌<◌, ◌≤◌, ◌⊎◌, Bool, true, false, cond, ◌||◌, List, [], ◌∷◌, ◌++◌, length}
+use Rattle.rk_inv_base.proofs.Words.{map, filter, fold, Some, refl, sym, ap, ◌∙◌, subst, ⊎_elim, inl, inr, arith, ◌==◌, ◌&&◌, not, nat_le}
+use Rattle.rk_inv_base.proofs.Words.{nat_lt, drop, take, slice_get, slice_index_or, All, Contains, flat_map, eq-eqb, eqb-true, leb-true}
+use Rattle.rk_inv_base.proofs.Words.{ltb-true, append-nil, append_assoc, length-drop, prefix_len_passes, and_parts, cases_lt, cond-false}
+use Rattle.rk_inv_base.proofs.Words.{cond_both, false≢true, or_right, drop-append-le, flat_map-append, All-cons, All-contains, All-head}
+use Rattle.rk_inv_base.proofs.Words.{All-nil, All-tail, Contains-append_cases, Contains-append_left, Contains-append_right, filter-append}
+use Rattle.rk_inv_base.proofs.Words.{get_or_from_slice_get, slice_get_within, list_any, each_weaker, Ended, Held, Member, Range, is_among}
+use Rattle.rk_inv_base.proofs.Words.{spelled, Entry, Completions, Handover, Row, ends, ends_after, with_bytes, Known, Log, EntryEnd}
+use Rattle.rk_inv_base.proofs.Words.{items_in, items_of, told, told_by, Gather, Gathered, is_member, is_marked, unmarked, unmarked_from}
+use Rattle.rk_inv_base.proofs.Words.{counts, counting, log_material, named, named_by, side_entries, with_number, Written, Mark, AreRead}
+use Rattle.rk_inv_base.proofs.Words.{IsGathered, IsReadPart, IsRebuilder, NeededOf, NeedsEnd, TellNoMore, TellsMore, given_up_marks}
+use Rattle.rk_inv_base.proofs.Words.{marked_entries, stored_count, put, with_one_more, known_length, AreFilled, filled_with, some_segments}
+use Rattle.rk_inv_base.proofs.Words.{spelled_some, AreGathered, HasItemMore, IsNeeded, TellsEndMore}
+use Rattle.std.proofs.Common.{get_or}
 use Rattle.rk_inv_base.proofs.views.Put.{put_by}
 use Rattle.rk_inv_base.proofs.rebuilds.Gathered.{IsAway}
 use Rattle.rk_inv_base.proofs.logs.Grows.{Extends, counting_extends, drop_extends, extends_behind, take_extends, unmarked_extends}
@@ -28,12 +27,7 @@ module _ (Needed Less : EntryEnd → Type 0) (known known' : Known) (stored stor
   read_by segment list read = record { bytes = read.bytes; read = part segment read.bytes read.read; spelled = read.spelled }
 
   pub gathered_by : (gathered : Gathered) → IsGathered Needed known stored gathered → IsGathered Less known' stored' gathered
-  gathered_by gathered was = record {
-    main = λ place within. read_by (place + 1) (slice_index_or gathered.main place []) (was.main place within);
-    passed = λ read segment behind main. none segment (was.passed read segment behind main);
-    passed_needed = λ read end its main. was.passed_needed read end (less end its) main;
-    sides = each_weaker (AreRead Needed known stored) (AreRead Less known' stored') gathered.sides read_by was.sides;
-  }
+  gathered_by gathered was = grind (arith, read_by, slice_index_or, each_weaker)
 
 pub part_weaker : (Needed Less : EntryEnd → Type 0) (known : Known) (stored : ℕ → List ℕ) (segment : ℕ) (bytes : List ℕ) → ((end : EntryEnd) → Less end → Needed end) → IsReadPart Needed known stored segment bytes → IsReadPart Less known stored segment bytes
 part_weaker Needed Less known stored segment bytes less part =
@@ -92,8 +86,7 @@ AreAmong these those =
 -- of one kind, with more behind both
 pub told_front : {X : Type 0} (f : Entry → List X) (these those more : List Entry) → ((x : X) → Contains (flat_map f these) x → Contains (flat_map f those) x) → (x : X) → Contains (flat_map f (these ++ more)) x → Contains (flat_map f (those ++ more)) x
 told_front {X} f these those more among x at =
-    subst (λ (all : List X). Contains all x) (sym (flat_map-append f those more))
-    (⊎_elim
+    rw (flat_map-append f those more) (⊎_elim
     (λ (front : Contains (flat_map f these) x). Contains-append_left (flat_map f those) (flat_map f more) x (among x front))
     (λ (behind : Contains (flat_map f more) x). Contains-append_right (flat_map f those) (flat_map f more) x behind)
     (Contains-append_cases (flat_map f these) (flat_map f more) x
@@ -107,9 +100,7 @@ among_front these those more among =
 -- those may have more
 pub told_extended : {X : Type 0} (f : Entry → List X) (old new : List Entry) → Extends old new → (x : X) → Contains (flat_map f old) x → Contains (flat_map f new) x
 told_extended {X} f old new grown x at =
-    subst (λ (list : List Entry). Contains (flat_map f list) x) (sym grown.parts)
-    (subst (λ (all : List X). Contains all x) (sym (flat_map-append f old grown.more))
-    (Contains-append_left (flat_map f old) (flat_map f grown.more) x at))
+    rw grown.parts (rw (flat_map-append f old grown.more) (Contains-append_left (flat_map f old) (flat_map f grown.more) x at))
 
 -- of both kinds
 pub extended_among : (old new : List Entry) → Extends old new → AreAmong old new
@@ -170,13 +161,7 @@ marked_last marks place (first ∷ list) entry free =
 -- nor is it from a place on
 pub marked_from_last : (marks : List Mark) (from : ℕ) (list : List Entry) (entry : Entry) → is_marked marks (length list) ≡ false → marked_entries marks from (drop from (list ++ entry ∷ [])) ≡ marked_entries marks from (drop from list)
 marked_from_last marks from list entry free =
-    ⊎_elim
-    (λ (beyond : length list < from). ap (marked_entries marks from) (drop_none from list entry beyond))
-    (λ (within : from ≤ length list).
-    let size : from + length (drop from list) ≡ length list = omega (arith, length-drop from list) in
-    ap (marked_entries marks from) (drop-append-le from list (entry ∷ []) within)
-    ∙ marked_last marks from (drop from list) entry (ap (is_marked marks) size ∙ free))
-    (cases_lt (length list) from)
+    grind (arith, length, marked_entries, drop_none, drop, length-drop, drop-append-le, marked_last, is_marked, cases_lt)
 
 -- those of marks that are kept are before it too
 pub kept_within : (keep : Mark → Bool) (marks : List Mark) (place : ℕ) → All (λ mark. mark.past ≤ place) marks → All (λ mark. mark.past ≤ place) (filter keep marks)
@@ -198,10 +183,7 @@ material_at range from w = log_material range w.marks w.sides from w.entries
 -- the one is what it was
 pub given_up_pushed : (row : Row) (from : ℕ) (w : Written) (entry : Entry) → All (λ mark. mark.past ≤ length w.entries) w.marks → given_up_of row from (with_one_more w entry) ≡ given_up_of row from w
 given_up_pushed row from w entry marked =
-    ap (counting row.range)
-    (marked_from_last (given_up_marks row w.marks) from w.entries entry
-    (marked_none (given_up_marks row w.marks) (length w.entries)
-    (kept_within (λ mark. mark.tablet == row.tablet && nat_lt mark.term row.term) w.marks (length w.entries) marked)))
+    grind (arith, counting, marked_from_last, given_up_marks, marked_none, length, kept_within, nat_lt)
 
 -- numbers with more of them have these before the others
 pub numbers_extend : (some more : List ℕ) → (others : List ℕ) × (fold with_number some more ≡ some ++ others)
@@ -378,8 +360,7 @@ living_among row from w those fit =
     let none : given_up_of row from w ≡ [] =
     ap (λ (marks : List Mark). counting row.range (marked_entries marks from (drop from w.entries))) (none_given_up row w.marks fit)
     ∙ ap (counting row.range) (unmarked_none from (drop from w.entries)) in
-    subst (λ (list : List Entry). AreAmong list those) (sym none)
-    (λ item at. absurd (omega (arith, at.1)), λ end at. absurd (omega (arith, at.1)))
+    rw none (λ item at. absurd (omega (arith, at.1)), λ end at. absurd (omega (arith, at.1)))
 
 -- what counts of the first entries of a log, from a place on
 abbrev pub first_counted : Range → ℕ → Written → ℕ → List Entry

@@ -1,10 +1,10 @@
 -- What the invariant says of a row depends on what masters have of the row's tablet alone: where that is the same, it holds as it did.
-use Rattle.std.proofs.Common.{◌≡◌, ℕ, ◌&&◌, List, [], ◌∷◌, Option, Some, None, cond, eqb, refl, sym, ap, subst, ⊎_elim, All, Contains}
-use Rattle.rk_inv_base.proofs.Words.{get, Ended, Member, Node, Completions, Handover, lineage_of, Phase, Rebuilding, Row, Tenure, Body, Got}
-use Rattle.rk_inv_base.proofs.Words.{Pulled, Gather, second_of, Pulling, handed_by, handed_for_grant, is_waiting, is_waiting_at, second_has}
-use Rattle.rk_inv_base.proofs.Words.{AfterMove, AskAgrees, ByMaster, GotAgrees, IfMaster, PulledAgrees, HandedFits, MembersFit}
-use Rattle.rk_inv_base.proofs.Words.{RowIsRebuilt, View, truths, SoundView, cases_eq, Message}
-use Rattle.rk_message.specs.declared.message.Body.TheVariants as bodies
+use Rattle.rk_inv_base.proofs.Words.{arith}
+use Rattle.rk_inv_base.proofs.Words.{◌≡◌, ℕ, List, [], ◌∷◌, Option, Some, None, cond, eqb, refl, sym, ap, subst, ⊎_elim, All}
+use Rattle.rk_inv_base.proofs.Words.{Contains, get, Ended, Member, Node, Completions, Handover, lineage_of, Phase, Rebuilding, Row, Tenure}
+use Rattle.rk_inv_base.proofs.Words.{Body, Got, Pulled, Gather, second_of, Pulling, handed_by, handed_for_grant, is_waiting, is_waiting_at}
+use Rattle.rk_inv_base.proofs.Words.{second_has, AskAgrees, GotAgrees, PulledAgrees, HandedFits, MembersFit}
+use Rattle.rk_inv_base.proofs.Words.{RowIsRebuilt, View, truths, SoundView, cases_eq}
 use Rattle.rk_inv_base.proofs.rows.Apart.{same_number}
 use Rattle.rk_inv_base.proofs.views.ByRows.{row_in, SaysIn, SoundRow}
 use Rattle.rk_inv_base.proofs.views.Lists.{all_by}
@@ -52,12 +52,7 @@ module _ (v : View) (row : Row) where
       ap (λ (h : Option Handover). cond (is_waiting h) (get v.handed row.tablet) None) (second_own (second_of (lineage_of row.phase)))
 
   handed_own : (body : Body) → handed_by row v.handovers body ≡ handed_by row own.handovers body
-  handed_own (bodies.Grant grant) =
-      ap
-      (λ (h : Option Handover).
-      cond (eqb grant.tenure.tablet row.tablet && is_waiting_at h grant.tenure.term) (Some (record { floor = grant.floor; ends = grant.ends })) None)
-      (second_own (second_of (lineage_of row.phase)))
-  handed_own _ = refl
+  handed_own body = grind (arith, eqb, is_waiting_at, second_own, second_of, lineage_of)
 
   members_own : (l : List Member) → MembersFit row v.written v.handovers v.pullings v.records v.handed l ≡ MembersFit row v.written own.handovers own.pullings v.records v.handed l
   members_own (source ∷ target ∷ []) = refl
@@ -84,45 +79,17 @@ module _ (v : View) (row : Row) where
   rebuilt_own _ = refl
 
   says_own : (from to : Node) (body : Body) → SaysIn v row from to body ≡ SaysIn own row from to body
-  says_own from to (bodies.Pull pull) = λ i.
-      AfterMove row pull.tenure × ByMaster from (λ q. ask_own (lineage_of row.phase) q to pull.tenure i)
-  says_own from to (bodies.Pulled pulled) = λ i.
-      AfterMove row pulled.tenure × IfMaster to (λ q. pulled_own (lineage_of row.phase) from q pulled i)
-  says_own from to (bodies.Want want) = λ i.
-      AfterMove row want.tenure × ByMaster from (λ q. ask_own (lineage_of row.phase) q to want.tenure i)
-  says_own from to (bodies.Got got) = λ i.
-      AfterMove row got.tenure × IfMaster to (λ q. got_own (lineage_of row.phase) from q got i)
-  says_own from to _ = refl
+  says_own from to body = grind (arith, ask_own, lineage_of, pulled_own, got_own)
 
   -- a statement for another
   instead : (X Y : Type 0) → X ≡ Y → X → Y
   instead X Y same = subst (λ (Z : Type 0). Z) same
 
   to_own : SoundRow v row → SoundRow own row
-  to_own was =
-      assumption (
-        rw granted_own at was.ends_granted,
-        rw granted_own at was.floor_granted,
-        λ (n : ℕ) (m : Message) (there : get v.wire n ≡ Some m). rw (handed_own m.body) at (was.ends_sent n m there),
-        λ (n : ℕ) (m : Message) (there : get v.wire n ≡ Some m). rw (handed_own m.body) at (was.floor_sent n m there),
-        instead _ _ (members_own (lineage_of row.phase)) was.target,
-        instead _ _ (fits_own (lineage_of row.phase)) was.handed_on,
-        instead _ _ (rebuilt_own row.phase) was.rebuilt,
-        λ (n : ℕ) (m : Message) (there : get v.wire n ≡ Some m). instead _ _ (says_own m.from m.to m.body) (was.says n m there),
-      )
+  to_own was = grind (arith, granted_own, get, handed_own, instead, members_own, lineage_of, fits_own, rebuilt_own, says_own)
 
   of_own : SoundRow own row → SoundRow v row
-  of_own was =
-      assumption (
-        rw (← granted_own) at was.ends_granted,
-        rw (← granted_own) at was.floor_granted,
-        λ (n : ℕ) (m : Message) (there : get v.wire n ≡ Some m). rw (← handed_own m.body) at (was.ends_sent n m there),
-        λ (n : ℕ) (m : Message) (there : get v.wire n ≡ Some m). rw (← handed_own m.body) at (was.floor_sent n m there),
-        instead _ _ (sym (members_own (lineage_of row.phase))) was.target,
-        instead _ _ (sym (fits_own (lineage_of row.phase))) was.handed_on,
-        instead _ _ (sym (rebuilt_own row.phase)) was.rebuilt,
-        λ (n : ℕ) (m : Message) (there : get v.wire n ≡ Some m). instead _ _ (sym (says_own m.from m.to m.body)) (was.says n m there),
-      )
+  of_own was = grind (arith, granted_own, get, handed_own, instead, members_own, lineage_of, fits_own, rebuilt_own, says_own)
 
 -- two views are the same but for their rows and what masters have of tablets, and of the row's tablet each master has the same
 pub row_kept : (v now : View) (row : Row) → ((seen : ℕ → SeenTablet) → alone v seen ≡ alone now seen) → ((q : ℕ) → seen_at v row.tablet q ≡ seen_at now row.tablet q) → SoundRow v row → SoundRow now row

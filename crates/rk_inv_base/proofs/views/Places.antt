@@ -1,16 +1,14 @@
 -- What stands behind a place of a list, and how that changes with one more element at its end.
-use Rattle.std.proofs.Common.{◌≡◌, ℕ, zero, suc, ◌≤◌, Bool, true, false, List, [], ◌∷◌, ◌++◌, Some, refl, ap, ◌∙◌, arith, drop, slice_get}
-use Rattle.rk_inv_base.proofs.Words.{or_left, or_right, or_from, or_parts, list_any}
+use Rattle.rk_inv_base.proofs.Words.{◌≡◌, ℕ, zero, suc, ◌≤◌, Bool, true, false, List, [], ◌∷◌, ◌++◌, Some, refl, ap, ◌∙◌, drop, slice_get}
+use Rattle.rk_inv_base.proofs.Words.{or_from, or_parts, list_any, list_any_at, slice_get_within, get_or_from_slice_get}
+use Rattle.rk_inv_base.proofs.logs.InRest.{behind_at}
 
 -- what passes a test and stands behind a place is among what stands there
 pub behind_any : {X : Type 0} (p : X → Bool) (xs : List X) (count place : ℕ) (x : X) → count ≤ place → slice_get xs place ≡ Some x → p x ≡ true → list_any p (drop count xs) ≡ true
-behind_any p [] count place x behind at passes = absurd (cc)
-behind_any p (y ∷ xs) zero zero x behind at passes =
-    let same : y ≡ x = cc in or_left (p y) (list_any p xs) (ap p same ∙ passes)
-behind_any p (y ∷ xs) zero (suc place) x behind at passes =
-    or_right (p y) (list_any p xs) (behind_any p xs zero place x (omega arith) at passes)
-behind_any p (y ∷ xs) (suc count) zero x behind at passes = absurd (omega arith)
-behind_any p (y ∷ xs) (suc count) (suc place) x behind at passes = behind_any p xs count place x (omega arith) at passes
+behind_any p xs count place x behind at passes =
+    let found = behind_at xs count place x behind at in
+    list_any_at p (drop count xs) found.0 x (slice_get_within (drop count xs) found.0 x found.1)
+    (ap p (get_or_from_slice_get (drop count xs) found.0 x x found.1) ∙ passes)
 
 -- where nothing behind a place passes, nothing does with one more that does not
 pub behind_none : {X : Type 0} (p : X → Bool) (xs : List X) (count : ℕ) (x : X) → list_any p (drop count xs) ≡ false → p x ≡ false → list_any p (drop count (xs ++ x ∷ [])) ≡ false

@@ -1,6 +1,6 @@
 -- What is kept for each number, or by each master of each tablet, where one of them is another now.
-use Rattle.std.proofs.Common.{◌≡◌, ℕ, eqb, refl, sym, subst, ◌∙◌, ⊎_elim, eq-eqb, ne_eqb}
-use Rattle.rk_inv_base.proofs.Words.{cases_eq, cond-true, cond-false, put, put2}
+use Rattle.rk_inv_base.proofs.Words.{arith}
+use Rattle.rk_inv_base.proofs.Words.{◌≡◌, ℕ, eqb, refl, eq-eqb, ne_eqb, cases_eq, cond-true, cond-false, put, put2}
 
 -- what is put is kept, and each other thing as it was
 pub put_here : {X : Type 0} (old : ℕ → X) (number : ℕ) (thing : X) (q : ℕ) → q ≡ number → put old number thing q ≡ thing
@@ -11,12 +11,7 @@ put_other old number thing q apart = cond-false (eqb q number) thing (old q) (ne
 
 -- a statement of what is kept for a number holds of what changed and of the rest
 pub put_by : {X : Type 0} (old : ℕ → X) (number : ℕ) (change : X → X) (P : X → Type 0) (q : ℕ) → (q ≡ number → P (change (old q))) → ((q ≡ number → ⊥) → P (old q)) → P (put old number (change (old number)) q)
-put_by {X} old number change P q here apart =
-    ⊎_elim
-    (λ (is : q ≡ number).
-    subst P ((λ i. change (old (is i))) ∙ sym (put_here old number (change (old number)) q is)) (here is))
-    (λ (other : q ≡ number → ⊥). subst P (sym (put_other old number (change (old number)) q other)) (apart other))
-    (cases_eq q number)
+put_by {X} old number change near q here apart = grind (arith, put_here, put_other, cases_eq)
 
 -- what is the thing where it was put, and as it was elsewhere
 pub put_is : {X : Type 0} (old : ℕ → X) (number : ℕ) (thing : X) (q : ℕ) (seen : X) → (q ≡ number → seen ≡ thing) → ((q ≡ number → ⊥) → seen ≡ old q) → seen ≡ put old number thing q
@@ -30,10 +25,7 @@ put_same {X} old number i q = put_by old number (λ thing. thing) (λ (x : X). x
 
 module _ {X : Type 0} (old : ℕ → ℕ → X) (master number : ℕ) (change : X → X) where
   pub put2_by : (P : X → Type 0) (q r : ℕ) → (q ≡ master → r ≡ number → P (change (old q r))) → ((q ≡ master → r ≡ number → ⊥) → P (old q r)) → P (put2 old master number (change (old master number)) q r)
-  put2_by P q r here apart =
-      put_by old master (λ kept. put kept number (change (kept number))) (λ (kept : ℕ → X). P (kept r)) q
-      (λ at. put_by (old q) number change P r (here at) (λ other. apart (λ _ its. other its)))
-      (λ other. apart (λ at _. other at))
+  put2_by P q r here apart = grind (arith, put_by, put)
 
 pub put2_here : {X : Type 0} (old : ℕ → ℕ → X) (master number : ℕ) (thing : X) (q r : ℕ) → q ≡ master → r ≡ number → put2 old master number thing q r ≡ thing
 put2_here {X} old master number thing q r at its =

@@ -1,7 +1,7 @@
 -- What rows and messages see of a handover: its term, its range and its role, and of a frozen one its counter.
-use Rattle.std.proofs.Common.{ap, ◌≡◌, ℕ, true}
-use Rattle.rk_inv_base.proofs.Words.{both_ways, Member, Range, is_serving, Handover, Role, is_absent, Written, member_truth, is_wanting}
-use Rattle.rk_inv_base.proofs.Words.{HasJoined, HasRebuilt, Post, bond_of, Holds, with_counter}
+use Rattle.rk_inv_base.proofs.Words.{arith}
+use Rattle.rk_inv_base.proofs.Words.{◌≡◌, ℕ, true, both_ways, Member, Range, is_serving, Handover, Role, is_absent, Written}
+use Rattle.rk_inv_base.proofs.Words.{member_truth, is_wanting, HasJoined, HasRebuilt, Post, bond_of, Holds, with_counter}
 use Rattle.rk_transfer.specs.declared.role.Role.TheVariants as roles
 
 -- a role stands for rows and messages as another one did
@@ -39,7 +39,4 @@ looks_same handover = assumption (goes_on_same handover.role)
 
 -- a tablet that is served looks the same with another counter
 pub counted_looks : (counter : ℕ) (handover : Handover) → is_serving handover.role ≡ true → LooksAs handover (with_counter counter handover)
-counted_looks counter handover serves =
-    let unfrozen : handover.role ≡ roles.Frozen → counter ≡ handover.counter = λ frozen.
-    absurd (both_ways (is_serving handover.role) (ap is_serving frozen) serves) in
-    assumption (goes_on_same handover.role)
+counted_looks counter handover serves = grind (arith, both_ways, is_serving, goes_on_same)

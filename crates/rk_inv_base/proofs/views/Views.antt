@@ -1,8 +1,8 @@
 -- What a change of one master makes of a view: one equation for each kind of change.
-use Rattle.std.proofs.Common.{◌≡◌, ℕ, List, refl, ap, ◌∙◌}
-use Rattle.rk_inv_base.proofs.Words.{NumberMap, Call, Ended, Held, Handover, Log, Gather, marks_of, Master, tablet_at, with_tablet}
-use Rattle.rk_inv_base.proofs.Words.{with_pulling, Tablet, Pulling, World, master_at, tablet_in, with_master, Written, written_by, put}
-use Rattle.rk_inv_base.proofs.Words.{put2, role_taken, View, view}
+use Rattle.rk_inv_base.proofs.Words.{arith}
+use Rattle.rk_inv_base.proofs.Words.{◌≡◌, ℕ, List, refl, ◌∙◌, NumberMap, Call, Ended, Held, Handover, Log, Gather, marks_of, Master}
+use Rattle.rk_inv_base.proofs.Words.{tablet_at, with_tablet, with_pulling, Tablet, Pulling, World, master_at, tablet_in, with_master}
+use Rattle.rk_inv_base.proofs.Words.{Written, written_by, put, put2, role_taken, View, view}
 use Rattle.rk_inv_base.proofs.views.Put.{put_is, put_same, put2_same}
 use Rattle.rk_inv_base.proofs.views.Masters.{master_same, master_other, same_of_all, tablet_here, tablet_apart, keeps_with}
 
@@ -33,10 +33,7 @@ kept_view v master number tablet = record v {
 -- any change of one master that leaves it its number, and all its tablets but one
 module _ (w : World) (master : ℕ) (changed : Master) (number : ℕ) (tablet : Tablet) (same : changed.number ≡ (master_at w master).number) (here : tablet_at changed number ≡ tablet) (apart : (r : ℕ) → (r ≡ number → ⊥) → tablet_at changed r ≡ tablet_in w master r) where
   seen : {X : Type 0} (f : ℕ → Master → X) (q : ℕ) → f q (master_at (with_master w master changed) q) ≡ put (λ q. f q (master_at w q)) master (f master changed) q
-  seen f q =
-      put_is (λ q. f q (master_at w q)) master (f master changed) q (f q (master_at (with_master w master changed) q))
-      (λ is. ap (f q) (master_same w master changed q is) ∙ ap (λ (n : ℕ). f n changed) is)
-      (λ other. ap (f q) (master_other w master changed q other))
+  seen f q = grind (arith, put_is, master_at, with_master, master_same, master_other)
 
   keeps : {X : Type 0} (f : Tablet → X) (q r : ℕ) → f (tablet_in (with_master w master changed) q r) ≡ put2 (λ q r. f (tablet_in w q r)) master number (f tablet) q r
   keeps f = keeps_with w master number changed tablet here apart f

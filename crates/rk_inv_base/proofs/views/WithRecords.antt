@@ -1,11 +1,9 @@
 -- The law of records: a view stays sound with other records of masters, and with other things that they pulled and gathered, where these fit
 -- as before whoever has all of a tablet, a target, a master that made ready, and one that rebuilds.
-use Rattle.std.proofs.Common.{◌≡◌, ℕ, true, List, [], ◌∷◌, refl, All, Contains}
-use Rattle.rk_inv_base.proofs.Words.{Gather, get, Held, Member, IsInScanOrder, lineage_of, Phase, Rebuilding, Row, Pulling, IsItemWithin}
-use Rattle.rk_inv_base.proofs.Words.{post_of, MembersFit, is_granted, HasItems, has_all_items, View, truths, SoundView, Contains-get_or}
-use Rattle.rk_inv_base.proofs.calls.Receives.{IsBareOf, IsTargetIn}
-use Rattle.rk_inv_base.proofs.calls.Rebuilds.{IsRebuilderIn}
-use Rattle.rk_inv_base.proofs.views.ByRows.{IsRebuiltIn}
+use Rattle.rk_inv_base.proofs.Words.{◌≡◌, ℕ, true, List, [], ◌∷◌, refl, All, Contains, Gather, get, Held, Member, IsInScanOrder, lineage_of}
+use Rattle.rk_inv_base.proofs.Words.{Phase, Rebuilding, Row, Pulling, IsItemWithin, post_of, MembersFit, is_granted, HasItems}
+use Rattle.rk_inv_base.proofs.Words.{has_all_items, View, truths, SoundView, Contains-get_or}
+use Rattle.rk_inv_base.proofs.Base.{IsBareOf, IsTargetIn, IsRebuilderIn, IsRebuiltIn}
 
 -- a target of a row, by what it pulls and its records in a view
 abbrev pub IsTargetOf : View → View → Row → Member → Member → Type 0

@@ -1,17 +1,15 @@
 -- Laws of the part Messages: what a message that is sent, and tablets that look the same, keep of it.
-use Rattle.std.proofs.Common.{false, sym, subst, ◌∙◌, ◌≡◌, ◌≤◌, ◌-◌, ℕ, Bool, List, [], ◌∷◌, Option, None, slice_index_or, flat_map, arith}
-use Rattle.std.proofs.Common.{true, length, Some, ◌<◌}
-use Rattle.rk_inv_base.proofs.Words.{get, Ended, Member, Node, Segments, Entry, at_hash, batch_at, next_token, Completions, Handover}
-use Rattle.rk_inv_base.proofs.Words.{lineage_of, Phase, Opening, Moving, Rebuilding, Row, Known, nothing, Log, known_of, EntryEnd}
-use Rattle.rk_inv_base.proofs.Words.{BATCH_BYTES, Grant, Prepare, Tenure, Transfer, Body, Got, Pulled, CopySegment, Rebuild, Rebuilt}
-use Rattle.rk_inv_base.proofs.Words.{Handed, as_entries, Written, stored_of, IfMaster, ByMaster, IsOfTarget, PrepareFits, CloseFits}
-use Rattle.rk_inv_base.proofs.Words.{RebuildFits, OwnFits, IsOwner, ReleaseFits, ReadyIn, TransferIn, JoinedIn, RebuiltIn, GrantAgrees}
-use Rattle.rk_inv_base.proofs.Words.{AskAgrees, IsFromSource, PulledAgrees, GotAgrees, CopyIn, post_of, READ_BACKUP, IsReadPart, NeededOf}
-use Rattle.rk_inv_base.proofs.Words.{scan_items, View, MessagesOf, is_wanting, Message}
+use Rattle.rk_inv_base.proofs.Words.{false, sym, subst, ◌∙◌, ◌≡◌, ◌≤◌, ℕ, Bool, List, [], ◌∷◌, Option, None, slice_index_or, flat_map}
+use Rattle.rk_inv_base.proofs.Words.{arith, true, length, Some, ◌<◌, get, Ended, Member, Node, Segments, Entry, at_hash, batch_at}
+use Rattle.rk_inv_base.proofs.Words.{next_token, Completions, Handover, lineage_of, Phase, Opening, Moving, Rebuilding, Row, nothing}
+use Rattle.rk_inv_base.proofs.Words.{Log, known_of, EntryEnd, BATCH_BYTES, Grant, Prepare, Tenure, Transfer, Body, Got, Pulled, CopySegment}
+use Rattle.rk_inv_base.proofs.Words.{Rebuild, Rebuilt, Handed, as_entries, Written, stored_of, IfMaster, ByMaster, IsOfTarget, PrepareFits}
+use Rattle.rk_inv_base.proofs.Words.{CloseFits, RebuildFits, OwnFits, IsOwner, ReleaseFits, ReadyIn, TransferIn, JoinedIn, RebuiltIn}
+use Rattle.rk_inv_base.proofs.Words.{GrantAgrees, AskAgrees, IsFromSource, PulledAgrees, GotAgrees, CopyIn, post_of}
+use Rattle.rk_inv_base.proofs.Words.{NeededOf, scan_items, View, MessagesOf, is_wanting, Message, IsFrozenSource}
 use Rattle.rk_types.specs.declared.node.Node.TheVariants as nodes
-use Rattle.rk_outside.specs.Segments.{bytes_of as copied_bytes}
 use Rattle.rk_message.specs.declared.message.Body.TheVariants as bodies
-use Rattle.rk_sound.specs.Messages.{IsFrozenSource}
+use Rattle.rk_outside.specs.Segments.{bytes_of as copied_bytes}
 use Rattle.rk_inv_base.proofs.views.Seen.{LooksAs, AllLook}
 use Rattle.rk_inv_base.proofs.views.Needed.{part_weaker}
 use Rattle.rk_inv_base.proofs.views.ByRows.{SaysIn}
@@ -33,30 +31,16 @@ then gives fits is = gives (fits is)
 
 module _ (row : Row) (old new : Handover) (live : Bool) (master : ℕ) (rises : old.term ≤ new.term) where
   pub prepare_rises : (prepare : Prepare) → PrepareFits row old live master prepare → PrepareFits row new live master prepare
-  prepare_rises prepare fits = record {
-    range = fits.range;
-    invited = λ is lives below. fits.invited is lives (omega (arith, below, rises));
-    members = λ asks lives member. omega (arith, fits.members asks lives member, rises);
-  }
+  prepare_rises prepare fits = grind arith
 
   pub close_rises : (tenure : Tenure) → CloseFits row old live master tenure → CloseFits row new live master tenure
-  close_rises tenure fits = record {
-    source = fits.source;
-    may_follow = λ same lives below. fits.may_follow same lives (omega (arith, below, rises));
-  }
+  close_rises tenure fits = grind arith
 
   pub rebuild_rises : (rebuild : Rebuild) → RebuildFits row old live master rebuild → RebuildFits row new live master rebuild
-  rebuild_rises rebuild fits = record {
-    range = fits.range;
-    lineage = fits.lineage;
-    ordered = λ same lives below. fits.ordered same lives (omega (arith, below, rises));
-  }
+  rebuild_rises rebuild fits = grind arith
 
   pub release_rises : (tenure : Tenure) → ReleaseFits row old live master tenure → ReleaseFits row new live master tenure
-  release_rises tenure fits = record {
-    owned = fits.owned;
-    outside = λ same lives within. fits.outside same lives (omega (arith, within, rises));
-  }
+  release_rises tenure fits = grind arith
 
   -- an Own, where one of the new term is for the owner
   pub own_rises : (tenure : Tenure) → ((old.term ≡ tenure.term → IsOwner (post_of row.phase master) old.term row.term) → new.term ≡ tenure.term → IsOwner (post_of row.phase master) new.term row.term) → OwnFits row old live master tenure → OwnFits row new live master tenure
@@ -68,10 +52,7 @@ module _ (row : Row) (old new : Handover) (live : Bool) (master : ℕ) (rises : 
 
   -- a Grant, where the master waits only if it waited at the term
   pub grant_rises : (handed : Option Handed) (grant : Grant) → (is_wanting new.role ≡ true → (new.term ≡ old.term) × (is_wanting old.role ≡ true)) → GrantAgrees row old live handed master grant → GrantAgrees row new live handed master grant
-  grant_rises handed grant waited agrees = record {
-    reached = λ same lives. omega (arith, agrees.reached same lives, rises);
-    told = λ same lives at waits. agrees.told same lives (at ∙ (waited waits).0) (waited waits).1;
-  }
+  grant_rises handed grant waited agrees = grind arith
 
 -- ---- reports
 
@@ -81,12 +62,7 @@ ready_looks (Opening source sfrom target None) old new term master place looks s
 ready_looks phase old new term master place looks says = says
 
 pub source_looks : (old new : Handover) (completions : Completions) (term : ℕ) (transfer : Transfer) → LooksAs old new → IsFrozenSource old completions term transfer → IsFrozenSource new completions term transfer
-source_looks old new completions term transfer looks frozen = record {
-  role_is = looks.role.frozen frozen.role_is;
-  term_is = looks.term ∙ frozen.term_is;
-  floor_is = frozen.floor_is ∙ sym (looks.counter frozen.role_is);
-  ends_are = frozen.ends_are;
-}
+source_looks old new completions term transfer looks frozen = grind arith
 
 pub transfer_looks : (phase : Phase) (old new : Handover) (completions : Completions) (term master : ℕ) (transfer : Transfer) → LooksAs old new → TransferIn phase old completions term master transfer → TransferIn phase new completions term master transfer
 transfer_looks (Opening source sfrom target dfrom) old new completions term master transfer looks says =
@@ -142,17 +118,7 @@ NeedNoMore written written' live =
 
 module _ (logs logs' : ℕ → Log) (written written' : ℕ → Written) (stored : ℕ → Segments) (live : ℕ → Bool) (copy : CopySegment) (same : (logs' copy.master).known ≡ (logs copy.master).known) (less : NeedNoMore written written' live) where
   copy_looks : (row : Row) (phase : Phase) → CopyIn row phase logs written stored live copy → CopyIn row phase logs' written' stored live copy
-  copy_looks row (Rebuilding lineage to) says = (
-    says.0,
-    part_weaker (NeededOf row written lineage copy.master) (NeededOf row written' lineage copy.master) (known_of (logs' copy.master) READ_BACKUP)
-        (stored_of stored copy.master READ_BACKUP) copy.segment (copied_bytes copy.bytes) (less row lineage copy.master says.0)
-        (subst
-        (λ (known : List Known).
-        IsReadPart (NeededOf row written lineage copy.master) (slice_index_or known (READ_BACKUP - 1) nothing)
-        (stored_of stored copy.master READ_BACKUP) copy.segment (copied_bytes copy.bytes))
-        (sym same) says.1),
-  )
-  copy_looks row phase says = says
+  copy_looks row phase says = grind (arith, part_weaker, known_of, stored_of, copied_bytes, slice_index_or, nothing)
 
 -- ---- all kinds
 

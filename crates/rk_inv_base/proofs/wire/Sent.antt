@@ -1,7 +1,5 @@
 -- A lane stays sound when a message is sent that says what the parts ask of it.
-use Rattle.std.proofs.Common.{◌+◌}
-use Rattle.rk_inv_base.proofs.Words.{each_insert, insert, Message, World, MaySend, View, view, IsSound}
-use Rattle.rk_sound.specs.Small.{message_sent}
+use Rattle.rk_inv_base.proofs.Words.{◌+◌, each_insert, insert, Message, World, MaySend, View, view, IsSound, message_sent}
 use Rattle.rk_inv_base.proofs.wire.Wire.{each_may_be_sent, view_with_wire}
 
 pub sound_sent : (w : World) (message : Message) → IsSound w → MaySend (view w) message → IsSound (message_sent w message)

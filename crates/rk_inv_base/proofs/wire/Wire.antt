@@ -1,7 +1,6 @@
 -- The law of the wire: what the invariant says of messages, it says of each alone, as the condition under which one may be sent. So a view
 -- stays sound with any wire whose messages might be sent.
-use Rattle.std.proofs.Common.{◌≡◌, ℕ, Some}
-use Rattle.rk_inv_base.proofs.Words.{EachIn, NumberMap, get, Message, IsRequest, MaySend, View, SoundView}
+use Rattle.rk_inv_base.proofs.Words.{◌≡◌, ℕ, Some, EachIn, NumberMap, get, Message, IsRequest, MaySend, View, SoundView}
 
 -- each message on the wire of a sound view might be sent
 pub each_may_be_sent : (v : View) → SoundView v → EachIn (λ number message. MaySend v message) v.wire

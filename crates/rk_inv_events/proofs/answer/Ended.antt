@@ -1,14 +1,14 @@
 -- A call that a serving master knows to have ended has a record in the journal, with that end as its outcome.
-use Rattle.std.proofs.Common.{All, Bool, Contains, IfSome, List, None, Option, Some, ap, arith, cond, eqb, eqb-true, false, inl, inr}
-use Rattle.std.proofs.Common.{nat_lt, refl, subst, sym, true, ℕ, ⊎_elim, ◌<◌, ◌∙◌, ◌≡◌, ◌⊎◌}
-use Rattle.rk_done.specs.Completions.{look_of}
+use Rattle.std.proofs.Common.{All, Contains, IfSome, List, Option, Some, ap, arith, eqb, eqb-true, inl, inr}
+use Rattle.std.proofs.Common.{nat_lt, subst, sym, true, ℕ, ⊎_elim, ◌∙◌, ◌≡◌, ◌⊎◌}
 use Rattle.rk_done.specs.declared.completion.Look.TheVariants as looks
 use Rattle.rk_inv_base.proofs.Words.{All-contains, Call, Completion, Completions, End, Ended, IsInOrder, IsKnown, IsLastCall, IsReached}
-use Rattle.rk_inv_base.proofs.Words.{IsRecorded, IsStagedEnd, LastCall, Placed, ReachAll, Rebuilding, Row, SoundView, View, WasAsked}
+use Rattle.rk_inv_base.proofs.Words.{IsRecorded, IsStagedEnd, LastCall, Placed, ReachAll, Row, SoundView, View, WasAsked}
 use Rattle.rk_inv_base.proofs.Words.{ended_of, ends_of, ends_told, get, has_key, is_mutation, is_record_in, is_serving, lineage_of, look}
 use Rattle.rk_inv_base.proofs.Words.{outcome_of, post_of, rests}
 use Rattle.rk_inv_base.proofs.rows.Apart.{same_number}
 use Rattle.rk_inv_events.proofs.Words.{All_pairs, each_from_pairs, ends_from_pairs, pairs_from_ends, role_fits, row_in, speaks_serving}
+use Rattle.rk_inv_events.proofs.Words.{by_found}
 use Rattle.rk_inv_events.proofs.events.PostsOf.{rebuilder_keeps}
 
 -- ---- completions that tell the end of a call have that end, and no other one of its client
@@ -29,16 +29,7 @@ module _ (completions : Completions) (client seq : ℕ) (end : End) (looked : lo
     is : IsLastOf last seq end
 
   last_is : IsLast
-  last_is = by (get completions client) refl looked
-    where
-      same : (last : Completion) (newer here : Bool) → eqb last.seq seq ≡ here → cond newer looks.New (cond here (looks.Same last.end) (looks.Old last.seq)) ≡ looks.Same end → IsLastOf last seq end
-      same last true here is looked = absurd (cc looked)
-      same last false false is looked = absurd (cc looked)
-      same last false true is looked = record { seq_is = eqb-true last.seq seq is; end_is = cc looked }
-
-      by : (found : Option Completion) → get completions client ≡ found → look_of found seq ≡ looks.Same end → IsLast
-      by None got looked = absurd (cc looked)
-      by (Some last) got looked = record { last = last; got = got; is = same last (nat_lt last.seq seq) (eqb last.seq seq) refl looked }
+  last_is = grind (arith, by_found, nat_lt, eqb, eqb-true)
 
   -- what holds of all ends holds of this one
   pub of_this : (P : Ended → Type 0) → All P (ends_of completions) → P (end_of client seq end)
@@ -107,26 +98,11 @@ module _ (v : View) (sound : SoundView v) (row : Row) (master : ℕ) (call : Cal
   -- an end of the start is not that of the client's last call
   of_start : (last : Option LastCall) → IfSome last (IsLastCall v.base v.lane call.client) → WasAsked last v.journal call
       → Contains (ends_told v.base) (end_of call.client call.seq end) → HasRecord v.journal call end
-  of_start None fits asked told = absurd asked
-  of_start (Some last) fits asked told = elim asked [
-    | inl is ↦
-        let before =
-        All-contains (λ (e : Ended). e.client ≡ last.call.client → e.seq < last.call.seq) (ends_told v.base)
-        (end_of call.client call.seq end) fits.after told (sym (ap (λ (c : Call). c.client) is)) in
-        absurd (omega (arith, before, ap (λ (c : Call). c.seq) is))
-    | inr earlier ↦ of_own earlier.1.placed earlier.1.stands earlier.1.call_is
-  ]
+  of_start last fits asked told = grind (arith, ends_told, of_own)
 
   -- nor is it one of a rebuild, since the master serves
   of_rebuild : IsStagedEnd v.rows (rests v) master row.tablet (v.handovers master row.tablet).term (end_of call.client call.seq end) → ⊥
-  of_rebuild staged =
-      let same : staged.row ≡ row = same_number v.rows staged.row row sound.rows.apart staged.stands has staged.number in
-      let rebuilt : row.phase ≡ Rebuilding (lineage_of row.phase) master = rw same at staged.rebuilt in
-      let at_term : (v.handovers master row.tablet).term ≡ row.term = staged.at_term ∙ ap (λ (r : Row). r.term) same in
-      let below =
-      rebuilder_keeps (lineage_of row.phase) master row.term (v.handovers master row.tablet).term (v.written master).applied
-      (v.handovers master row.tablet).role (rw rebuilt at (role_fits v sound row has master (inl lives))) serves in
-      omega (arith, below, at_term)
+  of_rebuild staged = grind (arith, same_number, lineage_of, rebuilder_keeps, role_fits)
 
   pub has_record : HasRecord v.journal call end
   has_record =

@@ -9,8 +9,8 @@ use Rattle.rk_inv_base.proofs.Words.{All-contains, All-contains_itself, Contains
 use Rattle.rk_inv_base.proofs.Words.{Entry, HasArrived, Held, IsFound, IsInScanOrder, IsPlain, IsReceived, IsTableOf, Range, Tablet}
 use Rattle.rk_inv_base.proofs.Words.{cases_Bool, contains, found, has, has_key, hash_of, is_in, is_known, is_of, is_of_from, is_of_parts}
 use Rattle.rk_inv_base.proofs.Words.{is_receiving, items_of, live, newest, newest_found, newest_is, newest_own, record_of}
-use Rattle.rk_inv_wellformed.proofs.maps.Lists.{all_find, find_passes}
 use Rattle.rk_inv_events.proofs.Words.{AreIn, IsIn, before_bucket, filter_stands, item_bucket, of_bucket, plain_fewer, stands_is_found}
+use Rattle.rk_inv_events.proofs.Words.{all_find, find_passes, by_found}
 
 -- a tablet that pulls knows a key by its hash or by its bucket
 known_by : (receives hash bucket : Bool) → receives ≡ true → (not receives || hash || bucket) ≡ true → (bucket ≡ true) ⊎ (hash ≡ true)
@@ -54,19 +54,10 @@ module _ (range : Range) (list : List Entry) (records : List Held) (table : ℕ)
       best.of_record
 
   there_newest : (x : Held) → found table key records ≡ Some x → newest (items_of list) table key ≡ Some x
-  there_newest x is =
-      let of : is_of table key x ≡ true = find_passes (is_at table key) records x is in
-      let parts = is_of_parts table key x of in
-      (λ i. newest (items_of list) (sym parts.0 i) (sym parts.1 i))
-      ∙ (its x (item_in range table key x inside of)).0 (found_stands table key records x is)
+  there_newest x is = grind (arith, is_of, find_passes, is_of_parts, newest, items_of, item_in, found_stands)
 
   pub table_found : found table key records ≡ newest (items_of list) table key
-  table_found = by (found table key records) refl (newest (items_of list) table key) refl
-    where
-      by : (there : Option Held) → found table key records ≡ there → (best : Option Held) → newest (items_of list) table key ≡ best → there ≡ best
-      by (Some x) is best its = sym (there_newest x is) ∙ its
-      by None is (Some y) its = sym is ∙ newest_there y its
-      by None is None its = refl
+  table_found = grind (arith, found, newest, items_of, there_newest, newest_there)
 
 -- ---- a target
 
@@ -91,15 +82,7 @@ module _ (range : Range) (source scan own mine sides records : List Held) (Arriv
 
   -- what is found of a key is that which the records have
   one_found : (x : Held) → IsFound records x → is_of table key x ≡ true → (y : Option Held) → found table key records ≡ y → (there : Held) × (y ≡ Some there) × (x.version ≤ there.version)
-  one_found x there of y is =
-      let parts = is_of_parts table key x of in
-      let its = is_of_parts x.table x.key there.there there.same_key in (
-        there.there,
-        sym is
-            ∙ stands_is_found records table key there.there order there.stands
-            (is_of_from table key there.there (its.0 ∙ parts.0) (its.1 ∙ parts.1)),
-        there.as_new,
-      )
+  one_found x there of y is = grind (arith, is_of_parts, stands_is_found, is_of_from)
 
   module _ (inside : has_key range table key ≡ true) where
     -- what is found is the newest of all
@@ -160,23 +143,17 @@ module _ (range : Range) (source scan own mine sides records : List Held) (Arriv
           ]
 
       none_left : live all table key ≡ None
-      none_left = by (newest all table key) refl
-        where
-          by : (best : Option Held) → newest all table key ≡ best → record_of best ≡ None
-          by None is = refl
-          by (Some y) is =
-              let best = newest_is all table key y is in
-              ⊎_elim (λ (there : Contains source y). of_source y is there)
-              (λ (there : Contains mine y).
-              ⊎_elim (λ (its : Contains own y). absurd (never y (inl its) best.of_record)) (λ (its : Contains source y). of_source y is its)
-              (beside.from y there))
-              (Contains-append_cases source mine y best.stands)
+      none_left =
+          by_found (λ best. record_of best ≡ None) (newest all table key) (λ none. refl)
+          (λ y is.
+          let best = newest_is all table key y is in
+          ⊎_elim (of_source y is)
+          (λ (there : Contains mine y).
+          ⊎_elim (λ (its : Contains own y). absurd (never y (inl its) best.of_record)) (of_source y is) (beside.from y there))
+          (Contains-append_cases source mine y best.stands))
 
     -- so the records leave of the key what all leaves
     pub found_leaves : (found table key records ≡ None → (x : Held) → Contains scan x → is_of table key x ≡ true → Arrived x)
         → record_of (found table key records) ≡ live all table key
-    found_leaves arrives = by (found table key records) refl
-      where
-        by : (there : Option Held) → found table key records ≡ there → record_of there ≡ live all table key
-        by (Some x) is = ap record_of (sym (found_newest x is))
-        by None is = sym (none_left is (arrives is))
+    found_leaves arrives = by_found (λ there. record_of there ≡ live all table key) (found table key records)
+        (λ none. sym (none_left none (arrives none))) (λ x is. ap record_of (sym (found_newest x is)))

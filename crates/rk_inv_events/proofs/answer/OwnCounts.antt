@@ -4,7 +4,7 @@ use Rattle.std.proofs.Common.{nat_le, nat_lt, refl, slice_get, sym, take, true, 
 use Rattle.rk_entry.specs.declared.entry.Entry.TheVariants as entries
 use Rattle.rk_transfer.specs.declared.role.Role.TheVariants as roles
 use Rattle.rk_inv_base.proofs.Words.{All-contains, Any-from_list_any, Contains-append_left, Entry, HasOwnRange, Held, IsOfRange, Mark}
-use Rattle.rk_inv_base.proofs.Words.{MarkFits, Role, Row, SoundView, View, Written, and_parts, applied_entries, cases_Bool, counting}
+use Rattle.rk_inv_base.proofs.Words.{Role, Row, SoundView, View, Written, and_parts, applied_entries, cases_Bool, counting}
 use Rattle.rk_inv_base.proofs.Words.{counts, entries_from, false≢true, has_merged, is_in, is_marked, is_serving, items_in, items_of}
 use Rattle.rk_inv_base.proofs.Words.{log_material, named, number_of, row_of, side_entries, unmarked_from}
 use Rattle.rk_inv_base.proofs.logs.MarkedApart.{in_piece, place_of}
@@ -22,11 +22,7 @@ module _ (v : View) (row : Row) (master : ℕ) (sound : SoundView v) (has : Cont
 
   -- it marked nothing of the row's tablet
   unmarked_here : (mark : Mark) → Contains w.marks mark → row.tablet ≡ mark.tablet → ⊥
-  unmarked_here mark stands its =
-      let fits : MarkFits row master (v.handovers master row.tablet) (v.live master) w mark =
-      All-contains (λ m. m.tablet ≡ row.tablet → MarkFits row master (v.handovers master row.tablet) (v.live master) w m) w.marks mark
-      ((row_in v sound row has).marks master) stands (sym its) in
-      merged_apart (v.handovers master row.tablet).role (fits.by_rebuilder (fits.present lives)).2 serves
+  unmarked_here mark stands its = grind (arith, row_in, merged_apart)
 
   -- an item of a piece of another row is not of this one
   of_other : (other : Row) (held : Held) → Contains v.rows other → (row.tablet ≡ other.tablet → ⊥) → IsOfRange other.range (entries.Held held) → is_in row.range held ≡ true → ⊥

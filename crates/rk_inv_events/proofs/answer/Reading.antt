@@ -22,8 +22,7 @@ use Rattle.rk_inv_events.proofs.events.Working.{marks_same, sound_unchanged, vie
 use Rattle.rk_inv_events.proofs.request.Answering.{done_as}
 use Rattle.rk_inv_events.proofs.request.Choices.{IsFresh, IsRead, fresh, reads}
 use Rattle.rk_inv_events.proofs.request.Served.{IsServedAt, served_at}
-use Rattle.rk_inv_events.proofs.stored.Replies.{may_tell_at}
-use Rattle.rk_inv_events.proofs.stored.Work.{reply_to}
+use Rattle.rk_inv_events.proofs.stored.StoredTaken.{may_tell_at, reply_to}
 
 -- ---- what a read tells
 
@@ -114,13 +113,7 @@ module _ (w : World) (master client : ℕ) (request : Request) (outcome : Outcom
       ∙ ap read_of (truth.live request.table request.key at.served.in_row) ∙ reads_entry entry
 
   may_read : MayRead (view w) master (call_of client request) request.seen outcome
-  may_read = record {
-    read = is_get;
-    served = at.served;
-    was_asked = asked.was_asked;
-    has_seen = asked.seen;
-    allowed = allowed_get entry request.op outcome is_read.op_is tells;
-  }
+  may_read = grind (arith, is_get, at, allowed_get, is_read, tells)
 
   -- the master as it was, and the ledger with the record
   abbrev same : World

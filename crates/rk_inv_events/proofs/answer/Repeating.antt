@@ -1,7 +1,8 @@
 -- A sound and well formed lane stays sound when a master tells the outcome of a call that it knows to have ended.
+use Rattle.std.proofs.Common.{arith}
 use Rattle.std.proofs.lemmas.List.Folds.{find_at}
-use Rattle.std.proofs.Common.{Bool, Contains, List, None, Some, [], ap, eq-eqb, eqb-true, length, lt-ltb, ltb, position, refl}
-use Rattle.std.proofs.Common.{slice_get, sym, true, ℕ, ◌&&◌, ◌==◌, ◌∙◌, ◌≡◌, Option, find}
+use Rattle.std.proofs.Common.{Bool, Contains, List, None, Some, [], ap, eq-eqb, eqb-true, find, length, lt-ltb, ltb, position, slice_get}
+use Rattle.std.proofs.Common.{sym, true, ℕ, ◌&&◌, ◌==◌, ◌∙◌, ◌≡◌}
 use Rattle.rk_message.specs.declared.message.Body.TheVariants as bodies
 use Rattle.rk_types.specs.declared.call.Answer.TheVariants as answers
 use Rattle.rk_types.specs.declared.node.Node.TheVariants as nodes
@@ -9,14 +10,13 @@ use Rattle.rk_inv_base.proofs.Words.{Call, End, IsMaster, IsSound, IsWellFormed,
 use Rattle.rk_inv_base.proofs.Words.{WasAsked, World, and_from, and_parts, answering, call_of, choice_of, cond-true, false≢true, filled}
 use Rattle.rk_inv_base.proofs.Words.{is_mutation, is_of_mutation, lives, look, master_at, outcome_of, slice_get-get_or, view, with_master}
 use Rattle.rk_inv_base.proofs.Words.{slice_get_within}
-use Rattle.rk_inv_events.proofs.Words.{position_or_len, none_of}
+use Rattle.rk_inv_events.proofs.Words.{position_or_len, none_of, find_passes, by_found}
 use Rattle.rk_inv_events.proofs.answer.Ended.{HasRecord, has_record}
 use Rattle.rk_inv_events.proofs.events.Working.{sound_sending, sound_unchanged}
 use Rattle.rk_inv_events.proofs.request.Answering.{done_as}
 use Rattle.rk_inv_events.proofs.request.Choices.{IsRepeated, repeats}
 use Rattle.rk_inv_events.proofs.request.Served.{served_at}
-use Rattle.rk_inv_events.proofs.stored.Replies.{may_tell_at}
-use Rattle.rk_inv_wellformed.proofs.maps.Lists.{find_passes}
+use Rattle.rk_inv_events.proofs.stored.StoredTaken.{may_tell_at}
 
 -- ---- the place of the first thing in a list that passes a test, where one does
 
@@ -28,20 +28,18 @@ record IsFirst {X : Type 0} (p : X → Bool) (xs : List X) : Type 0 where
   passes : p first ≡ true
 
 first_one : {X : Type 0} (p : X → Bool) (xs : List X) (x : X) → Contains xs x → p x ≡ true → IsFirst p xs
-first_one {X} p xs x at passes = go (find p xs) refl
-  where
-    go : (found : Option X) → find p xs ≡ found → IsFirst p xs
-    go None is = absurd (false≢true (sym (none_of p xs is x at) ∙ passes))
-    go (Some first) is =
-        let place : ℕ = position_or_len p xs in
-        let stands : slice_get xs place ≡ Some first = sym (find_at p xs) ∙ is in
-        record {
-          place = place;
-          first = first;
-          place_is = cond-true (ltb place (length xs)) (Some place) None (lt-ltb place (length xs) (slice_get_within xs place first stands));
-          stands = stands;
-          passes = find_passes p xs first is;
-        }
+first_one {X} p xs x at passes =
+    by_found (λ found. IsFirst p xs) (find p xs) (λ none. absurd (false≢true (sym (none_of p xs none x at) ∙ passes)))
+    (λ first is.
+    let place : ℕ = position_or_len p xs in
+    let stands : slice_get xs place ≡ Some first = sym (find_at p xs) ∙ is in
+    record {
+      place = place;
+      first = first;
+      place_is = cond-true (ltb place (length xs)) (Some place) None (lt-ltb place (length xs) (slice_get_within xs place first stands));
+      stands = stands;
+      passes = find_passes p xs first is;
+    })
 
 -- ---- the outcome
 
@@ -55,19 +53,7 @@ module _ (v : View) (sound : SoundView v) (master : ℕ) (call : Call) (end : En
 
   -- the first record of the mutation is the only one
   one_record : (first.first.call.client ≡ call.client) × (first.first.call.seq ≡ call.seq) × (first.first ≡ has.placed)
-  one_record =
-      let parts =
-      and_parts (is_mutation first.first.call.op) ((first.first.call.client == call.client) && (first.first.call.seq == call.seq))
-      first.passes in
-      let names = and_parts (first.first.call.client == call.client) (first.first.call.seq == call.seq) parts.1 in
-      let client : first.first.call.client ≡ call.client = eqb-true first.first.call.client call.client names.0 in
-      let seq : first.first.call.seq ≡ call.seq = eqb-true first.first.call.seq call.seq names.1 in
-      let there = slice_get-get_or v.journal has.stands.0 has.placed has.stands.1 ∙ ap (λ (p : Placed). Some p) has.stands.2 in
-      let place : first.place ≡ has.stands.0 =
-      sound.calls.once first.place has.stands.0 first.first has.placed first.stands there
-      (record { mutation = parts.0; client = client ∙ sym has.client; seq = seq ∙ sym has.seq }) in
-      let same : Some first.first ≡ Some has.placed = sym first.stands ∙ ap (slice_get v.journal) place ∙ there in
-      (client, seq, cc same)
+  one_record = grind (arith, and_parts, is_mutation, first, eqb-true, slice_get-get_or)
 
   may_tell : MaySend v
       (filled v.journal [] (record {

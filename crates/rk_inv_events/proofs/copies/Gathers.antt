@@ -2,13 +2,14 @@
 -- segment, since what is said of a Copy on the wire is all that this needs; and where that was the last one, what was gathered is merged as one
 -- piece of its log.
 use Rattle.std.proofs.Common.{Contains, List, None, Some, ap, eqb-true, false, not, refl, sym, true, ℕ, ◌&&◌, ◌==◌, ◌∙◌, ◌≡◌, Bool, Option}
-use Rattle.std.proofs.Common.{cond, length, subst, All, ◌≤◌}
+use Rattle.std.proofs.Common.{cond, length, subst, All, ◌≤◌, inl, inr}
 use Rattle.rk_transfer.specs.declared.role.Role.TheVariants as roles
 use Rattle.rk_inv_base.proofs.Words.{CopyIn, CopySegment, IsOf, IsSound, Master, Member, Rebuilding, Row, Tablet, View, World, and_parts}
 use Rattle.rk_inv_base.proofs.Words.{get, has_crashed, is_awaited, is_gathering, master_at, next_reading, segment_gathered, tablet_in, view}
 use Rattle.rk_inv_base.proofs.Words.{with_master, Handover, Reading, as_entries, changed, cond-true, copy_taken, merging, rebuild_goes_on}
 use Rattle.rk_inv_base.proofs.Words.{rebuilding_on, segment_gathered_in, tablet_at, to_master, with_all, with_gathered, worked_at}
 use Rattle.rk_inv_base.proofs.Words.{All-weaker, Called, HasRoom, IsFormedGathered, IsWellFormed, LAST_MAIN_SEGMENT, delivered, limits_of}
+use Rattle.rk_inv_base.proofs.Words.{cases_Bool}
 use Rattle.rk_inv_tablets.proofs.merge.Heirs.{gathers_from}
 use Rattle.rk_inv_events.proofs.Words.{MayGather, row_rebuilt, row_said, sound_gathered, MayMergeFormed, rebuild_merged_in, tablet_here}
 use Rattle.rk_inv_events.proofs.Words.{AreReadable, master_same, view_gathered}
@@ -184,12 +185,11 @@ pub sound_taken : (w : World) (number backup master : ℕ) (copy : CopySegment) 
     → get w.wire.messages number ≡ Some (copy_message backup master copy) → HasRoom (to_master w master (copy_message backup master copy)).world
     → IsSound (to_master w master (copy_message backup master copy)).world
 sound_taken w number backup master copy sound formed room there fits =
-    reached_or_lost w master 0 (copy_taken (master_at w master) copy) sound (λ lives. living lives (awaits (master_at w master) copy) refl)
-  where
-    living : has_crashed w master ≡ false → (awaited : Bool) → awaits (master_at w master) copy ≡ awaited
-        → IsSound (worked_at w master 0 (copy_taken (master_at w master) copy)).world
-    living lives false is = rw is (stays w master 0 sound)
-    living lives true is = sound_copy w number backup master copy sound lives there is formed room fits
+    reached_or_lost w master 0 (copy_taken (master_at w master) copy) sound
+    (λ lives. elim (cases_Bool (awaits (master_at w master) copy)) [
+      | inl is ↦ sound_copy w number backup master copy sound lives there is formed room fits
+      | inr is ↦ rw is (stays w master 0 sound)
+    ])
 
 pub sound_delivered : (w : World) (number backup master : ℕ) (copy : CopySegment) (called : Called) → IsSound w → IsWellFormed w → HasRoom w
     → get w.wire.messages number ≡ Some (copy_message backup master copy) → HasRoom (delivered w (get w.wire.messages number) called).world

@@ -10,7 +10,7 @@ use Rattle.rk_inv_base.proofs.Words.{IsMaster, IsSound, Known, Log, Master, MayS
 use Rattle.rk_inv_base.proofs.Words.{append_of, appends, bytes_of, cases_lt, cut, find-append, is_whole, known_length, known_of, log_in}
 use Rattle.rk_inv_base.proofs.Words.{master_at, numbered, option_or, pending, range_with_len, side_segments, view, with_all_sent, ⊤}
 use Rattle.rk_inv_base.proofs.logs.BytesStored.{first_part_length}
-use Rattle.rk_inv_events.proofs.Words.{bytes_in, bytes_main, bytes_side, bytes_zero, missing, numbered_at}
+use Rattle.rk_inv_events.proofs.Words.{bytes_in, bytes_main, bytes_side, bytes_zero, missing, numbered_at, by_found}
 use Rattle.rk_inv_events.proofs.events.Coordinating.{masters_from}
 use Rattle.rk_inv_events.proofs.events.Sending.{all_of_each, may_send, sound_all_sent}
 
@@ -73,23 +73,7 @@ module _ (log : Log) (known : Known) (few : length (cut log.entries) < FIRST_SID
     before : IsKnownBefore log known segment.number
 
   next_main : (segment : NumberedBytes) → IsFirst known 1 (cut log.entries) segment → IsNextOf segment
-  next_main segment it = record {
-    has = bytes_main log segment.number (omega (arith, it.number_is)) (omega (arith, it.number_is, it.within, few))
-        ∙ ap (λ (k : ℕ). get_or (cut log.entries) k []) place_is ∙ sym it.bytes_is;
-    before = earlier;
-  }
-    where
-      place_is : segment.number - 1 ≡ it.place
-      place_is = omega (arith, it.number_is)
-
-      earlier : IsKnownBefore log known segment.number
-      earlier zero less main = rw (bytes_zero log 0 (omega arith)) (omega arith)
-      earlier (suc k) less main =
-          let same : suc k - 1 ≡ k = omega arith in
-          let after : 1 + k ≡ suc k = omega arith in
-          rw
-          (bytes_main log (suc k) (omega arith) (omega (arith, less, it.number_is, it.within, few))
-          ∙ ap (λ (n : ℕ). get_or (cut log.entries) n []) same) (rw after at (it.whole k (omega (arith, less, it.number_is))))
+  next_main segment it = grind (arith, bytes_main, cut, bytes_zero)
 
   next_side : (segment : NumberedBytes) → IsFirst known FIRST_SIDE_SEGMENT log.sides segment → IsNextOf segment
   next_side segment it = record { has = side segment.number it.place (sym it.number_is) it.within ∙ sym it.bytes_is; before = earlier }
@@ -141,26 +125,19 @@ module _ (log : Log) (backup : ℕ) (few : length (cut log.entries) < FIRST_SIDE
 
   pending_is_of_log : Sends log backup (pending log backup)
   pending_is_of_log = rw (find-append (lacks known) (numbered 1 (cut log.entries)) (side_segments log))
-      (by_main (find (lacks known) (numbered 1 (cut log.entries))) refl)
-    where
-      by_side : (found : Option NumberedBytes) → find (lacks known) (side_segments log) ≡ found → Sends log backup (option_map (missing known) found)
-      by_side None is = tt
-      by_side (Some segment) is = of_next segment (next_side log known few segment (first_lacking known FIRST_SIDE_SEGMENT log.sides segment is))
-
-      by_main : (found : Option NumberedBytes) → find (lacks known) (numbered 1 (cut log.entries)) ≡ found
-          → Sends log backup (option_map (missing known) (option_or found (find (lacks known) (side_segments log))))
-      by_main (Some segment) is = of_next segment (next_main log known few segment (first_lacking known 1 (cut log.entries) segment is))
-      by_main None is = by_side (find (lacks known) (side_segments log)) refl
+      (by_found (λ found. Sends log backup (option_map (missing known) (option_or found (find (lacks known) (side_segments log)))))
+      (find (lacks known) (numbered 1 (cut log.entries)))
+      (λ none.
+      by_found (λ found. Sends log backup (option_map (missing known) found)) (find (lacks known) (side_segments log)) (λ none. tt)
+      (λ segment is. of_next segment (next_side log known few segment (first_lacking known FIRST_SIDE_SEGMENT log.sides segment is))))
+      (λ segment is. of_next segment (next_main log known few segment (first_lacking known 1 (cut log.entries) segment is))))
 
 -- ---- a master sends that
 
 -- bytes of a master's log may be sent to a backup
 pub may_append : (v : View) (master backup : ℕ) (append : Append) → IsFromLog (v.logs master) (known_of (v.logs master) backup) append
     → MaySend v (record { from = nodes.Master master; to = nodes.Backup backup; body = bodies.Append append })
-may_append v master backup append of_log =
-    let body = bodies.Append append in
-    may_send v (nodes.Master master) (nodes.Backup backup) body (λ row. refl) (tt, tt)
-    (λ row stands. (record { within = tt; below = tt }, tt)) (of_log, tt, tt)
+may_append v master backup append of_log = grind (arith, may_send)
 
 module _ (w : World) (master : ℕ) (sound : IsSound w) (few : length (cut (log_in w master).entries) < FIRST_SIDE_SEGMENT) where
   abbrev own : Master
@@ -170,18 +147,17 @@ module _ (w : World) (master : ℕ) (sound : IsSound w) (few : length (cut (log_
   module _ (P : Message → Type 0) (each : (backup : ℕ) (append : Append) → IsFromLog own.log (known_of own.log backup) append
       → P (record { from = nodes.Master own.number; to = nodes.Backup backup; body = bodies.Append append })) where
     to_backup : (backup : ℕ) → IsBackup own.log backup → All P (append_of own backup (pending own.log backup))
-    to_backup backup there = by_piece (pending own.log backup) (pending_is_of_log own.log backup few within)
+    to_backup backup there = by_found (λ piece. Sends own.log backup piece → All P (append_of own backup piece)) (pending own.log backup)
+        (λ none sends. All-nil P)
+        (λ piece is sends.
+        All-cons P _ [] (each backup (record { segment = piece.segment; at = piece.at; bytes = piece.bytes }) sends) (All-nil P))
+        (pending_is_of_log own.log backup few within)
       where
         -- a backup is known to hold no more of a segment than there is
         within : (segment : ℕ) → known_length (known_of own.log backup) segment ≤ length (bytes_of own.log segment)
         within segment =
             let copy = (sound.logs.each master).copies backup there in
             omega (arith, copy.told segment, first_part_length _ _ (copy.front segment))
-
-        by_piece : (piece : Option PlacedBytes) → Sends own.log backup piece → All P (append_of own backup piece)
-        by_piece None sends = All-nil P
-        by_piece (Some piece) sends = All-cons P _ []
-            (each backup (record { segment = piece.segment; at = piece.at; bytes = piece.bytes }) sends) (All-nil P)
 
     pub each_append : All P (appends own)
     each_append =

@@ -1,6 +1,6 @@
 -- A sound lane stays sound at what clients do: one that comes, a request that is sent again, a turn and an answer.
 use Rattle.std.proofs.Common.{Bool, IfSome, None, Option, Some, [], ap, arith, cond, eqb-true, false, inl, inr, is_some, ltb-true, nat_lt}
-use Rattle.std.proofs.Common.{not, refl, subst, sym, true, unwrap_or, ℕ, ◌&&◌, ◌<◌, ◌==◌, ◌||◌, ◌∙◌, ◌∷◌, ◌≡◌}
+use Rattle.std.proofs.Common.{not, refl, subst, sym, true, unwrap_or, ℕ, ◌&&◌, ◌==◌, ◌||◌, ◌∙◌, ◌∷◌, ◌≡◌}
 use Rattle.rk_message.specs.declared.message.Body.TheVariants as bodies
 use Rattle.rk_types.specs.declared.call.Answer.TheVariants as answers
 use Rattle.rk_types.specs.declared.node.Node.TheVariants as nodes
@@ -8,39 +8,32 @@ use Rattle.rk_world.specs.Calls.{asked_by_session, is_next}
 use Rattle.rk_world.specs.Client.{MOST_REQUESTS, accepted_by, accepted_of, answer_accepted, ignoring, looking_up, range_of, request_of}
 use Rattle.rk_world.specs.Client.{turn_by, turn_to}
 use Rattle.rk_world.specs.Refusals.{is_for}
-use Rattle.rk_world.specs.declared.error.StepError.TheVariants as errors
 use Rattle.rk_world.specs.declared.event.Taken.TheVariants as takes
-use Rattle.rk_inv_base.proofs.Words.{All-contains, Answer, AnswerFits, Body, Call, IsAccepted, IsAfterStart, IsRecordAt, IsSound, LastCall}
-use Rattle.rk_inv_base.proofs.Words.{Located, MayAccept, MayAct, Message, Node, Outcome, Reply, RequestFits, Says, Session, StepError}
-use Rattle.rk_inv_base.proofs.Words.{WasAsked, World, accept, accept_by, accept_refusal, accepting, and_parts, ask, ask_by, ask_refusal}
-use Rattle.rk_inv_base.proofs.Words.{asked_by, asking, asking_by, call_lane, client_added, fits_with, get, is_accepted, is_added, is_asked}
-use Rattle.rk_inv_base.proofs.Words.{is_call, is_last, ledger_asked, ledger_requested, ledger_taken, option_or, sent_again, session_turn}
-use Rattle.rk_inv_base.proofs.Words.{taking, turn_of, untouched, view, where_true, with_asked, with_ledger, with_sends, world_visited}
+use Rattle.rk_inv_base.proofs.Words.{All-contains, Answer, AnswerFits, Body, Call, ClientTurn, IsAccepted, IsAfterStart, IsRecordAt}
+use Rattle.rk_inv_base.proofs.Words.{IsSound, LastCall, Located, MayAccept, MayAct, Message, Node, Outcome, Reply, RequestFits, Says}
+use Rattle.rk_inv_base.proofs.Words.{Session, Visited, WasAsked, World, accept, accept_by, accept_refusal, accepting, and_parts, ask}
+use Rattle.rk_inv_base.proofs.Words.{ask_by, ask_refusal, asked_by, asking, asking_by, call_lane, client_added, cond_both, fits_with, get}
+use Rattle.rk_inv_base.proofs.Words.{is_accepted, is_added, is_asked, is_call, is_last, ledger_asked, ledger_requested, ledger_taken}
+use Rattle.rk_inv_base.proofs.Words.{sent_again, session_turn, taking, turn_of, untouched, view, where_true, with_asked}
+use Rattle.rk_inv_base.proofs.Words.{with_ledger, with_sends, world_visited}
 use Rattle.rk_inv_base.proofs.calls.Accepted.{sound_accepted, stands_there}
 use Rattle.rk_inv_base.proofs.calls.CallAsked.{asked_put, sound_asked}
 use Rattle.rk_inv_base.proofs.calls.Come.{sound_come}
 use Rattle.rk_inv_base.proofs.calls.Saved.{sound_saved}
-use Rattle.rk_inv_events.proofs.Words.{MayAsk, client_come, not-true, put_here, request_saved, sound_sent}
+use Rattle.rk_inv_events.proofs.Words.{MayAsk, client_come, not-true, put_here, request_saved, sound_sent, by_found, either_way}
 use Rattle.rk_inv_events.proofs.events.SameCalls.{accepted_found, found_accepted, same_call}
 use Rattle.rk_inv_events.proofs.events.Sending.{may_look_up, may_request, may_send_again}
 
 -- ---- a client comes, or sends its last request again
 
 pub sound_added : (w : World) (client : ℕ) → IsSound w → IsSound (client_added w client)
-sound_added w client sound = go (get w.ledger.clients client) refl
-  where
-    go : (found : Option (Option LastCall)) → get w.ledger.clients client ≡ found → IsSound (cond (is_some found) w (client_come w client))
-    go None is = sound_come w client sound (record { new = ap (λ (kept : Option (Option LastCall)). unwrap_or kept None) is })
-    go (Some last) is = sound
+sound_added w client sound = by_found (λ found. IsSound (cond (is_some found) w (client_come w client))) (get w.ledger.clients client)
+    (λ is. sound_come w client sound (record { new = ap (λ (kept : Option (Option LastCall)). unwrap_or kept None) is })) (λ last is. sound)
 
 pub sound_again : (w : World) (client : ℕ) → IsSound w → IsSound (sent_again w (get w.ledger.requests client)).world
-sound_again w client sound = go (get w.ledger.requests client) refl
-  where
-    go : (found : Option Message) → get w.ledger.requests client ≡ found → IsSound (sent_again w found).world
-    go None is = sound
-    go (Some message) is =
-        sound_sent w message sound
-        (may_send_again (view w) client message.from message.to message.body (sound.asked.again client message is))
+sound_again w client sound = by_found (λ found. IsSound (sent_again w found).world) (get w.ledger.requests client) (λ none. sound)
+    (λ message is.
+    sound_sent w message sound (may_send_again (view w) client message.from message.to message.body (sound.asked.again client message is)))
 
 -- ---- a client asks
 
@@ -72,31 +65,14 @@ module _ (w : World) (session : Session) (call : Call) (sound : IsSound w) (own 
       }
 
   may_ask : is_next w.ledger session call (asked_by w.ledger session.client) ≡ true → call_lane call ≡ w.lane → MayAsk (view w) session.client (record { call = call; seen = session.seen })
-  may_ask next here = record {
-    own = own;
-    here = here;
-    after = after;
-    accepted = go (asked_by w.ledger session.client) refl next;
-  }
-    where
-      go : (asked : Option LastCall) → asked_by w.ledger session.client ≡ asked → is_next w.ledger session call asked ≡ true → IfSome asked (λ old. (old.call.seq < call.seq) × IsAccepted w.ledger.journal old.call)
-      go None is next_is = tt
-      go (Some old) is next_is =
-          let parts = and_parts (nat_lt old.call.seq call.seq) (is_accepted w.ledger.journal session.client old.call.seq) next_is in
-          (ltb-true old.call.seq call.seq parts.0, accepted_before old is parts.1)
+  may_ask next here = grind (arith, by_found, asked_by, and_parts, nat_lt, is_accepted, ltb-true, accepted_before)
 
   -- the lane once the call was asked there: it is sound, and the call is the client's last one
   abbrev asked_world : World
   asked_world = with_ledger w (ledger_asked w.ledger session call)
 
-  record IsAskedThere : Type 0 where
-    sound_there : IsSound asked_world
-    asked_there : HasAsked asked_world session call
-
-  asked_there : fits_with w session call ≡ true → IsAskedThere
-  asked_there fits =
-      let both = go (is_asked w.ledger session call) refl fits in
-      record { sound_there = both.0; asked_there = both.1 }
+  asked_there : fits_with w session call ≡ true → IsSound asked_world × HasAsked asked_world session call
+  asked_there fits = go (is_asked w.ledger session call) refl fits
     where
       now : Bool → World
       now test = with_ledger w (cond test w.ledger (with_asked w.ledger session.client (record { call = call; seen = session.seen })))
@@ -147,16 +123,19 @@ module _ (w : World) (session : Session) (call : Call) (own : call.client ≡ se
   turned : (located : Option Located) → IsSound (turned_by (turn_by session call located).message)
   turned None = looked_up
   turned (Some located) =
-      elim (session.requests == MOST_REQUESTS) as (λ b. IsSound (turned_by (cond b (looking_up session call) (turn_to session call located.tablet located.owner)).message)) [
-        | true ↦ looked_up
-        | false ↦ turned_to located.tablet located.owner
-      ]
+      either_way (λ (turn : ClientTurn). IsSound (turned_by turn.message)) (session.requests == MOST_REQUESTS) looked_up
+      (turned_to located.tablet located.owner)
 
 -- a client's turn
 module _ (w : World) (session : Session) (sound : IsSound w) (may : MayAct w.coordinator.masters session) (after : IfSome session.outstanding (IsAfterStart w.base)) where
   takes_turn : (outstanding : Option Call) → session.outstanding ≡ outstanding → IsSound (asking w session outstanding).world
   takes_turn None is = sound
-  takes_turn (Some call) is = go (fits_with w session call) refl
+  takes_turn (Some call) is = cond_both (fits_with w session call) (asking_by w session call (session_turn session)) (untouched w session None)
+      (λ (visited : Visited). IsSound visited.world)
+      (λ fits.
+      let there = asked_there w session call sound own later fits in
+      rw turn_is
+      (turned (asked_world w session call sound own later) session call own there.0 there.1 (range_of session call))) (λ stays. sound)
     where
       own : call.client ≡ session.client
       own = (subst (λ o. IfSome o (λ (c : Call). (c.client ≡ session.client) × (c.seq ≡ session.last))) is may.own).0
@@ -167,19 +146,9 @@ module _ (w : World) (session : Session) (sound : IsSound w) (may : MayAct w.coo
       turn_is : session_turn session ≡ Some (turn_by session call (range_of session call))
       turn_is = ap (turn_of session) is
 
-      go : (fits : Bool) → fits_with w session call ≡ fits → IsSound (cond fits (asking_by w session call (session_turn session)) (untouched w session None)).world
-      go false is = sound
-      go true is =
-          let there = asked_there w session call sound own later is in
-          rw turn_is
-          (turned (asked_world w session call sound own later) session call own there.sound_there there.asked_there (range_of session call))
-
   pub sound_asks : IsSound (world_visited w (ask w session))
-  sound_asks = go (ask_refusal w session)
-    where
-      go : (refusal : Option StepError) → IsSound (world_visited w (ask_by w session refusal))
-      go None = takes_turn session.outstanding refl
-      go (Some error) = sound
+  sound_asks = by_found (λ refusal. IsSound (world_visited w (ask_by w session refusal))) (ask_refusal w session)
+      (λ none. takes_turn session.outstanding refl) (λ error is. sound)
 
 -- ---- a client takes an answer
 
@@ -191,34 +160,10 @@ module _ (w : World) (number : ℕ) (session : Session) (call : Call) (sound : I
       asked).0
 
   none_accepted : is_accepted w.ledger.journal session.client call.seq ≡ false
-  none_accepted =
-      not-true _
-      (and_parts (is_last call session.seen (asked_by w.ledger session.client)) (not (is_accepted w.ledger.journal session.client call.seq))
-      asked).1
+  none_accepted = grind (arith, not-true, and_parts, is_last, asked_by, is_accepted)
 
   pub may_accept : (reply : Reply) (outcome : Outcome) → reply.seq ≡ call.seq → IsRecordAt w.ledger.journal session.client reply outcome → MayAccept (view w) reply.place
-  may_accept reply outcome seq_is at =
-      let stands = stands_there w.ledger.journal reply.place at.placed at.stands in
-      let last = ap (asked_by w.ledger) at.client_is ∙ is_last_there in
-      let was : WasAsked (Some (record { call = call; seen = session.seen })) w.ledger.journal at.placed.call =
-      rw last at
-      (All-contains (λ placed. WasAsked (asked_by w.ledger placed.call.client) w.ledger.journal placed.call) w.ledger.journal at.placed
-      sound.asked.recorded stands) in
-      let same : call ≡ at.placed.call =
-      elim was [ inl same ↦ same | inr earlier ↦ absurd (omega (arith, earlier.0, at.seq_is, seq_is)) ] in
-      record {
-        placed = at.placed;
-        stands = at.stands;
-        last = rw last same;
-        first = λ accepted.
-            absurd
-            (cc (
-              accepted_found w.ledger.journal at.placed.call accepted,
-              ap (λ (client : ℕ). is_accepted w.ledger.journal client at.placed.call.seq) at.client_is,
-              ap (λ (seq : ℕ). is_accepted w.ledger.journal session.client seq) (at.seq_is ∙ seq_is),
-              none_accepted,
-            ));
-      }
+  may_accept reply outcome seq_is at = grind (arith, stands_there, asked_by, is_last_there, accepted_found, is_accepted, none_accepted)
 
   -- the ledger after a reply was taken
   replied : (reply : Reply) (answer : Answer) → reply.answer ≡ answer → Says w.ledger.journal (nodes.Client session.client) (bodies.Reply reply)
@@ -246,7 +191,12 @@ module _ (w : World) (number : ℕ) (session : Session) (sound : IsSound w) (may
       → (outstanding : Option Call) → session.outstanding ≡ outstanding
       → IsSound (cond (asked_by_session w session outstanding) (taking w session message.body) (untouched w session (Some takes.Ignored))).world
   takes_one message is to None none = sound
-  takes_one message is to (Some call) some = go (is_asked w.ledger session call) refl
+  takes_one message is to (Some call) some =
+      cond_both (is_asked w.ledger session call) (taking w session message.body) (untouched w session (Some takes.Ignored))
+      (λ (visited : Visited). IsSound visited.world)
+      (λ asked.
+      subst (λ outstanding. IsSound (with_ledger w (ledger_taken w.ledger message.body (accepted_of session outstanding message.body).taken)))
+      (sym some) (took w number session call sound asked own message.body says)) (λ stays. sound)
     where
       own : call.client ≡ session.client
       own = (subst (λ o. IfSome o (λ (c : Call). (c.client ≡ session.client) × (c.seq ≡ session.last))) some may.own).0
@@ -254,27 +204,9 @@ module _ (w : World) (number : ℕ) (session : Session) (sound : IsSound w) (may
       says : Says w.ledger.journal (nodes.Client session.client) message.body
       says = rw (for_client message.to to) at (sound.messages.others number message is)
 
-      go : (asked : Bool) → is_asked w.ledger session call ≡ asked → IsSound (cond asked (taking w session message.body) (untouched w session (Some takes.Ignored))).world
-      go false is = sound
-      go true asked =
-          subst (λ outstanding. IsSound (with_ledger w (ledger_taken w.ledger message.body (accepted_of session outstanding message.body).taken))) (sym some)
-          (took w number session call sound asked own message.body says)
-
   accepts_by : (found : Option Message) → get w.wire.messages number ≡ found
       → IsSound (world_visited w (accept_by w number session (accept_refusal w number session.client found)))
-  accepts_by None is = sound
-  accepts_by (Some message) is = go (is_for session.client message.to) refl
-    where
-      done : (stranger : Bool) → is_for session.client message.to ≡ true → IsSound (world_visited w (accept_by w number session (cond stranger (Some (errors.Stranger session.client)) None)))
-      done true to = sound
-      done false to =
-          subst (λ found. IsSound (accepting w session found).world) (sym is)
-          (takes_one message is to session.outstanding refl)
-
-      go : (mine : Bool) → is_for session.client message.to ≡ mine
-          → IsSound (world_visited w (accept_by w number session (option_or (where_true (not mine) (errors.Address number)) (where_true (not (is_added w.ledger session.client)) (errors.Stranger session.client)))))
-      go false is = sound
-      go true to = done (not (is_added w.ledger session.client)) to
+  accepts_by found is = grind (arith, world_visited, accept_by, accepting, takes_one, where_true, is_added)
 
   pub sound_accepts : IsSound (world_visited w (accept w number session))
   sound_accepts = accepts_by (get w.wire.messages number) refl

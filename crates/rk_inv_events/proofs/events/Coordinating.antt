@@ -1,30 +1,28 @@
 -- A sound and well formed lane stays sound when a tablet is added, when one begins to move or is split, and when crashes are noticed.
-use Rattle.std.proofs.Common.{All, Bool, Contains, IfSome, List, None, Option, Some, [], ap, arith, cond, eq-eqb, false, filter, fold, map}
-use Rattle.std.proofs.Common.{not, option_map, refl, subst, suc, true, unwrap_or, zero, ℕ, ◌&&◌, ◌++◌, ◌+◌, ◌==◌, ◌∷◌, ◌≡◌, ◌≤◌}
+use Rattle.std.proofs.Common.{All, Bool, Contains, IfSome, List, None, Option, Some, [], ap, arith, eq-eqb, filter, fold, map, not}
+use Rattle.std.proofs.Common.{option_map, refl, subst, suc, true, unwrap_or, zero, ℕ, ◌&&◌, ◌++◌, ◌+◌, ◌==◌, ◌∷◌, ◌≡◌, ◌≤◌, sym, ◌∙◌}
 use Rattle.rk_entry.specs.declared.entry.Entry.TheVariants as entries
-use Rattle.rk_message.specs.declared.message.Body.TheVariants as bodies
 use Rattle.rk_tablet_map.specs.Rows.{split_fault}
-use Rattle.rk_world.specs.Limits.{IsFormedBody}
 use Rattle.rk_world.specs.Migrations.{migrate_fault_by, migrate_fault_of}
 use Rattle.rk_world.specs.Notices.{is_named}
 use Rattle.rk_world.specs.Splits.{tablet_split, tablet_split_fault_by, tablet_split_fault_of}
 use Rattle.rk_world.specs.declared.error.MoveError.TheVariants as moves
 use Rattle.rk_world.specs.declared.error.StepError.TheVariants as errors
 use Rattle.rk_world.specs.declared.event.Event.TheVariants as events
-use Rattle.rk_inv_base.proofs.Words.{All-append, All-cons, All-contains, All-filter, All-head, All-map, All-nil, All-tail, All-weaker, Body}
+use Rattle.rk_inv_base.proofs.Words.{All-append, All-cons, All-contains, All-filter, All-head, All-map, All-nil, All-tail, All-weaker}
 use Rattle.rk_inv_base.proofs.Words.{Coordinator, EachIn, Entry, HasSome, IsFormedEntry, IsFormedMaster, IsFormedRow, IsMaster, IsSound}
-use Rattle.rk_inv_base.proofs.Words.{IsWellFormed, Limits, Master, MayHappen, Node, Owned, Phase, Range, Row, Tablet, World, add_fault}
+use Rattle.rk_inv_base.proofs.Words.{IsWellFormed, Limits, Master, MayHappen, Owned, Phase, Range, Row, Tablet, World, add_fault}
 use Rattle.rk_inv_base.proofs.Words.{coordinator_notice, crashed_masters, get, has_crashed, is_noticed, limits_of, master_at, migrating}
 use Rattle.rk_inv_base.proofs.Words.{new_master, new_row, no_tablet, notice_one, notice_order, number_of, option_or, phase_noticed}
 use Rattle.rk_inv_base.proofs.Words.{range_in, range_with_len, refusal, row_migrated, row_noticed, row_of, tablet_at, tablet_in}
-use Rattle.rk_inv_base.proofs.Words.{tablet_migrated, view, where_true, with_coordinator, IsInOrder}
+use Rattle.rk_inv_base.proofs.Words.{tablet_migrated, view, where_true, with_coordinator, IsInOrder, cond-true}
 use Rattle.rk_inv_base.proofs.rows.CrashNoticed.{sound_crash_noticed}
 use Rattle.rk_inv_base.proofs.rows.MigrationBegun.{sound_migrated}
 use Rattle.rk_inv_base.proofs.rows.RowAdded.{sound_added}
 use Rattle.rk_inv_wellformed.proofs.lanes.Events.{does_not_hold, has_no_fault, no_first, no_inner, no_second}
 use Rattle.rk_inv_rows.proofs.split.Split.{sound_split}
 use Rattle.rk_inv_events.proofs.Words.{HasSomeIn, MayAdd, MayNotice, all_by, crash_noticed_in, filter_from, found_stands, kept_passes}
-use Rattle.rk_inv_events.proofs.Words.{tablet_added}
+use Rattle.rk_inv_events.proofs.Words.{tablet_added, by_found}
 
 -- ---- ranges of a well formed lane are not empty
 
@@ -37,11 +35,8 @@ module _ (w : World) (formed : IsWellFormed w) where
   -- what a new master has, and each that is well formed, each master of the lane has
   pub of_master : (P : Master → Type 0) (q : ℕ) → P (new_master q [])
       → ((m : Master) → get w.masters q ≡ Some m → IsFormedMaster (limits_of w) q m → P m) → P (master_at w q)
-  of_master P q new each = go (get w.masters q) refl
-    where
-      go : (found : Option Master) → get w.masters q ≡ found → P (unwrap_or found (new_master q []))
-      go None is = new
-      go (Some m) is = each m is (formed.masters q m is)
+  of_master P q new each = by_found (λ found. P (unwrap_or found (new_master q []))) (get w.masters q) (λ none. new)
+      (λ m is. each m is (formed.masters q m is))
 
   -- their tablets are in order
   pub tablets_order : (q : ℕ) → IsInOrder (master_at w q).tablets
@@ -50,11 +45,8 @@ module _ (w : World) (formed : IsWellFormed w) where
   -- so it is of their tablets
   pub of_tablet : (P : Tablet → Type 0) (q number : ℕ) → P no_tablet
       → ((m : Master) → IsFormedMaster (limits_of w) q m → (t : Tablet) → get m.tablets number ≡ Some t → P t) → P (tablet_in w q number)
-  of_tablet P q number none each = of_master (λ m. P (tablet_at m number)) q none (λ m is its. go m its (get m.tablets number) refl)
-    where
-      go : (m : Master) → IsFormedMaster (limits_of w) q m → (found : Option Tablet) → get m.tablets number ≡ found → P (unwrap_or found no_tablet)
-      go m its None is = none
-      go m its (Some t) is = each m its t is
+  of_tablet P q number none each = of_master (λ m. P (tablet_at m number)) q none
+      (λ m is its. by_found (λ found. P (unwrap_or found no_tablet)) (get m.tablets number) (λ absent. none) (each m its))
 
   -- the ranges of its rows are not empty
   pub rows_some : All (λ row. row.range.first ≤ row.range.last) w.coordinator.rows
@@ -70,12 +62,7 @@ module _ (w : World) (formed : IsWellFormed w) where
       (λ m its t is begun. (its.tablets tablet t is).range.last.least_is)
 
   orders_some : EachIn (λ number message. IfSome (range_in message.body) HasSome) w.wire.messages
-  orders_some number message found = by_body message.from message.body (formed.wire.each number message found).says
-    where
-      by_body : (from : Node) (body : Body) → IsFormedBody (limits_of w) from body → IfSome (range_in body) HasSome
-      by_body from (bodies.Prepare prepare) says = says.1.last.least_is
-      by_body from (bodies.Rebuild rebuild) says = says.range.last.least_is
-      by_body from _ says = tt
+  orders_some number message found = grind (arith, limits_of, range_in)
 
 -- ---- a tablet is added
 
@@ -117,20 +104,15 @@ module _ (w : World) (tablet to : ℕ) (sound : IsSound w) (may : MayHappen w (e
         owner = owner;
         from = from;
         phase_is = is;
-        another = λ same. differs (owner == to) (eq-eqb owner to same) fits;
+        another = λ same. absurd (cc (sym (cond-true (owner == to) (Some (moves.SameMaster to)) _ (eq-eqb owner to same)) ∙ fits));
       })
-    where
-      differs : (is_same : Bool) → is_same ≡ true → cond is_same (Some (moves.SameMaster to)) (cond (is_noticed w.coordinator to) (Some (moves.DeadMaster to)) None) ≡ None → ⊥
-      differs true same fit = absurd (cc fit)
-      differs false same fit = absurd (cc same)
   begins row stands _ is fits = absurd (cc fits)
 
   pub sound_tablet_migrated : IsSound (with_coordinator w (tablet_migrated w.coordinator tablet to))
-  sound_tablet_migrated = go (row_of w.coordinator.rows tablet) refl no_fault
-    where
-      go : (found : Option Row) → row_of w.coordinator.rows tablet ≡ found → migrate_fault_of w.coordinator found to ≡ None → IsSound (with_coordinator w (row_migrated w.coordinator found to))
-      go None is fits = sound
-      go (Some row) is fits = begins row (found_stands w.coordinator.rows tablet row is) row.phase refl fits
+  sound_tablet_migrated =
+      by_found (λ found. migrate_fault_of w.coordinator found to ≡ None → IsSound (with_coordinator w (row_migrated w.coordinator found to)))
+      (row_of w.coordinator.rows tablet) (λ none fits. sound)
+      (λ row is fits. begins row (found_stands w.coordinator.rows tablet row is) row.phase refl fits) no_fault
 
 -- ---- a tablet is split
 
@@ -153,14 +135,12 @@ module _ (w : World) (tablet at new : ℕ) (sound : IsSound w) (none : refusal w
   halves row stands _ is fits = absurd (cc fits)
 
   pub sound_event_split : IsSound (tablet_split w tablet at new)
-  sound_event_split = go (row_of w.coordinator.rows tablet) refl no_split_fault
-    where
-      go : (found : Option Row) → row_of w.coordinator.rows tablet ≡ found → tablet_split_fault_of w.coordinator found at new ≡ None
-          → IsSound (tablet_split w tablet at new)
-      go None is fits = absurd (cc fits)
-      go (Some row) is fits =
-          subst (λ (number : ℕ). IsSound (tablet_split w number at new)) (number_of w.coordinator.rows tablet row is)
-          (halves row (found_stands w.coordinator.rows tablet row is) row.phase refl fits)
+  sound_event_split =
+      by_found (λ found. tablet_split_fault_of w.coordinator found at new ≡ None → IsSound (tablet_split w tablet at new))
+      (row_of w.coordinator.rows tablet) (λ none fits. absurd (cc fits))
+      (λ row is fits.
+      subst (λ (number : ℕ). IsSound (tablet_split w number at new)) (number_of w.coordinator.rows tablet row is)
+      (halves row (found_stands w.coordinator.rows tablet row is) row.phase refl fits)) no_split_fault
 
 -- ---- crashes are noticed
 

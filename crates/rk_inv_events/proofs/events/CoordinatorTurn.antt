@@ -1,16 +1,15 @@
 -- What the coordinator may order: each row's duty, and what it tells an owner and a source, says just what its receiver may follow. So a
 -- sound lane stays sound when the coordinator takes its turn, and sends each row's duty.
 use Rattle.std.proofs.Common.{All, Bool, Contains, IfSome, List, None, Option, Some, [], ap, arith, cond, eq-eqb, eqb-true, false, inl, inr}
-use Rattle.std.proofs.Common.{is_some, ne_eqb, refl, subst, sym, true, unwrap_or, ℕ, ◌&&◌, ◌==◌, ◌||◌, ◌∙◌, ◌≡◌, ◌≢◌, ◌≤◌}
+use Rattle.std.proofs.Common.{is_some, ne_eqb, refl, subst, sym, true, ℕ, ◌&&◌, ◌==◌, ◌||◌, ◌∙◌, ◌≡◌, ◌≢◌, ◌≤◌}
 use Rattle.rk_message.specs.declared.message.Body.TheVariants as bodies
-use Rattle.rk_transfer.specs.declared.role.Role.TheVariants as roles
 use Rattle.rk_types.specs.declared.node.Node.TheVariants as nodes
-use Rattle.rk_inv_base.proofs.Words.{All-nil, AsksFor, Bystander, Grant, GrantIn, Handed, HandedFits, Handover, HasLineage, HasSource}
+use Rattle.rk_inv_base.proofs.Words.{All-nil, AsksFor, Bystander, Grant, GrantIn, Handed, Handover, HasLineage, HasSource}
 use Rattle.rk_inv_base.proofs.Words.{Holds, InvitedTarget, IsClosing, IsMovingOrOwned, IsOwnedBy, IsOwnedByOther, IsOwner, IsRebuiltBy}
 use Rattle.rk_inv_base.proofs.Words.{IsSound, MaySend, Member, Moving, Opening, OpeningSource, Owned, Owner, Phase, Prepare, Rebuilding}
 use Rattle.rk_inv_base.proofs.Words.{Role, Row, SoundView, View, World, and_parts, bond_of, cases_eq, coordinator_turn, get, get_or}
 use Rattle.rk_inv_base.proofs.Words.{handed_by, handed_for_grant, is_member, is_waiting, is_waiting_at, is_wanting, lineage_of, own_to}
-use Rattle.rk_inv_base.proofs.Words.{post_of, release_to, row_duty, row_of, row_tenure, second_has, second_of, view, with_sends}
+use Rattle.rk_inv_base.proofs.Words.{post_of, release_to, row_duty, row_of, row_tenure, second_has, second_of, view, with_sends, cond_both}
 use Rattle.rk_inv_events.proofs.Words.{SoundRow, role_fits, row_formed, row_in}
 use Rattle.rk_inv_events.proofs.events.RowsApart.{apart_from, below_others, its_range_within, row_found, same_row, within_term}
 use Rattle.rk_inv_events.proofs.events.Sending.{Hands, all_of_each, may_hand, may_send, one_sent, sound_all_sent}
@@ -71,11 +70,7 @@ module _ (v : View) (row : Row) (sound : SoundView v) (stands : Contains v.rows 
     no_member : is_member (lineage_of row.phase) target ≡ true → ⊥
     no_member member =
         let e = ap (λ (phase : Phase). is_member (lineage_of phase) target) (sym is) ∙ member in
-        differ (eqb-true source target (or_false (source == target) e))
-      where
-        or_false : (b : Bool) → (b || false) ≡ true → b ≡ true
-        or_false true e = refl
-        or_false false e = e
+        absurd (cc (ap (λ (b : Bool). b || false) (sym (ne_eqb source target differ)), e))
 
     asks_none : (other : Row) → Contains v.rows other → AsksFor preparing other → is_member (lineage_of other.phase) target ≡ true → ⊥
     asks_none other at asks member = elim (cases_eq other.tablet row.tablet) [
@@ -100,20 +95,14 @@ module _ (v : View) (row : Row) (sound : SoundView v) (stands : Contains v.rows 
 
 -- an owner keeps its row's term
 owner_term : (role : Role) (place term own applied : ℕ) → Holds (bond_of (Owner place) role) term own applied → own ≡ term
-owner_term roles.Serving place term own applied fits = fits
-owner_term (roles.Joining (Some entry)) place term own applied fits = fits.0
-owner_term (roles.Rebuilding from (Some entry)) place term own applied fits = fits.0
-owner_term _ place term own applied fits = absurd fits
+owner_term role place term own applied fits = grind arith
 
 module _ (v : View) (row : Row) (sound : SoundView v) (stands : Contains v.rows row) (master from : ℕ) (is : row.phase ≡ Owned master from) where
   post : post_of row.phase master ≡ Owner from
   post = ap (λ (phase : Phase). post_of phase master) is ∙ ap (λ (b : Bool). cond b (Owner from) Bystander) (eq-eqb master master refl)
 
   keeps_term : v.live master ≡ true → (v.handovers master row.tablet).term ≡ row.term
-  keeps_term lives =
-      let fits = role_fits v sound row stands master (inl lives) in
-      owner_term (v.handovers master row.tablet).role from row.term (v.handovers master row.tablet).term (v.written master).applied
-      (rw post at fits)
+  keeps_term lives = grind (arith, role_fits, owner_term, post)
 
   -- an Own of the owner
   pub may_own : MaySend v (own_to master row)
@@ -172,28 +161,22 @@ module _ (v : View) (row : Row) (sound : SoundView v) (stands : Contains v.rows 
 
   -- so what is noted is what the source has
   noted : get v.handed row.tablet ≡ Some handed
-  noted =
-      let fits : HandedFits row v.handovers v.completions v.handed (lineage_of (Moving source sfrom target dfrom)) = rw is at own.handed_on in
-      let told = fits (at_term.1 ∙ sym at_term.0) in
-      told ∙ ap (λ (h : Handed). Some h) (sym (ap (λ (found : Option Handed). unwrap_or found (record { floor = 1; ends = [] })) told))
+  noted = grind (arith, lineage_of, own, at_term)
 
   -- what the Grant hands over to the row, where its target waits for it
   hands_over : (other : Row) → Contains v.rows other → IfSome (handed_by other v.handovers (bodies.Grant granting)) (Hands v other)
   hands_over other at =
-      go (row.tablet == other.tablet && is_waiting_at (second_has v.handovers other (second_of (lineage_of other.phase))) row.term) refl
-    where
-      go : (takes : Bool) → (row.tablet == other.tablet && is_waiting_at (second_has v.handovers other (second_of (lineage_of other.phase))) row.term) ≡ takes
-          → IfSome (cond takes (Some (record { floor = handed.floor; ends = handed.ends })) None) (Hands v other)
-      go false none = tt
-      go true takes =
-          let parts = and_parts (row.tablet == other.tablet) (is_waiting_at (second_has v.handovers other (second_of (lineage_of other.phase))) row.term) takes in
-          let here : other ≡ row = same_row v row sound stands other at (sym (eqb-true row.tablet other.tablet parts.0)) in
-          let waiting : is_waiting (second_has v.handovers row (second_of (lineage_of row.phase))) ≡ true =
-          subst (λ (r : Row). is_waiting (second_has v.handovers r (second_of (lineage_of r.phase))) ≡ true) here
-          (waits (second_has v.handovers other (second_of (lineage_of other.phase))) row.term parts.1) in
-          let found : handed_for_grant row v.handovers v.handed ≡ Some handed =
-          ap (λ (b : Bool). cond b (get v.handed row.tablet) None) waiting ∙ noted in
-          subst (λ (r : Row). Hands v r handed) (sym here) ((rw found at own.floor_granted), (rw found at own.ends_granted))
+      let second : Option Handover = second_has v.handovers other (second_of (lineage_of other.phase)) in
+      cond_both (row.tablet == other.tablet && is_waiting_at second row.term) (Some handed) None (λ found. IfSome found (Hands v other))
+      (λ takes.
+      let parts = and_parts (row.tablet == other.tablet) (is_waiting_at second row.term) takes in
+      let here : other ≡ row = same_row v row sound stands other at (sym (eqb-true row.tablet other.tablet parts.0)) in
+      let waiting : is_waiting (second_has v.handovers row (second_of (lineage_of row.phase))) ≡ true =
+      subst (λ (r : Row). is_waiting (second_has v.handovers r (second_of (lineage_of r.phase))) ≡ true) here
+      (waits second row.term parts.1) in
+      let found : handed_for_grant row v.handovers v.handed ≡ Some handed =
+      ap (λ (b : Bool). cond b (get v.handed row.tablet) None) waiting ∙ noted in
+      subst (λ (r : Row). Hands v r handed) (sym here) ((rw found at own.floor_granted), (rw found at own.ends_granted))) (λ none. tt)
 
   may_order_grant : MaySend v (record { from = nodes.Coordinator; to = nodes.Master target; body = bodies.Grant granting })
   may_order_grant =

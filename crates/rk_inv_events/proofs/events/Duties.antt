@@ -1,15 +1,16 @@
 -- What a living master may send on its turn for a tablet: it asks its source for what it lacks, reads the next segment of a rebuild, and tells the
 -- coordinator that it has joined or rebuilt the tablet.
-use Rattle.std.proofs.Common.{All, Contains, List, None, Option, Some, [], ap, eq-eqb, false, filter, inl, inr, is_some, map, not}
-use Rattle.std.proofs.Common.{option_map, refl, subst, sym, true, ℕ, ◌<◌, ◌==◌, ◌∙◌, ◌∷◌, ◌≡◌, ◌≤◌}
+use Rattle.std.proofs.Common.{arith}
+use Rattle.std.proofs.Common.{All, Contains, List, None, Some, [], ap, eq-eqb, false, filter, inl, inr, is_some, map, not, option_map, refl}
+use Rattle.std.proofs.Common.{sym, true, ℕ, ◌<◌, ◌==◌, ◌∙◌, ◌∷◌, ◌≡◌, ◌≤◌}
 use Rattle.rk_message.specs.declared.message.Body.TheVariants as bodies
 use Rattle.rk_transfer.specs.declared.role.Role.TheVariants as roles
 use Rattle.rk_types.specs.declared.node.Node.TheVariants as nodes
 use Rattle.rk_inv_base.proofs.Words.{AfterMove, All-contains, All-head, All-tail, All-weaker, AskAgrees, Gathered, Handover, HandoverFits}
 use Rattle.rk_inv_base.proofs.Words.{IsOf, MaySend, Member, MembersFit, Node, READ_BACKUP, Range, ReadIn, ReadSegment, Reading, Rebuilding}
-use Rattle.rk_inv_base.proofs.Words.{Rebuilt, RebuiltIn, Role, Row, SoundView, Tenure, Token, View, cases_Bool, is_absent, is_granted}
+use Rattle.rk_inv_base.proofs.Words.{Role, Row, SoundView, Tenure, Token, View, cases_Bool, is_absent, is_granted}
 use Rattle.rk_inv_base.proofs.Words.{lineage_of, list_any_at, next_of, next_reading, next_segment, option_or, post_of, reading_of, row_of}
-use Rattle.rk_inv_events.proofs.Words.{all_by, role_fits, row_in, row_rebuilt}
+use Rattle.rk_inv_events.proofs.Words.{all_by, role_fits, row_in, row_rebuilt, by_found}
 use Rattle.rk_inv_events.proofs.events.PostsOf.{gathering_row, Fits, former_member, joined_in, rebuilt_in, receiving_moves}
 use Rattle.rk_inv_events.proofs.events.Coordinating.{tested}
 use Rattle.rk_inv_events.proofs.events.Sending.{may_send}
@@ -23,19 +24,18 @@ record IsOfMember (Q : Member → Type 0) (master : ℕ) : Type 0 where
 next_of_member : (Q : Member → Type 0) (range : Range) (members : List Gathered) (reading : Reading) → All Q (map (λ gathered. gathered.member) members)
     → next_of range members ≡ Some reading → IsOfMember Q reading.master
 next_of_member Q range [] reading all is = absurd (cc is)
-next_of_member Q range (gathered ∷ others) reading all is = go (next_segment range gathered) is
-    (λ later. next_of_member Q range others reading (All-tail Q gathered.member (map (λ g. g.member) others) all) later)
-  where
-    go : (segment : Option ℕ) → option_or (option_map (reading_of gathered) segment) (next_of range others) ≡ Some reading
-        → (next_of range others ≡ Some reading → IsOfMember Q reading.master) → IsOfMember Q reading.master
-    go None found later = later found
-    go (Some segment) found later =
-        let same : reading_of gathered segment ≡ reading = cc found in
-        record {
-          member = gathered.member;
-          has = All-head Q gathered.member (map (λ g. g.member) others) all;
-          master_is = ap (λ (r : Reading). r.master) same;
-        }
+next_of_member Q range (gathered ∷ others) reading all is =
+    by_found
+    (λ segment. option_or (option_map (reading_of gathered) segment) (next_of range others) ≡ Some reading → IsOfMember Q reading.master)
+    (next_segment range gathered)
+    (λ none found. next_of_member Q range others reading (All-tail Q gathered.member (map (λ g. g.member) others) all) found)
+    (λ segment at found.
+    let same : reading_of gathered segment ≡ reading = cc found in
+    record {
+      member = gathered.member;
+      has = All-head Q gathered.member (map (λ g. g.member) others) all;
+      master_is = ap (λ (r : Reading). r.master) same;
+    }) is
 
 -- of a lineage, the members that are not this master
 others_of : (Q : Member → Type 0) (master : ℕ) (lineage : List Member) → All (λ member. (member.master ≡ master → ⊥) → Q member) lineage
@@ -58,10 +58,7 @@ module _ (v : View) (sound : SoundView v) (master number : ℕ) (lives : v.live 
   -- the role fits its post beside the row of the tablet
   pub fits_as : (role : Role) → handover.role ≡ role → (row : Row) → Contains v.rows row → number ≡ row.tablet
       → Fits (post_of row.phase master) role row.term handover.term (v.written master).applied
-  fits_as role is row stands same = rw is at fits
-    where
-      fits : Fits (post_of row.phase master) handover.role row.term handover.term (v.written master).applied
-      fits = rw same (role_fits v sound row stands master (inl lives))
+  fits_as role is row stands same = grind (arith, post_of, role_fits)
 
   -- its term is at most that of the tablet's row
   pub within : (row : Row) → Contains v.rows row → row.tablet ≡ number → handover.term ≤ row.term
@@ -113,15 +110,7 @@ module _ (v : View) (sound : SoundView v) (master number : ℕ) (lives : v.live 
   -- a Joined of a target whose closing entry is applied
   pub may_tell_joined : (entry : ℕ) → handover.role ≡ roles.Joining (Some entry) → entry < (v.written master).applied
       → MaySend v (record { from = nodes.Master master; to = nodes.Coordinator; body = bodies.Joined tenure })
-  may_tell_joined entry is closed =
-      may_send v (nodes.Master master) nodes.Coordinator (bodies.Joined tenure) (λ row. refl) (known (roles.Joining (Some entry)) is refl, tt)
-      (λ row stands. (
-        record { within = within row stands; below = tt },
-        λ its.
-            rw its.tablet at
-            (joined_in master row.term handover.term (v.written master).applied its.term entry row.phase handover is its.term closed
-            (fits_as (roles.Joining (Some entry)) is row stands its.tablet)),
-      )) (tt, tt, tt)
+  may_tell_joined entry is closed = grind (arith, may_send, known, within, joined_in, fits_as)
 
   -- a Rebuilt of a master that merged, and whose closing entry is applied
   pub may_tell_rebuilt : (place entry : ℕ) → handover.role ≡ roles.Rebuilding place (Some entry) → entry < (v.written master).applied
@@ -132,19 +121,7 @@ module _ (v : View) (sound : SoundView v) (master number : ℕ) (lives : v.live 
         body = bodies.Rebuilt
             (record { tenure = tenure; place = place; ends = v.merged master number });
       })
-  may_tell_rebuilt place entry is closed =
-      let rebuilt : Rebuilt = record { tenure = tenure; place = place; ends = v.merged master number } in
-      may_send v (nodes.Master master) nodes.Coordinator (bodies.Rebuilt rebuilt) (λ row. refl)
-      (known (roles.Rebuilding place (Some entry)) is refl, tt)
-      (λ row stands. (
-        record { within = within row stands; below = tt },
-        λ its.
-            subst (λ (n : ℕ). RebuiltIn row.phase (v.handovers master n) (v.merged master n) (v.written master).applied row.term master rebuilt)
-            its.tablet
-            (rebuilt_in master row.term handover.term (v.written master).applied its.term place entry row.phase handover
-            (v.merged master number) rebuilt is its.term closed refl refl
-            (fits_as (roles.Rebuilding place (Some entry)) is row stands its.tablet)),
-      )) (tt, tt, tt)
+  may_tell_rebuilt place entry is closed = grind (arith, may_send, known, within, rebuilt_in, fits_as)
 
   -- ---- it reads on
 

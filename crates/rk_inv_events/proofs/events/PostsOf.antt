@@ -1,8 +1,8 @@
 -- What a row is like where a master has a role of its tablet, by the table of posts and bonds.
-use Rattle.std.proofs.Common.{List, None, Option, Some, [], arith, cond, eqb-true, false, length, ne_eqb, refl, sym, true, ℕ, ◌<◌, ◌==◌}
+use Rattle.std.proofs.Common.{List, None, Option, Some, [], arith, cond, eqb-true, false, length, ne_eqb, refl, true, ℕ, ◌<◌, ◌==◌}
 use Rattle.std.proofs.Common.{◌||◌, ◌∷◌, ◌≡◌, ◌≤◌}
 use Rattle.rk_transfer.specs.declared.role.Role.TheVariants as roles
-use Rattle.rk_inv_base.proofs.Words.{Bystander, Ended, FirstRebuilder, FormerMember, Handover, HasRebuilt, Holds, InvitedTarget}
+use Rattle.rk_inv_base.proofs.Words.{Bystander, Ended, FirstRebuilder, FormerMember, Handover, Holds, InvitedTarget}
 use Rattle.rk_inv_base.proofs.Words.{IsMovingOrOwned, JoinedIn, LastRebuilder, Member, Moving, MovingSource, MovingTarget, OnlyRebuilder}
 use Rattle.rk_inv_base.proofs.Words.{Opening, OpeningSource, OutsideRebuilder, Owned, Owner, Phase, Post, ReadyTarget, Rebuilding, Rebuilt}
 use Rattle.rk_inv_base.proofs.Words.{RebuiltIn, Role, bond_of, cond_both, is_granted, is_member, is_serving, lineage_of, post_of}
@@ -87,58 +87,27 @@ has_post (Rebuilding lineage to) master =
 -- a member that lives is not among those that another master rebuilds from
 pub former_member : (lineage : List Member) (to master term own applied : ℕ) (role : Role) → (to ≡ master → ⊥) → is_member lineage master ≡ true
     → Fits (post_of (Rebuilding lineage to) master) role term own applied → ⊥
-former_member lineage to master term own applied role differs member fits =
-    never (rw (ne_eqb to master differs) at (rw member at fits))
-  where
-    never : Fits FormerMember role term own applied → ⊥
-    never fits = fits
+former_member lineage to master term own applied role differs member fits = grind (arith, ne_eqb)
 
 -- ---- a role at the row's term
 
 module _ (master term own applied : ℕ) (same : own ≡ term) where
   -- a target that pulls is that of a row that moves
   pub receiving_moves : (phase : Phase) → Fits (post_of phase master) roles.Receiving term own applied → IsMovingOrOwned phase
-  receiving_moves phase = go (has_post phase master)
-    where
-      go : {p : Phase} {post : Post} → HasPost master p post → Fits post roles.Receiving term own applied → IsMovingOrOwned p
-      go (takes source sfrom dfrom) fits = tt
-      go (last_heir first last more here) fits = absurd (omega (arith, fits, same))
-      go _ fits = absurd fits
+  receiving_moves phase = grind (arith, has_post)
 
   -- a target that has joined is that of a row that moves, or owns it
   pub joined_in : (entry : ℕ) (phase : Phase) (handover : Handover) → handover.role ≡ roles.Joining (Some entry) → handover.term ≡ term
       → entry < applied
       → Fits (post_of phase master) (roles.Joining (Some entry)) term own applied → JoinedIn phase handover applied term master
-  joined_in entry phase handover role at closed = go (has_post phase master)
-    where
-      go : {p : Phase} {post : Post} → HasPost master p post → Fits post (roles.Joining (Some entry)) term own applied
-          → JoinedIn p handover applied term master
-      go (owns from) fits = refl
-      go (takes source sfrom dfrom) fits = (refl, at, rw role closed)
-      go (gives sfrom target dfrom) fits = absurd (omega (arith, fits.0, same))
-      go (only_heir only here) fits = absurd (omega (arith, fits.0, same))
-      go (last_heir first last more here) fits = absurd (omega (arith, fits, same))
-      go _ fits = absurd fits
+  joined_in entry phase handover role at closed = grind (arith, has_post)
 
   -- who has rebuilt a row is to rebuild it, or owns it
   pub rebuilt_in : (from entry : ℕ) (phase : Phase) (handover : Handover) (merged : List Ended) (rebuilt : Rebuilt)
       → handover.role ≡ roles.Rebuilding from (Some entry) → handover.term ≡ term → entry < applied
       → rebuilt.place ≡ from → rebuilt.ends ≡ merged → Fits (post_of phase master) (roles.Rebuilding from (Some entry)) term own applied
       → RebuiltIn phase handover merged applied term master rebuilt
-  rebuilt_in from entry phase handover merged rebuilt role at closed placed ends = go (has_post phase master)
-    where
-      its : HasRebuilt handover.role applied rebuilt.place
-      its = rw role (closed, sym placed)
-
-      go : {p : Phase} {post : Post} → HasPost master p post → Fits post (roles.Rebuilding from (Some entry)) term own applied
-          → RebuiltIn p handover merged applied term master rebuilt
-      go (owns place) fits = (refl, omega (arith, fits.1.1, placed))
-      go (gives sfrom target dfrom) fits = absurd (omega (arith, fits.0, same))
-      go (only_heir only here) fits = (refl, at, its, ends)
-      go (first_heir first last more here) fits = (refl, at, its, ends)
-      go (last_heir first last more here) fits = (refl, at, its, ends)
-      go (outside lineage none) fits = (refl, at, its, ends)
-      go _ fits = absurd fits
+  rebuilt_in from entry phase handover merged rebuilt role at closed placed ends = grind (arith, has_post)
 
 -- ---- a master that gathers
 
@@ -150,15 +119,7 @@ pub record IsRebuiltAt (phase : Phase) (master own term : ℕ) : Type 0 where
 
 pub gathering_row : (master place term own applied : ℕ) (phase : Phase)
     → Fits (post_of phase master) (roles.Rebuilding place None) term own applied → IsRebuiltAt phase master own term
-gathering_row master place term own applied phase = go (has_post phase master)
-  where
-    go : {p : Phase} {post : Post} → HasPost master p post → Fits post (roles.Rebuilding place None) term own applied
-        → IsRebuiltAt p master own term
-    go (only_heir only here) fits = record { lineage = only ∷ []; phase_is = refl; term_is = fits.0 }
-    go (first_heir first last more here) fits = record { lineage = first ∷ last ∷ more; phase_is = refl; term_is = fits.0 }
-    go (last_heir first last more here) fits = record { lineage = first ∷ last ∷ more; phase_is = refl; term_is = fits.0 }
-    go (outside lineage none) fits = record { lineage = lineage; phase_is = refl; term_is = fits }
-    go _ fits = absurd fits
+gathering_row master place term own applied phase = grind (arith, has_post)
 
 -- ---- a master that serves
 
@@ -173,32 +134,10 @@ Serves _ role term own = ⊥
 
 pub serves_in : (post : Post) (role : Role) (term own applied : ℕ) → Fits post role term own applied → is_serving role ≡ true
     → Serves post role term own
-serves_in (Owner place) role term own applied fits serves = tt
-serves_in OpeningSource role term own applied fits serves = tt
-serves_in post roles.Absent term own applied fits serves = absurd (cc serves)
-serves_in post roles.Closing term own applied fits serves = absurd (cc serves)
-serves_in post roles.Frozen term own applied fits serves = absurd (cc serves)
-serves_in post (roles.Wanting from) term own applied fits serves = absurd (cc serves)
-serves_in post (roles.Rebuilding from entry) term own applied fits serves = absurd (cc serves)
-serves_in (MovingTarget place) roles.Receiving term own applied fits serves = refl
-serves_in (MovingTarget place) (roles.Joining entry) term own applied fits serves = refl
-serves_in (OnlyRebuilder place) roles.Serving term own applied fits serves = fits
-serves_in (OnlyRebuilder place) (roles.Joining (Some entry)) term own applied fits serves = fits.0
-serves_in (LastRebuilder place) roles.Receiving term own applied fits serves = (refl, fits)
-serves_in (LastRebuilder place) (roles.Joining entry) term own applied fits serves = (refl, fits)
-serves_in _ _ term own applied fits serves = absurd fits
+serves_in post role term own applied fits serves = grind arith
 
 -- who is to rebuild a row and serves keeps a smaller term
 pub rebuilder_keeps : (lineage : List Member) (to term own applied : ℕ) (role : Role)
     → Fits (post_of (Rebuilding lineage to) to) role term own applied → is_serving role ≡ true
     → own < term
-rebuilder_keeps lineage to term own applied role fits serves =
-    go (has_post (Rebuilding lineage to) to) refl (serves_in (post_of (Rebuilding lineage to) to) role term own applied fits serves)
-  where
-    go : {p : Phase} {post : Post} → HasPost to p post → p ≡ Rebuilding lineage to → Serves post role term own → own < term
-    go (owns from) is its = absurd (cc is)
-    go (gives sfrom target dfrom) is its = absurd (cc is)
-    go (takes source sfrom dfrom) is its = absurd (cc is)
-    go (only_heir only here) is its = its
-    go (last_heir first last more here) is its = its.1
-    go _ is its = absurd its
+rebuilder_keeps lineage to term own applied role fits serves = grind (arith, has_post, serves_in, post_of)

@@ -1,11 +1,11 @@
 -- What is known of one row beside all others: none has its number, and none meets its range; and the row of a tablet.
-use Rattle.std.proofs.Common.{Bool, Contains, List, None, Option, Some, [], ap, arith, cond, eq-eqb, false, inl, inr, is_some, refl, true}
-use Rattle.std.proofs.Common.{ℕ, ⊎_elim, ◌==◌, ◌∙◌, ◌∷◌, ◌≡◌, ◌≢◌}
+use Rattle.std.proofs.Common.{Contains, List, Some, [], ap, arith, eq-eqb, false, is_some, refl, true, ℕ, ⊎_elim, ◌==◌, ◌∙◌, ◌∷◌}
+use Rattle.std.proofs.Common.{◌≡◌, ◌≢◌}
 use Rattle.rk_inv_base.proofs.Words.{IsBelowOthers, IsWithinRows, IsWithinTerm, Row, SoundView, View, has, list_any_at, meets, number_of}
-use Rattle.rk_inv_base.proofs.Words.{order, row_of}
+use Rattle.rk_inv_base.proofs.Words.{order, row_of, cond_both}
 use Rattle.rk_inv_base.proofs.logs.MarkedApart.{apart_either}
 use Rattle.rk_inv_base.proofs.rows.Apart.{same_number}
-use Rattle.rk_inv_events.proofs.Words.{contains_cases, found_stands, one_precedes}
+use Rattle.rk_inv_events.proofs.Words.{contains_cases, found_stands, one_precedes, by_found}
 
 -- ---- the row of a tablet
 
@@ -16,35 +16,26 @@ pub record HasRow (rows : List Row) (tablet : ℕ) : Type 0 where
   pub tablet_is : row.tablet ≡ tablet
 
 pub has_row : (rows : List Row) (tablet : ℕ) → is_some (row_of rows tablet) ≡ true → HasRow rows tablet
-has_row rows tablet some = go (row_of rows tablet) refl some
-  where
-    go : (found : Option Row) → row_of rows tablet ≡ found → is_some found ≡ true → HasRow rows tablet
-    go None is some = absurd (cc some)
-    go (Some row) is some = record { row = row; stands = found_stands rows tablet row is; tablet_is = number_of rows tablet row is }
+has_row rows tablet = by_found (λ found. is_some found ≡ true → HasRow rows tablet) (row_of rows tablet) (λ none some. absurd (cc some))
+    (λ row is some. record { row = row; stands = found_stands rows tablet row is; tablet_is = number_of rows tablet row is })
 
 -- ---- one row beside others
 
 -- a row that stands among others is found by its number
 pub row_found : (rows : List Row) (row : Row) → Contains rows row → is_some (row_of rows row.tablet) ≡ true
 row_found [] row (k, within, is) = absurd (omega (arith, within))
-row_found (first ∷ rows) row stands = go (first.tablet == row.tablet) refl (λ later. row_found rows row later)
-  where
-    go : (same : Bool) → (first.tablet == row.tablet) ≡ same → (Contains rows row → is_some (row_of rows row.tablet) ≡ true)
-        → is_some (cond same (Some first) (row_of rows row.tablet)) ≡ true
-    go true is later = refl
-    go false is later =
-        ⊎_elim (λ (here : first ≡ row). absurd (cc (is, eq-eqb first.tablet row.tablet (ap (λ (r : Row). r.tablet) here))))
-        (λ (there : Contains rows row). later there) (contains_cases first rows row stands)
+row_found (first ∷ rows) row stands =
+    cond_both (first.tablet == row.tablet) (Some first) (row_of rows row.tablet) (λ found. is_some found ≡ true) (λ is. refl)
+    (λ is.
+    ⊎_elim (λ (here : first ≡ row). absurd (cc (is, eq-eqb first.tablet row.tablet (ap (λ (r : Row). r.tablet) here))))
+    (row_found rows row) (contains_cases first rows row stands))
 
 module _ (v : View) (row : Row) (sound : SoundView v) (stands : Contains v.rows row) where
   pub same_row : (other : Row) → Contains v.rows other → other.tablet ≡ row.tablet → other ≡ row
   same_row other there same = same_number v.rows other row sound.rows.apart there stands same
 
   pub apart_from : (other : Row) → Contains v.rows other → other.tablet ≢ row.tablet → meets other.range row.range ≡ false
-  apart_from other there differs = elim (one_precedes v.rows other row sound.rows.apart there stands) [
-    | inl is ↦ absurd (differs (ap (λ (r : Row). r.tablet) is))
-    | inr order ↦ elim order [ inl before ↦ before.apart | inr behind ↦ apart_either row.range other.range behind.apart ]
-  ]
+  apart_from other there differs = grind (arith, one_precedes, order, apart_either)
 
   -- its term is that of its number, and no other row meets its range
   pub within_term : (other : Row) → Contains v.rows other → IsWithinTerm other row.tablet row.term

@@ -1,6 +1,6 @@
 -- What may be sent: a message that says of each row, of logs, of records and of calls what the parts ask of it. A sound lane stays sound
 -- when such messages are sent, one after the other.
-use Rattle.std.proofs.Common.{All, Contains, IfSome, List, None, Option, Some, [], flat_map, is_some, refl, true, ℕ, ◌++◌, ◌+◌, ◌∷◌, ◌≡◌}
+use Rattle.std.proofs.Common.{All, Contains, IfSome, List, None, [], flat_map, is_some, refl, true, ℕ, ◌++◌, ◌+◌, ◌∷◌, ◌≡◌}
 use Rattle.rk_message.specs.declared.calls.Lookup.{Lookup}
 use Rattle.rk_message.specs.declared.message.Body.TheVariants as bodies
 use Rattle.rk_types.specs.declared.node.Node.TheVariants as nodes
@@ -9,8 +9,7 @@ use Rattle.rk_inv_base.proofs.Words.{IfSome_then, IsNext, IsRequest, IsSound, Is
 use Rattle.rk_inv_base.proofs.Words.{Placed, Reply, Request, RequestFits, RequestSays, Row, Says, SentFits, Served, View, World, filled}
 use Rattle.rk_inv_base.proofs.Words.{handed_by, located, range_in, rests, row_of, row_with, tenure_in, to_coordinator, truths, view}
 use Rattle.rk_inv_base.proofs.Words.{with_all_sent, with_sends}
-use Rattle.rk_inv_wellformed.proofs.maps.Lists.{all_flat}
-use Rattle.rk_inv_events.proofs.Words.{SaysIn, all_by, message_sent, sent, sound_sent}
+use Rattle.rk_inv_events.proofs.Words.{SaysIn, all_by, message_sent, sent, sound_sent, all_flat, by_found}
 
 -- what is handed over for a row is what the parts ask of it
 abbrev pub Hands : View → Row → Handed → Type 0
@@ -41,11 +40,7 @@ module _ (v : View) (from to : Node) (body : Body) where
       → ((row : Row) → Contains v.rows row → SentFits row body × SaysIn v row from to body)
       → LogSays v.logs v.stored from to body × Says v.journal to body × RequestSays v.asked v.journal from body
       → MaySend v (record { from = from; to = to; body = body })
-  may_send none = may_hand (λ row at. of_none (handed_by row v.handovers body) (none row) (Hands v row))
-    where
-      of_none : (o : Option Handed) → o ≡ None → (P : Handed → Type 0) → IfSome o P
-      of_none None is P = tt
-      of_none (Some x) is P = absurd (cc is)
+  may_send none = may_hand (λ row at. rw (none row) tt)
 
 -- a message may be sent, whatever is filled in where it is a reply
 abbrev pub MaySendFilled : View → Message → Type 0
@@ -106,9 +101,7 @@ all_of_each P make things each = all_flat P make things (all_by (λ x. All P (ma
 -- the coordinator answers a look-up of a client where a row has the hash, and takes nothing else that clients send
 pub sound_question : (w : World) (client : ℕ) (body : Body) → IsSound w
     → IsSound (to_coordinator w (record { from = nodes.Client client; to = nodes.Coordinator; body = body })).world
-sound_question w client (bodies.Lookup lookup) sound = by (row_with w.coordinator.rows lookup.table lookup.hash)
-  where
-    by : (row : Option Row) → IsSound (with_sends w (located (nodes.Client client) row)).world
-    by None = sound
-    by (Some row) = sound_sent w _ sound (may_locate (view w) client _)
+sound_question w client (bodies.Lookup lookup) sound =
+    by_found (λ row. IsSound (with_sends w (located (nodes.Client client) row)).world) (row_with w.coordinator.rows lookup.table lookup.hash)
+    (λ none. sound) (λ row is. sound_sent w _ sound (may_locate (view w) client _))
 sound_question w client _ sound = sound

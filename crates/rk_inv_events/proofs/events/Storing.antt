@@ -16,10 +16,11 @@ use Rattle.rk_inv_base.proofs.Words.{IsMaster, IsReadPart, IsSound, IsWellFormed
 use Rattle.rk_inv_base.proofs.Words.{READ_BACKUP, ReadIn, ReadSegment, Rebuilding, Row, Segments, SoundView, View, World, and_from}
 use Rattle.rk_inv_base.proofs.Words.{and_parts, backed_at, backup_at, cases_eq, cases_lt, drop_all, get, get_other, get_same, insert}
 use Rattle.rk_inv_base.proofs.Words.{is_backup, known_of, log_bytes_of, log_in, no_segments, quietly, stored_of, take-append-le, to_backup}
-use Rattle.rk_inv_base.proofs.Words.{view, with_stored_by}
+use Rattle.rk_inv_base.proofs.Words.{view, with_stored_by, cases_Bool}
 use Rattle.rk_inv_base.proofs.logs.BytesStored.{part_taken, sound_stored}
 use Rattle.rk_inv_base.proofs.logs.Logs.{first_part_more}
-use Rattle.rk_inv_events.proofs.Words.{MayStore, first_part_itself, needed_stored, row_in, row_rebuilt, row_said, sound_sent}
+use Rattle.rk_inv_events.proofs.Words.{MayStore, first_part_itself, needed_stored, row_in, row_rebuilt, row_said, sound_sent, by_found}
+use Rattle.rk_inv_events.proofs.Words.{either_way}
 use Rattle.rk_inv_events.proofs.events.Sending.{may_send}
 
 -- ---- bytes that continue others
@@ -80,24 +81,14 @@ none_taken (suc count) = refl
 
 -- bytes are added only where some came
 pub some_came : (at : ℕ) (bytes stored : List ℕ) → added at bytes stored ≢ [] → bytes ≢ []
-some_came at bytes stored some none =
-    some (ap (λ (b : List ℕ). cond (is_accepted at b stored) (drop (length stored - at) b) []) none ∙ none_added (is_accepted at [] stored))
-  where
-    none_added : (accepts : Bool) → cond accepts (drop {A = ℕ} (length stored - at) []) [] ≡ []
-    none_added true = drop_all (length stored - at) [] (omega arith)
-    none_added false = refl
+some_came at bytes stored some none = grind (arith, either_way, drop_all)
 
 -- ---- a backup
 
 -- a backup of the lane is known to each master
 known_by : (w : World) (backup master : ℕ) → IsSound w → is_backup w backup ≡ true → IsMaster w.coordinator.masters master
     → IsBackup (log_in w master) backup
-known_by w backup master sound there sender =
-    let parts = and_parts (nat_le 1 backup) (nat_le backup w.backup_count) there in
-    record {
-      first = leb-true 1 backup parts.0;
-      last = omega (arith, leb-true backup w.backup_count parts.1, sound.nodes.known master sender);
-    }
+known_by w backup master sound there sender = grind (arith, and_parts, nat_le, leb-true)
 
 -- one that stores what it stored changes nothing that is seen
 view_same : (w : World) (backup : ℕ) (segments : Segments) → get w.backups backup ≡ Some segments → view (with_stored_by w backup (λ it. it) (Some segments)) ≡ view w
@@ -114,10 +105,7 @@ view_same w backup segments tells i = record (view w) { stored = λ q. same q i 
 -- a master may be told what a backup stores
 may_tell_stored : (v : View) (backup master segment count : ℕ) → count ≤ length (stored_of v.stored master backup segment)
     → MaySend v (record { from = nodes.Backup backup; to = nodes.Master master; body = bodies.Stored (record { segment = segment; length = count }) })
-may_tell_stored v backup master segment count within =
-    let told = bodies.Stored (record { segment = segment; length = count }) in
-    may_send v (nodes.Backup backup) (nodes.Master master) told (λ row. refl) (tt, tt)
-    (λ row stands. (record { within = tt; below = tt }, tt)) (within, tt, tt)
+may_tell_stored v backup master segment count within = grind (arith, may_send)
 
 -- a backup that tells what it stores takes an Append of a master that is there, which carries bytes of that master's log
 module _ (w : World) (backup master : ℕ) (append : Append) (segments : Segments) (sound : IsSound w) (there : is_backup w backup ≡ true) (sender : IsMaster w.coordinator.masters master) (tells : get w.backups backup ≡ Some segments) (says : IsFromLog (log_in w master) (known_of (log_in w master) backup) append) where
@@ -140,11 +128,7 @@ module _ (w : World) (backup master : ℕ) (append : Append) (segments : Segment
   -- some first part of what is new may be stored
   may_store : (more : List ℕ) → IsFirstPart (stored ++ more) (log_bytes_of w master append.segment) → (more ≢ [] → added append.at append.bytes stored ≢ [])
       → MayStore (view w) master backup append.segment more
-  may_store more goes_on some = record {
-    there = known_there;
-    goes_on = rw sees goes_on;
-    in_order = λ any. says.in_order (some_came append.at append.bytes stored (some any));
-  }
+  may_store more goes_on some = grind (arith, known_there, sees, some_came)
 
   -- what is new of the bytes
   abbrev new : List ℕ
@@ -158,11 +142,7 @@ module _ (w : World) (backup master : ℕ) (append : Append) (segments : Segment
   sound_more more goes_on some = rw tells at (sound_stored w master backup append.segment more sound (may_store more goes_on some))
 
   stores_now : (more : List ℕ) → stored_of (view (world_of more)).stored master backup append.segment ≡ stored ++ more
-  stores_now more = ap (λ (told : Option Segments). bytes_of (unwrap_or told no_segments master append.segment))
-      (get_same w.backups backup (with_more segments master append.segment more) backup refl)
-      ∙ ap (λ (here : Bool). bytes_of (cond here (with_part (segments master append.segment) more) (segments master append.segment)))
-      (and_from (master == master) (append.segment == append.segment) (eq-eqb master master refl)
-      (eq-eqb append.segment append.segment refl)) ∙ part_taken (segments master append.segment) more
+  stores_now more = grind (arith, no_segments, get_same, and_from, eq-eqb, part_taken)
 
   -- where all of them are stored, it tells no more than it stores then
   stored_all : (count : ℕ) → count ≤ length (stored ++ new)
@@ -307,12 +287,9 @@ to_store from backup body = record { from = from; to = nodes.Backup backup; body
 
 -- so a lane stays sound when a backup does nothing
 sound_idle : (w : World) (backup : ℕ) → IsSound w → IsSound (backed_at (with_stored_by w backup (λ segments. segments) (get w.backups backup)) idle).world
-sound_idle w backup sound = by (get w.backups backup) refl
-  where
-    by : (told : Option Segments) → get w.backups backup ≡ told → IsSound (backed_at (with_stored_by w backup (λ segments. segments) told) idle).world
-    by None tells = sound
-    by (Some segments) tells =
-        subst SoundView (sym (view_same w backup segments tells)) sound
+sound_idle w backup sound =
+    by_found (λ told. IsSound (backed_at (with_stored_by w backup (λ segments. segments) told) idle).world) (get w.backups backup)
+    (λ none. sound) (λ segments tells. subst SoundView (sym (view_same w backup segments tells)) sound)
 
 module _ (w : World) (number backup : ℕ) (sound : IsSound w) (formed : IsWellFormed w) (there : is_backup w backup ≡ true) (segments : Segments) (tells : get w.backups backup ≡ Some segments) where
   -- it does nothing with a message of this kind
@@ -336,13 +313,11 @@ module _ (w : World) (number backup : ℕ) (sound : IsSound w) (formed : IsWellF
 pub sound_to_backup : (w : World) (number backup : ℕ) → IsSound w → IsWellFormed w → AllTell w → (from : Node) (body : Body) (fault : Option ℕ)
     → get w.wire.messages number ≡ Some (to_store from backup body)
     → IsSound (to_backup w backup from body (called_by (backup_at w backup) from body fault)).world
-sound_to_backup w number backup sound formed tell from body fault sent = by (is_backup w backup) refl
-  where
-    here : is_backup w backup ≡ true → (told : Option Segments) → get w.backups backup ≡ told → is_some told ≡ true
-        → IsSound (to_backup w backup from body (called_by (unwrap_or told no_segments) from body fault)).world
-    here there None tells some = absurd (cc some)
-    here there (Some segments) tells some = by_sender w number backup sound formed there segments tells from body fault sent
-
-    by : (there : Bool) → is_backup w backup ≡ there → IsSound (to_backup w backup from body (called_by (backup_at w backup) from body fault)).world
-    by false is = rw is sound
-    by true is = here is (get w.backups backup) refl (tell backup is)
+sound_to_backup w number backup sound formed tell from body fault sent = elim (cases_Bool (is_backup w backup)) [
+  | inl there ↦
+      by_found
+      (λ told. is_some told ≡ true → IsSound (to_backup w backup from body (called_by (unwrap_or told no_segments) from body fault)).world)
+      (get w.backups backup) (λ none some. absurd (cc some))
+      (λ segments tells some. by_sender w number backup sound formed there segments tells from body fault sent) (tell backup there)
+  | inr none ↦ rw none sound
+]

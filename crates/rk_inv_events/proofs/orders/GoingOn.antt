@@ -1,9 +1,8 @@
 -- What a rebuild of a living master that goes on leaves: while there is a segment to read nothing changes, and once all is gathered that is
 -- merged, where the log has room.
 use Rattle.std.proofs.Common.{None, Option, Some, [], ap, arith, length, refl, subst, sym, true, ℕ, ◌++◌, ◌<◌, ◌∙◌, ◌∷◌, ◌≡◌}
-use Rattle.rk_transfer.specs.declared.role.Role.TheVariants as roles
 use Rattle.rk_world.specs.Rebuilds.{piece_of}
-use Rattle.rk_inv_base.proofs.Words.{FIRST_SIDE_SEGMENT, Handover, HasRoom, IsSound, Ledger, Master, Merged, Reading, Role, View, Worked}
+use Rattle.rk_inv_base.proofs.Words.{FIRST_SIDE_SEGMENT, Handover, HasRoom, IsSound, Ledger, Master, Merged, Reading, View, Worked}
 use Rattle.rk_inv_base.proofs.Words.{World, as_entries, by_member, carried, changed, cut, get_same, insert, is_gathering, log_bytes, log_in}
 use Rattle.rk_inv_base.proofs.Words.{merge, merging, own_material, own_place, rebuild_merged, rebuilding_on, tablet_at, view, with_all}
 use Rattle.rk_inv_base.proofs.Words.{with_ledger, with_marks, with_master, worked_at}
@@ -31,14 +30,7 @@ few_worked w master seen worked room =
 -- a rebuild without its closing entry takes one
 pub carried_is : (handover : Handover) (place floor : ℕ) → is_gathering handover.role ≡ true
     → carried handover handover.term place floor ≡ Some (as_merged place floor handover)
-carried_is handover place floor gathers =
-    moved_itself handover.term (record handover { counter = floor }) (role_carried place handover.role)
-    (roles.Rebuilding (own_place handover.role) (Some place))
-    (by_role handover.role gathers)
-  where
-    by_role : (role : Role) → is_gathering role ≡ true → role_carried place role ≡ Some (roles.Rebuilding (own_place role) (Some place))
-    by_role (roles.Rebuilding from None) is = refl
-    by_role _ is = absurd (cc is)
+carried_is handover place floor gathers = grind (arith, moved_itself, role_carried, own_place, is_gathering)
 
 -- what a master merges of a tablet, and its handover then
 abbrev pub merges : ℕ → Master → Merged
@@ -72,12 +64,8 @@ module _ (w : World) (master tablet : ℕ) (now : Master) where
   pub gathering_goes_on : (P : World → Type 0) → ComesOf P → is_gathering (tablet_at now tablet).handover.role ≡ true → (reading : Option Reading)
       → P (worked_at w master 0 (changed now)).world → (reading ≡ None → P (rebuild_merged_in before master tablet))
       → P (worked_at w master 0 (rebuilding_on now tablet reading)).world
-  gathering_goes_on P comes is_so (Some reading) stays merges_then = stays
-  gathering_goes_on P comes is_so None stays merges_then =
-      subst (λ (h : Option Handover). P (worked_at w master 0 (merging now tablet (tablet_at now tablet) (merges tablet now) h)).world)
-      (sym
-      (carried_is (tablet_at now tablet).handover (length (with_all now (as_entries (merges tablet now).copies)).log.entries)
-      (merges tablet now).floor is_so)) (comes (subst P world_is (merges_then refl)))
+  gathering_goes_on P comes is_so reading stays merges_then =
+      grind (arith, worked_at, merging, tablet_at, carried_is, with_all, as_entries, world_is)
 
 -- the log has room for what is merged where it has few segments then
 pub merge_room : (w : World) (master tablet : ℕ) → IsSound w → HasFewSegments master (rebuild_merged_in w master tablet)

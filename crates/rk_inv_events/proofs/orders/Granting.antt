@@ -1,12 +1,11 @@
 -- A sound and well formed lane stays sound when a living master takes a Grant: where it waits for the tablet at that term, it has in its log
 -- what its source told, and pulls.
-use Rattle.std.proofs.Common.{Contains, List, None, Option, Some, [], ap, arith, eqb-true, false, not, refl, sym, true, ℕ, ◌==◌, ◌∙◌, ◌∷◌}
+use Rattle.std.proofs.Common.{Contains, List, None, Option, Some, [], ap, arith, eqb-true, false, not, refl, sym, ℕ, ◌==◌, ◌∙◌, ◌∷◌}
 use Rattle.std.proofs.Common.{◌≡◌}
 use Rattle.rk_message.specs.declared.message.Body.TheVariants as bodies
-use Rattle.rk_tablet_map.specs.Phase.{member as member_at}
 use Rattle.rk_transfer.specs.declared.role.Role.TheVariants as roles
 use Rattle.rk_inv_base.proofs.Words.{Grant, GrantAgrees, GrantIn, Handed, Handover, HasSegmentLeft, IsSound, IsWellFormed, Master, Member}
-use Rattle.rk_inv_base.proofs.Words.{Message, Phase, Post, Role, Row, View, World, false≢true, get, granted, granting, has_crashed, in_role}
+use Rattle.rk_inv_base.proofs.Words.{Message, Phase, Role, Row, View, World, false≢true, get, granted, granting, has_crashed, in_role}
 use Rattle.rk_inv_base.proofs.Words.{is_member, is_wanting, lineage_of, log_in, master_at, post_of, to_master, view, worked_at}
 use Rattle.rk_inv_tablets.proofs.grant.Granted.{sound_granted}
 use Rattle.rk_inv_tablets.specs.grant.Moves.{MayGrantFormed}
@@ -14,7 +13,7 @@ use Rattle.rk_inv_tablets.specs.grant.Small.{as_granted, tablet_granted_in}
 use Rattle.rk_inv_events.proofs.Words.{last_member, role_granted, row_said, tablet_granted}
 use Rattle.rk_inv_events.proofs.events.Coordinating.{rows_some}
 use Rattle.rk_inv_events.proofs.events.Duties.{fits_as}
-use Rattle.rk_inv_events.proofs.events.PostsOf.{Fits, HasPost, beside, has_post, invited, last_heir, outside, ready, takes}
+use Rattle.rk_inv_events.proofs.events.PostsOf.{Fits, beside, has_post, invited, last_heir, outside, ready, takes}
 use Rattle.rk_inv_events.proofs.events.RowsApart.{HasRow, has_row}
 use Rattle.rk_inv_events.proofs.events.Working.{let_through, sound_changed, stays, taken}
 use Rattle.rk_inv_events.specs.orders.Orders.{IsOrdered, order_to}
@@ -42,35 +41,13 @@ record IsForSecond (lineage : List Member) (handed : Option Handed) (master : �
   told : handed ≡ Some (record { floor = grant.floor; ends = grant.ends })
 
 for_second : (lineage : List Member) (handed : Option Handed) (master : ℕ) (grant : Grant) → GrantIn lineage handed master grant → IsForSecond lineage handed master grant
-for_second (source ∷ target ∷ []) handed master grant its = record {
-  source = source;
-  target = target;
-  lineage_is = refl;
-  target_is = its.0;
-  source_is = its.1;
-  told = its.2;
-}
-for_second _ handed master grant its = absurd its
+for_second lineage handed master grant its = grind arith
 
 -- the place at which the second of two members waits is that of the lineage
 place_is : (phase : Phase) (source target : Member) (from term own applied : ℕ) → lineage_of phase ≡ source ∷ target ∷ []
     → Fits (post_of phase target.master) (roles.Wanting from) term own applied → from ≡ target.from
-place_is phase source target from term own applied = go (has_post phase target.master)
-  where
-    member : is_member (source ∷ target ∷ []) target.master ≡ true
-    member = last_member (source ∷ target ∷ []) target target.master refl refl
-
-    go : {p : Phase} {post : Post} → HasPost target.master p post → lineage_of p ≡ source ∷ target ∷ []
-        → Fits post (roles.Wanting from) term own applied
-        → from ≡ target.from
-    go (takes other sfrom dfrom) is fits = let same : member_at target.master dfrom ≡ target = cc is in fits.1 ∙ ap (λ (m : Member). m.from) same
-    go (last_heir first last more here) is fits = let same : last ≡ target = cc is in fits.1 ∙ ap (λ (m : Member). m.from) same
-    go (invited other sfrom) is fits = absurd (cc is)
-    go (ready other sfrom dfrom) is fits = absurd (cc is)
-    go (outside lineage none) is fits =
-        absurd (false≢true (sym (none (rw is (omega arith))) ∙ ap (λ (l : List Member). is_member l target.master) is ∙ member))
-    go (beside p none) is fits = absurd (false≢true (sym none ∙ ap (λ (l : List Member). is_member l target.master) is ∙ member))
-    go _ is fits = absurd fits
+place_is phase source target from term own applied =
+    grind (arith, has_post, is_member, last_member, lineage_of, takes, last_heir, invited, ready, outside, false≢true, beside)
 
 -- ---- the order
 

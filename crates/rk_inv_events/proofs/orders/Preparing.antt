@@ -14,8 +14,7 @@ use Rattle.rk_inv_tablets.specs.ready.Small.{as_wanting, others_given_up, prepar
 use Rattle.rk_inv_events.proofs.Words.{MayPrepare, all_by, put_here, row_in, row_ranged, row_said}
 use Rattle.rk_inv_events.proofs.events.RowsApart.{HasRow, has_row}
 use Rattle.rk_inv_events.proofs.events.Working.{sound_sending, stays, stays_sending, taken}
-use Rattle.rk_inv_events.proofs.orders.Greater.{IsAboveAll, above_all}
-use Rattle.rk_inv_events.proofs.orders.Reports.{may_tell_ready}
+use Rattle.rk_inv_events.proofs.orders.Owning.{IsAboveAll, above_all, may_tell_ready}
 use Rattle.rk_inv_events.specs.orders.Orders.{IsOrdered, order_to}
 
 -- a Ready from a master with this number, at this term

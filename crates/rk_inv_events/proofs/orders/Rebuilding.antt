@@ -17,7 +17,7 @@ use Rattle.rk_inv_events.proofs.events.Crashing.{readable}
 use Rattle.rk_inv_events.proofs.events.RowsApart.{HasRow, has_row}
 use Rattle.rk_inv_events.proofs.events.Working.{sound_changed, stays, taken}
 use Rattle.rk_inv_events.proofs.orders.GoingOn.{HasFewSegments, IsSoundWhere, few_worked, gathering_goes_on, merge_room}
-use Rattle.rk_inv_events.proofs.orders.Greater.{IsAboveAll, above_all}
+use Rattle.rk_inv_events.proofs.orders.Owning.{IsAboveAll, above_all}
 use Rattle.rk_inv_events.specs.orders.Orders.{IsOrdered, order_to}
 
 -- a row that is rebuilt by this master, of this lineage

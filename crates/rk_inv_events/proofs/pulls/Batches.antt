@@ -1,6 +1,6 @@
 -- A sound lane stays sound when a Pulled reaches a target that lives: it replays the batch of its token and passes on, and behind the last
 -- batch it seals what it copied.
-use Rattle.std.proofs.Common.{Bool, List, Some, [], ap, arith, cond, eqb-true, false, inl, inr, not, refl, subst, sym, true, ℕ, ◌%◌, ◌&&◌}
+use Rattle.std.proofs.Common.{Bool, List, Some, [], ap, arith, cond, eqb-true, false, inl, not, refl, subst, sym, true, ℕ, ◌%◌, ◌&&◌}
 use Rattle.std.proofs.Common.{◌+◌, ◌<◌, ◌∙◌, ◌∷◌, ◌≡◌}
 use Rattle.std.proofs.lemmas.Nat.{mod_below}
 use Rattle.rk_message.specs.declared.message.Body.TheVariants as bodies
@@ -35,29 +35,12 @@ pub record KeepsTablets (old new : Master) : Type 0 where
   pub sealed : (r : ℕ) → (tablet_at new r).pulling.sealed ≡ (tablet_at old r).pulling.sealed
 
 keeps_then : (a b c : Master) → KeepsTablets a b → KeepsTablets b c → KeepsTablets a c
-keeps_then a b c first later = record {
-  log = later.log ∙ first.log;
-  handover = λ r. later.handover r ∙ first.handover r;
-  sealed = λ r. later.sealed r ∙ first.sealed r;
-}
+keeps_then a b c first later = grind arith
 
 -- so is one where a tablet pulls so, with the sealed segments that it had
 keeps_with : (m : Master) (number : ℕ) (pulling : Pulling) → pulling.sealed ≡ (tablet_at m number).pulling.sealed
     → KeepsTablets m (with_tablet m number (with_pulling (tablet_at m number) pulling))
-keeps_with m number pulling same = record {
-  log = refl;
-  handover = λ r. elim (cases_eq r number) [
-    | inl is ↦ rw is (ap (λ (t : Tablet). t.handover) (tablet_here m number tablet))
-    | inr apart ↦ ap (λ (t : Tablet). t.handover) (tablet_apart m number tablet r apart)
-  ];
-  sealed = λ r. elim (cases_eq r number) [
-    | inl is ↦ rw is (ap (λ (t : Tablet). t.pulling.sealed) (tablet_here m number tablet) ∙ same)
-    | inr apart ↦ ap (λ (t : Tablet). t.pulling.sealed) (tablet_apart m number tablet r apart)
-  ];
-}
-  where
-    tablet : Tablet
-    tablet = with_pulling (tablet_at m number) pulling
+keeps_with m number pulling same = grind (arith, cases_eq, tablet_here, tablet_apart, with_pulling, tablet_at)
 
 keeps_itself : (m : Master) → KeepsTablets m m
 keeps_itself m = record { log = refl; handover = λ r. refl; sealed = λ r. refl }

@@ -1,10 +1,11 @@
 -- What a target makes of a batch of its source: it replays the items and passes on to the next token; behind the last batch it seals what it
 -- copied, and where it copied nothing it appends its closing entry at once.
-use Rattle.std.proofs.Common.{All, Contains, List, None, Option, Some, [], ap, fold, inl, inr, length, refl, subst, sym, true, ℕ, ◌++◌, ◌<◌}
-use Rattle.std.proofs.Common.{◌∙◌, ◌∷◌, ◌≡◌}
+use Rattle.std.proofs.Common.{arith}
+use Rattle.std.proofs.Common.{All, Contains, List, Option, Some, [], ap, fold, inl, inr, length, refl, subst, sym, true, ℕ, ◌++◌, ◌<◌}
+use Rattle.std.proofs.Common.{◌∙◌, ◌≡◌}
 use Rattle.rk_transfer.specs.declared.role.Role.TheVariants as roles
-use Rattle.rk_inv_base.proofs.Words.{All-nil, BATCH_BYTES, Contains-append_cases, Entry, Handover, HasSegmentLeft, Held, IsPulling, IsSound}
-use Rattle.rk_inv_base.proofs.Words.{Master, Member, NumberMap, Range, Row, Tablet, Token, View, World, as_closed, batch_at}
+use Rattle.rk_inv_base.proofs.Words.{All-nil, BATCH_BYTES, Contains-append_cases, Entry, HasSegmentLeft, Held, IsPulling, IsSound}
+use Rattle.rk_inv_base.proofs.Words.{Master, Member, Range, Row, Tablet, Token, View, World, as_closed, batch_at}
 use Rattle.rk_inv_base.proofs.Words.{closing_appended, closing_entry, is_side_stored, joined, joined_entry, joining_at, joining_by, log_in}
 use Rattle.rk_inv_base.proofs.Words.{master_at, meets, member_truth, next_sides, next_token, passed, pulled_all, replay, sealed_sides}
 use Rattle.rk_inv_base.proofs.Words.{sealing, source_items, tablet_at, tablet_in, token_passed, view, with_entry, with_handover}
@@ -15,9 +16,8 @@ use Rattle.rk_inv_tablets.specs.seal.Small.{as_joining, as_sealed, side_lists_se
 use Rattle.rk_inv_events.proofs.Words.{MaySealThere, law_passed, master_same, put_here, role_joined, sound_closing, tablet_here}
 use Rattle.rk_inv_events.proofs.events.Pairs.{insert_twice}
 use Rattle.rk_inv_events.proofs.events.Working.{moved_itself, put_again}
-use Rattle.rk_inv_events.proofs.pulls.Replaying.{found_in, replayed_all, same_source, still_pulls}
-use Rattle.rk_inv_events.proofs.pulls.Scans.{scan_in_order}
-use Rattle.rk_inv_events.proofs.pulls.Targets.{batch_stands, found_there, passed_found, passed_stands}
+use Rattle.rk_inv_events.proofs.pulls.Targets.{batch_stands, found_in, found_there, passed_found, passed_stands, replayed_all, same_source}
+use Rattle.rk_inv_events.proofs.pulls.Targets.{scan_in_order, still_pulls}
 
 -- ---- a batch
 
@@ -125,23 +125,14 @@ module _ (w : World) (sound : IsSound w) (master number : ℕ) (may : MaySealThe
       }))
 
   closes_is : closes joining ≡ closing_appended cut number full (record kept.handover { role = roles.Joining (Some (length cut.log.entries)) })
-  closes_is =
-      let last : Tablet = with_handover full (as_closed (length cut.log.entries) kept.handover) in
-      ap (λ (t : Tablet). closing_appended joining number t (as_closed (length joining.log.entries) t.handover))
-      (tablet_here cut number (with_handover full (as_joining kept.handover)))
-      ∙ ap (λ (tablets : NumberMap Tablet). record cut { tablets = tablets; log = with_entry cut.log (joined_entry full) })
-      (insert_twice cut.tablets number (with_handover full (as_joining kept.handover)) last)
+  closes_is = grind (arith, with_handover, as_closed, closing_appended, tablet_here, with_entry, joined_entry, insert_twice)
 
   joins : (entry : Option ℕ) → joined kept.handover kept.handover.term entry ≡ Some (record kept.handover { role = roles.Joining entry })
   joins entry = moved_itself kept.handover.term kept.handover (role_joined entry kept.handover.role) (roles.Joining entry)
       (ap (role_joined entry) may.may.receiving)
 
   by_numbers : (list : List ℕ) → numbers ≡ list → IsSound (with_master w master (joining_by cut number full list))
-  by_numbers [] none = subst (λ (h : Option Handover). IsSound (with_master w master (closing_entry cut number full h)))
-      (sym (joins (Some (length cut.log.entries))))
-      (subst (λ (m : Master). IsSound (with_master w master m)) closes_is (sound_closes none))
-  by_numbers (segment ∷ more) is = subst (λ (h : Option Handover). IsSound (with_master w master (joining_at cut number full h)))
-      (sym (joins None)) sound_waiting
+  by_numbers list none = grind (arith, with_master, closing_entry, joins, closes_is, sound_closes, joining_at, sound_waiting)
 
   -- a target has pulled all
   pub sound_pulled_all : IsSound (with_master w master (pulled_all own number))

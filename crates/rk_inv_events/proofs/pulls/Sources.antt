@@ -15,7 +15,7 @@ use Rattle.rk_inv_events.proofs.Words.{live_in, role_fits, row_in, row_ranged, r
 use Rattle.rk_inv_events.proofs.events.PostsOf.{Fits, HasPost, beside, first_heir, gave, gives, has_post, invited, only_heir, outside}
 use Rattle.rk_inv_events.proofs.events.Sending.{may_send}
 use Rattle.rk_inv_events.proofs.events.Working.{reached, stays, stays_sending}
-use Rattle.rk_inv_events.proofs.pulls.Scans.{records_scanned}
+use Rattle.rk_inv_events.proofs.pulls.Targets.{records_scanned}
 
 -- ---- the first of two members has all items of the tablet, while it lives and is frozen
 

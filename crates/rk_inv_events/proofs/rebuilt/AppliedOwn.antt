@@ -1,6 +1,7 @@
 -- All that is applied of the own entries of a master that rebuilt a row is what counts of its log once the marks of the tablet are gone.
-use Rattle.std.proofs.Common.{All, Contains, List, Some, [], ap, drop, eq-eqb, eqb, flat_map, fold, le-leb, nat_le, not, refl, slice_get}
-use Rattle.std.proofs.Common.{suc, sym, true, ℕ, ◌++◌, ◌+◌, ◌∙◌, ◌∷◌, ◌≡◌, ◌≤◌}
+use Rattle.std.proofs.Common.{arith}
+use Rattle.std.proofs.Common.{All, Contains, List, Some, [], ap, drop, eq-eqb, eqb, le-leb, nat_le, not, refl, slice_get}
+use Rattle.std.proofs.Common.{suc, sym, true, ℕ, ◌+◌, ◌∙◌, ◌∷◌, ◌≡◌, ◌≤◌}
 use Rattle.rk_tablet_map.specs.Phase.{member as member_at}
 use Rattle.rk_inv_base.proofs.Words.{All-contains, Entry, HasSome, Mark, MarkFits, Row, SoundView, View, Written, and_from, applied_entries}
 use Rattle.rk_inv_base.proofs.Words.{applied_from, counting, false≢true, is_mark_of, is_marked, member_truth, named, named_by, side_entries}
@@ -66,11 +67,4 @@ module _ (v : View) (row : Row) (to place : ℕ) (sound : SoundView v) (has_row 
   }
 
   pub applied_own : applied_from row.range place w ≡ member_truth now.written row.range (member_at to place)
-  applied_own =
-      let free : List Entry = unmarked left_marks place front in
-      let counted : counting row.range front ≡ counting row.range free =
-      ap (counting row.range) (sym (none_marked place front)) ∙ free_counts row.range left_marks [] place front fewer in
-      let names : flat_map (named_by row.range) front ≡ flat_map (named_by row.range) free =
-      ap (flat_map (named_by row.range)) (sym (none_marked place front)) ∙ free_names row.range left_marks [] place front fewer in
-      ap (λ (l : List Entry). l ++ counting row.range (flat_map (side_entries w.sides) (named row.range front))) counted
-      ∙ ap (λ (l : List ℕ). counting row.range free ++ counting row.range (flat_map (side_entries w.sides) (fold with_number [] l))) names
+  applied_own = grind (arith, unmarked, counting, none_marked, free_counts, fewer, named_by, free_names, side_entries, named, with_number)

@@ -4,7 +4,7 @@ use Rattle.std.proofs.Common.{◌&&◌, ◌↔◌, ◌∙◌, ◌≡◌, ◌≤�
 use Rattle.rk_inv_base.proofs.Words.{Any-from_list_any, Held, IsFound, IsInScanOrder, IsPlain, Range, and_parts, bytes_eq-Decides}
 use Rattle.rk_inv_base.proofs.Words.{cases_Bool, copies_of, has_version, is_in, is_of_from, is_of_parts, live, newest, newest_found}
 use Rattle.rk_inv_base.proofs.Words.{newest_is, newest_items, newest_items_are, newest_none, newest_own, record_of}
-use Rattle.rk_inv_events.proofs.Words.{HasBoth, filter_from, filter_stands, plain_fewer, stands_is_found, table_over}
+use Rattle.rk_inv_events.proofs.Words.{HasBoth, filter_from, filter_stands, plain_fewer, stands_is_found, table_over, by_found}
 
 -- an item of the version of one stands among these
 record HasVersion (items : List Held) (item : Held) : Type 0 where
@@ -58,19 +58,17 @@ module _ (own all target : List Held) (plain : IsPlain all) (within : (x : Held)
 
   -- so the newest of each key is the same
   pub newest_same : (table : ℕ) (key : List ℕ) → newest target table key ≡ newest all table key
-  newest_same table key = go (newest all table key) refl
-    where
-      go : (o : Option Held) → newest all table key ≡ o → newest target table key ≡ newest all table key
-      go None none =
-          (newest_none target table key).1 (λ item at. (newest_none all table key).0 none item (in_all item at)) ∙ sym none
-      go (Some x) is =
-          let best = newest_is all table key x is in
-          newest_found target table key x target_plain (record {
-            stands = newest_there table key x is;
-            of_record = best.of_record;
-            greatest = λ other at of. best.greatest other (in_all other at) of;
-          })
-          ∙ sym is
+  newest_same table key =
+      by_found (λ best. newest target table key ≡ best) (newest all table key)
+      (λ none. (newest_none target table key).1 (λ item at. (newest_none all table key).0 none item (in_all item at)))
+      (λ x is.
+      let best = newest_is all table key x is in
+      newest_found target table key x target_plain
+      (record {
+        stands = newest_there table key x is;
+        of_record = best.of_record;
+        greatest = λ other at of. best.greatest other (in_all other at) of;
+      }))
 
   pub live_same : (table : ℕ) (key : List ℕ) → live target table key ≡ live all table key
   live_same table key = ap record_of (newest_same table key)

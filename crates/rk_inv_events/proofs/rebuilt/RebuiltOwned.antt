@@ -1,10 +1,11 @@
 -- The master that rebuilt a row may own it, once the rebuild is told: what it read is the truth of the row and a first part of its rest, and
 -- the ends of the merge make the records of just that part.
-use Rattle.std.proofs.Common.{All, Bool, Contains, IfSome, List, Option, Some, [], ap, append-nil, cond, eqb, false, inl, inr, map, refl}
+use Rattle.std.proofs.Common.{arith}
+use Rattle.std.proofs.Common.{All, Bool, Contains, List, Some, [], ap, append-nil, cond, eqb, false, inl, inr, map, refl}
 use Rattle.std.proofs.Common.{subst, sym, true, ℕ, ◌++◌, ◌∙◌, ◌∷◌, ◌≡◌, ◌≤◌, ◌⊎◌}
 use Rattle.rk_tablet_map.specs.Phase.{member as member_at}
 use Rattle.rk_inv_base.proofs.Words.{All-contains, All-nil, Any-from_list_any, Carried, Completions, Contains-append_cases}
-use Rattle.rk_inv_base.proofs.Words.{Contains-append_left, Contains-append_right, Ended, Entry, Gather, HasSome, Held, IsKnown, IsLastCall}
+use Rattle.rk_inv_base.proofs.Words.{Contains-append_left, Contains-append_right, Ended, Entry, Gather, HasSome, Held, IsKnown}
 use Rattle.rk_inv_base.proofs.Words.{IsRebuildTable, IsTableOf, LastCall, MayTakeRebuilt, Member, Merged, Owned, Phase, Placed, ReachAll}
 use Rattle.rk_inv_base.proofs.Words.{Rebuilding, Role, Row, RowIsRebuilt, SoundView, View, applied_from, as_entries, by_member, call_ends}
 use Rattle.rk_inv_base.proofs.Words.{closing_carried, completions_from, cond-true, ends_of, first_stands, flat_map-append, is_of_lineage}
@@ -92,10 +93,7 @@ module _ (v : View) (row : Row) (lineage : List Member) (to place : ℕ) (ends :
   -- ---- the part is served
 
   own_last : (client : ℕ) (last : LastCall) → v.asked client ≡ Some last → last.call.client ≡ client
-  own_last client last is =
-      let its : IsLastCall v.base v.lane client last =
-      subst (λ (o : Option LastCall). IfSome o (IsLastCall v.base v.lane client)) is (sound.asked.last client) in
-      its.own
+  own_last client last is = grind arith
 
   pub part_served : IsServed v.base row.range v.asked whole back.left (v.journal ++ made)
   part_served = all_served v.base row.range v.asked own_last (truths v row) back.part back.left v.journal

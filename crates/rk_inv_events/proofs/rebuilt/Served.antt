@@ -324,18 +324,4 @@ module _ (base : Base) (range : Range) (asked : ℕ → Option LastCall) where
 
   -- what is left of a rest is dropped
   pub nothing_left : (truth left : List Entry) (journal : List Placed) → IsServed truth left journal → Tells truth [] journal
-  nothing_left truth left journal was = record {
-    leaves = was.history.leaves;
-    above = tt;
-    ends = was.history.ends;
-    known = was.history.known;
-    low = was.history.low;
-    goes_on = record {
-      legal = rw (append-nil journal) was.legal;
-      live = λ table key inside.
-          ap (λ (l : List Entry). live_items (items_of l) table key) (append-nil truth) ∙ was.history.leaves.live table key inside
-          ∙ ap (λ (j : List Placed). map_record_of (map_after (base_map base) j table key)) (sym (append-nil journal));
-      staged = All-nil (IsStaged base asked journal);
-      one = λ i j d before within. absurd (omega (arith, within));
-    };
-  }
+  nothing_left truth left journal was = grind (arith, append-nil, items_of, map_after, base_map)

@@ -1,21 +1,24 @@
 -- A sound lane stays sound when the coordinator takes a Ready, a Transfer or a Joined. A report does nothing unless it speaks of a row at that
 -- row's term.
-use Rattle.std.proofs.Common.{Bool, Contains, IfSome, List, None, Option, Some, [], ap, cond, eq-eqb, eqb-true, false, inr, ne_eqb, refl}
-use Rattle.std.proofs.Common.{subst, sym, true, ℕ, ◌&&◌, ◌==◌, ◌∙◌, ◌∷◌, ◌≡◌, ◌≢◌}
+use Rattle.std.proofs.Common.{arith}
+use Rattle.std.proofs.Common.{Bool, Contains, IfSome, List, None, Option, Some, [], ap, cond, eq-eqb, eqb-true, ne_eqb, refl, subst}
+use Rattle.std.proofs.Common.{sym, true, ℕ, ◌&&◌, ◌==◌, ◌∙◌, ◌∷◌, ◌≡◌, ◌≢◌}
 use Rattle.rk_message.specs.declared.message.Body.TheVariants as bodies
 use Rattle.rk_transfer.specs.declared.role.Role.TheVariants as roles
 use Rattle.rk_types.specs.declared.node.Node.TheVariants as nodes
-use Rattle.rk_inv_base.proofs.Words.{All-cons, All-contains, AreHandedOver, Body, Bystander, Coordinated, Handed, HasSome, Holds, IsOf}
-use Rattle.rk_inv_base.proofs.Words.{IsSound, IsWellFormed, JoinedIn, MaySend, Message, Moving, Opening, OpeningSource, Owned, Phase, Ready}
+use Rattle.rk_inv_base.proofs.Words.{All-cons, All-contains, AreHandedOver, Body, Coordinated, Handed, HasSome, Holds, IsOf}
+use Rattle.rk_inv_base.proofs.Words.{IsSound, IsWellFormed, JoinedIn, MaySend, Message, Moving, Opening, Owned, Phase, Ready}
 use Rattle.rk_inv_base.proofs.Words.{ReadyIn, ReadyTarget, Role, Row, SoundView, Tenure, Transfer, TransferIn, View, World, about, and_from}
 use Rattle.rk_inv_base.proofs.Words.{answered, at_term, bond_of, changed_rows, ends_of, get, is_noticed, is_opening, joined_in, number_of}
 use Rattle.rk_inv_base.proofs.Words.{own_to, place_noted, post_of, ready_in, release_to, report, row_at, row_for, row_moved, row_of}
 use Rattle.rk_inv_base.proofs.Words.{row_owned, transfer_in, unanswered, view, with_coordinator, with_ledger, with_rebuilt, with_sends}
+use Rattle.rk_inv_base.proofs.Words.{cond_both}
 use Rattle.rk_inv_base.proofs.rows.PlaceNoted.{sound_noted}
 use Rattle.rk_inv_base.proofs.rows.TurnedRows.{new_stands}
 use Rattle.rk_inv_rows.proofs.lineage.JoinedTaken.{sound_joined_taken}
 use Rattle.rk_inv_rows.proofs.lineage.RowMoved.{sound_moved}
-use Rattle.rk_inv_events.proofs.Words.{IsWaitingFor, SaysIn, found_stands, role_fits, row_formed, row_in, row_owned_in, row_said}
+use Rattle.rk_inv_events.proofs.Words.{IsWaitingFor, SaysIn, found_stands, role_fits, row_formed, row_in, row_owned_in, row_said, by_found}
+use Rattle.rk_inv_events.proofs.Words.{either_way}
 use Rattle.rk_inv_events.proofs.events.Coordinating.{rows_some}
 use Rattle.rk_inv_events.proofs.events.CoordinatorTurn.{may_own, may_release}
 use Rattle.rk_inv_events.proofs.events.Sending.{one_sent, sound_all_sent}
@@ -35,30 +38,25 @@ pub record IsAbout (w : World) (tenure : Tenure) (row : Row) : Type 0 where
 pub sound_about : (w : World) (sender : ℕ) (tenure : Tenure) (taken : Row → Coordinated) → IsSound w
     → ((row : Row) → IsAbout w tenure row → IsSound (coordinated w (taken row)))
     → IsSound (coordinated w (about w.coordinator taken (row_for w.coordinator sender tenure)))
-sound_about w sender tenure taken sound by_row = go (is_noticed w.coordinator sender) (row_of w.coordinator.rows tenure.tablet) refl
-  where
-    by_term : (row : Row) → row_of w.coordinator.rows tenure.tablet ≡ Some row → (same : Bool) → (row.term == tenure.term) ≡ same
-        → IsSound (coordinated w (about w.coordinator taken (cond same (Some row) None)))
-    by_term row is true same =
-        let number : row.tablet ≡ tenure.tablet = number_of w.coordinator.rows tenure.tablet row is in
-        by_row row (record {
-          stands = found_stands w.coordinator.rows tenure.tablet row is;
-          its = record { tablet = sym number; term = sym (eqb-true row.term tenure.term same) };
-          found = subst (λ (n : ℕ). row_of w.coordinator.rows n ≡ Some row) (sym number) is;
-        })
-    by_term row is false same = sound
-
-    go : (noticed : Bool) (found : Option Row) → row_of w.coordinator.rows tenure.tablet ≡ found
-        → IsSound (coordinated w (about w.coordinator taken (cond noticed None (at_term tenure found))))
-    go true found is = sound
-    go false None is = sound
-    go false (Some row) is = by_term row is (row.term == tenure.term) refl
+sound_about w sender tenure taken sound by_row =
+    let Takes : Option Row → Type 0 = λ row. IsSound (coordinated w (about w.coordinator taken row)) in
+    either_way Takes (is_noticed w.coordinator sender) sound
+    (by_found (λ found. Takes (at_term tenure found)) (row_of w.coordinator.rows tenure.tablet) (λ none. sound)
+    (λ row is.
+    cond_both (row.term == tenure.term) (Some row) None Takes
+    (λ same.
+    let number : row.tablet ≡ tenure.tablet = number_of w.coordinator.rows tenure.tablet row is in
+    by_row row
+    (record {
+      stands = found_stands w.coordinator.rows tenure.tablet row is;
+      its = record { tablet = sym number; term = sym (eqb-true row.term tenure.term same) };
+      found = subst (λ (n : ℕ). row_of w.coordinator.rows n ≡ Some row) (sym number) is;
+    })) (λ other. sound)))
 
 -- a report counts only where it comes from the master that the row waits for
 only_from : (w : World) (taken : Coordinated) (own : Bool) → IsSound w → IsSound (coordinated w taken)
     → IsSound (coordinated w (cond own taken (unanswered w.coordinator)))
-only_from w taken false sound does = sound
-only_from w taken true sound does = does
+only_from w taken own sound does = either_way (λ made. IsSound (coordinated w made)) own does sound
 
 -- an owner is told once more
 pub told_owner : (w : World) (row : Row) → IsSound w → Contains w.coordinator.rows row → (owner from : ℕ) → row.phase ≡ Owned owner from
@@ -84,19 +82,10 @@ module _ (v : View) (row : Row) (sound : SoundView v) (stands : Contains v.rows 
   waits_term = rw is at (row_in v sound row stands).at_term
 
   ready_post : post_of row.phase target ≡ ReadyTarget dfrom
-  ready_post = ap (λ (phase : Phase). post_of phase target) is
-      ∙ ap (λ (b : Bool). cond b OpeningSource (cond (target == target) (ReadyTarget dfrom) Bystander))
-      (ne_eqb source target (rw is at (row_formed v sound row stands)))
-      ∙ ap (λ (b : Bool). cond b (ReadyTarget dfrom) Bystander) (eq-eqb target target refl)
+  ready_post = grind (arith, post_of, ne_eqb, row_formed, eq-eqb)
 
   waits : IsWaitingFor v row target dfrom
-  waits =
-      let fits = role_fits v sound row stands target (inr waits_term) in
-      record {
-        role_is = ready_waits (v.handovers target row.tablet).role dfrom row.term (v.handovers target row.tablet).term
-            (v.written target).applied (rw ready_post at fits);
-        term_is = waits_term;
-      }
+  waits = grind (arith, role_fits, waits_term, ready_waits, ready_post)
 
 -- ---- reports
 

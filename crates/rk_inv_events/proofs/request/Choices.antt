@@ -1,4 +1,5 @@
 -- What a master found, by what it chose to do with a call.
+use Rattle.std.proofs.Common.{arith}
 use Rattle.std.proofs.Common.{Bool, None, Option, Some, ap, cond, false, is_some, not, refl, subst, sym, true, ℕ, ◌&&◌, ◌==◌, ◌∙◌, ◌≡◌}
 use Rattle.rk_done.specs.declared.completion.Look.{Look}
 use Rattle.rk_done.specs.declared.completion.Look.TheVariants as looks
@@ -70,18 +71,7 @@ module _ (number : ℕ) (tablet : Tablet) (call : Call) (state : Option Held) wh
 
   -- it is a choice of fresh calls
   is_of_fresh : IsOfFresh (fresh_choice number tablet call state)
-  is_of_fresh = go fresh_is
-    where
-      staged : (choice : Choice) → (StagesNothing choice → ⊥) → IsOfFresh choice
-      staged Redirects never = never tt
-      staged (Repeats end) never = never tt
-      staged Ignores never = never tt
-      staged _ never = tt
-
-      go : {choice : Choice} → Is choice → IsOfFresh choice
-      go (wants needs unknown) = tt
-      go (finds op known) = tt
-      go (stages choice mutates never) = staged choice never
+  is_of_fresh = grind (arith, fresh_is)
 
   -- what a call that is put off lacks
   pub record IsUnknown (other : ℕ) : Type 0 where
@@ -90,12 +80,7 @@ module _ (number : ℕ) (tablet : Tablet) (call : Call) (state : Option Held) wh
     pub unknown : is_known tablet (hash_of call.key) state ≡ false
 
   pub put_off : (other : ℕ) → fresh_choice number tablet call state ≡ Wants other → IsUnknown other
-  put_off other = go fresh_is
-    where
-      go : {choice : Choice} → Is choice → choice ≡ Wants other → IsUnknown other
-      go (wants needs unknown) is = record { same = cc is; needs = needs; unknown = unknown }
-      go (finds op known) is = absurd (cc is)
-      go (stages choice mutates never) is = absurd (never (subst StagesNothing (sym is) tt))
+  put_off other = grind (arith, fresh_is)
 
   -- a get of which all is known tells what was found
   pub record IsRead (outcome : Outcome) : Type 0 where
@@ -104,21 +89,11 @@ module _ (number : ℕ) (tablet : Tablet) (call : Call) (state : Option Held) wh
     pub outcome_is : outcome ≡ read_of (record_of state)
 
   pub reads : (outcome : Outcome) → fresh_choice number tablet call state ≡ Reads outcome → IsRead outcome
-  reads outcome = go fresh_is
-    where
-      go : {choice : Choice} → Is choice → choice ≡ Reads outcome → IsRead outcome
-      go (wants needs unknown) is = absurd (cc is)
-      go (finds op known) is = let same : read_of (record_of state) ≡ outcome = cc is in record { op_is = op; known = known; outcome_is = sym same }
-      go (stages choice mutates never) is = absurd (never (subst StagesNothing (sym is) tt))
+  reads outcome = grind (arith, fresh_is, record_of)
 
   -- only a mutation is staged
   pub staging_mutates : (choice : Choice) → fresh_choice number tablet call state ≡ choice → (StagesNothing choice → ⊥) → is_mutation call.op ≡ true
-  staging_mutates choice = go fresh_is
-    where
-      go : {made : Choice} → Is made → made ≡ choice → (StagesNothing choice → ⊥) → is_mutation call.op ≡ true
-      go (wants needs unknown) is stages_it = absurd (stages_it (subst StagesNothing is tt))
-      go (finds op known) is stages_it = absurd (stages_it (subst StagesNothing is tt))
-      go (stages made mutates never) is stages_it = mutates
+  staging_mutates choice = grind (arith, fresh_is, is_mutation)
 
 -- ---- what was chosen
 
@@ -193,10 +168,4 @@ fresh master call choice of_fresh = go (chose master call)
 
 -- a call is redirected where no tablet serves its key
 pub redirected : (master : Master) (call : Call) → choice_of master call ≡ Redirects → serving master call.table call.key ≡ None
-redirected master call = go (chose master call)
-  where
-    go : {made : Choice} → Chose master call made → made ≡ Redirects → serving master call.table call.key ≡ None
-    go (redirects none) is = none
-    go ignores is = absurd (cc is)
-    go (repeated end its) is = absurd (cc is)
-    go (as_fresh made its) is = absurd (subst IsOfFresh (its.choice_is ∙ is) (is_of_fresh its.number its.tablet call (state_of master call)))
+redirected master call = grind (arith, chose, serving, is_of_fresh, state_of)

@@ -6,8 +6,7 @@ use Rattle.rk_inv_base.proofs.Words.{Handover, IsFormed, IsInOrder, IsMaster, Is
 use Rattle.rk_inv_base.proofs.Words.{OnlyRebuilder, OpeningSource, Owner, Phase, Post, Range, Role, Tablet, World, and_parts, get}
 use Rattle.rk_inv_base.proofs.Words.{has_all_items, has_key, is_granted, is_serving, last_of, lineage_of, master_at, no_tablet, post_of}
 use Rattle.rk_inv_base.proofs.Words.{IsSound, lives, serving, tablet_in, view}
-use Rattle.rk_inv_wellformed.proofs.maps.Lists.{find_passes}
-use Rattle.rk_inv_events.proofs.Words.{IsServed, SoundRow, find_is_got, last_member, master_of, present, row_in, serves_key}
+use Rattle.rk_inv_events.proofs.Words.{IsServed, SoundRow, find_is_got, last_member, master_of, present, row_in, serves_key, find_passes}
 use Rattle.rk_inv_events.proofs.events.PostsOf.{Fits, HasPost, Serves, gives, has_post, last_heir, only_heir, owns, serves_in, takes}
 use Rattle.rk_inv_events.proofs.events.RowsApart.{has_row}
 

@@ -56,13 +56,7 @@ module _ (master : Master) (pulled : Pulled) where
 
   -- the side segments that it has then
   sides_then : length (pulled_all passed pulled.tenure.tablet).log.sides ≡ length master.log.sides + length pieces
-  sides_then =
-      let sealed = sealing passed tablet (tablet_at passed tablet) in
-      let cut = sealed_sides (tablet_at passed tablet).pulling.sides in
-      ap (λ (sides : List (List ℕ)). length sides)
-      (joined_sides sealed tablet (tablet_at sealed tablet) (tablet_at sealed tablet).pulling.sealed) ∙ pieces_counted cut passed
-      ∙ ap (λ (list : List (List Held)). length passed.log.sides + length list) same_pieces
-      ∙ ap (λ log. length log.sides + length pieces) (keeps_all tablet _ master (items_of pulled.entries)).log
+  sides_then = grind (arith, sealing, tablet_at, sealed_sides, joined_sides, pieces_counted, same_pieces, keeps_all, items_of)
 
   pub sides_behind : is_token pulled.next end ≡ true → length (batch_taken master pulled.tenure.tablet pulled).log.sides ≡ length master.log.sides + length pieces
   sides_behind last = ap (λ (b : Bool). length (cond b (pulled_all passed tablet) passed).log.sides) last ∙ sides_then

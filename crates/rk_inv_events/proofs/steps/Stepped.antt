@@ -1,14 +1,14 @@
 -- A sound lane stays sound at each event that may happen there: a delivery, by who receives the message, living or crashed, and any other
 -- event.
-use Rattle.std.proofs.Common.{Bool, None, Option, Some, arith, cond, false, refl, subst, sym, true, ℕ, ◌&&◌, ◌≡◌}
+use Rattle.std.proofs.Common.{Bool, None, Option, Some, arith, cond, false, refl, subst, sym, true, ℕ, ◌&&◌, ◌≡◌, inl, inr}
 use Rattle.rk_message.specs.declared.message.Body.TheVariants as bodies
 use Rattle.rk_types.specs.declared.node.Node.TheVariants as nodes
 use Rattle.rk_world.specs.declared.error.StepError.TheVariants as errors
 use Rattle.rk_world.specs.declared.event.Event.TheVariants as events
 use Rattle.rk_inv_base.proofs.Words.{Body, Called, Event, Gave, HasRoom, IsSound, IsWellFormed, Master, Message, Node, Pulled, Request}
-use Rattle.rk_inv_base.proofs.Words.{Stepped, World, batch_taken, changed, delivered, delivered_to, get, happened, has_crashed}
-use Rattle.rk_inv_base.proofs.Words.{is_receiving_at, is_token, losing, master_at, master_step, pulled_taken, seen_in, tablet_in, to_backup}
-use Rattle.rk_inv_base.proofs.Words.{to_coordinator, to_master, view, worked_at}
+use Rattle.rk_inv_base.proofs.Words.{Stepped, World, batch_taken, cases_Bool, changed, delivered, delivered_to, get, happened, has_crashed}
+use Rattle.rk_inv_base.proofs.Words.{is_receiving_at, is_token, losing, master_at, pulled_taken, tablet_in, to_backup, to_coordinator}
+use Rattle.rk_inv_base.proofs.Words.{to_master, view, worked_at}
 use Rattle.rk_inv_base.proofs.wire.Forgotten.{sound_forgotten}
 use Rattle.rk_inv_wellformed.proofs.lanes.Events.{does_not_hold, has_no_fault}
 use Rattle.rk_inv_wellformed.proofs.lanes.Whole.{formed_event}
@@ -25,7 +25,7 @@ use Rattle.rk_inv_events.proofs.orders.Granting.{sound_grant}
 use Rattle.rk_inv_events.proofs.orders.Owning.{sound_close, sound_own, sound_release}
 use Rattle.rk_inv_events.proofs.orders.Preparing.{sound_prepare}
 use Rattle.rk_inv_events.proofs.orders.Rebuilding.{sound_rebuild}
-use Rattle.rk_inv_events.proofs.pulls.Answered.{sound_got}
+use Rattle.rk_inv_events.proofs.pulls.Targets.{sound_got}
 use Rattle.rk_inv_events.proofs.pulls.Batches.{sound_pulled}
 use Rattle.rk_inv_events.proofs.pulls.Sources.{sound_pull, sound_want}
 use Rattle.rk_inv_events.proofs.rebuilt.Told.{sound_rebuilt_delivered}
@@ -96,15 +96,12 @@ module _ (w : World) (number master : ℕ) (sound : IsSound w) (formed : IsWellF
 
       of_pulled : StandsFrom (nodes.Master sender) (bodies.Pulled pulled) → After IsWellFormed (nodes.Master sender) (bodies.Pulled pulled)
           → After HasRoom (nodes.Master sender) (bodies.Pulled pulled) → After IsSound (nodes.Master sender) (bodies.Pulled pulled)
-      of_pulled sent after fits = by takes refl
-        where
-          by : (test : Bool) → takes ≡ test → After IsSound (nodes.Master sender) (bodies.Pulled pulled)
-          by true is =
-              sound_pulled w number sender master pulled sound formed lives sent
-              (may_seal_behind w master pulled formed room there (once_taken IsWellFormed is after) (once_taken HasRoom is fits))
-          by false is =
-              reached w master 0 (pulled_taken own pulled) lives
-              (subst (taking IsSound) (sym is) (stays w master 0 sound))
+      of_pulled sent after fits = elim (cases_Bool takes) [
+        | inl is ↦
+            sound_pulled w number sender master pulled sound formed lives sent
+            (may_seal_behind w master pulled formed room there (once_taken IsWellFormed is after) (once_taken HasRoom is fits))
+        | inr is ↦ reached w master 0 (pulled_taken own pulled) lives (subst (taking IsSound) (sym is) (stays w master 0 sound))
+      ]
 
     of_peer : (sender : ℕ) (body : Body) → StandsFrom (nodes.Master sender) body → After IsWellFormed (nodes.Master sender) body → After HasRoom (nodes.Master sender) body
         → After IsSound (nodes.Master sender) body
@@ -133,14 +130,10 @@ module _ (w : World) (number master : ℕ) (sound : IsSound w) (formed : IsWellF
   pub sound_to_master : (from : Node) (body : Body) → get w.wire.messages number ≡ Some (to_one from master body)
       → IsWellFormed (to_master w master (to_one from master body)).world → HasRoom (to_master w master (to_one from master body)).world
       → IsSound (to_master w master (to_one from master body)).world
-  sound_to_master from body sent after fits = by (has_crashed w master) refl
-    where
-      by : (crashed : Bool) → has_crashed w master ≡ crashed → IsSound (to_master w master (to_one from master body)).world
-      by false is = living is from body sent after fits
-      by true is =
-          subst
-          (λ (crashed : Bool). IsSound (cond crashed (losing w) (worked_at w master (seen_in body) (master_step own (to_one from master body)))).world)
-          (sym is) sound
+  sound_to_master from body sent after fits = elim (cases_Bool (has_crashed w master)) [
+    | inl crashed ↦ rw crashed sound
+    | inr lives ↦ living lives from body sent after fits
+  ]
 
 -- ---- the coordinator receives one
 

@@ -1,42 +1,121 @@
 -- A sound and well formed lane stays sound when a master that lives takes its turn: it asks for batches, and sends messages alone, each of
 -- which may be sent.
-use Rattle.std.proofs.Common.{All, List, None, Option, Some, [], ap, false, length, ltb-true, nat_lt, not, refl, subst, sym, true}
-use Rattle.std.proofs.Common.{unwrap_or, ℕ, ◌<◌, ◌∙◌, ◌∷◌, ◌≡◌}
+use Rattle.std.proofs.Common.{arith}
+use Rattle.std.proofs.Common.{All, List, None, Option, Some, [], ap, append-nil, false, length, ltb-true, map, nat_lt, not, refl, subst}
+use Rattle.std.proofs.Common.{sym, true, unwrap_or, ℕ, ◌++◌, ◌<◌, ◌∙◌, ◌∷◌, ◌≡◌}
 use Rattle.rk_message.specs.declared.message.Body.TheVariants as bodies
 use Rattle.rk_transfer.specs.declared.role.Role.TheVariants as roles
 use Rattle.rk_types.specs.declared.node.Node.TheVariants as nodes
 use Rattle.rk_world.specs.MasterTurn.{batch_asked, joined_duty, pull_of, rebuilt_duty, receiving_duty, tenure_at, want_of}
-use Rattle.rk_inv_base.proofs.Words.{All-append, All-cons, All-contains, All-head, All-nil, All-tail, All-weaker, Body, FIRST_SIDE_SEGMENT}
-use Rattle.rk_inv_base.proofs.Words.{IsInOrder, IsSound, IsWellFormed, Master, MaySend, Message, Node, NumberMap, Reading, Role, Tablet}
-use Rattle.rk_inv_base.proofs.Words.{View, Worked, World, appends, changed, cond_both, cut, duties, filled, from_master, get, get_other}
-use Rattle.rk_inv_base.proofs.Words.{has_crashed, log_in, master_at, master_turn, next_reading, no_tablet, reading_duty, sending, tablet_at}
-use Rattle.rk_inv_base.proofs.Words.{tablet_duty, tablet_in, turned, view, with_outstanding}
-use Rattle.rk_inv_events.proofs.Words.{all_in, order_tail}
+use Rattle.rk_world.specs.Worked.{then_works}
+use Rattle.rk_inv_base.proofs.Words.{All-append, All-cons, All-head, All-map, All-nil, All-tail, All-weaker, Body}
+use Rattle.rk_inv_base.proofs.Words.{FIRST_SIDE_SEGMENT, IsInOrder, IsSound, IsWellFormed, Ledger, Mark, Master, MaySend, Message, Node}
+use Rattle.rk_inv_base.proofs.Words.{NumberMap, Pulling, Role, Served, Tablet, View, Worked, World, appends, changed, cond_both, cut}
+use Rattle.rk_inv_base.proofs.Words.{duties, filled, from_master, get, get_other, has_crashed, ledger_after, log_in, master_at, master_turn}
+use Rattle.rk_inv_base.proofs.Words.{next_reading, no_tablet, put2, reading_duty, sending, tablet_at, tablet_duty, tablet_in, turned, view}
+use Rattle.rk_inv_base.proofs.Words.{with_all_sent, with_all_served, with_ledger, with_marks, with_master, with_outstanding, worked_at}
+use Rattle.rk_inv_base.proofs.pulls.HashWanted.{sound_asked_for}
+use Rattle.rk_inv_events.proofs.Words.{all_in, asking_batch, batch_asked_in, by_found, either_way, order_tail, view_pulled}
+use Rattle.rk_inv_events.proofs.events.Sending.{MaySendFilled, sound_all_sent}
+use Rattle.rk_inv_events.proofs.events.Working.{put_again, sound_unchanged, view_unchanged}
 use Rattle.rk_inv_events.proofs.events.Appends.{each_append, may_append}
 use Rattle.rk_inv_events.proofs.events.Duties.{may_pull, may_read_segment, may_tell_joined, may_tell_rebuilt, may_want}
 use Rattle.rk_inv_events.proofs.events.Pairs.{each_found, others_apart}
-use Rattle.rk_inv_events.proofs.events.Sending.{MaySendFilled}
-use Rattle.rk_inv_events.proofs.events.Working.{sound_unchanged, view_unchanged}
-use Rattle.rk_inv_events.proofs.turn.Sending.{IsSoundPulling, OnlySends, may_send_pulling, sends_none, sends_one, sends_then}
-use Rattle.rk_inv_events.proofs.turn.Sending.{sound_batch_asked, sound_sends}
 use Rattle.rk_inv_events.proofs.events.Coordinating.{tablets_order}
+
+-- ---- Work of a master that sends messages alone: it serves no call and marks no piece, and none of its messages is a reply. A sound lane
+-- stays sound where a master does such work. So it does where a master asks for batches on its turn, which changes what is pulled alone.
+
+-- work that sends messages alone
+pub record OnlySends (v : View) (worked : Worked) : Type 0 where
+  pub sends : All (MaySendFilled v) worked.sends
+  pub served : worked.served ≡ []
+  pub marked : worked.marked ≡ []
+
+-- nothing is sent
+pub sends_none : (v : View) (master : Master) → OnlySends v (changed master)
+sends_none v master = record { sends = All-nil (MaySendFilled v); served = refl; marked = refl }
+
+-- a message is sent
+pub sends_one : (v : View) (master : Master) (message : Message) → MaySendFilled v message → OnlySends v (sending master message)
+sends_one v master message may =
+    record { sends = All-cons (MaySendFilled v) message [] may (All-nil (MaySendFilled v)); served = refl; marked = refl }
+
+-- so does work that goes on after such work
+pub sends_then : (v : View) (first : Worked) (next : Master → Worked) → OnlySends v first → OnlySends v (next first.master) → OnlySends v (then_works first next)
+sends_then v first next before later =
+    let after = next first.master in
+    record {
+      sends = All-append (MaySendFilled v) first.sends after.sends before.sends later.sends;
+      served = (λ i. before.served i ++ later.served i);
+      marked = (λ i. before.marked i ++ later.marked i);
+    }
+
+module _ (w : World) (master seen : ℕ) (worked : Worked) (only : OnlySends (view (with_master w master worked.master)) worked) where
+  -- the ledger stays as it is
+  ledger_is : ledger_after w.ledger master seen worked ≡ w.ledger
+  ledger_is = ap (λ (served : List Served). with_marks (with_all_served seen w.ledger served) worked.marked) only.served
+      ∙ ap (λ (marked : List Mark). with_marks w.ledger marked) only.marked
+      ∙ ap (λ (marks : List Mark). record w.ledger { marks = marks }) (append-nil w.ledger.marks)
+
+  -- a lane that is sound with the master after such work is sound once its messages are sent
+  pub sound_sends : IsSound (with_master w master worked.master) → IsSound (worked_at w master seen worked).world
+  sound_sends sound =
+      let now = with_master w master worked.master in
+      let ledger = ledger_after w.ledger master seen worked in
+      let sends : List Message = map (filled ledger.journal worked.served) worked.sends in
+      subst (λ (l : Ledger). IsSound (with_all_sent (with_ledger now l) sends)) (sym ledger_is)
+      (sound_all_sent now sends sound
+      (All-map (MaySend (view now)) (filled ledger.journal worked.served) worked.sends
+      (All-weaker (MaySendFilled (view now)) (λ message. MaySend (view now) (filled ledger.journal worked.served message))
+      (λ message may. may ledger.journal worked.served) worked.sends only.sends)))
+
+-- ---- what is pulled
+
+-- a view where this is pulled
+abbrev pub with_pullings : View → (ℕ → ℕ → Pulling) → View
+with_pullings v pullings = record v { pullings = pullings }
+
+-- what may be sent does not depend on what is pulled
+pub may_send_pulling : (v : View) (pullings : ℕ → ℕ → Pulling) (message : Message) → MaySend v message → MaySend (with_pullings v pullings) message
+may_send_pulling v pullings message may = assumption may
+
+-- a lane is sound with this master, which differs from the one that it has in what it pulls alone
+pub record IsSoundPulling (w : World) (master : ℕ) (now : Master) : Type 0 where
+  pub sound : IsSound (with_master w master now)
+  pub pullings : ℕ → ℕ → Pulling
+  pub view_is : view (with_master w master now) ≡ with_pullings (view w) pullings
+
+module _ (w : World) (master : ℕ) (now : Master) (number : ℕ) (tablet : Tablet) (its : tablet_at now number ≡ tablet) (so_far : IsSoundPulling w master now) where
+  -- the lane with the master so far
+  abbrev before : World
+  before = with_master w master now
+
+  world_is : batch_asked_in before master number ≡ with_master w master (batch_asked now number tablet)
+  world_is = put_again w master now (λ m. batch_asked m number (tablet_at m number))
+      ∙ ap (λ (t : Tablet). with_master w master (batch_asked now number t)) its
+
+  -- a batch of the wanted hashes is asked for
+  pub sound_batch_asked : IsSoundPulling w master (batch_asked now number tablet)
+  sound_batch_asked =
+      let asked : Pulling = asking_batch ((view before).pullings master number) in
+      let pullings : ℕ → ℕ → Pulling = put2 (view before).pullings master number asked in
+      record {
+        sound = subst IsSound world_is (sound_asked_for before master number so_far.sound);
+        pullings = pullings;
+        view_is =
+            ap view (sym world_is) ∙ view_pulled before master number asked ∙ ap (λ (v : View). with_pullings v pullings) so_far.view_is;
+      }
+
+-- ---- A sound and well formed lane stays sound when a master that lives takes its turn: it asks for batches, and sends messages alone,
+-- each of which may be sent.
 
 -- ---- what it asks for changes what is pulled alone
 
 -- a duty leaves the master as it is, or asks for a batch
 module _ (P : Master → Type 0) (now : Master) (number : ℕ) (tablet : Tablet) (stays : P now) where
-  by_reading : (reading : Option Reading) → P (reading_duty now number tablet reading).master
-  by_reading None = stays
-  by_reading (Some reading) = stays
-
   pub duty_by : (role : Role) → P (batch_asked now number tablet) → P (tablet_duty now number tablet role).master
-  duty_by roles.Receiving asks = asks
-  duty_by (roles.Joining (Some entry)) asks =
-      cond_both (nat_lt entry now.applied) _ (changed now) (λ (worked : Worked). P worked.master) (λ applied. stays) (λ waits. stays)
-  duty_by (roles.Rebuilding from None) asks = by_reading (next_reading tablet.gather)
-  duty_by (roles.Rebuilding from (Some entry)) asks =
-      cond_both (nat_lt entry now.applied) _ (changed now) (λ (worked : Worked). P worked.master) (λ applied. stays) (λ waits. stays)
-  duty_by _ asks = stays
+  duty_by role asks = grind (arith, either_way, nat_lt, by_found, reading_duty, next_reading)
 
 -- a master has a tablet under a number
 abbrev pub HasTablet : Master → ℕ × Tablet → Type 0
@@ -49,10 +128,7 @@ finds master pair has = ap (λ (found : Option Tablet). unwrap_or found no_table
 -- a batch that is asked for leaves the later tablets as they are
 later_stay : (now : Master) (pair : ℕ × Tablet) (others : NumberMap Tablet) → IsInOrder (pair ∷ others) → All (HasTablet now) others
     → All (HasTablet (batch_asked now pair.0 pair.1)) others
-later_stay now pair others order has = all_in (HasTablet now) (HasTablet (batch_asked now pair.0 pair.1)) others
-    (λ other stands found.
-    get_other now.tablets pair.0 (with_outstanding pair.1) other.0
-    (All-contains (λ (o : ℕ × Tablet). o.0 ≡ pair.0 → ⊥) others other (others_apart pair others order) stands) ∙ found) has
+later_stay now pair others order has = grind (arith, all_in, get_other, with_outstanding, others_apart)
 
 -- a lane is sound with the master that these duties leave
 pub sound_duties : (w : World) (master : ℕ) (tablets : NumberMap Tablet) (now : Master) → IsInOrder tablets → All (HasTablet now) tablets
@@ -130,18 +206,18 @@ module _ (w : World) (sound : IsSound w) (master : ℕ) (lives : (view w).live m
         (λ waits. sends_none (view w) now)
 
     -- a rebuilding master reads on
-    reading_sends : (from : ℕ) → tablet.handover.role ≡ roles.Rebuilding from None → (reading : Option Reading) → next_reading tablet.gather ≡ reading
-        → OnlySends (view w) (reading_duty now number tablet reading)
-    reading_sends from is None next = sends_none (view w) now
-    reading_sends from is (Some reading) next =
-        sends_one (view w) now _
-        (λ journal served. from_own _ _ (may_read_segment (view w) sound master number lives from is reading next))
+    reading_sends : (from : ℕ) → tablet.handover.role ≡ roles.Rebuilding from None
+        → OnlySends (view w) (reading_duty now number tablet (next_reading tablet.gather))
+    reading_sends from is = by_found (λ reading. OnlySends (view w) (reading_duty now number tablet reading)) (next_reading tablet.gather)
+        (λ none. sends_none (view w) now)
+        (λ reading next.
+        sends_one (view w) now _ (λ journal served. from_own _ _ (may_read_segment (view w) sound master number lives from is reading next)))
 
     -- what it does, by its role
     duty_sends : (role : Role) → tablet.handover.role ≡ role → OnlySends (view w) (tablet_duty now number tablet role)
     duty_sends roles.Receiving is = receiving_sends is
     duty_sends (roles.Joining (Some entry)) is = joined_sends entry is
-    duty_sends (roles.Rebuilding from None) is = reading_sends from is (next_reading tablet.gather) refl
+    duty_sends (roles.Rebuilding from None) is = reading_sends from is
     duty_sends (roles.Rebuilding from (Some entry)) is = rebuilt_sends from entry is
     duty_sends _ is = sends_none (view w) now
 

@@ -1,12 +1,14 @@
 -- How a fresh mutation ends, by what its master chose: the record that stands at its key allows it.
-use Rattle.std.proofs.Common.{◌≡◌, ℕ, ◌<◌, Bool, true, false, not, ◌&&◌, List, Option, Some, None, refl, sym, ap, ◌∙◌, ◌==◌}
+use Rattle.std.proofs.Common.{arith}
+use Rattle.std.proofs.Common.{◌≡◌, ℕ, ◌<◌, Bool, true, List, Option, Some, None, refl, ap}
 use Rattle.rk_inv_base.proofs.Words.{cond_both, ⊤, hash_of, Call, Op, Held, Allowed, change_of, last_version, never, record_of}
 use Rattle.rk_inv_base.proofs.Words.{map_entry_of, end_of_item, outcome_of, fresh_choice, is_known, item_of, needs_state, operation}
-use Rattle.rk_inv_base.proofs.Words.{version_of, Tablet, Choice, Writes, Refuses, Wants, refused_as}
+use Rattle.rk_inv_base.proofs.Words.{version_of, Tablet, Choice, Writes, Refuses, refused_as}
 use Rattle.rk_types.specs.declared.call.Op.TheVariants as ops
 use Rattle.rk_types.specs.declared.call.Outcome.TheVariants as outcomes
 use Rattle.rk_model.specs.History.{record_of as map_record_of}
 use Rattle.rk_model.specs.Machine.{Entry as MapEntry, gone, live, live_version}
+use Rattle.rk_inv_events.proofs.Words.{not-false}
 
 -- a call may write this value, for the tablet of a number, where the map has this entry at its key: it takes this version
 pub record MayWrite (number version : ℕ) (call : Call) (entry : MapEntry) (other : ℕ) (value : Option (List ℕ)) : Type 0 where
@@ -35,18 +37,7 @@ module _ (number version : ℕ) (call : Call) where
   -- a conditional put
   put_fits : (entry : MapEntry) (expected : ℕ) (value : List ℕ) → call.op ≡ ops.CondPut expected value → last_version entry < version
       → FitsCall number version call entry (operation number (ops.CondPut expected value) (map_record_of entry))
-  put_fits entry expected value is low =
-      let same = ap (λ (n : ℕ). expected == n) (version_same entry) in
-      cond_both (expected == version_of (map_record_of entry)) (Writes number (Some value))
-      (Refuses (version_of (map_record_of entry)) false) (FitsCall number version call entry)
-      (λ equal. record {
-        number_is = refl;
-        allowed = rw is (rw (sym same ∙ equal) low);
-        leaves = ap (λ (op : Op). change_of op (outcomes.Written version)) is;
-      }) (λ other. record {
-        allowed = rw is (rw (sym same ∙ other) (ap outcomes.Mismatch (version_same entry)));
-        leaves = ap (λ (op : Op). change_of op (outcomes.Mismatch (version_of (map_record_of entry)))) is;
-      })
+  put_fits entry expected value is low = grind (arith, version_same, cond_both, version_of, change_of)
 
   -- a removal
   removal_fits : (entry : MapEntry) → call.op ≡ ops.Delete → last_version entry < version
@@ -62,24 +53,10 @@ module _ (number version : ℕ) (call : Call) where
   -- any operation, by the record that is found, which an operation that needs it has right
   operation_fits : (entry : MapEntry) (found : Option (ℕ × List ℕ)) (op : Op) → call.op ≡ op → (needs_state op ≡ true → found ≡ map_record_of entry)
       → last_version entry < version → FitsCall number version call entry (operation number op found)
-  operation_fits entry found ops.Get is tells low = tt
-  operation_fits entry found (ops.Put value) is tells low = record {
-    number_is = refl;
-    allowed = rw is low;
-    leaves = ap (λ (op : Op). change_of op (outcomes.Written version)) is;
-  }
-  operation_fits entry found (ops.CondPut expected value) is tells low = rw (tells refl) (put_fits entry expected value is low)
-  operation_fits entry found ops.Delete is tells low = rw (tells refl) (removal_fits entry is low)
+  operation_fits entry found op is tells low = grind (arith, change_of, put_fits, removal_fits)
 
   -- what is done with a call that has not ended
   pub fresh_fits : (tablet : Tablet) (state : Option Held) (entry : MapEntry) → (is_known tablet (hash_of call.key) state ≡ true → record_of state ≡ map_record_of entry)
       → last_version entry < version → FitsCall number version call entry (fresh_choice number tablet call state)
-  fresh_fits tablet state entry tells low = cond_both (needs_state call.op && not (is_known tablet (hash_of call.key) state)) (Wants number)
-      (operation number call.op (record_of state)) (FitsCall number version call entry) (λ wants. tt) (λ knows.
-      operation_fits entry (record_of state) call.op refl
-      (λ needs. tells (known (needs_state call.op) (is_known tablet (hash_of call.key) state) needs knows)) low)
-    where
-      known : (needs knows : Bool) → needs ≡ true → (needs && not knows) ≡ false → knows ≡ true
-      known true true needs is = refl
-      known true false needs is = absurd (cc is)
-      known false knows needs is = absurd (cc needs)
+  fresh_fits tablet state entry tells low =
+      grind (arith, cond_both, needs_state, is_known, hash_of, operation, record_of, operation_fits, not-false)

@@ -1,8 +1,8 @@
 //! Laws of what masters pull of each other: a sound lane stays sound when a frozen source answers, and when a target takes an answer.
 //!
-//! In `proofs/pulls`, `Scans` says that the records of a source are the scan of what counts for its row, `Sources` what a source may
-//! answer to a Pull or a Want, `Targets` what is there at a target once it is found in its records, `Replaying` what replayed items leave, and `Passing`
-//! what a batch leaves; `Answered` and `Batches` have the messages that a target takes: a Got and a Pulled.
+//! In `proofs/pulls`, `Sources` says what a source may answer to a Pull or a Want: its records are the scan of what counts for its row.
+//! `Targets` says what is there at a target once it is found in its records, and what replayed items and a Got leave, `Passing` what a
+//! batch leaves, and `Batches` what a Pulled does.
 ghost use Rattle.std.specs.Prelude.{◌≡◌, ℕ, false, Some};
 ghost use Rattle.rk_types.specs.NumberMap.{get};
 ghost use Rattle.rk_types.specs.declared.node.Node.TheVariants as nodes;

@@ -1,7 +1,7 @@
 //! Laws of a lane when a master takes a Request of a client and stages its call: it writes, or it refuses.
 //!
-//! In `proofs/write`, `NewCalls` has what is known of the call, `StagedItems` what is found of its key, `Choosing` how it ends, and
-//! `Ending` its version; `Staging` puts them together.
+//! In `proofs/write`, `Ending` has what a master knows of the call and finds of its key, and its version, and `Choosing` how it ends;
+//! `Staging` puts them together.
 ghost use Rattle.std.specs.Prelude.{◌≡◌, ℕ, Bool, List, Option, Some};
 ghost use Rattle.rk_types.specs.NumberMap.{get};
 ghost use Rattle.rk_message.specs.declared.calls.Request.{Request};

@@ -1,12 +1,13 @@
 -- A master is caught up where a backup told what it holds, and stays so at each other message, at its turn and where a tablet is split.
-use Rattle.std.proofs.Common.{◌≡◌, ◌≤◌, ℕ, Bool, true, false, cond, length, nat_lt, Option, None, Some, refl, sym, subst, ltb-false}
-use Rattle.rk_inv_base.proofs.Words.{Log, bytes_of, overreach, Overreach, Stored, apply_entries, newly_held, stored_taken, told_length}
-use Rattle.rk_inv_base.proofs.Words.{Master, with_known, Message, as_entries, master_step, master_turn, spelled_all, with_split, ⊤}
+use Rattle.std.proofs.Common.{None, length, ltb-false, nat_lt, subst, sym, ℕ, ◌≡◌, ◌≤◌}
+use Rattle.rk_inv_base.proofs.Words.{Log, Master, Message, Stored, apply_entries, as_entries, bytes_of, false_from_ne_true, master_step}
+use Rattle.rk_inv_base.proofs.Words.{master_turn, newly_held, overreach, spelled_all, stored_taken, told_length, with_known, with_split, ⊤}
 use Rattle.rk_inv_lanes.specs.applied.CaughtUp.{AreApplied, IsCaughtUp}
 use Rattle.rk_inv_lanes.proofs.applied.Logs.{applied_entry, applied_side, applied_told}
 use Rattle.rk_inv_lanes.proofs.masters.Changes.{IsLasting, all_going_on_has, of_lasting}
-use Rattle.rk_inv_lanes.proofs.masters.Steps.{split_has, told_has, turn_has, makes_any}
-use Rattle.rk_inv_events.proofs.stored.Work.{all_applied_next, all_told}
+use Rattle.rk_inv_lanes.proofs.masters.Steps.{makes_any, split_has, told_has, turn_has}
+use Rattle.rk_inv_events.proofs.stored.StoredTaken.{all_applied_next, all_told}
+use Rattle.rk_inv_events.proofs.Words.{by_found}
 
 -- what is applied stays so where a log grows
 caught_last : IsLasting (λ log applied calls sides records. AreApplied log applied) (λ item. ⊤)
@@ -30,21 +31,14 @@ told_caught master backup stored fits caught =
 
 -- where a length does not reach beyond the segment, it is at most that of the segment
 within_reach : (log : Log) (segment size : ℕ) → overreach log segment size ≡ None → size ≤ length (bytes_of log segment)
-within_reach log segment size none = by (nat_lt (length (bytes_of log segment)) size) refl none
-  where
-    by : (beyond : Bool) → nat_lt (length (bytes_of log segment)) size ≡ beyond
-        → cond {A = Option Overreach} beyond (Some (record { length = size; limit = length (bytes_of log segment) })) None ≡ None
-        → size ≤ length (bytes_of log segment)
-    by true is none = absurd (cc none)
-    by false is none = ltb-false (length (bytes_of log segment)) size is
+within_reach log segment size none = ltb-false (length (bytes_of log segment)) size
+    (false_from_ne_true (nat_lt (length (bytes_of log segment)) size) (λ beyond. absurd (cc (rw beyond at none))))
 
 stored_caught : (master : Master) (backup : ℕ) (stored : Stored) → IsCaughtUp master
     → IsCaughtUp (stored_taken master backup stored (overreach master.log stored.segment stored.length)).master
-stored_caught master backup stored caught = by (overreach master.log stored.segment stored.length) refl
-  where
-    by : (beyond : Option Overreach) → overreach master.log stored.segment stored.length ≡ beyond → IsCaughtUp (stored_taken master backup stored beyond).master
-    by None is = told_caught master backup stored (within_reach master.log stored.segment stored.length is) caught
-    by (Some beyond) is = caught
+stored_caught master backup stored caught =
+    by_found (λ beyond. IsCaughtUp (stored_taken master backup stored beyond).master) (overreach master.log stored.segment stored.length)
+    (λ is. told_caught master backup stored (within_reach master.log stored.segment stored.length is) caught) (λ beyond is. caught)
 
 -- ---- all that a master does
 

@@ -1,16 +1,15 @@
 -- The masters of a lane are caught up: in a new lane, after each event, and after a client's turn or answer.
-use Rattle.std.proofs.Common.{◌≡◌, ◌<◌, ◌≤◌, ◌-◌, ℕ, [], length, Some, refl, sym, ap, subst, arith}
-use Rattle.rk_inv_base.proofs.Words.{get, get_or, FIRST_SIDE_SEGMENT, cut, Known, known_length, committed, Called, accept, ask, Session}
-use Rattle.rk_inv_base.proofs.Words.{IsWellFormed, Master, log_bytes, new_master, MOST_BYTES, world_visited, happened, World, bytes_of_logs}
-use Rattle.rk_inv_base.proofs.Words.{log_in, master_at, new_world, Event}
-use Rattle.rk_inv_wellformed.proofs.maps.Bounds.{within_sum_of}
-use Rattle.rk_inv_base.proofs.logs.Segments.{segments_few}
+use Rattle.std.proofs.Common.{Some, [], ap, arith, length, refl, subst, sym, ℕ, ◌-◌, ◌<◌, ◌≡◌, ◌≤◌}
+use Rattle.rk_inv_base.proofs.Words.{Called, Event, FIRST_SIDE_SEGMENT, IsWellFormed, Known, MOST_BYTES, Master, Session, World, accept}
+use Rattle.rk_inv_base.proofs.Words.{ask, bytes_of_logs, committed, cut, get, get_or, happened, known_length, log_bytes, log_in, master_at}
+use Rattle.rk_inv_base.proofs.Words.{new_master, new_world, world_visited}
 use Rattle.rk_inv_base.proofs.views.Fresh.{each_fresh}
 use Rattle.rk_inv_tablets.proofs.steady.Walks.{Part, accept_keeps, ask_keeps}
 use Rattle.rk_inv_lanes.specs.applied.CaughtUp.{AllCaughtUp, IsCaughtUp}
 use Rattle.rk_inv_lanes.proofs.applied.Commits.{split_caught, step_caught, turn_caught}
 use Rattle.rk_inv_lanes.proofs.lanes.Masters.{each_kept}
 use Rattle.rk_inv_events.proofs.events.Coordinating.{of_master}
+use Rattle.rk_inv_events.proofs.Words.{segments_few, within_sum_of}
 
 -- ---- events
 

@@ -1,23 +1,28 @@
--- What is applied of a log stays all that is held where the log grows, and becomes so again when a backup tells what it holds.
-use Rattle.std.proofs.Common.{◌≡◌, ℕ, ◌+◌, ◌-◌, ◌<◌, ◌≤◌, false, List, [], ◌∷◌, ◌++◌, length, get_or, set, take, drop, sym, ap, subst}
-use Rattle.std.proofs.Common.{◌∙◌, ⊎_elim, arith, length-append, length-set, get_or-set_same, get_or-set_other, length-drop}
-use Rattle.std.proofs.Common.{length-take-le}
-use Rattle.rk_inv_base.proofs.Words.{cases_eq, cases_lt, cond_both, get_or_past, get_or_push, prefix_len-le-length, prefix_len, spelled}
-use Rattle.rk_inv_base.proofs.Words.{Entry, FIRST_SIDE_SEGMENT, cut_push, length-ends, room_some, told_other, cut, end_of, ends, has_room}
-use Rattle.rk_inv_base.proofs.Words.{in_last, with_bytes, Known, known_length, nothing, Log, bytes_of, committed, is_held, known_of}
-use Rattle.rk_inv_base.proofs.Words.{with_entry, IsFirstPart}
+-- What is applied of a log stays all that is held where the log grows, and becomes so again when a backup tells what it holds; and where
+-- not every backup is known to hold all entries of a log, some backup is to be sent bytes.
+use Rattle.std.proofs.Common.{Bool, List, None, Option, Some, [], ap, arith, drop, false, find, get_or, get_or-set_other, get_or-set_same}
+use Rattle.std.proofs.Common.{is_some, leb-false, length, length-append, length-drop, length-set, length-take-le, not, option_map, refl}
+use Rattle.std.proofs.Common.{subst, suc, sym, take, true, zero, ℕ, ⊎_elim, ◌&&◌, ◌++◌, ◌+◌, ◌-◌, ◌<◌, ◌∙◌, ◌∷◌, ◌≡◌, ◌≤◌}
 use Rattle.std.proofs.lemmas.Bool.{lt-leb}
 use Rattle.std.proofs.lemmas.List.{set_past}
 use Rattle.std.proofs.lemmas.List.Folds.{list_all_at}
-use Rattle.rk_log.proofs.Cuts.{ends_push, some_segments, spelled_some}
+use Rattle.std.proofs.lemmas.List.Sums.{prefix_len_stops}
+use Rattle.rk_inv_base.proofs.Words.{Entry, EntryEnd, FIRST_SIDE_SEGMENT, IsBackup, IsFirstPart, Known, Log, NumberedBytes, bytes_of}
+use Rattle.rk_inv_base.proofs.Words.{cases_eq, cases_lt, committed, cond-true, cond_both, cut, cut_push, end_of, ends, ends_after}
+use Rattle.rk_inv_base.proofs.Words.{get_or_append_left, get_or_past, get_or_push, has_room, in_last, is_held, is_whole, known_length}
+use Rattle.rk_inv_base.proofs.Words.{known_of, length-ends, list_all, nothing, numbered, pending, prefix_len, prefix_len-le-length}
+use Rattle.rk_inv_base.proofs.Words.{room_some, side_segments, spelled, told_other, with_bytes, with_entry}
+use Rattle.rk_log.proofs.Cuts.{ends_push, ends_within, some_segments, spelled_some}
 use Rattle.rk_log.proofs.KnownLaws.{told_length}
 use Rattle.rk_log.proofs.LogLaws.{committed_told}
 use Rattle.rk_log.proofs.Prefixes.{prefix_len_push_no}
-use Rattle.rk_log.specs.Cut.{last_of}
+use Rattle.rk_log.specs.Cut.{cut_after, last_of}
 use Rattle.rk_log.specs.Known.{reaches, told}
-use Rattle.rk_log.specs.Log.{with_side, with_told}
+use Rattle.rk_log.specs.Log.{missing, segments, with_side, with_told}
 use Rattle.rk_inv_base.proofs.logs.Segments.{bytes_main, bytes_zero, with_bytes_front}
 use Rattle.rk_inv_lanes.specs.applied.CaughtUp.{AreApplied, IsKnownThere}
+
+-- ---- What is applied of a log stays all that is held where the log grows, and becomes so again when a backup tells what it holds.
 
 -- ---- one more entry
 
@@ -28,27 +33,7 @@ first_part_length {front} first = omega (arith, ap length first.parts, length-ap
 past_before : (segments : List (List ℕ)) (bytes : List ℕ) → 0 < length bytes
     → length (get_or segments (length (with_bytes segments bytes) - 1) []) < length (last_of (with_bytes segments bytes))
 past_before segments bytes some =
-    cond_both (has_room segments bytes) (in_last segments bytes) (segments ++ bytes ∷ [])
-    (λ s. length (get_or segments (length s - 1) []) < length (last_of s))
-    (λ e.
-    let filled : 0 < length segments = room_some segments bytes e in
-    let count : length (in_last segments bytes) ≡ length segments = length-set segments (length segments - 1) (last_of segments ++ bytes) in
-    let last : last_of (in_last segments bytes) ≡ last_of segments ++ bytes =
-    ap (λ (n : ℕ). get_or (in_last segments bytes) (n - 1) []) count
-    ∙ get_or-set_same segments (length segments - 1) (last_of segments ++ bytes) [] (omega arith) in
-    omega (
-      arith,
-      some,
-      ap (λ (n : ℕ). length (get_or segments (n - 1) [])) count,
-      ap length last,
-      length-append (last_of segments) bytes,
-    ))
-    (λ e.
-    let place : length segments ≡ length (segments ++ bytes ∷ []) - 1 = omega (arith, length-append segments (bytes ∷ [])) in
-    let last : last_of (segments ++ bytes ∷ []) ≡ bytes = get_or_push segments bytes [] (length (segments ++ bytes ∷ []) - 1) place in
-    let none : get_or segments (length (segments ++ bytes ∷ []) - 1) [] ≡ [] =
-    get_or_past segments (length (segments ++ bytes ∷ []) - 1) [] (omega (arith, place)) in
-    omega (arith, some, ap length last, ap length none))
+    grind (arith, cond_both, has_room, in_last, room_some, length-set, get_or-set_same, length-append, get_or_push, get_or_past)
 
 module _ (log : Log) (entry : Entry) where
   -- the main segments once the entry is appended
@@ -125,34 +110,11 @@ module _ (log : Log) (teller segment size : ℕ) where
   -- a statement of what a backup is known to hold is one of the teller or as it was
   by_backup : (P : Known → Type 0) (backup : ℕ) → (backup - 1 ≡ teller - 1 → P (told (known_of log teller) segment size))
       → P (known_of log backup) → P (known_of new backup)
-  by_backup P backup here before =
-      let now : Known = told (known_of log teller) segment size in
-      ⊎_elim
-      (λ (there : teller - 1 < length log.known).
-      ⊎_elim
-      (λ (same : backup - 1 ≡ teller - 1).
-      subst P
-      (sym (ap (λ (n : ℕ). get_or (set log.known (teller - 1) now) n nothing) same ∙ get_or-set_same log.known (teller - 1) now nothing there))
-      (here same))
-      (λ (other : backup - 1 ≡ teller - 1 → ⊥).
-      subst P (sym (get_or-set_other log.known (teller - 1) (backup - 1) now nothing other)) before)
-      (cases_eq (backup - 1) (teller - 1)))
-      (λ (past : length log.known ≤ teller - 1).
-      subst P (sym (ap (λ (known : List Known). get_or known (backup - 1) nothing) (set_past log.known (teller - 1) now past))) before)
-      (cases_lt (teller - 1) (length log.known))
+  by_backup P backup here before = grind (arith, known_of, nothing, get_or-set_same, get_or-set_other, cases_eq, set_past, cases_lt)
 
   told_there : size ≤ length (bytes_of log segment) → IsKnownThere log → (other : ℕ) → other < FIRST_SIDE_SEGMENT
       → known_length (told (known_of log teller) segment size) other ≤ length (bytes_of log other)
-  told_there fits known other main = ⊎_elim
-      (λ (its : other ≡ segment).
-      omega (
-        arith,
-        told_length (known_of log teller) segment size other its,
-        subst (λ (n : ℕ). size ≤ length (bytes_of log n)) (sym its) fits,
-        known teller other main,
-      ))
-      (λ (apart : other ≡ segment → ⊥). omega (arith, told_other (known_of log teller) segment size other apart, known teller other main))
-      (cases_eq other segment)
+  told_there fits known other main = grind (arith, told_length, known_of, bytes_of, told_other, cases_eq)
 
   -- a backup tells no more than is there
   pub known_told : size ≤ length (bytes_of log segment) → IsKnownThere log → IsKnownThere (with_told log teller segment size)
@@ -162,15 +124,7 @@ module _ (log : Log) (teller segment size : ℕ) where
 -- so many entries behind those that are applied are held
 pub held_count : (log : Log) (count : ℕ) → count ≤ committed log
     → count + length (drop count (take (committed log) log.entries)) ≡ committed log
-held_count log count less =
-    let within : committed log ≤ length log.entries =
-    omega (arith, prefix_len-le-length (is_held log.known) (ends log.entries), length-ends [] log.entries) in
-    omega (
-      arith,
-      less,
-      length-drop count (take (committed log) log.entries),
-      length-take-le (committed log) log.entries within,
-    )
+held_count log count less = grind (arith, committed, prefix_len-le-length, is_held, ends, length-ends, length-drop, length-take-le)
 
 -- once they are applied, all that is held is
 pub applied_told : {log : Log} (teller segment size : ℕ) {count : ℕ} → size ≤ length (bytes_of log segment) → AreApplied log count
@@ -183,3 +137,130 @@ applied_told {log} teller segment size {count} fits before = record {
       held_count (with_told log teller segment size) count
       (omega (arith, before.count_is backed few, committed_told log teller segment size));
 }
+
+-- ---- Where not every backup is known to hold all entries of a log, some backup is to be sent bytes.
+
+-- ---- tests of lists
+
+-- an element that fails a test
+record FailsAt {X : Type 0} (test : X → Bool) (list : List X) (none : X) : Type 0 where
+  place : ℕ
+  within : place < length list
+  fails : test (get_or list place none) ≡ false
+
+-- where not all pass, one fails
+fails_at : {X : Type 0} (test : X → Bool) (list : List X) (none : X) → list_all test list ≡ false → FailsAt test list none
+fails_at test [] none fails = absurd (cc fails)
+fails_at test (x ∷ list) none fails = by (test x) refl fails (fails_at test list none)
+  where
+    by : (passes : Bool) → test x ≡ passes → (passes && list_all test list) ≡ false → (list_all test list ≡ false → FailsAt test list none)
+        → FailsAt test (x ∷ list) none
+    by false is fails behind = record { place = zero; within = omega arith; fails = is }
+    by true is fails behind =
+        let rest = behind fails in
+        record { place = suc rest.place; within = omega (arith, rest.within); fails = rest.fails }
+
+-- where one passes, one is found
+found_at : {X : Type 0} (test : X → Bool) (list : List X) (place : ℕ) (none : X)
+    → place < length list → test (get_or list place none) ≡ true → is_some (find test list) ≡ true
+found_at test [] place none within passes = absurd (omega arith)
+found_at test (x ∷ list) zero none within passes = ap (λ (o : Option _). is_some o) (cond-true (test x) (Some x) (find test list) passes)
+found_at test (x ∷ list) (suc place) none within passes =
+    cond_both (test x) (Some x) (find test list) (λ o. is_some o ≡ true) (λ is. refl)
+    (λ is. found_at test list place none (omega arith) passes)
+
+-- ---- segments
+
+-- the bytes of a segment are no fewer with more entries
+cut_longer : (segments : List (List ℕ)) (entries : List Entry) (place : ℕ)
+    → length (get_or segments place []) ≤ length (get_or (cut_after segments entries) place [])
+cut_longer segments [] place = omega arith
+cut_longer segments (entry ∷ entries) place =
+    omega (
+      arith,
+      first_part_length (with_bytes_front segments (spelled entry) place),
+      cut_longer (with_bytes segments (spelled entry)) entries place,
+    )
+
+-- each entry ends within its segment
+ends_there : (segments : List (List ℕ)) (entries : List Entry) (place : ℕ) (none : EntryEnd) → place < length (ends_after segments entries)
+    → (get_or (ends_after segments entries) place none).offset
+    ≤ length (get_or (cut_after segments entries) ((get_or (ends_after segments entries) place none).segment - 1) [])
+ends_there segments [] place none within = absurd (omega arith)
+ends_there segments (entry ∷ entries) zero none within =
+    cut_longer (with_bytes segments (spelled entry)) entries (length (with_bytes segments (spelled entry)) - 1)
+ends_there segments (entry ∷ entries) (suc place) none within = ends_there (with_bytes segments (spelled entry)) entries place none (omega arith)
+
+length_numbered : (first : ℕ) (segments : List (List ℕ)) → length (numbered first segments) ≡ length segments
+length_numbered first [] = refl
+length_numbered first (bytes ∷ more) = ap suc (length_numbered (suc first) more)
+
+numbered_get : (first : ℕ) (segments : List (List ℕ)) (place : ℕ) (none : NumberedBytes) → place < length segments
+    → get_or (numbered first segments) place none ≡ record { number = first + place; bytes = get_or segments place [] }
+numbered_get first [] place none within = absurd (omega arith)
+numbered_get first (bytes ∷ more) zero none within =
+    let same : first ≡ first + 0 = omega arith in
+    λ i. record { number = same i; bytes = bytes }
+numbered_get first (bytes ∷ more) (suc place) none within =
+    let same : suc first + place ≡ first + suc place = omega arith in
+    numbered_get (suc first) more place none (omega arith) ∙ (λ i. record { number = same i; bytes = get_or more place [] })
+
+-- ---- what a backup lacks
+
+-- a backup that is to be sent bytes
+pub record Lacks (log : Log) : Type 0 where
+  pub backup : ℕ
+  pub there : IsBackup log backup
+  pub sent : is_some (pending log backup) ≡ true
+
+-- what is found is there also where it is changed
+still_some : {X Y : Type 0} (change : X → Y) (found : Option X) → is_some found ≡ true → is_some (option_map change found) ≡ true
+still_some change (Some x) is = refl
+still_some change None is = is
+
+module _ (log : Log) (behind : committed log < length log.entries) where
+  -- the end of the first entry that is not held
+  abbrev none : EntryEnd
+  none = record { segment = 0; offset = 0 }
+
+  abbrev next : EntryEnd
+  next = get_or (ends log.entries) (committed log) none
+
+  next_within : committed log < length (ends log.entries)
+  next_within = omega (arith, behind, length-ends [] log.entries)
+
+  lacking : FailsAt (λ (backup : Known). reaches backup next) log.known nothing
+  lacking = fails_at (λ (backup : Known). reaches backup next) log.known nothing (prefix_len_stops (is_held log.known) (ends log.entries) none next_within)
+
+  -- the segment that it stands in is not known to be held whole
+  not_whole : (known : Known) → reaches known next ≡ false → is_some (find (λ segment. not (is_whole known segment)) (segments log)) ≡ true
+  not_whole known fails =
+      let at = ends_within [] log.entries (committed log) none next_within in
+      let place : ℕ = next.segment - 1 in
+      let bytes : List ℕ = get_or (cut log.entries) place [] in
+      let within : place < length (numbered 1 (cut log.entries)) = omega (arith, at.0, at.1, length_numbered 1 (cut log.entries)) in
+      let is : next.segment ≡ 1 + place = omega (arith, at.0) in
+      let empty : NumberedBytes = record { number = 0; bytes = [] } in
+      let less : known_length known (1 + place) < length bytes =
+      subst (λ (n : ℕ). known_length known n < length bytes) is
+      (omega (arith, leb-false next.offset (known_length known next.segment) fails, ends_there [] log.entries (committed log) none next_within)) in
+      found_at (λ segment. not (is_whole known segment)) (segments log) place empty
+      (omega (arith, within, length-append (numbered 1 (cut log.entries)) (side_segments log)))
+      (ap (λ (segment : NumberedBytes). not (is_whole known segment))
+      (get_or_append_left (numbered 1 (cut log.entries)) (side_segments log) empty place within
+      ∙ numbered_get 1 (cut log.entries) place empty (omega (arith, within, length_numbered 1 (cut log.entries))))
+      ∙ ap not (lt-leb (length bytes) (known_length known (1 + place)) less))
+
+  pub lacks : Lacks log
+  lacks =
+      let number : ℕ = lacking.place + 1 in
+      let place_is : number - 1 ≡ lacking.place = omega arith in
+      let known_is : known_of log number ≡ get_or log.known lacking.place nothing = ap (λ (n : ℕ). get_or log.known n nothing) place_is in
+      let fails : reaches (known_of log number) next ≡ false = ap (λ (known : Known). reaches known next) known_is ∙ lacking.fails in
+      record {
+        backup = number;
+        there = record { first = omega arith; last = omega (arith, lacking.within) };
+        sent =
+            still_some (missing (known_of log number)) (find (λ segment. not (is_whole (known_of log number) segment)) (segments log))
+            (not_whole (known_of log number) fails);
+      }

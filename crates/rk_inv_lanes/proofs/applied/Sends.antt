@@ -1,5 +1,5 @@
 -- A master with staged entries that is caught up sends something on its turn.
-use Rattle.std.proofs.Common.{◌≡◌, ◌≢◌, true, ◌+◌, ◌-◌, ◌<◌, ◌≤◌, ℕ, List, [], ◌∷◌, length, get_or, map, Option, None, Some, refl, ap}
+use Rattle.std.proofs.Common.{◌≡◌, ◌≢◌, true, ◌+◌, ◌-◌, ◌<◌, ◌≤◌, ℕ, List, [], ◌∷◌, length, get_or, Option, None, Some, refl, ap}
 use Rattle.std.proofs.Common.{⊎_elim, arith, length-append, fold, is_some, length-drop}
 use Rattle.rk_inv_base.proofs.Words.{cases_lt, length-map, range_with_len, Entry, committed, pending, PlacedBytes, Traffic, with_message}
 use Rattle.rk_inv_base.proofs.Words.{Message, Called, IsWellFormed, Master, staged, append_of, appends, duties, master_turn, filled}
@@ -7,7 +7,7 @@ use Rattle.rk_inv_base.proofs.Words.{MOST_BYTES, happened, ledger_after, World, 
 use Rattle.std.proofs.lemmas.List.Folds.{length-flat_map-take}
 use Rattle.std.proofs.lemmas.List.FromFn.{get_or-range_with_len, length-range_with_len}
 use Rattle.rk_inv_lanes.specs.applied.CaughtUp.{AllCaughtUp, IsCaughtUp}
-use Rattle.rk_inv_lanes.proofs.applied.Lacking.{Lacks, lacks}
+use Rattle.rk_inv_lanes.proofs.applied.Logs.{Lacks, lacks}
 use Rattle.rk_inv_lanes.proofs.applied.Lanes.{HasFew, few_of}
 use Rattle.rk_inv_events.proofs.events.Coordinating.{of_master}
 
@@ -44,14 +44,7 @@ some_staged master some = ⊎_elim (λ (less : master.applied < length master.lo
     none (entry ∷ list) is = absurd (omega (arith, is))
 
 turn_some : (master : Master) → HasFew master → IsCaughtUp master → staged master ≢ [] → 1 ≤ length (master_turn master).sends
-turn_some master has caught some =
-    let behind : committed master.log < length master.log.entries =
-    omega (arith, caught.count_is has.backed has.few, some_staged master some) in
-    omega (
-      arith,
-      appends_some master (lacks master.log behind),
-      length-append (appends master) (duties master master.tablets).sends,
-    )
+turn_some master has caught some = grind (arith, committed, some_staged, appends_some, lacks, length-append, appends, duties)
 
 -- ---- a lane
 
@@ -76,11 +69,4 @@ sent_counted (message ∷ messages) wire = omega (arith, sent_counted messages (
 pub wire_counts : (w : World) (master : ℕ) (called : Called) → IsWellFormed w → bytes_of_logs w < MOST_BYTES → AllCaughtUp w → staged (master_at w master) ≢ []
     → w.wire.sent < (happened w (Event.Turn (Node.Master master)) called).world.wire.sent
 wire_counts w master called formed room caught some =
-    let worked = master_turn (master_at w master) in
-    let filling : Message → Message = filled (ledger_after w.ledger master 0 worked).journal worked.served in
-    omega (
-      arith,
-      sends_one master formed room caught some,
-      sent_counted (map filling worked.sends) w.wire,
-      length-map worked.sends filling,
-    )
+    grind (arith, master_turn, master_at, filled, ledger_after, sends_one, sent_counted, length-map)

@@ -1,15 +1,15 @@
 -- What an event may make of a lane, case by case: what is so after each of these is so after the event.
-use Rattle.std.proofs.Common.{ℕ, Bool, None, Option, Some, [], cond, false, refl, true, ◌+◌, ◌∷◌, ◌≡◌, inl, inr, ◌⊎◌}
-use Rattle.rk_inv_base.proofs.Words.{Backed, Body, Called, Event, Message, Node, NumberMap, Owned, Phase, Range, Row, Segments, World}
-use Rattle.rk_inv_base.proofs.Words.{backed_at, backup_step, client_added, coordinator_notice, coordinator_turn, crashed_masters}
-use Rattle.rk_inv_base.proofs.Words.{delivered, delivered_to, get, happened, has_crashed, is_added, is_backup, log_bytes_of, losing}
+use Rattle.std.proofs.Common.{arith}
+use Rattle.std.proofs.Common.{Option, Some, [], false, inl, refl, true, ℕ, ◌∷◌, ◌≡◌, ◌⊎◌}
+use Rattle.rk_inv_base.proofs.Words.{Body, Called, Event, Message, Node, NumberMap, Range, Row, Segments, World}
+use Rattle.rk_inv_base.proofs.Words.{backed_at, backup_step, client_added, cond_both, coordinator_notice, coordinator_turn, crashed_masters}
+use Rattle.rk_inv_base.proofs.Words.{delivered, delivered_to, get, happened, has_crashed, insert, is_added, is_backup, log_bytes_of, losing}
 use Rattle.rk_inv_base.proofs.Words.{master_at, master_step, master_turn, owner_split, quietly, row_of, row_split, rows_split, seen_in}
 use Rattle.rk_inv_base.proofs.Words.{sent_again, stored_after, tablet_migrated, to_backup, to_coordinator, to_master, turned, with_client}
 use Rattle.rk_inv_base.proofs.Words.{with_coordinator, with_ledger, with_master, with_sends, with_split, with_stored_by, worked_at}
-use Rattle.rk_inv_base.proofs.Words.{insert}
 use Rattle.rk_message.specs.Wire.{without_message}
-use Rattle.rk_world.specs.Step.{tablet_added}
 use Rattle.rk_world.specs.World.{with_crash, with_wire}
+use Rattle.rk_inv_events.proofs.Words.{by_found, tablet_added}
 
 -- what the backups of a lane store, or what they store once one of them has stored something
 pub record StoresMore (w : World) (backups : NumberMap Segments) : Type 0 where
@@ -54,92 +54,35 @@ pub record Covers (R : World → Type 0) (w : World) (event : Event) (called : C
 module _ {R : World → Type 0} {w : World} {event : Event} {called : Called} (covers : Covers R w event called) where
   to_master_covered : (number master : ℕ) (message : Message) → event ≡ Event.Deliver number → get w.wire.messages number ≡ Some message
       → message.to ≡ Node.Master master → R (to_master w master message).world
-  to_master_covered number master message is found to = go (has_crashed w master) refl
-    where
-      go : (crashed : Bool) → has_crashed w master ≡ crashed
-          → R (cond crashed (losing w) (worked_at w master (seen_in message.body) (master_step (master_at w master) message))).world
-      go true gone = covers.quiet w.backups (inl refl)
-      go false lives = covers.steps number master message is found to lives
+  to_master_covered number master message is found to =
+      cond_both (has_crashed w master) (losing w) (worked_at w master (seen_in message.body) (master_step (master_at w master) message))
+      (λ stepped. R stepped.world) (λ gone. covers.quiet w.backups (inl refl)) (covers.steps number master message is found to)
 
   to_backup_covered : (backup : ℕ) (sender : Node) (body : Body) → R (to_backup w backup sender body called).world
-  to_backup_covered backup sender body = go (is_backup w backup) refl (get w.backups backup)
-    where
-      store : Segments → Segments
-      store segments = stored_after segments sender body called
-
-      answer : Backed
-      answer = backup_step backup sender body (log_bytes_of w) called
-
-      more : is_backup w backup ≡ true → (segments : Segments) → MayStore w (insert w.backups backup (store segments))
-      more there segments = inr (record { backup = backup; segments = store segments; there = there; is = refl })
-
-      answered : is_backup w backup ≡ true → (lost : Bool) (found : Option Segments)
-          → let now = with_stored_by w backup store found in R (cond lost (losing now) (with_sends now answer.sends)).world
-      answered there true None = covers.quiet w.backups (inl refl)
-      answered there true (Some segments) = covers.quiet _ (more there segments)
-      answered there false None = covers.answers backup sender body w.backups (inl refl)
-      answered there false (Some segments) = covers.answers backup sender body _ (more there segments)
-
-      go : (there : Bool) → is_backup w backup ≡ there → (found : Option Segments)
-          → R (cond there (backed_at (with_stored_by w backup store found) answer) (quietly w)).world
-      go true there found = answered there answer.lost found
-      go false there found = covers.quiet w.backups (inl refl)
+  to_backup_covered backup sender body =
+      grind (arith, is_backup, stored_after, backup_step, log_bytes_of, insert, with_stored_by, losing, with_sends, backed_at, quietly)
 
   delivered_covered : (number : ℕ) → event ≡ Event.Deliver number → (found : Option Message) → get w.wire.messages number ≡ found
       → R (delivered w found called).world
-  delivered_covered number is None none = covers.quiet w.backups (inl refl)
-  delivered_covered number is (Some message) found = go message.to refl
-    where
-      go : (to : Node) → message.to ≡ to → R (delivered_to w message to called).world
-      go (Node.Client client) to = covers.quiet w.backups (inl refl)
-      go Node.Coordinator to = covers.hears message
-      go (Node.Master master) to = to_master_covered number master message is found to
-      go (Node.Backup backup) to = to_backup_covered backup message.from message.body
+  delivered_covered number is found none = grind (arith, delivered_to, to_master_covered, to_backup_covered)
 
   turned_covered : (node : Node) → R (turned w node).world
   turned_covered Node.Coordinator = covers.duties
   turned_covered (Node.Master master) = covers.turns master
   turned_covered _ = covers.quiet w.backups (inl refl)
 
-  again_covered : (client : ℕ) (found : Option Message) → get w.ledger.requests client ≡ found → R (sent_again w found).world
-  again_covered client None none = covers.quiet w.backups (inl refl)
-  again_covered client (Some message) found = covers.again client message found
-
   comes_covered : (client : ℕ) → event ≡ Event.AddClient client → R (quietly (client_added w client)).world
-  comes_covered client is = go (is_added w.ledger client) refl
-    where
-      go : (added : Bool) → is_added w.ledger client ≡ added → R (quietly (cond added w (with_ledger w (with_client w.ledger client)))).world
-      go true old = covers.quiet w.backups (inl refl)
-      go false new = covers.comes client is new
+  comes_covered client is = cond_both (is_added w.ledger client) w (with_ledger w (with_client w.ledger client))
+      (λ now. R (quietly now).world) (λ old. covers.quiet w.backups (inl refl)) (covers.comes client is)
 
   split_covered : (tablet at new : ℕ) (found : Option Row)
       → R (quietly (with_coordinator (row_split w found at new) (rows_split w.coordinator tablet at new))).world
-  split_covered tablet at new None = covers.parts tablet at new
-  split_covered tablet at new (Some row) = by row.phase
-    where
-      go : (crashed : Bool) (master : ℕ)
-          → R (quietly (with_coordinator (cond crashed w (with_master w master (with_split (master_at w master) row.tablet at new (row.term + 1))))
-          (rows_split w.coordinator tablet at new))).world
-      go true master = covers.parts tablet at new
-      go false master = covers.splits tablet at new row.tablet master (row.term + 1)
-
-      by : (phase : Phase)
-          → R (quietly (with_coordinator (owner_split w row.tablet phase at new (row.term + 1)) (rows_split w.coordinator tablet at new))).world
-      by (Owned master from) = go (has_crashed w master) master
-      by _ = covers.parts tablet at new
+  split_covered tablet at new found =
+      grind (arith, quietly, with_coordinator, with_master, with_split, master_at, rows_split, owner_split, has_crashed)
 
   -- the event
   by_event : (it : Event) → event ≡ it → R (happened w it called).world
-  by_event (Event.AddTablet tablet range master) is = covers.adds tablet range master is
-  by_event (Event.AddClient client) is = comes_covered client is
-  by_event (Event.Deliver number) is = delivered_covered number is (get w.wire.messages number) refl
-  by_event (Event.Forget number) is = covers.forgets number is
-  by_event (Event.Turn node) is = turned_covered node
-  by_event (Event.Again client) is = again_covered client (get w.ledger.requests client) refl
-  by_event (Event.Migrate tablet to) is = covers.moves tablet to
-  by_event (Event.Split tablet at new) is = split_covered tablet at new (row_of w.coordinator.rows tablet)
-  by_event (Event.Crash master) is = covers.crashes master is
-  by_event (Event.Notice master) is = covers.notices master
+  by_event it is = grind (arith, comes_covered, delivered_covered, turned_covered, by_found, sent_again, split_covered, row_of)
 
   pub event_covered : R (happened w event called).world
   event_covered = by_event event refl

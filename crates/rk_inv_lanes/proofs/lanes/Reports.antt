@@ -1,10 +1,12 @@
 -- What the coordinator makes of a message, case by case: what is so of each of these is so of all that it makes of messages.
-use Rattle.std.proofs.Common.{eqb-true, Bool, None, Option, Some, [], cond, false, refl, true, ℕ, ◌==◌, ◌∷◌, ◌≡◌}
+use Rattle.std.proofs.Common.{arith}
+use Rattle.std.proofs.Common.{Bool, None, Option, Some, [], cond, eqb-true, false, true, ℕ, ◌==◌, ◌∷◌, ◌≡◌}
 use Rattle.rk_inv_base.proofs.Words.{Body, Coordinated, Coordinator, Moving, Node, Opening, Owned, Phase, Ready, Rebuilding, Rebuilt, Row}
 use Rattle.rk_inv_base.proofs.Words.{Tenure, Transfer, about, answered, at_term, is_noticed, joined_in, located, own_to, place_noted}
 use Rattle.rk_inv_base.proofs.Words.{ready_in, rebuilt_in, release_to, report, row_for, row_moved, row_of, row_owned, row_with}
-use Rattle.rk_inv_base.proofs.Words.{told_coordinator, transfer_in, unanswered}
+use Rattle.rk_inv_base.proofs.Words.{told_coordinator, transfer_in, unanswered, cond_both}
 use Rattle.rk_message.specs.declared.calls.Lookup.{Lookup}
+use Rattle.rk_inv_wellformed.proofs.maps.Lists.{by_found}
 
 -- something of a message and of what the coordinator makes of it
 pub record IsMade (C : Body → Coordinated → Type 0) (coordinator : Coordinator) : Type 0 where
@@ -26,8 +28,7 @@ pub record IsMade (C : Body → Coordinated → Type 0) (coordinator : Coordinat
 module _ {C : Body → Coordinated → Type 0} {coordinator : Coordinator} (made : IsMade C coordinator) where
   -- where a test holds, and where it does not
   either : (body : Body) (test : Bool) (one : Coordinated) → (test ≡ true → C body one) → C body (cond test one (unanswered coordinator))
-  either body true one holds = holds refl
-  either body false one holds = made.silent body
+  either body test one holds = cond_both test one (unanswered coordinator) (C body) holds (λ other. made.silent body)
 
   module _ (sender : ℕ) (heard : is_noticed coordinator sender ≡ false) where
     -- a master that is heard was not noticed dead
@@ -60,33 +61,10 @@ module _ {C : Body → Coordinated → Type 0} {coordinator : Coordinator} (made
   about_made : (body : Body) (sender : ℕ) (tenure : Tenure) (taken : Row → Coordinated)
       → (is_noticed coordinator sender ≡ false → (row : Row) → C body (taken row))
       → C body (about coordinator taken (row_for coordinator sender tenure))
-  about_made body sender tenure taken each = go (is_noticed coordinator sender) refl
-    where
-      found : (row : Option Row) → is_noticed coordinator sender ≡ false → C body (about coordinator taken row)
-      found None heard = made.silent body
-      found (Some row) heard = each heard row
-
-      go : (noticed : Bool) → is_noticed coordinator sender ≡ noticed
-          → C body (about coordinator taken (cond noticed None (at_term tenure (row_of coordinator.rows tenure.tablet))))
-      go true is = made.silent body
-      go false is = found (at_term tenure (row_of coordinator.rows tenure.tablet)) is
+  about_made body sender tenure taken each = grind (arith, about, at_term, row_of, cond_both, is_noticed, by_found)
 
   report_made : (sender : ℕ) (body : Body) → C body (report coordinator sender body)
-  report_made sender (Body.Ready message) =
-      about_made _ sender message.tenure (λ row. ready_in coordinator sender message row row.phase)
-      (λ heard row. ready_made sender heard message row row.phase)
-  report_made sender (Body.Transfer message) =
-      about_made _ sender message.tenure (λ row. transfer_in coordinator sender message row row.phase)
-      (λ heard row. transfer_made sender heard message row row.phase)
-  report_made sender (Body.Joined tenure) =
-      about_made _ sender tenure (λ row. joined_in coordinator sender row row.phase) (λ heard row. joined_made sender heard tenure row row.phase)
-  report_made sender (Body.Rebuilt message) =
-      about_made _ sender message.tenure (λ row. rebuilt_in coordinator sender message row row.phase)
-      (λ heard row. rebuilt_made sender heard message row row.phase)
-  report_made sender body = made.silent body
+  report_made sender body = grind (arith, about_made, ready_in, transfer_in, joined_in, rebuilt_in)
 
   pub told_made : (sender : Node) (body : Body) → C body (told_coordinator coordinator sender body)
-  told_made (Node.Client client) (Body.Lookup lookup) =
-      made.locates lookup (Node.Client client) (row_with coordinator.rows lookup.table lookup.hash)
-  told_made (Node.Master master) body = report_made master body
-  told_made _ body = made.silent body
+  told_made sender body = grind (arith, row_with, report_made)

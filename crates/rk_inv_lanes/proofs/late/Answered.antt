@@ -1,13 +1,14 @@
 -- What a Reply on the wire says that was not there before its Request was delivered: what the master chose to say.
-use Rattle.std.proofs.Common.{◌≡◌, ◌+◌, ℕ, Bool, true, false, cond, List, Option, Some, None, refl, sym, ap, ⊎_elim, ◌∙◌, slice_get}
-use Rattle.rk_inv_base.proofs.Words.{cases_eq, get_other, get_same, get, Answer, Call, Placed, Traffic, with_message, Reply, Request, Body}
-use Rattle.rk_inv_base.proofs.Words.{Message, Called, outcome_of, IsWellFormed, MayAnswerMoved, Master, filled, place_of, reply_at}
-use Rattle.rk_inv_base.proofs.Words.{reply_with, answering, call_of, choice_of, chosen, ledger_after, losing, worked_at, World, has_crashed}
-use Rattle.rk_inv_base.proofs.Words.{master_at, Choice, Ignores, Reads, Redirects, Refuses, Repeats, Wants, Writes, Served}
+use Rattle.std.proofs.Common.{arith}
+use Rattle.std.proofs.Common.{List, None, Option, Some, ap, refl, slice_get, sym, ℕ, ◌∙◌, ◌≡◌}
+use Rattle.rk_inv_base.proofs.Words.{Answer, Body, Call, Called, Choice, Ignores, IsWellFormed, Master, MayAnswerMoved, Message, Placed}
+use Rattle.rk_inv_base.proofs.Words.{Reads, Redirects, Refuses, Repeats, Reply, Request, Served, Traffic, Wants, World, Writes, answering}
+use Rattle.rk_inv_base.proofs.Words.{call_of, cases_eq, choice_of, chosen, filled, get, get_other, get_same, ledger_after, master_at}
+use Rattle.rk_inv_base.proofs.Words.{outcome_of, place_of, reply_at, reply_with, with_message, worked_at}
 use Rattle.rk_inv_events.specs.request.Small.{request_message}
 use Rattle.rk_inv_lanes.specs.late.Refused.{IsPutOff}
 use Rattle.rk_inv_lanes.specs.late.Sent.{IsMade}
-use Rattle.rk_inv_lanes.proofs.late.Lanes.{comes_to}
+use Rattle.rk_inv_lanes.proofs.late.Lanes.{comes_to, reaches}
 use Rattle.rk_inv_lanes.proofs.late.Refusals.{moved_justified, not_yet_justified}
 use Rattle.rk_inv_events.proofs.events.Coordinating.{tablets_order}
 
@@ -29,22 +30,14 @@ at_same journal reply (Some place) = with_same reply place (slice_get journal pl
 -- a Reply that is filled in says what it said
 filled_says : (journal : List Placed) (served : List Served) (master : Master) (call : Call) (answer : Answer)
     → answer_in (filled journal served (answering master call answer)).body ≡ Some answer
-filled_says journal served master call (Answer.Done outcome) = ap Some
-    (at_same journal (record { seq = call.seq; stamp = 0; place = 0; answer = Answer.Done outcome })
-    (place_of journal served call.client call.seq))
-filled_says journal served master call _ = refl
+filled_says journal served master call answer = grind (arith, at_same, place_of)
 
 -- ---- what is on the wire
 
 -- the message that is there now is the one that was sent
 one_sent : (wire : Traffic) (sent message : Message) (new : ℕ) → get wire.messages new ≡ None
     → get (with_message sent wire).messages new ≡ Some message → sent ≡ message
-one_sent wire sent message new free there = ⊎_elim
-    (λ (is : new ≡ wire.sent + 1).
-    let same : Some sent ≡ Some message = sym (get_same wire.messages (wire.sent + 1) sent new is) ∙ there in cc same)
-    (λ (apart : new ≡ wire.sent + 1 → ⊥).
-    let none : None ≡ Some message = sym free ∙ sym (get_other wire.messages (wire.sent + 1) sent new apart) ∙ there in absurd (cc none))
-    (cases_eq new (wire.sent + 1))
+one_sent wire sent message new free there = grind (arith, get_same, get_other, cases_eq)
 
 -- what a choice says
 abbrev said : Choice → ℕ → Call → Option Answer
@@ -90,18 +83,14 @@ made_by_choice : {w : World} {number new master client : ℕ} {request : Request
     → IsMade w number new master client request message called
     → answer_in message.body ≡ said (choice_of (master_at w master) (call_of client request)) request.tablet (call_of client request)
 made_by_choice {w} {number} {new} {master} {client} {request} {message} {called} its =
-    comes_to P w number master (request_message client master request) called its.asked refl (go (has_crashed w master)) its.made
-  where
-    P : World → Type 0
-    P = λ after. get after.wire.messages new ≡ Some message
-        → answer_in message.body ≡ said (choice_of (master_at w master) (call_of client request)) request.tablet (call_of client request)
-
-    go : (crashed : Bool) → P (cond crashed (losing w)
-        (worked_at w master request.seen
-        (chosen (master_at w master) request.tablet (call_of client request) (choice_of (master_at w master) (call_of client request))))).world
-    go true there = none w new master request.seen request.tablet (call_of client request) message its.free there
-    go false there = says_choice w new master request.seen request.tablet (call_of client request) message its.free
-        (choice_of (master_at w master) (call_of client request)) there
+    let P : World → Type 0 =
+    λ after. get after.wire.messages new ≡ Some message
+    → answer_in message.body ≡ said (choice_of (master_at w master) (call_of client request)) request.tablet (call_of client request) in
+    comes_to P w number master (request_message client master request) called its.asked refl
+    (reaches P w master (request_message client master request)
+    (none w new master request.seen request.tablet (call_of client request) message its.free)
+    (says_choice w new master request.seen request.tablet (call_of client request) message its.free
+    (choice_of (master_at w master) (call_of client request)))) its.made
 
 -- ---- what follows
 

@@ -1,5 +1,6 @@
 -- A lane in which a message comes late: nothing has changed but what is on the wire.
-use Rattle.std.proofs.Common.{◌≡◌, ℕ, Bool, true, false, cond, List, [], ◌∷◌, Some, refl, ap, ◌∙◌, append-nil}
+use Rattle.std.proofs.Common.{arith}
+use Rattle.std.proofs.Common.{List, Some, [], ap, append-nil, false, refl, true, ℕ, ◌∙◌, ◌∷◌, ◌≡◌}
 use Rattle.rk_inv_base.proofs.Words.{cond-false, get, Node, row_of, Row, with_message, Prepare, Tenure, Body, Message, Called, is_noticed}
 use Rattle.rk_inv_base.proofs.Words.{Coordinated, answered, own_to, report, unanswered, ready, transfer, Ledger, with_all_served}
 use Rattle.rk_inv_base.proofs.Words.{with_marks, with_rebuilt, Master, master_step, Stepped, delivered_to, happened, ledger_after, losing}
@@ -11,6 +12,7 @@ use Rattle.rk_inv_lanes.specs.late.Sent.{IsToldToOwn, order_to, report_of}
 use Rattle.rk_inv_lanes.specs.late.Unchanged.{IsUnchanged, IsUntouched}
 use Rattle.rk_inv_lanes.proofs.late.Orders.{Stays, older_quiet, passed_quiet, passed_stays, says_ready, says_transfer, stays_quiet}
 use Rattle.rk_inv_lanes.proofs.late.Reports.{report_late, report_told_again, report_unawaited}
+use Rattle.rk_inv_wellformed.proofs.maps.Lists.{either_way}
 
 -- ---- a message that is delivered
 
@@ -29,12 +31,7 @@ comes_to P w number master message called there its holds = comes P w number mes
 pub reaches : (P : World → Type 0) (w : World) (master : ℕ) (message : Message) → P (losing w).world
     → P (worked_at w master (seen_in message.body) (master_step (master_at w master) message)).world
     → P (to_master w master message).world
-reaches P w master message lost taken = go (has_crashed w master)
-  where
-    go : (crashed : Bool)
-        → P (cond crashed (losing w) (worked_at w master (seen_in message.body) (master_step (master_at w master) message))).world
-    go true = lost
-    go false = taken
+reaches P w master message lost taken = either_way (λ (stepped : Stepped). P stepped.world) (has_crashed w master) lost taken
 
 -- ---- a master that stays as it is
 
@@ -66,10 +63,7 @@ module _ (w : World) (master : ℕ) where
 
 -- a message that is lost
 lost : (w : World) → IsUntouched w (losing w).world
-lost w = record {
-  unchanged = record { masters = λ q. refl; coordinator = refl; ledger = refl; backups = refl; crashed = refl };
-  silent = refl;
-}
+lost w = grind (arith, unchanged)
 
 -- ---- messages to a master
 
@@ -105,11 +99,7 @@ module _ (w : World) (number master : ℕ) where
       → (worked_at w master (seen_in body) (master_step (master_at w master) (order_to master body))).world.wire ≡ with_message message w.wire
       → (happened w (Event.Deliver number) called).world.wire ≡ with_message message w.wire
   sends_as body called message there lives makes =
-      comes_to (λ (after : World). after.wire ≡ with_message message w.wire) w number master (order_to master body) called there refl
-      (ap (λ (s : Stepped). s.world.wire)
-      (cond-false (has_crashed w master) (losing w)
-      (worked_at w master (seen_in body) (master_step (master_at w master) (order_to master body))) lives)
-      ∙ makes)
+      grind (arith, comes_to, with_message, cond-false, has_crashed, losing, worked_at, seen_in, master_step, master_at)
 
   pub ready_again_sent : (prepare : Prepare) (from : ℕ) (called : Called)
       → get w.wire.messages number ≡ Some (order_to master (Body.Prepare prepare)) → has_crashed w master ≡ false
@@ -142,11 +132,7 @@ module _ (w : World) (number sender : ℕ) (body : Body) (tenure : Tenure) (call
   made_as P taken is holds = comes P w number (report_of sender body) called there (rw is holds)
 
   quiet : report w.coordinator sender body ≡ unanswered w.coordinator → IsUntouched w (happened w (Event.Deliver number) called).world
-  quiet is = made_as (IsUntouched w) (unanswered w.coordinator) is
-      (record {
-        unchanged = record { masters = λ q. refl; coordinator = refl; ledger = refl; backups = refl; crashed = refl };
-        silent = refl;
-      })
+  quiet is = grind (arith, made_as, unanswered, unchanged)
 
   pub late_report_changes_nothing : IsLateReport w.coordinator sender tenure → IsUntouched w (happened w (Event.Deliver number) called).world
   late_report_changes_nothing late = quiet (report_late w.coordinator sender body tenure speaks late)

@@ -1,12 +1,12 @@
 -- What a master makes of a message that comes late: it stays as it is, and at most says again what it said before.
 use Rattle.std.proofs.Common.{◌≡◌, ◌<◌, ◌&&◌, ℕ, Bool, true, false, cond, [], Option, None, refl, sym, ap, subst, inl, inr, ⊎_elim, ◌∙◌}
 use Rattle.std.proofs.Common.{arith, ◌⊎◌, ◌==◌, eq-eqb, le-ltb, ne_eqb}
-use Rattle.rk_inv_base.proofs.Words.{Node, closed, Handover, Role, Prepare, Tenure, Body, Message}
-use Rattle.rk_inv_base.proofs.Words.{close_taken, closing, granting, owning, prepare_taken, preparing, ready, ready_again, releasing}
-use Rattle.rk_inv_base.proofs.Words.{transfer, transferring, Master, tablet_at, order, told_master, beginning, is_frozen, is_frozen_at}
+use Rattle.rk_inv_base.proofs.Words.{Node, closed, Handover, Role, Prepare, Tenure, Body, Message, and_left, and_right, close_taken}
+use Rattle.rk_inv_base.proofs.Words.{closing, granting, owning, prepare_taken, preparing, ready, ready_again, releasing, transfer}
+use Rattle.rk_inv_base.proofs.Words.{transferring, Master, tablet_at, order, told_master, beginning, is_frozen, is_frozen_at}
 use Rattle.rk_inv_base.proofs.Words.{is_receiving_at, Worked, changed, sending, is_wanting, Range, cond-false, cond-true}
 use Rattle.rk_inv_lanes.specs.late.Late.{IsOfOtherTerm, IsOlder, IsPassedOver, IsSurpassed, kept_term, says_again}
-use Rattle.rk_inv_lanes.proofs.late.Tests.{first_fails, middle_fails, not_at, not_greater, second_fails}
+use Rattle.rk_inv_lanes.proofs.late.Tests.{middle_fails, not_at, not_greater}
 
 -- ---- what stays
 
@@ -38,11 +38,7 @@ module _ (master : Master) where
   ready_stays tenure _ term = stays_quiet master (changed master) refl
 
   again_stays : (body : Body) → Stays master (again body)
-  again_stays (Body.Prepare prepare) =
-      ready_stays prepare.tenure (tablet_at master prepare.tenure.tablet).handover.role (kept_term master prepare.tenure.tablet)
-  again_stays (Body.Close tenure) =
-      at_most_says master (is_frozen_at (tablet_at master tenure.tablet) tenure.term) (transfer master tenure (tablet_at master tenure.tablet))
-  again_stays _ = stays_quiet master (changed master) refl
+  again_stays body = grind (arith, ready_stays, tablet_at, at_most_says, is_frozen_at, transfer, stays_quiet, changed)
 
   unwanted : (tenure : Tenure) (role : Role) (term : ℕ) → (is_wanting role && (term == tenure.term)) ≡ false
       → ready_again master tenure role term ≡ changed master
@@ -50,10 +46,7 @@ module _ (master : Master) where
   unwanted tenure _ term other = refl
 
   again_quiet : (body : Body) → says_again master body ≡ false → again body ≡ changed master
-  again_quiet (Body.Prepare prepare) untold =
-      unwanted prepare.tenure (tablet_at master prepare.tenure.tablet).handover.role (kept_term master prepare.tenure.tablet) untold
-  again_quiet (Body.Close tenure) untold = cond-false _ _ (changed master) untold
-  again_quiet _ untold = refl
+  again_quiet body untold = grind (arith, unwanted, tablet_at, cond-false, changed)
 
   -- ---- what is passed over
 
@@ -90,11 +83,11 @@ module _ (master : Master) where
 
   frozen_late : (tenure : Tenure) → (IsOfOtherTerm master tenure ⊎ ⊥) ⊎ (tenure.term < kept_term master tenure.tablet)
       → is_frozen_at (tablet_at master tenure.tablet) tenure.term ≡ false
-  frozen_late tenure late = second_fails _ _ (ne_eqb (kept_term master tenure.tablet) tenure.term (is_other tenure late))
+  frozen_late tenure late = and_right _ _ (ne_eqb (kept_term master tenure.tablet) tenure.term (is_other tenure late))
 
   receiving_late : (tenure : Tenure) → (IsOfOtherTerm master tenure ⊎ ⊥) ⊎ (tenure.term < kept_term master tenure.tablet)
       → is_receiving_at (tablet_at master tenure.tablet) tenure.term ≡ false
-  receiving_late tenure late = second_fails _ _ (ne_eqb (kept_term master tenure.tablet) tenure.term (is_other tenure late))
+  receiving_late tenure late = and_right _ _ (ne_eqb (kept_term master tenure.tablet) tenure.term (is_other tenure late))
 
   -- an order is at most answered as before
   skips_order : (body : Body) → Skips body → order master body ≡ again body
@@ -119,26 +112,11 @@ module _ (master : Master) where
   AtMost sender body = (told_master master sender body ≡ changed master) ⊎ (told_master master sender body ≡ again body)
 
   at_most : (sender : Node) (body : Body) → Skips body → AtMost sender body
-  at_most Node.Coordinator body skips = inr (skips_order body skips)
-  at_most (Node.Client client) (Body.Request request) skips = absurd (never skips)
-  at_most (Node.Client client) _ skips = inl refl
-  at_most (Node.Backup backup) (Body.Stored stored) skips = absurd (never skips)
-  at_most (Node.Backup backup) (Body.Copy copy) skips = inl (cond-false _ _ (changed master)
-      (middle_fails _ _ _ (ne_eqb (kept_term master copy.tenure.tablet) copy.tenure.term (is_other copy.tenure skips))))
-  at_most (Node.Backup backup) _ skips = inl refl
-  at_most (Node.Master other) (Body.Pull pull) skips = inl (cond-false _ _ (changed master) (frozen_late pull.tenure skips))
-  at_most (Node.Master other) (Body.Want want) skips = inl (cond-false _ _ (changed master) (frozen_late want.tenure skips))
-  at_most (Node.Master other) (Body.Pulled pulled) skips =
-      inl (cond-false _ _ (changed master) (first_fails _ _ (receiving_late pulled.tenure skips)))
-  at_most (Node.Master other) (Body.Got message) skips =
-      inl (cond-false _ _ (changed master) (first_fails _ _ (receiving_late message.tenure skips)))
-  at_most (Node.Master other) _ skips = inl refl
+  at_most sender body skips =
+      grind (arith, skips_order, never, cond-false, changed, middle_fails, ne_eqb, is_other, frozen_late, and_left, receiving_late)
 
   pub passed_stays : (sender : Node) (body : Body) → IsPassedOver master body → Stays master (told_master master sender body)
-  passed_stays sender body passed = ⊎_elim
-      (λ (quiet : told_master master sender body ≡ changed master). stays_quiet master (told_master master sender body) quiet)
-      (λ (said : told_master master sender body ≡ again body). subst (Stays master) (sym said) (again_stays body))
-      (at_most sender body (inl passed))
+  passed_stays sender body passed = grind (arith, told_master, changed, stays_quiet, again_stays, at_most)
 
   skips_quiet : (sender : Node) (body : Body) → Skips body → says_again master body ≡ false → told_master master sender body ≡ changed master
   skips_quiet sender body skips untold = ⊎_elim (λ (quiet : told_master master sender body ≡ changed master). quiet)
@@ -150,10 +128,7 @@ module _ (master : Master) where
 
   -- nothing is said again of a message of a smaller term
   older_untold : (body : Body) → IsOlder master body → says_again master body ≡ false
-  older_untold (Body.Prepare prepare) older =
-      second_fails _ _ (ne_eqb (kept_term master prepare.tenure.tablet) prepare.tenure.term (is_other prepare.tenure (inr older)))
-  older_untold (Body.Close tenure) older = frozen_late tenure (inr older)
-  older_untold _ older = refl
+  older_untold body older = grind (arith, and_right, ne_eqb, is_other, frozen_late)
 
   pub older_quiet : (sender : Node) (body : Body) → IsOlder master body → told_master master sender body ≡ changed master
   older_quiet sender body older = skips_quiet sender body (inr older) (older_untold body older)
@@ -164,11 +139,7 @@ module _ (master : Master) where
   pub says_ready : (prepare : Prepare) (from : ℕ) → kept_term master prepare.tenure.tablet ≡ prepare.tenure.term
       → (tablet_at master prepare.tenure.tablet).handover.role ≡ Role.Wanting from
       → prepare_taken master prepare ≡ sending master (ready master prepare.tenure from)
-  says_ready prepare from same wanting =
-      let tenure : Tenure = prepare.tenure in
-      let kept : ℕ = kept_term master tenure.tablet in
-      skips_order (Body.Prepare prepare) (inl (inl (inl (omega (arith, same)))))
-      ∙ ap (λ (role : Role). ready_again master tenure role kept) wanting ∙ cond-true (kept == tenure.term) _ _ (eq-eqb kept tenure.term same)
+  says_ready prepare from same wanting = grind (arith, skips_order, ready_again, cond-true, eq-eqb)
 
   -- a source that is frozen hands its tablet over again
   pub says_transfer : (tenure : Tenure) → kept_term master tenure.tablet ≡ tenure.term

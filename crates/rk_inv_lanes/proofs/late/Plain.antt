@@ -1,22 +1,23 @@
 -- What nodes send that refuses no call: all but what a master answers to a Request.
-use Rattle.std.proofs.Common.{◌≡◌, ◌++◌, ℕ, Bool, true, false, cond, List, [], ◌∷◌, Option, Some, None, refl, sym, subst, All, length, map}
-use Rattle.std.proofs.Common.{nat_lt, flat_map}
-use Rattle.rk_inv_base.proofs.Words.{All-append, All-cons, All-map, All-nil, All-weaker, range_with_len, ⊤, NumberMap, Answer, Placed, Node}
-use Rattle.rk_inv_base.proofs.Words.{Role, Phase, Owned, Opening, Row, overreach, pending, PlacedBytes, Overreach, Reply, Body, Message}
-use Rattle.rk_inv_base.proofs.Words.{Appended, Called, Gave, backup_step, apply_entries, newly_held, stored_taken, Coordinator}
-use Rattle.rk_inv_base.proofs.Words.{coordinator_turn, located, own_to, release_to, row_duty, told_coordinator, next_reading, Master}
-use Rattle.rk_inv_base.proofs.Words.{with_known, told_master, append_of, appends, duties, master_turn, reading_duty, tablet_duty}
-use Rattle.rk_inv_base.proofs.Words.{with_outstanding, filled, place_of, Tablet, all_going_on, Worked, changed, from_master, sending}
-use Rattle.rk_inv_base.proofs.Words.{Reading, Served, Stored}
+use Rattle.std.proofs.Common.{arith}
+use Rattle.std.proofs.Common.{All, Bool, List, None, Option, Some, [], cond, flat_map, length, map, nat_lt, refl, subst, sym, ℕ, ◌++◌, ◌∷◌}
+use Rattle.std.proofs.Common.{◌≡◌}
+use Rattle.rk_inv_base.proofs.Words.{All-append, All-cons, All-map, All-nil, All-weaker, Answer, Appended, Body, Called, Coordinator, Gave}
+use Rattle.rk_inv_base.proofs.Words.{Master, Message, Node, NumberMap, Opening, Overreach, Owned, Phase, Placed, Reading, Reply, Role, Row}
+use Rattle.rk_inv_base.proofs.Words.{Served, Stored, Tablet, Worked, all_going_on, append_of, appends, apply_entries, backup_step, changed}
+use Rattle.rk_inv_base.proofs.Words.{coordinator_turn, duties, filled, from_master, located, master_turn, newly_held, next_reading}
+use Rattle.rk_inv_base.proofs.Words.{overreach, own_to, pending, place_of, range_with_len, reading_duty, release_to, row_duty, sending}
+use Rattle.rk_inv_base.proofs.Words.{stored_taken, tablet_duty, told_coordinator, told_master, with_known, with_outstanding, ⊤}
 use Rattle.rk_world.specs.Backup.{master_message}
-use Rattle.rk_world.specs.MasterTurn.{pull_of, tenure_at, want_of}
+use Rattle.rk_world.specs.MasterTurn.{want_of}
 use Rattle.rk_world.specs.Replies.{filled_body, filled_reply}
 use Rattle.rk_world.specs.Worked.{then_works}
 use Rattle.rk_inv_lanes.specs.late.Refused.{IsNoRefusal, IsOutcome}
 use Rattle.rk_inv_lanes.proofs.lanes.Reports.{IsMade, told_made}
 use Rattle.rk_inv_lanes.proofs.late.Answered.{at_same}
 use Rattle.rk_inv_lanes.proofs.masters.Sends.{IsSaid, copy_sends, order_sends, peer_sends}
-use Rattle.rk_inv_events.proofs.stored.Work.{AnyNext, Passes, entries_pass}
+use Rattle.rk_inv_events.proofs.stored.StoredTaken.{AnyNext, Passes, entries_pass}
+use Rattle.rk_inv_wellformed.proofs.maps.Lists.{by_found, either_way}
 
 -- a message that refuses no call
 abbrev pub IsPlain : Message → Type 0
@@ -43,10 +44,6 @@ of_each make (thing ∷ things) each = joined (each thing) (of_each make things 
 pub record WorksPlainly (worked : Worked) : Type 0 where
   pub sends : RefuseNone worked.sends
 
-either : (b : Bool) {first other : Worked} → WorksPlainly first → WorksPlainly other → WorksPlainly (cond b first other)
-either true its others = its
-either false its others = others
-
 both : (first : Worked) (next : Master → Worked) → WorksPlainly first → WorksPlainly (next first.master) → WorksPlainly (then_works first next)
 both first next its later = record { sends = joined its.sends later.sends }
 
@@ -57,19 +54,13 @@ says : (master : Master) (message : Message) → IsPlain message → WorksPlainl
 says master message plain = record { sends = one message plain }
 
 at_most : (b : Bool) (master : Master) (message : Message) → IsPlain message → WorksPlainly (cond b (sending master message) (changed master))
-at_most b master message plain = either b (says master message plain) (quiet master)
+at_most b master message plain = either_way WorksPlainly b (says master message plain) (quiet master)
 
 -- ---- what a master takes
 
 -- each message that a master sends when it takes another one, other than a Request and a Stored, refuses no call
 plainly : IsSaid (λ body sends. RefuseNone sends)
-plainly = record {
-  silent = λ body. none;
-  says_ready = λ master prepare from. one _ tt;
-  says_transfer = λ master tenure tablet. one _ tt;
-  says_pulled = λ master sender pull pulled. one _ tt;
-  says_got = λ master sender want message. one _ tt;
-}
+plainly = grind (arith, none, one)
 
 applies : Passes AnyNext (λ master worked. WorksPlainly worked)
 applies = record {
@@ -106,11 +97,9 @@ master_plain master (Node.Backup backup) _ other = record { sends = none }
 
 appends_plain : (master : Master) → RefuseNone (appends master)
 appends_plain master = of_each (λ backup. append_of master backup (pending master.log backup))
-    (range_with_len 1 (length master.log.known)) (λ backup. by backup (pending master.log backup))
-  where
-    by : (backup : ℕ) (piece : Option PlacedBytes) → RefuseNone (append_of master backup piece)
-    by backup None = none
-    by backup (Some piece) = one _ tt
+    (range_with_len 1 (length master.log.known))
+    (λ backup.
+    by_found (λ piece. RefuseNone (append_of master backup piece)) (pending master.log backup) (λ nothing. none) (λ piece is. one _ tt))
 
 wants_plain : (master : Master) (number : ℕ) (tablet : Tablet) (hashes : List ℕ) → RefuseNone (want_of master number tablet hashes)
 wants_plain master number tablet [] = none
@@ -121,17 +110,8 @@ reading_plain master number tablet None = record { sends = none }
 reading_plain master number tablet (Some reading) = record { sends = one _ tt }
 
 duty_plain : (master : Master) (number : ℕ) (tablet : Tablet) (role : Role) → WorksPlainly (tablet_duty master number tablet role)
-duty_plain master number tablet Role.Receiving =
-    let now = with_outstanding tablet in
-    record { sends = joined (wants_plain master number now now.pulling.hashes.outstanding) (one (pull_of master number now) tt) }
-duty_plain master number tablet (Role.Joining (Some entry)) =
-    at_most (nat_lt entry master.applied) master (from_master master Node.Coordinator (Body.Joined (tenure_at number tablet))) tt
-duty_plain master number tablet (Role.Rebuilding from None) = reading_plain master number tablet (next_reading tablet.gather)
-duty_plain master number tablet (Role.Rebuilding from (Some entry)) =
-    at_most (nat_lt entry master.applied) master
-    (from_master master Node.Coordinator
-    (Body.Rebuilt (record { tenure = tenure_at number tablet; place = from; ends = tablet.merged_ends }))) tt
-duty_plain master number tablet _ = record { sends = none }
+duty_plain master number tablet role =
+    grind (arith, with_outstanding, joined, wants_plain, one, at_most, nat_lt, from_master, reading_plain, next_reading, none)
 
 duties_plain : (master : Master) (tablets : NumberMap Tablet) → WorksPlainly (duties master tablets)
 duties_plain master [] = record { sends = none }
@@ -151,16 +131,7 @@ located_plain sender (Some row) = one _ tt
 
 -- what the coordinator makes of a message sends such messages alone
 reports_plainly : (coordinator : Coordinator) → IsMade (λ body taken. RefuseNone taken.sends) coordinator
-reports_plainly coordinator = record {
-  silent = λ body. none;
-  locates = λ lookup sender row. located_plain sender row;
-  notes = λ message row source sfrom target. none;
-  moves = λ message row source sfrom target dfrom. none;
-  joins = λ tenure row source target dfrom heard. joined (one (own_to target row) tt) (one (release_to source row) tt);
-  joins_again = λ tenure row master. one _ tt;
-  rebuilds = λ message row to heard. one _ tt;
-  rebuilds_again = λ message row master. one _ tt;
-}
+reports_plainly coordinator = grind (arith, none, located_plain, joined, one, own_to, release_to)
 
 module _ (coordinator : Coordinator) where
   pub coordinator_plain : (sender : Node) (body : Body) → RefuseNone (told_coordinator coordinator sender body).sends

@@ -1,18 +1,15 @@
 -- A master refuses a call only where it may: by what it found as it chose.
-use Rattle.std.proofs.Common.{◌≡◌, ◌&&◌, ℕ, true, false, cond, Option, Some, None, refl, ap, subst, ◌∙◌, is_some, nat_lt, not, unwrap_or}
-use Rattle.std.proofs.Common.{ltb-false}
-use Rattle.rk_inv_base.proofs.Words.{and_parts, hash_of, IsInOrder, Call, Held, is_mutation, found, is_serving, contains, newest, items_of}
-use Rattle.rk_inv_base.proofs.Words.{MayAnswerMoved, Master, serving, staged, tablet_at, has_key, choice_of, needs_state, state_of}
-use Rattle.rk_inv_base.proofs.Words.{is_receiving, Tablet, no_tablet, Redirects, Wants}
+use Rattle.std.proofs.Common.{None, Option, Some, ap, cond, false, is_some, ltb-false, nat_lt, not, refl, subst, true, unwrap_or, ℕ, ◌&&◌}
+use Rattle.std.proofs.Common.{◌∙◌, ◌≡◌}
+use Rattle.rk_inv_base.proofs.Words.{Call, Held, IsInOrder, Master, MayAnswerMoved, Redirects, Tablet, Wants, and_parts, choice_of}
+use Rattle.rk_inv_base.proofs.Words.{contains, found, has_key, hash_of, is_mutation, is_receiving, is_serving, items_of, needs_state}
+use Rattle.rk_inv_base.proofs.Words.{newest, no_tablet, serving, staged, state_of, tablet_at}
 use Rattle.rk_types.specs.Hashing.{bucket_of}
 use Rattle.rk_world.specs.Justified.{MayAnswerNotYet}
-use Rattle.rk_world.specs.Master.{serves_key}
-use Rattle.rk_inv_wellformed.proofs.maps.Lists.{find_passes}
-use Rattle.rk_inv_wellformed.proofs.maps.Maps.{find_is_got}
 use Rattle.rk_inv_events.proofs.request.Choices.{IsFresh, fresh, put_off, redirected}
 use Rattle.rk_inv_lanes.proofs.late.Tests.{each_fails, none_passes}
 use Rattle.rk_inv_wellformed.proofs.lanes.Events.{no_second}
-use Rattle.rk_inv_events.proofs.Words.{not-false}
+use Rattle.rk_inv_events.proofs.Words.{find_is_got, find_passes, not-false, serves_key}
 use Rattle.rk_inv_events.proofs.pulls.Targets.{receiving_is}
 
 -- ---- Moved

@@ -1,10 +1,11 @@
 -- What the coordinator makes of a report that comes late, or that no row waits for: it stays as it is, and at most tells an owner again.
-use Rattle.std.proofs.Common.{◌≡◌, ℕ, Bool, true, false, cond, [], ◌∷◌, Option, Some, None, refl, sym, ap, ◌∙◌, ◌⊎◌, ◌==◌}
-use Rattle.std.proofs.Common.{eq-eqb, eqb-true, inl, inr}
+use Rattle.std.proofs.Common.{arith}
+use Rattle.std.proofs.Common.{◌≡◌, ℕ, Bool, true, false, cond, [], ◌∷◌, Option, Some, None, refl, sym, ap, ◌∙◌, ◌==◌}
+use Rattle.std.proofs.Common.{eq-eqb, eqb-true}
 use Rattle.rk_inv_base.proofs.Words.{row_of, Phase, Owned, Opening, Moving, Rebuilding, Row, Ready, Tenure, Transfer, Body, Rebuilt}
 use Rattle.rk_inv_base.proofs.Words.{Coordinator, is_noticed, Coordinated, about, answered, at_term, joined_in, own_to, ready_in}
 use Rattle.rk_inv_base.proofs.Words.{rebuilt_in, report, row_for, transfer_in, unanswered, tenure_in, cond-false, cond-true, cond_both}
-use Rattle.rk_inv_lanes.specs.late.Late.{HasOtherTerm, IsLateReport, is_told_again, is_waited_for}
+use Rattle.rk_inv_lanes.specs.late.Late.{IsLateReport, is_told_again, is_waited_for}
 use Rattle.rk_inv_lanes.proofs.late.Tests.{not_at}
 
 -- ---- the row that a report speaks of
@@ -12,16 +13,7 @@ use Rattle.rk_inv_lanes.proofs.late.Tests.{not_at}
 -- a report that comes late speaks of no row
 no_row : (coordinator : Coordinator) (sender : ℕ) (tenure : Tenure) → IsLateReport coordinator sender tenure
     → row_for coordinator sender tenure ≡ None
-no_row coordinator sender tenure (inl noticed) =
-    cond-true (is_noticed coordinator sender) None (at_term tenure (row_of coordinator.rows tenure.tablet)) noticed
-no_row coordinator sender tenure (inr others) =
-    cond_both (is_noticed coordinator sender) None (at_term tenure (row_of coordinator.rows tenure.tablet)) (λ (row : Option Row). row ≡ None) (λ noticed. refl)
-    (λ heard. none others)
-  where
-    none : (row_of coordinator.rows tenure.tablet ≡ None) ⊎ HasOtherTerm coordinator tenure
-        → at_term tenure (row_of coordinator.rows tenure.tablet) ≡ None
-    none (inl is) = ap (at_term tenure) is
-    none (inr has) = ap (at_term tenure) has.found ∙ not_at has.row.term tenure.term (Some has.row) has.other
+no_row coordinator sender tenure holds = grind (arith, cond-true, is_noticed, at_term, row_of, cond_both, not_at)
 
 -- a report speaks of the row that has its tablet and its term
 row_is : (coordinator : Coordinator) (sender : ℕ) (tenure : Tenure) (row : Row) → is_noticed coordinator sender ≡ false
@@ -42,26 +34,14 @@ module _ (coordinator : Coordinator) (sender : ℕ) where
 
   pub report_late : (body : Body) (tenure : Tenure) → tenure_in body ≡ Some tenure → IsLateReport coordinator sender tenure
       → report coordinator sender body ≡ unanswered coordinator
-  report_late (Body.Ready ready) tenure says late = about_is _ ready.tenure tenure None says (no_row coordinator sender tenure late)
-  report_late (Body.Transfer transfer) tenure says late = about_is _ transfer.tenure tenure None says (no_row coordinator sender tenure late)
-  report_late (Body.Joined joined) tenure says late = about_is _ joined tenure None says (no_row coordinator sender tenure late)
-  report_late (Body.Rebuilt rebuilt) tenure says late = about_is _ rebuilt.tenure tenure None says (no_row coordinator sender tenure late)
-  report_late _ tenure says late = refl
+  report_late body tenure says late = grind (arith, about_is, no_row)
 
   -- ---- reports that no row waits for
 
   about_row : (taken : Row → Coordinated) (stated tenure : Tenure) (row : Row) → Some stated ≡ Some tenure
       → row_of coordinator.rows tenure.tablet ≡ Some row → taken row ≡ unanswered coordinator
       → about coordinator taken (row_for coordinator sender stated) ≡ unanswered coordinator
-  about_row taken stated tenure row says found quiet =
-      let same : stated ≡ tenure = cc says in
-      rw (ap (λ (t : Tenure). row_of coordinator.rows t.tablet) same ∙ found)
-      (by (is_noticed coordinator sender) (row.term == stated.term))
-    where
-      by : (noticed here : Bool) → about coordinator taken (cond noticed None (cond here (Some row) None)) ≡ unanswered coordinator
-      by true here = refl
-      by false true = quiet
-      by false false = refl
+  about_row taken stated tenure row says found quiet = grind (arith, row_of, is_noticed, about, unanswered)
 
   ready_quiet : (ready : Ready) (row : Row) (phase : Phase) → is_waited_for phase sender (Body.Ready ready) ≡ false
       → ready_in coordinator sender ready row phase ≡ unanswered coordinator
@@ -89,15 +69,8 @@ module _ (coordinator : Coordinator) (sender : ℕ) where
       → row_of coordinator.rows tenure.tablet ≡ Some row
       → is_waited_for row.phase sender body ≡ false → is_told_again row.phase sender body ≡ false
       → report coordinator sender body ≡ unanswered coordinator
-  report_unawaited (Body.Ready ready) tenure row says found other untold =
-      about_row _ ready.tenure tenure row says found (ready_quiet ready row row.phase other)
-  report_unawaited (Body.Transfer transfer) tenure row says found other untold =
-      about_row _ transfer.tenure tenure row says found (transfer_quiet transfer row row.phase other)
-  report_unawaited (Body.Joined joined) tenure row says found other untold =
-      about_row _ joined tenure row says found (joined_quiet joined row row.phase other untold)
-  report_unawaited (Body.Rebuilt rebuilt) tenure row says found other untold =
-      about_row _ rebuilt.tenure tenure row says found (rebuilt_quiet rebuilt row row.phase other untold)
-  report_unawaited _ tenure row says found other untold = refl
+  report_unawaited body tenure row says found other untold =
+      grind (arith, about_row, ready_quiet, transfer_quiet, joined_quiet, rebuilt_quiet)
 
   -- ---- an owner that is told again
 
@@ -122,13 +95,5 @@ module _ (coordinator : Coordinator) (sender : ℕ) where
       → is_noticed coordinator sender ≡ false → row_of coordinator.rows tenure.tablet ≡ Some row → row.term ≡ tenure.term
       → is_told_again row.phase sender body ≡ true
       → report coordinator sender body ≡ answered coordinator (own_to sender row ∷ [])
-  report_told_again body tenure row says heard found same again = go body says again
-    where
-      its : row_for coordinator sender tenure ≡ Some row
-      its = row_is coordinator sender tenure row heard found same
-
-      go : (b : Body) → tenure_in b ≡ Some tenure → is_told_again row.phase sender b ≡ true
-          → report coordinator sender b ≡ answered coordinator (own_to sender row ∷ [])
-      go (Body.Joined joined) says again = about_is _ joined tenure (Some row) says its ∙ joined_again joined row row.phase again
-      go (Body.Rebuilt rebuilt) says again = about_is _ rebuilt.tenure tenure (Some row) says its ∙ rebuilt_again rebuilt row row.phase again
-      go _ says again = absurd (cc again)
+  report_told_again body tenure row says heard found same again =
+      grind (arith, row_for, row_is, tenure_in, report, answered, own_to, about_is, joined_again, rebuilt_again)

@@ -1,9 +1,10 @@
 -- Where a refusal on the wire comes from: of all events only a Request that is delivered to a master makes one.
-use Rattle.std.proofs.Common.{◌≡◌, ◌+◌, ℕ, List, [], ◌∷◌, Option, Some, None, sym, subst, inl, inr, ⊎_elim, ◌∙◌, ◌⊎◌, All, fold, map}
+use Rattle.std.proofs.Common.{arith}
+use Rattle.std.proofs.Common.{◌≡◌, ◌+◌, ℕ, List, [], ◌∷◌, Option, Some, None, sym, subst, inl, inr, ⊎_elim, ◌∙◌, ◌⊎◌, All, fold}
 use Rattle.rk_inv_base.proofs.Words.{cases_eq, All-head, All-tail, get_other, get_same, remove_less, get, Placed, Node, Traffic}
 use Rattle.rk_inv_base.proofs.Words.{with_message, Reply, Request, Body, Message, Called, IsWellFormed, MayAnswerMoved, filled, happened}
-use Rattle.rk_inv_base.proofs.Words.{ledger_after, log_bytes_of, seen_in, with_sends, worked_at, Worked, World, master_at, Event}
-use Rattle.rk_inv_base.proofs.Words.{LastCall, IsRequest, view, IsSound, Answer, told_master}
+use Rattle.rk_inv_base.proofs.Words.{ledger_after, log_bytes_of, seen_in, with_sends, worked_at, Worked, World, master_at, Event, LastCall}
+use Rattle.rk_inv_base.proofs.Words.{IsRequest, view, IsSound, Answer, told_master, Master, Call, call_of}
 use Rattle.rk_inv_lanes.specs.late.Refused.{HasPlainRequests, IsNoRefusal, IsOutcome, IsPutOff, WasRefused}
 use Rattle.rk_inv_lanes.specs.late.Sent.{IsMade}
 use Rattle.rk_inv_lanes.proofs.lanes.Events.{Covers, event_covered}
@@ -50,10 +51,7 @@ module _ (w : World) (new : ℕ) (message : Message) (called : Called) (free : g
   sending {sends} plain there = inl (fold_plain w.wire sends new message plain.each nothing there)
 
   working : (master seen : ℕ) {worked : Worked} → WorksPlainly worked → IsExplained (worked_at w master seen worked).world
-  working master seen {worked} plain there =
-      let journal = (ledger_after w.ledger master seen worked).journal in
-      inl (fold_plain w.wire (map (filled journal worked.served) worked.sends) new message
-      (all_filled_plain journal worked.served worked.sends plain.sends.each) nothing there)
+  working master seen {worked} plain there = grind (arith, ledger_after, fold_plain, filled, all_filled_plain, nothing)
 
   -- a master takes a message
   taking : (number master : ℕ) (from to : Node) (body : Body) → event ≡ Event.Deliver number
@@ -105,31 +103,19 @@ module _ (w : World) (event : Event) (new : ℕ) (message : Message) (reply : Re
   refused refuses = ⊎_elim (λ (plain : IsPlain message). absurd (refuses (subst IsNoRefusal replies plain)))
       (λ (was : WasAnswered w event new message called). was) (source w new message called free requests event made)
 
+  -- by a master that may answer so
+  refused_as : (May : Master → Call → Type 0) → (IsOutcome reply.answer → ⊥)
+      → ((was : WasAnswered w event new message called) → May (master_at w was.master) (call_of was.client was.request))
+      → WasRefused w event May
+  refused_as May refuses may = grind (arith, refused)
+
   pub each_moved : (tablet : ℕ) → reply.answer ≡ Answer.Moved tablet → WasRefused w event MayAnswerMoved
-  each_moved tablet is =
-      let was : WasAnswered w event new message called = refused (λ outcome. subst IsOutcome is outcome) in
-      record {
-        number = was.number;
-        master = was.master;
-        client = was.client;
-        request = was.request;
-        event_is = was.event_is;
-        asked = was.made.asked;
-        may = told_moved w was.number new was.master was.client was.request message called was.made reply replies tablet is;
-      }
+  each_moved tablet is = refused_as MayAnswerMoved (λ outcome. subst IsOutcome is outcome)
+      (λ was. told_moved w was.number new was.master was.client was.request message called was.made reply replies tablet is)
 
   pub each_not_yet : (key : List ℕ) → IsWellFormed w → reply.answer ≡ Answer.NotYet key → WasRefused w event IsPutOff
-  each_not_yet key formed is =
-      let was : WasAnswered w event new message called = refused (λ outcome. subst IsOutcome is outcome) in
-      record {
-        number = was.number;
-        master = was.master;
-        client = was.client;
-        request = was.request;
-        event_is = was.event_is;
-        asked = was.made.asked;
-        may = told_not_yet w was.number new was.master was.client was.request message called was.made reply replies key formed is;
-      }
+  each_not_yet key formed is = refused_as IsPutOff (λ outcome. subst IsOutcome is outcome)
+      (λ was. told_not_yet w was.number new was.master was.client was.request message called was.made reply replies key formed is)
 
 -- the requests that the clients of a sound lane may send again are Requests
 request_plain : (asked : ℕ → Option LastCall) (journal : List Placed) (client : ℕ) (from : Node) (body : Body)

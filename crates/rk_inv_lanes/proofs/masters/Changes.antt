@@ -1,16 +1,17 @@
 -- What is so of a master stays so where a call is chosen for, where what waited goes on, and where a tablet is handed over, if it does when the
 -- log grows, when items go into the records or are dropped from them, and when a tablet is put. So is what is said of the log, of what is
 -- applied of it, of the calls that wait and of the records alone, whatever becomes of the tablets.
-use Rattle.std.proofs.Common.{Bool, List, None, Option, Some, cond, false, length, true, ℕ, ◌==◌, All, [], ◌∷◌, slice_set}
+use Rattle.std.proofs.Common.{arith}
+use Rattle.std.proofs.Common.{All, Bool, List, None, Option, Some, [], cond, length, slice_set, ℕ, ◌==◌, ◌∷◌}
 use Rattle.rk_inv_base.proofs.Words.{Call, Choice, Entry, Grant, Handover, Held, Log, Master, NumberMap, Prepare, Range, Refuses, Role}
-use Rattle.rk_inv_base.proofs.Words.{Tablet, Tenure, Worked, Writes, all_going_on, carried_entry, changed, chosen, close_taken, closed}
-use Rattle.rk_inv_base.proofs.Words.{closing, closing_entry, freezing, frozen, going_on_in, granting, is_frozen_at, is_greater}
+use Rattle.rk_inv_base.proofs.Words.{Tablet, Tenure, Wants, Worked, Writes, all_going_on, carried_entry, changed, chosen, close_taken}
+use Rattle.rk_inv_base.proofs.Words.{closed, closing, closing_entry, freezing, frozen, going_on_in, granting, is_frozen_at, is_greater}
 use Rattle.rk_inv_base.proofs.Words.{is_sealed_stored, is_settled, item_of, joined, joined_entry, owning, prepare_taken, prepared}
-use Rattle.rk_inv_base.proofs.Words.{preparing, ready, ready_again, refusal_of, releasing, sending, tablet_at, tablet_closed, tablet_frozen}
-use Rattle.rk_inv_base.proofs.Words.{transfer, with_appended, with_move, with_others_given_up, with_side_segment, without_items}
-use Rattle.rk_inv_base.proofs.Words.{Wants, with_handover, with_staged, with_tablet, ⊤}
+use Rattle.rk_inv_base.proofs.Words.{preparing, ready, ready_again, refusal_of, releasing, sending, tablet_at, tablet_closed, transfer}
+use Rattle.rk_inv_base.proofs.Words.{with_appended, with_handover, with_move, with_others_given_up, with_side_segment, with_staged}
+use Rattle.rk_inv_base.proofs.Words.{with_tablet, without_items, ⊤}
 use Rattle.rk_world.specs.Master.{with_call, with_item}
-use Rattle.rk_inv_wellformed.proofs.maps.Lists.{fold_keeps_all}
+use Rattle.rk_inv_wellformed.proofs.maps.Lists.{fold_keeps_all, either_way}
 
 -- it stays so where an entry that may be appended is, where a side segment becomes known, where an item that fits is put into the records,
 -- where the items of a range are dropped from them, and where a tablet is put that has sealed few side segments, with these lists of workers
@@ -53,19 +54,7 @@ abbrev pub AnyTablet : List ℕ → List (List Held) → Type 0
 AnyTablet sealed sides = ⊤
 
 pub of_lasting : {P : About} {Fits : Held → Type 0} → IsLasting P Fits → Lasts (Has P) Fits AnyEntry AnyTablet
-of_lasting lasting = record {
-  appended = λ master entry any has. lasting.appended master entry has;
-  sealed = lasting.sealed;
-  put = lasting.put;
-  dropped = lasting.dropped;
-  tablet = λ master number tablet any has. has;
-  given_up = λ master number range has. has;
-  few = λ master number has. tt;
-  all = λ master has place none inside. tt;
-  none = tt;
-  replayed = λ sealed sides worker items any. tt;
-  closes = λ tablet any. tt;
-}
+of_lasting lasting = grind arith
 
 -- the entry that a choice leaves may be appended
 abbrev pub MayLeave : (Entry → Type 0) → Master → Call → Choice → Type 0
@@ -75,13 +64,8 @@ MayLeave May master call _ = ⊤
 
 module _ {P : Master → Type 0} {Fits : Held → Type 0} {May : Entry → Type 0} {Few : List ℕ → List (List Held) → Type 0} (lasts : Lasts P Fits May Few) where
   -- what is made where a test holds has it, and so has what is made where it does not
-  pub either_has : (test : Bool) (one other : Master) → P one → P other → P (cond test one other)
-  either_has true one other first second = first
-  either_has false one other first second = second
-
   pub either_work : (test : Bool) (one other : Worked) → P one.master → P other.master → P (cond test one other).master
-  either_work true one other first second = first
-  either_work false one other first second = second
+  either_work test one other = either_way (λ (worked : Worked). P worked.master) test
 
   -- a tablet of a number is put, with what it sealed and its lists of workers
   pub put_has : (master : Master) (number : ℕ) (handover : Handover) → P master
@@ -107,8 +91,8 @@ module _ {P : Master → Type 0} {Fits : Held → Type 0} {May : Entry → Type 
   pub freezing_has : (master : Master) (number : ℕ) (tablet : Tablet) (handover : Option Handover)
       → Few tablet.pulling.sealed tablet.pulling.sides → P master → P (freezing master number tablet handover)
   freezing_has master number tablet None few has = has
-  freezing_has master number tablet (Some handover) few has = either_has (is_settled master tablet.handover.range)
-      (tablet_frozen master number tablet handover) master (lasts.tablet master number _ few has) has
+  freezing_has master number tablet (Some handover) few has =
+      either_way P (is_settled master tablet.handover.range) (lasts.tablet master number _ few has) has
 
   pub closing_entry_has : (master : Master) (number : ℕ) (tablet : Tablet) (handover : Option Handover)
       → Few tablet.pulling.sealed tablet.pulling.sides → P master → P (closing_entry master number tablet handover)
@@ -119,13 +103,8 @@ module _ {P : Master → Type 0} {Fits : Held → Type 0} {May : Entry → Type 
 
   going_on_has : (master : Master) (number : ℕ) (tablet : Tablet) (role : Role) → Few tablet.pulling.sealed tablet.pulling.sides → P master
       → P (going_on_in master number tablet role)
-  going_on_has master number tablet Role.Closing few has =
-      freezing_has master number tablet (frozen tablet.handover tablet.handover.term) few has
-  going_on_has master number tablet (Role.Joining None) few has =
-      let handover = joined tablet.handover tablet.handover.term (Some (length master.log.entries)) in
-      either_has (is_sealed_stored master tablet) (closing_entry master number tablet handover) master
-      (closing_entry_has master number tablet handover few has) has
-  going_on_has master number tablet _ few has = has
+  going_on_has master number tablet role few has =
+      grind (arith, freezing_has, frozen, joined, either_way, is_sealed_stored, closing_entry_has)
 
   pub all_going_on_has : (master : Master) → P master → P (all_going_on master master.tablets)
   all_going_on_has master has =
@@ -166,11 +145,7 @@ module _ {P : Master → Type 0} {Fits : Held → Type 0} {May : Entry → Type 
 
   pub close_has : (master : Master) (tenure : Tenure) → P master → P (close_taken master tenure).master
   close_has master tenure has =
-      let handover = closed (tablet_at master tenure.tablet).handover tenure.term in
-      let now = closing master tenure.tablet handover in
-      let tablet = tablet_at now tenure.tablet in
-      let has_now = closing_has master tenure.tablet handover has in
-      either_work (is_frozen_at tablet tenure.term) (sending now (transfer now tenure tablet)) (changed now) has_now has_now
+      grind (arith, closed, tablet_at, closing, closing_has, either_work, is_frozen_at, sending, transfer, changed)
 
   -- ---- granted, owned and released
 

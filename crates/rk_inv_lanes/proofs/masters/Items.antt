@@ -1,5 +1,6 @@
 -- What is so of the entries of a master's log, of the items of its side segments and of its records, and of nothing else, stays so at each
 -- message: also where a backup tells what it holds, if the items of the log fit.
+use Rattle.std.proofs.Common.{arith}
 use Rattle.std.proofs.Common.{All, List, None, Option, Some, [], take, ℕ}
 use Rattle.rk_inv_base.proofs.Words.{All-drop, All-head, All-take, Entry, Held, Master, Message, Overreach, Stored, apply_entries}
 use Rattle.rk_inv_base.proofs.Words.{committed, items_in, items_of, master_step, newly_held, overreach, stored_taken, with_known}
@@ -7,7 +8,7 @@ use Rattle.rk_inv_wellformed.proofs.maps.Lists.{all_given}
 use Rattle.rk_inv_lanes.specs.room.Replayed.{replayed_of}
 use Rattle.rk_inv_lanes.proofs.masters.Changes.{About, Has, IsLasting, all_going_on_has, of_lasting}
 use Rattle.rk_inv_lanes.proofs.masters.Steps.{told_has, makes_any}
-use Rattle.rk_inv_events.proofs.stored.Work.{Passes, entries_pass, passed}
+use Rattle.rk_inv_events.proofs.stored.StoredTaken.{Passes, entries_pass, passed}
 
 -- something of the entries of a log, of the items of its side segments, and of records
 abbrev pub OfItems : Type 1
@@ -23,12 +24,7 @@ module _ (P : OfItems) (Fits : Held → Type 0) (lasting : IsLasting (about P) F
   item_has master _ each has = has
 
   entries_have : Passes (λ entry. All Fits (items_in entry)) (λ master worked. Has (about P) master → Has (about P) worked.master)
-  entries_have = record {
-    stays = λ master has. has;
-    silent = item_has;
-    ends = λ master entry call end each is has. item_has master entry each has;
-    goes_on = λ master first later one two has. two (one has);
-  }
+  entries_have = grind (arith, item_has)
 
   -- what every backup holds by then is applied, and what waited goes on
   stored_has : (master : Master) (backup : ℕ) (stored : Stored) (beyond : Option Overreach) → All Fits (items_of master.log.entries)

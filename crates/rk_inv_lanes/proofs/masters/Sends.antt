@@ -1,4 +1,5 @@
 -- What a master sends when it takes a message, other than a Request and a Stored: one message of a kind that fits at most.
+use Rattle.std.proofs.Common.{arith}
 use Rattle.std.proofs.Common.{ℕ, Bool, List, None, Option, Some, [], cond, false, length, true, ◌&&◌, ◌==◌, ◌∷◌}
 use Rattle.rk_inv_base.proofs.Words.{Body, CopySegment, Got, Grant, Handover, Master, Merged, Message, Node, Prepare, Pull, Pulled}
 use Rattle.rk_inv_base.proofs.Words.{Reading, Role, Tablet, Tenure, Want, Worked, as_entries, batch_taken, beginning, by_member, carried}
@@ -37,12 +38,8 @@ module _ {S : Body → List Message → Type 0} (said : IsSaid S) where
   merging_sends body master number tablet merged (Some handover) = said.silent body
 
   rebuilding_sends : (body : Body) (master : Master) (number : ℕ) (reading : Option Reading) → S body (rebuilding_on master number reading).sends
-  rebuilding_sends body master number (Some reading) = said.silent body
-  rebuilding_sends body master number None =
-      let tablet = tablet_at master number in
-      let merged = merge (own_material master tablet) (by_member tablet.gather (own_material master tablet)) in
-      merging_sends body master number tablet merged
-      (carried tablet.handover tablet.handover.term (length (with_all master (as_entries merged.copies)).log.entries) merged.floor)
+  rebuilding_sends body master number reading =
+      grind (arith, tablet_at, merge, own_material, by_member, merging_sends, carried, with_all, as_entries)
 
   granting_sends : (body : Body) (master : Master) (grant : Grant) (handover : Option Handover) → S body (granting master grant handover).sends
   granting_sends body master grant None = said.silent body

@@ -1,24 +1,24 @@
 -- What is so of a master stays so at each message that it takes, where what it replays fits and what it appends may be, and at its turn.
+use Rattle.std.proofs.Common.{arith}
 use Rattle.std.proofs.Common.{All, List, None, Option, Some, [], cond, false, length, nat_lt, true, ℕ, ◌%◌, ◌&&◌, ◌∷◌, Bool, fold, refl}
 use Rattle.std.proofs.Common.{◌≡◌}
-use Rattle.rk_inv_base.proofs.Words.{Body, Call, CopySegment, Got, Handover, Held, Master, Member, Merged, Node, NumberMap, Pulled}
-use Rattle.rk_inv_base.proofs.Words.{Range, Reading, Rebuild, Role, Stored, Tablet, as_entries, batch_taken, beginning, begun_from}
-use Rattle.rk_inv_base.proofs.Words.{by_member, call_of, carried, changed, copy_taken, duties, end, found, got_taken, has_parts}
-use Rattle.rk_inv_base.proofs.Words.{hashes_resolved, is_batch, is_frozen_at, is_greater, is_newer, is_receiving_at, is_token}
-use Rattle.rk_inv_base.proofs.Words.{item_replayed, items_of, joined, joining_at, joining_by, master_turn, merge, merging, next_reading}
-use Rattle.rk_inv_base.proofs.Words.{order, overreach, own_material, own_member, peer_message, pulled_all, pulled_taken, reading_duty}
-use Rattle.rk_inv_base.proofs.Words.{rebuild_begun, rebuild_goes_on, rebuild_taken, rebuilding_on, rebuilt, rebuilt_entry, replay}
-use Rattle.rk_inv_base.proofs.Words.{replay_one, sealed_sides, sealing, segment_gathered, stored_taken, tablet_at, tablet_duty}
-use Rattle.rk_inv_base.proofs.Words.{token_passed, told_master, with_all, with_appended, with_begun, with_halves, with_others_given_up}
-use Rattle.rk_inv_base.proofs.Words.{with_side_segment, with_split, without_foreign, Choice, Entry, Refuses}
-use Rattle.rk_inv_base.proofs.Words.{Worked, Writes, carried_entry, choice_of, granted, owned, released, All-head, All-tail, cond_both}
-use Rattle.rk_inv_base.proofs.Words.{next_sides, range_below, with_half, with_tablet, ⊤}
+use Rattle.rk_inv_base.proofs.Words.{All-head, All-tail, Body, Call, Choice, CopySegment, Entry, Got, Handover, Held, Master, Member}
+use Rattle.rk_inv_base.proofs.Words.{Merged, Node, NumberMap, Pulled, Range, Rebuild, Refuses, Role, Stored, Tablet, Worked, Writes}
+use Rattle.rk_inv_base.proofs.Words.{as_entries, batch_taken, beginning, begun_from, by_member, call_of, carried, carried_entry, changed}
+use Rattle.rk_inv_base.proofs.Words.{choice_of, cond_both, copy_taken, duties, end, found, got_taken, granted, has_parts, hashes_resolved}
+use Rattle.rk_inv_base.proofs.Words.{is_batch, is_frozen_at, is_greater, is_newer, is_receiving_at, is_token, items_of, joined, joining_at}
+use Rattle.rk_inv_base.proofs.Words.{joining_by, master_turn, merge, merging, next_reading, next_sides, order, overreach, own_material}
+use Rattle.rk_inv_base.proofs.Words.{own_member, owned, peer_message, pulled_all, pulled_taken, range_below, reading_duty, rebuild_begun}
+use Rattle.rk_inv_base.proofs.Words.{rebuild_goes_on, rebuild_taken, rebuilding_on, rebuilt, rebuilt_entry, released, replay, replay_one}
+use Rattle.rk_inv_base.proofs.Words.{sealed_sides, sealing, segment_gathered, stored_taken, tablet_at, tablet_duty, token_passed}
+use Rattle.rk_inv_base.proofs.Words.{told_master, with_all, with_appended, with_begun, with_half, with_others_given_up, with_side_segment}
+use Rattle.rk_inv_base.proofs.Words.{with_split, with_tablet, without_foreign, ⊤}
 use Rattle.rk_world.specs.Master.{with_call, with_item}
 use Rattle.rk_inv_wellformed.proofs.lanes.Ledgers.{kept_by_fold}
-use Rattle.rk_inv_wellformed.proofs.maps.Lists.{fold_keeps_all}
+use Rattle.rk_inv_wellformed.proofs.maps.Lists.{by_found, either_way, fold_keeps_all}
 use Rattle.rk_inv_lanes.specs.room.Replayed.{got_items, pulled_items, replayed_of}
-use Rattle.rk_inv_lanes.proofs.masters.Changes.{About, AnyEntry, AnyTablet, Has, IsLasting, Lasts, MayLeave, closing_entry_has, either_has}
-use Rattle.rk_inv_lanes.proofs.masters.Changes.{chosen_has, close_has, either_work, granting_has, owning_has, prepare_has, put_has, releasing_has}
+use Rattle.rk_inv_lanes.proofs.masters.Changes.{About, AnyEntry, AnyTablet, Has, IsLasting, Lasts, MayLeave, closing_entry_has, chosen_has}
+use Rattle.rk_inv_lanes.proofs.masters.Changes.{close_has, either_work, granting_has, owning_has, prepare_has, put_has, releasing_has}
 use Rattle.rk_inv_events.specs.copies.Small.{awaits}
 
 -- what a merge appends may be appended
@@ -57,13 +57,7 @@ leaves_any master call _ = tt
 
 pub makes_any : {P : About} {Fits : Held → Type 0} → IsLasting P Fits → (master : Master) (sender : Node) (body : Body)
     → Makes (Has P) AnyEntry AnyTablet master sender body
-makes_any lasting master (Node.Client client) (Body.Request request) =
-    leaves_any master (call_of client request) (choice_of master (call_of client request))
-makes_any lasting master Node.Coordinator (Body.Grant grant) = λ handover. tt
-makes_any lasting master Node.Coordinator (Body.Rebuild rebuild) = ((λ place none inside. tt), tt)
-makes_any lasting master (Node.Master other) (Body.Pulled pulled) = λ takes last has. tt
-makes_any lasting master (Node.Backup backup) (Body.Copy copy) = λ awaited. ((λ place none inside. tt), tt)
-makes_any lasting master _ _ = tt
+makes_any lasting master sender body = grind (arith, leaves_any, call_of, choice_of)
 
 module _ {P : Master → Type 0} {Fits : Held → Type 0} {May : Entry → Type 0} {Few : List ℕ → List (List Held) → Type 0} (lasts : Lasts P Fits May Few) where
   -- ---- items are replayed
@@ -72,8 +66,7 @@ module _ {P : Master → Type 0} {Fits : Held → Type 0} {May : Entry → Type 
   replay_has : (master : Master) (number worker : ℕ) (items : List Held) → All Fits items → P master → P (replay master number worker items)
   replay_has master number worker items each has =
       fold_keeps_all P Fits (replay_one number worker) items master has each
-      (λ now item kept fits. either_has lasts (is_newer item (found item.table item.key now.records))
-      (item_replayed number worker now item) now
+      (λ now item kept fits. either_way P (is_newer item (found item.table item.key now.records))
       (lasts.tablet (with_item now item) number _
       (lasts.replayed (tablet_at now number).pulling.sealed (tablet_at now number).pulling.sides worker _ (lasts.few now number kept))
       (lasts.put now item fits kept)) kept)
@@ -81,17 +74,7 @@ module _ {P : Master → Type 0} {Fits : Held → Type 0} {May : Entry → Type 
   -- those of a Got are replayed where it is awaited
   got_has : (master : Master) (message : Got) → All Fits (got_items master message) → P master → P (got_taken master message).master
   got_has master message each has =
-      let number = message.tenure.tablet in
-      let tablet = tablet_at master number in
-      let now = replay master number 0 (items_of message.entries) in
-      let resolved = changed (hashes_resolved now number message.hashes) in
-      elim (is_receiving_at tablet message.tenure.term && is_batch tablet.pulling.hashes.outstanding message.hashes)
-      as (λ b. All Fits (cond b (items_of message.entries) []) → P (cond b resolved (changed master)).master) [
-        | true ↦ λ each.
-            let kept = replay_has master number 0 (items_of message.entries) each has in
-            lasts.tablet now number _ (lasts.few now number kept) kept
-        | false ↦ λ each. has
-      ] each
+      grind (arith, tablet_at, replay, items_of, changed, hashes_resolved, is_receiving_at, is_batch, replay_has)
 
   -- ---- a target that has pulled all
 
@@ -160,15 +143,14 @@ module _ {P : Master → Type 0} {Fits : Held → Type 0} {May : Entry → Type 
       (λ now entry kept may. lasts.appended now entry may kept)))
 
   goes_on_has : (master : Master) (number : ℕ) → MayMerge May master number → P master → P (rebuild_goes_on master number).master
-  goes_on_has master number may has = go (next_reading (tablet_at master number).gather)
-    where
-      go : (reading : Option Reading) → P (rebuilding_on master number reading).master
-      go (Some reading) = has
-      go None =
-          let tablet = tablet_at master number in
-          let merged = merge (own_material master tablet) (by_member tablet.gather (own_material master tablet)) in
-          merging_has master number merged
-          (carried tablet.handover tablet.handover.term (length (with_all master (as_entries merged.copies)).log.entries) merged.floor) may has
+  goes_on_has master number may has =
+      let tablet = tablet_at master number in
+      let merged = merge (own_material master tablet) (by_member tablet.gather (own_material master tablet)) in
+      by_found (λ reading. P (rebuilding_on master number reading).master) (next_reading tablet.gather)
+      (λ none.
+      merging_has master number merged
+      (carried tablet.handover tablet.handover.term (length (with_all master (as_entries merged.copies)).log.entries) merged.floor) may has)
+      (λ reading is. has)
 
   -- ---- a rebuild begins, and gathers
 
@@ -221,13 +203,7 @@ module _ {P : Master → Type 0} {Fits : Held → Type 0} {May : Entry → Type 
   -- where what is replayed fits
   pub peer_has : (master : Master) (other : ℕ) (body : Body) → Makes P May Few master (Node.Master other) body
       → All Fits (replayed_of master body) → P master → P (peer_message master (Node.Master other) body).master
-  peer_has master other (Body.Pull pull) may each has =
-      either_work lasts (is_frozen_at (tablet_at master pull.tenure.tablet) pull.tenure.term) _ (changed master) has has
-  peer_has master other (Body.Pulled pulled) may each has = pulled_has master pulled may each has
-  peer_has master other (Body.Want want) may each has =
-      either_work lasts (is_frozen_at (tablet_at master want.tenure.tablet) want.tenure.term) _ (changed master) has has
-  peer_has master other (Body.Got message) may each has = got_has master message each has
-  peer_has master other _ may each has = has
+  peer_has master other body may each has = grind (arith, either_work, is_frozen_at, tablet_at, changed, pulled_has, got_has)
 
   -- a message, where it stays so once a call waits and at what a backup tells
   pub told_has : (master : Master) (sender : Node) (body : Body) → Makes P May Few master sender body → ((call : Call) → P (with_call master call))
@@ -245,20 +221,9 @@ module _ {P : Master → Type 0} {Fits : Held → Type 0} {May : Entry → Type 
 
   -- ---- turns
 
-  reading_has : (master : Master) (number : ℕ) (tablet : Tablet) (reading : Option Reading) → P master
-      → P (reading_duty master number tablet reading).master
-  reading_has master number tablet None has = has
-  reading_has master number tablet (Some reading) has = has
-
   duty_has : (master : Master) (number : ℕ) (tablet : Tablet) (role : Role) → Few tablet.pulling.sealed tablet.pulling.sides → P master
       → P (tablet_duty master number tablet role).master
-  duty_has master number tablet Role.Receiving few has = lasts.tablet master number _ few has
-  duty_has master number tablet (Role.Joining (Some entry)) few has =
-      either_work lasts (nat_lt entry master.applied) _ (changed master) has has
-  duty_has master number tablet (Role.Rebuilding from None) few has = reading_has master number tablet (next_reading tablet.gather) has
-  duty_has master number tablet (Role.Rebuilding from (Some entry)) few has =
-      either_work lasts (nat_lt entry master.applied) _ (changed master) has has
-  duty_has master number tablet _ few has = has
+  duty_has master number tablet role few has = grind (arith, either_work, nat_lt, changed, by_found, reading_duty, next_reading)
 
   duties_have : (tablets : NumberMap Tablet) (master : Master) → All (λ entry. Few entry.1.pulling.sealed entry.1.pulling.sides) tablets → P master
       → P (duties master tablets).master
@@ -277,6 +242,5 @@ module _ {P : Master → Type 0} {Fits : Held → Type 0} {May : Entry → Type 
   split_has master number at new term has =
       let tablet = tablet_at master number in
       let lower = with_half tablet (range_below tablet.handover.range at) term in
-      either_has lasts (has_parts tablet.handover.range at) (with_halves master number tablet at new term) master
-      (lasts.tablet (with_tablet master number lower) new _ (lasts.few master number has)
+      either_way P (has_parts tablet.handover.range at) (lasts.tablet (with_tablet master number lower) new _ (lasts.few master number has)
       (lasts.tablet master number lower (lasts.few master number has) has)) has

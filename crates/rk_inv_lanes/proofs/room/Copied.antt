@@ -1,15 +1,15 @@
 -- What a rebuild copies when it takes its last Copy is logged, each key once, and its master has no more bytes then than before, those of the
 -- copies, and a closing entry.
-use Rattle.std.proofs.Common.{◌≡◌, ◌≤◌, ◌+◌, ℕ, Bool, true, false, List, [], ◌∷◌, All, length, Option, None, Some, is_some, refl, sym, ap}
-use Rattle.std.proofs.Common.{subst, ◌∙◌, arith, Contains, not, sum_by}
-use Rattle.rk_inv_base.proofs.Words.{cond-false, cond-true, All-nil, All-weaker, sum-map, spelled_of, IsInOrder, NumberMap, get, get_or}
-use Rattle.rk_inv_base.proofs.Words.{Held, Entry, completions_from, ends_of, Handover, number_of, row_of, Row, newest_items_are}
-use Rattle.rk_inv_base.proofs.Words.{newest_items, CopySegment, items_of, IsFormedGathered, IsFormedMaster, IsWellFormed, Gather}
-use Rattle.rk_inv_base.proofs.Words.{LAST_MAIN_SEGMENT, by_member, next_reading, limits_of, Master, log_bytes, tablet_at, with_all}
-use Rattle.rk_inv_base.proofs.Words.{with_appended, as_entries, has_version, merge, IsMaster, copy_taken, own_material, rebuild_goes_on}
-use Rattle.rk_inv_base.proofs.Words.{rebuild_merged, rebuilding_on, rebuilt_entry, segment_gathered, with_gathered, with_merged, HasRoom}
-use Rattle.rk_inv_base.proofs.Words.{Tablet, no_tablet, Worked, changed, World, has_crashed, master_at, tablet_in, Merged, Reading, put2}
-use Rattle.rk_inv_base.proofs.Words.{View, view, IsSound, SoundView, Role}
+use Rattle.std.proofs.Common.{All, Bool, List, None, Option, Some, [], ap, arith, false, length, not, refl, subst, sum_by, sym, true, ℕ}
+use Rattle.std.proofs.Common.{◌+◌, ◌∙◌, ◌∷◌, ◌≡◌, ◌≤◌}
+use Rattle.rk_inv_base.proofs.Words.{All-nil, All-weaker, CopySegment, Entry, Gather, Handover, HasRoom, Held, IsFormedGathered}
+use Rattle.rk_inv_base.proofs.Words.{IsFormedMaster, IsInOrder, IsMaster, IsSound, IsWellFormed, LAST_MAIN_SEGMENT}
+use Rattle.rk_inv_base.proofs.Words.{Master, Merged, NumberMap, Reading, Role, SoundView, Tablet, View, Worked, World, as_entries}
+use Rattle.rk_inv_base.proofs.Words.{by_member, changed, completions_from, cond-false, cond-true, copy_taken, ends_of, get, get_or}
+use Rattle.rk_inv_base.proofs.Words.{has_crashed, has_version, items_of, limits_of, log_bytes, master_at, merge, newest_items}
+use Rattle.rk_inv_base.proofs.Words.{newest_items_are, next_reading, no_tablet, own_material, put2, rebuild_goes_on, rebuild_merged}
+use Rattle.rk_inv_base.proofs.Words.{rebuilding_on, rebuilt_entry, segment_gathered, spelled_of, sum-map, tablet_at, tablet_in, view}
+use Rattle.rk_inv_base.proofs.Words.{with_all, with_appended, with_gathered, with_merged}
 use Rattle.std.proofs.lemmas.List.Kept.{IsStrictlySortedBy-filter}
 use Rattle.rk_entry.proofs.Sizes.{held_spelled}
 use Rattle.rk_overlay.specs.Overlay.{item_cmp}
@@ -20,25 +20,24 @@ use Rattle.rk_world.specs.Refusals.{MOST_CLIENTS}
 use Rattle.rk_inv_wellformed.proofs.bytes.EntryBytes.{carried_fits}
 use Rattle.rk_inv_wellformed.proofs.bytes.LogBytes.{bytes_appended, bytes_put}
 use Rattle.rk_inv_wellformed.proofs.bytes.PullBytes.{first_bytes, items_bytes, none_bytes}
-use Rattle.rk_inv_wellformed.proofs.lanes.Worlds.{formed_limits, master_of}
+use Rattle.rk_inv_wellformed.proofs.lanes.Worlds.{formed_limits}
 use Rattle.rk_inv_wellformed.proofs.masters.Handovers.{one_stood}
 use Rattle.rk_inv_wellformed.proofs.masters.Rebuilding.{few_ends, formed_gathered, merge_formed, read_formed}
 use Rattle.rk_inv_wellformed.proofs.masters.Sealing.{first_holds, items_spelled}
 use Rattle.rk_inv_wellformed.specs.Brought.{LONGEST_LEFT}
-use Rattle.rk_inv_base.proofs.rows.Serving.{found_stands}
-use Rattle.rk_inv_base.proofs.views.Masters.{tablet_here}
 use Rattle.rk_inv_base.proofs.views.Put.{put2_here}
-use Rattle.rk_inv_base.proofs.views.Views.{view_gathered}
 use Rattle.rk_inv_tablets.proofs.crash.MergeTells.{read_all}
 use Rattle.rk_inv_tablets.proofs.merge.Heirs.{gathers_from}
-use Rattle.rk_inv_tablets.specs.merge.Small.{as_merged, merge_in, own_entries}
+use Rattle.rk_inv_tablets.specs.merge.Small.{own_entries}
 use Rattle.rk_inv_events.proofs.events.PostsOf.{gathering_row}
-use Rattle.rk_inv_events.proofs.copies.Gathers.{last_is, gathers, sound_with_copy}
+use Rattle.rk_inv_events.proofs.copies.Gathers.{gathers, last_is, sound_with_copy}
 use Rattle.rk_inv_events.proofs.events.Crashing.{gathered_formed, readable}
 use Rattle.rk_inv_events.proofs.events.Duties.{fits_as, known}
 use Rattle.rk_inv_events.specs.copies.Small.{awaits, copy_message, next_after}
 use Rattle.rk_inv_lanes.specs.room.Logged.{IsLogged}
 use Rattle.rk_inv_lanes.proofs.room.CopiesWritten.{IsWritten, copies_written, written_logged}
+use Rattle.rk_inv_events.proofs.events.RowsApart.{has_row}
+use Rattle.rk_inv_events.proofs.Words.{as_merged, master_of, merge_in, tablet_here, view_gathered}
 use Rattle.std.specs.List.Sorted.{IsStrictlySortedBy}
 
 -- what a rebuild copies when it takes its last Copy: items that are logged, each key once; and how many bytes its master has then
@@ -148,24 +147,15 @@ module _ (w : World) (number backup master : ℕ) (copy : CopySegment) (sound : 
     -- the copies for the tablet are written
     written : All (IsWritten v.written) (merge_in v master tablet).copies
     written =
-        at (row_of v.rows tablet) refl (known v sound_then master tablet (ap not lives) (Role.Rebuilding role.0 None) role.1 refl)
+        let its = has_row v.rows tablet (known v sound_then master tablet (ap not lives) (Role.Rebuilding role.0 None) role.1 refl) in
+        let at = gathering_row master role.0 its.row.term kept.handover.term (v.written master).applied its.row.phase
+        (fits_as v sound_then master tablet (ap not lives) (Role.Rebuilding role.0 None) role.1 its.row its.stands (sym its.tablet_is)) in
+        subst (λ (n : ℕ). All (IsWritten v.written) (merge_in v master n).copies) its.tablet_is
+        (copies_written v sound_then (readable w formed room) its.row its.stands at.lineage master at.phase_is
+        (ap (λ (n : ℕ). (v.handovers master n).term) its.tablet_is ∙ at.term_is) (rw (gather_is its.row.tablet its.tablet_is) few))
       where
         role : (from : ℕ) × (kept.handover.role ≡ Role.Rebuilding from None)
         role = gathers_from kept.handover.role (gathers w number backup master copy sound lives there awaited).0
-
-        at : (found : Option Row) → row_of v.rows tablet ≡ found → is_some found ≡ true
-            → All (IsWritten v.written) (merge_in v master tablet).copies
-        at None found some = absurd (cc some)
-        at (Some row) found some =
-            let stands : Contains v.rows row = found_stands v.rows tablet row found in
-            let number_is : row.tablet ≡ tablet = number_of v.rows tablet row found in
-            let its = gathering_row master role.0 row.term kept.handover.term (v.written master).applied row.phase
-            (fits_as v sound_then master tablet (ap not lives) (Role.Rebuilding role.0 None) role.1 row stands (sym number_is)) in
-            subst (λ (n : ℕ). All (IsWritten v.written) (merge_in v master n).copies) number_is
-            (copies_written v sound_then
-            (readable w formed room)
-            row stands its.lineage master its.phase_is (ap (λ (n : ℕ). (v.handovers master n).term) number_is ∙ its.term_is)
-            (rw (gather_is row.tablet number_is) few))
 
     -- and so they are logged
     logged : All (IsLogged w) (made (with_gathered kept copy)).copies

@@ -1,29 +1,27 @@
 -- What a rebuild merges is what masters have written: what it read of a member is among what that has written, marked or not, and its own
 -- entries are too.
-use Rattle.std.proofs.Common.{◌≡◌, ◌≤◌, ◌+◌, ◌-◌, ◌==◌, ℕ, zero, suc, Bool, true, nat_lt, List, [], ◌∷◌, ◌++◌, All, drop, filter, length}
-use Rattle.std.proofs.Common.{take, refl, sym, ap, subst, ◌∙◌, ⊎_elim, arith, Contains, not, slice_index_or, flat_map}
-use Rattle.rk_inv_base.proofs.Words.{cond_both, or_right, flat_map-append, All-contains, Contains-append_cases, Contains-append_left}
-use Rattle.rk_inv_base.proofs.Words.{Contains-append_right, Held, Member, Range, Entry, FIRST_SIDE_SEGMENT, Phase, Rebuilding, Row}
-use Rattle.rk_inv_base.proofs.Words.{IsBackup, known_of, items_in, items_of, Gather, Gathered, LAST_MAIN_SEGMENT, by_member, counted_of}
-use Rattle.rk_inv_base.proofs.Words.{is_member, unmarked_from, Master, as_entries, counting, counts, material_of, named, side_entries}
-use Rattle.rk_inv_base.proofs.Words.{names, IsMaster, own_place, World, master_at, Written, stored_of, IsGathered, NeededOf, READ_BACKUP}
-use Rattle.rk_inv_base.proofs.Words.{RowIsRebuilt, TellNoMore, member_stored, View, truths, view, SoundView}
+use Rattle.std.proofs.Common.{All, Bool, Contains, List, [], ap, arith, drop, filter, flat_map, length, nat_lt, not, refl, slice_index_or}
+use Rattle.std.proofs.Common.{subst, suc, sym, take, true, zero, ℕ, ⊎_elim, ◌++◌, ◌+◌, ◌-◌, ◌==◌, ◌∙◌, ◌∷◌, ◌≡◌, ◌≤◌}
+use Rattle.rk_inv_base.proofs.Words.{All-contains, Contains-append_cases, Contains-append_left, Contains-append_right, Entry}
+use Rattle.rk_inv_base.proofs.Words.{FIRST_SIDE_SEGMENT, Gather, Gathered, Held, IsBackup, IsGathered, IsMaster, LAST_MAIN_SEGMENT}
+use Rattle.rk_inv_base.proofs.Words.{Member, NeededOf, Phase, READ_BACKUP, Range, Rebuilding, Row, RowIsRebuilt, SoundView, TellNoMore}
+use Rattle.rk_inv_base.proofs.Words.{View, World, Written, as_entries, by_member, cond_both, counted_of, counting, counts, flat_map-append}
+use Rattle.rk_inv_base.proofs.Words.{is_member, items_in, items_of, known_of, master_at, material_of, member_stored, named, names, or_right}
+use Rattle.rk_inv_base.proofs.Words.{own_place, side_entries, stored_of, truths, unmarked_from, view}
 use Rattle.rk_tablet_map.specs.Phase.{member as member_at}
 use Rattle.rk_inv_wellformed.proofs.masters.Pulls.{items_again}
 use Rattle.rk_inv_base.proofs.calls.Rebuilds.{IsRebuilderIn}
 use Rattle.rk_inv_base.proofs.logs.LengthTold.{each_member, members_by}
 use Rattle.rk_inv_base.proofs.logs.MarkedApart.{place_of}
 use Rattle.rk_inv_base.proofs.pulls.Joining.{kept_stands}
-use Rattle.rk_inv_base.proofs.views.Lists.{all_by}
 use Rattle.rk_inv_tablets.proofs.crash.Among.{flat_from, flat_of, place_there}
 use Rattle.rk_inv_tablets.proofs.crash.MergeTells.{IsToldBy, all_stand_told, all_told, read_all, read_told, stands_told}
 use Rattle.rk_inv_tablets.proofs.crash.ReadTold.{AreMarksTold, counted_told, side_material, stands_there}
 use Rattle.rk_inv_tablets.proofs.crash.Unmarked.{first_among, free_place}
-use Rattle.rk_inv_tablets.specs.crash.Moves.{AreReadable}
-use Rattle.rk_inv_tablets.specs.merge.Small.{merge_in, own_entries}
+use Rattle.rk_inv_tablets.specs.merge.Small.{own_entries}
 use Rattle.rk_inv_lanes.specs.room.Logged.{IsLogged}
 use Rattle.rk_inv_events.proofs.rebuilt.Newest.{copy_of_all}
-use Rattle.rk_inv_events.proofs.Words.{row_rebuilt}
+use Rattle.rk_inv_events.proofs.Words.{AreReadable, all_by, merge_in, row_rebuilt}
 
 -- ---- what a master has written
 
@@ -85,14 +83,7 @@ IsWritten written item = (q : ℕ) × Contains (items_of (all_written (written q
 
 -- so it is logged
 pub written_logged : (w : World) (item : Held) → IsWritten (view w).written item → IsLogged w item
-written_logged w item is =
-    let own : Master = master_at w is.0 in
-    record {
-      master = is.0;
-      stands = rw (← (flat_map-append items_in own.log.entries (flat_map as_entries own.sides)
-          ∙ ap (λ (items : List Held). items_of own.log.entries ++ items) (side_items own.sides)))
-          is.1;
-    }
+written_logged w item is = grind (arith, master_at, flat_map-append, items_in, as_entries, items_of, side_items)
 
 -- ---- what a rebuild has gathered
 

@@ -1,11 +1,17 @@
 -- A sound and well formed lane with room, where records are logged and entries fit, has room after each event that is not refused, and
 -- records are logged and entries fit then.
-use Rattle.std.proofs.Common.{◌≡◌, ◌≤◌, ◌<◌, ◌+◌, ◌*◌, ℕ, Bool, true, false, cond, [], Option, None, Some, refl, ap, subst, ◌∙◌, length}
-use Rattle.std.proofs.Common.{arith, All, unwrap_or, sym}
-use Rattle.rk_inv_base.proofs.Words.{get, Node, Body, Message, Called, IsWellFormed, limits_of, Master, log_bytes, new_master}
-use Rattle.rk_inv_base.proofs.Words.{master_step, told_master, IsMaster, MayHappen, refusal, HasRoom, MOST_BYTES, happened, losing}
-use Rattle.rk_inv_base.proofs.Words.{seen_in, to_master, worked_at, World, bytes_of_logs, has_crashed, master_at, Event, IsSound}
-use Rattle.rk_inv_base.proofs.Words.{delivered, delivered_to}
+use Rattle.std.proofs.Common.{All, Contains, List, None, Option, Some, [], ap, arith, false, flat_map, length, not, refl, subst, sym}
+use Rattle.std.proofs.Common.{unwrap_or, ℕ, ⊎_elim, ◌*◌, ◌++◌, ◌+◌, ◌<◌, ◌∙◌, ◌∷◌, ◌≡◌, ◌≤◌}
+use Rattle.rk_inv_base.proofs.Words.{All-contains_itself, All-filter, All-nil, All-weaker, Body, Called, Contains-append_cases}
+use Rattle.rk_inv_base.proofs.Words.{Contains-append_left, Contains-append_right, Event, HasRoom, Held, IsInScanOrder, IsMaster, IsSound}
+use Rattle.rk_inv_base.proofs.Words.{IsWellFormed, MOST_BYTES, Master, MayHappen, Message, Node, Session, World, accept, ask, bytes_of_logs}
+use Rattle.rk_inv_base.proofs.Words.{cond-false, cond_both, delivered, delivered_to, flat_map-append, get, happened, has_crashed, is_in}
+use Rattle.rk_inv_base.proofs.Words.{items_in, items_of, limits_of, log_bytes, losing, master_at, master_step, new_master, new_world}
+use Rattle.rk_inv_base.proofs.Words.{order_after, order_without, refusal, seen_in, to_master, told_master, worked_at, world_visited, ⊤}
+use Rattle.rk_inv_wellformed.proofs.masters.Changes.{each_with_newer}
+use Rattle.rk_inv_base.proofs.views.Empty.{in_order_none}
+use Rattle.rk_inv_base.proofs.views.Fresh.{each_fresh}
+use Rattle.rk_inv_tablets.proofs.steady.Walks.{Part, accept_keeps, ask_keeps}
 use Rattle.rk_world.specs.Limits.{IsThere}
 use Rattle.rk_world.specs.Premises.{MayCome}
 use Rattle.rk_world.specs.Room.{HasRoomIn}
@@ -16,16 +22,177 @@ use Rattle.rk_inv_wellformed.proofs.lanes.Events.{comes_fresh}
 use Rattle.rk_inv_wellformed.proofs.lanes.Worlds.{formed_limits, master_of}
 use Rattle.rk_inv_wellformed.proofs.room.RoomEvents.{room_event}
 use Rattle.rk_inv_wellformed.specs.Brought.{LONGEST_LEFT, brought_by, brought_in, brought_to}
+use Rattle.rk_inv_wellformed.proofs.maps.Lists.{by_found}
+use Rattle.rk_inv_lanes.proofs.masters.Changes.{Has, IsLasting, of_lasting}
+use Rattle.rk_inv_lanes.proofs.masters.Items.{OfItems, about, step_has}
+use Rattle.rk_inv_lanes.specs.room.Logged.{AreLogged, HasRecordsOf, IsLogged, logged_by}
+use Rattle.rk_inv_lanes.specs.room.Replayed.{replayed_at, replayed_in, replayed_of, replayed_to}
+use Rattle.rk_inv_lanes.proofs.lanes.Masters.{AllAre, IsKeptByEach, each_kept}
+use Rattle.rk_inv_lanes.proofs.masters.Steps.{split_has, turn_has}
 use Rattle.rk_inv_lanes.specs.room.Fits.{IsFitting}
 use Rattle.rk_inv_lanes.specs.room.Kept.{IsKept}
-use Rattle.rk_inv_lanes.specs.room.Logged.{IsLogged}
-use Rattle.rk_inv_lanes.specs.room.Replayed.{replayed_of}
 use Rattle.rk_inv_lanes.proofs.room.Copied.{copy_logged}
 use Rattle.rk_inv_lanes.proofs.room.FittingLanes.{fits_event}
 use Rattle.rk_inv_lanes.proofs.room.Pulled.{replayed_logged}
-use Rattle.rk_inv_lanes.proofs.room.RecordLanes.{logged_event, records_were_logged, replayed_is}
 use Rattle.rk_inv_lanes.proofs.room.Replays.{got_within, pulled_within}
 use Rattle.rk_inv_lanes.proofs.room.Sums.{apart_bytes, records_few}
+
+-- ---- What is logged stays so where a log grows, and records stay those of items that have something, where what is put into them has it.
+
+-- ---- logs
+
+-- what stands in two lists stands there with more between them
+stands_between : (front more back : List Held) (item : Held) → Contains (front ++ back) item → Contains ((front ++ more) ++ back) item
+stands_between front more back item at = ⊎_elim
+    (λ (first : Contains front item). Contains-append_left (front ++ more) back item (Contains-append_left front more item first))
+    (λ (last : Contains back item). Contains-append_right (front ++ more) back item last) (Contains-append_cases front back item at)
+
+-- and with more behind them
+stands_before : (front back more : List Held) (item : Held) → Contains (front ++ back) item → Contains (front ++ (back ++ more)) item
+stands_before front back more item at =
+    ⊎_elim (λ (first : Contains front item). Contains-append_left front (back ++ more) item first)
+    (λ (last : Contains back item). Contains-append_right front (back ++ more) item (Contains-append_left back more item last))
+    (Contains-append_cases front back item at)
+
+-- all of these items are logged
+abbrev pub AreAllLogged : List Held → OfItems
+AreAllLogged before entries sides records = (item : Held) → Contains before item → Contains (items_of entries ++ flat_map (λ items. items) sides) item
+
+-- they stay so, whatever is put into the records
+pub logged_last : (before : List Held) → IsLasting (about (AreAllLogged before)) (λ item. ⊤)
+logged_last before = record {
+  appended = λ master entry all item at.
+      let sides : List Held = flat_map (λ items. items) master.sides in
+      rw (flat_map-append items_in master.log.entries (entry ∷ []))
+      (stands_between (items_of master.log.entries) (items_of (entry ∷ [])) sides item (all item at));
+  sealed = λ master items all item at.
+      let own : List Held = items_of master.log.entries in
+      rw (flat_map-append (λ items. items) master.sides (items ∷ []))
+      (stands_before own (flat_map (λ items. items) master.sides) (flat_map (λ items. items) (items ∷ [])) item (all item at));
+  put = λ master item fits all. all;
+  dropped = λ master range all. all;
+}
+
+-- ---- records
+
+-- records have no key twice, and each of their items fits
+abbrev pub AreRecordsOf : (Held → Type 0) → OfItems
+AreRecordsOf Fits entries sides records = IsInScanOrder records × All Fits records
+
+-- they stay so where what is put into them fits
+pub records_last : {Fits : Held → Type 0} → IsLasting (about (AreRecordsOf Fits)) Fits
+records_last {Fits} = record {
+  appended = λ master entry are. are;
+  sealed = λ master items are. are;
+  put = λ master item fits are. (order_after item master.records are.0, each_with_newer Fits item master.records are.1 fits);
+  dropped = λ master range are. (order_without range master.records are.0, All-filter (λ item. not (is_in range item)) Fits master.records are.1);
+}
+
+-- ---- The masters of a lane have records of what is logged there: in a new lane, after each event, and after a client's turn or answer.
+
+-- what a living master replays of a message is what the event replays
+pub replayed_is : (w : World) (event : Event) (number master : ℕ) (message : Message) → event ≡ Event.Deliver number
+    → get w.wire.messages number ≡ Some message → message.to ≡ Node.Master master → has_crashed w master ≡ false
+    → replayed_at w event ≡ replayed_of (master_at w master) message.body
+replayed_is w event number master message is found to lives =
+    ap (replayed_at w) is ∙ ap (replayed_in w) found ∙ ap (λ (node : Node). replayed_to w node message.body) to
+    ∙ cond-false (has_crashed w master) [] (replayed_of (master_at w master) message.body) lives
+
+-- what is so of the log and the records of each master of a lane, crashed ones too, stays so, where what is replayed fits
+event_has : (P : ℕ → OfItems) (Fits : Held → Type 0) → ((master : ℕ) → IsLasting (about (P master)) Fits) → (w : World)
+    → ((master : ℕ) → All Fits (items_of (master_at w master).log.entries)) → AllAre (λ master. Has (about (P master))) w
+    → (event : Event) (called : Called) → All Fits (replayed_at w event) → AllAre (λ master. Has (about (P master))) (happened w event called).world
+event_has P Fits lasting w own all event called each = each_kept kept called
+  where
+    kept : IsKeptByEach (λ master. Has (about (P master))) w event
+    kept = record {
+      now = all;
+      steps = λ number master message is found to lives.
+          step_has (P master) Fits (lasting master) (master_at w master) message (own master)
+          (subst (All Fits) (replayed_is w event number master message is found to lives) each) (all master);
+      turns = λ master. turn_has (of_lasting (lasting master)) (master_at w master) (all master);
+      adds = λ master tablet range. all master;
+      splits = λ master tablet at new term. split_has (of_lasting (lasting master)) (master_at w master) tablet at new term (all master);
+    }
+
+-- ---- events
+
+-- what each master of a lane has logged stays there
+abbrev Kept : World → ℕ → OfItems
+Kept w master = AreAllLogged (logged_by (master_at w master))
+
+-- records of what is logged in a lane
+abbrev Recorded : World → ℕ → OfItems
+Recorded w master = AreRecordsOf (IsLogged w)
+
+-- what is logged stays so at each event
+pub logged_grows : (w : World) (event : Event) (called : Called) (item : Held) → IsLogged w item → IsLogged (happened w event called).world item
+logged_grows w event called item logged = record {
+  master = logged.master;
+  stands = event_has (Kept w) (λ item. ⊤) (λ master. logged_last (logged_by (master_at w master))) w
+      (λ master place none inside. tt) (λ master item at. at) event called (λ place none inside. tt)
+      logged.master item logged.stands;
+}
+
+-- the items of a log are logged
+its_items : (w : World) (master : ℕ) → All (IsLogged w) (items_of (master_at w master).log.entries)
+its_items w master =
+    let items = items_of (master_at w master).log.entries in
+    All-weaker (Contains items) (IsLogged w)
+    (λ item at. record {
+      master = master;
+      stands = Contains-append_left items (flat_map (λ items. items) (master_at w master).sides) item at;
+    })
+    items (All-contains_itself items)
+
+-- after an event each master has records of what was logged before it, where what is replayed was
+pub records_were_logged : (w : World) (event : Event) (called : Called) → AreLogged w → All (IsLogged w) (replayed_at w event)
+    → (master : ℕ) → HasRecordsOf (IsLogged w) (master_at (happened w event called).world master)
+records_were_logged w event called logged each master =
+    let has = event_has (Recorded w) (IsLogged w) (λ master. records_last) w (its_items w)
+    (λ master. ((logged master).ordered, (logged master).logged)) event called each master in
+    record { ordered = has.0; logged = has.1 }
+
+-- where all that is logged before is logged after, records of what was logged before are logged after
+logged_there : (before after : World) → ((item : Held) → IsLogged before item → IsLogged after item)
+    → ((master : ℕ) → HasRecordsOf (IsLogged before) (master_at after master)) → AreLogged after
+logged_there before after grows has master = grind (arith, master_at)
+
+-- so records stay logged
+pub logged_event : (w : World) (event : Event) (called : Called) → AreLogged w → All (IsLogged w) (replayed_at w event)
+    → AreLogged (happened w event called).world
+logged_event w event called logged each =
+    logged_there w (happened w event called).world (logged_grows w event called) (records_were_logged w event called logged each)
+
+-- ---- clients
+
+-- a lane has the masters of this one
+abbrev HasThose : World → Part
+HasThose w masters count backups = w.masters ≡ masters
+
+-- so records are logged there where they are here
+same_logged : (w v : World) → w.masters ≡ v.masters → AreLogged w → AreLogged v
+same_logged w v same logged = logged_there w v
+    (λ item is. record { master = is.master; stands = rw (← same) is.stands }) (λ master. rw (← same) (logged master))
+
+pub logged_asked : (w : World) (session : Session) → AreLogged w → AreLogged (world_visited w (ask w session))
+logged_asked w session logged = same_logged w (world_visited w (ask w session)) (ask_keeps (HasThose w) w refl session) logged
+
+pub logged_accepted : (w : World) (number : ℕ) (session : Session) → AreLogged w → AreLogged (world_visited w (accept w number session))
+logged_accepted w number session logged =
+    same_logged w (world_visited w (accept w number session)) (accept_keeps (HasThose w) w refl number session) logged
+
+-- ---- new lanes
+
+-- a new master has no records
+pub logged_new : (lane masters backups : ℕ) → AreLogged (new_world lane masters backups)
+logged_new lane masters backups master =
+    let w = new_world lane masters backups in
+    subst (HasRecordsOf (IsLogged w)) (sym (each_fresh lane masters backups master).is_new)
+    (record { ordered = in_order_none; logged = All-nil (IsLogged w) })
+
+-- ---- A sound and well formed lane with room, where records are logged and entries fit, has room after each event that is not refused, and
+-- records are logged and entries fit then.
 
 -- ---- a message reaches a living master
 
@@ -84,7 +251,16 @@ module _ (w : World) (sound : IsSound w) (formed : IsWellFormed w) (room : HasRo
 
     master_few : (message : Message) (master : ℕ) → get w.wire.messages number ≡ Some message → message.to ≡ Node.Master master
         → bytes_of_logs (to_master w master message).world < MOST_BYTES
-    master_few message master found to = go (has_crashed w master) refl
+    master_few message master found to =
+        cond_both (has_crashed w master) (losing w) (worked_at w master (seen_in message.body) (master_step (master_at w master) message))
+        (λ stepped. bytes_of_logs stepped.world < MOST_BYTES) (λ gone. room.bytes)
+        (λ lives.
+        omega (
+          arith,
+          told_few w number master message.from message.body (living lives),
+          logs_with w master (master_step (master_at w master) message).master formed,
+          (comes_fresh w (Event.Deliver number) refl none).bytes,
+        ))
       where
         there : IsMaster w.coordinator.masters master
         there = subst (λ to. IsThere (limits_of w) to) to (formed.wire.each number message found).to
@@ -101,17 +277,6 @@ module _ (w : World) (sound : IsSound w) (formed : IsWellFormed w) (room : HasRo
               (replayed_logged w (Event.Deliver number) sound);
         }
 
-        go : (crashed : Bool) → has_crashed w master ≡ crashed
-            → bytes_of_logs (cond crashed (losing w) (worked_at w master (seen_in message.body) (master_step (master_at w master) message))).world < MOST_BYTES
-        go true is = room.bytes
-        go false is =
-            omega (
-              arith,
-              told_few w number master message.from message.body (living is),
-              logs_with w master (master_step (master_at w master) message).master formed,
-              (comes_fresh w (Event.Deliver number) refl none).bytes,
-            )
-
     received_few : (message : Message) (to : Node) → get w.wire.messages number ≡ Some message → message.to ≡ to → bytes_of_logs after < MOST_BYTES
     received_few message (Node.Master master) found to =
         subst (λ (m : Option Message). bytes_of_logs (delivered w m called).world < MOST_BYTES) (sym found)
@@ -120,11 +285,8 @@ module _ (w : World) (sound : IsSound w) (formed : IsWellFormed w) (room : HasRo
         brings_none (ap (brought_in w) found ∙ ap (λ (to : Node). brought_to w to message.body) to)
 
     delivered_few : bytes_of_logs after < MOST_BYTES
-    delivered_few = go (get w.wire.messages number) refl
-      where
-        go : (found : Option Message) → get w.wire.messages number ≡ found → bytes_of_logs after < MOST_BYTES
-        go None is = brings_none (ap (brought_in w) is)
-        go (Some message) is = received_few message message.to is refl
+    delivered_few = by_found (λ found. bytes_of_logs after < MOST_BYTES) (get w.wire.messages number)
+        (λ none. brings_none (ap (brought_in w) none)) (λ message is. received_few message message.to is refl)
 
   -- the bytes of all logs fit after each event that is not refused
   pub bytes_fit : (event : Event) (called : Called) → MayHappen w event → refusal w event ≡ None → bytes_of_logs (happened w event called).world < MOST_BYTES

@@ -8,7 +8,7 @@ use Rattle.rk_inv_base.proofs.Words.{has_key, is_absent, Tablet, no_tablet, join
 use Rattle.rk_inv_base.proofs.Words.{FIRST_SIDE_SEGMENT, found, end, log_bytes, with_side_segment, as_entries, pulled_all, sealing}
 use Rattle.rk_inv_base.proofs.Words.{MOST_BYTES, sealed_sides, All-map, All-weaker, meets, Node, completions_from, ends_of, overreach, Body}
 use Rattle.rk_inv_base.proofs.Words.{IsFormedMaster, by_member, IsFormedHeld, Limits, told_master, merge, call_of, choice_of, item_of}
-use Rattle.rk_inv_base.proofs.Words.{Choice, Writes, Refuses, next_sides, own_material, rebuild_begun, segment_gathered, ⊤}
+use Rattle.rk_inv_base.proofs.Words.{Choice, next_sides, own_material, rebuild_begun, segment_gathered, ⊤}
 use Rattle.rk_types.proofs.NumberMaps.{in_order_changed, in_order_insert}
 use Rattle.rk_types.specs.NumberMap.{changed_each}
 use Rattle.rk_entry.proofs.Sizes.{spelled_count}
@@ -33,7 +33,7 @@ use Rattle.rk_inv_wellformed.proofs.masters.Sealing.{first_holds}
 use Rattle.rk_inv_wellformed.proofs.masters.Work.{AreLimits}
 use Rattle.rk_inv_lanes.proofs.masters.Changes.{Lasts, MayLeave, all_going_on_has}
 use Rattle.rk_inv_lanes.proofs.masters.Steps.{Makes, MayMerge, told_has}
-use Rattle.rk_inv_events.proofs.stored.Work.{AnyNext, Passes, entries_pass}
+use Rattle.rk_inv_events.proofs.stored.StoredTaken.{AnyNext, Passes, entries_pass}
 
 -- ---- what fits
 
@@ -175,11 +175,7 @@ seals_few number master fit below =
 -- a call that is chosen for so leaves an entry that fits, or none
 leaves_fit : (limits : Limits) (master : Master) {call : Call} (choice : Choice) → IsLawfulCall call → IsFormedChoice limits master choice
     → MayLeave FitsSegment master call choice
-leaves_fit limits master {call} (Writes number value) lawful formed =
-    held_fits (item_of call (tablet_at master number).handover.counter value) lawful.key formed.1
-leaves_fit limits master {call} (Refuses found absent) lawful formed = refused_fits
-    (record { table = call.table; found = found; client = call.client; seq = call.seq; absent = absent; key = call.key }) lawful.key
-leaves_fit limits master _ lawful formed = tt
+leaves_fit limits master {call} choice lawful formed = grind (arith, held_fits, item_of, tablet_at, found, refused_fits)
 
 module _ (limits : Limits) (number : ℕ) (master : Master) (are : AreLimits limits) (formed : IsFormedMaster limits number master) (fit : IsFit master) (below : log_bytes master < MOST_BYTES) where
   -- what a rebuild merges fits: its copies, and the entry that closes it

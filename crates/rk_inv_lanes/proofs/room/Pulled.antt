@@ -1,24 +1,21 @@
 -- What a master replays is logged: it comes with a Pulled or a Got of a source, and what counts of a member of a lineage are entries of its
 -- log and items of its side segments.
-use Rattle.std.proofs.Common.{◌≡◌, ℕ, zero, suc, true, false, List, [], ◌∷◌, ◌++◌, Option, None, Some, refl, ⊎_elim, arith, ◌-◌, ◌&&◌, drop}
-use Rattle.std.proofs.Common.{nat_lt, slice_index_or, All, Contains, flat_map}
-use Rattle.rk_inv_base.proofs.Words.{and_parts, cond_both, All-nil, Contains-append_cases, Contains-append_left, Contains-append_right, get}
-use Rattle.rk_inv_base.proofs.Words.{Held, Member, Node, Range, Entry, FIRST_SIDE_SEGMENT, at_hash, batch_at, Row, is_batch, none_stands}
-use Rattle.rk_inv_base.proofs.Words.{BATCH_BYTES, Body, Message, Got, Pulled, items_in, items_of, unmarked_from, as_entries, counting}
-use Rattle.rk_inv_base.proofs.Words.{counts, log_material, named, side_entries, is_token, is_receiving_at, Tablet, World, has_crashed}
-use Rattle.rk_inv_base.proofs.Words.{master_at, tablet_in, written_in, applied_entries, member_truth, Event, Mark, source_items, View, view}
-use Rattle.rk_inv_base.proofs.Words.{IsSound}
-use Rattle.rk_inv_base.proofs.calls.Records.{filter_from}
+use Rattle.std.proofs.Common.{All, Contains, List, Some, [], arith, drop, false, flat_map, nat_lt, slice_index_or, suc, true, zero, ℕ}
+use Rattle.std.proofs.Common.{⊎_elim, ◌++◌, ◌-◌, ◌∷◌, ◌≡◌}
+use Rattle.rk_inv_base.proofs.Words.{All-nil, BATCH_BYTES, Body, Contains-append_cases, Contains-append_left, Contains-append_right, Entry}
+use Rattle.rk_inv_base.proofs.Words.{Event, FIRST_SIDE_SEGMENT, Got, Held, IsSound, Mark, Member, Node, Pulled, Range, Row, View}
+use Rattle.rk_inv_base.proofs.Words.{World, and_parts, applied_entries, as_entries, at_hash, batch_at, cond_both, counting, counts, get}
+use Rattle.rk_inv_base.proofs.Words.{has_crashed, is_batch, is_receiving_at, is_token, items_in, items_of, log_material, master_at}
+use Rattle.rk_inv_base.proofs.Words.{member_truth, named, none_stands, side_entries, source_items, tablet_in, unmarked_from, view}
+use Rattle.rk_inv_base.proofs.Words.{written_in}
 use Rattle.rk_inv_base.proofs.pulls.Joining.{scanned}
-use Rattle.rk_inv_base.proofs.views.Lists.{all_by}
-use Rattle.rk_inv_rows.proofs.lineage.Among.{first_stand, flat_among, from_flat, later_stands, to_flat}
-use Rattle.rk_inv_rows.proofs.lineage.Pieces.{unmarked_stood}
 use Rattle.rk_inv_wellformed.proofs.masters.Pulls.{items_again}
-use Rattle.rk_inv_events.proofs.pulls.Targets.{as_target, batch_stands, of_some_hash}
+use Rattle.rk_inv_events.proofs.pulls.Targets.{as_target, batch_stands, got_are, of_some_hash}
 use Rattle.rk_inv_lanes.specs.room.Logged.{IsLogged}
 use Rattle.rk_inv_lanes.specs.room.Replayed.{replayed_at, replayed_in, replayed_of, replayed_to}
-use Rattle.rk_inv_events.proofs.pulls.Answered.{got_are}
 use Rattle.rk_inv_events.proofs.pulls.Batches.{pulled_are}
+use Rattle.rk_inv_events.proofs.Words.{all_by, by_found, filter_from, first_stand, flat_among, from_flat, later_stands, to_flat}
+use Rattle.rk_inv_events.proofs.Words.{unmarked_stood}
 
 -- ---- what counts of a log
 
@@ -117,15 +114,8 @@ module _ (w : World) (sound : IsSound w) (number master : ℕ) (from : Node) (li
 
   -- so what a living master replays of a message is logged
   of_body : (body : Body) → Stands body → All (IsLogged w) (replayed_of (master_at w master) body)
-  of_body (Body.Pulled pulled) there =
-      let kept : Tablet = tablet_in w master pulled.tenure.tablet in
-      cond_both (is_receiving_at kept pulled.tenure.term && is_token pulled.token kept.pulling.token) (items_of pulled.entries) [] (All (IsLogged w))
-      (λ takes. pulled_logged pulled there (and_parts _ _ takes).0) (λ other. All-nil (IsLogged w))
-  of_body (Body.Got message) there =
-      let kept : Tablet = tablet_in w master message.tenure.tablet in
-      cond_both (is_receiving_at kept message.tenure.term && is_batch kept.pulling.hashes.outstanding message.hashes) (items_of message.entries) []
-      (All (IsLogged w)) (λ takes. got_logged message there (and_parts _ _ takes).0) (λ other. All-nil (IsLogged w))
-  of_body body there = All-nil (IsLogged w)
+  of_body body there =
+      grind (arith, tablet_in, cond_both, is_receiving_at, is_token, items_of, pulled_logged, and_parts, is_batch, got_logged)
 
 -- ---- events
 
@@ -133,17 +123,10 @@ module _ (w : World) (sound : IsSound w) (number : ℕ) where
   -- what its receiver replays of a message is logged
   to_node : (from to : Node) (body : Body) → get w.wire.messages number ≡ Some (record { from = from; to = to; body = body })
       → All (IsLogged w) (replayed_to w to body)
-  to_node from (Node.Master master) body there =
-      cond_both (has_crashed w master) [] (replayed_of (master_at w master) body) (All (IsLogged w))
-      (λ crashed. All-nil (IsLogged w)) (λ lives. of_body w sound number master from lives body there)
-  to_node from to body there = All-nil (IsLogged w)
-
-  -- and so is what is replayed of a message that is looked up
-  of_message : (found : Option Message) → get w.wire.messages number ≡ found → All (IsLogged w) (replayed_in w found)
-  of_message None there = All-nil (IsLogged w)
-  of_message (Some message) there = to_node message.from message.to message.body there
+  to_node from to body there = grind (arith, cond_both, has_crashed, master_at, of_body)
 
 -- in a sound lane what is replayed when an event happens is logged
 pub replayed_logged : (w : World) (event : Event) → IsSound w → All (IsLogged w) (replayed_at w event)
-replayed_logged w (Event.Deliver number) sound = of_message w sound number (get w.wire.messages number) refl
+replayed_logged w (Event.Deliver number) sound = by_found (λ found. All (IsLogged w) (replayed_in w found)) (get w.wire.messages number)
+    (λ none. All-nil (IsLogged w)) (λ message. to_node w sound number message.from message.to message.body)
 replayed_logged w event sound = All-nil (IsLogged w)

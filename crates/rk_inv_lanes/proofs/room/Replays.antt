@@ -1,5 +1,5 @@
 -- How many bytes a target gets by a replay of items that are logged: it takes each of them once at most, so no more than all logs have.
-use Rattle.std.proofs.Common.{◌≡◌, ◌≤◌, ◌+◌, ◌%◌, ◌&&◌, ℕ, Bool, true, false, cond, nat_lt, List, [], ◌∷◌, length, All, Option, None, Some}
+use Rattle.std.proofs.Common.{◌≡◌, ◌≤◌, ◌+◌, ◌%◌, ◌&&◌, ℕ, Bool, true, false, cond, nat_lt, List, [], ◌∷◌, length, All, Option, Some}
 use Rattle.std.proofs.Common.{refl, sym, ap, ◌∙◌, ⊎_elim, arith, Contains, sum_by, if◌then◌else◌}
 use Rattle.rk_inv_base.proofs.Words.{cases_Bool, cond-false, cond-true, cond_both, nat_tests, All-head, All-tail, All-weaker, sum-map}
 use Rattle.rk_inv_base.proofs.Words.{sum_by-cons, spelled_of, IsInOrder, Held, spelled_all, order_after, found, is_newer, with_newer}
@@ -8,7 +8,6 @@ use Rattle.rk_inv_base.proofs.Words.{tablet_at, as_entries, got_taken, hashes_re
 use Rattle.rk_inv_base.proofs.Words.{replay, replay_one, token_passed, is_receiving_at, Worked, changed, World, bytes_of_logs, master_at}
 use Rattle.std.proofs.lemmas.List.Sums.{sum_by-le-sum_by}
 use Rattle.rk_table.proofs.Changes.{found_after, found_newer}
-use Rattle.rk_table.specs.Items.{is_at}
 use Rattle.rk_inv_wellformed.proofs.bytes.PullBytes.{got_bytes, pulled_bytes}
 use Rattle.rk_inv_wellformed.proofs.bytes.TurnBytes.{CLOSING_BYTES}
 use Rattle.rk_inv_wellformed.proofs.masters.Pulls.{items_again}
@@ -28,33 +27,18 @@ lacks records item = if is_newer item (found item.table item.key records) then s
 -- an item that is newer than another one is newer than what that one is newer than
 newer_still : (item other : Held) (there : Option Held) → is_newer other there ≡ true → is_newer item (Some other) ≡ true
     → is_newer item there ≡ true
-newer_still item other None newer above = refl
-newer_still item other (Some old) newer above =
-    let first : nat_lt old.version other.version ≡ true = newer in
-    let second : nat_lt other.version item.version ≡ true = above in
-    grind (arith, nat_tests)
+newer_still item other there newer above = grind (arith, nat_lt, nat_tests)
 
 -- what is newer once a newer item was put was newer before
 newer_before : (item put : Held) (records : List Held) → IsInScanOrder records → is_newer put (found put.table put.key records) ≡ true
     → is_newer item (found item.table item.key (with_newer put records)) ≡ true → is_newer item (found item.table item.key records) ≡ true
-newer_before item put records order newer is = ⊎_elim
-    (λ (here : is_at item.table item.key put ≡ true).
-    let its = is_of_parts item.table item.key put here in
-    let At : List Held → Option Held = λ list. found item.table item.key list in
-    let same : (list : List Held) → found put.table put.key list ≡ At list = λ list i. found (its.0 i) (its.1 i) list in
-    newer_still item put (At records) (sym (ap (is_newer put) (same records)) ∙ newer)
-    (ap (is_newer item) (sym (found_newer put records order newer) ∙ same (with_newer put records)) ∙ is))
-    (λ (other : is_at item.table item.key put ≡ false).
-    ap (is_newer item) (sym (found_after put records item.table item.key order other)) ∙ is)
-    (cases_Bool (is_at item.table item.key put))
+newer_before item put records order newer is =
+    grind (arith, is_of_parts, found, newer_still, is_newer, found_newer, with_newer, found_after, cases_Bool)
 
 -- so no more of it is lacked then
 lacks_less : (item put : Held) (records : List Held) → IsInScanOrder records → is_newer put (found put.table put.key records) ≡ true
     → lacks (with_newer put records) item ≤ lacks records item
-lacks_less item put records order newer =
-    let now : Bool = is_newer item (found item.table item.key (with_newer put records)) in
-    cond_both now (spelled_of item) 0 (λ (n : ℕ). n ≤ lacks records item)
-    (λ is. rw (newer_before item put records order newer is) (omega arith)) (λ none. omega arith)
+lacks_less item put records order newer = grind (arith, is_newer, found, with_newer, cond_both, spelled_of, newer_before)
 
 -- the bytes of what records lack of a list
 abbrev lacking : List Held → List Held → ℕ

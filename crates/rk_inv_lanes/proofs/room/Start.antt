@@ -3,7 +3,7 @@ use Rattle.std.proofs.Common.{ℕ}
 use Rattle.rk_inv_base.proofs.Words.{accept, ask, Session, world_visited, World, new_world}
 use Rattle.rk_inv_lanes.specs.room.Kept.{IsKept}
 use Rattle.rk_inv_lanes.proofs.room.FittingLanes.{fits_accepted, fits_asked, fits_new}
-use Rattle.rk_inv_lanes.proofs.room.RecordLanes.{logged_accepted, logged_asked, logged_new}
+use Rattle.rk_inv_lanes.proofs.room.Events.{logged_accepted, logged_asked, logged_new}
 
 pub kept_new : (lane masters backups : ℕ) → IsKept (new_world lane masters backups)
 kept_new lane masters backups = record { logged = logged_new lane masters backups; fits = fits_new lane masters backups }

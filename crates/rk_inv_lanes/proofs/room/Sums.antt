@@ -1,11 +1,11 @@
 -- How many bytes what is logged in a lane has: no more than its logs. So items in strict order that are logged have no more either, and
 -- records are no more than the logs have bytes.
-use Rattle.std.proofs.Common.{◌≡◌, ◌≤◌, ◌+◌, ℕ, Bool, true, false, cond, List, [], ◌∷◌, ◌++◌, length, map, All, Option, None, Some, refl}
-use Rattle.std.proofs.Common.{sym, subst, ap, ◌∙◌, ⊎_elim, arith, Contains, unwrap_or, flat_map, sum_by, is_lt, nat_cmp, Ordering, Less}
-use Rattle.rk_inv_base.proofs.Words.{All-contains, All-head, All-tail, Contains-append_left, Contains-append_right, sum-map}
-use Rattle.rk_inv_base.proofs.Words.{sum_by-append, sum_by-cons, eq_by_cmp, NumberMap, get, Held, spelled, Entry, behind_stands}
-use Rattle.rk_inv_base.proofs.Words.{first_stands, none_stands, stands_cases, cut, items_of, IsFormedMaster, IsWellFormed, Limits, Master}
-use Rattle.rk_inv_base.proofs.Words.{log_bytes, new_master, as_entries, World, bytes_of_logs}
+use Rattle.std.proofs.Common.{All, Bool, Contains, Less, List, Ordering, Some, [], ap, arith, cond, false, flat_map, is_lt, length, map}
+use Rattle.std.proofs.Common.{nat_cmp, refl, subst, sum_by, sym, true, unwrap_or, ℕ, ⊎_elim, ◌++◌, ◌+◌, ◌∙◌, ◌∷◌, ◌≡◌, ◌≤◌}
+use Rattle.rk_inv_base.proofs.Words.{All-contains, All-head, All-tail, Contains-append_left, Contains-append_right, Entry, Held}
+use Rattle.rk_inv_base.proofs.Words.{IsFormedMaster, IsWellFormed, Limits, Master, NumberMap, World, as_entries}
+use Rattle.rk_inv_base.proofs.Words.{behind_stands, bytes_of_logs, cut, eq_by_cmp, first_stands, get, items_of, log_bytes, new_master}
+use Rattle.rk_inv_base.proofs.Words.{none_stands, spelled, stands_cases, sum-map, sum_by-append, sum_by-cons}
 use Rattle.std.proofs.lemmas.List.Concat.{length-flat_map}
 use Rattle.std.proofs.lemmas.List.Recursion.{is_sum_by}
 use Rattle.std.proofs.lemmas.List.Sums.{sum_by-le-sum_by}
@@ -17,13 +17,13 @@ use Rattle.rk_overlay.proofs.Ordered.{item_total}
 use Rattle.rk_overlay.specs.Overlay.{item_cmp}
 use Rattle.rk_inv_wellformed.proofs.bytes.PullBytes.{items_few}
 use Rattle.rk_inv_wellformed.proofs.bytes.Sizes.{bytes_spelled}
-use Rattle.rk_inv_wellformed.proofs.maps.Maps.{All_pairs}
 use Rattle.rk_inv_wellformed.proofs.maps.Numbered.{numbered_order}
 use Rattle.rk_inv_wellformed.proofs.masters.Sealing.{items_spelled}
 use Rattle.rk_inv_lanes.specs.room.Logged.{HasRecordsOf, IsLogged, logged_by}
-use Rattle.rk_types.specs.Held.{spelled_of}
-use Rattle.rk_entry.specs.Entries.{spelled_all}
+use Rattle.rk_inv_events.proofs.Words.{All_pairs, by_found}
 use Rattle.std.specs.List.Sorted.{IsStrictlySortedBy}
+use Rattle.rk_entry.specs.Entries.{spelled_all}
+use Rattle.rk_types.specs.Held.{spelled_of}
 
 -- ---- sums
 
@@ -82,12 +82,10 @@ found_stands (first ∷ rest) number master item found stands =
 
 -- what is logged stands there
 pub logged_stands : {w : World} {item : Held} → IsLogged w item → Contains (all_logged w) item
-logged_stands {w} {item} logged = go (get w.masters logged.master) refl logged.stands
-  where
-    go : (found : Option Master) → get w.masters logged.master ≡ found → Contains (logged_by (unwrap_or found (new_master logged.master []))) item
-        → Contains (all_logged w) item
-    go None none stands = absurd (none_stands item stands)
-    go (Some master) there stands = found_stands w.masters logged.master master item there stands
+logged_stands {w} {item} logged =
+    by_found (λ found. Contains (logged_by (unwrap_or found (new_master logged.master []))) item → Contains (all_logged w) item)
+    (get w.masters logged.master) (λ none stands. absurd (none_stands item stands))
+    (λ master there stands. found_stands w.masters logged.master master item there stands) logged.stands
 
 -- ---- its bytes
 

@@ -1,16 +1,15 @@
 -- The backups of a lane that tell what they store are its own from the start on, whatever happens; and all tell where all told.
-use Rattle.std.proofs.Common.{◌≡◌, ℕ, zero, suc, ◌+◌, ◌≤◌, Option, Some, None, sym, subst, ◌∙◌, arith, nat_le, All, nat_cmp, leb-true}
-use Rattle.std.proofs.Common.{⊎_elim}
-use Rattle.rk_inv_base.proofs.Words.{and_parts, All-cons, All-nil, range_with_len, each_insert, NumberMap, insert, Segments, Called}
-use Rattle.rk_inv_base.proofs.Words.{no_segments, refusal, world_stepped, stepped_by, World, new_world, StepError, Event}
+use Rattle.std.proofs.Common.{All, arith, leb-true, nat_cmp, nat_le, subst, suc, sym, zero, ℕ, ◌+◌, ◌∙◌, ◌≡◌, ◌≤◌}
+use Rattle.rk_inv_base.proofs.Words.{All-cons, All-nil, Called, Event, NumberMap, Segments, World, and_parts, each_insert, insert}
+use Rattle.rk_inv_base.proofs.Words.{new_world, no_segments, range_with_len, refusal, stepped_by, world_stepped}
 use Rattle.std.specs.Cmp.{nat_cmp_total}
 use Rattle.std.specs.FinMap.Entries.{is_sorted-put}
 use Rattle.rk_types.specs.NumberMap.{numbers}
 use Rattle.rk_world.specs.Runs.{Accepts, Asks, Happening, Happens, after}
-use Rattle.rk_inv_wellformed.proofs.maps.Lists.{all_before}
+use Rattle.rk_inv_wellformed.proofs.maps.Lists.{all_before, by_found}
 use Rattle.rk_inv_wellformed.proofs.maps.Maps.{each_from_pairs}
 use Rattle.rk_inv_wellformed.proofs.maps.Numbered.{numbered_order, numbers_are, numbers_kept}
-use Rattle.rk_inv_lanes.proofs.lanes.Events.{Covers, MayStore, StoresMore, event_covered}
+use Rattle.rk_inv_lanes.proofs.lanes.Events.{Covers, MayStore, event_covered}
 use Rattle.rk_inv_lanes.proofs.lanes.Visits.{accept_covered, ask_covered}
 use Rattle.rk_inv_lanes.specs.stands.Backups.{AllBackupsTell, AreBackups, HasOwnBackups, IsNumbered}
 
@@ -45,39 +44,15 @@ module _ (P : ℕ → NumberMap Segments → Type 0) (stores : GoesOnStored P) (
   Holds v = P v.backup_count v.backups
 
   may_store : (backups : NumberMap Segments) → MayStore w backups → P w.backup_count backups
-  may_store backups = ⊎_elim (λ (same : backups ≡ w.backups). rw same holds)
-      (λ (more : StoresMore w backups).
-      let parts = and_parts (nat_le 1 more.backup) (nat_le more.backup w.backup_count) more.there in
-      let there : IsNumbered w.backup_count more.backup =
-      record { first = leb-true 1 more.backup parts.0; last = leb-true more.backup w.backup_count parts.1 } in
-      rw more.is (stores w.backup_count w.backups more.backup more.segments there holds))
+  may_store backups = grind (arith, and_parts, nat_le, leb-true)
 
   covers : (event : Event) (called : Called) → Covers Holds w event called
-  covers event called = record {
-    quiet = may_store;
-    steps = λ number master message is found to lives. holds;
-    turns = λ master. holds;
-    hears = λ message. holds;
-    duties = holds;
-    answers = λ backup sender body. may_store;
-    again = λ client message found. holds;
-    adds = λ tablet range master is. holds;
-    comes = λ client is new. holds;
-    forgets = λ number is. holds;
-    moves = λ tablet to. holds;
-    parts = λ tablet at new. holds;
-    splits = λ tablet at new number master term. holds;
-    crashes = λ master is. holds;
-    notices = λ master. holds;
-  }
+  covers event called = grind (arith, may_store)
 
   -- so it goes on in whatever happens
   pub goes_on : (happening : Happening) → P (after w happening).backup_count (after w happening).backups
-  goes_on (Happens event called) = by (refusal w event)
-    where
-      by : (refused : Option StepError) → Holds (world_stepped w (stepped_by w event called refused))
-      by None = event_covered (covers event called)
-      by (Some error) = holds
+  goes_on (Happens event called) = by_found (λ refused. Holds (world_stepped w (stepped_by w event called refused))) (refusal w event)
+      (λ none. event_covered (covers event called)) (λ error is. holds)
   goes_on (Asks session) = ask_covered Holds w session holds (λ call turned out. holds)
   goes_on (Accepts number session) = accept_covered Holds w session holds number (λ body. holds)
 

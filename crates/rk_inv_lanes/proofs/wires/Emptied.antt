@@ -9,6 +9,7 @@ use Rattle.rk_inv_lanes.specs.wires.Emptied.{Arrival, arrived, deliveries_left, 
 use Rattle.rk_inv_lanes.proofs.wires.Sends.{one_delivery}
 use Rattle.rk_inv_lanes.proofs.wires.Steps.{arrival_leaves, forgotten_leaves, waiting}
 use Rattle.rk_inv_lanes.proofs.wires.Sums.{removed_there, total-cons}
+use Rattle.rk_inv_wellformed.proofs.maps.Lists.{by_found}
 
 -- ---- one message is taken off
 
@@ -26,11 +27,9 @@ taken_off_fewer w number message arrival order there =
 
 -- the masters stand in order still
 forgotten_order : (w : World) (number : ℕ) → IsInOrder w.masters → IsInOrder (forgotten w number).masters
-forgotten_order w number order = go (get w.wire.messages number)
-  where
-    go : (found : Option Message) → IsInOrder (world_stepped w (stepped_by w (Event.Forget number) (Gave None) (wire_fault number found))).masters
-    go None = order
-    go (Some message) = order
+forgotten_order w number order =
+    by_found (λ found. IsInOrder (world_stepped w (stepped_by w (Event.Forget number) (Gave None) (wire_fault number found))).masters)
+    (get w.wire.messages number) (λ none. order) (λ message there. order)
 
 pub taken_off_order : (w : World) (number : ℕ) (message : Message) (arrival : Arrival) → IsInOrder w.masters → get w.wire.messages number ≡ Some message
     → IsInOrder (taken_off w number arrival).masters
@@ -75,16 +74,13 @@ stays_silent (arrival ∷ arrivals) w silent =
 silent_after : (arrivals : List Arrival) (w : World) → IsInOrder w.masters → deliveries_left w ≤ length arrivals
     → number_at 1 (emptied w arrivals).wire ≡ None
 silent_after [] w order few = none_oldest w.wire.messages w.wire.sent (waiting w.masters) few
-silent_after (arrival ∷ arrivals) w order few = go (number_at 1 w.wire) refl (silent_after arrivals)
-  where
-    go : (oldest : Option ℕ) → number_at 1 w.wire ≡ oldest
-        → ((now : World) → IsInOrder now.masters → deliveries_left now ≤ length arrivals → number_at 1 (emptied now arrivals).wire ≡ None)
-        → number_at 1 (emptied (emptied_by w arrival oldest) arrivals).wire ≡ None
-    go None is later = stays_silent arrivals w is
-    go (Some number) is later =
-        let there = oldest_there w.wire.messages w.wire.sent number is in
-        later (taken_off w number arrival) (taken_off_order w number there.message arrival order there.found)
-        (omega (arith, few, taken_off_fewer w number there.message arrival order there.found))
+silent_after (arrival ∷ arrivals) w order few =
+    by_found (λ oldest. number_at 1 (emptied (emptied_by w arrival oldest) arrivals).wire ≡ None) (number_at 1 w.wire)
+    (stays_silent arrivals w)
+    (λ number is.
+    let there = oldest_there w.wire.messages w.wire.sent number is in
+    silent_after arrivals (taken_off w number arrival) (taken_off_order w number there.message arrival order there.found)
+    (omega (arith, few, taken_off_fewer w number there.message arrival order there.found)))
 
 pub empties : (w : World) (arrivals : List Arrival) → IsInOrder w.masters → deliveries_left w ≤ length arrivals → number_at 1 (emptied w arrivals).wire ≡ None
 empties w arrivals order few = silent_after arrivals w order few

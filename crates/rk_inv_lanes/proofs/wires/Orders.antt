@@ -10,13 +10,7 @@ use Rattle.rk_inv_lanes.proofs.masters.Changes.{of_lasting}
 
 -- what is sent brings fewer deliveries than the message that is taken
 fewer : IsSaid (λ body sends. deliveries_in sends < deliveries_of body)
-fewer = record {
-  silent = one_delivery;
-  says_ready = λ master prepare from. omega arith;
-  says_transfer = λ master tenure tablet. omega arith;
-  says_pulled = λ master sender pull pulled. omega arith;
-  says_got = λ master sender want message. omega arith;
-}
+fewer = grind (arith, one_delivery)
 
 -- where the same calls wait
 keeping : (master : Master) (body : Body) (worked : Worked) → deliveries_in worked.sends < deliveries_of body → worked.master.calls ≡ master.calls

@@ -5,7 +5,7 @@ use Rattle.rk_inv_base.proofs.Words.{stored_taken, Master, with_known, chosen, W
 use Rattle.rk_inv_lanes.specs.wires.Emptied.{deliveries_of}
 use Rattle.rk_inv_lanes.proofs.masters.Changes.{IsLasting, all_going_on_has, of_lasting}
 use Rattle.rk_inv_lanes.proofs.wires.Sums.{length_inserted, length_removed}
-use Rattle.rk_inv_events.proofs.stored.Work.{AnyNext, Passes, entries_pass}
+use Rattle.rk_inv_events.proofs.stored.StoredTaken.{AnyNext, Passes, entries_pass}
 
 -- the deliveries that messages bring
 abbrev pub deliveries_in : List Message → ℕ
@@ -22,12 +22,7 @@ one_delivery body = omega arith
 
 -- calls that wait stay the same in all that a master does but taking a Request and applying entries
 pub same_calls : (calls : NumberMap Call) → IsLasting (λ log applied now sides records. now ≡ calls) (λ item. ⊤)
-same_calls calls = record {
-  appended = λ master entry kept. kept;
-  sealed = λ master items kept. kept;
-  put = λ master item fits kept. kept;
-  dropped = λ master range kept. kept;
-}
+same_calls calls = grind arith
 
 -- ---- a Request
 
@@ -43,13 +38,7 @@ abbrev Answers : Master → Worked → Type 0
 Answers master worked = deliveries_in worked.sends + length worked.master.calls ≤ length master.calls
 
 answers : Passes AnyNext Answers
-answers = record {
-  stays = λ master. omega arith;
-  silent = λ master entry any. omega arith;
-  ends = λ master entry call end any there. omega (arith, length_removed master.calls master.applied call there);
-  goes_on = λ master first later one two.
-      omega (arith, one, two, sum_by-append (λ (message : Message). deliveries_of message.body) first.sends later.sends);
-}
+answers = grind (arith, length_removed, sum_by-append)
 
 pub stored_spends : (master : Master) (backup : ℕ) (stored : Stored) (over : Option Overreach) → Spends 1 master (stored_taken master backup stored over)
 stored_spends master backup stored (Some beyond) = omega arith

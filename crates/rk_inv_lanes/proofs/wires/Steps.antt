@@ -1,22 +1,20 @@
 -- A message that arrives leaves fewer deliveries, in whatever state its lane is.
-use Rattle.std.proofs.Common.{◌≡◌, ◌≤◌, ◌<◌, ◌+◌, ℕ, Bool, true, false, cond, List, [], ◌∷◌, fold, length, map, Option, Some, None, refl}
-use Rattle.std.proofs.Common.{sym, ap, unwrap_or, arith}
-use Rattle.rk_inv_base.proofs.Words.{sum_by-cons, IsInOrder, NumberMap, get, remove, Node, Segments, Traffic, with_message, Body, Message}
-use Rattle.rk_inv_base.proofs.Words.{Backed, Called, Gave, backup_step, stored_after, accept_by, accepting, is_asked_here, taking}
-use Rattle.rk_inv_base.proofs.Words.{untouched, Session, coordinator_step, with_rebuilt, Master, new_master, master_step, accept_refusal}
-use Rattle.rk_inv_base.proofs.Words.{refusal, filled, world_stepped, world_visited, backed_at, delivered_to, ledger_after, log_bytes_of}
-use Rattle.rk_inv_base.proofs.Words.{losing, quietly, seen_in, stepped_by, to_backup, to_coordinator, to_master, with_sends, worked_at}
-use Rattle.rk_inv_base.proofs.Words.{Worked, World, has_crashed, is_backup, master_at, with_coordinator, with_ledger, with_master}
-use Rattle.rk_inv_base.proofs.Words.{with_stored_by, StepError, Event}
+use Rattle.std.proofs.Common.{List, None, Option, Some, [], arith, fold, length, refl, unwrap_or, ℕ, ◌+◌, ◌<◌, ◌∷◌, ◌≡◌, ◌≤◌}
+use Rattle.rk_inv_base.proofs.Words.{Backed, Body, Called, Event, IsInOrder, Master, Message, Node, NumberMap, Segments, Session}
+use Rattle.rk_inv_base.proofs.Words.{Stepped, Traffic, Worked, World, backed_at, backup_step, coordinator_step, delivered_to, filled, get}
+use Rattle.rk_inv_base.proofs.Words.{has_crashed, is_backup, ledger_after, log_bytes_of, master_at, master_step, new_master, refusal}
+use Rattle.rk_inv_base.proofs.Words.{remove, seen_in, stepped_by, stored_after, sum_by-cons, to_backup, to_coordinator, to_master}
+use Rattle.rk_inv_base.proofs.Words.{with_coordinator, with_ledger, with_master, with_message, with_rebuilt, with_sends, with_stored_by}
+use Rattle.rk_inv_base.proofs.Words.{worked_at, world_stepped}
 use Rattle.rk_types.proofs.NumberMaps.{in_order_insert}
-use Rattle.rk_world.specs.Refusals.{wire_fault}
-use Rattle.rk_world.specs.declared.event.Taken.{Taken}
 use Rattle.rk_inv_wellformed.proofs.maps.MapSums.{size_found, sum_inserted}
 use Rattle.rk_inv_lanes.specs.wires.Emptied.{Accepts, Arrival, Delivers, Loses, arrived, deliveries_left, deliveries_of, forgotten}
 use Rattle.rk_inv_lanes.proofs.wires.Answers.{all_filled_same, backup_less, coordinator_less}
 use Rattle.rk_inv_lanes.proofs.wires.Orders.{master_spends}
 use Rattle.rk_inv_lanes.proofs.wires.Sends.{Spends, deliveries_in, one_delivery}
 use Rattle.rk_inv_lanes.proofs.wires.Sums.{removed_inserted, removed_none, total}
+use Rattle.rk_inv_wellformed.proofs.maps.Lists.{by_found, either_way}
+use Rattle.rk_inv_lanes.proofs.lanes.Visits.{accept_covered}
 
 -- ---- what is left
 
@@ -34,12 +32,7 @@ waiting masters = total (λ (master : Master). length master.calls) masters
 
 -- once a message is forgotten, those of the others are left
 pub forgotten_leaves : (w : World) (number : ℕ) → deliveries_left (forgotten w number) ≡ others_on w.wire number + waiting w.masters
-forgotten_leaves w number = go (get w.wire.messages number) refl
-  where
-    go : (found : Option Message) → get w.wire.messages number ≡ found
-        → deliveries_left (world_stepped w (stepped_by w (Event.Forget number) (Gave None) (wire_fault number found))) ≡ others_on w.wire number + waiting w.masters
-    go None there = ap (λ (n : ℕ). n + waiting w.masters) (sym (removed_none brought w.wire.messages number there))
-    go (Some message) there = refl
+forgotten_leaves w number = grind (arith, by_found, world_stepped, stepped_by, removed_none)
 
 -- ---- messages that are sent
 
@@ -76,10 +69,7 @@ sends_leave w number brings messages less =
 
 coordinator_leaves : {w : World} {number : ℕ} (message : Message) → LeavesFewer w number (deliveries_of message.body) (to_coordinator w message).world
 coordinator_leaves {w} {number} message =
-    let taken = coordinator_step w.coordinator message in
-    let now = with_ledger (with_coordinator w taken.coordinator) (with_rebuilt w.ledger taken.rebuilt) in
-    let left = sends_leave now number (deliveries_of message.body) taken.sends (coordinator_less w.coordinator message) in
-    record { fewer = left.fewer; order = left.order }
+    grind (arith, coordinator_step, with_ledger, with_coordinator, with_rebuilt, sends_leave, coordinator_less)
 
 -- the calls of a master are those under its number
 calls_found : (number : ℕ) (found : Option Master) → length (unwrap_or found (new_master number [])).calls ≡ size_found (λ (master : Master). length master.calls) found
@@ -89,51 +79,26 @@ calls_found number (Some master) = refl
 -- with a master in its place, its calls are counted in place of those that waited there
 waiting_with : (w : World) (number : ℕ) (master : Master) → IsInOrder w.masters
     → waiting (with_master w number master).masters + length (master_at w number).calls ≡ waiting w.masters + length master.calls
-waiting_with w number master order =
-    omega (
-      arith,
-      sum_inserted (λ (master : Master). length master.calls) w.masters number master order,
-      calls_found number (get w.masters number),
-    )
+waiting_with w number master order = grind (arith, sum_inserted, calls_found)
 
 -- a master has worked
 master_worked : {w : World} {number : ℕ} (master seen : ℕ) {most : ℕ} (worked : Worked) → IsInOrder w.masters
     → Spends most (master_at w master) worked → LeavesFewer w number most (worked_at w master seen worked).world
 master_worked {w} {number} master seen worked order spends =
-    let ledger = ledger_after w.ledger master seen worked in
-    let now = with_ledger (with_master w master worked.master) ledger in
-    let messages = map (filled ledger.journal worked.served) worked.sends in
-    record {
-      fewer =
-          omega (
-            arith,
-            spends,
-            sent_brings number messages now.wire,
-            all_filled_same ledger.journal worked.served worked.sends,
-            waiting_with w master worked.master order,
-          );
-      order = λ order. in_order_insert w.masters master worked.master order;
-    }
+    grind (arith, ledger_after, with_ledger, with_master, filled, sent_brings, all_filled_same, waiting_with, in_order_insert)
 
 master_leaves : {w : World} {number : ℕ} (master : ℕ) (message : Message) → IsInOrder w.masters
     → LeavesFewer w number (deliveries_of message.body) (to_master w master message).world
-master_leaves {w} {number} master message order = go (has_crashed w master)
-  where
-    worked : Worked
-    worked = master_step (master_at w master) message
-
-    go : (b : Bool) → LeavesFewer w number (deliveries_of message.body) (cond b (losing w) (worked_at w master (seen_in message.body) worked)).world
-    go true = record { fewer = (same_leaves w number message.body).fewer; order = λ order. order }
-    go false = master_worked master (seen_in message.body) worked order (master_spends (master_at w master) message)
+master_leaves {w} {number} master message order =
+    either_way (λ (stepped : Stepped). LeavesFewer w number (deliveries_of message.body) stepped.world) (has_crashed w master)
+    (record { fewer = (same_leaves w number message.body).fewer; order = λ order. order })
+    (master_worked master (seen_in message.body) (master_step (master_at w master) message) order
+    (master_spends (master_at w master) message))
 
 -- a backup has worked
 backed_leaves : (w : World) (number : ℕ) (body : Body) (backed : Backed) → deliveries_in backed.sends < deliveries_of body
     → LeavesFewer w number (deliveries_of body) (backed_at w backed).world
-backed_leaves w number body backed less = go backed.lost
-  where
-    go : (b : Bool) → LeavesFewer w number (deliveries_of body) (cond b (losing w) (with_sends w backed.sends)).world
-    go true = record { fewer = (same_leaves w number body).fewer; order = λ order. order }
-    go false = sends_leave w number (deliveries_of body) backed.sends less
+backed_leaves w number body backed less = grind (arith, either_way, same_leaves, sends_leave)
 
 -- whatever it stores then
 stored_leaves : {w : World} {number : ℕ} (backup : ℕ) (body : Body) (store : Segments → Segments) (stored : Option Segments) (backed : Backed)
@@ -146,17 +111,11 @@ stored_leaves {w} {number} backup body store (Some segments) backed less =
 
 backup_leaves : {w : World} {number : ℕ} (backup : ℕ) (sender : Node) (body : Body) (called : Called)
     → LeavesFewer w number (deliveries_of body) (to_backup w backup sender body called).world
-backup_leaves {w} {number} backup sender body called = go (is_backup w backup)
-  where
-    backed : Backed
-    backed = backup_step backup sender body (log_bytes_of w) called
-
-    store : Segments → Segments
-    store segments = stored_after segments sender body called
-
-    go : (b : Bool) → LeavesFewer w number (deliveries_of body) (cond b (backed_at (with_stored_by w backup store (get w.backups backup)) backed) (quietly w)).world
-    go true = stored_leaves backup body store (get w.backups backup) backed (backup_less backup sender body (log_bytes_of w) called)
-    go false = record { fewer = (same_leaves w number body).fewer; order = λ order. order }
+backup_leaves {w} {number} backup sender body called =
+    either_way (λ (stepped : Stepped). LeavesFewer w number (deliveries_of body) stepped.world) (is_backup w backup)
+    (stored_leaves backup body (λ segments. stored_after segments sender body called) (get w.backups backup)
+    (backup_step backup sender body (log_bytes_of w) called) (backup_less backup sender body (log_bytes_of w) called))
+    (record { fewer = (same_leaves w number body).fewer; order = λ order. order })
 
 -- ---- an arrival
 
@@ -172,32 +131,15 @@ receiver_leaves w number message (Node.Backup backup) called order = backup_leav
 delivery_leaves : {w : World} {number : ℕ} (message : Message) (called : Called) → IsInOrder w.masters
     → get w.wire.messages number ≡ Some message
     → LeavesFewer w number (deliveries_of message.body) (arrived w number (Delivers called))
-delivery_leaves {w} {number} message called order there = go (refusal w (Event.Deliver number))
-  where
-    go : (why : Option StepError) → LeavesFewer w number (deliveries_of message.body) (world_stepped w (stepped_by w (Event.Deliver number) called why))
-    go (Some error) = same_leaves w number message.body
-    go None = rw there (receiver_leaves w number message message.to called order)
+delivery_leaves {w} {number} message called order there =
+    by_found (λ why. LeavesFewer w number (deliveries_of message.body) (world_stepped w (stepped_by w (Event.Deliver number) called why)))
+    (refusal w (Event.Deliver number)) (λ none. rw there (receiver_leaves w number message message.to called order))
+    (λ error is. same_leaves w number message.body)
 
 -- a client takes it, unless that is refused: nothing is sent, and no more calls wait
 accepted_leaves : {w : World} {number : ℕ} (session : Session) (body : Body)
     → LeavesFewer w number (deliveries_of body) (arrived w number (Accepts session))
-accepted_leaves {w} {number} session body = go (accept_refusal w number session.client (get w.wire.messages number))
-  where
-    same : LeavesFewer w number (deliveries_of body) w
-    same = same_leaves w number body
-
-    tested : (b : Bool) (message : Message)
-        → LeavesFewer w number (deliveries_of body) (cond b (taking w session message.body) (untouched w session (Some Taken.Ignored))).world
-    tested true message = record { fewer = same.fewer; order = same.order }
-    tested false message = same
-
-    visited : (found : Option Message) → LeavesFewer w number (deliveries_of body) (accepting w session found).world
-    visited None = same
-    visited (Some message) = tested (is_asked_here w session) message
-
-    go : (why : Option StepError) → LeavesFewer w number (deliveries_of body) (world_visited w (accept_by w number session why))
-    go (Some error) = same
-    go None = visited (get w.wire.messages number)
+accepted_leaves {w} {number} session body = grind (arith, same_leaves, accept_covered)
 
 -- a message arrives
 pub arrival_leaves : (w : World) (number : ℕ) (message : Message) (arrival : Arrival) → IsInOrder w.masters

@@ -1,9 +1,9 @@
 //! Laws of what masters have applied: each master is caught up, that is, it has applied what every backup is known to hold. So one with
 //! staged entries sends something on its turn.
 //!
-//! The lanes need not be sound. In `proofs/applied`, `Logs` is about a log that grows and what backups tell of it, `Commits`,
-//! `Handovers`, `Pulls` and `Rebuilds` about what a master makes of each message, `Steps` about all of them and its turn, and `Lanes`
-//! about lanes. `Lacking` finds the backup that lacks bytes where not all is held, and `Sends` what is sent to it.
+//! The lanes need not be sound. In `proofs/applied`, `Logs` is about a log that grows and what backups tell of it, and finds the backup
+//! that lacks bytes where not all is held; `Commits` is about what a master makes of each message and on its turn, `Lanes` about lanes,
+//! and `Sends` about what the backup that lacks bytes is sent.
 ghost use Rattle.std.specs.Prelude.{◌≡◌, ◌≢◌, ◌<◌, ℕ, []};
 ghost use Rattle.rk_types.specs.declared.node.Node.TheVariants as nodes;
 ghost use Rattle.rk_log.specs.Log.{committed};

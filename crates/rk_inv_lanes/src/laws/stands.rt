@@ -1,8 +1,7 @@
 //! In a quiet lane the stored logs alone give the map: what each backup that tells stores of a row has just the records of the history.
 //!
-//! In `proofs/stands`, `MainStored` and `SideStored` say that a log of which all is applied is stored whole and read back, `LogBack`
-//! that what counts of it is then the row's truth, and `Standing` goes through the rows and the backups; `Telling` says which backups
-//! tell what they store.
+//! In `proofs/stands`, `Standing` says that a log of which all is applied is stored whole and read back, that what counts of it is then
+//! the row's truth, and goes through the rows and the backups; `Telling` says which backups tell what they store.
 ghost use Rattle.rk_entry.specs.declared.lists.TheConstants.{FIRST_SIDE_SEGMENT};
 ghost use Rattle.rk_inv_lanes.specs.stands.Backups.{AllBackupsTell, HasOwnBackups};
 ghost use Rattle.rk_log.specs.Cut.{cut};

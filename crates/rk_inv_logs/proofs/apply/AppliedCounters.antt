@@ -1,22 +1,19 @@
 -- Versions and floors of a key with the entry of a call: what is applied of a key is above what the map has there.
-use Rattle.std.proofs.Common.{◌≡◌, ℕ, ◌≤◌, ◌<◌, Bool, true, false, cond, ◌&&◌, eqb, List, [], Option, Some, None, refl, sym, ◌∙◌, arith}
+use Rattle.std.proofs.Common.{◌≡◌, ℕ, ◌≤◌, ◌<◌, Bool, true, false, cond, ◌&&◌, eqb, List, [], Option, Some, None, refl, ◌∙◌, arith}
 use Rattle.std.proofs.Common.{bytes_eq, Contains, eq-eqb, eqb-true, inl, inr}
 use Rattle.rk_inv_base.proofs.Words.{and_from, and_parts, cases_Bool, bytes_eq-Decides, Call, Held, Range, Map, with_change, last_version}
 use Rattle.rk_inv_base.proofs.Words.{Entry, first_stands, is_of_from, map_entry_of, items_in, items_of, of_key, tells_of, floor_of}
 use Rattle.rk_inv_base.proofs.Words.{AreAboveMap, IsEntryOf}
-use Rattle.rk_entry.specs.declared.entry.Entry.TheVariants as entries
 use Rattle.rk_inv_logs.proofs.apply.Applying.{change_by}
 use Rattle.rk_inv_base.proofs.logs.Floors.{floor_above}
 use Rattle.rk_inv_logs.proofs.apply.Inserted.{IsInserted, floor_more, inserted_kept, inserted_out, told_new}
+use Rattle.rk_entry.specs.declared.entry.Entry.TheVariants as entries
 
 -- ---- the entry of a call
 
 -- tells of the call's key
 pub tells_its : (call : Call) (entry : Entry) → IsEntryOf call entry → tells_of call.table call.key entry ≡ true
-tells_its call (entries.Held held) own = is_of_from call.table call.key held (sym own.table_is) (sym own.key_is)
-tells_its call (entries.Refused refused) own = and_from (eqb refused.table call.table) (bytes_eq refused.key call.key)
-    (eq-eqb refused.table call.table (sym own.table_is)) ((bytes_eq-Decides refused.key call.key).1 (sym own.key_is))
-tells_its call _ own = absurd own
+tells_its call entry own = grind (arith, is_of_from, and_from, eqb, bytes_eq, eq-eqb, bytes_eq-Decides)
 
 -- what tells of a key, with it
 pub key_floor : (entry : Entry) (old now : List Entry) → IsInserted entry old now → (table : ℕ) (key : List ℕ) → floor_of (of_key table key old) ≤ floor_of (of_key table key now)

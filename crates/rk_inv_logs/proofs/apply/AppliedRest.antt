@@ -3,7 +3,7 @@ use Rattle.std.proofs.Common.{◌≡◌, ℕ, max, true, List, [], ◌∷◌, �
 use Rattle.rk_inv_base.proofs.Words.{All-cons, All-contains, All-nil, filter_passes, Ended, Placed, Member, Range, Entry, Base, counts}
 use Rattle.rk_inv_base.proofs.Words.{unmarked_from, Written, lineage_rest, LastCall, IsStaged, call_end, call_ends}
 use Rattle.rk_inv_logs.proofs.Words.{all_by, flat_of}
-use Rattle.rk_inv_logs.proofs.apply.Staged.{AreOfOthers, still_staged}
+use Rattle.rk_inv_logs.proofs.made.LastCalls.{AreOfOthers, still_staged}
 
 module _ (base : Base) (journal : List Placed) (asked : ℕ → Option LastCall) (new : Placed) where
   pub all_staged : (rest : List Entry) → All (λ end. end.client ≢ new.call.client) (call_ends rest) → All (IsStaged base asked journal) rest → All (IsStaged base asked (journal ++ new ∷ [])) rest

@@ -7,9 +7,9 @@ use Rattle.rk_inv_base.proofs.Words.{IsAboveAll, IsEntryOf}
 use Rattle.rk_inv_logs.proofs.Words.{record_put, append_nil}
 use Rattle.rk_model.specs.History.{record_of as map_record_of, with_entry}
 use Rattle.rk_overlay.specs.Live.{live as live_items}
-use Rattle.rk_entry.specs.declared.entry.Entry.TheVariants as entries
 use Rattle.rk_inv_logs.proofs.apply.Applying.{change_by}
 use Rattle.rk_inv_logs.proofs.apply.Inserted.{AreNewest, IsInserted, newest_inserted}
+use Rattle.rk_entry.specs.declared.entry.Entry.TheVariants as entries
 
 -- ---- what an item leaves
 

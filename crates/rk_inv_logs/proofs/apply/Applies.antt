@@ -2,7 +2,7 @@
 -- its history then, and what is said beside the rows is so. What is asked beside it of the entry, and what follows for targets, for
 -- rebuilds and for messages, is the same whatever it tells.
 use Rattle.std.proofs.Common.{◌≡◌, ℕ, ◌+◌, true, false, List, [], ◌∷◌, Some, refl, sym, ap, ◌∙◌, subst, inl, inr, ◌⊎◌, arith, ◌≤◌, ◌<◌}
-use Rattle.std.proofs.Common.{Contains, All, IfSome, slice_get, slice_index_or, Option, None, ◌++◌, drop, max, option_map}
+use Rattle.std.proofs.Common.{Contains, All, IfSome, slice_get, slice_index_or, Option, None, ◌++◌, drop, option_map}
 use Rattle.rk_inv_base.proofs.Words.{All-contains, All-cons, All-nil, IfSome_then, get_or_from_slice_get, slice_get_within, get, Ended}
 use Rattle.rk_inv_base.proofs.Words.{Held, Member, Node, Range, Entry, Completions, completions_from, Handover, Role, lineage_of, Phase}
 use Rattle.rk_inv_base.proofs.Words.{Opening, Moving, Rebuilding, Row, known_of, committed, EntryEnd, Transfer, Body, Got, Pulled}
@@ -15,21 +15,21 @@ use Rattle.rk_inv_base.proofs.Words.{wanted_place, named_items, View, truths, So
 use Rattle.rk_inv_base.proofs.Words.{IsStagedEnd, told, IsInScanOrder, Waits, EachIn, AreAboveMap, AreHandedOver, FirstIsDone, HandedFits}
 use Rattle.rk_inv_base.proofs.Words.{Handed, HasItems, OnlyIsUnnamed, ReachAll, TellAll, base_map, beginning_in, ends_of, floor_of}
 use Rattle.rk_inv_base.proofs.Words.{handed_by, handed_for_grant, has_all_items, is_joined_in, joined_from, last_of, list_any, map_after}
-use Rattle.rk_inv_base.proofs.Words.{rests, target_truth, touches}
+use Rattle.rk_inv_base.proofs.Words.{rests, target_truth, touches, member_given_up}
 use Rattle.rk_inv_logs.proofs.Words.{all_by, by_master, if_master, part_weaker, rebuilder_weaker, put_by, newer_cases, Bond, Closed, Both}
 use Rattle.rk_inv_logs.proofs.Words.{Either, IsGatherOf, CountsFor, SoundBeside, SoundRow, SpeaksFor, row_in, view_by_rows, TellHistory}
-use Rattle.rk_outside.specs.Segments.{bytes_of as copied_bytes}
 use Rattle.rk_tablet_map.specs.Phase.{member as member_at}
-use Rattle.rk_inv_base.proofs.views.ByRows.{IsNextOf}
+use Rattle.rk_inv_base.proofs.views.ByRows.{IsNextOf, staged_as}
+use Rattle.rk_inv_logs.proofs.apply.ItemPut.{found_with, item_cases, item_found, order_with}
+use Rattle.rk_inv_rows.proofs.lineage.TargetMaterial.{item_counts}
+use Rattle.rk_inv_logs.specs.apply.Small.{with_item_of, entry_applied, with_one_applied}
+use Rattle.rk_inv_logs.proofs.apply.Members.{HasApplied, StandsBehind, target_applied, IsStill, after_apart, after_here, stands_at}
+use Rattle.rk_inv_logs.proofs.apply.Inserted.{none_fewer, none_from}
+use Rattle.rk_inv_rows.proofs.lineage.FewerMarks.{waits_with}
 use Rattle.rk_entry.specs.declared.entry.Entry.TheVariants as entries
 use Rattle.rk_message.specs.declared.message.Body.TheVariants as bodies
 use Rattle.rk_transfer.specs.declared.role.Role.TheVariants as roles
 use Rattle.rk_inv_logs.proofs.apply.Members as members
-use Rattle.rk_inv_logs.proofs.apply.ItemPut.{found_with, item_cases, item_counts, item_found, order_with}
-use Rattle.rk_inv_logs.specs.apply.Small.{with_item_of, entry_applied, with_one_applied}
-use Rattle.rk_inv_logs.proofs.apply.TargetApplied.{HasApplied, StandsBehind, target_applied}
-use Rattle.rk_inv_logs.proofs.apply.Members.{IsStill, after_apart, after_here, stands_at}
-use Rattle.rk_inv_logs.proofs.apply.NextEntry.{none_fewer, none_from}
 
 -- ---- data
 
@@ -82,17 +82,7 @@ rebuilt_says phase handover ends few many term master rebuilt more says = says
 
 -- the same is needed however much is applied
 needs_same : (v : View) (master : ℕ) (row : Row) (lineage : List Member) (q : ℕ) (end : EntryEnd) → NeededOf row (with_one_applied v.written master) lineage q end → NeededOf row v.written lineage q end
-needs_same v master row (first ∷ last ∷ []) q end needed =
-    let needs = needed.1 in (
-      needed.0,
-      record {
-        place = needs.place;
-        entry = needs.entry;
-        needed = assumption needs.needed;
-        ends_there = needs.ends_there;
-      },
-    )
-needs_same v master row _ q end needed = needed
+needs_same v master row lineage q end needed = grind (arith, member_given_up, member_material)
 
 -- what waits for its grant is not absent
 waiting_so : (role : Role) (P Q : ℕ → Type 0) → (is_wanting role ≡ true → is_absent role ≡ false → (from : ℕ) → P from → Q from) → IfSome (wanted_place role) P → IfSome (wanted_place role) Q
@@ -101,17 +91,7 @@ waiting_so role P Q so holds = tt
 
 -- the piece of a rebuild is the same however much is applied
 piece_same : (number from : ℕ) (handover : Handover) (merged : Merged) (w : Written) (closing applied : ℕ) → IsPieceOf number from handover merged w closing → IsPieceOf number from handover merged (record w { applied = applied }) closing
-piece_same number from handover merged w closing applied piece = record {
-  mark = piece.mark;
-  marked = piece.marked;
-  past_is = piece.past_is;
-  tablet_is = piece.tablet_is;
-  term_is = piece.term_is;
-  behind = piece.behind;
-  alone = piece.alone;
-  stands = piece.stands;
-  last = piece.last;
-}
+piece_same number from handover merged w closing applied piece = search piece
 
 -- ---- the entry
 
@@ -208,15 +188,8 @@ end_then v now q r end known staged is = elim is [
   | inr s ↦ elim (staged s.row s.stands s.told) [
     | inl told ↦ inl told
     | inr there ↦
-        inr
-        (record {
-          row = s.row;
-          stands = s.stands;
-          told = there;
-          number = s.number;
-          rebuilt = s.rebuilt;
-          at_term = s.at_term;
-        })
+        let term : ℕ = (v.handovers q r).term in
+        inr (staged_as v.rows v.rows (rests v) (rests now) q r term term end s s.stands there s.at_term)
   ]
 ]
 
@@ -232,11 +205,7 @@ module _ (v : View) (b : Applies v) where
 
   -- what a master has written, and its records, with the entry or without it
   of_both : (P : Written → List Held → Type 0) (q : ℕ) → (q ≡ b.master → P (record (v.written q) { applied = (v.written q).applied + 1 }) (with_item_of b.entry (v.records q))) → ((q ≡ b.master → ⊥) → P (v.written q) (v.records q)) → P (now.written q) (now.records q)
-  of_both P q here was =
-      of_records (P (now.written q)) q
-      (λ at. subst (λ (w : Written). P w (with_item_of b.entry (v.records q))) (sym (after_here v.written b.master b.entry b.stands q at))
-      (here at))
-      (λ apart. subst (λ (w : Written). P w (v.records q)) (sym (after_apart v.written b.master b.entry b.stands q apart)) (was apart))
+  of_both P q here was = grind (arith, of_records, after_here, after_apart)
 
   pub applied_grows : (q : ℕ) → (v.written q).applied ≤ (now.written q).applied
   applied_grows q = of_applied (λ n. (v.written q).applied ≤ n) q (λ at. omega arith) (λ apart. omega arith)
@@ -250,29 +219,17 @@ module _ (v : View) (b : Applies v) where
       (w.applied, slice_get_within w.entries w.applied b.entry b.stands, get_or_from_slice_get w.entries w.applied b.entry b.entry b.stands)
 
   pub cover_now : CoverOf now
-  cover_now = record {
-    unknown = b.sound.cover.unknown;
-    marks = b.sound.cover.marks;
-    sent = b.sound.cover.sent;
-    ranges = b.sound.cover.ranges;
-    ordered = b.sound.cover.ordered;
-    entries = b.sound.cover.entries;
-    sides = b.sound.cover.sides;
-    items = λ q.
-        of_records (All (IsItemWithin v.rows)) q
-        (λ at. all_with (IsItemWithin v.rows) b.entry (v.records q) (b.sound.cover.items q) (item_within v.rows b.entry entry_within))
-        (λ apart. b.sound.cover.items q);
-    wholes = b.sound.cover.wholes;
-  }
+  cover_now =
+      assumption (
+        λ (q : ℕ).
+            of_records (All (IsItemWithin v.rows)) q
+            (λ at. all_with (IsItemWithin v.rows) b.entry (v.records q) (b.sound.cover.items q) (item_within v.rows b.entry entry_within))
+            (λ apart. b.sound.cover.items q),
+        b.sound.cover,
+      )
 
   pub logs_now : LogsOf now
-  logs_now = record {
-    each = λ q.
-        let log = b.sound.logs.each q in
-        assumption
-        (of_applied (λ n. n ≤ committed (v.logs q)) q (λ at. let next : (v.written q).applied < committed (v.logs q) = rw (sym at) at b.held.held in omega (arith, next)) (λ apart. log.held));
-    sent = b.sound.logs.sent;
-  }
+  logs_now = grind (arith, of_applied, committed)
 
   -- ---- targets
 
@@ -324,21 +281,9 @@ module _ (v : View) (b : Applies v) where
       of_records IsInScanOrder q (λ at. order_with b.entry (v.records q) (b.sound.records.ordered q)) (λ apart. b.sound.records.ordered q)
 
   pub waits_on : (q number : ℕ) (call : Call) → (now.written q).applied ≤ number → Waits v.rows (v.handovers q) (v.written q) q number call → Waits v.rows (v.handovers q) (now.written q) q number call
-  waits_on q number call behind old = record {
-    behind = behind;
-    entry = old.entry;
-    stands = old.stands;
-    own = old.own;
-    unmarked = old.unmarked;
-    row = old.row;
-    has_row = old.has_row;
-    in_row = old.in_row;
-    last = old.last;
-    is_last = old.is_last;
-    here = old.here;
-    from = old.from;
-    may_stage = old.may_stage;
-  }
+  waits_on q number call behind old =
+      waits_with v.rows v.rows (v.handovers q) (v.written q) (v.written q).marks (now.written q).applied q number call old behind old.unmarked
+      old.has_row
 
   -- ---- rebuilds
 
@@ -456,13 +401,7 @@ module _ (v : View) (b : Applies v) where
   got_says other has _ is from master got agrees = agrees
 
   copy_says : (other : Row) (copy : CopySegment) (phase : Phase) → CopyIn other phase v.logs v.written v.stored v.live copy → CopyIn other phase v.logs now.written v.stored v.live copy
-  copy_says other copy (Rebuilding lineage to) says = (
-    says.0,
-    part_weaker (NeededOf other v.written lineage copy.master) (NeededOf other now.written lineage copy.master)
-        (known_of (v.logs copy.master) READ_BACKUP) (stored_of v.stored copy.master READ_BACKUP) copy.segment (copied_bytes copy.bytes)
-        (needs_same v b.master other lineage copy.master) says.1,
-  )
-  copy_says other copy _ says = says
+  copy_says other copy phase says = grind (arith, part_weaker, known_of, stored_of, needs_same)
 
   says_now : (other : Row) → Contains v.rows other → (from to : Node) (body : Body) → SaysOf other v.logs v.written v.stored v.handovers v.completions v.merged v.live v.handed from to body → SaysOf other v.logs now.written v.stored v.handovers b.kept v.merged v.live v.handed from to body
   says_now other has from to (bodies.Transfer transfer) says =
@@ -508,12 +447,7 @@ module _ (v : View) (b : Applies v) where
   done_at row has _ is done = tt
 
   unnamed_at : (range : Range) (lineage : List Member) → OnlyIsUnnamed v.written range lineage → OnlyIsUnnamed now.written range lineage
-  unnamed_at range (only ∷ []) none =
-      let w : Written = v.written only.master in
-      of_applied (λ n. joined_from range (max only.from n) w.entries ≡ []) only.master
-      (λ at. none_from (is_joined_in range) (max only.from w.applied) (max only.from (w.applied + 1)) w.entries (omega arith) none)
-      (λ apart. none)
-  unnamed_at range _ none = tt
+  unnamed_at range lineage none = grind (arith, of_applied, joined_from, none_from, is_joined_in)
 
   next_now : (row : Row) → Tells v now row → (number : ℕ) → IsNextOf v row number → IsNextOf now row number
   next_now row tells number next = omega (arith, tells.floor, next)

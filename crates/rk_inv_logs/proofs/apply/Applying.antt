@@ -1,22 +1,21 @@
 -- The next entry of a master's log is applied, and a call ends with it: what is known of the call and of its row, and what stays as it
 -- was.
 use Rattle.std.proofs.Common.{◌≡◌, ℕ, ◌≤◌, Bool, true, false, List, [], ◌∷◌, Option, Some, None, refl, sym, ap, ◌∙◌, subst, inl, inr, ◌⊎◌}
-use Rattle.std.proofs.Common.{if◌then◌else◌, Contains}
+use Rattle.std.proofs.Common.{if◌then◌else◌, Contains, arith}
 use Rattle.rk_inv_base.proofs.Words.{cases_eq, All-head, Call, Ended, Op, Outcome, Placed, Member, Range, change_of, is_mutation, Entry}
 use Rattle.rk_inv_base.proofs.Words.{lineage_of, Row, Base, map_entry_of, item_end, outcome_of, refusal_end, told_by, has_record}
 use Rattle.rk_inv_base.proofs.Words.{next_record, seen_of, is_member, last_of, is_marked, counts, named_by, has_key, LastCall, IsEntryOf}
 use Rattle.rk_inv_base.proofs.Words.{IsLast, IsLastAsked, IsStaged, Waits, call_end, RoleFits, AreApart, View, truths, rests, SoundView}
 use Rattle.rk_inv_logs.proofs.Words.{first_not_last, formed_apart, in_one_row, last_member, counts_call, names_call, speaker_of, row_in}
 use Rattle.rk_inv_logs.proofs.Words.{history_of, TellHistory}
-use Rattle.rk_types.specs.declared.call.Op.TheVariants.{Get, Put, CondPut, Delete}
 use Rattle.rk_model.specs.Machine.{Entry as MapEntry}
 use Rattle.rk_inv_base.proofs.rows.Apart.{same_number}
-use Rattle.rk_types.specs.declared.call.End.TheVariants as ends
-use Rattle.rk_entry.specs.declared.entry.Entry.TheVariants as entries
 use Rattle.rk_inv_logs.specs.apply.Small.{MayApplyCall, call_applied}
 use Rattle.rk_inv_logs.proofs.apply.Inserted.{IsInserted, inserted_before, inserted_behind}
 use Rattle.rk_inv_logs.proofs.apply.Members.{IsStill, Takes, has_last, next_at, rest_grows, still, takes, truth_grows, truth_still}
 use Rattle.rk_inv_logs.proofs.apply.Stagers.{stager_is}
+use Rattle.rk_types.specs.declared.call.End.TheVariants as ends
+use Rattle.rk_entry.specs.declared.entry.Entry.TheVariants as entries
 
 -- ---- a call and its entry
 
@@ -42,15 +41,7 @@ change_by _ = None
 module _ (base : Base) (journal : List Placed) (asked : ℕ → Option LastCall) (call : Call) where
   -- the call of a staged entry is its client's last, and has no record
   asked_by : {client seq table : ℕ} {key : List ℕ} → call.client ≡ client → call.seq ≡ seq → call.table ≡ table → call.key ≡ key → IsLastAsked asked journal client seq table key → IsLastAsked asked journal call.client call.seq call.table call.key
-  asked_by client seq table key last = record {
-    last = last.last;
-    asked_is = ap asked client ∙ last.asked_is;
-    seq_is = last.seq_is ∙ sym seq;
-    table_is = last.table_is ∙ sym table;
-    key_is = last.key_is ∙ sym key;
-    mutation = last.mutation;
-    unrecorded = (λ i. has_record journal (client i) (seq i)) ∙ last.unrecorded;
-  }
+  asked_by client seq table key last = grind (arith, has_record)
 
   pub last_asked : (entry : Entry) → IsEntryOf call entry → IsStaged base asked journal entry → IsLastAsked asked journal call.client call.seq call.table call.key
   last_asked (entries.Held held) own staged = asked_by own.client_is own.seq_is own.table_is own.key_is staged.last
@@ -59,28 +50,11 @@ module _ (base : Base) (journal : List Placed) (asked : ℕ → Option LastCall)
 
   -- a refusal leaves the map as it was
   refusal_leaves : (op : Op) (absent : Bool) (found : ℕ) → change_of op (outcome_of (if absent then ends.Absent else ends.Mismatch found)) ≡ None
-  refusal_leaves Get true found = refl
-  refusal_leaves Get false found = refl
-  refusal_leaves (Put value) true found = refl
-  refusal_leaves (Put value) false found = refl
-  refusal_leaves (CondPut expected value) true found = refl
-  refusal_leaves (CondPut expected value) false found = refl
-  refusal_leaves Delete true found = refl
-  refusal_leaves Delete false found = refl
+  refusal_leaves op absent found = grind arith
 
   -- a call leaves what its entry does
   pub leaves_so : (entry : Entry) (end : Ended) → IsLast (asked call.client) call → IsEntryOf call entry → IsCallEnd call entry end → IsStaged base asked journal entry → change_of call.op (outcome_of end.end) ≡ change_by entry
-  leaves_so (entries.Held held) end is own ended staged =
-      let last : LastCall = staged.last.last in
-      let kept : asked call.client ≡ Some last = ap asked own.client_is ∙ staged.last.asked_is in
-      let same : last.call ≡ call = rw kept at is in
-      let its : item_end held ≡ end = cc ended.tells in
-      (λ i. change_of (sym same i).op (outcome_of (sym its i).end)) ∙ staged.leaves
-  leaves_so (entries.Refused refused) end is own ended staged =
-      let its : refusal_end refused ≡ end = cc ended.tells in
-      ap (λ (e : Ended). change_of call.op (outcome_of e.end)) (sym its) ∙ refusal_leaves call.op refused.absent refused.found
-  leaves_so (entries.Carried carried) end is own ended staged = absurd own
-  leaves_so (entries.Joined joined) end is own ended staged = absurd own
+  leaves_so entry end is own ended staged = grind (arith, item_end, change_of, outcome_of, refusal_end, refusal_leaves)
 
 -- ---- a view
 

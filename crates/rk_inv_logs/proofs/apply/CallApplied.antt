@@ -1,25 +1,338 @@
--- A lane stays sound when the next entry of a living master's log is applied and the call that waited for it ends: the item goes into the
--- records, the tablet notes the end, and the call gets its record.
-use Rattle.std.proofs.Common.{◌≡◌, ℕ, ◌+◌, true, false, [], ◌∷◌, ◌++◌, Some, refl, sym, ap, ◌∙◌, subst, map, slice_get, nat_cmp, inl, inr}
-use Rattle.std.proofs.Common.{IfSome, List, None, Option, arith, eqb, ne_eqb, ◌≢◌, ◌≤◌}
-use Rattle.rk_inv_base.proofs.Words.{cases_Bool, cond-false, eq_by_cmp, NumberMap, get, get_or, remove, Call, Ended, Range, Entry, noted}
-use Rattle.rk_inv_base.proofs.Words.{apply_entry, noting, with_applied, with_ended, outcome_of, asked_by, seen_of, with_all_served}
-use Rattle.rk_inv_base.proofs.Words.{with_record, Master, tablet_at, has_key, is_absent, Tablet, no_tablet, Worked, World, log_in}
-use Rattle.rk_inv_base.proofs.Words.{master_at, tablet_in, with_ledger, with_master, put, put2, View, view, IsSound, SoundView, All-push}
-use Rattle.rk_inv_base.proofs.Words.{All-weaker, AreOneAccepted, AskedOf, EachHasCall, EachIn, IsAfterSeen, IsAfterStart, IsLast}
-use Rattle.rk_inv_base.proofs.Words.{IsLastCall, LastCall, Outcome, Placed, WasAsked, Waits, hash_of, is_covered, lane_of_key, next_record}
-use Rattle.rk_inv_base.proofs.Words.{remove_less}
-use Rattle.rk_inv_logs.proofs.Words.{ended_call, put2_same, put_same, put_by, view_master, SoundBeside, covered_by, asked_still, got_cases}
-use Rattle.rk_inv_logs.proofs.Words.{is_request_still, request_says_still, rising_push, says_still, get_remove, get_removed}
-use Rattle.rk_inv_base.proofs.rows.Apart.{key_outside}
-use Rattle.rk_inv_logs.specs.apply.Small.{MayApplyCall, entry_applied_in, with_item_of, worked_in}
-use Rattle.rk_inv_logs.proofs.apply.Applying.{Applying, after, applying, entry, is_last, its_last, its_range, its_row, mutation, new, place}
+-- A view stays sound when the next entry of a log is applied and a call ends with it: its records, the ends that are kept, and the rest.
+use Rattle.std.proofs.Common.{◌≡◌, ℕ, ◌<◌, Option, true, false, List, [], ◌∷◌, ◌++◌, Some, None, refl, sym, ap, ◌∙◌, ◌==◌}
+use Rattle.std.proofs.Common.{IfSome, Contains, eqb-true, ◌≤◌, subst, inl, inr, arith, map, if◌then◌else◌, flat_map, eq-eqb, ◌+◌, slice_get}
+use Rattle.std.proofs.Common.{nat_cmp, eqb, ne_eqb, ◌≢◌}
+use Rattle.rk_inv_base.proofs.Words.{All-weaker, All-contains, IfSome_then, Held, Member, Range, Entry, Handover, lineage_of, Phase}
+use Rattle.rk_inv_base.proofs.Words.{Rebuilding, Row, is_of, items_in, items_of, first_of, is_member, last_of}
+use Rattle.rk_inv_base.proofs.Words.{lineage_truth, member_truth, IsAboveAll}
+use Rattle.rk_inv_base.proofs.Words.{post_of}
+use Rattle.rk_inv_base.proofs.Words.{rebuilder_post, target_post, AreApart, HasItems, IsTableOf, has_all_items, View, truths, cond_both}
+use Rattle.rk_inv_base.proofs.Words.{counts, cond-false, cond-true, false≢true, Contains-append_left, Any-from_list_any, get}
+use Rattle.rk_inv_base.proofs.Words.{completions_from, Role, told, told_by, Gather, by_member, is_of_lineage, material_by, unmarked_from}
+use Rattle.rk_inv_base.proofs.Words.{counting, named, side_entries, merge, merged_ends, own_place, is_absent, may_have_staged, Written}
+use Rattle.rk_inv_base.proofs.Words.{member_material, Merged, is_wanting, HandedFits, IsHandedBy, AreAboveMap, AreHandedOver, Ended}
+use Rattle.rk_inv_base.proofs.Words.{IsKnown, IsReached, ReachAll, TellAll, base_map, ends_of, floor_of, handed_by, handed_for_grant}
+use Rattle.rk_inv_base.proofs.Words.{has_key, is_mutation, is_waiting, map_after, noted, rests, second_has, second_of, cases_Bool}
+use Rattle.rk_inv_base.proofs.Words.{eq_by_cmp, NumberMap, get_or, remove, Call, apply_entry, noting, with_applied, with_ended, outcome_of}
+use Rattle.rk_inv_base.proofs.Words.{asked_by, seen_of, with_all_served, with_record, Master, tablet_at, Tablet, no_tablet, Worked, World}
+use Rattle.rk_inv_base.proofs.Words.{log_in, master_at, tablet_in, with_ledger, with_master, put, put2, view, IsSound, SoundView, All-push}
+use Rattle.rk_inv_base.proofs.Words.{AreOneAccepted, AskedOf, EachHasCall, EachIn, IsAfterSeen, IsAfterStart, IsLast, IsLastCall, LastCall}
+use Rattle.rk_inv_base.proofs.Words.{Outcome, Placed, WasAsked, Waits, hash_of, is_covered, lane_of_key, next_record, remove_less}
+use Rattle.rk_inv_logs.proofs.Words.{put_by, all_by, append_nil, speaker_is, SoundRow, row_in, last_stands, filter_stands, history_of}
+use Rattle.rk_inv_logs.proofs.Words.{flat_of, free_stands, counts_call, ended_call, put2_same, put_same, view_master, SoundBeside}
+use Rattle.rk_inv_logs.proofs.Words.{covered_by, asked_still, got_cases, is_request_still, request_says_still, rising_push, says_still}
+use Rattle.rk_inv_logs.proofs.Words.{get_remove, get_removed}
+use Rattle.rk_inv_logs.proofs.apply.Applying.{Applying, after, apart_in, entry, inside, its_row, last_takes, still_beside, first_apart}
+use Rattle.rk_inv_logs.proofs.apply.Applying.{its_fits, its_member, its_range, its_speaker, key_outside, names, outside, place}
+use Rattle.rk_inv_logs.proofs.apply.Applying.{rest_beside_row, rest_here, row_cases, same_row, truth_beside_row, truth_here, applying}
+use Rattle.rk_inv_logs.proofs.apply.Applying.{is_last, its_last, mutation, new}
+use Rattle.rk_inv_logs.proofs.apply.CallEnds.{serving, of_completions, reach_noted, known_at, once}
+use Rattle.rk_inv_logs.proofs.apply.CallHistory.{newest_here, Serving, all_there, history_here, history_there, known, low_here, low_there}
+use Rattle.rk_inv_logs.proofs.apply.CallHistory.{tell_here, tell_there, tells_it, legal_now}
+use Rattle.rk_inv_logs.specs.apply.Small.{with_item_of, MayApplyCall, entry_applied_in, worked_in}
+use Rattle.rk_inv_logs.proofs.apply.Inserted.{AreNewest, IsInserted, floor_inserted, inserted_behind, told_still}
+use Rattle.rk_inv_logs.proofs.apply.ItemPut.{table_apart, table_inserted, bare_with}
+use Rattle.rk_tablet_map.specs.Phase.{member as member_at}
+use Rattle.rk_inv_base.proofs.rows.Apart.{key_outside as key_beside}
+use Rattle.rk_inv_logs.proofs.apply.MergedEnds.{mapped, merged_reaches, noted_again}
+use Rattle.rk_inv_logs.proofs.apply.AppliedRest.{rest_counts}
+use Rattle.rk_inv_logs.proofs.apply.Stagers.{none_hands, none_waits, rebuilder_from, staging_present, staging_wants}
+use Rattle.rk_inv_logs.proofs.apply.Members.{applied_with}
+use Rattle.rk_inv_logs.proofs.apply.Applies.{Applies, StaysBare, Tells, of_target, applied_grows, bare_now, cover_now, logs_now, of_applied}
+use Rattle.rk_inv_logs.proofs.apply.Applies.{ordered_now, view_applied, waits_on}
 use Rattle.rk_inv_logs.proofs.apply.EntryPassed.{item_put, written_now}
-use Rattle.rk_inv_logs.proofs.apply.Stagers.{staging_present}
-use Rattle.rk_inv_logs.proofs.apply.AppliedState.{applies, tells}
-use Rattle.rk_inv_logs.proofs.apply.Applies.{applied_grows, bare_now, cover_now, logs_now, of_applied, ordered_now, view_applied, waits_on}
-use Rattle.rk_inv_logs.proofs.apply.CallEnds.{known_at, once, serving}
-use Rattle.rk_inv_logs.proofs.apply.CallHistory.{legal_now}
+use Rattle.rk_transfer.specs.declared.role.Role.TheVariants as roles
+
+-- ---- who has all of a tablet is the first of its lineage
+
+heir_first : (lineage : List Member) (master term : ℕ) (handover : Handover) → has_all_items (rebuilder_post lineage master) handover term ≡ true → IfSome (first_of lineage) (λ m. m.master ≡ master)
+heir_first lineage master term handover = grind (arith, cond_both, has_all_items, eqb-true)
+
+has_all_first : (phase : Phase) (master term : ℕ) (handover : Handover) → has_all_items (post_of phase master) handover term ≡ true → IfSome (first_of (lineage_of phase)) (λ m. m.master ≡ master)
+has_all_first phase master term handover =
+    grind (arith, cond_both, has_all_items, eqb-true, target_post, place, rebuilder_post, is_member, first_of, heir_first)
+
+module _ (v : View) (a : Applying v) where
+  -- the entry is above what its master told of the row
+  newest_alone : (list : List Entry) → ((x : Held) → Contains (items_of list) x → Contains (items_of (truths v (its_row v a))) x) → AreNewest list (entry v a)
+  newest_alone list within = All-weaker (IsAboveAll (items_of (truths v (its_row v a)))) (IsAboveAll (items_of list))
+      (λ item above.
+      all_by (λ other. is_of item.table item.key other ≡ true → other.version < item.version) (items_of list) (λ other at.
+      All-contains (λ (x : Held). is_of item.table item.key x ≡ true → x.version < item.version) (items_of (truths v (its_row v a))) other
+      above (within other at))) (items_in (entry v a)) (newest_here (serving v a))
+
+  -- the records of the first member have the newest of the row, also where that is the master
+  items_here : (q : ℕ) (lineage : List Member) → lineage_of (its_row v a).phase ≡ lineage → AreApart lineage → last_of lineage ≡ Some a.waits.last → IfSome (first_of lineage) (λ m. m.master ≡ q)
+      → IfSome (first_of lineage) (λ m. IsTableOf (its_row v a).range (member_truth v.written (its_row v a).range m) (v.records q))
+      → IfSome (first_of lineage) (λ m. IsTableOf (its_row v a).range (member_truth (after v a).written (its_row v a).range m) ((after v a).records q))
+  items_here q [] is apart last first old = absurd apart
+  items_here q (only ∷ []) is apart last first old =
+      let range : Range = (its_row v a).range in
+      let same : only ≡ a.waits.last = cc last in
+      let at : only.master ≡ a.master = ap (λ (m : Member). m.master) same ∙ a.waits.here in
+      let all : truths v (its_row v a) ≡ member_truth v.written range only ++ [] = ap (lineage_truth v.base v.written range) is in
+      put_by v.records a.master (with_item_of (entry v a)) (IsTableOf range (member_truth (after v a).written range only)) q
+      (λ _.
+      table_inserted range (member_truth v.written range only) (member_truth (after v a).written range only) (v.records q)
+      (a.sound.records.ordered q) old (entry v a) (last_takes v a only (ap last_of is)).truth
+      (newest_alone (member_truth v.written range only) (λ x there. rw (all ∙ append_nil (member_truth v.written range only)) there))
+      (inside v a)) (λ other. absurd (other (sym first ∙ at)))
+  items_here q (first ∷ second ∷ []) is apart last at old =
+      let same : second ≡ a.waits.last = cc last in
+      let here : second.master ≡ a.master = ap (λ (m : Member). m.master) same ∙ a.waits.here in
+      let range : Range = (its_row v a).range in
+      put_by v.records a.master (with_item_of (entry v a)) (IsTableOf range (member_truth (after v a).written range first)) q
+      (λ q_is. absurd (apart (at ∙ q_is ∙ sym here)))
+      (λ _. rw (still_beside v a range first (λ first_is. absurd (apart (first_is ∙ sym here)))).truth old)
+  items_here q (first ∷ second ∷ third ∷ more) is apart last at old = absurd apart
+
+  -- so they do of the row, and of each other one
+  pub items_its : (q : ℕ) → has_all_items (post_of (its_row v a).phase q) (v.handovers q (its_row v a).tablet) (its_row v a).term ≡ true → HasItems (its_row v a) v.written (v.records q) → HasItems (its_row v a) (after v a).written ((after v a).records q)
+  items_its q all =
+      items_here q (lineage_of (its_row v a).phase) refl (apart_in v a (its_row v a) a.waits.has_row) a.waits.is_last
+      (has_all_first (its_row v a).phase q (its_row v a).term (v.handovers q (its_row v a).tablet) all)
+
+  pub items_beside : (other : Row) → counts other.range (entry v a) ≡ false → (q : ℕ) → HasItems other v.written (v.records q) → HasItems other (after v a).written ((after v a).records q)
+  items_beside other outside q old =
+      IfSome_then (first_of (lineage_of other.phase)) old (λ member table.
+      let beside : IsTableOf other.range (member_truth (after v a).written other.range member) (v.records q) =
+      rw (still_beside v a other.range member (λ at. outside)).truth table in
+      put_by v.records a.master (with_item_of (entry v a)) (IsTableOf other.range (member_truth (after v a).written other.range member)) q
+      (λ at.
+      table_apart other.range (entry v a) (member_truth (after v a).written other.range member) (v.records q) outside beside)
+      (λ apart. beside))
+
+-- ---- data
+
+-- a master of the lineage has its own entries among what it merges
+own_among : (gather : Gather) (own : List Entry) (lineage : List Member) (master : ℕ) → gather.lineage ≡ lineage → gather.own ≡ master → is_member lineage master ≡ true → Contains (by_member gather own) own
+own_among gather own lineage master lineage_is own_is member =
+    let found = Any-from_list_any (λ (m : Member). m.master == master) lineage member in
+    let one : Member = found.1 in
+    let stands : Contains gather.lineage one = subst (λ (l : List Member). Contains l one) (sym lineage_is) (found.0, found.2, found.3) in
+    let at : one.master ≡ master = eqb-true one.master master found.4 in
+    let its : material_by gather own one.master ≡ own =
+    cond-true (one.master == gather.own) own _ (eq-eqb one.master gather.own (at ∙ sym own_is)) in
+    let each : List (List Entry) = map (λ member. material_by gather own member.master) gather.lineage in
+    Contains-append_left each (if is_of_lineage gather then [] else own ∷ []) own
+    (subst (Contains each) its (mapped (λ (member : Member). material_by gather own member.master) gather.lineage one stands))
+
+module _ (v : View) (a : Applying v) where
+  -- ---- the master that rebuilds its row
+
+  -- where its own entries of the row begin
+  own_from : (role : Role) (lineage : List Member) → (its_row v a).phase ≡ Rebuilding lineage a.master → (v.handovers a.master (its_row v a).tablet).term ≡ (its_row v a).term
+      → (v.handovers a.master (its_row v a).tablet).role ≡ role → own_place role ≤ place v a
+  own_from role lineage is at_term role_is =
+      grind (arith, its_row, eq-eqb, post_of, its_fits, lineage_of, rebuilder_from, place, apart_in, last_stands, last_of, is_last)
+
+  -- its own entries tell the end of the call
+  own_tells : (from : ℕ) → from ≤ place v a → (range : Range) → counts range (entry v a) ≡ true → Contains (told (member_material v.written range (member_at a.master from))) a.end
+  own_tells from behind range inside =
+      let w : Written = v.written a.master in
+      let all : List Entry = unmarked_from w.marks from w.entries in
+      flat_of told_by (member_material v.written range (member_at a.master from)) (entry v a) a.end
+      (Contains-append_left (counting range all) (counting range (flat_map (side_entries w.sides) (named range all))) (entry v a)
+      (filter_stands (counts range) all (entry v a)
+      (free_stands w.marks from w.entries (entry v a)
+      (record { place = w.applied; behind = behind; stands = a.waits.stands; free = a.waits.unmarked })) inside))
+      (tells_it (serving v a))
+
+  module _ (other : Row) (has : Contains v.rows other) (lineage : List Member) (phase_is : other.phase ≡ Rebuilding lineage a.master) (at_term : (v.handovers a.master other.tablet).term ≡ other.term) where
+    abbrev kept : Handover
+    kept = v.handovers a.master other.tablet
+
+    abbrev start : ℕ
+    start = own_place (v.handovers a.master other.tablet).role
+
+    abbrev own : List Entry
+    own = member_material v.written other.range (member_at a.master (own_place (v.handovers a.master other.tablet).role))
+
+    -- an entry of the row stands behind the place where its own ones begin
+    pub behind_own : counts other.range (entry v a) ≡ true → own_place (v.handovers a.master other.tablet).role ≤ place v a
+    behind_own counted = elim (row_cases v a other has) [
+      | inl same ↦
+          rw same
+          (own_from (v.handovers a.master (its_row v a).tablet).role lineage (ap (λ (r : Row). r.phase) (sym same) ∙ phase_is)
+          (rw same at at_term) refl)
+      | inr differs ↦ absurd (false≢true (sym (outside v a other has differs) ∙ counted))
+    ]
+
+    -- what it merged has the end of the call, if that is of the row
+    pub completions_same : (merged : Merged) → merged ≡ merge own (by_member (v.gathers a.master other.tablet) own) → v.completions a.master other.tablet ≡ completions_from [] merged.ends
+        → (v.gathers a.master other.tablet).lineage ≡ lineage → (v.gathers a.master other.tablet).own ≡ a.master → (after v a).completions a.master other.tablet ≡ completions_from [] merged.ends
+    completions_same merged merged_is completions lineage_is own_is =
+        let gather : Gather = v.gathers a.master other.tablet in
+        of_completions v a (λ c. c ≡ completions_from [] merged.ends) a.master other.tablet
+        (λ at its.
+        let same : other ≡ its_row v a = same_row v a other has its in
+        let counted : counts other.range (entry v a) ≡ true = ap (λ (r : Row). counts r.range (entry v a)) same ∙ inside v a in
+        let member : is_member lineage a.master ≡ true =
+        ap (λ (l : List Member). is_member l a.master) (ap lineage_of (sym phase_is) ∙ ap (λ (r : Row). lineage_of r.phase) same)
+        ∙ its_member v a in
+        let told_it : Contains (flat_map told (by_member gather own)) a.end =
+        flat_of told (by_member gather own) own a.end (own_among gather own lineage a.master lineage_is own_is member)
+        (own_tells (own_place (v.handovers a.master other.tablet).role) (behind_own counted) other.range counted) in
+        let reached = merged_reaches (by_member gather own) a.end told_it in
+        let ends_are : merged.ends ≡ merged_ends (by_member gather own) = ap (λ (m : Merged). m.ends) merged_is in
+        noted_again (v.completions a.master other.tablet) a.end (rw (completions ∙ ap (completions_from []) ends_are) reached)
+        ∙ completions) (λ apart. completions)
+
+  -- ---- targets
+
+  -- an entry of the row of a target stands behind its place
+  pub own_behind : (other : Row) → Contains v.rows other → (last : Member) → last_of (lineage_of other.phase) ≡ Some last → counts other.range (entry v a) ≡ true → last.from ≤ place v a
+  own_behind other has last is counted = elim (row_cases v a other has) [
+    | inl same ↦
+        let ends : Some last ≡ Some a.waits.last = sym is ∙ ap (λ (r : Row). last_of (lineage_of r.phase)) same ∙ a.waits.is_last in
+        let its : last ≡ a.waits.last = cc ends in rw its a.waits.from
+    | inr differs ↦ absurd (false≢true (sym (outside v a other has differs) ∙ counted))
+  ]
+
+  -- no other tablet that is there has the key
+  tablet_outside : (number : ℕ) → (number ≡ (its_row v a).tablet → ⊥) → is_absent (v.handovers a.master number).role ≡ false → counts (v.handovers a.master number).range (entry v a) ≡ false
+  tablet_outside number apart there =
+      let range : Range = (v.handovers a.master number).range in
+      counts_call range a.call (entry v a) a.waits.own
+      ∙ key_beside range (its_row v a).range a.call.table a.call.key
+      (rw (its_range v a) at
+      (a.sound.terms.apart a.master number (its_row v a).tablet apart there
+      (staging_present (v.handovers a.master (its_row v a).tablet).role a.waits.may_stage))) a.waits.in_row
+
+  -- so none that waits for its grant has it
+  pub waiting_apart : (r : ℕ) → is_wanting (v.handovers a.master r).role ≡ true → is_absent (v.handovers a.master r).role ≡ false → StaysBare v a.master (entry v a) r
+  waiting_apart r wants there from w bare = grind (arith, its_row, false≢true, staging_wants, is_wanting, bare_with, entry, tablet_outside)
+
+  -- a frozen source is not the master
+  pub frozen_same : (q tablet : ℕ) → (v.handovers q tablet).role ≡ roles.Frozen → (after v a).completions q tablet ≡ v.completions q tablet
+  frozen_same q tablet frozen = of_completions v a (λ c. c ≡ v.completions q tablet) q tablet
+      (λ at its.
+      let idle : may_have_staged (v.handovers q tablet).role ≡ false = ap may_have_staged frozen in
+      absurd (false≢true (sym idle ∙ (λ i. may_have_staged (v.handovers (at i) (its i)).role) ∙ a.waits.may_stage))) (λ apart. refl)
+
+  -- ---- the parts
+
+  abbrev pub applies : Applies v
+  applies = record {
+    master = a.master;
+    entry = a.waits.entry;
+    sound = a.sound;
+    held = a.may.held;
+    stands = a.waits.stands;
+    calls = (after v a).calls;
+    kept = (after v a).completions;
+    journal = (after v a).journal;
+    firsts = λ row has first second more is. still_beside v a row.range first (first_apart v a row has first second more is);
+    granted = λ row has first last is at granted counted x its.
+        subst (λ (n : ℕ). last.from ≤ (v.written n).applied) (sym at) (own_behind row has last (ap last_of is) counted);
+    wanted = waiting_apart;
+    own = λ row has lineage is term found.
+        applied_with row.range (v.written a.master) (entry v a) (v.records a.master) a.waits.stands (names v a row.range)
+        (own_place (v.handovers a.master row.tablet).role) (λ counted x at. behind_own row has lineage is term counted);
+    others = λ q tablet apart. of_completions v a (λ c. c ≡ v.completions q tablet) q tablet (λ at its. absurd (apart at)) (λ other. refl);
+    merged = λ row has lineage is term gather m merged_is same.
+        completions_same row has lineage is term m merged_is same gather.lineage_is gather.own_is;
+    frozen = frozen_same;
+  }
+
+  handed_at : (other : Row) → Contains v.rows other → (lineage : List Member) → lineage_of other.phase ≡ lineage → HandedFits other v.handovers v.completions v.handed lineage → HandedFits other v.handovers (after v a).completions v.handed lineage
+  handed_at other has (first ∷ last ∷ []) is fit = λ one.
+      of_completions v a (IsHandedBy (get v.handed other.tablet) (v.handovers first.master other.tablet)) first.master other.tablet
+      (λ at its.
+      let same : other ≡ its_row v a = same_row v a other has its in
+      absurd
+      (false≢true
+      (sym (first_apart v a other has first last [] is at) ∙ ap (λ (r : Row). counts r.range (entry v a)) same ∙ inside v a)))
+      (λ _. fit one)
+  handed_at other has _ is fit = tt
+
+  -- ---- what rows tell
+
+  -- of the row
+  tells_here : Tells v (after v a) (its_row v a)
+  tells_here =
+      let row : Row = its_row v a in
+      let s : Serving = serving v a in
+      let was : SoundRow v row = row_in v a.sound row a.waits.has_row in
+      let stages : may_have_staged (v.handovers a.waits.last.master row.tablet).role ≡ true =
+      ap (λ (m : ℕ). may_have_staged (v.handovers m row.tablet).role) a.waits.here ∙ a.waits.may_stage in
+      let grows : (last : Member) → last_of (lineage_of row.phase) ≡ Some last → (front : List Entry)
+      → IsInserted (entry v a) (front ++ member_truth v.written row.range last) (front ++ member_truth (after v a).written row.range last) =
+      λ last is front. inserted_behind (entry v a) _ _ (last_takes v a last is).truth front in
+      let floor = floor_inserted (entry v a) (truths v row) (truths (after v a) row) (rests (after v a) row) (truth_here v a) in
+      let rest : floor_of (truths v row ++ rests v row) ≡ floor_of (truths v row ++ entry v a ∷ rests (after v a) row) =
+      ap (λ (l : List Entry). floor_of (truths v row ++ l)) (rest_here v a) in
+      record {
+        history = history_here s;
+        moving = of_target v (after v a).written row (TellAll row.range v.journal) (TellAll row.range (after v a).journal)
+            (λ last is front. tell_here s _ _ (grows last is front)) row.phase refl was.moving;
+        low_moving = of_target v (after v a).written row (AreAboveMap row.range (map_after (base_map v.base) v.journal))
+            (AreAboveMap row.range (map_after (base_map v.base) (after v a).journal))
+            (λ last is front. low_here s _ _ (grows last is front)) row.phase refl was.low_moving;
+        still = told_still (entry v a) (truths v row) (truths (after v a) row) (truth_here v a) items_in;
+        floor = omega (arith, floor, rest);
+        answering = λ q counts says.
+            let at : q ≡ a.master =
+            speaker_is row q (v.handovers q row.tablet) (v.written q).applied (was.fitting q counts) says ∙ sym (its_speaker v a) in
+            of_completions v a (λ c. ReachAll row.range (after v a).journal (ends_of c)) q row.tablet
+            (λ _ _.
+            subst (λ (m : ℕ). ReachAll row.range (after v a).journal (ends_of (noted (v.completions m row.tablet) a.end))) (sym at)
+            (reach_noted v a
+            (subst (λ (m : ℕ). ReachAll row.range v.journal (ends_of (v.completions m row.tablet))) at (was.answering q counts says))))
+            (λ apart. absurd (apart at refl));
+        ends_granted =
+            rw
+            (cond-false (is_waiting (second_has v.handovers row (second_of (lineage_of row.phase)))) (get v.handed row.tablet) None
+            (none_waits v row a.waits.last stages (lineage_of row.phase) (apart_in v a row a.waits.has_row) a.waits.is_last)) tt;
+        ends_sent = λ n m there.
+            rw
+            (none_hands v row a.waits.last stages m.from m.to m.body (was.says n m there) (apart_in v a row a.waits.has_row) a.waits.is_last
+            (a.waits.here ∙ its_speaker v a)) tt;
+        items = λ q alive all. items_its v a q all (was.items q alive all);
+        handed_on = handed_at row a.waits.has_row (lineage_of row.phase) refl was.handed_on;
+      }
+
+  -- and of each other one
+  tells_there : (row : Row) → Contains v.rows row → (row.tablet ≡ (its_row v a).tablet → ⊥) → Tells v (after v a) row
+  tells_there row has differs =
+      let s : Serving = serving v a in
+      let was : SoundRow v row = row_in v a.sound row has in
+      let out : has_key row.range a.call.table a.call.key ≡ false = key_outside v a row has differs in
+      let uncounted : counts row.range (entry v a) ≡ false = outside v a row has differs in
+      let reach : (list : List Ended) → ReachAll row.range v.journal list → ReachAll row.range (after v a).journal list =
+      λ list. all_there s row.range out (λ placed. is_mutation placed.call.op ≡ true → IsReached list placed) in
+      let handed : (list : List Ended) → AreHandedOver v.base row.range v.journal list → AreHandedOver v.base row.range
+      (after v a).journal list =
+      λ list old. record {
+        reached = reach list old.reached;
+        known = All-weaker (IsKnown v.base v.journal) (IsKnown v.base (after v a).journal) (known s) list old.known;
+      } in
+      let same : (last : Member) → member_truth (after v a).written row.range last ≡ member_truth v.written row.range last =
+      λ last. (still_beside v a row.range last (λ at. uncounted)).truth in
+      record {
+        history = rw (truth_beside_row v a row has differs, rest_beside_row v a row has differs)
+            (history_there s row.range out (truths v row) (rests v row) (rest_counts v.written row.range (lineage_of row.phase))
+            (history_of v row a.sound has));
+        moving = of_target v (after v a).written row (TellAll row.range v.journal) (TellAll row.range (after v a).journal)
+            (λ last is front told. rw (same last) (tell_there s row.range out (front ++ member_truth v.written row.range last) told))
+            row.phase refl was.moving;
+        low_moving = of_target v (after v a).written row (AreAboveMap row.range (map_after (base_map v.base) v.journal))
+            (AreAboveMap row.range (map_after (base_map v.base) (after v a).journal))
+            (λ last is front told. rw (same last) (low_there s row.range out (front ++ member_truth v.written row.range last) told))
+            row.phase refl was.low_moving;
+        still = λ x at. rw (truth_beside_row v a row has differs) at;
+        floor = rw (truth_beside_row v a row has differs, rest_beside_row v a row has differs) (omega arith);
+        answering = λ q counts says.
+            of_completions v a (λ c. ReachAll row.range (after v a).journal (ends_of c)) q row.tablet (λ at its. absurd (differs its))
+            (λ apart. reach (ends_of (v.completions q row.tablet)) (was.answering q counts says));
+        ends_granted = IfSome_then (handed_for_grant row v.handovers v.handed) was.ends_granted (λ h. handed h.ends);
+        ends_sent = λ n m there. IfSome_then (handed_by row v.handovers m.body) (was.ends_sent n m there) (λ h. handed h.ends);
+        items = λ q alive all. items_beside v a row uncounted q (was.items q alive all);
+        handed_on = handed_at row has (lineage_of row.phase) refl was.handed_on;
+      }
+
+  pub tells : (row : Row) → Contains v.rows row → Tells v (after v a) row
+  tells row has = elim (row_cases v a row has) [ inl same ↦ rw same tells_here | inr differs ↦ tells_there row has differs ]
 
 -- ---- what is said beside the rows
 
@@ -86,13 +399,7 @@ module _ (v : View) (a : Applying v) where
   last_after (Some last) of_last is = rw is at of_last.after
 
   once_accepted : (i j : ℕ) (x y : Placed) → slice_get (after v a).journal i ≡ Some x → slice_get (after v a).journal j ≡ Some y → AreOneAccepted x y → i ≡ j
-  once_accepted i j x y at_i at_j one = elim (got_cases v.journal (new v a) i x at_i) [
-    | inl there ↦ elim (got_cases v.journal (new v a) j y at_j) [
-      | inl both ↦ a.sound.asked.once i j x y there both one
-      | inr last ↦ absurd (cc (ap (λ (p : Placed). p.accepted) last.1 ∙ one.second))
-    ]
-    | inr last ↦ absurd (cc (ap (λ (p : Placed). p.accepted) last.1 ∙ one.first))
-  ]
+  once_accepted i j x y at_i at_j one = grind (arith, got_cases, new, once)
 
   asked : AskedOf (after v a)
   asked =
@@ -163,10 +470,7 @@ notes : (call : Call) (end : Ended) (tablet : Tablet) → is_absent tablet.hando
 notes call end tablet there has = rw (there, has) refl
 
 notes_not : (call : Call) (end : Ended) (tablet : Tablet) → (is_absent tablet.handover.role ≡ false → has_key tablet.handover.range call.table call.key ≡ false) → noting call end tablet ≡ tablet
-notes_not call end tablet apart = elim (cases_Bool (is_absent tablet.handover.role)) [
-  | inl absent ↦ rw absent refl
-  | inr there ↦ rw (there, apart there) refl
-]
+notes_not call end tablet apart = grind (arith, cases_Bool, is_absent)
 
 module _ (w : World) (a : Applying (view w)) where
   abbrev v : View
@@ -224,7 +528,7 @@ module _ (w : World) (a : Applying (view w)) where
   tablet_other r apart =
       tablets_are r
       ∙ notes_not a.call a.end (tablet_in w a.master r) (λ present.
-      key_outside (v.handovers a.master r).range (its_row v a).range a.call.table a.call.key
+      key_beside (v.handovers a.master r).range (its_row v a).range a.call.table a.call.key
       (rw (its_range v a) at (a.sound.terms.apart a.master r number apart present there)) a.waits.in_row)
 
   -- ---- what is seen

@@ -9,11 +9,9 @@ use Rattle.rk_inv_logs.proofs.apply.Applies.{IsKnownIn, end_then}
 use Rattle.rk_inv_logs.proofs.apply.Applying.{Applying, after, entry, its_last, its_row, leaves, lives, new, rest_beside_row, rest_here}
 use Rattle.rk_inv_logs.proofs.apply.Applying.{row_cases, same_call, same_row, truth_here, was_history}
 use Rattle.rk_inv_logs.proofs.apply.CallHistory.{Serving, its_others, known, known_new, reaches_new, tells_end}
-use Rattle.rk_inv_logs.proofs.apply.Noting.{IsLatest, IsReplaced, noted_from, noted_still, noted_there}
-use Rattle.rk_inv_logs.proofs.apply.Staged.{told_staged}
-use Rattle.rk_inv_logs.proofs.made.LastCalls.{known_early, none_recorded}
+use Rattle.rk_inv_logs.proofs.made.LastCalls.{IsLatest, IsReplaced, noted_from, noted_still, noted_there, told_staged, known_early}
+use Rattle.rk_inv_logs.proofs.made.LastCalls.{none_recorded, IsWaiting}
 use Rattle.rk_inv_logs.proofs.made.MadeOf.{AreOnce, once_push}
-use Rattle.rk_inv_logs.proofs.made.Waiting.{IsWaiting}
 
 -- what is applied of a row, as a change of its history
 abbrev pub serving : (v : View) → Applying v → Serving

@@ -2,12 +2,12 @@
 -- other one.
 use Rattle.std.proofs.Common.{◌≡◌, ℕ, suc, true, false, List, [], ◌∷◌, ◌++◌, Option, refl, sym, ap, ◌∙◌, subst, inl, inr, arith, ◌≢◌, All}
 use Rattle.std.proofs.Common.{AllPairs, Contains}
-use Rattle.rk_inv_base.proofs.Words.{false≢true, All-cons, All-contains, All-nil, All-push, All-tail, Contains-push, Call}
-use Rattle.rk_inv_base.proofs.Words.{Ended, Outcome, Placed, Range, legal_back, legal_push, IsLegal, IsLegal-append, Map, map_after}
-use Rattle.rk_inv_base.proofs.Words.{map_after-append, map_with, with_change, change_of, is_mutation, Entry, first_stands, none_stands}
-use Rattle.rk_inv_base.proofs.Words.{stands_cases, record_of, Base, base_map, outcome_of, told, told_by, next_record, seen_of, of_key}
-use Rattle.rk_inv_base.proofs.Words.{tells_of, has_key, counts, LastCall, IsEntryOf, IsKnown, IsReached, Reaches, TellAll, is_record_in}
-use Rattle.rk_inv_base.proofs.Words.{AreAboveMap, IsLastAsked, IsStaged, call_ends, record_of_last, records_of}
+use Rattle.rk_inv_base.proofs.Words.{false≢true, All-cons, All-contains, All-nil, All-push, All-tail, Contains-push, Call, Ended, Outcome}
+use Rattle.rk_inv_base.proofs.Words.{Placed, Range, legal_back, legal_push, IsLegal, IsLegal-append, Map, map_after, map_after-append}
+use Rattle.rk_inv_base.proofs.Words.{map_with, with_change, change_of, is_mutation, Entry, first_stands, none_stands, stands_cases}
+use Rattle.rk_inv_base.proofs.Words.{record_of, Base, base_map, outcome_of, told, told_by, next_record, seen_of, of_key, tells_of, has_key}
+use Rattle.rk_inv_base.proofs.Words.{counts, LastCall, IsEntryOf, IsKnown, IsReached, Reaches, TellAll, is_record_in, AreAboveMap}
+use Rattle.rk_inv_base.proofs.Words.{IsLastAsked, IsStaged, call_ends, record_of_last, records_of}
 use Rattle.rk_inv_logs.proofs.Words.{record_for, known_still, all_by, TellHistory}
 use Rattle.rk_model.specs.History.{record_of as map_record_of}
 use Rattle.rk_inv_logs.proofs.apply.AppliedCalls.{tell_then, told_of_key}
@@ -17,7 +17,7 @@ use Rattle.rk_inv_logs.proofs.apply.AppliedTruth.{live_inserted, live_last}
 use Rattle.rk_inv_logs.proofs.apply.Applying.{IsCallEnd, change_by}
 use Rattle.rk_inv_logs.proofs.apply.Inserted.{AreNewest, IsInserted, above_first, above_inserted, inserted_kept, newest_inserted}
 use Rattle.rk_inv_logs.proofs.apply.Inserted.{plain_inserted, told_cases, told_new}
-use Rattle.rk_inv_logs.proofs.made.Beside.{IsOfLast, history_beside, map_beside}
+use Rattle.rk_inv_logs.proofs.made.MadeOf.{IsOfLast, history_beside, map_beside}
 
 -- the entry of a call stood first in the rest of a row, and comes into its truth; the call is its client's last, has no record, and leaves
 -- what its entry does
@@ -68,11 +68,7 @@ module _ (s : Serving) where
 
   -- the records that the staged calls of the row were to make begin with its own
   records_first : records_of s.asked (call_ends (s.entry ∷ s.rest)) ≡ record_for s.call (outcome_of s.end.end) ∷ records_of s.asked (call_ends s.rest)
-  records_first =
-      let more : List Placed = records_of s.asked (call_ends s.rest) in
-      ap (λ (l : List Ended). records_of s.asked (l ++ call_ends s.rest)) s.ended.ends_it
-      ∙ ap (λ (o : Option LastCall). record_of_last s.end o ++ more) (ap s.asked s.ended.client ∙ s.last.asked_is)
-      ∙ ap (λ (c : Call). record_for c outcome ∷ more) s.same_call
+  records_first = grind (arith, records_of, call_ends, record_of_last, record_for)
 
   -- so it may end so behind the journal, and the others may go on behind it
   was_legal : IsLegal (map_after (base_map s.base) s.journal) (record_for s.call (outcome_of s.end.end) ∷ records_of s.asked (call_ends s.rest))
@@ -106,10 +102,7 @@ module _ (s : Serving) where
 
   -- the entry tells its end, and nothing else
   pub tells_end : (end : Ended) → Contains (told_by s.entry) end → s.end ≡ end
-  tells_end end at = elim (stands_cases s.end [] end (subst (λ (l : List Ended). Contains l end) s.ended.tells at)) [
-    | inl is ↦ is
-    | inr none ↦ absurd (none_stands end none)
-  ]
+  tells_end end at = grind (arith, stands_cases, none_stands)
 
   pub tells_it : Contains (told_by s.entry) s.end
   tells_it = rw s.ended.tells (first_stands s.end [])

@@ -3,13 +3,12 @@
 use Rattle.std.proofs.Common.{◌≡◌, ℕ, Bool, true, false, Option, Some, None, refl, sym, ◌∙◌, arith, slice_get}
 use Rattle.rk_inv_base.proofs.Words.{get, Call, Entry, is_marked, World, log_in, master_at, written_in, MayApply, is_call_entry, view}
 use Rattle.rk_inv_base.proofs.Words.{IsSound, SoundView}
-use Rattle.rk_entry.specs.declared.entry.Entry.TheVariants as entries
 use Rattle.rk_inv_logs.specs.apply.Small.{entry_applied, entry_applied_in}
 use Rattle.rk_inv_logs.proofs.apply.CallApplied.{sound_call_applied}
-use Rattle.rk_inv_logs.proofs.apply.CarriedApplied.{view_carried}
+use Rattle.rk_inv_logs.proofs.apply.Passing.{view_carried, view_marked}
 use Rattle.rk_inv_logs.proofs.apply.EntryPassed.{sound_passed}
 use Rattle.rk_inv_logs.proofs.apply.JoinedApplied.{view_joined}
-use Rattle.rk_inv_logs.proofs.apply.MarkedApplied.{view_marked}
+use Rattle.rk_entry.specs.declared.entry.Entry.TheVariants as entries
 
 module _ (w : World) (master : ℕ) (sound : IsSound w) (may : MayApply (view w) master) where
   -- where no call waits

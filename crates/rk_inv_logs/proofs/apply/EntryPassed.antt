@@ -1,10 +1,11 @@
 -- What is seen of a world once the next entry of a master's log is applied and no call ends with it.
+use Rattle.std.proofs.Common.{arith}
 use Rattle.std.proofs.Common.{◌≡◌, ℕ, ◌+◌, None, refl, sym, ap, ◌∙◌, subst}
 use Rattle.rk_inv_base.proofs.Words.{get, Entry, apply_entry, with_applied, with_ended, with_entry_item, told_by, marks_of, Master, changed}
 use Rattle.rk_inv_base.proofs.Words.{World, master_at, tablet_in, written_by, put, view, IsSound, SoundView}
 use Rattle.rk_inv_logs.proofs.Words.{put2_same, put_here, put_is, put_other, put_same, view_master}
-use Rattle.rk_entry.specs.declared.entry.Entry.TheVariants as entries
 use Rattle.rk_inv_logs.specs.apply.Small.{entry_applied, entry_applied_in, with_item_of, with_one_applied, worked_in}
+use Rattle.rk_entry.specs.declared.entry.Entry.TheVariants as entries
 
 -- an item goes into the records of a master
 pub item_put : (master : Master) (entry : Entry) → with_entry_item master entry ≡ record master { records = with_item_of entry master.records }
@@ -14,20 +15,7 @@ item_put master _ = refl
 -- one master has applied one more entry
 pub written_now : (w : World) (master : ℕ) (after : Master) → after.log ≡ (master_at w master).log → after.sides ≡ (master_at w master).sides → after.applied ≡ (master_at w master).applied + 1 → (q : ℕ)
     → with_one_applied (view w).written master q ≡ put (view w).written master (written_by after (marks_of w.ledger master)) q
-written_now w master after log sides applied q =
-    put_is (view w).written master (written_by after (marks_of w.ledger master)) q (with_one_applied (view w).written master q)
-    (λ at.
-    (λ i. record ((view w).written (at i)) {
-      applied = put_here (λ r. ((view w).written r).applied) master (((view w).written master).applied + 1) q at i;
-    })
-    ∙ (λ i. record {
-      entries = (sym log i).entries;
-      applied = sym applied i;
-      sides = sym sides i;
-      marks = marks_of w.ledger master;
-    })) (λ apart i. record ((view w).written q) {
-      applied = put_other (λ r. ((view w).written r).applied) master (((view w).written master).applied + 1) q apart i;
-    })
+written_now w master after log sides applied q = grind (arith, put_is, view, written_by, marks_of, put_here, put_other)
 
 module _ (w : World) (master : ℕ) (entry : Entry) (none : get (master_at w master).calls (master_at w master).applied ≡ None) where
   abbrev after : Master

@@ -1,16 +1,91 @@
--- A list of entries with one more entry at some place: what it tells, and what is the same of it whatever the place.
-use Rattle.std.proofs.Common.{◌≡◌, ℕ, ◌+◌, ◌≤◌, ◌<◌, max, Bool, true, false, List, [], ◌∷◌, ◌++◌, Some, refl, sym, ap, ◌∙◌, subst, ⊎_elim}
-use Rattle.std.proofs.Common.{inl, inr, ◌⊎◌, arith, append_assoc, fold, filter, All, Contains, flat_map}
-use Rattle.rk_inv_base.proofs.Words.{cases_Bool, flat_map-append, All-contains, All-cons, All-head, All-nil, Contains-append_cases}
-use Rattle.rk_inv_base.proofs.Words.{Contains-append_left, Contains-append_right, filter-append, fold-append, Held, Entry, filter_kept}
+-- Lists of entries into which others came: what they tell more, where one entry came in that has the newest item of its key, and how the
+-- next entry of a log comes to what is applied.
+use Rattle.std.proofs.Common.{◌≡◌, Bool, List, [], ◌++◌, ap, sym, ◌∙◌, subst, inl, inr, ◌⊎◌, append_assoc, filter, Contains, flat_map, ℕ}
+use Rattle.std.proofs.Common.{◌+◌, ◌≤◌, ◌<◌, max, true, false, ◌∷◌, Some, refl, arith, fold, All, zero, suc, ◌-◌, cond, ◌||◌}
+use Rattle.std.proofs.Common.{length, drop, take, slice_get, drop-drop, length-take-le}
+use Rattle.rk_inv_base.proofs.Words.{Contains-append_cases, Contains-append_left, Contains-append_right, filter-append, Entry, cases_Bool}
+use Rattle.rk_inv_base.proofs.Words.{flat_map-append, All-contains, All-cons, All-head, All-nil, fold-append, Held, filter_kept}
 use Rattle.rk_inv_base.proofs.Words.{filter_left_out, newest_is, newer_item, newest_from-append, with_newer_here, with_newer_other}
 use Rattle.rk_inv_base.proofs.Words.{none_stands, stands_cases, is_of_from, is_of_parts, is_of, newest, none_found, IsPlain, items_in}
-use Rattle.rk_inv_base.proofs.Words.{items_of, floor_by, floor_of, AreAbove, IsAboveAll, first_stands}
-use Rattle.rk_inv_logs.proofs.Words.{newest_from-same, newest_from-stays, all_by, append_nil, flat_from, flat_of}
+use Rattle.rk_inv_base.proofs.Words.{items_of, floor_by, floor_of, AreAbove, IsAboveAll, first_stands, drop-append-le}
+use Rattle.rk_inv_base.proofs.Words.{get_or_from_slice_get, slice_get_within, list_any, Range, unmarked, unmarked_from, is_marked, counting}
+use Rattle.rk_inv_base.proofs.Words.{counts, material_of, named, named_by, Mark}
+use Rattle.rk_inv_logs.proofs.Words.{append_nil, flat_from, flat_of, newest_from-same, newest_from-stays, drop_more, take_more, drop_none}
+use Rattle.rk_inv_logs.proofs.Words.{named_same, unless_marked, unmarked_from_last}
 use Rattle.rk_overlay.specs.Newest.{Found, newest_from, with_newer}
 use Rattle.rk_inv_base.proofs.logs.Floors.{floor_append}
+use Rattle.rk_inv_rows.proofs.lineage.TakenOver.{above_fewer}
 use Rattle.rk_entry.specs.declared.entry.Entry.TheVariants as entries
-use Rattle.rk_inv_logs.proofs.apply.More.{HasMore, more_before, more_behind, more_cases, more_kept, more_still, more_there, told_among}
+
+-- a list has a block of entries more, at some place
+pub record HasMore (old now : List Entry) : Type 0 where
+  pub before : List Entry
+  pub block : List Entry
+  pub behind : List Entry
+  pub old_is : old ≡ before ++ behind
+  pub now_is : now ≡ before ++ (block ++ behind)
+
+-- nothing was put in
+abbrev pub more_none : {list now : List Entry} → now ≡ list → HasMore list now
+more_none {list} same =
+    record { before = list; block = []; behind = []; old_is = sym (append_nil list); now_is = same ∙ sym (append_nil list) }
+
+module _ {old now : List Entry} (more : HasMore old now) where
+  abbrev pub more_behind : (front : List Entry) → HasMore (front ++ old) (front ++ now)
+  more_behind front = record {
+    before = front ++ more.before;
+    block = more.block;
+    behind = more.behind;
+    old_is = ap (λ (l : List Entry). front ++ l) more.old_is ∙ sym (append_assoc front more.before more.behind);
+    now_is = ap (λ (l : List Entry). front ++ l) more.now_is ∙ sym (append_assoc front more.before (more.block ++ more.behind));
+  }
+
+  abbrev pub more_before : (back : List Entry) → HasMore (old ++ back) (now ++ back)
+  more_before back = record {
+    before = more.before;
+    block = more.block;
+    behind = more.behind ++ back;
+    old_is = ap (λ (l : List Entry). l ++ back) more.old_is ∙ append_assoc more.before more.behind back;
+    now_is = ap (λ (l : List Entry). l ++ back) more.now_is ∙ append_assoc more.before (more.block ++ more.behind) back
+        ∙ ap (λ (l : List Entry). more.before ++ l) (append_assoc more.block more.behind back);
+  }
+
+  abbrev pub more_kept : (p : Entry → Bool) → HasMore (filter p old) (filter p now)
+  more_kept p = record {
+    before = filter p more.before;
+    block = filter p more.block;
+    behind = filter p more.behind;
+    old_is = ap (filter p) more.old_is ∙ filter-append p more.before more.behind;
+    now_is = ap (filter p) more.now_is ∙ filter-append p more.before (more.block ++ more.behind)
+        ∙ ap (λ (l : List Entry). filter p more.before ++ l) (filter-append p more.block more.behind);
+  }
+
+  -- the block stands there, and what stood there does; nothing else
+  pub more_there : (e : Entry) → Contains more.block e → Contains now e
+  more_there e at =
+      rw more.now_is
+      (Contains-append_right more.before (more.block ++ more.behind) e (Contains-append_left more.block more.behind e at))
+
+  pub more_still : (e : Entry) → Contains old e → Contains now e
+  more_still e at = rw more.now_is
+      (elim (Contains-append_cases more.before more.behind e (subst (λ (l : List Entry). Contains l e) more.old_is at)) [
+        | inl front ↦ Contains-append_left more.before (more.block ++ more.behind) e front
+        | inr back ↦ Contains-append_right more.before (more.block ++ more.behind) e (Contains-append_right more.block more.behind e back)
+      ])
+
+  pub more_cases : (e : Entry) → Contains now e → Contains more.block e ⊎ Contains old e
+  more_cases e at =
+      elim (Contains-append_cases more.before (more.block ++ more.behind) e (subst (λ (l : List Entry). Contains l e) more.now_is at)) [
+        | inl front ↦ inr (rw more.old_is (Contains-append_left more.before more.behind e front))
+        | inr later ↦ elim (Contains-append_cases more.block more.behind e later) [
+          | inl new ↦ inl new
+          | inr back ↦ inr (rw more.old_is (Contains-append_right more.before more.behind e back))
+        ]
+      ]
+
+-- what fewer entries tell more do
+pub told_among : {X : Type 0} (f : Entry → List X) (few many : List Entry) → ((e : Entry) → Contains few e → Contains many e) → (x : X) → Contains (flat_map f few) x → Contains (flat_map f many) x
+told_among f few many within x at = let of = flat_from f few x at in flat_of f many of.0 x (within of.0 of.1) of.2
 
 -- a list has one more entry, at some place
 pub record IsInserted (entry : Entry) (old new : List Entry) : Type 0 where
@@ -101,11 +176,7 @@ floor_moved floor entry (first ∷ behind) rest = ap (λ (n : ℕ). fold floor_b
 
 -- the floor is the same wherever the entry stands, and as great with it
 pub floor_inserted : (entry : Entry) (old new rest : List Entry) → IsInserted entry old new → floor_of (new ++ rest) ≡ floor_of (old ++ entry ∷ rest)
-floor_inserted entry old new rest put = ap (λ (l : List Entry). floor_of (l ++ rest)) put.new_is
-    ∙ ap floor_of (append_assoc put.before (entry ∷ put.behind) rest) ∙ fold-append floor_by 1 put.before (entry ∷ (put.behind ++ rest))
-    ∙ floor_moved (fold floor_by 1 put.before) entry put.behind rest ∙ sym (fold-append floor_by 1 put.before (put.behind ++ entry ∷ rest))
-    ∙ ap floor_of (sym (append_assoc put.before put.behind (entry ∷ rest)))
-    ∙ ap (λ (l : List Entry). floor_of (l ++ entry ∷ rest)) (sym put.old_is)
+floor_inserted entry old new rest put = grind (arith, floor_of, append_assoc, fold-append, floor_by, floor_moved)
 
 pub floor_more : (entry : Entry) (old new : List Entry) → IsInserted entry old new → floor_of old ≤ floor_of new
 floor_more entry old new put =
@@ -152,10 +223,7 @@ module _ (before behind rest : List Held) (item : Held) (above : IsAboveAll (bef
   ]
 
   newest_moved : newest (before ++ item ∷ (behind ++ rest)) table key ≡ newest ((before ++ behind) ++ item ∷ rest) table key
-  newest_moved = ap (λ (f : Found). f table key)
-      (newest_from-append none_found before (item ∷ (behind ++ rest)) ∙ newest_from-append (with_newer (newest before) item) behind rest)
-      ∙ newest_from-same (newest_from (with_newer (newest before) item) behind) (with_newer (newest (before ++ behind)) item) rest table key
-      moved_found ∙ ap (λ (f : Found). f table key) (sym (newest_from-append none_found (before ++ behind) (item ∷ rest)))
+  newest_moved = grind (arith, newest_from-append, none_found, newest, newest_from-same, moved_found)
 
 -- the items of an entry are above those of others
 abbrev pub AreNewest : List Entry → Entry → Type 0
@@ -163,12 +231,7 @@ AreNewest others entry = All (IsAboveAll (items_of others)) (items_in entry)
 
 -- two items of one entry are one
 pub one_item : (entry : Entry) (a b : Held) → Contains (items_in entry) a → Contains (items_in entry) b → a ≡ b
-one_item (entries.Held held) a b at_a at_b = sym (only a at_a) ∙ only b at_b
-  where
-    only : (x : Held) → Contains (held ∷ []) x → held ≡ x
-    only x at =
-        ⊎_elim (λ (is : held ≡ x). is) (λ (none : Contains [] x). absurd (none_stands x none)) (stands_cases held [] x at)
-one_item _ a b at_a at_b = absurd (none_stands a at_a)
+one_item entry a b at_a at_b = grind (arith, none_stands, stands_cases)
 
 -- without an item in the entry the items are the same
 pub same_items : (entry : Entry) (old new : List Entry) → IsInserted entry old new → items_in entry ≡ [] → items_of new ≡ items_of old
@@ -176,10 +239,7 @@ same_items entry old new put none = parts_now entry old new put items_in
     ∙ ap (λ (l : List Held). items_of put.before ++ (l ++ items_of put.behind)) none ∙ sym (parts_old entry old new put items_in)
 
 without_items : (entry : Entry) (old new rest : List Entry) → IsInserted entry old new → items_in entry ≡ [] → items_of (new ++ rest) ≡ items_of (old ++ entry ∷ rest)
-without_items entry old new rest put none =
-    let r : List Held = items_of rest in
-    flat_map-append items_in new rest ∙ ap (λ (l : List Held). l ++ r) (same_items entry old new put none)
-    ∙ sym (flat_map-append items_in old (entry ∷ rest) ∙ ap (λ (l : List Held). items_of old ++ (l ++ r)) none)
+without_items entry old new rest put none = grind (arith, items_of, flat_map-append, items_in, same_items)
 
 module _ (old new : List Entry) where
   -- so the newest of each key is the same wherever the entry stands
@@ -226,20 +286,6 @@ module _ (old new : List Entry) where
 
 -- ---- the order of items
 
--- what is above some is above fewer
-pub above_fewer : (some fewer items : List Held) → ((x : Held) → Contains fewer x → Contains some x) → AreAbove some items → AreAbove fewer items
-above_fewer some fewer [] within above = tt
-above_fewer some fewer (item ∷ items) within above = (
-  all_by (λ other. is_of item.table item.key other ≡ true → other.version < item.version) fewer (λ other at.
-      All-contains (λ (other : Held). is_of item.table item.key other ≡ true → other.version < item.version) some other above.0
-      (within other at)),
-  above_fewer (some ++ item ∷ []) (fewer ++ item ∷ []) items
-      (λ x at. elim (Contains-append_cases fewer (item ∷ []) x at) [
-        | inl there ↦ Contains-append_left some (item ∷ []) x (within x there)
-        | inr last ↦ Contains-append_right some (item ∷ []) x last
-      ]) above.1,
-)
-
 -- the first of what is above a list, and what is above that list with it
 pub above_first : (truth rest : List Entry) (entry : Entry) → AreAbove (items_of truth) (items_of (entry ∷ rest)) → AreNewest truth entry × AreAbove (items_of truth ++ items_in entry) (items_of rest)
 above_first truth rest (entries.Held held) above =
@@ -248,8 +294,99 @@ above_first truth rest _ above = (All-nil (IsAboveAll (items_of truth)), rw (app
 
 -- so what stands behind an entry that is put in is above all with it
 pub above_inserted : (entry : Entry) (old new rest : List Entry) → IsInserted entry old new → AreAbove (items_of old) (items_of (entry ∷ rest)) → AreAbove (items_of new) (items_of rest)
-above_inserted entry old new rest put above = above_fewer (items_of old ++ items_in entry) (items_of new) (items_of rest)
+above_inserted entry old new rest put above = above_fewer (items_of new) (items_of old ++ items_in entry) (items_of rest)
     (λ x at. elim (told_cases entry old new put items_in x at) [
       | inl own ↦ Contains-append_right (items_of old) (items_in entry) x own
       | inr there ↦ Contains-append_left (items_of old) (items_in entry) x there
     ]) (above_first old rest entry above).1
+
+-- ---- lists
+
+-- none of fewer
+pub none_fewer : {X : Type 0} (p : X → Bool) (count : ℕ) (xs : List X) → list_any p (drop count xs) ≡ false → list_any p (drop (count + 1) xs) ≡ false
+none_fewer p count xs none = rw (drop-drop 1 count xs) at (tail (drop count xs) none)
+  where
+    either : (a b : Bool) → (a || b) ≡ false → b ≡ false
+    either true b is = absurd (cc is)
+    either false b is = is
+
+    tail : (xs : List _) → list_any p xs ≡ false → list_any p (drop 1 xs) ≡ false
+    tail [] none = refl
+    tail (x ∷ xs) none = either (p x) (list_any p xs) none
+
+-- a test that nothing passes is passed by nothing further on
+none_behind : {X : Type 0} (p : X → Bool) (more : ℕ) (xs : List X) → filter p xs ≡ [] → filter p (drop more xs) ≡ []
+none_behind p zero xs none = none
+none_behind p (suc more) [] none = none
+none_behind {X} p (suc more) (x ∷ xs) none = none_behind p more xs (tail (p x) none)
+  where
+    tail : (b : Bool) → cond b (x ∷ filter p xs) (filter p xs) ≡ [] → filter p xs ≡ []
+    tail true is = absurd (cc is)
+    tail false is = is
+
+pub none_from : {X : Type 0} (p : X → Bool) (from later : ℕ) (xs : List X) → from ≤ later → filter p (drop from xs) ≡ [] → filter p (drop later xs) ≡ []
+none_from {X} p from later xs behind none =
+    let split : from + (later - from) ≡ later = omega (arith, behind) in
+    rw (drop-drop (later - from) from xs ∙ ap (λ (n : ℕ). drop n xs) split) at (none_behind p (later - from) (drop from xs) none)
+
+-- ---- the next entry
+
+module _ (list : List Entry) (place : ℕ) (entry : Entry) (stands : slice_get list place ≡ Some entry) where
+  within : place < length list
+  within = slice_get_within list place entry stands
+
+  -- the first entries with the next one, and the others without it
+  taken_next : take (place + 1) list ≡ take place list ++ entry ∷ []
+  taken_next = take_more list place entry within
+      ∙ ap (λ (e : Entry). take place list ++ e ∷ []) (get_or_from_slice_get list place entry entry stands)
+
+  pub dropped_next : drop place list ≡ entry ∷ drop (place + 1) list
+  dropped_next = drop_more list place entry within
+      ∙ ap (λ (e : Entry). e ∷ drop (place + 1) list) (get_or_from_slice_get list place entry entry stands)
+
+  length_first : length (take place list) ≡ place
+  length_first = length-take-le place list (omega (arith, within))
+
+  -- from a place behind it nothing is there, before and after
+  pub nothing_ahead : (from : ℕ) → place < from → drop from (take (place + 1) list) ≡ drop from (take place list)
+  nothing_ahead from ahead = ap (drop from) taken_next ∙ drop_none from (take place list) entry (omega (arith, ahead, length_first))
+
+  -- and from one before it the entry comes to the end
+  pub from_next : (from : ℕ) → from ≤ place → drop from (take (place + 1) list) ≡ drop from (take place list) ++ entry ∷ []
+  from_next from behind =
+      ap (drop from) taken_next ∙ drop-append-le from (take place list) (entry ∷ []) (omega (arith, behind, length_first))
+
+  -- so it comes to the end of those that bear no mark, if it bears none
+  pub unmarked_next : (marks : List Mark) (from : ℕ) → from ≤ place → unmarked_from marks from (take (place + 1) list) ≡ unmarked_from marks from (take place list) ++ unless_marked (is_marked marks place) entry
+  unmarked_next marks from behind = ap (unmarked_from marks from) taken_next
+      ∙ unmarked_from_last marks from (take place list) entry (omega (arith, behind, length_first))
+      ∙ ap (λ (n : ℕ). unmarked_from marks from (take place list) ++ unless_marked (is_marked marks n) entry) length_first
+
+  -- and stood first in what was not applied
+  pub rest_next : (marks : List Mark) (from : ℕ) → from ≤ place → unmarked_from marks (max from place) list ≡ unless_marked (is_marked marks place) entry ++ unmarked_from marks (max from (place + 1)) list
+  rest_next marks from behind = grind (arith, unmarked_from, unmarked, dropped_next, is_marked, unless_marked)
+
+-- ---- one more entry at the end of those that count
+
+module _ (range : Range) (list : List Entry) (entry : Entry) where
+  -- it counts, or changes nothing
+  pub counting_more : counts range entry ≡ true → IsInserted entry (counting range list) (counting range (list ++ entry ∷ []))
+  counting_more = inserted_kept entry list (list ++ entry ∷ []) (inserted_last entry list) (counts range)
+
+  pub counting_beside : counts range entry ≡ false → counting range (list ++ entry ∷ []) ≡ counting range list
+  counting_beside outside = filter-append (counts range) list (entry ∷ [])
+      ∙ ap (λ (l : List Entry). counting range list ++ l) (filter_left_out (counts range) entry [] outside)
+      ∙ append_nil (counting range list)
+
+  -- the items of side segments stand behind it
+  module _ (side : ℕ → List Entry) (names : named_by range entry ≡ []) where
+    same_names : named range (list ++ entry ∷ []) ≡ named range list
+    same_names = named_same range entry list false names
+
+    pub material_more : counts range entry ≡ true → IsInserted entry (material_of range side list) (material_of range side (list ++ entry ∷ []))
+    material_more inside = rw same_names
+        (inserted_before entry (counting range list) (counting range (list ++ entry ∷ [])) (counting_more inside)
+        (counting range (flat_map side (named range list))))
+
+    pub material_beside : counts range entry ≡ false → material_of range side (list ++ entry ∷ []) ≡ material_of range side list
+    material_beside outside = λ i. counting_beside outside i ++ counting range (flat_map side (same_names i))

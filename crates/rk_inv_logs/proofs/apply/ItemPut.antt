@@ -10,9 +10,9 @@ use Rattle.rk_inv_logs.proofs.Words.{found_still, in_by_key, newer_cases, newer_
 use Rattle.rk_overlay.specs.Newest.{with_newer as found_newer}
 use Rattle.rk_table.specs.Items.{is_at}
 use Rattle.rk_inv_base.proofs.pulls.ItemsPulled.{bare_beside, table_beside}
-use Rattle.rk_entry.specs.declared.entry.Entry.TheVariants as entries
 use Rattle.rk_inv_logs.specs.apply.Small.{with_item_of}
 use Rattle.rk_inv_logs.proofs.apply.Inserted.{AreNewest, IsInserted, newest_inserted, same_items}
+use Rattle.rk_entry.specs.declared.entry.Entry.TheVariants as entries
 
 -- what is found stands there, and passes
 found_at : (p : Held → Bool) (items : List Held) (item : Held) → find p items ≡ Some item → Contains items item × (p item ≡ true)
@@ -45,34 +45,10 @@ found_with _ records x order is = is
 
 -- and so is the item
 pub put_found : (item : Held) (records : List Held) → IsFound (with_newer item records) item
-put_found item records = elim (cases_Bool (is_newer item (found item.table item.key records))) [
-  | inl newer ↦ record {
-    there = item;
-    stands = newer_stands item records newer;
-    same_key = is_of_from item.table item.key item refl refl;
-    as_new = omega arith;
-  }
-  | inr older ↦ rw (same_older item records older) (there (found item.table item.key records) refl older)
-]
-  where
-    there : (o : Option Held) → found item.table item.key records ≡ o → is_newer item o ≡ false → IsFound records item
-    there None is older = absurd (cc older)
-    there (Some y) is older =
-        let at = found_at (is_at item.table item.key) records y is in
-        record { there = y; stands = at.0; same_key = at.1; as_new = ltb-false y.version item.version older }
+put_found item records = grind (arith, cases_Bool, is_newer, found, newer_stands, is_of_from, same_older, found_at, ltb-false)
 
 pub item_found : (entry : Entry) (records : List Held) (x : Held) → Contains (items_in entry) x → IsFound (with_item_of entry records) x
-item_found (entries.Held held) records x at = elim (stands_cases held [] x at) [
-  | inl is ↦ subst (IsFound (with_newer held records)) is (put_found held records)
-  | inr none ↦ absurd (none_stands x none)
-]
-item_found _ records x at = absurd (none_stands x at)
-
--- an item of a range is that of an entry which counts there
-pub item_counts : (range : Range) (entry : Entry) (x : Held) → Contains (items_in entry) x → is_in range x ≡ true → counts range entry ≡ true
-item_counts range (entries.Held held) x at inside =
-    elim (stands_cases held [] x at) [ inl is ↦ ap (is_in range) is ∙ inside | inr none ↦ absurd (none_stands x none) ]
-item_counts range _ x at inside = absurd (none_stands x at)
+item_found entry records x at = grind (arith, stands_cases, with_newer, put_found, none_stands)
 
 -- a range has none of the records with an entry of another one
 pub bare_with : (range : Range) (entry : Entry) (records : List Held) (from : ℕ) (w : Written) → counts range entry ≡ false → IsBare range from w records → IsBare range from w (with_item_of entry records)

@@ -1,13 +1,13 @@
 -- Truth and rest of a row, where what was applied tells nothing new: a block of entries came into the truth that were there already, or
 -- stood first in the rest, with no item and of no call.
-use Rattle.std.proofs.Common.{◌≡◌, ◌≤◌, ◌<◌, true, List, [], ◌∷◌, ◌++◌, refl, sym, ap, ◌∙◌, subst, inl, inr, ◌⊎◌, arith, append_assoc}
-use Rattle.std.proofs.Common.{All, Contains, flat_map}
-use Rattle.rk_inv_base.proofs.Words.{flat_map-append, All-contains, All-head, All-tail, All-weaker, Contains-append_cases}
-use Rattle.rk_inv_base.proofs.Words.{Contains-append_left, Contains-append_right, Ended, Held, Placed, Entry, none_stands}
-use Rattle.rk_inv_base.proofs.Words.{stands_cases, is_of_from, is_of, IsPlain, Base, items_in, items_of, told, told_by, floor_of, IsKnown}
-use Rattle.rk_inv_base.proofs.Words.{AreAbove, call_end, call_ends}
-use Rattle.rk_inv_logs.proofs.Words.{HaveSame, append_nil, floor_among, flat_from, flat_of}
-use Rattle.rk_inv_logs.proofs.apply.More.{HasMore, more_cases, more_still, told_among}
+use Rattle.std.proofs.Common.{arith}
+use Rattle.std.proofs.Common.{◌≡◌, ◌≤◌, List, [], ◌∷◌, ◌++◌, refl, ap, ◌∙◌, subst, inl, inr, ◌⊎◌, All, Contains, flat_map}
+use Rattle.rk_inv_base.proofs.Words.{flat_map-append, All-contains, All-head, All-tail, Contains-append_cases}
+use Rattle.rk_inv_base.proofs.Words.{Contains-append_left, Contains-append_right, Ended, Held, Placed, Entry, none_stands, IsPlain, Base}
+use Rattle.rk_inv_base.proofs.Words.{items_in, items_of, told, told_by, floor_of, IsKnown, AreAbove, call_end, call_ends}
+use Rattle.rk_inv_logs.proofs.Words.{HaveSame, floor_among, flat_from, flat_of}
+use Rattle.rk_inv_logs.proofs.apply.Inserted.{HasMore, more_cases, more_still, told_among}
+use Rattle.rk_inv_rows.proofs.lineage.TakenOver.{plain_above}
 
 -- ---- truth and rest
 
@@ -52,10 +52,7 @@ module _ {base : Base} {journal : List Placed} {truth rest truth' rest' : List E
   )
 
   pub rest_items : items_of rest ≡ items_of rest'
-  rest_items = ap items_of keeps.rest_is ∙ flat_map-append items_in keeps.head rest'
-      ∙ ap (λ (l : List Held). l ++ items_of rest')
-      (none_made items_in keeps.head
-      (All-weaker (IsQuietEntry base journal) (λ e. items_in e ≡ []) (λ e quiet. quiet.items) keeps.head keeps.quiet))
+  rest_items = grind (arith, items_of, flat_map-append, items_in, none_made)
 
   pub all_keep : HaveSame (items_of (truth ++ rest)) (items_of (truth' ++ rest'))
   all_keep x =
@@ -77,10 +74,7 @@ module _ {base : Base} {journal : List Placed} {truth rest truth' rest' : List E
 
   -- ends
   pub rest_ends : call_ends rest ≡ call_ends rest'
-  rest_ends = ap call_ends keeps.rest_is ∙ flat_map-append call_end keeps.head rest'
-      ∙ ap (λ (l : List Ended). l ++ call_ends rest')
-      (none_made call_end keeps.head
-      (All-weaker (IsQuietEntry base journal) (λ e. call_end e ≡ []) (λ e quiet. quiet.ends) keeps.head keeps.quiet))
+  rest_ends = grind (arith, call_ends, flat_map-append, call_end, none_made)
 
   pub truth_tells : (end : Ended) → Contains (told truth') end → Contains (told truth) end ⊎ IsKnown base journal end
   truth_tells end at =
@@ -115,37 +109,5 @@ module _ {base : Base} {journal : List Placed} {truth rest truth' rest' : List E
 
 -- ---- truth and rest together are plain
 
-plain_behind : (items more : List Held) → IsPlain items → AreAbove items more → IsPlain (items ++ more)
-plain_behind items [] plain above = rw (append_nil items) plain
-plain_behind items (item ∷ more) plain above =
-    rw (append_assoc items (item ∷ []) more) at (plain_behind (items ++ item ∷ []) more with_one above.1)
-  where
-    under : (x : Held) → Contains items x → x.table ≡ item.table → x.key ≡ item.key → x.version < item.version
-    under x at table key =
-        All-contains (λ (other : Held). is_of item.table item.key other ≡ true → other.version < item.version) items x above.0 at
-        (is_of_from item.table item.key x table key)
-
-    last : (x : Held) → Contains (item ∷ []) x → item ≡ x
-    last x at = elim (stands_cases item [] x at) [ inl is ↦ is | inr none ↦ absurd (none_stands x none) ]
-
-    with_one : IsPlain (items ++ item ∷ [])
-    with_one a b at_a at_b table key version = elim (Contains-append_cases items (item ∷ []) a at_a) [
-      | inl old_a ↦ elim (Contains-append_cases items (item ∷ []) b at_b) [
-        | inl old_b ↦ plain a b old_a old_b table key version
-        | inr new_b ↦
-            let is : item ≡ b = last b new_b in
-            let below = under a old_a (table ∙ ap (λ (x : Held). x.table) (sym is)) (key ∙ ap (λ (x : Held). x.key) (sym is)) in
-            absurd (omega (arith, below, version, ap (λ (x : Held). x.version) is))
-      ]
-      | inr new_a ↦
-          let is : item ≡ a = last a new_a in
-          elim (Contains-append_cases items (item ∷ []) b at_b) [
-            | inl old_b ↦
-                let below = under b old_b (sym table ∙ ap (λ (x : Held). x.table) (sym is)) (sym key ∙ ap (λ (x : Held). x.key) (sym is)) in
-                absurd (omega (arith, below, version, ap (λ (x : Held). x.version) is))
-            | inr new_b ↦ sym is ∙ last b new_b
-          ]
-    ]
-
 pub plain_all : (truth rest : List Entry) → IsPlain (items_of truth) → AreAbove (items_of truth) (items_of rest) → IsPlain (items_of (truth ++ rest))
-plain_all truth rest plain above = rw (flat_map-append items_in truth rest) (plain_behind (items_of truth) (items_of rest) plain above)
+plain_all truth rest plain above = rw (flat_map-append items_in truth rest) (plain_above (items_of truth) (items_of rest) plain above)

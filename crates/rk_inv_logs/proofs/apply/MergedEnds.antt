@@ -70,12 +70,7 @@ pub record IsTold (list : List Ended) (client seq : ℕ) : Type 0 where
   pub seq_is : end.seq ≡ seq
 
 told_behind : (first : Ended) (list : List Ended) (client seq : ℕ) → IsTold list client seq → IsTold (first ∷ list) client seq
-told_behind first list client seq told = record {
-  end = told.end;
-  stands = behind_stands first list told.end told.stands;
-  client_is = told.client_is;
-  seq_is = told.seq_is;
-}
+told_behind first list client seq told = grind (arith, behind_stands)
 
 -- the last end of a client was there, or is told
 comes_from : (c : Completions) (list : List Ended) (client : ℕ) (last : Completion) → get (completions_from c list) client ≡ Some last → (get c client ≡ Some last) ⊎ IsTold list client last.seq

@@ -1,16 +1,241 @@
--- The records that ends make whose calls wait, one a client: of each the last call with its end, in their order.
-use Rattle.std.proofs.Common.{◌≡◌, ℕ, true, false, List, [], ◌∷◌, ◌++◌, map, Option, Some, refl, sym, ap, ◌∙◌, append_assoc, ◌≢◌, IfSome}
-use Rattle.std.proofs.Common.{slice_get, All, AllPairs, Contains, inl, inr}
-use Rattle.rk_inv_base.proofs.Words.{All-cons, All-contains, All-head, All-nil, All-push, All-tail, Contains-push_cases, Call, Ended}
-use Rattle.rk_inv_base.proofs.Words.{Placed, IsLegal, Map, map_after, map_with, AreOneMutation, behind_stands, first_stands, none_stands}
-use Rattle.rk_inv_base.proofs.Words.{stands_cases, Base, outcome_of, next_record, LastCall, IsLastCall, record_of_last, records_of}
-use Rattle.rk_inv_logs.proofs.Words.{AllZip, all_by, got_cases, append_nil, made_of}
+-- The records that are made of the ends that a rebuild merged: which ends have a place, what they make, and that the records of other
+-- rows stay.
+use Rattle.std.proofs.Common.{◌≡◌, suc, Bool, true, false, cond, not, ◌&&◌, eqb, List, [], ◌∷◌, ◌++◌, filter, refl, sym, ap, ◌∙◌, subst}
+use Rattle.std.proofs.Common.{⊎_elim, arith, append_assoc, ◌≢◌, All, AllPairs, Contains, flat_map, eq-eqb, eqb-true, inl, inr, ℕ, map}
+use Rattle.std.proofs.Common.{Option, Some, IfSome, slice_get}
+use Rattle.rk_inv_base.proofs.Words.{and_from, and_parts, cases_Bool, false≢true, false_from_ne_true, flat_map-append, All-contains}
+use Rattle.rk_inv_base.proofs.Words.{All-head, All-tail, Contains-append_cases, Contains-append_left, Contains-append_right}
+use Rattle.rk_inv_base.proofs.Words.{Contains-push_cases, filter-append, list_any_at, list_any_none, list_any, Ended, filter_kept}
+use Rattle.rk_inv_base.proofs.Words.{filter_left_out, behind_stands, first_stands, none_stands, stands_cases, ends_by_place, is_outrun_by}
+use Rattle.rk_inv_base.proofs.Words.{is_placed, placed_ends, All-cons, All-nil, All-push, Call, Placed, IsLegal, Map, map_after, map_with}
+use Rattle.rk_inv_base.proofs.Words.{AreOneMutation, Base, outcome_of, next_record, LastCall, IsLastCall, record_of_last, records_of}
+use Rattle.rk_inv_base.proofs.Words.{All-append, All-weaker, Range, IsLegal-append, legal_back, map_after-append, is_at_parts, is_at}
+use Rattle.rk_inv_base.proofs.Words.{last_version, is_mutation, Entry, base_map, item_end, refusal_end, told, counts, of_key, has_key}
+use Rattle.rk_inv_base.proofs.Words.{IsKnown, IsReached, is_record_in, IsLastAsked, IsRest, IsStaged, call_end, call_ends}
+use Rattle.rk_inv_logs.proofs.Words.{not-true, is_same_call, all_by, filter_stands, append_nil, AllZip, got_cases, made_of, allowed_same}
+use Rattle.rk_inv_logs.proofs.Words.{is_at_own, map_after-same, map_with-same, known_still, flat_from, TellHistory}
 use Rattle.rk_inv_base.proofs.calls.Accepted.{stands_there}
 use Rattle.rk_inv_logs.specs.made.Made.{waits, without_stamp}
-use Rattle.rk_inv_logs.proofs.made.PlacedEnds.{Differ, first_differs, later_differ}
-use Rattle.rk_inv_logs.proofs.made.LastCalls.{HasNone}
-use Rattle.rk_inv_logs.proofs.apply.Staged.{still_unrecorded}
-use Rattle.rk_inv_logs.proofs.made.Waiting.{IsWaiting, makes_one, waiting_parts}
+use Rattle.rk_inv_logs.proofs.made.LastCalls.{HasNone, still_unrecorded, IsWaiting, makes_one, waiting_parts, AreOfOthers, still_staged}
+use Rattle.rk_model.specs.History.{record_of as map_record_of}
+use Rattle.rk_inv_base.proofs.logs.Missed.{map_elsewhere}
+
+-- ---- pairs
+
+-- ends are of different clients
+abbrev pub Differ : Ended → Ended → Type 0
+Differ a b = a.client ≢ b.client
+
+pub first_differs : (first : Ended) (list : List Ended) → AllPairs Differ (first ∷ list) → All (Differ first) list
+first_differs first list one = λ k d within. one 0 (suc k) d (omega arith) (omega (arith, within))
+
+pub later_differ : (first : Ended) (list : List Ended) → AllPairs Differ (first ∷ list) → AllPairs Differ list
+later_differ first list one = λ i j d before within. one (suc i) (suc j) d (omega (arith, before)) (omega (arith, within))
+
+-- so two of one client are one
+pub one_of_client : (list : List Ended) (a b : Ended) → AllPairs Differ list → Contains list a → Contains list b → a.client ≡ b.client → a ≡ b
+one_of_client [] a b one at_a at_b same = absurd (none_stands a at_a)
+one_of_client (first ∷ list) a b one at_a at_b same =
+    let others = first_differs first list one in
+    elim (stands_cases first list a at_a) [
+      | inl is_a ↦ elim (stands_cases first list b at_b) [
+        | inl is_b ↦ sym is_a ∙ is_b
+        | inr later_b ↦ absurd (All-contains (Differ first) list b others later_b (ap (λ (e : Ended). e.client) is_a ∙ same))
+      ]
+      | inr later_a ↦ elim (stands_cases first list b at_b) [
+        | inl is_b ↦ absurd (All-contains (Differ first) list a others later_a (ap (λ (e : Ended). e.client) is_b ∙ sym same))
+        | inr later_b ↦ one_of_client list a b (later_differ first list one) later_a later_b same
+      ]
+    ]
+
+-- ---- one call
+
+pub same_itself : (end : Ended) → is_same_call end end ≡ true
+same_itself end =
+    and_from (eqb end.client end.client) (eqb end.seq end.seq) (eq-eqb end.client end.client refl) (eq-eqb end.seq end.seq refl)
+
+-- an end is of the client and the seq of another one
+pub record AreOfOneCall (a b : Ended) : Type 0 where
+  pub client : a.client ≡ b.client
+  pub seq : a.seq ≡ b.seq
+
+pub one_call : (a b : Ended) → is_same_call a b ≡ true → AreOfOneCall a b
+one_call a b is =
+    let parts = and_parts (eqb a.client b.client) (eqb a.seq b.seq) is in
+    record { client = eqb-true a.client b.client parts.0; seq = eqb-true a.seq b.seq parts.1 }
+
+-- ---- the places of ends at one member
+
+-- where more stands behind ends, it has its places with them seen
+pub placed_append : (all later seen first second : List Ended) → placed_ends all later seen (first ++ second) ≡ placed_ends all later seen first ++ placed_ends all later (seen ++ first) second
+placed_append all later seen [] second = ap (λ (l : List Ended). placed_ends all later l second) (sym (append_nil seen))
+placed_append all later seen (end ∷ first) second =
+    let more = placed_append all later (seen ++ end ∷ []) first second
+    ∙ ap (λ (l : List Ended). placed_ends all later (seen ++ end ∷ []) first ++ placed_ends all later l second)
+    (append_assoc seen (end ∷ []) first) in
+    elim (cases_Bool (is_placed all later seen end)) [ inl is ↦ rw is (ap (λ (l : List Ended). end ∷ l) more) | inr is ↦ rw is more ]
+
+-- what is placed stands there, and is outrun by none
+pub record IsPlacedOf (all ends : List Ended) (end : Ended) : Type 0 where
+  pub stands : Contains ends end
+  pub free : list_any (is_outrun_by end) all ≡ false
+
+placed_free : (all later seen : List Ended) (end : Ended) → is_placed all later seen end ≡ true → list_any (is_outrun_by end) all ≡ false
+placed_free all later seen end is =
+    not-true (list_any (is_outrun_by end) all)
+    (and_parts (not (list_any (is_outrun_by end) all)) (not (list_any (is_same_call end) (later ++ seen))) is).0
+
+pub placed_stands : (all later seen ends : List Ended) (end : Ended) → Contains (placed_ends all later seen ends) end → IsPlacedOf all ends end
+placed_stands all later seen [] end at = absurd (none_stands end at)
+placed_stands all later seen (first ∷ ends) end at =
+    let rest : List Ended = placed_ends all later (seen ++ first ∷ []) ends in
+    let behind : Contains rest end → IsPlacedOf all (first ∷ ends) end =
+    λ there.
+    let found = placed_stands all later (seen ++ first ∷ []) ends end there in
+    record { stands = behind_stands first ends end found.stands; free = found.free } in
+    elim (cases_Bool (is_placed all later seen first)) [
+      | inl is ↦
+          ⊎_elim
+          (λ (same : first ≡ end). record {
+            stands = subst (Contains (first ∷ ends)) same (first_stands first ends);
+            free = subst (λ (e : Ended). list_any (is_outrun_by e) all ≡ false) same (placed_free all later seen first is);
+          }) behind (stands_cases first rest end (subst (λ (b : Bool). Contains (cond b (first ∷ rest) rest) end) is at))
+      | inr is ↦ behind (subst (λ (b : Bool). Contains (cond b (first ∷ rest) rest) end) is at)
+    ]
+
+-- so it is at several members
+pub by_place_stands : (all : List Ended) (members : List (List Ended)) (end : Ended) → Contains (ends_by_place all members) end → IsPlacedOf all (flat_map (λ ends. ends) members) end
+by_place_stands all [] end at = absurd (none_stands end at)
+by_place_stands all (ends ∷ members) end at =
+    let later : List Ended = flat_map (λ ends. ends) members in
+    elim (Contains-append_cases (placed_ends all later [] ends) (ends_by_place all members) end at) [
+      | inl here ↦
+          let found = placed_stands all later [] ends end here in
+          record { stands = Contains-append_left ends later end found.stands; free = found.free }
+      | inr there ↦
+          let found = by_place_stands all members end there in
+          record { stands = Contains-append_right ends later end found.stands; free = found.free }
+    ]
+
+-- the ends of members, member by member
+abbrev flat : List (List Ended) → List Ended
+flat members = flat_map (λ ends. ends) members
+
+-- nothing is placed at members that tell nothing
+pub nothing_placed : (all : List Ended) (members : List (List Ended)) → All (λ ends. ends ≡ []) members → ends_by_place all members ≡ []
+nothing_placed all [] none = refl
+nothing_placed all (ends ∷ members) none = ap (λ (l : List Ended). placed_ends all (flat members) [] l ++ ends_by_place all members)
+    (All-head (λ (l : List Ended). l ≡ []) ends members none)
+    ∙ nothing_placed all members (All-tail (λ (l : List Ended). l ≡ []) ends members none)
+
+pub nothing_flat : (members : List (List Ended)) → All (λ ends. ends ≡ []) members → flat_map (λ ends. ends) members ≡ []
+nothing_flat [] none = refl
+nothing_flat (ends ∷ members) none = ap (λ (l : List Ended). l ++ flat members) (All-head (λ (l : List Ended). l ≡ []) ends members none)
+    ∙ nothing_flat members (All-tail (λ (l : List Ended). l ≡ []) ends members none)
+
+-- ---- ends that wait
+
+module _ (waits : Ended → Bool) (alike : (a b : Ended) → a.client ≡ b.client → a.seq ≡ b.seq → waits a ≡ waits b) (all : List Ended) where
+  -- one that does not wait is left out, whether it is placed or not
+  left_out : (end : Ended) (list : List Ended) (placed : Bool) → waits end ≡ false → filter waits (cond placed (end ∷ list) list) ≡ filter waits list
+  left_out end list true is = filter_left_out waits end list is
+  left_out end list false is = refl
+
+  -- none is placed that stands at a later member, or was seen
+  pub none_placed : (later seen ends : List Ended) → All (λ end. waits end ≡ true → Contains (later ++ seen) end) ends → filter waits (placed_ends all later seen ends) ≡ []
+  none_placed later seen [] there = refl
+  none_placed later seen (end ∷ ends) there =
+      let rest : List Ended = placed_ends all later (seen ++ end ∷ []) ends in
+      let none : filter waits rest ≡ [] =
+      none_placed later (seen ++ end ∷ []) ends
+      (all_by (λ e. waits e ≡ true → Contains (later ++ (seen ++ end ∷ [])) e) ends (λ e at is.
+      rw (append_assoc later seen (end ∷ [])) at
+      (Contains-append_left (later ++ seen) (end ∷ []) e
+      (All-contains (λ e. waits e ≡ true → Contains (later ++ seen) e) ends e
+      (All-tail (λ e. waits e ≡ true → Contains (later ++ seen) e) end ends there) at is)))) in
+      elim (cases_Bool (waits end)) [
+        | inl is ↦
+            let stands : Contains (later ++ seen) end = All-head (λ e. waits e ≡ true → Contains (later ++ seen) e) end ends there is in
+            let again : list_any (is_same_call end) (later ++ seen) ≡ true =
+            list_any_at (is_same_call end) (later ++ seen) stands.0 end stands.1 (ap (is_same_call end) stands.2 ∙ same_itself end) in
+            let out : is_placed all later seen end ≡ false =
+            ap (λ (b : Bool). not (list_any (is_outrun_by end) all) && not b) again ∙ and_none (not (list_any (is_outrun_by end) all)) in
+            ap (λ (b : Bool). filter waits (cond b (end ∷ rest) rest)) out ∙ none
+        | inr is ↦ left_out end rest (is_placed all later seen end) is ∙ none
+      ]
+    where
+      and_none : (b : Bool) → (b && false) ≡ false
+      and_none true = refl
+      and_none false = refl
+
+  -- one that none outruns is placed, where none of its call stands at a later member or was seen
+  placed_now : (later seen : List Ended) (end : Ended) → list_any (is_outrun_by end) all ≡ false → ((x : Ended) → Contains (later ++ seen) x → AreOfOneCall end x → ⊥) → is_placed all later seen end ≡ true
+  placed_now later seen end free unseen =
+      let unlike : list_any (is_same_call end) (later ++ seen) ≡ false =
+      list_any_none (is_same_call end) (later ++ seen)
+      (all_by (λ x. is_same_call end x ≡ false) (later ++ seen)
+      (λ x at. false_from_ne_true (is_same_call end x) (λ same. unseen x at (one_call end x same)))) in
+      ap (λ (b : Bool). not b && not (list_any (is_same_call end) (later ++ seen))) free ∙ ap not unlike
+
+  -- if an end waits, none of these is of its call
+  abbrev pub IsNew : List Ended → Ended → Type 0
+  IsNew list end = waits end ≡ true → (x : Ended) → Contains list x → AreOfOneCall end x → ⊥
+
+  -- with one more that is seen it is so still, where none of the ends that wait is of that call
+  new_still : (later seen : List Ended) (end : Ended) (ends : List Ended) → ((e : Ended) → Contains ends e → waits e ≡ true → AreOfOneCall e end → ⊥) → All (IsNew (later ++ seen)) ends → All (IsNew (later ++ (seen ++ end ∷ []))) ends
+  new_still later seen end ends apart unseen = all_by (IsNew (later ++ (seen ++ end ∷ []))) ends
+      (λ e at is x there same. elim (Contains-push_cases (later ++ seen) end x (rw (append_assoc later seen (end ∷ [])) there)) [
+        | inl before ↦ All-contains (IsNew (later ++ seen)) ends e unseen at is x before same
+        | inr last ↦ apart e at is (rw last same)
+      ])
+
+  -- each is placed that none outruns, where none of its call stands at a later member, was seen or stands before it
+  pub all_placed : (later seen ends : List Ended) → All (λ end. waits end ≡ true → list_any (is_outrun_by end) all ≡ false) ends → All (IsNew (later ++ seen)) ends → AllPairs Differ (filter waits ends)
+      → filter waits (placed_ends all later seen ends) ≡ filter waits ends
+  all_placed later seen [] free unseen one = refl
+  all_placed later seen (end ∷ ends) free unseen one =
+      let rest : List Ended = placed_ends all later (seen ++ end ∷ []) ends in
+      let go_on : ((e : Ended) → Contains ends e → waits e ≡ true → AreOfOneCall e end → ⊥) → AllPairs Differ (filter waits ends) → filter waits rest ≡ filter waits ends =
+      λ apart one_later.
+      all_placed later (seen ++ end ∷ []) ends (All-tail (λ e. waits e ≡ true → list_any (is_outrun_by e) all ≡ false) end ends free)
+      (new_still later seen end ends apart (All-tail (IsNew (later ++ seen)) end ends unseen)) one_later in
+      elim (cases_Bool (waits end)) [
+        | inl is ↦
+            let its : AllPairs Differ (end ∷ filter waits ends) = rw (filter_kept waits end ends is) at one in
+            let placed : is_placed all later seen end ≡ true =
+            placed_now later seen end (All-head (λ e. waits e ≡ true → list_any (is_outrun_by e) all ≡ false) end ends free is)
+            (All-head (IsNew (later ++ seen)) end ends unseen is) in
+            ap (λ (b : Bool). filter waits (cond b (end ∷ rest) rest)) placed ∙ filter_kept waits end rest is
+            ∙ ap (λ (l : List Ended). end ∷ l)
+            (go_on
+            (λ e at waiting same.
+            All-contains (Differ end) (filter waits ends) e (first_differs end (filter waits ends) its)
+            (filter_stands waits ends e at waiting) (sym same.client)) (later_differ end (filter waits ends) its))
+            ∙ sym (filter_kept waits end ends is)
+        | inr is ↦ left_out end rest (is_placed all later seen end) is
+            ∙ go_on (λ e at waiting same. false≢true (sym is ∙ sym (alike e end same.client same.seq) ∙ waiting))
+            (rw (filter_left_out waits end ends is) at one) ∙ sym (filter_left_out waits end ends is)
+      ]
+
+  -- ---- several members
+
+  -- none that waits is placed at members before others that tell it
+  pub none_before : (before after : List (List Ended)) → All (All (λ end. waits end ≡ true → Contains (flat_map (λ ends. ends) after) end)) before
+      → filter waits (ends_by_place all (before ++ after)) ≡ filter waits (ends_by_place all after)
+  none_before [] after there = refl
+  none_before (ends ∷ before) after there =
+      let later : List Ended = flat (before ++ after) in
+      let split : later ≡ flat before ++ flat after = flat_map-append (λ (ends : List Ended). ends) before after in
+      let each = All-head (All (λ end. waits end ≡ true → Contains (flat after) end)) ends before there in
+      filter-append waits (placed_ends all later [] ends) (ends_by_place all (before ++ after))
+      ∙ ap (λ (l : List Ended). l ++ filter waits (ends_by_place all (before ++ after)))
+      (none_placed later [] ends
+      (all_by (λ end. waits end ≡ true → Contains (later ++ []) end) ends (λ end at is.
+      Contains-append_left later [] end
+      (rw split
+      (Contains-append_right (flat before) (flat after) end
+      (All-contains (λ e. waits e ≡ true → Contains (flat after) e) ends end each at is))))))
+      ∙ none_before before after (All-tail (All (λ end. waits end ≡ true → Contains (flat after) end)) ends before there)
 
 -- ---- stamps
 
@@ -47,14 +272,9 @@ module _ (base : Base) (lane : ℕ) (asked : ℕ → Option LastCall) (last_call
       let w : IsWaiting journal end.client end.seq (asked end.client) =
       waiting_parts journal end.client end.seq (asked end.client) (All-head (λ e. waits asked journal e ≡ true) end ends waiting) in
       let its : IsLastCall base lane end.client w.last = rw w.asked_is at (last_calls end.client) in
-      let now : IsWaiting (journal ++ more) end.client end.seq (asked end.client) = record {
-        last = w.last;
-        asked_is = w.asked_is;
-        seq_is = w.seq_is;
-        unrecorded = still_unrecorded base journal more asked end.client end.seq
-            (All-head (λ e. All (λ p. p.call.client ≢ e.client) more) end ends others)
-            w.unrecorded;
-      } in
+      let free = still_unrecorded base journal more asked end.client end.seq
+      (All-head (λ e. All (λ p. p.call.client ≢ e.client) more) end ends others) w.unrecorded in
+      let now : IsWaiting (journal ++ more) end.client end.seq (asked end.client) = search (free, w) in
       let new : Placed = next_record (journal ++ more) w.last.call (outcome_of end.end) w.last.seen in
       rw (makes_one (journal ++ more) end (asked end.client) now) (
         record {
@@ -164,3 +384,128 @@ once_made asked journal (end ∷ ends) (placed ∷ made) zip once one none =
       | inr is ↦ All-contains (Differ end) ends e (first_differs end ends one) at
           (sym client ∙ ap (λ (p : Placed). p.call.client) is ∙ same_client)
     ])))
+
+-- ---- staged calls
+
+-- an end is that of its client's last call, which is of a key in the range and has no record
+pub record IsEndOfLast (asked : ℕ → Option LastCall) (journal : List Placed) (range : Range) (end : Ended) : Type 0 where
+  pub table : ℕ
+  pub key : List ℕ
+  pub last : IsLastAsked asked journal end.client end.seq table key
+  pub inside : has_key range table key ≡ true
+
+module _ (base : Base) (asked : ℕ → Option LastCall) (journal : List Placed) (range : Range) where
+  -- the end of the call of a staged entry is so
+  pub entry_ends : (entry : Entry) → counts range entry ≡ true → IsStaged base asked journal entry → All (IsEndOfLast asked journal range) (call_end entry)
+  entry_ends entry inside staged = grind (arith, item_end, refusal_end)
+
+  pub staged_ends : (list : List Entry) → All (λ entry. counts range entry ≡ true) list → All (IsStaged base asked journal) list → All (IsEndOfLast asked journal range) (call_ends list)
+  staged_ends list counted staged =
+      all_by (IsEndOfLast asked journal range) (call_ends list) (λ end at.
+      let of = flat_from call_end list end at in
+      All-contains (IsEndOfLast asked journal range) (call_end of.0) end
+      (entry_ends of.0 (All-contains (λ (e : Entry). counts range e ≡ true) list of.0 counted of.1)
+      (All-contains (IsStaged base asked journal) list of.0 staged of.1)) of.2)
+
+  -- the last call is of a key in the range
+  pub last_inside : (end : Ended) (its : IsEndOfLast asked journal range end) → has_key range its.last.last.call.table its.last.last.call.key ≡ true
+  last_inside end its = (λ i. has_key range (its.last.table_is i) (its.last.key_is i)) ∙ its.inside
+
+  -- so are the records that they will make
+  pub records_inside : (ends : List Ended) → All (IsEndOfLast asked journal range) ends → All (λ placed. is_record_in range placed ≡ true) (records_of asked ends)
+  records_inside [] all = All-nil (λ placed. is_record_in range placed ≡ true)
+  records_inside (end ∷ ends) all =
+      let its = All-head (IsEndOfLast asked journal range) end ends all in
+      let made : Placed = record { call = its.last.last.call; outcome = outcome_of end.end; stamp = 0; accepted = false } in
+      rw its.last.asked_is
+      (All-cons (λ placed. is_record_in range placed ≡ true) made (records_of asked ends) (last_inside end its)
+      (records_inside ends (All-tail (IsEndOfLast asked journal range) end ends all)))
+
+-- ---- histories
+
+-- two maps agree in a range
+abbrev AgreeOn : Range → Map → Map → Type 0
+AgreeOn range m n = (table : ℕ) (key : List ℕ) → has_key range table key ≡ true → m table key ≡ n table key
+
+-- records of it are legal from the one where they are from the other
+legal_on : (range : Range) (m n : Map) (list : List Placed) → AgreeOn range m n → All (λ placed. is_record_in range placed ≡ true) list → IsLegal m list → IsLegal n list
+legal_on range m n [] agree all legal = tt
+legal_on range m n (placed ∷ list) agree all legal = (
+  allowed_same m n placed.call.table placed.call.key placed (is_at_own placed)
+      (agree placed.call.table placed.call.key (All-head (λ p. is_record_in range p ≡ true) placed list all)) legal.0,
+  legal_on range (map_with m placed) (map_with n placed) list
+      (λ table key inside. map_with-same m n placed table key (agree table key inside))
+      (All-tail (λ p. is_record_in range p ≡ true) placed list all) legal.1,
+)
+
+-- ---- records of other keys
+
+-- a record is of its client's last call
+pub record IsOfLast (asked : ℕ → Option LastCall) (placed : Placed) : Type 0 where
+  pub last : LastCall
+  pub asked_is : asked placed.call.client ≡ Some last
+  pub call_is : placed.call ≡ last.call
+
+module _ (base : Base) (range : Range) (journal made : List Placed) (asked : ℕ → Option LastCall) (outside : All (λ placed. is_record_in range placed ≡ false) made) (of_last : All (IsOfLast asked) made) (legal : IsLegal (base_map base) (journal ++ made)) where
+  abbrev start : Map
+  start = base_map base
+
+  -- they are at no key of the range
+  elsewhere : (table : ℕ) (key : List ℕ) → has_key range table key ≡ true → All (λ placed. is_at table key placed ≡ false) made
+  elsewhere table key inside = grind (arith, all_by, is_at, false_from_ne_true, is_at_parts, false≢true, is_record_in, has_key)
+
+  pub map_beside : (table : ℕ) (key : List ℕ) → has_key range table key ≡ true → map_after start (journal ++ made) table key ≡ map_after start journal table key
+  map_beside table key inside = ap (λ (m : Map). m table key) (map_after-append start journal made)
+      ∙ map_elsewhere (map_after start journal) made table key (elsewhere table key inside)
+
+  -- they are of other clients than a staged call of the range
+  other_clients : (end : Ended) → IsEndOfLast asked journal range end → All (λ placed. placed.call.client ≢ end.client) made
+  other_clients end its = grind (arith, all_by, false≢true, is_record_in, has_key, last_inside)
+
+  pub rest_beside : (truth rest : List Entry) → All (λ entry. counts range entry ≡ true) rest → IsRest base range truth rest journal asked → IsRest base range truth rest (journal ++ made) asked
+  rest_beside truth rest counted was =
+      let records : List Placed = records_of asked (call_ends rest) in
+      let agree : AgreeOn range (map_after start journal) (map_after start (journal ++ made)) =
+      λ table key inside. sym (map_beside table key inside) in
+      record {
+        legal = IsLegal-append start (journal ++ made) records legal
+            (legal_on range (map_after start journal) (map_after start (journal ++ made)) records agree
+            (records_inside base asked journal range (call_ends rest) (staged_ends base asked journal range rest counted was.staged))
+            (legal_back start journal records was.legal));
+        live = λ table key inside.
+            was.live table key inside
+            ∙ ap map_record_of
+            (ap (λ (m : Map). m table key) (map_after-append start journal records)
+            ∙ map_after-same (map_after start journal) (map_after start (journal ++ made)) records table key (agree table key inside)
+            ∙ ap (λ (m : Map). m table key) (sym (map_after-append start (journal ++ made) records)));
+        staged =
+            all_by (IsStaged base asked (journal ++ made)) rest (λ entry at.
+            let staged = All-contains (IsStaged base asked journal) rest entry was.staged at in
+            still_staged base journal made asked entry
+            (All-weaker (IsEndOfLast asked journal range) (AreOfOthers base journal made asked) other_clients (call_end entry)
+            (entry_ends base asked journal range entry (All-contains (λ e. counts range e ≡ true) rest entry counted at) staged)) staged);
+        one = was.one;
+      }
+
+  -- so truth and rest of the range tell all of it still
+  pub history_beside : (truth rest : List Entry) → All (λ entry. counts range entry ≡ true) rest → TellHistory base range truth rest journal asked → TellHistory base range truth rest (journal ++ made) asked
+  history_beside truth rest counted was = record {
+    leaves = record {
+      plain = was.leaves.plain;
+      live = λ table key inside. was.leaves.live table key inside ∙ ap map_record_of (sym (map_beside table key inside));
+    };
+    above = was.above;
+    ends =
+        All-append
+        (λ placed.
+        is_record_in range placed ≡ true → is_mutation placed.call.op ≡ true
+        → IsReached (told (of_key placed.call.table placed.call.key truth)) placed) journal made was.ends
+        (all_by
+        (λ placed.
+        is_record_in range placed ≡ true → is_mutation placed.call.op ≡ true
+        → IsReached (told (of_key placed.call.table placed.call.key truth)) placed) made (λ placed stands inside.
+        absurd (false≢true (sym (All-contains (λ p. is_record_in range p ≡ false) made placed outside stands) ∙ inside))));
+    known = All-weaker (IsKnown base journal) (IsKnown base (journal ++ made)) (known_still journal made base) (told truth) was.known;
+    low = λ table key inside. let same = ap last_version (map_beside table key inside) in omega (arith, was.low table key inside, same);
+    goes_on = rest_beside truth rest counted was.goes_on;
+  }

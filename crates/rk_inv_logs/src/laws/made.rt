@@ -1,8 +1,8 @@
 //! Laws of the ends that a rebuild merged: where the truth of a row and a first part of its rest were read, they make just the records
 //! of the calls of that part.
 //!
-//! In `proofs/made`, `PlacedEnds` tells which ends have a place in a merge, `MergedRead` and `MergedMade` what they make, `Beside` that
-//! other rows stay as they are, and `RebuiltEnds` is all of it over views.
+//! In `proofs/made`, `MadeOf` tells which ends have a place in a merge, and that other rows stay as they are, and `RebuiltEnds` what they
+//! make, also over views.
 ghost use Rattle.std.specs.Prelude.{◌≡◌, ℕ, List, [], map, All, Contains};
 ghost use Rattle.rk_done.specs.Completions.{completions_from, ends_of};
 ghost use Rattle.rk_entry.specs.declared.entry.Entry.{Entry};

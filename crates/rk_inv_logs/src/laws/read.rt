@@ -1,7 +1,7 @@
 //! What a rebuild has read of the logs of a lineage, once all is gathered, is the truth of its row and a first part of its rest.
 //!
-//! In `proofs/read`, `ReadMain` and `ReadLog` say what is read of a log, `ReadMember` what counts of it, `GivenUp` what pieces of
-//! rebuilds that were given up tell, and `Cases` goes through the lineages.
+//! In `proofs/read`, `ReadLog` says what is read of a log, `ReadMember` what counts of it, and `ReadBack` what pieces of rebuilds that
+//! were given up tell; it goes through the lineages.
 ghost use Rattle.rk_inv_logs.specs.read.Moves.{MayTakeRebuiltFormed, read_by_member};
 ghost use Rattle.rk_inv_logs.specs.read.ReadBack.{IsReadBack};
 ghost use Rattle.rk_sound.specs.View.{View, rests, truths};

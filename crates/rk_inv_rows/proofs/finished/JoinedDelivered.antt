@@ -1,16 +1,201 @@
--- What the delivery of a Joined makes where its row moves.
-use Rattle.std.proofs.Common.{◌≡◌, ℕ, Bool, false, cond, [], ◌∷◌, Option, Some, None, refl, sym, ap, subst, ◌∙◌, Ok, Contains, eq-eqb}
-use Rattle.rk_inv_base.proofs.Words.{All-contains, get, Member, Node, lawful_turned, changed_rows, row_of, Phase, Moving, Owned, Row, Body}
+-- A Joined that is taken finishes a migration: what its target has is the records of the source overlaid by its own writes, and the
+-- coordinator gives it the row.
+use Rattle.std.proofs.Common.{◌≡◌, ℕ, ◌+◌, ◌-◌, ◌≤◌, ◌<◌, true, List, [], Some, ◌⊎◌, refl, sym, ap, ◌∙◌, ⊎_elim, arith, inl, inr, length}
+use Rattle.std.proofs.Common.{min, drop, filter, slice_get, take, Contains, flat_map, length-take, ◌&&◌, eqb, leb, ◌++◌, subst, append-nil}
+use Rattle.std.proofs.Common.{Bool, false, cond, ◌∷◌, Option, None, Ok, eq-eqb}
+use Rattle.rk_inv_base.proofs.Words.{cases_lt, drop-take, drop_all, All-contains, Contains-append_cases, Contains-append_left, Held, Range}
+use Rattle.rk_inv_base.proofs.Words.{Entry, is_in, none_stands, items_in, items_of, is_marked, unmarked, unmarked_from, counting, counts}
+use Rattle.rk_inv_base.proofs.Words.{log_material, named, named_by, side_entries, Mark, marked_entries, nat_tests, flat_map-append}
+use Rattle.rk_inv_base.proofs.Words.{Contains-append_right, hash_of, has, Member, lineage_of, Phase, Moving, Rebuilding, Row, live, IsPlain}
+use Rattle.rk_inv_base.proofs.Words.{Written, applied_entries, lineage_truth, member_truth, MayTakeJoined, NamedFit, entries_from}
+use Rattle.rk_inv_base.proofs.Words.{named_items, IsTruth, View, SoundView, get, Node, lawful_turned, changed_rows, row_of, Owned, Body}
 use Rattle.rk_inv_base.proofs.Words.{Message, Called, Gave, is_noticed, row_tenure, Coordinated, about, answered, at_term, coordinator_step}
 use Rattle.rk_inv_base.proofs.Words.{joined_in, own_to, release_to, row_for, row_owned, told_coordinator, unanswered, with_rebuilt, refusal}
 use Rattle.rk_inv_base.proofs.Words.{Stepped, delivered, delivered_to, happened, step, stepped_by, with_sends, World, with_coordinator}
-use Rattle.rk_inv_base.proofs.Words.{with_ledger, written_in, member_truth, StepError, Event, ByMaster, HasJoined, IsOf, JoinedIn, SaysOf}
-use Rattle.rk_inv_base.proofs.Words.{MayTakeJoined, row_at, view, IsSound}
-use Rattle.rk_inv_rows.proofs.Words.{Finishes, IsFinished, own_entries, found_stands, new_stands, stands_found}
+use Rattle.rk_inv_base.proofs.Words.{with_ledger, written_in, StepError, Event, ByMaster, HasJoined, IsOf, JoinedIn, SaysOf, row_at, view}
+use Rattle.rk_inv_base.proofs.Words.{IsSound}
+use Rattle.rk_inv_rows.proofs.Words.{behind_at, place_of, filter_from, filter_stands, material_in, IsFinished, marks_none, SoundRow, row_in}
+use Rattle.rk_inv_rows.proofs.Words.{Finishes, own_entries, found_stands, new_stands, stands_found}
+use Rattle.rk_inv_rows.proofs.lineage.Among.{flat_among, from_flat, kept_among, number_from, number_to, taken_from, to_flat}
+use Rattle.rk_inv_rows.proofs.lineage.Pieces.{taken_counts, unmarked_place, unmarked_stands, unmarked_stood}
+use Rattle.rk_overlay.specs.Plain.{HaveSame}
+use Rattle.rk_overlay.proofs.Live.{live_alike, live_of_overlay}
+use Rattle.rk_inv_rows.proofs.lineage.JoinedTaken.{history}
 use Rattle.rk_types.specs.declared.node.Node.TheVariants as nodes
 use Rattle.rk_message.specs.declared.message.Body.TheVariants as bodies
 use Rattle.rk_world.specs.declared.event.Event.TheVariants as events
-use Rattle.rk_inv_rows.proofs.finished.TargetAlone.{finished}
+
+-- what stands from a place on in a first part is a first part of what stands from there
+first_part : {X : Type 0} (from n : ℕ) (list : List X) → drop from (take n list) ≡ take (n - from) (drop from list)
+first_part from n list =
+    ⊎_elim
+    (λ (beyond : n < from).
+    let size : length (take n list) ≡ min n (length list) = length-take n list in
+    let none : n - from ≡ 0 = omega (arith, beyond) in
+    drop_all from (take n list) (omega (arith, size, beyond)) ∙ sym (ap (λ (k : ℕ). take k (drop from list)) none))
+    (λ (behind : from ≤ n).
+    let sum : n ≡ from + (n - from) = omega (arith, behind) in
+    ap (λ (k : ℕ). drop from (take k list)) sum ∙ drop-take from (n - from) list)
+    (cases_lt n from)
+
+-- what bears no mark in a first part bears none in the whole
+unmarked_among : (marks : List Mark) (from n : ℕ) (list : List Entry) (entry : Entry) → Contains (unmarked_from marks from (take n list)) entry → Contains (unmarked_from marks from list) entry
+unmarked_among marks from n list entry stands =
+    let free = unmarked_place marks from (drop from (take n list)) entry stands in
+    let place : ℕ = from + free.k in
+    let there : slice_get list place ≡ Some entry = taken_from n list place entry (place_of (take n list) from free.k place entry refl free.at) in
+    let behind = behind_at list from place entry (omega arith) there in
+    unmarked_stands marks from behind.0 (drop from list) entry behind.1 (ap (is_marked marks) behind.2 ∙ free.free)
+
+module _ (range : Range) (marks : List Mark) (sides : List (List Held)) (from applied : ℕ) (list : List Entry) where
+  abbrev front : List Entry
+  front = take applied list
+
+  abbrev kept : List Entry
+  kept = unmarked_from marks from front
+
+  abbrev own_ones : List Entry
+  own_ones = counting range (drop from front)
+
+  -- the entries of the side segments that entries name
+  abbrev named_entries : List Entry → List Entry
+  named_entries entries = flat_map (side_entries sides) (named range entries)
+
+  number_stands : (n : ℕ) → Contains (named range kept) n → Contains (named range (unmarked_from marks from list)) n
+  number_stands n stands =
+      number_to [] (flat_map (named_by range) (unmarked_from marks from list)) n
+      (flat_among (named_by range) kept (unmarked_from marks from list) (unmarked_among marks from applied list) n
+      (⊎_elim (λ (none : Contains [] n). absurd (none_stands n none)) (λ (there : Contains (flat_map (named_by range) kept) n). there)
+      (number_from [] (flat_map (named_by range) kept) n stands)))
+
+  -- an item that counts of what is applied is of an own entry, or of a side segment that some unmarked entry names
+  pub from_own : (item : Held) → Contains (items_of (log_material range marks sides from front)) item
+      → Contains (items_of own_ones) item ⊎ Contains (filter (is_in range) (items_of (named_entries (unmarked_from marks from list)))) item
+  from_own item stands =
+      let found = from_flat items_in (log_material range marks sides from front) item stands in
+      let entry : Entry = found.0 in
+      ⊎_elim
+      (λ (here : Contains (counting range kept) entry).
+      inl
+      (to_flat items_in own_ones entry item
+      (kept_among (counts range) kept (drop from front) (unmarked_stood marks from (drop from front)) entry here) found.2))
+      (λ (side : Contains (counting range (named_entries kept)) entry).
+      inr
+      (filter_stands (is_in range) (items_of (named_entries (unmarked_from marks from list))) item
+      (to_flat items_in (named_entries (unmarked_from marks from list)) entry item
+      (flat_among (side_entries sides) (named range kept) (named range (unmarked_from marks from list)) number_stands entry
+      (filter_from (counts range) (named_entries kept) entry side)) found.2)
+      (All-contains (λ (x : Held). is_in range x ≡ true) (items_of (log_material range marks sides from front)) item
+      (material_in range (side_entries sides) kept) stands)))
+      (Contains-append_cases (counting range kept) (counting range (named_entries kept)) entry found.1)
+
+  -- where nothing that is marked counts, the own entries do
+  own_counts : counting range (marked_entries marks from (drop from list)) ≡ [] → counting range kept ≡ own_ones
+  own_counts none =
+      let part : drop from front ≡ take (applied - from) (drop from list) = first_part from applied list in
+      ap (λ (l : List Entry). counting range (unmarked marks from l)) part ∙ taken_counts range marks from (applied - from) (drop from list) none
+      ∙ ap (counting range) (sym part)
+
+  pub own_stands : counting range (marked_entries marks from (drop from list)) ≡ [] → (item : Held) → Contains (items_of own_ones) item
+      → Contains (items_of (log_material range marks sides from front)) item
+  own_stands none item =
+      flat_among items_in own_ones (log_material range marks sides from front)
+      (λ entry stands.
+      Contains-append_left (counting range kept) (counting range (named_entries kept)) entry
+      (rw (own_counts none) stands)) item
+
+module _ (v : View) (row : Row) (source target : Member) (sound : SoundView v) (some : row.range.first ≤ row.range.last) (may : MayTakeJoined v row source.master source.from target.master target.from) where
+  abbrev moving : Phase
+  moving = Moving source.master source.from target.master target.from
+
+  abbrev w : Written
+  w = v.written target.master
+
+  abbrev of_source : List Entry
+  of_source = member_truth v.written row.range source
+
+  abbrev of_target : List Entry
+  of_target = member_truth v.written row.range target
+
+  abbrev own : List Entry
+  own = entries_from row.range target.from (applied_entries w)
+
+  row_was : SoundRow v row
+  row_was = row_in v sound row may.has_row
+
+  -- ---- items
+
+  -- what the target names is of its source
+  copied : (item : Held) → Contains (named_items row.range target.from w) item → Contains (items_of of_source) item
+  copied = subst (λ (p : Phase). NamedFit v.written row.range (lineage_of p)) may.phase_is row_was.named_items
+
+  never : (lineage : List Member) (to : ℕ) → row.phase ≡ Rebuilding lineage to → ⊥
+  never lineage to is = let same : moving ≡ Rebuilding lineage to = sym may.phase_is ∙ is in absurd (cc same)
+
+  abbrev both : List Held
+  both = items_of of_source ++ items_of of_target
+
+  abbrev overlaid : List Held
+  overlaid = items_of of_source ++ items_of own
+
+  forth : (item : Held) → Contains both item → Contains overlaid item
+  forth item stands =
+      ⊎_elim (λ (first : Contains (items_of of_source) item). Contains-append_left (items_of of_source) (items_of own) item first)
+      (λ (last : Contains (items_of of_target) item).
+      ⊎_elim (λ (its : Contains (items_of own) item). Contains-append_right (items_of of_source) (items_of own) item its)
+      (λ (copy : Contains (named_items row.range target.from w) item).
+      Contains-append_left (items_of of_source) (items_of own) item (copied item copy))
+      (from_own row.range w.marks w.sides target.from w.applied w.entries item last))
+      (Contains-append_cases (items_of of_source) (items_of of_target) item stands)
+
+  back : (item : Held) → Contains overlaid item → Contains both item
+  back item stands =
+      ⊎_elim (λ (first : Contains (items_of of_source) item). Contains-append_left (items_of of_source) (items_of of_target) item first)
+      (λ (its : Contains (items_of own) item).
+      Contains-append_right (items_of of_source) (items_of of_target) item
+      (own_stands row.range w.marks w.sides target.from w.applied w.entries
+      (marks_none v row sound may.has_row some never target) item its))
+      (Contains-append_cases (items_of of_source) (items_of own) item stands)
+
+  same : HaveSame both overlaid
+  same item = (forth item, back item)
+
+  -- ---- records
+
+  was : IsTruth v.base row.range (of_source ++ (of_target ++ [])) v.journal
+  was =
+      subst (λ (p : Phase). IsTruth v.base row.range (lineage_truth v.base v.written row.range (lineage_of p)) v.journal) may.phase_is
+      row_was.truth
+
+  now : IsTruth v.base row.range (of_target ++ []) v.journal
+  now = (history v row source.master source.from target.master target.from sound some may).leaves
+
+  both_are : items_of (of_source ++ (of_target ++ [])) ≡ both
+  both_are =
+      flat_map-append items_in of_source (of_target ++ []) ∙ ap (λ (l : List Entry). items_of of_source ++ items_of l) (append-nil of_target)
+
+  plain : IsPlain both
+  plain = rw (← both_are) was.plain
+
+  leaves : IsFinished row.range of_source of_target own
+  leaves table key inside =
+      ap (λ (l : List Entry). live (items_of l) table key) (sym (append-nil of_target)) ∙ now.live table key inside
+      ∙ sym (was.live table key inside) ∙ ap (λ (l : List Held). live l table key) both_are ∙ live_alike both overlaid plain same table key
+      ∙ sym (live_of_overlay (items_of of_source) (items_of own) table key)
+
+-- a range that has a key is not empty
+has_some : (range : Range) (table hash : ℕ) → has range table hash ≡ true → range.first ≤ range.last
+has_some range table hash inside = go range.table range.first range.last inside
+  where
+    go : (t f l : ℕ) → (eqb t table && leb f hash && leb hash l) ≡ true → f ≤ l
+    go t f l inside = grind (arith, nat_tests)
+
+-- of an empty range there is nothing to tell
+pub finished : (v : View) (row : Row) (source target : Member) → SoundView v → MayTakeJoined v row source.master source.from target.master target.from
+    → IsFinished row.range (member_truth v.written row.range source) (member_truth v.written row.range target)
+    (entries_from row.range target.from (applied_entries (v.written target.master)))
+finished v row source target sound may table key inside =
+    leaves v row source target sound (has_some row.range table (hash_of key) inside) may table key inside
 
 -- an event that is not refused happened
 pub happened_is : (w : World) (event : Event) (called : Called) (stepped : Stepped) (refused : Option StepError) → stepped_by w event called refused ≡ Ok stepped
@@ -34,15 +219,7 @@ module _ (w : World) (number : ℕ) (message : Message) (row : Row) (source targ
     pub joined : HasJoined ((view w).handovers target.master row.tablet).role ((view w).written target.master).applied
 
   told_by : (sender : Node) → ByMaster sender (λ master. IsOf row (row_tenure row) → SaysJoined row.phase master) → IsTold sender
-  told_by (nodes.Master master) says =
-      let its : SaysJoined (Moving source.master source.from target.master target.from) master =
-      subst (λ (phase : Phase). SaysJoined phase master) moving (says (record { tablet = refl; term = refl })) in
-      record {
-        sender_is = ap nodes.Master (sym its.0);
-        term_is = ap (λ (m : ℕ). ((view w).handovers m row.tablet).term) its.0 ∙ its.1;
-        joined = subst (λ (m : ℕ). HasJoined ((view w).handovers m row.tablet).role ((view w).written m).applied) (sym its.0) its.2;
-      }
-  told_by sender says = absurd says
+  told_by sender says = grind (arith, view)
 
   abbrev Says : Body → Type 0
   Says body =
@@ -71,12 +248,7 @@ module _ (w : World) (number : ℕ) (message : Message) (row : Row) (source targ
       ∙ ap (at_term (row_tenure row)) found ∙ ap (λ (same : Bool). cond same (Some row) None) (eq-eqb row.term row.term refl)
 
   taken_is : coordinator_step w.coordinator message ≡ taken
-  taken_is =
-      ap (λ (sender : Node). told_coordinator w.coordinator sender message.body) is_told.sender_is
-      ∙ ap (told_coordinator w.coordinator (nodes.Master target.master)) tells
-      ∙ ap (about w.coordinator (λ (r : Row). joined_in w.coordinator target.master r r.phase)) row_is
-      ∙ ap (joined_in w.coordinator target.master row) moving
-      ∙ ap (λ (own : Bool). cond own taken (unanswered w.coordinator)) (eq-eqb target.master target.master refl)
+  taken_is = grind (arith, told_coordinator, is_told, about, joined_in, row_is, unanswered, eq-eqb)
 
   abbrev coordinated : Coordinated → Stepped
   coordinated made = with_sends (with_ledger (with_coordinator w made.coordinator) (with_rebuilt w.ledger made.rebuilt)) made.sends
@@ -104,14 +276,14 @@ module _ (w : World) (number : ℕ) (message : Message) (row : Row) (source targ
         IsFinished row.range (member_truth (written_in w) row.range source) (member_truth (written_in now) row.range target)
         (own_entries w row target)
 
-  leaves : Leaves (coordinated taken).world
-  leaves = record { owned_is = owned_found; finished = finished (view w) row source target sound may }
+  left_finished : Leaves (coordinated taken).world
+  left_finished = record { owned_is = owned_found; finished = finished (view w) row source target sound may }
 
   pub finishes : (stepped : Stepped) → step w (events.Deliver number) (Gave None) ≡ Ok stepped → Finishes w number stepped row source target
   finishes stepped is =
       let made : coordinated taken ≡ stepped =
       sym delivered_is ∙ (happened_is w (events.Deliver number) (Gave None) stepped (refusal w (events.Deliver number)) is).1 in
-      let left : Leaves stepped.world = rw (← made) leaves in
+      let left : Leaves stepped.world = rw (← made) left_finished in
       record {
         has_row = found;
         moving = moving;

@@ -1,8 +1,9 @@
 -- A row that moves comes to be owned by one event alone: the delivery of the Joined of its target.
+use Rattle.std.proofs.Common.{arith}
 use Rattle.std.proofs.Common.{◌≡◌, ◌+◌, ℕ, false, cond, List, Option, Some, None, ◌⊎◌, refl, sym, ap, ◌∙◌, ⊎_elim, inl, inr, Ok, is_some}
 use Rattle.std.proofs.Common.{Contains, option_map}
 use Rattle.rk_inv_base.proofs.Words.{cond_both, false≢true, All-contains, option_or, get, Member, Node, Range, Segments, number_of}
-use Rattle.rk_inv_base.proofs.Words.{add_fault, divided, lower_part, placed, replaced, row_of, upper_part, Phase, Moving, Opening, Owned}
+use Rattle.rk_inv_base.proofs.Words.{add_fault, divided, lower_part, placed, replaced, row_of, upper_part, Phase, Moving, Owned}
 use Rattle.rk_inv_base.proofs.Words.{Row, Message, Backed, Called, backup_step, stored_after, Coordinator, new_row, coordinator_step}
 use Rattle.rk_inv_base.proofs.Words.{told_coordinator, is_added, with_client, master_step, migrating, row_migrated, notice_order, fault_of}
 use Rattle.rk_inv_base.proofs.Words.{refusal, where_true, worn, rows_split_of, Stepped, backed_at, delivered, delivered_to, happened}
@@ -70,16 +71,7 @@ module _ (w : World) (row : Row) (source target : Member) (sound : IsSound w) (f
       (λ same. absurd (not_added (row_of coordinator.rows tablet) row (Taken tablet) _ (found_at tablet same) fits)) of_row
 
   migrated : (tablet to : ℕ) → AreUnowned row.tablet (row_migrated coordinator (row_of coordinator.rows tablet) to).rows
-  migrated tablet to = go (row_of coordinator.rows tablet)
-    where
-      by_phase : (r : Row) (phase : Phase) → AreUnowned row.tablet (migrating coordinator r phase to).rows
-      by_phase r (Owned owner from) =
-          unowned_changed row.tablet coordinator.rows r.tablet (r.term + 1) (Opening owner from to None) as_before (λ same. refl)
-      by_phase r _ = as_before
-
-      go : (it : Option Row) → AreUnowned row.tablet (row_migrated coordinator it to).rows
-      go None = as_before
-      go (Some r) = by_phase r r.phase
+  migrated tablet to = grind (arith, row_of, migrating, unowned_changed, as_before, row_migrated)
 
   divided_rows : (number at new : ℕ) → (new ≡ row.tablet → ⊥) → AreUnowned row.tablet (split_rows coordinator.rows number at new)
   divided_rows number at new other = go (row_of coordinator.rows number) refl
@@ -181,10 +173,7 @@ module _ (w : World) (row : Row) (source target : Member) (sound : IsSound w) (f
   -- ---- any event
 
   turn : (node : Node) → Stays (turned w node).world
-  turn (nodes.Client client) = as_before
-  turn nodes.Coordinator = as_before
-  turn (nodes.Master master) = as_before
-  turn (nodes.Backup backup) = as_before
+  turn node = grind (arith, as_before)
 
   again : (message : Option Message) → Stays (sent_again w message).world
   again None = as_before

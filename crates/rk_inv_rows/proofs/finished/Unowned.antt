@@ -1,8 +1,9 @@
 -- What the coordinator makes of its rows: a row that moves comes to be owned by nothing but the Joined of its target.
+use Rattle.std.proofs.Common.{arith}
 use Rattle.std.proofs.Common.{◌≡◌, ◌==◌, ℕ, Bool, true, false, cond, eqb, List, [], ◌∷◌, Option, Some, None, ◌⊎◌, ◌++◌, refl, sym, ap}
 use Rattle.std.proofs.Common.{subst, ◌∙◌, ⊎_elim, inl, inr, fold, IfSome, All, Contains, eq-eqb, eqb-true}
 use Rattle.rk_inv_base.proofs.Words.{cases_Bool, cond_both, false≢true, All-contains, All-map, Member, number_of, IsTabletMap, changed_rows}
-use Rattle.rk_inv_base.proofs.Words.{replaced, row_of, Phase, Moving, Opening, Owned, Rebuilding, Row, Ready, Tenure, Transfer, Body}
+use Rattle.rk_inv_base.proofs.Words.{replaced, row_of, Phase, Moving, Owned, Rebuilding, Row, Ready, Tenure, Transfer, Body}
 use Rattle.rk_inv_base.proofs.Words.{Rebuilt, Coordinator, is_noticed, row_tenure, Coordinated, about, answered, at_term, joined_in, own_to}
 use Rattle.rk_inv_base.proofs.Words.{place_noted, question, ready_in, rebuilt_in, release_to, report, row_for, row_moved, row_owned}
 use Rattle.rk_inv_base.proofs.Words.{transfer_in, unanswered, notice_one, phase_noticed, row_noticed, row_at}
@@ -43,16 +44,7 @@ unowned_changed tablet rows number term phase all new = go (row_of rows number) 
 
 -- no row is owned by that
 noticed_phase : (coordinator : Coordinator) (dead : ℕ) (phase : Phase) → IfSome (phase_noticed coordinator dead phase) (λ new. is_owned new ≡ false)
-noticed_phase coordinator dead (Owned owner from) =
-    cond_both (owner == dead) _ None (λ (o : Option Phase). IfSome o (λ new. is_owned new ≡ false)) (λ e. refl) (λ e. tt)
-noticed_phase coordinator dead (Opening source sfrom target dfrom) =
-    cond_both (source == dead) _ _ (λ (o : Option Phase). IfSome o (λ new. is_owned new ≡ false)) (λ e. refl)
-    (λ e. cond_both (target == dead) _ None (λ (o : Option Phase). IfSome o (λ new. is_owned new ≡ false)) (λ e. refl) (λ e. tt))
-noticed_phase coordinator dead (Moving source sfrom target dfrom) =
-    cond_both (source == dead) _ _ (λ (o : Option Phase). IfSome o (λ new. is_owned new ≡ false)) (λ e. refl)
-    (λ e. cond_both (target == dead) _ None (λ (o : Option Phase). IfSome o (λ new. is_owned new ≡ false)) (λ e. refl) (λ e. tt))
-noticed_phase coordinator dead (Rebuilding lineage to) =
-    cond_both (to == dead) _ None (λ (o : Option Phase). IfSome o (λ new. is_owned new ≡ false)) (λ e. refl) (λ e. tt)
+noticed_phase coordinator dead phase = grind (arith, cond_both)
 
 noticed_row : (tablet : ℕ) (row : Row) (new : Option Phase) → IfSome new (λ phase. is_owned phase ≡ false) → IsUnowned tablet row
     → IsUnowned tablet (row_noticed row new)
@@ -103,17 +95,10 @@ module _ (coordinator : Coordinator) (row : Row) (source target : Member) (apart
   at_phase r phase free = unowned_changed row.tablet coordinator.rows r.tablet r.term phase unowned (λ same. free)
 
   ready_stays : (sender : ℕ) (ready : Ready) (r : Row) (phase : Phase) → Stays (ready_in coordinator sender ready r phase)
-  ready_stays sender ready r (Opening source sfrom target None) =
-      cond_both (sender == target) (unanswered (place_noted coordinator r source sfrom target ready.place)) (unanswered coordinator) Stays
-      (λ e. at_phase r (Opening source sfrom target (Some ready.place)) refl) (λ e. unowned)
-  ready_stays sender ready r _ = unowned
+  ready_stays sender ready r phase = grind (arith, cond_both, unanswered, place_noted, at_phase, unowned)
 
   transfer_stays : (sender : ℕ) (transfer : Transfer) (r : Row) (phase : Phase) → Stays (transfer_in coordinator sender transfer r phase)
-  transfer_stays sender transfer r (Opening source sfrom target (Some dfrom)) =
-      cond_both (sender == source)
-      (unanswered (row_moved coordinator r source sfrom target dfrom (record { floor = transfer.floor; ends = transfer.ends }))) (unanswered coordinator) Stays
-      (λ e. at_phase r (Moving source sfrom target dfrom) refl) (λ e. unowned)
-  transfer_stays sender transfer r _ = unowned
+  transfer_stays sender transfer r phase = grind (arith, cond_both, unanswered, row_moved, at_phase, unowned)
 
   rebuilt_stays : (sender : ℕ) (rebuilt : Rebuilt) (r : Row) → Contains coordinator.rows r → (phase : Phase) → r.phase ≡ phase → Stays (rebuilt_in coordinator sender rebuilt r phase)
   rebuilt_stays sender rebuilt r at (Rebuilding lineage to) is =

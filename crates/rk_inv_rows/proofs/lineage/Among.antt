@@ -1,6 +1,6 @@
 -- What stands in lists that others are made of: in parts of them, in what is kept by a test, and in what each element gives.
-use Rattle.std.proofs.Common.{◌≡◌, ℕ, zero, suc, ◌≤◌, ◌<◌, Bool, true, eqb, List, [], ◌∷◌, ◌++◌, Some, sym, ap, ◌∙◌, ⊎_elim, arith, inl}
-use Rattle.std.proofs.Common.{inr, drop, take, filter, fold, slice_get, ◌⊎◌, All, Contains, flat_map, eqb-true}
+use Rattle.std.proofs.Common.{◌≡◌, ℕ, zero, suc, ◌≤◌, ◌<◌, Bool, true, eqb, List, [], ◌∷◌, ◌++◌, Some, ap, ⊎_elim, arith, inl, inr, drop}
+use Rattle.std.proofs.Common.{take, filter, fold, slice_get, ◌⊎◌, All, Contains, flat_map, eqb-true}
 use Rattle.rk_inv_base.proofs.Words.{cond_both, All-contains, All-contains_itself, All-drop, All-nil, All-take, Contains-append_cases}
 use Rattle.rk_inv_base.proofs.Words.{Contains-append_left, Contains-append_right, Contains-push, Contains-push_cases, Any-from_list_any}
 use Rattle.rk_inv_base.proofs.Words.{is_among, behind_stands, first_stands, none_stands, stands_cases, with_number}

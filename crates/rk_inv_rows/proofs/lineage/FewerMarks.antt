@@ -1,8 +1,8 @@
 -- Where marks are taken from entries that tell nothing of a range, what bears no mark tells the same of it, and so does what bears one.
 use Rattle.std.proofs.Common.{◌≡◌, ℕ, suc, ◌+◌, Bool, true, false, cond, List, [], ◌∷◌, ◌++◌, Some, refl, sym, ap, ◌∙◌, arith, slice_get}
-use Rattle.std.proofs.Common.{flat_map}
+use Rattle.std.proofs.Common.{flat_map, ◌≤◌, Contains}
 use Rattle.rk_inv_base.proofs.Words.{cond-false, false≢true, Range, Entry, is_marked, unmarked, counting, counts, named_by, Mark}
-use Rattle.rk_inv_base.proofs.Words.{marked_entries}
+use Rattle.rk_inv_base.proofs.Words.{marked_entries, Call, Handover, Row, Written, Waits}
 
 -- an entry tells nothing of a range: it does not count, and names no side segment
 pub record IsSilent (range : Range) (entry : Entry) : Type 0 where
@@ -38,16 +38,10 @@ module _ {Y : Type 0} (range : Range) (make : List Entry → List Y) (step : Ent
 
   -- by whether the first entry bore a mark, and bears one
   free_first : (was is : Bool) (entry : Entry) (before now : List Entry) → (is ≡ true → was ≡ true) → (was ≡ true → is ≡ false → IsSilent range entry) → make now ≡ make before → make (cond is now (entry ∷ now)) ≡ make (cond was before (entry ∷ before))
-  free_first true true entry before now still silent same = same
-  free_first true false entry before now still silent same = without_first entry now (silent refl refl) ∙ same
-  free_first false true entry before now still silent same = absurd (false≢true (still refl))
-  free_first false false entry before now still silent same = with_first entry now before same
+  free_first was is entry before now still silent same = grind (arith, without_first, false≢true, with_first)
 
   marked_first : (was is : Bool) (entry : Entry) (before now : List Entry) → (is ≡ true → was ≡ true) → (was ≡ true → is ≡ false → IsSilent range entry) → make now ≡ make before → make (cond is (entry ∷ now) now) ≡ make (cond was (entry ∷ before) before)
-  marked_first true true entry before now still silent same = with_first entry now before same
-  marked_first true false entry before now still silent same = same ∙ sym (without_first entry before (silent refl refl))
-  marked_first false true entry before now still silent same = absurd (false≢true (still refl))
-  marked_first false false entry before now still silent same = same
+  marked_first was is entry before now still silent same = grind (arith, with_first, without_first, false≢true)
 
   first_still : (old new : List Mark) (place : ℕ) (list : List Entry) → AreFewer range old new place list → is_marked new place ≡ true → is_marked old place ≡ true
   first_still old new place list fewer marked =
@@ -93,3 +87,7 @@ module _ (range : Range) (old new : List Mark) (place : ℕ) (list : List Entry)
   free_names =
       same_free range (flat_map (named_by range)) (λ entry made. named_by range entry ++ made) (λ entry list. refl)
       (λ entry made silent. ap (λ (l : List ℕ). l ++ made) silent.unnamed) old new place list fewer
+
+-- a call that waited waits in rows that still have its row, where its entry bears no mark and no more is applied than stands before it
+pub waits_with : (rows now : List Row) (handovers : ℕ → Handover) (w : Written) (marks : List Mark) (applied q n : ℕ) (call : Call) (wait : Waits rows handovers w q n call) → applied ≤ n → is_marked marks n ≡ false → Contains now wait.row → Waits now handovers (record w { marks = marks; applied = applied }) q n call
+waits_with rows now handovers w marks applied q n call wait behind free stands = search wait

@@ -1,14 +1,44 @@
--- A view stays sound when the target of a row that moves owns it, once its closing entry is applied.
-use Rattle.std.proofs.Common.{◌≡◌, ℕ, ◌≤◌, Bool, true, false, cond, eqb, [], ◌∷◌, Some, refl, sym, ap, subst, ◌∙◌, arith, inl, inr, All}
-use Rattle.std.proofs.Common.{eqb-true}
-use Rattle.rk_inv_base.proofs.Words.{false≢true, All-tail, Member, is_serving, Role, lineage_of, Phase, Moving, Owned, Row, last_of, World}
-use Rattle.rk_inv_base.proofs.Words.{HasJoined, HasSome, MayTakeJoined, row_at, Bystander, MovingSource, MovingTarget, Owner, Post, Holds}
-use Rattle.rk_inv_base.proofs.Words.{StillCounts, bond_of, post_of, speaks, RoleFits, IsPlaced, HasItems, has_all_items, View, view}
-use Rattle.rk_inv_base.proofs.Words.{IsSound, SoundView}
-use Rattle.rk_inv_rows.proofs.Words.{member as member_at, MayTakeLineage, MembersAgree, lineage_taken, row_owned_in, SoundRow, row_in}
+-- The target of a row that moves owns it, once its closing entry is applied: what counts of its log tells all of the row, and the view
+-- stays sound.
+use Rattle.std.proofs.Common.{◌≡◌, ℕ, ◌≤◌, ◌<◌, true, List, [], ◌∷◌, ◌++◌, Option, Some, refl, sym, ap, subst, ◌∙◌, ⊎_elim, arith, inl, inr}
+use Rattle.std.proofs.Common.{append-nil, append_assoc, All, IfSome, drop, max, take, Contains, flat_map, option_map, slice_index_or, Bool}
+use Rattle.std.proofs.Common.{false, cond, eqb, eqb-true}
+use Rattle.rk_inv_base.proofs.Words.{false≢true, flat_map-append, All-contains, Contains-append_cases, Contains-append_left}
+use Rattle.rk_inv_base.proofs.Words.{Contains-append_right, get, Held, Member, Range, map_after, Entry, Joined, is_in, ends_of, Handover}
+use Rattle.rk_inv_base.proofs.Words.{Role, lineage_of, Phase, Moving, Rebuilding, Row, stands_cases, live, IsPlain, base_map, Handed}
+use Rattle.rk_inv_base.proofs.Words.{items_in, items_of, told, told_by, unmarked_from, counts, joined_from, of_key, side_entries, tells_of}
+use Rattle.rk_inv_base.proofs.Words.{floor_of, has_all, Pulling, Written, applied_entries, lineage_rest, lineage_truth, member_material}
+use Rattle.rk_inv_base.proofs.Words.{member_rest, member_truth, TellAll, AreAboveMap, beginning_in, target_truth, HasJoined, MayTakeJoined}
+use Rattle.rk_inv_base.proofs.Words.{HandedFits, HasArrived, HasClosing, IsOutdone, IsReceived, IsTarget, MembersFit, before_closing}
+use Rattle.rk_inv_base.proofs.Words.{beginning_of, closing_joined, copied_items, entries_from, is_granted, joined_place, scan_items}
+use Rattle.rk_inv_base.proofs.Words.{FirstIsDone, KeepTerm, IsTableOf, View, truths, rests, SoundView, IsKnown, Call, All-tail, is_serving}
+use Rattle.rk_inv_base.proofs.Words.{Owned, last_of, World, HasSome, row_at, Bystander, MovingSource, MovingTarget, Owner, Post, Holds}
+use Rattle.rk_inv_base.proofs.Words.{StillCounts, bond_of, post_of, speaks, RoleFits, IsPlaced, HasItems, has_all_items, view, IsSound}
+use Rattle.rk_inv_base.proofs.Words.{has_key}
+use Rattle.rk_inv_rows.proofs.Words.{member as member_at, all_by, marks_none, TellHistory, SoundRow, row_in, MayTakeLineage, MembersAgree}
+use Rattle.rk_inv_rows.proofs.Words.{lineage_taken, row_owned_in}
+use Rattle.rk_sound.specs.Receives.{IsClosedAt}
+use Rattle.rk_inv_base.proofs.logs.InRange.{scan_in, truth_in}
+use Rattle.rk_inv_rows.proofs.lineage.Among.{first_stand, flat_among, kept_among, later_stands, longer_stands}
+use Rattle.rk_inv_rows.proofs.lineage.FloorsOf.{floor_among}
+use Rattle.rk_inv_rows.proofs.lineage.Histories.{history_of, range_at}
+use Rattle.rk_inv_rows.proofs.lineage.Pieces.{joined_unmarked, unmarked_stood}
+use Rattle.rk_inv_rows.proofs.lineage.Scanned.{newest_scanned, scan_newest}
+use Rattle.rk_inv_rows.proofs.lineage.TakenOver.{HasBoth, TakesOver, above_fewer, live_over, plain_above, plain_fewer, table_over}
+use Rattle.rk_inv_rows.proofs.lineage.TargetMaterial.{HasJoinedLog, entry_stands, has_both, has_itself, none_behind_applied}
+use Rattle.rk_inv_rows.proofs.lineage.LineageSays.{rows_after, view_lineage_taken}
+use Rattle.rk_entry.specs.declared.entry.Entry.TheVariants as entries
 use Rattle.rk_transfer.specs.declared.role.Role.TheVariants as roles
-use Rattle.rk_inv_rows.proofs.lineage.JoinedTarget.{floor, history, table_is, unnamed}
-use Rattle.rk_inv_rows.proofs.lineage.LineageTaken.{rows_after, view_lineage_taken}
+
+-- a role has joined, with its closing entry at a place that is applied
+pub record JoinedAt (role : Role) (applied : ℕ) : Type 0 where
+  pub place : ℕ
+  pub role_is : role ≡ roles.Joining (Some place)
+  pub within : place < applied
+
+pub joined_at : (role : Role) (applied : ℕ) → HasJoined role applied → JoinedAt role applied
+joined_at (roles.Joining (Some place)) applied joined = record { place = place; role_is = refl; within = joined }
+joined_at _ applied joined = absurd joined
 
 -- ---- posts
 
@@ -31,14 +61,20 @@ module _ (v : View) (row : Row) (source sfrom target dfrom : ℕ) (sound : Sound
   abbrev moving : Phase
   moving = Moving source sfrom target dfrom
 
-  abbrev owned : Phase
-  owned = Owned target dfrom
-
-  abbrev new : Row
-  new = row_at row row.term owned
+  abbrev first : Member
+  first = member_at source sfrom
 
   abbrev last : Member
   last = member_at target dfrom
+
+  abbrev w : Written
+  w = v.written target
+
+  abbrev taker : Handover
+  taker = v.handovers target row.tablet
+
+  abbrev pulling : Pulling
+  pulling = v.pullings target row.tablet
 
   -- what is known of the row
   row_was : SoundRow v row
@@ -46,6 +82,332 @@ module _ (v : View) (row : Row) (source sfrom target dfrom : ℕ) (sound : Sound
 
   in_phase : (P : Phase → Type 0) → P row.phase → P moving
   in_phase P = subst P may.phase_is
+
+  -- ---- the target
+
+  at : JoinedAt taker.role w.applied
+  at = joined_at taker.role w.applied may.joined
+
+  in_role : (P : Role → Type 0) → P taker.role → P (roles.Joining (Some at.place))
+  in_role P = subst P at.role_is
+
+  range_is : taker.range ≡ row.range
+  range_is = range_at v sound row may.has_row target may.term_is
+
+  target_is : IsTarget row.range source (member_truth v.written row.range first) (member_material v.written row.range first) dfrom w taker pulling (get v.handed row.tablet) (v.records target)
+  target_is =
+      in_phase (λ p. MembersFit row v.written v.handovers v.pullings v.records v.handed (lineage_of p)) row_was.target
+      (ap is_granted at.role_is)
+
+  abbrev closing : Joined
+  closing = record { range = taker.range; term = taker.term; segments = pulling.sealed }
+
+  closed : IsClosedAt (closing_joined taker pulling.sealed) row.range dfrom w.entries at.place
+  closed = in_role (λ r. HasClosing (joined_place r) (closing_joined taker pulling.sealed) row.range dfrom w.entries) target_is.closing
+
+  never : (lineage : List Member) (to : ℕ) → row.phase ≡ Rebuilding lineage to → ⊥
+  never lineage to is = let same : moving ≡ Rebuilding lineage to = sym may.phase_is ∙ is in absurd (cc same)
+
+  log : HasJoinedLog row.range w.marks dfrom w.applied w.entries closing at.place
+  log =
+      assumption (
+        range_is,
+        joined_unmarked v sound target at.place closing closed.stands,
+        marks_none v row sound may.has_row some never last,
+        closed,
+        at,
+      )
+
+  -- no Joined of the range stands behind what is applied
+  pub unnamed : joined_from row.range (max dfrom w.applied) w.entries ≡ []
+  unnamed = none_behind_applied row.range w.marks w.sides dfrom w.applied w.entries closing at.place log
+
+  -- ---- its items
+
+  abbrev from_source : List Entry
+  from_source = member_truth v.written row.range first
+
+  abbrev mine : List Entry
+  mine = member_truth v.written row.range last
+
+  abbrev rest : List Entry
+  rest = member_rest v.written row.range last
+
+  abbrev own : List Held
+  own = items_of (entries_from row.range dfrom (applied_entries w))
+
+  abbrev copies : List Held
+  copies = items_of (flat_map (side_entries w.sides) pulling.sealed)
+
+  received : IsReceived (HasArrived (roles.Joining (Some at.place)) pulling (scan_items from_source)) row.range (scan_items from_source) own copies (v.records target)
+  received =
+      in_role
+      (λ r. IsReceived (HasArrived r pulling (scan_items from_source)) row.range (scan_items from_source) own (copied_items r pulling w.sides)
+      (v.records target)) target_is.received
+
+  copied_inside : (x : Held) → Contains copies x → is_in row.range x ≡ true
+  copied_inside x stands =
+      All-contains (λ item. is_in row.range item ≡ true) (scan_items from_source) x
+      (scan_in row.range from_source (truth_in v.written row.range first)) (received.within x stands)
+
+  both : HasBoth own copies (items_of mine)
+  both = has_both row.range w.marks w.sides dfrom w.applied w.entries closing at.place log copied_inside
+
+  -- a joining target has all that its source had
+  arrived : (x : Held) → HasArrived (roles.Joining (Some at.place)) pulling (scan_items from_source) x
+  arrived x receiving = absurd (false≢true receiving)
+
+  -- ---- with what is not applied
+
+  rest_stands : (entry : Entry) → Contains rest entry → Contains (entries_from row.range dfrom w.entries) entry
+  rest_stands entry =
+      kept_among (counts row.range) (unmarked_from w.marks (max dfrom w.applied) w.entries) (drop dfrom w.entries)
+      (λ e stands.
+      later_stands dfrom (max dfrom w.applied) w.entries e (omega arith)
+      (unmarked_stood w.marks (max dfrom w.applied) (drop (max dfrom w.applied) w.entries) e stands)) entry
+
+  own_stands : (entry : Entry) → Contains (entries_from row.range dfrom (applied_entries w)) entry → Contains (entries_from row.range dfrom w.entries) entry
+  own_stands entry =
+      kept_among (counts row.range) (drop dfrom (applied_entries w)) (drop dfrom w.entries) (λ e. first_stand dfrom w.applied w.entries e) entry
+
+  done : member_material v.written row.range first ≡ from_source
+  done =
+      (in_phase (λ p. FirstIsDone v.written row.range (lineage_of p))
+      row_was.done).all
+
+  -- an item of its own is above each of the source's
+  above_source : (x y : Held) → Contains (items_of (entries_from row.range dfrom w.entries)) x → Contains (items_of from_source) y → y.version < x.version
+  above_source x y x_at y_at = grind (arith, items_of, member_material, entries_from, target_is, done)
+
+  -- what it has of its own, applied or not
+  abbrev all_own : List Held
+  all_own = own ++ items_of rest
+
+  takes : TakesOver (items_of from_source) (scan_items from_source) all_own copies
+  takes = record {
+    first = scan_newest from_source;
+    scanned = newest_scanned from_source;
+    within = received.within;
+    copied = λ x stands.
+        ⊎_elim (λ (copy : Contains copies x). inl copy)
+        (λ (outdone : IsOutdone own x).
+        inr (record {
+          newer = outdone.newer;
+          stands = Contains-append_left own (items_of rest) outdone.newer outdone.stands;
+          same_key = outdone.same_key;
+          above = outdone.above;
+        }))
+        (received.copied x stands (arrived x));
+    above = λ x y x_at y_at.
+        ⊎_elim
+        (λ (applied : Contains own x).
+        above_source x y
+        (flat_among items_in (entries_from row.range dfrom (applied_entries w)) (entries_from row.range dfrom w.entries) own_stands x applied)
+        y_at)
+        (λ (staged : Contains (items_of rest) x).
+        above_source x y (flat_among items_in rest (entries_from row.range dfrom w.entries) rest_stands x staged) y_at)
+        (Contains-append_cases own (items_of rest) x x_at);
+  }
+
+  takes_applied : TakesOver (items_of from_source) (scan_items from_source) own copies
+  takes_applied = record {
+    first = scan_newest from_source;
+    scanned = newest_scanned from_source;
+    within = received.within;
+    copied = λ x stands. received.copied x stands (arrived x);
+    above = λ x y x_at y_at. takes.above x y (Contains-append_left own (items_of rest) x x_at) y_at;
+  }
+
+  -- ---- what counted, and what counts now
+
+  abbrev now_truth : List Entry
+  now_truth = mine ++ []
+
+  abbrev old_truth : List Entry
+  old_truth = from_source ++ now_truth
+
+  was : TellHistory v.base row.range old_truth rest v.journal v.asked
+  was =
+      in_phase
+      (λ p. TellHistory v.base row.range (lineage_truth v.base v.written row.range (lineage_of p))
+      (lineage_rest v.written row.range (lineage_of p)) v.journal v.asked)
+      (history_of v row sound may.has_row)
+
+  now_stands : (entry : Entry) → Contains now_truth entry → Contains old_truth entry
+  now_stands entry = Contains-append_right from_source now_truth entry
+
+  mine_stands : (entry : Entry) → Contains mine entry → Contains now_truth entry
+  mine_stands entry = Contains-append_left mine [] entry
+
+  both_now : HasBoth own copies (items_of now_truth)
+  both_now = rw (append-nil mine) both
+
+  plain_old : IsPlain (items_of from_source ++ items_of now_truth)
+  plain_old = rw (← flat_map-append items_in from_source now_truth) was.leaves.plain
+
+  -- the same, with what is not applied
+  items_with : items_of (old_truth ++ rest) ≡ items_of from_source ++ items_of (now_truth ++ rest)
+  items_with = ap items_of (append_assoc from_source now_truth rest) ∙ flat_map-append items_in from_source (now_truth ++ rest)
+
+  plain_with : IsPlain (items_of from_source ++ items_of (now_truth ++ rest))
+  plain_with =
+      subst IsPlain (sym (flat_map-append items_in old_truth rest) ∙ items_with)
+      (plain_above (items_of old_truth) (items_of rest) was.leaves.plain was.above)
+
+  both_with : HasBoth all_own copies (items_of (now_truth ++ rest))
+  both_with =
+      rw (flat_map-append items_in now_truth rest) (record {
+        from = λ x stands.
+            ⊎_elim
+            (λ (applied : Contains (items_of now_truth) x).
+            ⊎_elim (λ (its : Contains own x). inl (Contains-append_left own (items_of rest) x its)) (λ (copy : Contains copies x). inr copy)
+            (both_now.from x applied))
+            (λ (staged : Contains (items_of rest) x). inl (Contains-append_right own (items_of rest) x staged))
+            (Contains-append_cases (items_of now_truth) (items_of rest) x stands);
+        has_own = λ x stands.
+            ⊎_elim
+            (λ (applied : Contains own x). Contains-append_left (items_of now_truth) (items_of rest) x (both_now.has_own x applied))
+            (λ (staged : Contains (items_of rest) x). Contains-append_right (items_of now_truth) (items_of rest) x staged)
+            (Contains-append_cases own (items_of rest) x stands);
+        has_copied = λ x stands. Contains-append_left (items_of now_truth) (items_of rest) x (both_now.has_copied x stands);
+      })
+
+  live_now : (table : ℕ) (key : List ℕ) → live (items_of now_truth) table key ≡ live (items_of old_truth) table key
+  live_now table key =
+      live_over (items_of from_source) (scan_items from_source) own copies (items_of now_truth) takes_applied both_now plain_old table key
+      ∙ ap (λ (l : List Held). live l table key) (sym (flat_map-append items_in from_source now_truth))
+
+  live_with : (table : ℕ) (key : List ℕ) → live (items_of (now_truth ++ rest)) table key ≡ live (items_of (old_truth ++ rest)) table key
+  live_with table key =
+      live_over (items_of from_source) (scan_items from_source) all_own copies (items_of (now_truth ++ rest)) takes both_with plain_with table key
+      ∙ ap (λ (l : List Held). live l table key) (sym items_with)
+
+  -- ---- what the source told
+
+  at_term : ((v.handovers source row.tablet).term ≡ row.term) × (taker.term ≡ row.term)
+  at_term = in_phase (λ p. KeepTerm p (λ q. (v.handovers q row.tablet).term) row.term) row_was.at_term
+
+  abbrev given : Handed
+  given = record { floor = (v.handovers source row.tablet).counter; ends = ends_of (v.completions source row.tablet) }
+
+  given_is : get v.handed row.tablet ≡ Some given
+  given_is =
+      in_phase (λ p. HandedFits row v.handovers v.completions v.handed (lineage_of p)) row_was.handed_on
+      (may.term_is ∙ sym at_term.0)
+
+  beginning_is : beginning_of taker given ≡ beginning_in row given
+  beginning_is i = entries.Carried (record { range = range_is i; term = may.term_is i; floor = given.floor; ends = given.ends })
+
+  -- the target has in its log what the source told, and has applied it
+  begins : Contains now_truth (beginning_in row given)
+  begins =
+      let told_of : IfSome (get v.handed row.tablet) (λ h. Contains (drop dfrom (take at.place w.entries)) (beginning_of taker h)) =
+      in_role
+      (λ r. IfSome (get v.handed row.tablet) (λ h. Contains (drop dfrom (before_closing (joined_place r) w.entries)) (beginning_of taker h)))
+      target_is.told in
+      let stands : Contains (drop dfrom (take at.place w.entries)) (beginning_of taker given) =
+      subst (λ (o : Option Handed). IfSome o (λ h. Contains (drop dfrom (take at.place w.entries)) (beginning_of taker h))) given_is told_of in
+      let less : at.place < w.applied = at.within in
+      rw (← beginning_is) (mine_stands (beginning_of taker given)
+      (entry_stands row.range w.marks w.sides dfrom w.applied w.entries closing at.place log (beginning_of taker given)
+      (longer_stands dfrom at.place w.applied w.entries (beginning_of taker given) (omega (arith, less)) stands)
+      (ap (λ (range : Range). has_all range row.range) range_is ∙ has_itself row.range)))
+
+  -- so its own entries tell what they tell behind that
+  abbrev behind_given : List Entry
+  behind_given = beginning_in row given ∷ mine
+
+  given_stands : (entry : Entry) → Contains behind_given entry → Contains now_truth entry
+  given_stands entry stands =
+      ⊎_elim (λ (is : beginning_in row given ≡ entry). rw (← is) begins) (λ (later : Contains mine entry). mine_stands entry later)
+      (stands_cases (beginning_in row given) mine entry stands)
+
+  -- what is said of a row that moves is said of its target
+  of_target : (P : List Entry → Type 0) → IfSome (target_truth v.written v.handed row row.phase) P → P behind_given
+  of_target P said =
+      subst (λ (o : Option (List Entry)). IfSome o P) (ap (option_map (λ h. beginning_in row h ∷ mine)) given_is) (in_phase (λ p. IfSome (target_truth v.written v.handed row p) P) said)
+
+  key_stands : (table : ℕ) (key : List ℕ) (entry : Entry) → Contains (of_key table key behind_given) entry → Contains (of_key table key now_truth) entry
+  key_stands table key = kept_among (tells_of table key) behind_given now_truth given_stands
+
+  ends : TellAll row.range v.journal now_truth
+  ends k d within inside mutates =
+      let call : Call = (slice_index_or v.journal k d).call in
+      let reached = of_target (TellAll row.range v.journal) row_was.moving k d within inside mutates in
+      record {
+        end = reached.end;
+        stands =
+            flat_among told_by (of_key call.table call.key behind_given) (of_key call.table call.key now_truth) (key_stands call.table call.key)
+            reached.end reached.stands;
+        reaches = reached.reaches;
+      }
+
+  low : AreAboveMap row.range (map_after (base_map v.base) v.journal) now_truth
+  low table key inside =
+      let below =
+      of_target (AreAboveMap row.range (map_after (base_map v.base) v.journal))
+      row_was.low_moving table key inside in
+      let more = floor_among (of_key table key behind_given) (of_key table key now_truth) (key_stands table key) in
+      omega (arith, below, more)
+
+  -- ---- so it tells all
+
+  pub history : TellHistory v.base row.range now_truth rest v.journal v.asked
+  history = record {
+    leaves = record {
+      plain = plain_fewer (items_of now_truth) (items_of old_truth) (flat_among items_in now_truth old_truth now_stands) was.leaves.plain;
+      live = λ table key inside. live_now table key ∙ was.leaves.live table key inside;
+    };
+    above =
+        above_fewer (items_of now_truth) (items_of old_truth) (items_of rest) (flat_among items_in now_truth old_truth now_stands) was.above;
+    ends = ends;
+    known =
+        all_by (IsKnown v.base v.journal) (told now_truth)
+        (λ end stands.
+        All-contains (IsKnown v.base v.journal) (told old_truth) end was.known (flat_among told_by now_truth old_truth now_stands end stands));
+    low = low;
+    goes_on =
+        assumption
+        (λ (table : ℕ) (key : List ℕ) (inside : has_key row.range table key ≡ true). live_with table key ∙ was.goes_on.live table key inside, was.goes_on);
+  }
+
+  pub floor : floor_of (now_truth ++ rest) ≤ floor_of (truths v row ++ rests v row)
+  floor =
+      rw may.phase_is (floor_among (now_truth ++ rest) (old_truth ++ rest)
+      (λ entry stands.
+      ⊎_elim (λ (applied : Contains now_truth entry). Contains-append_left old_truth rest entry (now_stands entry applied))
+      (λ (staged : Contains rest entry). Contains-append_right old_truth rest entry staged)
+      (Contains-append_cases now_truth rest entry stands)))
+
+  -- ---- its records
+
+  mine_plain : IsPlain (items_of mine)
+  mine_plain =
+      plain_fewer (items_of mine) (items_of old_truth)
+      (flat_among items_in mine old_truth (λ entry stands. now_stands entry (mine_stands entry stands))) was.leaves.plain
+
+  pub table_is : IsTableOf row.range mine (v.records target)
+  table_is =
+      table_over row.range (items_of mine) (v.records target)
+      (record {
+        plain = mine_plain;
+        order = sound.records.ordered target;
+        come = λ x stands inside.
+            ⊎_elim (λ (its : Contains own x). both.has_own x its) (λ (copy : Contains copies x). both.has_copied x copy)
+            (received.come x stands inside);
+        found = λ x stands.
+            ⊎_elim (λ (its : Contains own x). received.found x (inl its))
+            (λ (copy : Contains copies x). received.found x (inr (received.within x copy, arrived x)))
+            (both.from x stands);
+      })
+
+  -- ---- the target owns the row
+
+  abbrev owned : Phase
+  owned = Owned target dfrom
+
+  abbrev new : Row
+  new = row_at row row.term owned
 
   -- ---- posts
 
@@ -62,26 +424,15 @@ module _ (v : View) (row : Row) (source sfrom target dfrom : ℕ) (sound : Sound
   fits_by : (q : ℕ) (a b : Bool) → eqb target q ≡ b
       → FitsPost q (cond a MovingSource (cond b (MovingTarget dfrom) Bystander))
       → FitsPost q (cond b (Owner dfrom) Bystander)
-  fits_by q a true its was =
-      target_owns (v.handovers q row.tablet).role dfrom row.term (v.handovers q row.tablet).term (v.written q).applied (joined_by q its)
-      (term_by q its)
-  fits_by q true false its was =
-      source_rests (v.handovers q row.tablet).role row.term (v.handovers q row.tablet).term (v.written q).applied was
-  fits_by q false false its was = was
+  fits_by q a b its held = grind (arith, target_owns, joined_by, term_by, source_rests)
 
   fits : (q : ℕ) → StillCounts (v.live q) (v.handovers q row.tablet).term row.term → RoleFits new q (v.handovers q row.tablet) (v.written q).applied
-  fits q counting =
-      fits_by q (eqb source q) (eqb target q) refl
-      (in_phase (λ p. FitsPost q (post_of p q))
-      (row_was.fitting q counting))
+  fits q counting = grind (arith, fits_by, eqb, in_phase, post_of, row_was)
 
   speaks_by : (q : ℕ) (a b : Bool) → eqb target q ≡ b
       → speaks (cond b (Owner dfrom) Bystander) (v.handovers q row.tablet) row.term ≡ true
       → speaks (cond a MovingSource (cond b (MovingTarget dfrom) Bystander)) (v.handovers q row.tablet) row.term ≡ true
-  speaks_by q true true its says = joined_serves (v.handovers q row.tablet).role (v.written q).applied (joined_by q its)
-  speaks_by q false true its says = joined_serves (v.handovers q row.tablet).role (v.written q).applied (joined_by q its)
-  speaks_by q true false its says = says
-  speaks_by q false false its says = says
+  speaks_by q a b its says = grind (arith, joined_serves, joined_by)
 
   speaks_no_more : (q : ℕ) → speaks (post_of owned q) (v.handovers q row.tablet) row.term ≡ true → speaks (post_of row.phase q) (v.handovers q row.tablet) row.term ≡ true
   speaks_no_more q says =
@@ -90,40 +441,22 @@ module _ (v : View) (row : Row) (source sfrom target dfrom : ℕ) (sound : Sound
 
   -- the owner has all items
   full_by : (q : ℕ) (b : Bool) → eqb target q ≡ b → has_all_items (cond b (Owner dfrom) Bystander) (v.handovers q row.tablet) row.term ≡ true → HasItems new v.written (v.records q)
-  full_by q true its has = rw (← eqb-true target q its) (table_is v row source sfrom target dfrom sound some may)
+  full_by q true its has = rw (← eqb-true target q its) table_is
   full_by q false its has = absurd (false≢true has)
 
   -- ---- members
 
   members : MembersAgree v new v.handed
-  members = record {
-    placed =
+  members =
+      assumption (
         All-tail (IsPlaced v.written) (member_at source sfrom) (last ∷ [])
-        (in_phase (λ p. All (IsPlaced v.written) (lineage_of p)) row_was.placed);
-    done = tt;
-    unnamed = unnamed v row source sfrom target dfrom sound some may;
-    named = tt;
-    target = tt;
-    handed_on = tt;
-  }
+            (in_phase (λ p. All (IsPlaced v.written) (lineage_of p)) row_was.placed),
+        unnamed,
+      )
 
   pub may_be_owned : MayTakeLineage v row owned v.handed
-  may_be_owned = record {
-    has_row = may.has_row;
-    passes =
-        inr
-        (record { source = source; sfrom = sfrom; target = target; dfrom = dfrom; was = may.phase_is; is = refl });
-    at_term = tt;
-    fits = fits;
-    speaks = λ q counting. speaks_no_more q;
-    full = λ q lives has. full_by q (eqb target q) refl has;
-    history = history v row source sfrom target dfrom sound some may;
-    floor = floor v row source sfrom target dfrom sound some may;
-    members = members;
-    left = record { ends = tt; low = tt; granted = tt };
-    last = inl (sym (ap (λ (p : Phase). last_of (lineage_of p)) may.phase_is));
-    others = λ tablet apart. refl;
-  }
+  may_be_owned =
+      grind (arith, was, at_term, fits, speaks, speaks_no_more, full_by, eqb, history, floor, members, ends, low, last_of, lineage_of)
 
   pub view_joined_taken : SoundView (lineage_taken v new v.handed)
   view_joined_taken = view_lineage_taken v row owned v.handed sound may_be_owned

@@ -1,32 +1,163 @@
--- What messages say of a row, and hand over for it, where that takes another phase at its term.
-use Rattle.std.proofs.Common.{◌≡◌, ℕ, ◌<◌, ◌≤◌, true, false, ◌&&◌, eqb, List, ◌∷◌, [], Some, None, refl, sym, ap, ◌∙◌, ⊎_elim, arith}
-use Rattle.std.proofs.Common.{eqb-true}
-use Rattle.rk_inv_base.proofs.Words.{and_left, and_parts, and_right, cases_Bool, cond-false, false_from_ne_true, false≢true, NumberMap, get}
-use Rattle.rk_inv_base.proofs.Words.{Member, Node, lineage_of, Phase, Row, Grant, Prepare, Tenure, Body, Got, Pulled, Rebuild, Handed}
-use Rattle.rk_inv_base.proofs.Words.{is_member, second_of, handed_by, is_opening, is_waiting_at, is_wanting, second_has, SaysOf, IsOf}
-use Rattle.rk_inv_base.proofs.Words.{IsOfTarget, PrepareFits, CloseFits, OwnFits, ReleaseFits, RebuildFits, AfterMove, AsksFor, GrantAgrees}
-use Rattle.rk_inv_base.proofs.Words.{AskAgrees, PulledAgrees, GotAgrees, IsClosing, IsOnlyRebuilder, post_of, row_at, IsWithinTerm}
-use Rattle.rk_inv_base.proofs.Words.{SentFits, View}
-use Rattle.rk_inv_rows.proofs.Words.{differ, if_master, by_master}
+-- A row takes another phase at its own term: what is known of both phases then, what each message says of the row, and that a view in
+-- which the tablet passes on stays sound.
+use Rattle.std.proofs.Common.{◌≡◌, ℕ, Bool, true, false, ◌||◌, cond, eqb, List, ◌∷◌, Option, Some, refl, sym, ap, subst, ◌∙◌, ⊎_elim, inl}
+use Rattle.std.proofs.Common.{◌⊎◌, eq-eqb, eqb-true, Contains, ◌≤◌, ◌&&◌, [], None, arith, ◌++◌, IfSome}
+use Rattle.rk_inv_base.proofs.Words.{false≢true, or_right, NumberMap, Ended, Member, Node, Completions, Handover, Role, lineage_of, Phase}
+use Rattle.rk_inv_base.proofs.Words.{Owned, Opening, Moving, Rebuilding, Row, Grant, Transfer, CopySegment, ReadSegment, Rebuilt, Handed}
+use Rattle.rk_inv_base.proofs.Words.{is_member, names, is_opening, is_wanting, HasSource, HasLineage, IsClosing, IsOnlyRebuilder, IsOwnedBy}
+use Rattle.rk_inv_base.proofs.Words.{IsOwnedByOther, IsOwner, IsRebuiltBy, IsMovingOrOwned, GrantIn, ReadyIn, TransferIn, JoinedIn}
+use Rattle.rk_inv_base.proofs.Words.{RebuiltIn, ReadIn, CopyIn, InvitedTarget, MovingSource, MovingTarget}
+use Rattle.rk_inv_base.proofs.Words.{Owner, Bystander, Post, Holds, bond_of, post_of, KeepTerm, IsFormed, View, SoundView, and_left}
+use Rattle.rk_inv_base.proofs.Words.{and_parts, and_right, cases_Bool, cond-false, false_from_ne_true, get, Prepare, Tenure, Body, Got}
+use Rattle.rk_inv_base.proofs.Words.{Pulled, Rebuild, second_of, handed_by, is_waiting_at, second_has, SaysOf, IsOf, IsOfTarget}
+use Rattle.rk_inv_base.proofs.Words.{PrepareFits, CloseFits, OwnFits, ReleaseFits, RebuildFits, AfterMove, AsksFor, GrantAgrees, AskAgrees}
+use Rattle.rk_inv_base.proofs.Words.{PulledAgrees, GotAgrees, row_at, IsWithinTerm, SentFits, IfSome_then, Call, changed_rows, Message}
+use Rattle.rk_inv_base.proofs.Words.{last_of, AreHandedOver, IsNext, handed_for_grant, RowIsRebuilt, Waits, truths, rests}
+use Rattle.rk_inv_rows.proofs.Words.{member as member_at, MayTakeLineage, differ, if_master, by_master, turned as changed, of_waiting}
+use Rattle.rk_inv_rows.proofs.Words.{view_replaced, stands_found, row_in, SoundRow, lineage_taken}
+use Rattle.rk_inv_rows.specs.lineage.Passing.{PassesOn}
+use Rattle.rk_inv_rows.proofs.lineage.Histories.{range_at}
+use Rattle.rk_transfer.specs.declared.role.Role.TheVariants as roles
 use Rattle.rk_message.specs.declared.message.Body.TheVariants as bodies
-use Rattle.rk_inv_rows.proofs.lineage.Passing.{HasPassed}
+
+-- this holds wherever a row begins to move, and wherever it has moved
+abbrev pub WhereBegun : (Phase → Phase → Type 0) → Type 0
+WhereBegun P = (source sfrom target dfrom : ℕ) → P (Opening source sfrom target (Some dfrom)) (Moving source sfrom target dfrom)
+
+abbrev pub WhereMoved : (Phase → Phase → Type 0) → Type 0
+WhereMoved P = (source sfrom target dfrom : ℕ) → P (Moving source sfrom target dfrom) (Owned target dfrom)
+
+-- then it holds where a row passes on
+pub passes_by : (P : Phase → Phase → Type 0) (old new : Phase) → WhereBegun P → WhereMoved P → PassesOn old new → P old new
+passes_by P old new begins ends passes = grind arith
+
+-- ---- what is known
+
+-- a row took another phase at its term. Nobody owned it, no target was invited, and who was to act for it keeps the row's term; a second
+-- member keeps it too, where the row had not moved
+pub record HasPassed (v : View) (row : Row) (old new : Phase) : Type 0 where
+  pub formed : IsFormed old → IsFormed new
+  pub named : (q : ℕ) → names new q ≡ true → names old q ≡ true
+  pub member :
+      (q : ℕ) → is_member (lineage_of new) q ≡ true
+      → (is_member (lineage_of old) q ≡ true) ⊎ ((v.handovers q row.tablet).term ≡ row.term)
+  pub second :
+      (source target : Member) (more : List Member) → lineage_of new ≡ source ∷ target ∷ more
+      → (IsMovingOrOwned old → ⊥) × ((v.handovers target.master row.tablet).term ≡ row.term)
+  pub invited : (q : ℕ) → post_of old q ≡ InvitedTarget → ⊥
+  pub owned : (q : ℕ) → IsOwnedBy old q → ⊥
+  pub released : (q : ℕ) → IsOwnedByOther old q → ⊥
+  pub closing : (q : ℕ) → IsClosing old q → (v.handovers q row.tablet).term ≡ row.term
+  pub rebuilds : (q : ℕ) → IsRebuiltBy old q → (v.handovers q row.tablet).term ≡ row.term
+  pub only : (q : ℕ) → IsOnlyRebuilder (post_of old q) → (v.handovers q row.tablet).term ≡ row.term
+  pub owner :
+      (q : ℕ) → IsOwner (post_of old q) (v.handovers q row.tablet).term row.term → (v.handovers q row.tablet).term ≡ row.term
+  pub granted :
+      (q : ℕ) (given : Option Handed) (grant : Grant) → v.live q ≡ true → is_wanting (v.handovers q row.tablet).role ≡ true
+      → GrantIn (lineage_of old) given q grant → ⊥
+  pub source : (q : ℕ) → HasSource old q → HasSource new q
+  pub moved : IsMovingOrOwned new
+  pub opens_not : is_opening new ≡ false
+  pub lineage : (members : List Member) → HasLineage new members
+  pub ready : (h : Handover) (q place : ℕ) → ReadyIn new h row.term q place
+  pub transfer : (h : Handover) (kept : Completions) (q : ℕ) (transfer : Transfer) → TransferIn new h kept row.term q transfer
+  pub joined : (h : Handover) (applied q : ℕ) → JoinedIn old h applied row.term q → JoinedIn new h applied row.term q
+  pub rebuilt :
+      (q : ℕ) (ends : List Ended) (report : Rebuilt)
+      → RebuiltIn old (v.handovers q row.tablet) ends (v.written q).applied row.term q report
+      → RebuiltIn new (v.handovers q row.tablet) ends (v.written q).applied row.term q report
+  pub read : (to : Node) (read : ReadSegment) → ReadIn new v.live to read
+  pub copy : (x : Row) (copy : CopySegment) → CopyIn x new v.logs v.written v.stored v.live copy
+
+-- ---- a tablet that passes on
+
+-- what holds of either post holds of one that is chosen by a test
+post_by : (P : Post → Type 0) (a b : Bool) (one other third : Post) → P one → P other → P third → P (cond a one (cond b other third))
+post_by P a b one other third first second last = grind arith
+
+-- an owner does not wait for a grant
+owner_wants : (place term own applied : ℕ) (role : Role) → Holds (bond_of (Owner place) role) term own applied → is_wanting role ≡ true → ⊥
+owner_wants place term own applied (roles.Wanting from) fits wants = fits
+owner_wants place term own applied role fits wants = false≢true wants
+
+module _ (v : View) (row : Row) where
+  abbrev terms : ℕ → ℕ
+  terms q = (v.handovers q row.tablet).term
+
+  -- what a living master has fits its post in a phase
+  abbrev LivingFit : Phase → Type 0
+  LivingFit phase = (q : ℕ) → v.live q ≡ true → Holds (bond_of (post_of phase q) (v.handovers q row.tablet).role) row.term (terms q) (v.written q).applied
+
+  abbrev Passed : Phase → Phase → Type 0
+  Passed old new = KeepTerm new terms row.term → LivingFit new → HasPassed v row old new
+
+  begun : WhereBegun Passed
+  begun source sfrom target dfrom at fits = grind (arith, eqb, member_at, post_by, eqb-true)
+
+  moved : WhereMoved Passed
+  moved source sfrom target dfrom at fits = record {
+    formed = λ formed. tt;
+    named = λ q there. or_right (eqb source q) (eqb target q) there;
+    member = λ q inside. inl (or_right (eqb source q) (eqb target q || false) inside);
+    second = λ first last more is. absurd (cc is);
+    invited = λ q.
+        post_by (λ post. post ≡ InvitedTarget → ⊥) (eqb source q) (eqb target q) MovingSource (MovingTarget dfrom) Bystander
+        (λ is. absurd (cc is)) (λ is. absurd (cc is)) (λ is. absurd (cc is));
+    owned = λ q none. none;
+    released = λ q none. none;
+    closing = λ q none. absurd none;
+    rebuilds = λ q none. absurd none;
+    only = λ q.
+        post_by (λ post. IsOnlyRebuilder post → terms q ≡ row.term) (eqb source q) (eqb target q) MovingSource (MovingTarget dfrom) Bystander
+        (λ none. absurd none) (λ none. absurd none) (λ none. absurd none);
+    owner = λ q.
+        post_by (λ post. IsOwner post (terms q) row.term → terms q ≡ row.term) (eqb source q) (eqb target q) MovingSource (MovingTarget dfrom)
+        Bystander (λ none. absurd none) (λ none. absurd none) (λ none. absurd none);
+    granted = λ q given grant lives wants granted.
+        let h : Handover = v.handovers q row.tablet in
+        owner_wants dfrom row.term h.term (v.written q).applied h.role
+        (subst (λ (b : Bool). Holds (bond_of (cond b (Owner dfrom) Bystander) h.role) row.term h.term (v.written q).applied)
+        (eq-eqb target q granted.0) (fits q lives)) wants;
+    source = λ q has. tt;
+    moved = tt;
+    opens_not = refl;
+    lineage = λ members. tt;
+    ready = λ h q place. tt;
+    transfer = λ h kept q transfer. tt;
+    joined = λ h applied q told. told.0;
+    rebuilt = λ q ends report none. absurd none;
+    read = λ to read. tt;
+    copy = λ x copy. tt;
+  }
+
+  -- a row that may take another lineage has passed
+  pub has_passed : (phase : Phase) (handed : NumberMap Handed) → MayTakeLineage v row phase handed → HasPassed v row row.phase phase
+  has_passed phase handed may = passes_by Passed row.phase phase begun moved may.passes may.at_term (λ q lives. may.fits q (inl lives))
+
+-- a member of its lineage now has its range: it was one, or keeps its term
+pub member_range : (v : View) (row : Row) (phase : Phase) → SoundView v → Contains v.rows row → HasPassed v row row.phase phase → (q : ℕ) → (is_member (lineage_of row.phase) q ≡ true → (v.handovers q row.tablet).range ≡ row.range) → is_member (lineage_of phase) q ≡ true → (v.handovers q row.tablet).range ≡ row.range
+member_range v row phase sound has passed q was inside = ⊎_elim was (range_at v sound row has q) (passed.member q inside)
+
+-- no living master rebuilt it
+pub none_rebuilt_by : (old new : Phase) (master : ℕ) → PassesOn old new → IsRebuiltBy old master → ⊥
+none_rebuilt_by old new master =
+    passes_by (λ was is. IsRebuiltBy was master → ⊥) old new (λ source sfrom target dfrom by. by) (λ source sfrom target dfrom by. by)
+
+pub never_rebuilt : (old new : Phase) → PassesOn old new → (lineage : List Member) (to : ℕ) → old ≡ Rebuilding lineage to → ⊥
+never_rebuilt old new =
+    passes_by (λ was is. (lineage : List Member) (to : ℕ) → was ≡ Rebuilding lineage to → ⊥) old new
+    (λ source sfrom target dfrom lineage to is. absurd (cc is)) (λ source sfrom target dfrom lineage to is. absurd (cc is))
 
 -- what is asked for a row is not above its term
 pub asked_within : (row : Row) (order : Prepare) → SentFits row (bodies.Prepare order) → AsksFor order row → order.tenure.term ≤ row.term
-asked_within row order fits asks =
-    ⊎_elim (λ (its : order.tenure.tablet ≡ row.tablet). fits.within (sym its))
-    (λ meeting.
-    ⊎_elim (λ (same : eqb row.tablet order.tenure.tablet ≡ true). fits.within (eqb-true row.tablet order.tenure.tablet same))
-    (λ (other : eqb row.tablet order.tenure.tablet ≡ false).
-    let below : order.tenure.term < row.term = fits.below (differ row.tablet order.tenure.tablet other) meeting in omega (arith, below))
-    (cases_Bool (eqb row.tablet order.tenure.tablet))) asks
+asked_within row order fits asks = grind (arith, eqb, eqb-true, differ, cases_Bool)
 
 module _ (v : View) (row : Row) (phase : Phase) (handed : NumberMap Handed) (passed : HasPassed v row row.phase phase) where
   abbrev new : Row
   new = row_at row row.term phase
 
-  abbrev terms : ℕ → ℕ
-  terms q = (v.handovers q row.tablet).term
+  abbrev its_terms : ℕ → ℕ
+  its_terms q = (v.handovers q row.tablet).term
 
   -- a message is of the new row where it was of the old one
   was_of : (tenure : Tenure) → IsOf new tenure → IsOf row tenure
@@ -35,75 +166,32 @@ module _ (v : View) (row : Row) (phase : Phase) (handed : NumberMap Handed) (pas
   -- ---- orders
 
   prepare : (q : ℕ) (order : Prepare) → SentFits row (bodies.Prepare order) → PrepareFits row (v.handovers q row.tablet) (v.live q) q order → PrepareFits new (v.handovers q row.tablet) (v.live q) q order
-  prepare q order sent fits = record {
-    range = λ is. fits.range (was_of order.tenure is);
-    invited = λ is lives below. absurd (passed.invited q (fits.invited (was_of order.tenure is) lives below));
-    members = λ asks lives inside.
-        ⊎_elim (λ (before : is_member (lineage_of row.phase) q ≡ true). fits.members asks lives before)
-        (λ (at : terms q ≡ row.term). let low = asked_within row order sent asks in omega (arith, low, at)) (passed.member q inside);
-  }
+  prepare q order sent fits = grind (arith, was_of, is_member, lineage_of, asked_within)
 
   close : (q : ℕ) (tenure : Tenure) → CloseFits row (v.handovers q row.tablet) (v.live q) q tenure → CloseFits new (v.handovers q row.tablet) (v.live q) q tenure
-  close q tenure fits = record {
-    source = λ is. passed.source q (fits.source (was_of tenure is));
-    may_follow = λ its lives below.
-        absurd
-        (⊎_elim
-        (λ (asked : (tenure.term ≡ row.term) × IsClosing row.phase q).
-        let at : tenure.term ≡ row.term = asked.0 in let own = passed.closing q asked.1 in omega (arith, below, at, own))
-        (λ (heir : (tenure.term < row.term) × IsOnlyRebuilder (post_of row.phase q)).
-        let less : tenure.term < row.term = heir.0 in let own = passed.only q heir.1 in omega (arith, below, less, own))
-        (fits.may_follow its lives below));
-  }
+  close q tenure fits = grind (arith, was_of, post_of)
 
   own : (q : ℕ) (tenure : Tenure) → OwnFits row (v.handovers q row.tablet) (v.live q) q tenure → OwnFits new (v.handovers q row.tablet) (v.live q) q tenure
-  own q tenure fits = record {
-    owned = λ is. absurd (passed.owned q (fits.owned (was_of tenure is)));
-    reached = fits.reached;
-    owner = λ its lives at.
-        let same : terms q ≡ row.term = passed.owner q (fits.owner its lives at) in
-        absurd (passed.owned q (fits.owned (record { tablet = its; term = sym at ∙ same })));
-  }
+  own q tenure fits = grind (arith, was_of)
 
   release : (q : ℕ) (tenure : Tenure) → IsWithinTerm row tenure.tablet tenure.term → ReleaseFits row (v.handovers q row.tablet) (v.live q) q tenure → ReleaseFits new (v.handovers q row.tablet) (v.live q) q tenure
-  release q tenure low fits = record {
-    owned = λ is. absurd (passed.released q (fits.owned (was_of tenure is)));
-    outside = λ its lives reached.
-        false_from_ne_true (is_member (lineage_of phase) q)
-        (λ inside.
-        ⊎_elim
-        (λ (before : is_member (lineage_of row.phase) q ≡ true). false≢true (sym (fits.outside its lives reached) ∙ before))
-        (λ (at : terms q ≡ row.term).
-        let within = low (sym its) in
-        passed.released q (fits.owned (record { tablet = its; term = omega (arith, within, reached, at) })))
-        (passed.member q inside));
-  }
+  release q tenure low fits = grind (arith, was_of, false_from_ne_true, is_member, lineage_of, false≢true)
 
   rebuild : (q : ℕ) (order : Rebuild) → RebuildFits row (v.handovers q row.tablet) (v.live q) q order → RebuildFits new (v.handovers q row.tablet) (v.live q) q order
-  rebuild q order fits = record {
-    range = λ is. fits.range (was_of order.tenure is);
-    lineage = λ is. passed.lineage order.lineage;
-    ordered = λ its lives below.
-        let asked = fits.ordered its lives below in
-        let at : order.tenure.term ≡ row.term = asked.0 in
-        let own = passed.rebuilds q asked.1 in absurd (omega (arith, at, own, below));
-  }
+  rebuild q order fits = grind (arith, was_of, own)
 
   -- ---- between source and target
 
   grant_agrees : (q : ℕ) (grant : Grant) → GrantAgrees row (v.handovers q row.tablet) (v.live q) (get v.handed row.tablet) q grant → GrantAgrees new (v.handovers q row.tablet) (v.live q) (get handed row.tablet) q grant
-  grant_agrees q grant agrees = record {
-    reached = agrees.reached;
-    told = λ its lives at wants. absurd (passed.granted q (get v.handed row.tablet) grant lives wants (agrees.told its lives at wants));
-  }
+  grant_agrees q grant agrees = grind arith
 
   -- a message that a target would take stands only where the row moved before, and then its target is no longer the second member
-  never : (source target : Member) (more : List Member) → lineage_of phase ≡ source ∷ target ∷ more → (tenure : Tenure) → AfterMove row tenure → tenure.tablet ≡ row.tablet → tenure.term ≡ terms target.master → ⊥
+  never : (source target : Member) (more : List Member) → lineage_of phase ≡ source ∷ target ∷ more → (tenure : Tenure) → AfterMove row tenure → tenure.tablet ≡ row.tablet → tenure.term ≡ its_terms target.master → ⊥
   never source target more is tenure after its at =
       let both = passed.second source target more is in both.0 (after (record { tablet = its; term = at ∙ both.1 }))
 
   of_target : (source target : Member) → lineage_of phase ≡ source ∷ target ∷ [] → (q : ℕ) (tenure : Tenure) → AfterMove row tenure → target.master ≡ q → IsOfTarget new (v.handovers q row.tablet) tenure → ⊥
-  of_target source target is q tenure after here its = never source target [] is tenure after its.tablet (its.term ∙ ap terms (sym here))
+  of_target source target is q tenure after here its = never source target [] is tenure after its.tablet (its.term ∙ ap its_terms (sym here))
 
   asks : (lineage : List Member) → lineage_of phase ≡ lineage → (q : ℕ) (to : Node) (tenure : Tenure) → AfterMove row tenure → AskAgrees new v.handovers lineage q to tenure
   asks (source ∷ target ∷ []) is q to tenure after = λ here its. absurd (of_target source target is q tenure after here its)
@@ -124,42 +212,8 @@ module _ (v : View) (row : Row) (phase : Phase) (handed : NumberMap Handed) (pas
 
   -- what a message says of the row it says of the new one
   pub says : (from to : Node) (body : Body) → SentFits row body → SaysWith row v.handed from to body → SaysWith new handed from to body
-  says from to (bodies.Prepare order) fits said = if_master to _ _ (λ q. prepare q order fits) said
-  says from to (bodies.Ready told) fits said =
-      by_master from _ _ (λ q ready is. passed.ready (v.handovers q row.tablet) q told.place) said
-  says from to (bodies.Close tenure) fits said = if_master to _ _ (λ q. close q tenure) said
-  says from to (bodies.Transfer transfer) fits said =
-      by_master from _ _ (λ q told is. passed.transfer (v.handovers q row.tablet) (v.completions q row.tablet) q transfer) said
-  says from to (bodies.Grant grant) fits said = (
-    λ is. passed.moved,
-    if_master to _ _ (λ q. grant_agrees q grant) said.1,
-  )
-  says from to (bodies.Pull pull) fits said = (
-    λ is. passed.moved,
-    by_master from _ _ (λ q agrees. asks (lineage_of phase) refl q to pull.tenure said.0) said.1,
-  )
-  says from to (bodies.Pulled message) fits said = (
-    λ is. passed.moved,
-    if_master to _ _ (λ q agrees. pulled (lineage_of phase) refl from q message said.0) said.1,
-  )
-  says from to (bodies.Want want) fits said = (
-    λ is. passed.moved,
-    by_master from _ _ (λ q agrees. asks (lineage_of phase) refl q to want.tenure said.0) said.1,
-  )
-  says from to (bodies.Got message) fits said = (
-    λ is. passed.moved,
-    if_master to _ _ (λ q agrees. got (lineage_of phase) refl from q message said.0) said.1,
-  )
-  says from to (bodies.Joined tenure) fits said =
-      by_master from _ _ (λ q told is. passed.joined (v.handovers q row.tablet) (v.written q).applied q (told (was_of tenure is))) said
-  says from to (bodies.Own tenure) fits said = if_master to _ _ (λ q. own q tenure) said
-  says from to (bodies.Release tenure) fits said = if_master to _ _ (λ q. release q tenure fits.within) said
-  says from to (bodies.Rebuild order) fits said = if_master to _ _ (λ q. rebuild q order) said
-  says from to (bodies.Read read) fits said = λ is. passed.read to read
-  says from to (bodies.Copy copy) fits said = λ is. passed.copy new copy
-  says from to (bodies.Rebuilt rebuilt) fits said =
-      by_master from _ _ (λ q told is. passed.rebuilt q (v.merged q row.tablet) rebuilt (told (was_of rebuilt.tenure is))) said
-  says from to body fits said = said
+  says from to body fits said =
+      grind (arith, if_master, prepare, by_master, close, moved, grant_agrees, asks, lineage_of, pulled, got, was_of, own, release, rebuild)
 
   -- ---- what is handed over
 
@@ -167,21 +221,103 @@ module _ (v : View) (row : Row) (phase : Phase) (handed : NumberMap Handed) (pas
   none_waits : (lineage : List Member) → lineage_of phase ≡ lineage → (tenure : Tenure) → AfterMove row tenure → ((eqb tenure.tablet row.tablet) && is_waiting_at (second_has v.handovers new (second_of lineage)) tenure.term) ≡ false
   none_waits (source ∷ target ∷ more) is tenure after =
       let waits = is_wanting (v.handovers target.master row.tablet).role in
-      false_from_ne_true (eqb tenure.tablet row.tablet && (waits && eqb (terms target.master) tenure.term))
+      false_from_ne_true (eqb tenure.tablet row.tablet && (waits && eqb (its_terms target.master) tenure.term))
       (λ all.
-      let both = and_parts (eqb tenure.tablet row.tablet) (waits && eqb (terms target.master) tenure.term) all in
-      let parts = and_parts waits (eqb (terms target.master) tenure.term) both.1 in
+      let both = and_parts (eqb tenure.tablet row.tablet) (waits && eqb (its_terms target.master) tenure.term) all in
+      let parts = and_parts waits (eqb (its_terms target.master) tenure.term) both.1 in
       never source target more is tenure after (eqb-true tenure.tablet row.tablet both.0)
-      (sym (eqb-true (terms target.master) tenure.term parts.1)))
+      (sym (eqb-true (its_terms target.master) tenure.term parts.1)))
   none_waits _ is tenure after = and_right (eqb tenure.tablet row.tablet) false refl
 
   pub none_handed : (from to : Node) (body : Body) → SaysWith row v.handed from to body → handed_by new v.handovers body ≡ None
-  none_handed from to (bodies.Transfer transfer) said =
-      cond-false (is_opening phase && eqb transfer.tenure.tablet row.tablet && eqb transfer.tenure.term row.term)
-      (Some (record { floor = transfer.floor; ends = transfer.ends })) None
-      (and_left (is_opening phase && eqb transfer.tenure.tablet row.tablet) (eqb transfer.tenure.term row.term)
-      (and_left (is_opening phase) (eqb transfer.tenure.tablet row.tablet) passed.opens_not))
-  none_handed from to (bodies.Grant grant) said =
-      cond-false (eqb grant.tenure.tablet row.tablet && is_waiting_at (second_has v.handovers new (second_of (lineage_of phase))) grant.tenure.term)
-      (Some (record { floor = grant.floor; ends = grant.ends })) None (none_waits (lineage_of phase) refl grant.tenure said.0)
-  none_handed from to body said = refl
+  none_handed from to body said =
+      grind (arith, cond-false, is_opening, eqb, and_left, is_waiting_at, second_has, second_of, lineage_of, none_waits)
+
+module _ (v : View) (row : Row) (phase : Phase) (handed : NumberMap Handed) (sound : SoundView v) (may : MayTakeLineage v row phase handed) where
+  abbrev turned_row : Row
+  turned_row = row_at row row.term phase
+
+  abbrev now : View
+  now = lineage_taken v turned_row handed
+
+  was : SoundRow v row
+  was = row_in v sound row may.has_row
+
+  passed : HasPassed v row row.phase phase
+  passed = has_passed v row phase handed may
+
+  -- no message hands over for the row now
+  nothing_handed : (P : Handed → Type 0) (n : ℕ) (m : Message) → get v.wire n ≡ Some m → IfSome (handed_by turned_row v.handovers m.body) P
+  nothing_handed P n m there = rw (none_handed v row phase handed passed m.from m.to m.body (was.says n m there)) tt
+
+  -- a number is next behind what counts now, where it was
+  next_still : (number : ℕ) → IsNext (truths v row ++ rests v row) number → IsNext (truths v turned_row ++ rests v turned_row) number
+  next_still number next = let low = may.floor in omega (arith, low, next)
+
+  -- where another member is the last now, no call waits for the row
+  waits : (q n : ℕ) (call : Call) (wait : Waits v.rows (v.handovers q) (v.written q) q n call) → wait.row ≡ row → last_of (lineage_of phase) ≡ last_of (lineage_of row.phase)
+  waits q n call wait is =
+      ⊎_elim (λ (same : last_of (lineage_of phase) ≡ last_of (lineage_of row.phase)). same)
+      (λ (none : rests v row ≡ []).
+      absurd
+      (of_waiting (λ entry. ⊥) v.rows (v.handovers q) v.written q n call wait
+      (rw (is, none) (λ k d within. omega (arith, within))))) may.last
+
+  -- the row is not rebuilt
+  unrebuilt : RowIsRebuilt turned_row phase (truths v turned_row) v.logs v.written v.stored v.handovers v.completions v.gathers v.merged v.records v.live
+  unrebuilt = grind (arith, passes_by, was, truths)
+
+  holds : SoundRow now turned_row
+  holds = record {
+    named = λ q is. was.named q (passed.named q is);
+    begun = was.begun;
+    formed = passed.formed was.formed;
+    placed = may.members.placed;
+    sent = λ n m there. let fits = was.sent n m there in record { within = fits.within; below = fits.below };
+    fitting = may.fits;
+    ranged = λ q counting. member_range v row phase sound may.has_row passed q (was.ranged q counting);
+    at_term = may.at_term;
+    truth = may.history.leaves;
+    above = may.history.above;
+    reached = may.history.ends;
+    recorded = may.history.known;
+    moving = may.left.ends;
+    answering = λ q counting says. was.answering q counting (may.speaks q counting says);
+    ends_granted = IfSome_then (handed_for_grant turned_row v.handovers handed) may.left.granted (λ h both. both.0);
+    ends_sent = nothing_handed (λ h. AreHandedOver v.base row.range v.journal h.ends);
+    low = may.history.low;
+    low_moving = may.left.low;
+    counted = λ q counting says. next_still (v.handovers q row.tablet).counter (was.counted q counting (may.speaks q counting says));
+    floor_granted = IfSome_then (handed_for_grant turned_row v.handovers handed) may.left.granted (λ h both. both.1);
+    floor_sent = nothing_handed (λ h. IsNext (truths v turned_row ++ rests v turned_row) h.floor);
+    goes_on = may.history.goes_on;
+    done = may.members.done;
+    unnamed = may.members.unnamed;
+    idle = was.idle;
+    items = may.full;
+    target = may.members.target;
+    handed_on = may.members.handed_on;
+    named_items = may.members.named;
+    rebuilt = unrebuilt;
+    marks = λ q k d within its.
+        let rebuilt = (was.marks q k d within its).rebuilt in
+        absurd (never_rebuilt row.phase phase may.passes rebuilt.0 rebuilt.1 rebuilt.2);
+    pieces = was.pieces;
+    says = λ n m there. says v row phase handed passed m.from m.to m.body (was.sent n m there) (was.says n m there);
+  }
+
+  pub view_lineage_taken : SoundView now
+  view_lineage_taken =
+      view_replaced v row row.term phase handed sound
+      (record {
+        has_row = may.has_row;
+        kept = λ q number fits. record { within = fits.within; below = fits.below; exact = fits.exact };
+        given_up = λ q lives. none_rebuilt_by row.phase phase q may.passes;
+        waits = waits;
+        others = may.others;
+        holds = holds;
+      })
+
+  -- the rows of a lane after it
+  pub rows_after : changed_rows v.rows row.tablet row.term phase ≡ now.rows
+  rows_after = ap (λ (o : Option Row). changed o v.rows row.tablet row.term phase) (stands_found v.rows row sound.rows.apart may.has_row)

@@ -1,6 +1,6 @@
 -- Records that ends make: each is of the last call of its client, with a stamp above all before it and above what the client had seen.
-use Rattle.std.proofs.Common.{◌≡◌, ℕ, Bool, true, false, cond, ◌&&◌, eqb, List, [], ◌∷◌, ◌++◌, Option, Some, None, refl, sym, ap, subst}
-use Rattle.std.proofs.Common.{◌∙◌, ⊎_elim, arith, inl, append-nil, append_assoc, All, IfSome, length, not, slice_get}
+use Rattle.std.proofs.Common.{◌≡◌, ℕ, eqb, List, [], ◌∷◌, ◌++◌, Option, Some, refl, sym, ap, subst}
+use Rattle.std.proofs.Common.{◌∙◌, ⊎_elim, arith, inl, append-nil, append_assoc, All, IfSome, length, slice_get}
 use Rattle.rk_inv_base.proofs.Words.{false≢true, All-push, All-weaker, Ended, Placed, IsRisingAbove, lane_of_key, outcome_of, has_record}
 use Rattle.rk_inv_base.proofs.Words.{next_record, IsAfterStart, LastCall, IsLastCall, WasAsked, IsAfterSeen, View, AskedOf}
 use Rattle.rk_inv_rows.proofs.Words.{asked_still, got_cases, is_request_still, request_says_still, rising_push, made_by, made_of}
@@ -8,12 +8,7 @@ use Rattle.rk_inv_rows.proofs.Words.{asked_still, got_cases, is_request_still, r
 -- what each such record keeps, all of them keep
 module _ (asked : ℕ → Option LastCall) (P : List Placed → Type 0) (keeps : (journal : List Placed) (end : Ended) (last : LastCall) → asked end.client ≡ Some last → P journal → P (journal ++ next_record journal last.call (outcome_of end.end) last.seen ∷ [])) where
   one_keeps : (journal : List Placed) (end : Ended) (last : Option LastCall) → asked end.client ≡ last → P journal → P (journal ++ made_by journal end last)
-  one_keeps journal end None is was = subst P (sym (append-nil journal)) was
-  one_keeps journal end (Some last) is was = go ((eqb last.call.seq end.seq) && not (has_record journal end.client end.seq))
-    where
-      go : (b : Bool) → P (journal ++ cond b (next_record journal last.call (outcome_of end.end) last.seen ∷ []) [])
-      go true = keeps journal end last is was
-      go false = rw (append-nil journal) was
+  one_keeps journal end last is was = grind (arith, append-nil, eqb, has_record, next_record, outcome_of)
 
   pub made_keeps : (journal : List Placed) (ends : List Ended) → P journal → P (journal ++ made_of asked journal ends)
   made_keeps journal [] was = subst P (sym (append-nil journal)) was

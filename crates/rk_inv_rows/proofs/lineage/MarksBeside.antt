@@ -1,7 +1,8 @@
 -- What the invariant says of another row, of its lineage and of what is rebuilt and marked of it, stays where the marks of a tablet are
 -- taken away.
-use Rattle.std.proofs.Common.{◌≡◌, ℕ, ◌+◌, ◌≤◌, Bool, true, false, cond, ◌&&◌, eqb, List, [], ◌∷◌, ◌++◌, Option, Some, None, refl, sym, ap}
-use Rattle.std.proofs.Common.{subst, ◌∙◌, ⊎_elim, All, IfSome, drop, filter, nat_le, nat_lt, not, slice_get, take, Contains, option_map}
+use Rattle.std.proofs.Common.{arith}
+use Rattle.std.proofs.Common.{◌≡◌, ℕ, ◌+◌, ◌≤◌, Bool, true, false, cond, eqb, List, [], ◌∷◌, Option, Some, None, refl, sym, ap}
+use Rattle.std.proofs.Common.{◌∙◌, ⊎_elim, All, IfSome, drop, filter, nat_le, nat_lt, not, slice_get, take, Contains, option_map}
 use Rattle.std.proofs.Common.{eqb-true}
 use Rattle.rk_inv_base.proofs.Words.{and_parts, cases_Bool, false_from_ne_true, false≢true, All-contains, All-filter, All-weaker}
 use Rattle.rk_inv_base.proofs.Words.{IfSome_then, get, meets, Held, Member, Node, Range, Entry, Handover, lineage_of, Phase, Moving}
@@ -9,13 +10,12 @@ use Rattle.rk_inv_base.proofs.Words.{Rebuilding, Row, known_of, EntryEnd, Body, 
 use Rattle.rk_inv_base.proofs.Words.{unmarked, unmarked_from, touches, counting, counts, own_place, Written, member_material, member_truth}
 use Rattle.rk_inv_base.proofs.Words.{Mark, Merged, beginning_in, target_truth, stored_of, CopyIn, GotAgrees, PulledAgrees, SaysOf}
 use Rattle.rk_inv_base.proofs.Words.{HasOwnRange, IsMergedOf, IsOfRange, IsPieceOf, IsRebuilder, MarkFits, MarkedFit, NeededOf, NeedsEnd}
-use Rattle.rk_inv_base.proofs.Words.{READ_BACKUP, RowIsRebuilt, StandsLast, TellNoMore, marked_entries, member_given_up, member_marked}
+use Rattle.rk_inv_base.proofs.Words.{READ_BACKUP, RowIsRebuilt, StandsLast, marked_entries, member_given_up, member_marked}
 use Rattle.rk_inv_base.proofs.Words.{member_stored, merged_place, stored_count, IsTarget, MembersFit, NamedFit, FirstIsDone, IsDone}
 use Rattle.rk_inv_base.proofs.Words.{HasItems, IsTableOf, View, SoundView}
 use Rattle.rk_inv_rows.proofs.Words.{member as member_at, key_outside, all_by, apart_either, place_of, if_master, Misses, none_touches}
 use Rattle.rk_inv_rows.proofs.Words.{one_weaker, part_weaker, filter_stands, marks_taken}
 use Rattle.rk_entry.specs.declared.entry.Entry.TheVariants as entries
-use Rattle.rk_message.specs.declared.message.Body.TheVariants as bodies
 use Rattle.rk_outside.specs.Segments.{bytes_of as copied_bytes}
 use Rattle.rk_sound.specs.Rebuilds.{IsNeeded}
 use Rattle.rk_inv_rows.proofs.lineage.Among.{taken_from}
@@ -91,16 +91,7 @@ module _ (v : View) (row : Row) (sound : SoundView v) (has_row : Contains v.rows
       (v.pullings target.master other.tablet) (get v.handed other.tablet) (v.records target.master)
 
   target_as : (source target : Member) (truth material : List Entry) → TargetIn v.written source target truth material → TargetIn now.written source target truth material
-  target_as source target truth material is = record {
-    from_source = is.from_source;
-    workers = is.workers;
-    pulled = is.pulled;
-    received = is.received;
-    above = is.above;
-    told = is.told;
-    early = is.early;
-    closing = is.closing;
-  }
+  target_as source target truth material is = assumption is
 
   abbrev Members : (ℕ → Written) → List Member → Type 0
   Members written l = MembersFit other written v.handovers v.pullings v.records v.handed l
@@ -115,19 +106,10 @@ module _ (v : View) (row : Row) (sound : SoundView v) (has_row : Contains v.rows
 
   -- a mark of the row's tablet is none of the other's
   stays_if : (mark : Mark) → mark.tablet ≡ other.tablet → stays mark ≡ true
-  stays_if mark its =
-      ap not
-      (false_from_ne_true (is_mark_of row.tablet row.term mark)
-      (λ of.
-      let tablet = eqb-true mark.tablet row.tablet (and_parts (eqb mark.tablet row.tablet) (nat_le mark.term row.term) of).0 in
-      unlike (sym its ∙ tablet)))
+  stays_if mark its = grind (arith, false_from_ne_true, is_mark_of, eqb-true, and_parts, eqb, nat_le)
 
   given_up_as : (m : Member) → member_given_up now.written other m ≡ member_given_up v.written other m
-  given_up_as m =
-      ap
-      (λ (marks : List Mark). counting other.range (marked_entries marks m.from (drop m.from (v.written m.master).entries)))
-      (both_kept (λ mark. (eqb mark.tablet other.tablet) && nat_lt mark.term other.term) stays (old_marks m.master)
-      (λ mark of. stays_if mark (eqb-true mark.tablet other.tablet (and_parts (eqb mark.tablet other.tablet) (nat_lt mark.term other.term) of).0)))
+  given_up_as m = grind (arith, counting, marked_entries, both_kept, eqb, nat_lt, stays_if, eqb-true, and_parts)
 
   -- an entry that counts for the other row bore no mark where it bears none
   free_before : (q place : ℕ) (entry : Entry) → slice_get (v.written q).entries place ≡ Some entry → counts other.range entry ≡ true → is_marked (new_marks q) place ≡ false → is_marked (old_marks q) place ≡ false
@@ -147,21 +129,11 @@ module _ (v : View) (row : Row) (sound : SoundView v) (has_row : Contains v.rows
       (fewer v row sound has_row other has_other unlike some q from (take count (v.written q).entries) (taken_from count (v.written q).entries))
 
   needed_as : (given_up own : List Entry) (q from place : ℕ) (entry : Entry) → IsNeeded other.range given_up own from (now.written q) place entry → IsNeeded other.range given_up own from (v.written q) place entry
-  needed_as given_up own q from place entry is = record {
-    behind = is.behind;
-    stands = is.stands;
-    unmarked = free_before q place entry is.stands is.in_range is.unmarked;
-    in_range = is.in_range;
-    tells = rw (← first_counted q from place) is.tells;
-  }
+  needed_as given_up own q from place entry is =
+      assumption (is, free_before q place entry is.stands is.in_range is.unmarked, rw (first_counted q from place) at is.tells)
 
   needs_end : (given_up own : List Entry) (q from : ℕ) (end : EntryEnd) → NeedsEnd other.range given_up own from (now.written q) end → NeedsEnd other.range given_up own from (v.written q) end
-  needs_end given_up own q from end is = record {
-    place = is.place;
-    entry = is.entry;
-    needed = needed_as given_up own q from is.place is.entry is.needed;
-    ends_there = is.ends_there;
-  }
+  needs_end given_up own q from end is = search (needed_as given_up own q from is.place is.entry is.needed, is)
 
   pub needed_beside : (l : List Member) (q : ℕ) (end : EntryEnd) → NeededOf other now.written l q end → NeededOf other v.written l q end
   needed_beside (first ∷ last ∷ []) q end is = (
@@ -180,36 +152,19 @@ module _ (v : View) (row : Row) (sound : SoundView v) (has_row : Contains v.rows
   marked_as = marked_kept v row sound has_row other has_other unlike some
 
   pub marked_fit_beside : (l : List Member) → MarkedFit v.logs v.written v.stored v.live other.range l → MarkedFit v.logs now.written v.stored v.live other.range l
-  marked_fit_beside [] fit = tt
-  marked_fit_beside (only ∷ []) fit = λ dead.
-      rw (material_as only, marked_as only) (fit dead)
-  marked_fit_beside (first ∷ last ∷ more) fit = (
-    λ dead.
-        subst (TellNoMore (member_marked now.written other.range first)) (λ i. sym (material_as first) i ++ sym (stored_as last) i)
-        (rw (marked_as first) (fit.0 dead)),
-    λ dead.
-        subst (TellNoMore (member_marked now.written other.range last)) (λ i. sym (material_as first) i ++ sym (material_as last) i)
-        (subst
-        (λ (l : List Entry). TellNoMore l (member_material v.written other.range first ++ member_material v.written other.range last))
-        (sym (marked_as last)) (fit.1 dead)),
-  )
+  marked_fit_beside l fit = grind (arith, material_as, marked_as, member_marked, stored_as, member_material)
 
   -- a mark of the other's tablet stays
   mark_stands : (q : ℕ) (mark : Mark) → Contains (old_marks q) mark → mark.tablet ≡ other.tablet → Contains (new_marks q) mark
   mark_stands q mark stands its = filter_stands stays (old_marks q) mark stands (stays_if mark its)
 
   piece_as : (to from entry : ℕ) (handover : Handover) (merged : Merged) → IsPieceOf other.tablet from handover merged (v.written to) entry → IsPieceOf other.tablet from handover merged (now.written to) entry
-  piece_as to from entry handover merged piece = record {
-    mark = piece.mark;
-    marked = mark_stands to piece.mark piece.marked piece.tablet_is;
-    past_is = piece.past_is;
-    tablet_is = piece.tablet_is;
-    term_is = piece.term_is;
-    behind = piece.behind;
-    alone = All-filter stays (λ mark. mark.tablet ≡ other.tablet → mark ≡ piece.mark) (old_marks to) piece.alone;
-    stands = piece.stands;
-    last = piece.last;
-  }
+  piece_as to from entry handover merged piece =
+      search (
+        mark_stands to piece.mark piece.marked piece.tablet_is,
+        All-filter stays (λ mark. mark.tablet ≡ other.tablet → mark ≡ piece.mark) (old_marks to) piece.alone,
+        piece,
+      )
 
   abbrev MergedIn : (ℕ → Written) → ℕ → ℕ → List Entry → ℕ → Type 0
   MergedIn written to from own entry =
@@ -217,15 +172,7 @@ module _ (v : View) (row : Row) (sound : SoundView v) (has_row : Contains v.rows
       (v.merged to other.tablet) (written to) entry
 
   merged_as : (to from : ℕ) (own : List Entry) (entry : ℕ) → MergedIn v.written to from own entry → MergedIn now.written to from own entry
-  merged_as to from own entry is = record {
-    gathered_all = is.gathered_all;
-    merged = is.merged;
-    merged_is = is.merged_is;
-    ends_are = is.ends_are;
-    piece = piece_as to from entry (v.handovers to other.tablet) is.merged is.piece;
-    counter = is.counter;
-    completions = is.completions;
-  }
+  merged_as to from own entry is = search (piece_as to from entry (v.handovers to other.tablet) is.merged is.piece, is)
 
   abbrev RebuilderIn : (ℕ → Written) → List Member → ℕ → List Entry → List Entry → Type 0
   RebuilderIn written l to truth own =
@@ -303,16 +250,7 @@ module _ (v : View) (row : Row) (sound : SoundView v) (has_row : Contains v.rows
   marks_beside q all =
       All-filter stays (MarkIn now.written q) (old_marks q)
       (All-weaker (MarkIn v.written q) (MarkIn now.written q)
-      (λ mark fits its.
-      let was = fits its in
-      record {
-        rebuilt = was.rebuilt;
-        within = was.within;
-        present = was.present;
-        by_rebuilder = was.by_rebuilder;
-        behind = last_as q mark was.behind;
-      })
-      (old_marks q) all)
+      (λ mark fits its. let was = fits its in assumption (last_as q mark was.behind, was)) (old_marks q) all)
 
   pub pieces_beside : (q : ℕ) → All (λ mark. mark.tablet ≡ other.tablet → HasOwnRange other.range (v.written q).entries mark) (old_marks q) → All (λ mark. mark.tablet ≡ other.tablet → HasOwnRange other.range (v.written q).entries mark) (new_marks q)
   pieces_beside q all =
@@ -349,13 +287,4 @@ module _ (v : View) (row : Row) (sound : SoundView v) (has_row : Contains v.rows
   SaysIn written from to body = SaysOf other v.logs written v.stored v.handovers v.completions v.merged v.live v.handed from to body
 
   pub says_beside : (from to : Node) (body : Body) → SaysIn v.written from to body → SaysIn now.written from to body
-  says_beside from to (bodies.Pulled message) said = (
-    said.0,
-    if_master to _ _ (λ q. pulled_as (lineage_of other.phase) from q message) said.1,
-  )
-  says_beside from to (bodies.Got message) said = (
-    said.0,
-    if_master to _ _ (λ q. got_as (lineage_of other.phase) from q message) said.1,
-  )
-  says_beside from to (bodies.Copy copy) said = λ is. copy_as other.phase copy (said is)
-  says_beside from to body said = said
+  says_beside from to body said = grind (arith, if_master, pulled_as, lineage_of, got_as, copy_as)

@@ -7,7 +7,6 @@ use Rattle.rk_inv_base.proofs.Words.{Precedes, Row, stands_cases, items_of, is_m
 use Rattle.rk_inv_base.proofs.Words.{named, side_entries, with_number, applied_entries, lineage_rest, lineage_truth, member_material}
 use Rattle.rk_inv_base.proofs.Words.{member_rest, member_truth, Mark, IsOfRange, member_marked, named_items, View, truths, rests, SoundView}
 use Rattle.rk_inv_rows.proofs.Words.{one_precedes, same_number, apart_either, entry_apart, place_of, any_kept, filter_stands, marks_taken}
-use Rattle.rk_entry.specs.declared.entry.Entry.TheVariants as entries
 use Rattle.rk_inv_rows.proofs.lineage.Among.{taken_from}
 use Rattle.rk_inv_rows.proofs.lineage.Pieces.{IsCovered, covered_by, covered_of}
 use Rattle.rk_inv_rows.proofs.lineage.FewerMarks.{AreFewer, IsSilent, free_counts, free_names, marked_counts}
@@ -29,11 +28,7 @@ any_stands p (y ∷ xs) x stands passes =
 
 -- an entry of a rebuild of another range is silent
 pub silent_apart : (a b : Range) → meets a b ≡ false → meets b a ≡ false → b.first ≤ b.last → (entry : Entry) → IsOfRange a entry → IsSilent b entry
-silent_apart a b apart back some (entries.Held held) of =
-    record { uncounted = entry_apart a b apart back some (entries.Held held) of; unnamed = refl }
-silent_apart a b apart back some (entries.Carried carried) of =
-    record { uncounted = entry_apart a b apart back some (entries.Carried carried) of; unnamed = refl }
-silent_apart a b apart back some _ of = absurd of
+silent_apart a b apart back some entry of = grind (arith, entry_apart)
 
 module _ (v : View) (row : Row) (sound : SoundView v) (has_row : Contains v.rows row) where
   abbrev now : View

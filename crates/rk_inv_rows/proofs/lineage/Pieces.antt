@@ -1,9 +1,9 @@
 -- What bears a mark in a log is of a row that is rebuilt: no Joined does, and it counts for no other row.
-use Rattle.std.proofs.Common.{◌≡◌, ℕ, zero, suc, ◌+◌, ◌-◌, ◌≤◌, ◌<◌, Bool, true, false, ◌&&◌, cond, List, [], ◌∷◌, Option, Some, None, refl}
+use Rattle.std.proofs.Common.{◌≡◌, ℕ, zero, suc, ◌+◌, ◌-◌, ◌≤◌, ◌<◌, Bool, true, false, ◌&&◌, cond, List, [], ◌∷◌, Option, Some, refl}
 use Rattle.std.proofs.Common.{sym, ap, ◌∙◌, ⊎_elim, arith, drop, is_some, nat_le, nat_lt, slice_get, take, Contains, leb-true, ltb-true}
 use Rattle.rk_inv_base.proofs.Words.{and_parts, false_from_ne_true, false≢true, All-contains, Any-from_list_any, Range, Entry, Joined}
 use Rattle.rk_inv_base.proofs.Words.{number_of, row_of, Row, behind_stands, first_stands, stands_cases, is_marked, unmarked, counting}
-use Rattle.rk_inv_base.proofs.Words.{counts, Mark, HasOwnRange, IsOfRange, marked_entries, View, SoundView}
+use Rattle.rk_inv_base.proofs.Words.{counts, Mark, IsOfRange, marked_entries, View, SoundView}
 use Rattle.rk_inv_rows.proofs.Words.{in_piece, found_stands, row_in}
 use Rattle.rk_entry.specs.declared.entry.Entry.TheVariants as entries
 
@@ -34,19 +34,7 @@ covered_by marks place marked =
 
 module _ (v : View) (sound : SoundView v) (q : ℕ) where
   of_known : (mark : Mark) (entry : Entry) → Contains (v.written q).marks mark → Contains (take (mark.past - mark.first) (drop mark.first (v.written q).entries)) entry → (found : Option Row) → row_of v.rows mark.tablet ≡ found → is_some found ≡ true → IsOfRow v.rows mark.tablet entry
-  of_known mark entry marked inside None is known = absurd (false≢true known)
-  of_known mark entry marked inside (Some other) is known =
-      let stands : Contains v.rows other = found_stands v.rows mark.tablet other is in
-      let own : HasOwnRange other.range (v.written q).entries mark =
-      All-contains (λ m. m.tablet ≡ other.tablet → HasOwnRange other.range (v.written q).entries m)
-      (v.written q).marks mark
-      ((row_in v sound other stands).pieces q) marked (sym (number_of v.rows mark.tablet other is)) in
-      record {
-        row = other;
-        stands = stands;
-        number = number_of v.rows mark.tablet other is;
-        of = All-contains (IsOfRange other.range) (take (mark.past - mark.first) (drop mark.first (v.written q).entries)) entry own inside;
-      }
+  of_known mark entry marked inside found is known = grind (arith, false≢true, found_stands, row_in, number_of)
 
   -- a marked entry is of the range of the row of the mark's tablet
   pub covered_of : (place : ℕ) (entry : Entry) → slice_get (v.written q).entries place ≡ Some entry → (covered : IsCovered (v.written q).marks place) → IsOfRow v.rows covered.mark.tablet entry
@@ -67,11 +55,7 @@ module _ (v : View) (sound : SoundView v) (q : ℕ) where
 
 -- the first of some entries, where none of them counts
 first_counts : (range : Range) (b : Bool) (entry : Entry) (list : List Entry) → counts range entry ≡ b → counting range (entry ∷ list) ≡ [] → (b ≡ false) × (counting range list ≡ [])
-first_counts range true entry list is none =
-    let kept : entry ∷ counting range list ≡ [] = ap (λ (b : Bool). cond b (entry ∷ counting range list) (counting range list)) (sym is) ∙ none in
-    absurd (cc kept)
-first_counts range false entry list is none =
-    (refl, ap (λ (b : Bool). cond b (entry ∷ counting range list) (counting range list)) (sym is) ∙ none)
+first_counts range b entry list is none = grind (arith, counting)
 
 -- an entry that does not count goes
 without_first : (range : Range) (entry : Entry) (list : List Entry) → counts range entry ≡ false → counting range (entry ∷ list) ≡ counting range list

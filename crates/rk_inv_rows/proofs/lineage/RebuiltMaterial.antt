@@ -5,15 +5,13 @@ use Rattle.std.proofs.Common.{⊎_elim, arith, inl, inr, All, IfSome, drop, leng
 use Rattle.std.proofs.Common.{flat_map, eq-eqb, le-leb}
 use Rattle.rk_inv_base.proofs.Words.{and_from, cases_Bool, false_from_ne_true, false≢true, All-contains, Contains-append_cases}
 use Rattle.rk_inv_base.proofs.Words.{Contains-append_left, Contains-append_right, list_any, meets, Ended, Member, Range, Entry, Handover}
-use Rattle.rk_inv_base.proofs.Words.{Role, Precedes, Phase, Rebuilding, Row, none_stands, is_mark_of, is_marked, unmarked, touches}
+use Rattle.rk_inv_base.proofs.Words.{Role, Phase, Rebuilding, Row, none_stands, is_mark_of, is_marked, unmarked, touches}
 use Rattle.rk_inv_base.proofs.Words.{as_entries, counting, counts, named, named_by, side_entries, has_all, own_place, Written}
 use Rattle.rk_inv_base.proofs.Words.{applied_entries, member_material, member_truth, Mark, HasRebuilt, MayTakeRebuilt, HasOwnRange}
-use Rattle.rk_inv_base.proofs.Words.{IsMergedOf, IsOfRange, IsPieceOf, MarkFits, RowIsRebuilt, closing_carried, merged_place, IsDone}
-use Rattle.rk_inv_base.proofs.Words.{HandoverFits, View, truths, SoundView}
+use Rattle.rk_inv_base.proofs.Words.{IsMergedOf, IsOfRange, IsPieceOf, MarkFits, RowIsRebuilt, closing_carried, merged_place, IsDone, View}
+use Rattle.rk_inv_base.proofs.Words.{truths, SoundView}
 use Rattle.rk_inv_rows.proofs.Words.{member as member_at, in_one_row, one_precedes, behind_at, in_piece, place_of, Misses, none_touches}
 use Rattle.rk_inv_rows.proofs.Words.{any_kept, filter_from, filter_stands, marks_taken, SoundRow, row_in, kept_stands}
-use Rattle.rk_entry.specs.declared.entry.Entry.TheVariants as entries
-use Rattle.rk_transfer.specs.declared.role.Role.TheVariants as roles
 use Rattle.rk_inv_rows.proofs.lineage.Among.{flat_among, from_flat, kept_among, later_all, number_from, number_to, place_in, taken_at}
 use Rattle.rk_inv_rows.proofs.lineage.Among.{taken_from, taken_within, to_flat}
 use Rattle.rk_inv_rows.proofs.lineage.MarksTaken.{taken_by}
@@ -21,6 +19,8 @@ use Rattle.rk_inv_rows.proofs.lineage.Pieces.{IsCovered, covered_by, covered_of,
 use Rattle.rk_inv_rows.proofs.lineage.TargetMaterial.{has_itself, meets_itself}
 use Rattle.rk_inv_rows.proofs.lineage.Untouched.{done_settled, each_misses}
 use Rattle.rk_inv_rows.proofs.lineage.Histories.{range_at}
+use Rattle.rk_entry.specs.declared.entry.Entry.TheVariants as entries
+use Rattle.rk_transfer.specs.declared.role.Role.TheVariants as roles
 
 -- a role has rebuilt a tablet, with its closing entry at a place that is applied
 pub record RebuiltAt (role : Role) (applied from : ℕ) : Type 0 where
@@ -86,21 +86,11 @@ module _ (v : View) (row : Row) (lineage : List Member) (to place : ℕ) (ends :
 
   -- its place is one of its log, and the piece is applied
   pub placed_within : place ≤ length w.entries
-  placed_within =
-      let fit =
-      in_phase
-      (λ p. RowIsRebuilt row p (truths v row) v.logs v.written v.stored v.handovers v.completions v.gathers v.merged v.records v.live)
-      row_was.rebuilt in
-      in_role (λ r. own_place r ≤ length w.entries) (fit.0 may.term_is).placed
+  placed_within = grind (arith, in_phase, truths, row_was, in_role, own_place)
 
   -- a mark of the tablet covers what is applied alone
   pub taken_applied : (mark : Mark) → Contains w.marks mark → mark.tablet ≡ row.tablet → mark.past ≤ w.applied
-  taken_applied other stands its =
-      let is : other ≡ piece.mark =
-      All-contains (λ m. m.tablet ≡ row.tablet → m ≡ piece.mark) w.marks other piece.alone stands its in
-      let less : at.entry < w.applied = at.within in
-      let past : other.past ≡ suc at.entry = ap (λ (m : Mark). m.past) is ∙ piece.past_is in
-      omega (arith, less, past)
+  taken_applied other stands its = grind (arith, at)
 
   -- so all of its own is applied
   pub own_done : IsDone v.written row.range own_member
@@ -197,17 +187,7 @@ module _ (v : View) (row : Row) (lineage : List Member) (to place : ℕ) (ends :
 
   -- an entry of the row's range is of no other row's
   of_one_row : (other : Row) (entry : Entry) → Contains v.rows other → (other.tablet ≡ row.tablet → ⊥) → IsOfRange other.range entry → IsOfRange row.range entry → ⊥
-  of_one_row other (entries.Held held) stands unlike its of =
-      false≢true (sym (in_one_row v.rows row other held.table held.key sound.rows.apart may.has_row stands unlike of) ∙ its)
-  of_one_row other (entries.Carried carried) stands unlike its of =
-      let same : other.range ≡ row.range = sym its ∙ of in
-      let met : meets row.range other.range ≡ true = ap (λ (r : Range). meets row.range r) same ∙ meets_itself row.range some in
-      let back : meets other.range row.range ≡ true = ap (λ (r : Range). meets r row.range) same ∙ meets_itself row.range some in
-      ⊎_elim (λ (is : row ≡ other). unlike (ap (λ (r : Row). r.tablet) (sym is)))
-      (⊎_elim (λ (before : Precedes row other). false≢true (sym before.apart ∙ met))
-      (λ (behind : Precedes other row). false≢true (sym behind.apart ∙ back)))
-      (one_precedes v.rows row other sound.rows.apart may.has_row stands)
-  of_one_row other _ stands unlike its of = of
+  of_one_row other entry stands unlike its of = grind (arith, false≢true, in_one_row, meets, meets_itself, one_precedes)
 
   -- a mark that is left is of another tablet
   left_apart : (m : Mark) → Contains new_marks m → m.tablet ≡ row.tablet → ⊥

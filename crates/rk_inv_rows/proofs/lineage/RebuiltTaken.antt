@@ -1,19 +1,18 @@
 -- A view stays sound when the master that rebuilt a row owns it, where the records that are made of what it told go on lawfully.
-use Rattle.std.proofs.Common.{◌≡◌, ℕ, ◌≤◌, ◌<◌, Bool, true, false, cond, ◌&&◌, ◌||◌, eqb, List, [], ◌∷◌, ◌++◌, Option, Some, refl, sym, ap}
-use Rattle.std.proofs.Common.{subst, ◌∙◌, ⊎_elim, arith, inl, inr, All, drop, is_some, length, max, nat_le, nat_lt, not, ◌⊎◌, Contains}
-use Rattle.std.proofs.Common.{eq-eqb, eqb-true, le-leb, slice_index_or}
+use Rattle.std.proofs.Common.{◌≡◌, ℕ, ◌≤◌, ◌<◌, Bool, true, false, cond, ◌&&◌, eqb, List, [], ◌∷◌, ◌++◌, Option, Some, refl, sym, ap, subst}
+use Rattle.std.proofs.Common.{◌∙◌, ⊎_elim, arith, inl, inr, All, drop, is_some, length, max, nat_le, nat_lt, not, ◌⊎◌, Contains, eq-eqb}
+use Rattle.std.proofs.Common.{eqb-true, le-leb, slice_index_or}
 use Rattle.rk_inv_base.proofs.Words.{and_from, cases_Bool, false_from_ne_true, false≢true, All-append, All-cons, All-contains, All-filter}
 use Rattle.rk_inv_base.proofs.Words.{All-nil, All-weaker, IfSome_then, list_any, hash_of, has, Call, Ended, Placed, Member, Node, Range}
-use Rattle.rk_inv_base.proofs.Words.{is_at_parts, Map, is_at, map_after, map_with, last_version, is_mutation, Entry, ends_of, Role}
-use Rattle.rk_inv_base.proofs.Words.{lawful_turned, lineage_of, changed_rows, is_covered, row_of, Phase, Owned, Rebuilding, Row, Body}
-use Rattle.rk_inv_base.proofs.Words.{base_map, told, is_member, last_of, is_mark_of, is_marked, touches, of_key, has_key, Mark}
-use Rattle.rk_inv_base.proofs.Words.{AreHandedOver, IsKnown, IsReached, IsStagedEnd, ReachAll, TellAll, is_record_in, AreAboveMap, IsNext}
-use Rattle.rk_inv_base.proofs.Words.{handed_by, handed_for_grant, target_truth, HasRebuilt, IsRebuiltBy, HasSome, MayTakeRebuilt, row_at}
-use Rattle.rk_inv_base.proofs.Words.{Bystander, FormerMember, Owner, Post, Holds, StillCounts, bond_of, post_of, rebuilder_post, speaks}
-use Rattle.rk_inv_base.proofs.Words.{HasOwnRange, MarkFits, IsBare, wanted_place, EachHasCall, OnlyIsUnnamed, Waits, IsPlaced, HasItems}
-use Rattle.rk_inv_base.proofs.Words.{has_all_items, HandoverFits, View, truths, rests, SoundView, CoverOf, LogsOf, RowIsRebuilt}
-use Rattle.rk_inv_base.proofs.Words.{map_after-append, cond_both}
-use Rattle.rk_transfer.specs.declared.role.Role.TheVariants as roles
+use Rattle.rk_inv_base.proofs.Words.{is_at_parts, Map, is_at, map_after, last_version, is_mutation, Entry, ends_of, Role, lawful_turned}
+use Rattle.rk_inv_base.proofs.Words.{lineage_of, changed_rows, is_covered, row_of, Phase, Owned, Rebuilding, Row, Body, base_map, told}
+use Rattle.rk_inv_base.proofs.Words.{is_member, last_of, is_mark_of, is_marked, touches, of_key, has_key, Mark, AreHandedOver, IsKnown}
+use Rattle.rk_inv_base.proofs.Words.{IsReached, IsStagedEnd, ReachAll, TellAll, is_record_in, AreAboveMap, IsNext, handed_by}
+use Rattle.rk_inv_base.proofs.Words.{handed_for_grant, target_truth, HasRebuilt, IsRebuiltBy, HasSome, MayTakeRebuilt, row_at, Bystander}
+use Rattle.rk_inv_base.proofs.Words.{FormerMember, Owner, Post, Holds, StillCounts, bond_of, post_of, rebuilder_post, speaks, HasOwnRange}
+use Rattle.rk_inv_base.proofs.Words.{MarkFits, IsBare, wanted_place, EachHasCall, OnlyIsUnnamed, Waits, IsPlaced, HasItems, has_all_items}
+use Rattle.rk_inv_base.proofs.Words.{HandoverFits, View, truths, rests, SoundView, CoverOf, LogsOf, RowIsRebuilt, map_after-append}
+use Rattle.rk_inv_base.proofs.Words.{cond_both}
 use Rattle.rk_inv_rows.proofs.Words.{member as member_at, turned as changed, in_one_row, same_number, covered_by, differ, all_by, all_in}
 use Rattle.rk_inv_rows.proofs.Words.{Misses, joined_none, map_elsewhere, known_still, says_still, any_kept, filter_from, all_turned}
 use Rattle.rk_inv_rows.proofs.Words.{stands_found, stands_still, TellHistory, MayOwnRebuilt, made_of, rebuilt_taken, cover_replaced}
@@ -31,10 +30,12 @@ use Rattle.rk_inv_rows.proofs.lineage.MarksTaken.{rests_kept, taken_by, truths_k
 use Rattle.rk_inv_base.proofs.rows.OtherRows.{all_others}
 use Rattle.rk_inv_rows.proofs.lineage.RebuiltCounter.{next_now}
 use Rattle.rk_inv_rows.proofs.lineage.RebuiltMaterial.{placed_within, settled, taken_applied}
-use Rattle.rk_inv_rows.proofs.lineage.LineageSays.{says}
+use Rattle.rk_inv_rows.proofs.lineage.LineageSays.{says, HasPassed, member_range}
 use Rattle.rk_inv_rows.proofs.lineage.RebuiltSays.{member_here, rebuilt_passes}
 use Rattle.rk_inv_rows.proofs.lineage.Untouched.{each_misses}
-use Rattle.rk_inv_rows.proofs.lineage.Passing.{HasPassed, member_range}
+use Rattle.rk_inv_base.proofs.views.ByRows.{staged_as}
+use Rattle.rk_inv_rows.proofs.lineage.FewerMarks.{waits_with}
+use Rattle.rk_transfer.specs.declared.role.Role.TheVariants as roles
 
 -- a master that has rebuilt a tablet fits the post of its owner
 rebuilt_owns : (role : Role) (place term own applied : ℕ) → HasRebuilt role applied place → own ≡ term → Holds (bond_of (Owner place) role) term own applied
@@ -100,12 +101,7 @@ module _ (v : View) (row : Row) (lineage : List Member) (to place : ℕ) (ends :
   -- ---- no record is of another row
 
   record_apart : (r : Row) → Contains v.rows r → (r.tablet ≡ row.tablet → ⊥) → (placed : Placed) → Contains made placed → is_record_in r.range placed ≡ true → ⊥
-  record_apart r has unlike placed stands inside =
-      false≢true
-      (sym
-      (in_one_row v.rows row r placed.call.table placed.call.key sound.rows.apart has_row has unlike
-      (All-contains (λ p. is_record_in row.range p ≡ true) made placed may.records.inside stands))
-      ∙ inside)
+  record_apart r has unlike placed stands inside = grind (arith, false≢true, in_one_row, has_row, is_record_in)
 
   -- so what tells of all records of another row still does
   more : (r : Row) → Contains v.rows r → (r.tablet ≡ row.tablet → ⊥) → (P : Placed → Type 0) → All (λ placed. is_record_in r.range placed ≡ true → P placed) v.journal → All (λ placed. is_record_in r.range placed ≡ true → P placed) journal
@@ -142,11 +138,7 @@ module _ (v : View) (row : Row) (lineage : List Member) (to place : ℕ) (ends :
       record_apart r stood unlike placed stands ((λ i. has r.range (parts.0 i) (hash_of (parts.1 i))) ∙ inside))))
 
   above_more : (r : Row) → Contains v.rows r → (r.tablet ≡ row.tablet → ⊥) → (l : List Entry) → AreAboveMap r.range (map_of v.journal) l → AreAboveMap r.range (map_of journal) l
-  above_more r has unlike l above table key inside =
-      let below = above table key inside in
-      let same : last_version (map_of journal table key) ≡ last_version (map_of v.journal table key) =
-      ap last_version (map_as r has unlike table key inside) in
-      omega (arith, below, same)
+  above_more r has unlike l above table key inside = grind (arith, last_version, map_as)
 
   -- ---- nodes, rows, terms, cover
 
@@ -156,19 +148,8 @@ module _ (v : View) (row : Row) (lineage : List Member) (to place : ℕ) (ends :
   cover : CoverOf now
   cover =
       let same = cover_replaced v row new sound has_row refl refl v.handed in
-      record {
-        unknown = same.unknown;
-        marks = λ q.
-            All-filter (λ mark. not (is_mark_of row.tablet row.term mark)) (λ mark. is_some (row_of now.rows mark.tablet) ≡ true)
-            (v.written q).marks (same.marks q);
-        sent = same.sent;
-        ranges = same.ranges;
-        ordered = same.ordered;
-        entries = same.entries;
-        sides = same.sides;
-        items = same.items;
-        wholes = same.wholes;
-      }
+      assumption
+      (λ (q : ℕ). All-filter stays (λ mark. is_some (row_of now.rows mark.tablet) ≡ true) (v.written q).marks (same.marks q), same)
 
   -- ---- posts
 
@@ -182,11 +163,7 @@ module _ (v : View) (row : Row) (lineage : List Member) (to place : ℕ) (ends :
   FitsPost q post = Holds (bond_of post (v.handovers q row.tablet).role) row.term (v.handovers q row.tablet).term (v.written q).applied
 
   fits_by : (q : ℕ) (a b : Bool) → eqb to q ≡ a → FitsPost q (cond a (rebuilder_post lineage q) (cond b FormerMember Bystander)) → FitsPost q (cond a (Owner place) Bystander)
-  fits_by q true b is held =
-      rebuilt_owns (v.handovers q row.tablet).role place row.term (v.handovers q row.tablet).term (v.written q).applied
-      (rebuilt_here q (eqb-true to q is)) (term_here q (eqb-true to q is))
-  fits_by q false true is held = absurd held
-  fits_by q false false is held = held
+  fits_by q a b is held = grind (arith, rebuilt_owns, rebuilt_here, eqb-true, term_here)
 
   fitted : (q : ℕ) → StillCounts (v.live q) (v.handovers q row.tablet).term row.term → FitsPost q (post_of (Rebuilding lineage to) q)
   fitted q counting = in_phase (λ p. FitsPost q (post_of p q)) (was.fitting q counting)
@@ -198,14 +175,7 @@ module _ (v : View) (row : Row) (lineage : List Member) (to place : ℕ) (ends :
   logs = record {
     each = λ q.
         let log = sound.logs.each q in
-        record {
-          entries_are = log.entries_are;
-          held = log.held;
-          copies = log.copies;
-          spelled = log.spelled;
-          named = log.named;
-          marked = All-filter stays (λ mark. mark.past ≤ length (v.written q).entries) (v.written q).marks log.marked;
-        };
+        assumption (All-filter stays (λ mark. mark.past ≤ length (v.written q).entries) (v.written q).marks log.marked, log);
     sent = sound.logs.sent;
   }
 
@@ -213,11 +183,7 @@ module _ (v : View) (row : Row) (lineage : List Member) (to place : ℕ) (ends :
 
   -- only the owner speaks
   owner_says : (q : ℕ) → StillCounts (v.live q) (v.handovers q row.tablet).term row.term → (P : ℕ → Type 0) → P to → speaks (post_of owned q) (v.handovers q row.tablet) row.term ≡ true → P q
-  owner_says q counting P here = go (eqb to q) refl (fits q counting)
-    where
-      go : (b : Bool) → eqb to q ≡ b → FitsPost q (cond b (Owner place) Bystander) → speaks (cond b (Owner place) Bystander) (v.handovers q row.tablet) row.term ≡ true → P q
-      go true is fit says = subst P (eqb-true to q is) here
-      go false is fit says = absurd (quiet_says Bystander (v.handovers q row.tablet) row.term (v.written q).applied tt fit says)
+  owner_says q counting P here = grind (arith, eqb, fits, speaks, says, eqb-true, quiet_says)
 
   -- a staged end of the row is a record's now
   staged_end : (q n : ℕ) (end : Ended) → Contains (ends_of (v.completions q n)) end → IsStagedEnd v.rows (rests v) q n (v.handovers q n).term end → IsKnown v.base journal end ⊎ IsStagedEnd now.rows (rests now) q n (v.handovers q n).term end
@@ -234,16 +200,9 @@ module _ (v : View) (row : Row) (lineage : List Member) (to place : ℕ) (ends :
       (λ (other : eqb s.row.tablet row.tablet ≡ false).
       let unlike = differ s.row.tablet row.tablet other in
       inr
-      (record {
-        row = s.row;
-        stands =
-            ⊎_elim (λ (is : s.row ≡ row). absurd (unlike (ap (λ (r : Row). r.tablet) is))) (λ (there : Contains now.rows s.row). there)
-            (stands_still v.rows row.tablet row new s.row found s.stands);
-        told = rw (rest_as s.row s.stands unlike) s.told;
-        number = s.number;
-        rebuilt = s.rebuilt;
-        at_term = s.at_term;
-      }))
+      (staged_as v.rows now.rows (rests v) (rests now) q n (v.handovers q n).term (v.handovers q n).term end s
+      (⊎_elim (λ (is : s.row ≡ row). absurd (unlike (ap (λ (r : Row). r.tablet) is))) (λ (there : Contains now.rows s.row). there)
+      (stands_still v.rows row.tablet row new s.row found s.stands)) (rw (rest_as s.row s.stands unlike) s.told) s.at_term))
       (cases_Bool (eqb s.row.tablet row.tablet))
 
   -- ---- counters
@@ -284,21 +243,9 @@ module _ (v : View) (row : Row) (lineage : List Member) (to place : ℕ) (ends :
   waits : (q n : ℕ) (call : Call) → v.live q ≡ true → Waits v.rows (v.handovers q) (v.written q) q n call → Waits now.rows (v.handovers q) (now.written q) q n call
   waits q n call lives wait =
       ⊎_elim (λ (is : wait.row ≡ row). absurd (none_waits q n call lives wait is))
-      (λ (stands : Contains now.rows wait.row). record {
-        behind = wait.behind;
-        entry = wait.entry;
-        stands = wait.stands;
-        own = wait.own;
-        unmarked = free_still q n wait.unmarked;
-        row = wait.row;
-        has_row = stands;
-        in_row = wait.in_row;
-        last = wait.last;
-        is_last = wait.is_last;
-        here = wait.here;
-        from = wait.from;
-        may_stage = wait.may_stage;
-      })
+      (λ (stands : Contains now.rows wait.row).
+      waits_with v.rows now.rows (v.handovers q) (v.written q) (now.written q).marks (v.written q).applied q n call wait wait.behind
+      (free_still q n wait.unmarked) stands)
       (stands_still v.rows row.tablet row new wait.row found wait.has_row)
 
   -- what holds of a mark of the row's tablet
@@ -309,13 +256,7 @@ module _ (v : View) (row : Row) (lineage : List Member) (to place : ℕ) (ends :
 
   -- what bore a mark of the tablet at a living master is applied
   applied_there : (q : ℕ) (mark : Mark) → v.live q ≡ true → Contains (v.written q).marks mark → mark.tablet ≡ row.tablet → mark.past ≤ (v.written q).applied
-  applied_there q mark lives stands its =
-      let fit = mark_of q mark stands its in
-      let here : to ≡ q =
-      in_phase (λ p. IsRebuiltBy p q)
-      (rw (fit.by_rebuilder (fit.present lives)).0 refl) in
-      rw (← here) (taken_applied v row lineage to place ends sound (some_of row has_row) taken mark
-      (rw here stands) its)
+  applied_there q mark lives stands its = grind (arith, mark_of, in_phase, taken_applied, some_of, has_row)
 
   found_calls : (q : ℕ) → v.live q ≡ true → EachHasCall (v.calls q) (v.written q) → EachHasCall (v.calls q) (now.written q)
   found_calls q lives each n entry behind stands is_call free =

@@ -1,12 +1,12 @@
 -- A lane stays sound when a rebuild is taken, where the records that its ends make go on lawfully.
-use Rattle.std.proofs.Common.{◌≡◌, ℕ, Bool, true, false, cond, ◌&&◌, eqb, List, [], ◌∷◌, ◌++◌, Option, Some, None, refl, sym, ap, ◌∙◌}
+use Rattle.std.proofs.Common.{arith}
+use Rattle.std.proofs.Common.{◌≡◌, ℕ, Bool, true, false, cond, eqb, List, [], ◌∷◌, ◌++◌, Option, refl, sym, ap, ◌∙◌}
 use Rattle.std.proofs.Common.{append-nil, append_assoc, filter, fold, not, subst}
 use Rattle.rk_inv_base.proofs.Words.{Ended, Placed, Member, Row, outcome_of, has_record, next_record, Ledger, asked_by, with_ends}
 use Rattle.rk_inv_base.proofs.Words.{is_mark_of, World, LastCall, Mark, view, IsSound, SoundView, marks_of, with_ledger}
-use Rattle.rk_inv_rows.proofs.Words.{MayOwnRebuilt, made_by, made_of, rebuilt_taken_in}
+use Rattle.rk_inv_rows.proofs.Words.{MayOwnRebuilt, made_by, made_of, rebuilt_taken_in, row_owned_in}
 use Rattle.rk_world.specs.Ledger.{with_end, with_end_of, without_marks}
 use Rattle.rk_inv_rows.proofs.lineage.RebuiltTaken.{rows_rebuilt, view_rebuilt_taken}
-use Rattle.rk_inv_rows.specs.lineage.Small.{row_owned_in}
 
 -- a ledger with this journal
 abbrev with_journal : Ledger → List Placed → Ledger
@@ -14,12 +14,7 @@ with_journal ledger journal = record ledger { journal = journal }
 
 -- an end makes its record
 one_made : (ledger : Ledger) (end : Ended) (asked : Option LastCall) → with_end_of ledger end asked ≡ with_journal ledger (ledger.journal ++ made_by ledger.journal end asked)
-one_made ledger end None = ap (with_journal ledger) (sym (append-nil ledger.journal))
-one_made ledger end (Some asked) = go ((eqb asked.call.seq end.seq) && not (has_record ledger.journal end.client end.seq))
-  where
-    go : (b : Bool) → cond b (with_journal ledger (ledger.journal ++ next_record ledger.journal asked.call (outcome_of end.end) asked.seen ∷ [])) ledger ≡ with_journal ledger (ledger.journal ++ cond b (next_record ledger.journal asked.call (outcome_of end.end) asked.seen ∷ []) [])
-    go true = refl
-    go false = ap (with_journal ledger) (sym (append-nil ledger.journal))
+one_made ledger end asked = grind (arith, append-nil, eqb, has_record, next_record, outcome_of)
 
 -- ends make theirs
 pub all_made : (ledger : Ledger) (ends : List Ended) → with_ends ledger ends ≡ with_journal ledger (ledger.journal ++ made_of (asked_by ledger) ledger.journal ends)

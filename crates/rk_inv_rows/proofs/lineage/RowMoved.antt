@@ -1,22 +1,20 @@
 -- A view stays sound when a row moves, once its source is frozen and has told what it hands over, and its target waits at its place.
-use Rattle.std.proofs.Common.{◌≡◌, ℕ, ◌≤◌, Bool, true, false, cond, eqb, List, [], ◌∷◌, ◌++◌, Some, None, refl, sym, ap, subst, ◌∙◌, arith}
-use Rattle.std.proofs.Common.{inl, inr, append-nil, All, IfSome, drop, filter, Contains, flat_map, option_map, eq-eqb, eqb-true}
-use Rattle.rk_inv_base.proofs.Words.{cond_both, false≢true, All-contains, All-cons, All-head, All-nil, All-weaker, list_any, get_other}
-use Rattle.rk_inv_base.proofs.Words.{get_same, NumberMap, get, insert, Member, map_after, is_mutation, Entry, is_in, Handover, Role}
-use Rattle.rk_inv_base.proofs.Words.{lineage_of, Phase, Opening, Moving, Row, base_map, Handed, items_of, first_of, touches, of_key}
-use Rattle.rk_inv_base.proofs.Words.{side_entries, floor_of, is_idle, World, lineage_rest, lineage_truth, member_truth, AreHandedOver}
-use Rattle.rk_inv_base.proofs.Words.{IsReached, ReachAll, TellAll, is_record_in, AreAboveMap, IsNext, beginning_in, is_wanting}
-use Rattle.rk_inv_base.proofs.Words.{target_truth, HasSome, row_at, Bystander, MovingSource, MovingTarget, OpeningSource, Post, ReadyTarget}
-use Rattle.rk_inv_base.proofs.Words.{Holds, StillCounts, bond_of, post_of, speaks, IsBare, is_granted, wanted_place, IsDone, RoleFits}
-use Rattle.rk_inv_base.proofs.Words.{IsPlaced, HasItems, IsTableOf, has_all_items, HandoverFits, View, view, truths, rests, IsSound}
-use Rattle.rk_inv_base.proofs.Words.{SoundView}
+use Rattle.std.proofs.Common.{◌≡◌, ℕ, ◌≤◌, Bool, true, false, cond, eqb, List, [], ◌∷◌, ◌++◌, Some, refl, sym, ap, subst, ◌∙◌, arith}
+use Rattle.std.proofs.Common.{inr, append-nil, All, IfSome, filter, Contains, flat_map, option_map, eq-eqb, eqb-true}
+use Rattle.rk_inv_base.proofs.Words.{cond_both, false≢true, All-cons, All-head, All-nil, get_other, get_same, NumberMap, get, insert}
+use Rattle.rk_inv_base.proofs.Words.{Member, map_after, Entry, is_in, Handover, Role, lineage_of, Phase, Opening, Moving, Row, base_map}
+use Rattle.rk_inv_base.proofs.Words.{Handed, items_of, first_of, of_key, side_entries, floor_of, is_idle, World, lineage_rest}
+use Rattle.rk_inv_base.proofs.Words.{lineage_truth, member_truth, AreHandedOver, ReachAll, TellAll, AreAboveMap, IsNext, beginning_in}
+use Rattle.rk_inv_base.proofs.Words.{is_wanting, target_truth, HasSome, row_at, Bystander, MovingSource, MovingTarget, OpeningSource, Post}
+use Rattle.rk_inv_base.proofs.Words.{ReadyTarget, Holds, StillCounts, bond_of, post_of, speaks, IsBare, is_granted, wanted_place, IsDone}
+use Rattle.rk_inv_base.proofs.Words.{RoleFits, IsPlaced, HasItems, IsTableOf, has_all_items, View, view, truths, rests, IsSound, SoundView}
 use Rattle.rk_inv_rows.proofs.Words.{member as member_at, MayMove, MayBeLeft, MayTakeLineage, MembersAgree, TellHistory, lineage_taken}
 use Rattle.rk_inv_rows.proofs.Words.{row_moved_in, SoundRow, row_in}
-use Rattle.rk_transfer.specs.declared.role.Role.TheVariants as roles
 use Rattle.rk_inv_rows.proofs.lineage.FloorsOf.{floor_among}
 use Rattle.rk_inv_rows.proofs.lineage.Histories.{history_of, kept_stands, range_at}
-use Rattle.rk_inv_rows.proofs.lineage.LineageTaken.{rows_after, view_lineage_taken}
+use Rattle.rk_inv_rows.proofs.lineage.LineageSays.{rows_after, view_lineage_taken}
 use Rattle.rk_inv_rows.proofs.lineage.Untouched.{done_settled, names_none, rest_none, truth_none}
+use Rattle.rk_transfer.specs.declared.role.Role.TheVariants as roles
 
 -- a role that waits at a place
 waits_at : (role : Role) (place : ℕ) (P : ℕ → Type 0) → role ≡ roles.Wanting place → IfSome (wanted_place role) P → P place
@@ -105,15 +103,10 @@ module _ (v : View) (row : Row) (source sfrom target dfrom : ℕ) (given : Hande
   fits_by q false false at its was = was
 
   fits : (q : ℕ) → StillCounts (v.live q) (v.handovers q row.tablet).term row.term → RoleFits new q (v.handovers q row.tablet) (v.written q).applied
-  fits q counting =
-      fits_by q (eqb source q) (eqb target q) refl refl
-      (in_phase (λ p. FitsPost q (post_of p q))
-      (row_was.fitting q counting))
+  fits q counting = grind (arith, fits_by, eqb, in_phase, post_of, row_was)
 
   speaks_by : (h : Handover) (a b : Bool) → speaks (cond a MovingSource (cond b (MovingTarget dfrom) Bystander)) h row.term ≡ true → speaks (cond a OpeningSource (cond b (ReadyTarget dfrom) Bystander)) h row.term ≡ true
-  speaks_by h true b says = refl
-  speaks_by h false true says = says
-  speaks_by h false false says = says
+  speaks_by h a b says = grind arith
 
   speaks_no_more : (q : ℕ) → speaks (post_of moving q) (v.handovers q row.tablet) row.term ≡ true → speaks (post_of row.phase q) (v.handovers q row.tablet) row.term ≡ true
   speaks_no_more q says =
@@ -122,9 +115,7 @@ module _ (v : View) (row : Row) (source sfrom target dfrom : ℕ) (given : Hande
 
   -- the source has all items, as it had
   full_by : (h : Handover) (a b : Bool) → has_all_items (cond a MovingSource (cond b (MovingTarget dfrom) Bystander)) h row.term ≡ true → has_all_items (cond a OpeningSource (cond b (ReadyTarget dfrom) Bystander)) h row.term ≡ true
-  full_by h true b has = refl
-  full_by h false true has = has
-  full_by h false false has = has
+  full_by h a b has = grind arith
 
   full : (q : ℕ) → v.live q ≡ true → has_all_items (post_of moving q) (v.handovers q row.tablet) row.term ≡ true → HasItems new v.written (v.records q)
   full q lives has =
@@ -161,10 +152,7 @@ module _ (v : View) (row : Row) (source sfrom target dfrom : ℕ) (given : Hande
 
   -- the source answers calls until then: it speaks
   speaks_still : speaks (post_of row.phase source) giver row.term ≡ true
-  speaks_still =
-      ap (λ (p : Phase). speaks (post_of p source) giver row.term) may.phase_is
-      ∙ ap (λ (b : Bool). speaks (cond b OpeningSource (cond (eqb target source) (ReadyTarget dfrom) Bystander)) giver row.term)
-      (eq-eqb source source refl)
+  speaks_still = grind (arith, speaks, post_of, eqb, eq-eqb)
 
   reached : ReachAll row.range v.journal given.ends
   reached = rw may.ends_are (row_was.answering source (inr may.term_is) speaks_still)
@@ -198,33 +186,10 @@ module _ (v : View) (row : Row) (source sfrom target dfrom : ℕ) (given : Hande
   behind = let was : floor_of (truths v row ++ rests v row) ≤ given.floor = next in omega (arith, floor, was)
 
   left : MayBeLeft v new noted
-  left = record {
-    ends = rw target_is ends;
-    low = rw target_is low;
-    granted =
-        cond_both (is_wanting (v.handovers target row.tablet).role) (get noted row.tablet) None (λ o. IfSome o HandsOver)
-        (λ wants.
-        rw given_is (record { reached = reached; known = may.known }, behind))
-        (λ none. tt);
-  }
+  left = grind (arith, ends, target_is, low, cond_both, is_wanting, given_is, reached, behind)
 
   pub may_be_moved : MayTakeLineage v row moving noted
-  may_be_moved = record {
-    has_row = may.has_row;
-    passes =
-        inl
-        (record { source = source; sfrom = sfrom; target = target; dfrom = dfrom; was = may.phase_is; is = refl });
-    at_term = (may.term_is, may.waiting.term_is);
-    fits = fits;
-    speaks = λ q counting. speaks_no_more q;
-    full = full;
-    history = history;
-    floor = floor;
-    members = members;
-    left = left;
-    last = inr rest_was;
-    others = λ tablet apart. get_other v.handed row.tablet given tablet apart;
-  }
+  may_be_moved = grind (arith, fits, speaks, speaks_no_more, full, history, floor, members, left, rest_was, get_other)
 
   pub view_moved : SoundView (lineage_taken v new noted)
   view_moved = view_lineage_taken v row moving noted sound may_be_moved

@@ -15,11 +15,7 @@ plain_fewer few many among plain a b a_at b_at = plain a b (among a a_at) (among
 
 -- an item has no greater version than itself
 not_above : (others : List Held) (a b : Held) → IsAboveAll others b → Contains others a → a.table ≡ b.table → a.key ≡ b.key → a.version ≡ b.version → ⊥
-not_above others a b above stands table key version =
-    let less : a.version < b.version =
-    All-contains (λ (other : Held). is_of b.table b.key other ≡ true → other.version < b.version) others a above stands
-    (is_of_from b.table b.key a table key) in
-    omega (arith, less, version)
+not_above others a b above stands table key version = grind (arith, is_of, is_of_from)
 
 -- an item that is above all of its key is plain with them
 plain_push : (before : List Held) (item : Held) → IsPlain before → IsAboveAll before item → IsPlain (before ++ item ∷ [])

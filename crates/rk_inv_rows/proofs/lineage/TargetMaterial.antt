@@ -29,18 +29,12 @@ has_itself range = go range.table range.first range.last
 -- ---- entries
 
 -- an entry that is an item of a range counts for it
-item_counts : (range : Range) (entry : Entry) (x : Held) → Contains (items_in entry) x → is_in range x ≡ true → counts range entry ≡ true
-item_counts range (entries.Held held) x stands inside =
-    ⊎_elim (λ (is : held ≡ x). ap (is_in range) is ∙ inside) (λ (none : Contains [] x). absurd (none_stands x none))
-    (stands_cases held [] x stands)
-item_counts range _ x stands inside = absurd (none_stands x stands)
+pub item_counts : (range : Range) (entry : Entry) (x : Held) → Contains (items_in entry) x → is_in range x ≡ true → counts range entry ≡ true
+item_counts range entry x stands inside = grind (arith, is_in, none_stands, stands_cases)
 
 -- an entry that names a side segment for a range is a Joined of it
-names_joins : (range : Range) (entry : Entry) (n : ℕ) → Contains (named_by range entry) n → is_joined_in range entry ≡ true
-names_joins range (entries.Joined joined) n stands =
-    cond_both (meets joined.range range) joined.segments [] (λ l. Contains l n → meets joined.range range ≡ true) (λ e at. e)
-    (λ e at. absurd (none_stands n at)) stands
-names_joins range _ n stands = absurd (none_stands n stands)
+pub names_joins : (range : Range) (entry : Entry) (n : ℕ) → Contains (named_by range entry) n → is_joined_in range entry ≡ true
+names_joins range entry n stands = grind (arith, cond_both, meets, none_stands)
 
 -- one element is all that two lists have together, so where the first has one the second has none
 none_behind : {X : Type 0} (xs ys : List X) (one x : X) → xs ++ ys ≡ one ∷ [] → Contains xs x → ys ≡ []

@@ -1,16 +1,446 @@
--- What is said of an owned row by its truth and its rest is said of each row of its phase whose range is a half of its own.
-use Rattle.std.proofs.Common.{◌≡◌, ℕ, true, List, [], ◌∷◌, ◌++◌, sym, ap, subst, ◌∙◌, All, Contains, flat_map, append-nil}
-use Rattle.rk_inv_base.proofs.Words.{cond_both, All-append, All-contains, All-weaker, Contains-append_left, Contains-append_right}
-use Rattle.rk_inv_base.proofs.Words.{filter-append, filter_passes, meets, Ended, Held, Member, Range, map_after, Entry, is_in, lineage_of}
-use Rattle.rk_inv_base.proofs.Words.{Phase, Owned, Row, base_map, items_of, told, told_by, unmarked_from, counting, counts, named}
-use Rattle.rk_inv_base.proofs.Words.{side_entries, has_all, Written, applied_entries, lineage_rest, lineage_truth, member_rest}
-use Rattle.rk_inv_base.proofs.Words.{member_truth, IsKnown, TellAll, AreAboveMap, IsNext, IsOfWholeRows, AreAbove, IsRest, IsTableOf}
-use Rattle.rk_inv_base.proofs.Words.{IsTruth, View, truths, rests, SoundView}
-use Rattle.rk_inv_rows.proofs.Words.{member as member_at, all_by, IsHalf, IsOfWhole, row_in}
+-- A half of a row has of all that the whole has what is of its range: what counts for it, what that tells, what goes on behind it, and so
+-- what the invariant says of the whole.
+use Rattle.std.proofs.Common.{◌≡◌, ℕ, ◌≤◌, Bool, true, false, arith, eqb, refl, sym, suc, max, cond, List, [], ◌∷◌, ◌++◌, filter}
+use Rattle.std.proofs.Common.{fold, ap, ◌∙◌, drop, nat_lt, slice_index_or, ◌-◌, All, flat_map, ◌<◌, ⊎_elim, bytes_eq, eqb-true, append-nil}
+use Rattle.std.proofs.Common.{Option, ◌≢◌, AllPairs, ◌⊎◌, inl, inr, subst, Contains}
+use Rattle.rk_inv_base.proofs.Words.{nat_tests, has, meets, Range, has_all, cond_both, false≢true, All-append, All-cons, All-drop, All-head}
+use Rattle.rk_inv_base.proofs.Words.{All-map, All-nil, All-tail, All-take, All-weaker, filter-append, hash_of, Held, Member, Entry}
+use Rattle.rk_inv_base.proofs.Words.{FIRST_SIDE_SEGMENT, is_marked, unmarked, unmarked_from, as_entries, counting, counts, material_of}
+use Rattle.rk_inv_base.proofs.Words.{named, named_by, side_entries, with_number, Written, applied_entries, member_rest, member_truth, Mark}
+use Rattle.rk_inv_base.proofs.Words.{and_parts, cases_Bool, cond-false, cond-true, All-filter, bytes_eq-Decides, Map, is_in, is_of_parts}
+use Rattle.rk_inv_base.proofs.Words.{is_of, newest, none_found, IsPlain, items_of, of_key, tells_of, floor_by, floor_of, has_key}
+use Rattle.rk_inv_base.proofs.Words.{AreAboveMap, IsNext, AreAbove, IsTableOf, false_from_ne_true, All-contains, Ended, Placed, is_at_parts}
+use Rattle.rk_inv_base.proofs.Words.{IsLegal, is_at, live_after, map_after, Base, base_map, item_end, outcome_of, refusal_end, told}
+use Rattle.rk_inv_base.proofs.Words.{LastCall, TellAll, IsLastAsked, IsRest, IsStaged, call_end, call_ends, record_of_last, records_of}
+use Rattle.rk_inv_base.proofs.Words.{IsTruth, Call, Contains-append_left, Contains-append_right, filter_passes, lineage_of, Phase, Owned}
+use Rattle.rk_inv_base.proofs.Words.{Row, told_by, lineage_rest, lineage_truth, IsKnown, IsOfWholeRows, View, truths, rests, SoundView}
+use Rattle.rk_inv_rows.proofs.Words.{meets_either, IsHalf, IsOfWhole, live as live_items, record_of as live_of, floor_step, kept_stands}
+use Rattle.rk_inv_rows.proofs.Words.{all_by, filter_from, member as member_at, row_in}
+use Rattle.std.proofs.lemmas.List.Kept.{AllPairs-cons}
+use Rattle.rk_overlay.specs.Newest.{Found, newest_from, with_newer}
+use Rattle.rk_overlay.proofs.Folds.{newest_from-same}
+use Rattle.rk_model.proofs.Histories.{legal_front}
+use Rattle.rk_model.proofs.Keys.{legal_at, legal_from_keys, map_after_by_key}
+use Rattle.rk_model.specs.History.{record_of, records_at}
+use Rattle.rk_inv_rows.proofs.lineage.Among.{flat_among}
 use Rattle.rk_entry.specs.declared.entry.Entry.TheVariants as entries
-use Rattle.rk_inv_rows.proofs.split.HalfCounts.{half_rest, half_truth}
-use Rattle.rk_inv_rows.proofs.split.HalfRests.{rest_half, tells_half, truth_half}
-use Rattle.rk_inv_rows.proofs.split.HalfTells.{above_half, above_kept, items_kept, next_kept, table_half}
+
+module _ (whole half : Range) (is : IsHalf whole half) where
+  -- what is in a half is in the whole
+  pub in_whole : (table hash : ℕ) → has half table hash ≡ true → has whole table hash ≡ true
+  in_whole table hash inside = grind (arith, nat_tests)
+
+  -- what meets a half meets the whole
+  pub meets_whole : (a : Range) → meets a half ≡ true → meets a whole ≡ true
+  meets_whole a met = grind (arith, nat_tests)
+
+  -- what has all of the whole has all of a half
+  pub all_of_half : (a : Range) → has_all a whole ≡ true → has_all a half ≡ true
+  all_of_half a all = grind (arith, nat_tests)
+
+  -- and what has all of a half meets it
+  pub all_meets_half : (a : Range) → has_all a half ≡ true → meets a half ≡ true
+  all_meets_half a all = grind (arith, nat_tests)
+
+  -- so where what meets the whole has all of it, a range has all of a half only if it has all of the whole
+  pub all_of_whole : (a : Range) → (meets whole a ≡ true → has_all a whole ≡ true) → has_all a half ≡ true → has_all a whole ≡ true
+  all_of_whole a wholes all = wholes (meets_either a whole (meets_whole a (all_meets_half a all)))
+
+  -- and it meets a half just where it meets the whole
+  pub meets_same : (a : Range) → (meets whole a ≡ true → has_all a whole ≡ true) → meets a half ≡ meets a whole
+  meets_same a wholes = grind (arith, meets, meets_whole, all_meets_half, all_of_half, meets_either)
+
+-- ---- lists
+
+-- what passes a test that implies another one
+pub filter_finer : {X : Type 0} (p q : X → Bool) (xs : List X) → All (λ x. p x ≡ true → q x ≡ true) xs → filter p xs ≡ filter p (filter q xs)
+filter_finer p q [] all = refl
+filter_finer {X} p q (x ∷ xs) all = go (p x) (q x) refl refl (filter_finer p q xs (All-tail (λ x. p x ≡ true → q x ≡ true) x xs all))
+  where
+    here : p x ≡ true → q x ≡ true
+    here = All-head (λ x. p x ≡ true → q x ≡ true) x xs all
+
+    go : (a b : Bool) → p x ≡ a → q x ≡ b → filter p xs ≡ filter p (filter q xs) → cond a (x ∷ filter p xs) (filter p xs) ≡ filter p (cond b (x ∷ filter q xs) (filter q xs))
+    go true true ea eb later =
+        ap (λ (rest : List X). x ∷ rest) later
+        ∙ ap (λ (c : Bool). cond c (x ∷ filter p (filter q xs)) (filter p (filter q xs))) (sym ea)
+    go true false ea eb later = absurd (false≢true (sym eb ∙ here ea))
+    go false true ea eb later = later ∙ ap (λ (c : Bool). cond c (x ∷ filter p (filter q xs)) (filter p (filter q xs))) (sym ea)
+    go false false ea eb later = later
+
+-- what holds of entries holds of those without a mark
+pub unmarked_all : (P : Entry → Type 0) (marks : List Mark) (place : ℕ) (list : List Entry) → All P list → All P (unmarked marks place list)
+unmarked_all P marks place [] all = all
+unmarked_all P marks place (entry ∷ list) all =
+    let later = unmarked_all P marks (suc place) list (All-tail P entry list all) in
+    cond_both (is_marked marks place) (unmarked marks (suc place) list) (entry ∷ unmarked marks (suc place) list) (All P) (λ e. later)
+    (λ e. All-cons P entry (unmarked marks (suc place) list) (All-head P entry list all) later)
+
+module _ (whole half : Range) (is : IsHalf whole half) where
+  abbrev AreOfWhole : List Entry → Type 0
+  AreOfWhole list = All (IsOfWhole whole) list
+
+  -- ---- entries
+
+  pub counts_whole : (entry : Entry) → IsOfWhole whole entry → counts half entry ≡ true → counts whole entry ≡ true
+  counts_whole entry of inside = grind (arith, in_whole, hash_of, all_of_whole, false≢true)
+
+  pub counting_half : (list : List Entry) → All (IsOfWhole whole) list → counting half list ≡ counting half (counting whole list)
+  counting_half list all =
+      filter_finer (counts half) (counts whole) list
+      (All-weaker (IsOfWhole whole) (λ entry. counts half entry ≡ true → counts whole entry ≡ true) counts_whole list all)
+
+  -- ---- side segments
+
+  names_same : (entry : Entry) → IsOfWhole whole entry → named_by half entry ≡ named_by whole entry
+  names_same (entries.Joined joined) of = ap (λ (b : Bool). cond b joined.segments []) (meets_same whole half is joined.range of)
+  names_same _ of = refl
+
+  all_names_same : (list : List Entry) → All (IsOfWhole whole) list → flat_map (named_by half) list ≡ flat_map (named_by whole) list
+  all_names_same [] all = refl
+  all_names_same (entry ∷ list) all =
+      (λ i.
+      names_same entry (All-head (IsOfWhole whole) entry list all) i
+      ++ all_names_same list (All-tail (IsOfWhole whole) entry list all) i)
+
+  pub named_same : (list : List Entry) → All (IsOfWhole whole) list → named half list ≡ named whole list
+  named_same list all = ap (λ (numbers : List ℕ). fold with_number [] numbers) (all_names_same list all)
+
+  sides_whole : (sides : List (List Held)) (number : ℕ) → AreOfWhole (side_entries sides number)
+  sides_whole sides number =
+      let items : List Held = slice_index_or sides (number - FIRST_SIDE_SEGMENT) [] in
+      cond_both (nat_lt number FIRST_SIDE_SEGMENT) [] (as_entries items) AreOfWhole (λ e. All-nil (IsOfWhole whole))
+      (λ e. All-map (IsOfWhole whole) entries.Held items (each items))
+    where
+      each : (items : List Held) → All (λ item. IsOfWhole whole (entries.Held item)) items
+      each items = λ k d within. tt
+
+  all_sides_whole : (sides : List (List Held)) (numbers : List ℕ) → AreOfWhole (flat_map (side_entries sides) numbers)
+  all_sides_whole sides [] = All-nil _
+  all_sides_whole sides (number ∷ numbers) =
+      All-append (IsOfWhole whole) (side_entries sides number) (flat_map (side_entries sides) numbers) (sides_whole sides number) (all_sides_whole sides numbers)
+
+  -- ---- what counts
+
+  pub material_half : (sides : List (List Held)) (list : List Entry) → All (IsOfWhole whole) list → material_of half (side_entries sides) list ≡ counting half (material_of whole (side_entries sides) list)
+  material_half sides list all =
+      grind (arith, side_entries, named, counting, named_same, counting_half, all_sides_whole, filter-append, counts)
+
+  free_whole : (marks : List Mark) (from : ℕ) (list : List Entry) → AreOfWhole list → AreOfWhole (unmarked_from marks from list)
+  free_whole marks from list all = unmarked_all (IsOfWhole whole) marks from (drop from list) (All-drop (IsOfWhole whole) from list all)
+
+  -- of a member, applied or not, and not applied
+  module _ (written : ℕ → Written) (m : Member) (wholes : All (IsOfWhole whole) (written m.master).entries) where
+    abbrev w : Written
+    w = written m.master
+
+    pub half_truth : member_truth written half m ≡ counting half (member_truth written whole m)
+    half_truth =
+        material_half w.sides (unmarked_from w.marks m.from (applied_entries w))
+        (free_whole w.marks m.from (applied_entries w) (All-take (IsOfWhole whole) w.applied w.entries wholes))
+
+    pub half_rest : member_rest written half m ≡ counting half (member_rest written whole m)
+    half_rest =
+        counting_half (unmarked_from w.marks (max m.from w.applied) w.entries) (free_whole w.marks (max m.from w.applied) w.entries wholes)
+
+-- ---- items
+
+-- the items of what counts for a range, of entries that count or not
+pub items_kept : (range : Range) (list : List Entry) → items_of (counting range list) ≡ filter (is_in range) (items_of list)
+items_kept range [] = refl
+items_kept range (entries.Held held ∷ list) =
+    cond_both (counts range (entries.Held held)) (entries.Held held ∷ counting range list) (counting range list)
+    (λ kept. items_of kept ≡ filter (is_in range) (held ∷ items_of list))
+    (λ e.
+    ap (λ (items : List Held). held ∷ items) (items_kept range list)
+    ∙ sym (cond-true (is_in range held) (held ∷ filter (is_in range) (items_of list)) (filter (is_in range) (items_of list)) e))
+    (λ e.
+    items_kept range list
+    ∙ sym (cond-false (is_in range held) (held ∷ filter (is_in range) (items_of list)) (filter (is_in range) (items_of list)) e))
+items_kept range (entries.Refused refused ∷ list) =
+    cond_both (counts range (entries.Refused refused)) (entries.Refused refused ∷ counting range list) (counting range list)
+    (λ kept. items_of kept ≡ filter (is_in range) (items_of list)) (λ e. items_kept range list) (λ e. items_kept range list)
+items_kept range (entries.Carried carried ∷ list) =
+    cond_both (counts range (entries.Carried carried)) (entries.Carried carried ∷ counting range list) (counting range list)
+    (λ kept. items_of kept ≡ filter (is_in range) (items_of list)) (λ e. items_kept range list) (λ e. items_kept range list)
+items_kept range (entries.Joined joined ∷ list) =
+    cond_both (counts range (entries.Joined joined)) (entries.Joined joined ∷ counting range list) (counting range list)
+    (λ kept. items_of kept ≡ filter (is_in range) (items_of list)) (λ e. items_kept range list) (λ e. items_kept range list)
+
+-- an item of a key in a range is in the range
+in_by_key : (range : Range) (table : ℕ) (key : List ℕ) (item : Held) → is_of table key item ≡ true → has_key range table key ≡ true → is_in range item ≡ true
+in_by_key range table key item its inside =
+    let parts = is_of_parts table key item its in
+    ap (λ (t : ℕ). has_key range t item.key) parts.0 ∙ ap (has_key range table) parts.1 ∙ inside
+
+-- the newest item of a key in a range is the newest of those in the range
+pub newest_kept : (range : Range) (table : ℕ) (key : List ℕ) (found : Found) (items : List Held) → has_key range table key ≡ true → newest_from found (filter (is_in range) items) table key ≡ newest_from found items table key
+newest_kept range table key found [] inside = refl
+newest_kept range table key found (item ∷ items) inside =
+    cond_both (is_in range item) (item ∷ filter (is_in range) items) (filter (is_in range) items)
+    (λ kept. newest_from found kept table key ≡ newest_from (with_newer found item) items table key)
+    (λ e. newest_kept range table key (with_newer found item) items inside)
+    (λ e.
+    let other : is_of table key item ≡ false =
+    false_from_ne_true (is_of table key item) (λ its. false≢true (sym e ∙ in_by_key range table key item its inside)) in
+    newest_kept range table key found items inside
+    ∙ newest_from-same found (with_newer found item) items table key
+    (sym (cond-false (is_of table key item) _ (found table key) other)))
+
+-- items of which two are equal where they are of one key and version
+pub plain_kept : (p : Held → Bool) (items : List Held) → IsPlain items → IsPlain (filter p items)
+plain_kept p items plain a b first second = plain a b (kept_stands p items a first).0 (kept_stands p items b second).0
+
+-- items above those before them
+pub above_kept : (p : Held → Bool) (before items : List Held) → AreAbove before items → AreAbove (filter p before) (filter p items)
+above_kept p before [] above = tt
+above_kept p before (item ∷ items) above =
+    let later = above_kept p (before ++ item ∷ []) items above.1 in
+    cond_both (p item) (item ∷ filter p items) (filter p items) (AreAbove (filter p before))
+    (λ e. (
+      All-filter p (λ (other : Held). is_of item.table item.key other ≡ true → other.version < item.version) before above.0,
+      rw (← (filter-append p before (item ∷ []) ∙ ap (λ (last : List Held). filter p before ++ last) (cond-true (p item) (item ∷ []) [] e))) later,
+    ))
+    (λ e.
+    rw (← (filter-append p before (item ∷ []) ∙ ap (λ (last : List Held). filter p before ++ last) (cond-false (p item) (item ∷ []) [] e) ∙ append-nil (filter p before)))
+    later)
+
+-- ---- floors
+
+floor_more : (a b : ℕ) (entry : Entry) → a ≤ b → floor_by a entry ≤ floor_by b entry
+floor_more a b (entries.Refused refused) less = less
+floor_more a b (entries.Joined joined) less = less
+floor_more a b _ less = omega (arith, less)
+
+floor_kept_from : (p : Entry → Bool) (a b : ℕ) (list : List Entry) → a ≤ b → fold floor_by a (filter p list) ≤ fold floor_by b list
+floor_kept_from p a b [] less = less
+floor_kept_from p a b (entry ∷ list) less =
+    let step = floor_step b entry in
+    cond_both (p entry) (entry ∷ filter p list) (filter p list) (λ kept. fold floor_by a kept ≤ fold floor_by (floor_by b entry) list)
+    (λ e. floor_kept_from p (floor_by a entry) (floor_by b entry) list (floor_more a b entry less))
+    (λ e. floor_kept_from p a (floor_by b entry) list (omega (arith, less, step)))
+
+-- a number that is next after some entries is next after fewer
+pub next_kept : (p : Entry → Bool) (list : List Entry) (number : ℕ) → IsNext list number → IsNext (filter p list) number
+next_kept p list number next =
+    let few = floor_kept_from p 1 1 list (omega arith) in omega (arith, few, next)
+
+-- ---- a half
+
+module _ (whole half : Range) (is : IsHalf whole half) where
+  -- what tells of a key in the half, and counts for the whole, counts for the half
+  tells_in_half : (table : ℕ) (key : List ℕ) → has_key half table key ≡ true → (entry : Entry) → counts whole entry ≡ true → tells_of table key entry ≡ true → counts half entry ≡ true
+  tells_in_half table key inside entry counted tells =
+      grind (arith, in_by_key, and_parts, eqb, bytes_eq, has_key, eqb-true, bytes_eq-Decides, all_of_half, false≢true)
+
+  pub of_key_half : (table : ℕ) (key : List ℕ) (list : List Entry) → has_key half table key ≡ true → All (λ entry. counts whole entry ≡ true) list → of_key table key (counting half list) ≡ of_key table key list
+  of_key_half table key list inside all =
+      sym (filter_finer (tells_of table key) (counts half) list
+      (All-weaker _ _ (tells_in_half table key inside) list all))
+
+  -- so floors of its keys are as they were
+  pub above_half : (map : Map) (list : List Entry) → All (λ entry. counts whole entry ≡ true) list → AreAboveMap whole map list → AreAboveMap half map (counting half list)
+  above_half map list all above table key inside = grind (arith, floor_of, of_key_half, in_whole, hash_of)
+
+  -- and the records that its items leave
+  pub live_half : (list : List Entry) (table : ℕ) (key : List ℕ) → has_key half table key ≡ true → live_items (items_of (counting half list)) table key ≡ live_items (items_of list) table key
+  live_half list table key inside =
+      ap (λ (items : List Held). live_items items table key) (items_kept half list)
+      ∙ ap live_of (newest_kept half table key none_found (items_of list) inside)
+
+  -- records that have the newest items of the whole have those of the half
+  pub table_half : (list : List Entry) (records : List Held) → IsTableOf whole list records → IsTableOf half (counting half list) records
+  table_half list records all item inside =
+      rw (ap (λ (items : List Held). newest items item.table item.key) (items_kept half list)
+      ∙ newest_kept half item.table item.key none_found (items_of list) inside)
+      (all item (in_whole whole half is item.table (hash_of item.key) inside))
+
+-- ---- records by key
+
+-- the record that an end will make is of its key alone
+module _ (asked : ℕ → Option LastCall) (journal : List Placed) (range : Range) (table : ℕ) (key : List ℕ) where
+  -- the records of a key that ends will make
+  abbrev MadeOf : List Ended → List Placed
+  MadeOf ends = records_at table key (records_of asked ends)
+
+  -- an entry that counts where its key is in the range, and tells the end of the last call of a client alone
+  record IsTold (entry : Entry) : Type 0 where
+    end : Ended
+    seq : ℕ
+    its_table : ℕ
+    its_key : List ℕ
+    last : IsLastAsked asked journal end.client seq its_table its_key
+    counted : counts range entry ≡ has_key range its_table its_key
+    ends : call_end entry ≡ end ∷ []
+
+  -- what is staged tells no end or one
+  told_cases : (base : Base) (entry : Entry) → IsStaged base asked journal entry → (call_end entry ≡ []) ⊎ IsTold entry
+  told_cases base entry staged = grind (arith, item_end, refusal_end)
+
+  one_apart : (entry : Entry) (told : IsTold entry) → (has_key range told.its_table told.its_key ≡ has_key range table key → ⊥) → records_at table key (record_of_last told.end (asked told.end.client)) ≡ []
+  one_apart entry told apart =
+      let is = told.last in
+      let placed : Placed = record { call = is.last.call; outcome = outcome_of told.end.end; stamp = 0; accepted = false } in
+      let other : is_at table key placed ≡ false =
+      false_from_ne_true (is_at table key placed)
+      (λ here.
+      let parts = is_at_parts table key placed here in
+      apart
+      (ap (λ (n : ℕ). has_key range n told.its_key) (sym is.table_is ∙ parts.0) ∙ ap (has_key range table) (sym is.key_is ∙ parts.1))) in
+      ap (λ (last : Option LastCall). records_at table key (record_of_last told.end last)) is.asked_is
+      ∙ cond-false (is_at table key placed) (placed ∷ []) [] other
+
+  -- what is made by an end and others
+  made_cons : (end : Ended) (ends : List Ended) → MadeOf (end ∷ ends) ≡ records_at table key (record_of_last end (asked end.client)) ++ MadeOf ends
+  made_cons end ends = filter-append (is_at table key) (record_of_last end (asked end.client)) (records_of asked ends)
+
+  -- of a key in the range what counts there makes all records
+  same_made : (base : Base) → has_key range table key ≡ true → (list : List Entry) → All (IsStaged base asked journal) list → MadeOf (call_ends (counting range list)) ≡ MadeOf (call_ends list)
+  same_made base inside [] staged = refl
+  same_made base inside (entry ∷ list) staged =
+      let few : List Entry = counting range list in
+      let later : MadeOf (call_ends few) ≡ MadeOf (call_ends list) =
+      same_made base inside list (All-tail (IsStaged base asked journal) entry list staged) in
+      cond_both (counts range entry) (entry ∷ few) few (λ few. MadeOf (call_ends few) ≡ MadeOf (call_ends (entry ∷ list)))
+      (λ e.
+      ⊎_elim (λ (none : call_end entry ≡ []). rw none later)
+      (λ (told : IsTold entry).
+      rw told.ends
+      (made_cons told.end (call_ends few)
+      ∙ ap (λ (more : List Placed). records_at table key (record_of_last told.end (asked told.end.client)) ++ more) later
+      ∙ sym (made_cons told.end (call_ends list))))
+      (told_cases base entry (All-head (IsStaged base asked journal) entry list staged)))
+      (λ e.
+      ⊎_elim (λ (none : call_end entry ≡ []). rw none later)
+      (λ (told : IsTold entry).
+      rw told.ends
+      (later
+      ∙ sym (made_cons told.end (call_ends list)
+      ∙ ap (λ (front : List Placed). front ++ MadeOf (call_ends list))
+      (one_apart entry told (λ same. false≢true (sym e ∙ told.counted ∙ same ∙ inside))))))
+      (told_cases base entry (All-head (IsStaged base asked journal) entry list staged)))
+
+  -- and of another key none
+  none_made : (base : Base) → has_key range table key ≡ false → (list : List Entry) → All (IsStaged base asked journal) list → MadeOf (call_ends (counting range list)) ≡ []
+  none_made base outside [] staged = refl
+  none_made base outside (entry ∷ list) staged =
+      let few : List Entry = counting range list in
+      let later : MadeOf (call_ends few) ≡ [] = none_made base outside list (All-tail (IsStaged base asked journal) entry list staged) in
+      cond_both (counts range entry) (entry ∷ few) few (λ few. MadeOf (call_ends few) ≡ [])
+      (λ e.
+      ⊎_elim (λ (none : call_end entry ≡ []). rw none later)
+      (λ (told : IsTold entry).
+      rw told.ends
+      (made_cons told.end (call_ends few)
+      ∙ (λ i. one_apart entry told (λ same. false≢true (sym outside ∙ sym same ∙ sym told.counted ∙ e)) i ++ later i)))
+      (told_cases base entry (All-head (IsStaged base asked journal) entry list staged)))
+      (λ e. later)
+
+-- ---- ends
+
+-- what holds of the ends of calls holds of those that count
+ends_kept : (P : Ended → Type 0) (range : Range) (list : List Entry) → All P (call_ends list) → All P (call_ends (counting range list))
+ends_kept P range list all =
+    all_by P (call_ends (counting range list))
+    (λ end at.
+    All-contains P (call_ends list) end all
+    (flat_among call_end (counting range list) list (λ entry. filter_from (counts range) list entry) end at))
+
+-- of pairs in order the first is so with each other, and the others are so
+first_pairs : {X : Type 0} (R : X → X → Type 0) (x : X) (xs : List X) → AllPairs R (x ∷ xs) → All (R x) xs
+first_pairs R x xs pairs = λ k d within. pairs 0 (suc k) d (omega arith) (omega (arith, within))
+
+later_pairs : {X : Type 0} (R : X → X → Type 0) (x : X) (xs : List X) → AllPairs R (x ∷ xs) → AllPairs R xs
+later_pairs R x xs pairs = λ i j d less within. pairs (suc i) (suc j) d (omega (arith, less)) (omega (arith, within))
+
+-- an entry has the end of one call at most
+end_cases : (entry : Entry) → (call_end entry ≡ []) ⊎ ((end : Ended) × (call_end entry ≡ end ∷ []))
+end_cases (entries.Held held) = inr (item_end held, refl)
+end_cases (entries.Refused refused) = inr (refusal_end refused, refl)
+end_cases _ = inl refl
+
+pairs_kept : (R : Ended → Ended → Type 0) (range : Range) (list : List Entry) → AllPairs R (call_ends list) → AllPairs R (call_ends (counting range list))
+pairs_kept R range [] pairs = pairs
+pairs_kept R range (entry ∷ list) pairs =
+    let few : List Entry = counting range list in
+    ⊎_elim
+    (λ (none : call_end entry ≡ []).
+    let later : AllPairs R (call_ends few) = pairs_kept R range list (rw none at pairs) in
+    cond_both (counts range entry) (entry ∷ few) few (λ few. AllPairs R (call_ends few)) (λ e. rw none later) (λ e. later))
+    (λ (one : (end : Ended) × (call_end entry ≡ end ∷ [])).
+    let all : AllPairs R (one.0 ∷ call_ends list) = rw one.1 at pairs in
+    let later : AllPairs R (call_ends few) = pairs_kept R range list (later_pairs R one.0 (call_ends list) all) in
+    cond_both (counts range entry) (entry ∷ few) few (λ few. AllPairs R (call_ends few))
+    (λ e. rw one.1 (AllPairs-cons R one.0 (call_ends few) (ends_kept (R one.0) range list (first_pairs R one.0 (call_ends list) all)) later))
+    (λ e. later))
+    (end_cases entry)
+
+-- ---- a half
+
+module _ (whole half : Range) (is : IsHalf whole half) where
+  -- the truth of the whole has that of the half
+  pub truth_half : (base : Base) (truth : List Entry) (journal : List Placed) → IsTruth base whole truth journal → IsTruth base half (counting half truth) journal
+  truth_half base truth journal was = record {
+    plain = rw (items_kept half truth) (plain_kept (is_in half) (items_of truth) was.plain);
+    live = λ table key inside.
+        live_half whole half is truth table key inside ∙ was.live table key (in_whole whole half is table (hash_of key) inside);
+  }
+
+  -- what tells each mutation of the whole tells each of the half
+  pub tells_half : (journal : List Placed) (list : List Entry) → All (λ entry. counts whole entry ≡ true) list → TellAll whole journal list → TellAll half journal (counting half list)
+  tells_half journal list all tells k d within inside mutation =
+      let call : Call = (slice_index_or journal k d).call in
+      rw (of_key_half whole half is call.table call.key list inside all)
+      (tells k d within (in_whole whole half is call.table (hash_of call.key) inside) mutation)
+
+  module _ (base : Base) (truth rest : List Entry) (journal : List Placed) (asked : ℕ → Option LastCall) (was : IsRest base whole truth rest journal asked) where
+    -- the records that all and those of the half will make, behind the journal
+    abbrev all_made : List Placed
+    all_made = journal ++ records_of asked (call_ends rest)
+
+    abbrev half_made : List Placed
+    half_made = journal ++ records_of asked (call_ends (counting half rest))
+
+    made_at : (table : ℕ) (key : List ℕ) (list : List Entry) → records_at table key (journal ++ records_of asked (call_ends list)) ≡ records_at table key journal ++ records_at table key (records_of asked (call_ends list))
+    made_at table key list = filter-append (is_at table key) journal (records_of asked (call_ends list))
+
+    same_at : (table : ℕ) (key : List ℕ) → has_key half table key ≡ true → records_at table key half_made ≡ records_at table key all_made
+    same_at table key inside =
+        made_at table key (counting half rest)
+        ∙ ap (λ (more : List Placed). records_at table key journal ++ more) (same_made asked journal half table key base inside rest was.staged)
+        ∙ sym (made_at table key rest)
+
+    legal_at_key : (table : ℕ) (key : List ℕ) → IsLegal (base_map base) (records_at table key half_made)
+    legal_at_key table key =
+        ⊎_elim
+        (λ (inside : has_key half table key ≡ true).
+        rw (same_at table key inside) (legal_at (base_map base) table key all_made was.legal))
+        (λ (outside : has_key half table key ≡ false).
+        rw (made_at table key (counting half rest)
+        ∙ ap (λ (more : List Placed). records_at table key journal ++ more) (none_made asked journal half table key base outside rest was.staged)
+        ∙ append-nil (records_at table key journal))
+        (legal_at (base_map base) table key journal (legal_front (base_map base) journal (records_of asked (call_ends rest)) was.legal)))
+        (cases_Bool (has_key half table key))
+
+    live_at : (table : ℕ) (key : List ℕ) → has_key half table key ≡ true → live_after (base_map base) half_made table key ≡ live_after (base_map base) all_made table key
+    live_at table key inside =
+        ap record_of
+        (map_after_by_key (base_map base) half_made table key
+        ∙ ap (λ (history : List Placed). map_after (base_map base) history table key) (same_at table key inside)
+        ∙ sym (map_after_by_key (base_map base) all_made table key))
+
+    -- so the rest of the whole has that of the half
+    pub rest_half : IsRest base half (counting half truth) (counting half rest) journal asked
+    rest_half = record {
+      legal = legal_from_keys (base_map base) half_made legal_at_key;
+      live = λ table key inside.
+          ap (λ (list : List Entry). live_items (items_of list) table key) (sym (filter-append (counts half) truth rest))
+          ∙ live_half whole half is (truth ++ rest) table key inside
+          ∙ was.live table key (in_whole whole half is table (hash_of key) inside)
+          ∙ sym (live_at table key inside);
+      staged = All-filter (counts half) (IsStaged base asked journal) rest was.staged;
+      one = pairs_kept (λ a b. a.client ≢ b.client) half rest was.one;
+    }
 
 -- what all entries tell, those that count tell of it
 told_kept : (P : Ended → Type 0) (range : Range) (list : List Entry) → All P (told list) → All P (told (counting range list))
@@ -38,11 +468,7 @@ module _ (v : View) (sound : SoundView v) (row half : Row) (has : Contains v.row
 
   -- each Carried and each Joined that meets the row has all of it
   of_whole : (entry : Entry) → IsOfWholeRows v.rows entry → IsOfWhole row.range entry
-  of_whole (entries.Carried carried) wholes =
-      All-contains (λ (r : Row). meets r.range carried.range ≡ true → has_all carried.range r.range ≡ true) v.rows row wholes has
-  of_whole (entries.Joined joined) wholes =
-      All-contains (λ (r : Row). meets r.range joined.range ≡ true → has_all joined.range r.range ≡ true) v.rows row wholes has
-  of_whole _ wholes = tt
+  of_whole entry wholes = grind (arith, meets, has_all, has)
 
   pub wholes : (q : ℕ) → All (IsOfWhole row.range) (v.written q).entries
   wholes q = All-weaker _ _ of_whole (v.written q).entries (sound.cover.wholes q)

@@ -1,15 +1,14 @@
 -- The targets and rebuilds of a view whose row is split, and what its messages say.
-use Rattle.std.proofs.Common.{◌≡◌, ℕ, ◌+◌, ◌≤◌, ◌<◌, true, [], ◌∷◌, eqb, sym, ap, ◌∙◌, ⊎_elim, arith, inl, inr, IfSome, is_some, All}
+use Rattle.std.proofs.Common.{◌≡◌, ℕ, ◌+◌, ◌≤◌, ◌<◌, true, [], ◌∷◌, eqb, sym, ap, ◌∙◌, ⊎_elim, arith, inl, inr, IfSome, All}
 use Rattle.std.proofs.Common.{ne_eqb}
-use Rattle.rk_inv_base.proofs.Words.{cases_eq, cond_both, All-contains, ⊤, get, meets, Node, Range, Handover, row_of, Owned, Rebuilding}
-use Rattle.rk_inv_base.proofs.Words.{Row, Grant, Prepare, Tenure, Body, Rebuild, is_member, Mark, is_wanting, AsksFor, IsOnlyRebuilder}
-use Rattle.rk_inv_base.proofs.Words.{IsOwner, SaysOf, PrepareFits, CloseFits, GrantAgrees, IfMaster, OwnFits, ReleaseFits, RebuildFits}
-use Rattle.rk_inv_base.proofs.Words.{IsOf, Bystander, Owner, MarkFits, tenure_in, View}
+use Rattle.rk_inv_base.proofs.Words.{cases_eq, cond_both, get, meets, Node, Range, Handover, row_of, Owned, Row}
+use Rattle.rk_inv_base.proofs.Words.{Grant, Prepare, Tenure, Body, Rebuild, is_member, Mark, is_wanting, AsksFor, IsOnlyRebuilder, IsOwner}
+use Rattle.rk_inv_base.proofs.Words.{SaysOf, PrepareFits, CloseFits, GrantAgrees, OwnFits, ReleaseFits, RebuildFits, IsOf, Bystander, Owner}
+use Rattle.rk_inv_base.proofs.Words.{tenure_in, View}
 use Rattle.rk_inv_rows.proofs.Words.{all_by, by_master, if_master, IsHalf}
-use Rattle.rk_types.specs.declared.node.Node.TheVariants as nodes
-use Rattle.rk_message.specs.declared.message.Body.TheVariants as bodies
 use Rattle.rk_inv_rows.proofs.split.Splitting.{split_row, Splitting, Halved, row, unknown_new, at_most_row, low_half_of, high_half_of}
 use Rattle.rk_inv_rows.proofs.split.Splitting.{Serves, IsOfHalves, post_now, half_met, no_owner, new_apart, by}
+use Rattle.rk_message.specs.declared.message.Body.TheVariants as bodies
 
 module _ (v : View) (cut : Splitting v) (after : Halved v cut) where
   open cut use {tablet, range, term, owner, from, at, new, sound, has_row}
@@ -17,20 +16,7 @@ module _ (v : View) (cut : Splitting v) (after : Halved v cut) where
 
   -- neither half has a mark
   pub no_mark : (Q : Mark → Type 0) (q n : ℕ) → IsOfHalves v cut n → All (λ mark. mark.tablet ≡ n → Q mark) (v.written q).marks
-  no_mark Q q n its =
-      all_by (λ mark. mark.tablet ≡ n → Q mark) (v.written q).marks
-      (λ mark there is.
-      ⊎_elim
-      (λ (e : n ≡ tablet).
-      let fits : MarkFits (row v cut) q (v.handovers q tablet) (v.live q) (v.written q) mark =
-      All-contains (λ (m : Mark). m.tablet ≡ tablet → MarkFits (row v cut) q (v.handovers q tablet) (v.live q) (v.written q) m) (v.written q).marks mark
-      ((split_row v cut).marks q)
-      there (is ∙ e) in
-      let clash : Owned owner from ≡ Rebuilding fits.rebuilt.0 fits.rebuilt.1 = fits.rebuilt.2 in
-      absurd (cc clash))
-      (λ (e : n ≡ new).
-      absurd (unknown_new v cut mark.tablet (All-contains (λ (m : Mark). is_some (row_of v.rows m.tablet) ≡ true) (v.written q).marks mark (sound.cover.marks q) there) (is ∙ e)))
-      its)
+  no_mark Q q n its = grind (arith, all_by, row, split_row, unknown_new, row_of)
 
   -- ---- messages
 

@@ -1,33 +1,32 @@
 -- A view stays sound when an owned row is split in two, and its owner, if it lives, serves both halves: terms and cover, what is staged, the
 -- records and the calls.
-use Rattle.std.proofs.Common.{◌≡◌, ℕ, ◌+◌, ◌≤◌, true, false, Option, Some, None, refl, sym, ap, ◌∙◌, ⊎_elim, arith, IfSome, is_some, All}
-use Rattle.std.proofs.Common.{Contains, flat_map, ◌<◌, Bool, cond, ◌&&◌, List, [], ◌∷◌, ◌++◌, eqb, leb, ◌⊎◌, inl, inr, ◌-◌, drop, filter}
+use Rattle.std.proofs.Common.{◌≡◌, ℕ, ◌+◌, ◌≤◌, true, false, Some, refl, sym, ap, ◌∙◌, ⊎_elim, arith, IfSome, is_some, All}
+use Rattle.std.proofs.Common.{Contains, flat_map, Bool, cond, List, [], ◌∷◌, ◌++◌, eqb, leb, ◌⊎◌, inl, inr, drop, filter}
 use Rattle.std.proofs.Common.{max, eq-eqb, slice_index_or}
-use Rattle.rk_inv_base.proofs.Words.{cases_Bool, cases_eq, false≢true, All-contains, All-weaker, IfSome_then, hash_of, has, meets, Held}
-use Rattle.rk_inv_base.proofs.Words.{Range, Entry, Handover, Role, row_of, Row, Tenure, Body, has_all, is_absent, HasWholeRows}
-use Rattle.rk_inv_base.proofs.Words.{IsEntryWithin, IsItemWithin, IsOfWholeRows, IsWithinRows, Bystander, Owner, Holds, bond_of}
-use Rattle.rk_inv_base.proofs.Words.{HandoverFits, SentFits, range_in, tenure_in, View, false_from_ne_true, cases_lt, or_from, or_parts}
-use Rattle.rk_inv_base.proofs.Words.{nat_tests, list_any, Call, Ended, Member, is_mutation, ends_of, is_serving, lineage_of, Owned}
-use Rattle.rk_inv_base.proofs.Words.{Rebuilding, last_of, touches, is_joined_in, is_idle, may_have_staged, Written, member_truth, IsKnown}
-use Rattle.rk_inv_base.proofs.Words.{IsReached, IsStagedEnd, ReachAll, is_record_in, IsNext, speaks, OnlyIsUnnamed, Waits, IsTableOf}
-use Rattle.rk_inv_base.proofs.Words.{has_all_items, truths, rests, is_covered, Message, get, Post, HasOwnRange, MarkFits, SoundView}
+use Rattle.rk_inv_base.proofs.Words.{cases_eq, false≢true, All-contains, All-weaker, IfSome_then, hash_of, has, meets, Held, Range, Entry}
+use Rattle.rk_inv_base.proofs.Words.{Handover, Role, row_of, Row, Body, has_all, is_absent, HasWholeRows, IsEntryWithin}
+use Rattle.rk_inv_base.proofs.Words.{IsItemWithin, IsOfWholeRows, IsWithinRows, Bystander, Owner, Holds, bond_of, HandoverFits, SentFits}
+use Rattle.rk_inv_base.proofs.Words.{range_in, tenure_in, View, false_from_ne_true, cases_lt, or_from, or_parts, nat_tests, list_any, Call}
+use Rattle.rk_inv_base.proofs.Words.{Ended, Member, ends_of, is_serving, lineage_of, Owned, Rebuilding, last_of, touches, is_joined_in}
+use Rattle.rk_inv_base.proofs.Words.{is_idle, may_have_staged, Written, member_truth, IsKnown, IsStagedEnd, ReachAll, IsNext, speaks}
+use Rattle.rk_inv_base.proofs.Words.{OnlyIsUnnamed, Waits, IsTableOf, has_all_items, truths, rests, is_covered, Message, get, Post}
+use Rattle.rk_inv_base.proofs.Words.{HasOwnRange, MarkFits, SoundView}
 use Rattle.rk_inv_rows.proofs.Words.{covered_by, meets_either, IsHalf, all_by, same_number, waits_for, none_for_owned, row_in, IsNextOf}
 use Rattle.rk_inv_rows.proofs.Words.{SoundBeside, SoundRow, view_by_rows, as_half, bystander_stays}
-use Rattle.rk_entry.specs.declared.entry.Entry.TheVariants as entries
-use Rattle.rk_transfer.specs.declared.role.Role.TheVariants as roles
 use Rattle.rk_sound.specs.Cover.{Cover}
 use Rattle.rk_inv_rows.proofs.split.Splitting.{Splitting, Halved, row, low, high, rows', in_row, each, kept, none_new, unknown_new}
 use Rattle.rk_inv_rows.proofs.split.Splitting.{low_half, high_half, covered_same, known_on, known_new, known_low, still_none, term_none}
 use Rattle.rk_inv_rows.proofs.split.Splitting.{Serves, half_met, half_apart, owner_fits, owner_range, low_apart, high_apart, by, split_row}
 use Rattle.rk_inv_rows.proofs.split.Splitting.{map, Beside, IsOfHalves, post_now, bystands, new_apart, low_stands, high_stands}
 use Rattle.rk_inv_rows.proofs.split.Splitting.{other_stands, of_row, by_row, Counts, absent_before, apart_of, by_post, halved_map, no_owner}
-use Rattle.rk_inv_rows.proofs.split.Ranges.{all_of_half, in_whole, meets_whole}
-use Rattle.rk_inv_rows.proofs.split.HalfCounts.{filter_finer}
-use Rattle.rk_inv_rows.proofs.split.HalfOfRow.{table_of_half, low_of_half, next_of_half, order_of_half, reached_of_half, recorded_of_half}
-use Rattle.rk_inv_rows.proofs.split.HalfOfRow.{rest_of_half, truth_of_half}
+use Rattle.rk_inv_rows.proofs.split.HalfOfRow.{all_of_half, in_whole, meets_whole, filter_finer, table_of_half, low_of_half, next_of_half}
+use Rattle.rk_inv_rows.proofs.split.HalfOfRow.{order_of_half, reached_of_half, recorded_of_half, rest_of_half, truth_of_half}
 use Rattle.rk_inv_base.proofs.calls.Receives.{IsBareOf}
 use Rattle.rk_inv_base.proofs.views.OwnTablet.{row_kept, seen_at}
 use Rattle.rk_inv_rows.proofs.split.HalvedMessages.{SpokeOf, no_mark, says_half}
+use Rattle.rk_inv_base.proofs.views.ByRows.{staged_as}
+use Rattle.rk_entry.specs.declared.entry.Entry.TheVariants as entries
+use Rattle.rk_transfer.specs.declared.role.Role.TheVariants as roles
 
 -- what has not begun is a bystander's
 pub absent_fits : (role : Role) (term own applied : ℕ) → own ≡ 0 → is_absent role ≡ true → Holds (bond_of Bystander role) term own applied
@@ -41,10 +40,7 @@ owner_present role place term own applied holds = refl
 
 -- a bystander does not speak, and has nothing staged
 pub bystander_quiet : (role : Role) (term own applied : ℕ) → Holds (bond_of Bystander role) term own applied → (is_serving role ≡ false) × (is_idle role ≡ true)
-bystander_quiet roles.Absent term own applied holds = (refl, refl)
-bystander_quiet roles.Frozen term own applied holds = (refl, refl)
-bystander_quiet (roles.Wanting place) term own applied holds = (refl, refl)
-bystander_quiet _ term own applied holds = absurd holds
+bystander_quiet role term own applied holds = grind arith
 
 -- what a test that implies another one finds
 any_finer : (p q : Entry → Bool) (list : List Entry) → ((entry : Entry) → p entry ≡ true → q entry ≡ true) → list_any q list ≡ false → list_any p list ≡ false
@@ -154,30 +150,10 @@ module _ (v : View) (cut : Splitting v) (after : Halved v cut) where
       (λ _ too second. absurd (unlike (its ∙ sym too))))
 
   pub sent_low : (body : Body) → SentFits (row v cut) body → SentFits (low v cut) body
-  sent_low body was = record {
-    within = IfSome_then (tenure_in body) was.within (λ tenure fits is. let low_enough = fits is in omega (arith, low_enough));
-    below =
-        IfSome_then (tenure_in body) was.below
-        (λ tenure fits.
-        IfSome_then (range_in body) fits (λ r its apart met. let less = its apart (half_met v cut (low v cut).range r (low_half v cut) met) in omega (arith, less)));
-  }
+  sent_low body was = grind (arith, tenure_in, range_in, half_met, low, low_half)
 
   pub sent_high : (body : Body) → IfSome (tenure_in body) (λ tenure. is_some (row_of v.rows tenure.tablet) ≡ true) → SentFits (row v cut) body → SentFits (high v cut) body
-  sent_high body knows was = record {
-    within = IfSome_then (tenure_in body) knows (λ tenure known is. absurd (unknown_new v cut tenure.tablet known (sym is)));
-    below =
-        IfSome_then (tenure_in body) (both_some _ _ (tenure_in body) was.within was.below)
-        (λ tenure fits.
-        IfSome_then (range_in body) fits.1
-        (λ r its apart met.
-        ⊎_elim (λ (is : tablet ≡ tenure.tablet). let low_enough = fits.0 is in omega (arith, low_enough))
-        (λ (away : tablet ≡ tenure.tablet → ⊥). let less = its away (half_met v cut (high v cut).range r (high_half v cut) met) in omega (arith, less))
-        (cases_eq tablet tenure.tablet)));
-  }
-    where
-      both_some : (P Q : Tenure → Type 0) (o : Option Tenure) → IfSome o P → IfSome o Q → IfSome o (λ t. P t × Q t)
-      both_some P Q None p q = tt
-      both_some P Q (Some t) p q = (p, q)
+  sent_high body knows was = grind (arith, tenure_in, unknown_new, range_in, half_met, high, high_half, cases_eq)
 
   pub kept_fits : (q n : ℕ) → All (λ r. HandoverFits r n (handovers' q n)) (rows' v cut)
   kept_fits q n = each v cut (λ r. HandoverFits r n (handovers' q n)) (fits_low q n) (fits_high q n) (fits_other q n)
@@ -196,10 +172,7 @@ module _ (v : View) (cut : Splitting v) (after : Halved v cut) where
   item_within item within = covered_same v cut item.table (hash_of item.key) ∙ within
 
   entry_within : (entry : Entry) → IsEntryWithin v.rows entry → IsEntryWithin (rows' v cut) entry
-  entry_within (entries.Held held) within = item_within held within
-  entry_within (entries.Refused refused) within = covered_same v cut refused.table (hash_of refused.key) ∙ within
-  entry_within (entries.Carried carried) within = range_within carried.range within
-  entry_within (entries.Joined joined) within = range_within joined.range within
+  entry_within entry within = grind (arith, item_within, covered_same, hash_of, range_within)
 
   half_whole : (half r : Range) → IsHalf range half → HasWholeRows v.rows r → meets half r ≡ true → has_all r half ≡ true
   half_whole half r is wholes met =
@@ -236,10 +209,7 @@ module _ (v : View) (cut : Splitting v) (after : Halved v cut) where
   -- ---- roles
 
   pub row_known : (q n : ℕ) → v.live q ≡ true → is_absent (handovers' q n).role ≡ false → is_some (row_of (rows' v cut) n) ≡ true
-  row_known q n lives =
-      by v cut after (λ h. is_absent h.role ≡ false → is_some (row_of (rows' v cut) n) ≡ true) q n (λ _ there. known_on v cut n (sound.roles.known q n lives there))
-      (λ _ its there. ap (λ (m : ℕ). is_some (row_of (rows' v cut) m)) its ∙ known_low v cut)
-      (λ _ its there. ap (λ (m : ℕ). is_some (row_of (rows' v cut) m)) its ∙ known_new v cut)
+  row_known q n lives = grind (arith, by, is_absent, row_of, rows', known_on, known_low, known_new)
 
   -- ---- counters, what is staged, and calls
 
@@ -254,10 +224,7 @@ module _ (v : View) (cut : Splitting v) (after : Halved v cut) where
   -- ---- what is staged
 
   touches_row : (half : Range) → IsHalf range half → (entry : Entry) → touches half entry ≡ true → touches range entry ≡ true
-  touches_row half is (entries.Held held) met = in_whole range half is held.table (hash_of held.key) met
-  touches_row half is (entries.Refused refused) met = in_whole range half is refused.table (hash_of refused.key) met
-  touches_row half is (entries.Carried carried) met = meets_whole range half is carried.range met
-  touches_row half is (entries.Joined joined) met = meets_whole range half is joined.range met
+  touches_row half is entry met = grind (arith, in_whole, hash_of, meets_whole)
 
   joined_row : (half : Range) → IsHalf range half → (entry : Entry) → is_joined_in half entry ≡ true → is_joined_in range entry ≡ true
   joined_row half is (entries.Joined joined) met = meets_whole range half is joined.range met
@@ -273,24 +240,11 @@ module _ (v : View) (cut : Splitting v) (after : Halved v cut) where
       ∙ ap (filter (is_joined_in half)) none
 
   pub idle_half : (half : Range) → IsHalf range half → (q : ℕ) → v.live q ≡ true → eqb owner q ≡ false → list_any (touches half) (drop (v.written q).applied (v.written q).entries) ≡ false
-  idle_half half is q lives away =
-      any_finer (touches half) (touches range) (drop (v.written q).applied (v.written q).entries) (touches_row half is)
-      ((split_row v cut).idle q (inl lives)
-      (bystander_quiet (v.handovers q tablet).role cut.term (v.handovers q tablet).term (v.written q).applied (bystands v cut q lives away)).1)
+  idle_half half is q lives away = grind (arith, any_finer, touches, touches_row, split_row, bystander_quiet, bystands)
 
   -- a key of the row is in one of the halves
   in_a_half : (table hash : ℕ) → has range table hash ≡ true → (has (low v cut).range table hash ≡ true) ⊎ (has (high v cut).range table hash ≡ true)
-  in_a_half table hash inside = go range.table range.first range.last at table hash inside (cases_lt hash at)
-    where
-      below : (t f l at u h : ℕ) → (eqb t u && leb f h && leb h l) ≡ true → h < at → (eqb t u && leb f h && leb h (at - 1)) ≡ true
-      below t f l at u h inside less = grind (arith, nat_tests)
-
-      from_it : (t f l at u h : ℕ) → (eqb t u && leb f h && leb h l) ≡ true → at ≤ h → (eqb t u && leb at h && leb h l) ≡ true
-      from_it t f l at u h inside more = grind (arith, nat_tests)
-
-      go : (t f l at u h : ℕ) → (eqb t u && leb f h && leb h l) ≡ true → (h < at) ⊎ (at ≤ h) → ((eqb t u && leb f h && leb h (at - 1)) ≡ true) ⊎ ((eqb t u && leb at h && leb h l) ≡ true)
-      go t f l at u h inside =
-          ⊎_elim (λ (less : h < at). inl (below t f l at u h inside less)) (λ (more : at ≤ h). inr (from_it t f l at u h inside more))
+  in_a_half table hash inside = grind (arith, cases_lt, eqb, leb, nat_tests)
 
   abbrev WaitsNow : ℕ → ℕ → Call → Type 0
   WaitsNow q place call = Waits (rows' v cut) (handovers' q) (v.written q) q place call
@@ -365,16 +319,11 @@ module _ (v : View) (cut : Splitting v) (after : Halved v cut) where
       ⊎_elim (λ (knows : IsKnown v.base v.journal end). inl knows)
       (λ (s : IsStagedEnd v.rows (rests v) q n (v.handovers q n).term end).
       let unlike : s.row.tablet ≡ tablet → ⊥ = λ its. not_staged q n (v.handovers q n).term end (sym s.number ∙ its) s in
-      inr (record {
-        row = s.row;
-        stands = other_stands v cut s.row s.stands unlike;
-        told = s.told;
-        number = s.number;
-        rebuilt = s.rebuilt;
-        at_term =
-            ap (λ (m : ℕ). (handovers' q m).term) (sym s.number) ∙ sym (ap (λ (h : Handover). h.term) (of_row v cut after s.row s.stands unlike q))
-            ∙ ap (λ (m : ℕ). (v.handovers q m).term) s.number ∙ s.at_term;
-      }))
+      inr
+      (staged_as v.rows (rows' v cut) (rests v) (rests v) q n (v.handovers q n).term (handovers' q n).term end s
+      (other_stands v cut s.row s.stands unlike) s.told
+      (ap (λ (m : ℕ). (handovers' q m).term) (sym s.number) ∙ sym (ap (λ (h : Handover). h.term) (of_row v cut after s.row s.stands unlike q))
+      ∙ ap (λ (m : ℕ). (v.handovers q m).term) s.number ∙ s.at_term)))
 
   known_served : (q n : ℕ) → Serves v cut q → IsOfHalves v cut n → All (KnownAt q n) (ends_of (completions' q n))
   known_served q n serves its =
@@ -529,35 +478,25 @@ module _ (v : View) (cut : Splitting v) (after : Halved v cut) where
           }
 
   beside : SoundBeside now
-  beside = record {
-    numbered = sound.nodes.numbered;
-    backed = sound.nodes.backed;
-    known_backups = sound.nodes.known;
-    crashed = sound.nodes.crashed;
-    left = sound.nodes.left;
-    rows_apart = halved_map v cut;
-    covered =
-        All-weaker (λ p. is_covered v.rows p.call.table (hash_of p.call.key) ≡ true) (λ p. is_covered (rows' v cut) p.call.table (hash_of p.call.key) ≡ true)
-        (λ p covered. covered_same v cut p.call.table (hash_of p.call.key) ∙ covered) v.journal sound.rows.covered;
-    kept = kept_fits;
-    begun = λ q n. by v cut after (λ h. is_absent h.role ≡ false → 1 ≤ h.term) q n (λ _. sound.terms.begun q n) (λ _ _ _. omega arith) (λ _ _ _. omega arith);
-    apart = ranges_apart;
-    cover = cover;
-    has_row = row_known;
-    logs = sound.logs;
-    legal = sound.truth.legal;
-    rising = sound.truth.rising;
-    seen = sound.truth.seen;
-    once = sound.calls.once;
-    known = known_all;
-    waiting = λ q lives place call there. waits_on q place call lives (sound.rest.waiting q lives place call there);
-    are_last = sound.rest.are_last;
-    found = sound.rest.found;
-    ordered = sound.records.ordered;
-    bare = λ q n. by v cut after (λ h. IsBareOf h (v.written q) (v.records q)) q n (λ _. sound.receives.bare q n) (λ _ _. tt) (λ _ _. tt);
-    others = sound.messages.others;
-    asked = sound.asked;
-  }
+  beside =
+      assumption (
+        halved_map v cut,
+        All-weaker (λ p. is_covered v.rows p.call.table (hash_of p.call.key) ≡ true)
+            (λ p. is_covered (rows' v cut) p.call.table (hash_of p.call.key) ≡ true)
+            (λ p covered. covered_same v cut p.call.table (hash_of p.call.key) ∙ covered) v.journal sound.rows.covered,
+        kept_fits,
+        λ (q n : ℕ).
+            by v cut after (λ h. is_absent h.role ≡ false → 1 ≤ h.term) q n (λ _. sound.terms.begun q n) (λ _ _ _. omega arith) (λ _ _ _. omega arith),
+        ranges_apart,
+        cover,
+        row_known,
+        known_all,
+        λ (q : ℕ) (lives : v.live q ≡ true) (place : ℕ) (call : Call) (there : get (v.calls q) place ≡ Some call).
+            waits_on q place call lives (sound.rest.waiting q lives place call there),
+        λ (q n : ℕ).
+            by v cut after (λ h. IsBareOf h (v.written q) (v.records q)) q n (λ _. sound.receives.bare q n) (λ _ _. tt) (λ _ _. tt),
+        sound,
+      )
 
   pub view_row_split : SoundView now
   view_row_split = view_by_rows now beside (each v cut (SoundRow now) low_holds high_holds other_holds)

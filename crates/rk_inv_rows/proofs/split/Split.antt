@@ -1,12 +1,13 @@
 -- A lane stays sound when an owned row is split in two.
-use Rattle.std.proofs.Common.{◌≡◌, ℕ, ◌+◌, Bool, true, false, cond, List, Option, Some, None, eqb, is_some, refl, sym, ap, subst, ◌∙◌}
+use Rattle.std.proofs.Common.{arith}
+use Rattle.std.proofs.Common.{◌≡◌, ℕ, ◌+◌, true, false, List, Option, Some, None, eqb, is_some, refl, sym, ap, subst, ◌∙◌}
 use Rattle.std.proofs.Common.{⊎_elim, inl, not, eq-eqb}
 use Rattle.rk_inv_base.proofs.Words.{cases_Bool, cases_eq, cond-false, cond-true, false≢true, or_left, Range, changed_rows, divided}
 use Rattle.rk_inv_base.proofs.Words.{is_split, row_of, Owned, Row, marks_of, Master, tablet_at, with_tablet, range_below, range_from}
 use Rattle.rk_inv_base.proofs.Words.{has_parts, owner_split, with_half, with_halves, with_split, Tablet, World, has_crashed, lives}
 use Rattle.rk_inv_base.proofs.Words.{master_at, tablet_in, with_coordinator, with_master, written_by, View, view, IsSound, SoundView}
 use Rattle.rk_inv_base.proofs.Words.{false_from_ne_true}
-use Rattle.rk_inv_rows.proofs.Words.{BadSplit, cut_fault, turned, tablet_split, with_rows_split, MaySplit, stands_found, as_half, lower_row}
+use Rattle.rk_inv_rows.proofs.Words.{cut_fault, turned, tablet_split, with_rows_split, MaySplit, stands_found, as_half, lower_row}
 use Rattle.rk_inv_rows.proofs.Words.{rows_halved, row_split_in, upper_row}
 use Rattle.rk_inv_base.proofs.views.Masters.{master_other, master_same, same_of_all, tablet_apart, tablet_here}
 use Rattle.rk_inv_rows.proofs.split.RowSplit.{view_row_split}
@@ -15,12 +16,7 @@ use Rattle.rk_inv_rows.proofs.split.Splitting.{split_row, upper_found}
 
 -- why a split is not refused: no row has the number, and both parts have a hash
 may_cut : (row : Row) (taken : Option Row) (at new : ℕ) → cut_fault (Some row) taken at new ≡ None → (is_some taken ≡ false) × (is_split row.range at ≡ true)
-may_cut row (Some other) at new is = absurd (cc is)
-may_cut row None at new is = (refl, go (is_split row.range at) refl is)
-  where
-    go : (b : Bool) → is_split row.range at ≡ b → cond b None (Some (BadSplit at)) ≡ None → is_split row.range at ≡ true
-    go true e is = e
-    go false e is = absurd (cc is)
+may_cut row taken at new is = grind (arith, is_split)
 
 module _ (w : World) (cut : Splitting (view w)) where
   open cut use {tablet, range, term, owner, from, at, new, splits}

@@ -1,5 +1,5 @@
 -- An owned row that is split, with its halves: the rows then, and what masters have of tablets before and after.
-use Rattle.std.proofs.Common.{◌≡◌, ℕ, ◌+◌, ◌-◌, ◌<◌, ◌≤◌, Bool, true, false, cond, ◌||◌, ◌&&◌, List, [], ◌∷◌, Option, Some, None, eqb, leb}
+use Rattle.std.proofs.Common.{◌≡◌, ℕ, ◌+◌, ◌-◌, ◌<◌, ◌≤◌, Bool, true, false, cond, ◌||◌, ◌&&◌, List, [], ◌∷◌, Some, None, eqb, leb}
 use Rattle.std.proofs.Common.{refl, sym, ap, subst, ◌∙◌, ⊎_elim, arith, ◌⊎◌, inl, is_some, nat_le, nat_lt, All, Contains, eq-eqb, ne_eqb}
 use Rattle.std.proofs.Common.{leb-true, ltb-true}
 use Rattle.rk_inv_base.proofs.Words.{and_parts, cases_Bool, cases_eq, false≢true, nat_tests, or_left, or_right, All-contains, has, meets}
@@ -11,7 +11,7 @@ use Rattle.rk_inv_rows.proofs.Words.{known_placed, new_placed, stands_placed, st
 use Rattle.rk_inv_rows.proofs.Words.{known_turned, new_stands, stands_found, stands_still, stood}
 use Rattle.rk_inv_base.proofs.rows.BeforeTurn.{at_most}
 use Rattle.rk_tablet_map.proofs.Lawful.{covered_split, lawful_split}
-use Rattle.rk_inv_rows.proofs.split.Ranges.{meets_whole}
+use Rattle.rk_inv_rows.proofs.split.HalfOfRow.{meets_whole}
 
 -- an owned row of a sound view that may be split at a hash, with the number of its upper half
 pub record Splitting (v : View) : Type 0 where
@@ -146,18 +146,11 @@ module _ (v : View) (cut : Splitting v) where
 
   -- the same hashes are covered
   pub covered_same : (table hash : ℕ) → is_covered rows' table hash ≡ is_covered v.rows table hash
-  covered_same table hash =
-      covered_turned risen new second high upper_found refl table hash
-      ∙ covered_turned divided tablet first low lower_found refl table hash
-      ∙ covered_split v.rows tablet at new row table hash found splits
+  covered_same table hash = grind (arith, covered_turned, upper_found, lower_found, covered_split, found)
 
   -- and the same numbers known, and the new one
   known_now : (n : ℕ) → is_some (row_of rows' n) ≡ (eqb new n || is_some (row_of v.rows n))
-  known_now n =
-      known_turned risen new second high upper_found refl n
-      ∙ known_turned divided tablet first low lower_found refl n
-      ∙ known_placed second shrunk n
-      ∙ ap (λ (b : Bool). eqb new n || b) (known_turned v.rows tablet row first found refl n)
+  known_now n = grind (arith, known_turned, upper_found, lower_found, known_placed, eqb, found)
 
   pub known_on : (n : ℕ) → is_some (row_of v.rows n) ≡ true → is_some (row_of rows' n) ≡ true
   known_on n known = known_now n ∙ or_right (eqb new n) (is_some (row_of v.rows n)) known
@@ -169,18 +162,10 @@ module _ (v : View) (cut : Splitting v) where
   known_low = known_on tablet (ap is_some found)
 
   pub still_none : (n : ℕ) → row_of rows' n ≡ None → row_of v.rows n ≡ None
-  still_none n none = go (row_of v.rows n) (known_on n)
-    where
-      go : (o : Option Row) → (is_some o ≡ true → is_some (row_of rows' n) ≡ true) → o ≡ None
-      go None on = refl
-      go (Some x) on = absurd (false≢true (sym (ap is_some none) ∙ on refl))
+  still_none n none = grind (arith, row_of, known_on, false≢true)
 
   none_found : row_of v.rows new ≡ None
-  none_found = go (row_of v.rows new) free
-    where
-      go : (o : Option Row) → is_some o ≡ false → o ≡ None
-      go None is = refl
-      go (Some x) is = absurd (cc is)
+  none_found = grind (arith, row_of)
 
   -- ---- ranges
 
@@ -231,13 +216,7 @@ module _ (v : View) (cut : Splitting v) where
   term_none q = sound.cover.unknown q new none_found
 
   pub absent_before : (q : ℕ) → is_absent (v.handovers q new).role ≡ true
-  absent_before q =
-      ⊎_elim (λ (is : is_absent (v.handovers q new).role ≡ true). is)
-      (λ (is : is_absent (v.handovers q new).role ≡ false).
-      let begun : 1 ≤ (v.handovers q new).term = sound.terms.begun q new is in
-      let none : (v.handovers q new).term ≡ 0 = term_none q in
-      absurd (omega (arith, begun, none)))
-      (cases_Bool (is_absent (v.handovers q new).role))
+  absent_before q = grind (arith, is_absent, term_none, cases_Bool)
 
   -- the halves that a living owner has
   abbrev pub low_half_of : ℕ → Handover
@@ -290,10 +269,7 @@ module _ (v : View) (cut : Splitting v) where
 
   -- the owner that lives
   pub owner_fits : (q : ℕ) → Serves q → Holds (bond_of (Owner from) (v.handovers q tablet).role) term (v.handovers q tablet).term (v.written q).applied
-  owner_fits q serves =
-      subst (λ (b : Bool). Holds (bond_of (cond b (Owner from) Bystander) (v.handovers q tablet).role) term (v.handovers q tablet).term (v.written q).applied)
-      (eq-eqb owner q (sym serves.1))
-      (split_row.fitting q (inl serves.0))
+  owner_fits q serves = grind (arith, bond_of, eq-eqb, split_row)
 
   pub owner_range : (q : ℕ) → Serves q → (v.handovers q tablet).range ≡ range
   owner_range q serves =
@@ -309,10 +285,7 @@ module _ (v : View) (cut : Splitting v) where
 
   -- one that has what it had is no owner
   pub not_owner : (q n : ℕ) → Beside q n → v.live q ≡ true → IsOfHalves n → eqb owner q ≡ false
-  not_owner q n unlike lives its =
-      ne_eqb owner q
-      (λ is.
-      ⊎_elim (λ (e : n ≡ tablet). (unlike (lives, sym is)).0 e) (λ (e : n ≡ new). (unlike (lives, sym is)).1 e) its)
+  not_owner q n unlike lives its = grind (arith, ne_eqb)
 
   pub bystands : (q : ℕ) → v.live q ≡ true → eqb owner q ≡ false → Holds (bond_of Bystander (v.handovers q tablet).role) term (v.handovers q tablet).term (v.written q).applied
   bystands q lives away =
@@ -358,14 +331,4 @@ module _ (v : View) (cut : Splitting v) (after : Halved v cut) where
 
   -- what a master is to a half, and has of it
   pub by_post : (P : Post → Handover → Type 0) (q n : ℕ) → IsOfHalves v cut n → AtLow v cut (P (Owner from)) q n → AtHigh v cut (P (Owner from)) q n → AtOther v cut (P Bystander) q n → Counts v cut q (handovers' q n) → P (post_now v cut q) (handovers' q n)
-  by_post P q n its first second old =
-      by (λ h. Counts v cut q h → P (post_now v cut q) h) q n
-      (λ unlike counts.
-      let few : (v.handovers q n).term ≤ term =
-      ⊎_elim (λ (e : n ≡ tablet). rw e (at_most_row v cut q))
-      (λ (e : n ≡ new). let none : (v.handovers q n).term ≡ 0 = ap (λ (m : ℕ). (v.handovers q m).term) e ∙ term_none v cut q in omega (arith, none)) its in
-      let lives = lives_now v cut q (v.handovers q n).term few counts in
-      let away = not_owner v cut q n unlike lives its in
-      rw away (old lives away))
-      (λ serves it _. rw (eq-eqb owner q (sym serves.1)) (first serves it))
-      (λ serves it _. rw (eq-eqb owner q (sym serves.1)) (second serves it))
+  by_post P q n its first second old = grind (arith, by, at_most_row, term_none, lives_now, not_owner, eq-eqb)

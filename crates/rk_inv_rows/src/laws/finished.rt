@@ -2,9 +2,8 @@
 //! counts of the target alone has the records of what counted of the source, overlaid by the target's own writes. By no other event
 //! does a row that moves come to be owned.
 //!
-//! In `proofs/finished`, `OwnItems` says what counts of a log beside its own entries, `TargetAlone` what a target that has joined
-//! leaves, `JoinedDelivered` what the delivery makes, `Unowned` what the coordinator makes of a row that moves, and `OnlyJoined` what
-//! each event makes of it.
+//! In `proofs/finished`, `JoinedDelivered` says what a target that has joined leaves and what the delivery makes, `Unowned` what the
+//! coordinator makes of a row that moves, and `OnlyJoined` what each event makes of it.
 ghost use Rattle.std.specs.Prelude.{◌≡◌, ℕ, false, None, Ok, Some};
 ghost use Rattle.rk_types.specs.NumberMap.{get};
 ghost use Rattle.rk_types.specs.declared.lineage.Member.{Member};

@@ -1,7 +1,7 @@
 //! Laws of the invariant of a lane for the changes that give a row another lineage: a lane stays sound when a row moves, and when the
 //! target of a row that moved owns it.
 //!
-//! In `proofs/lineage`, `LineageTaken` is the class of both changes, and `JoinedTarget` tells what a target has once it has joined.
+//! In `proofs/lineage`, `LineageSays` is the class of both changes, and `JoinedTaken` tells what a target has once it has joined.
 //! `RebuiltTaken` is the law of a rebuild that is taken, under a condition over lists that is not shown of rebuilds yet
 //! (`specs/lineage/Rebuilt`).
 ghost use Rattle.std.specs.Prelude.{ℕ};

@@ -1,10 +1,8 @@
 //! What counts for the halves of a row that is split, and that a sound lane stays sound when one is.
 //!
-//! In `proofs/split`, `Ranges` has the ranges, `HalfCounts` what counts of a log for a half, `HalfTells` what that tells of the half's
-//! keys, and `HalfRests` that truth and rest of a row go on for a half of it. `HalfOfRow` says so of an owned row, `SplitRows` has the
-//! rows with the halves. `Splitting` is a row that is split in a sound view, with what masters have before and after; `HalvedTerms`,
-//! `HalvedCalls` and `HalvedMessages` show the parts of the view then, `RowSplit` the whole view, and `Split` a world whose tablet is
-//! split.
+//! In `proofs/split`, `HalfOfRow` has what counts of a log for a half, what that tells of its keys, and that truth and rest of an owned
+//! row go on for a half of it. `Splitting` is a row that is split in a sound view, with what masters have before and after;
+//! `HalvedMessages` shows what messages say then, `RowSplit` the whole view, and `Split` a world whose tablet is split.
 ghost use Rattle.std.specs.Prelude.{◌≡◌, ℕ, All, List, Option};
 ghost use Rattle.rk_entry.specs.declared.entry.Entry.{Entry};
 ghost use Rattle.rk_inv_rows.specs.split.Halves.{IsHalf, IsOfWhole};

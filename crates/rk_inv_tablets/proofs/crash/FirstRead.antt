@@ -1,6 +1,6 @@
 -- What is read of the main segments of a log, where each was read up to some place, and whole where a later one was read: first entries
 -- of the log, each of which is stored.
-use Rattle.std.proofs.Common.{◌≡◌, ℕ, zero, suc, ◌+◌, ◌-◌, ◌<◌, ◌≤◌, ◌⊎◌, inl, inr, Bool, true, List, [], ◌∷◌, ◌++◌, length, get_or, Result}
+use Rattle.std.proofs.Common.{◌≡◌, ℕ, zero, suc, ◌+◌, ◌<◌, ◌≤◌, ◌⊎◌, inl, inr, Bool, true, List, [], ◌∷◌, ◌++◌, length, get_or, Result}
 use Rattle.std.proofs.Common.{Ok, Err, refl, sym, ap, subst, ◌∙◌, ⊎_elim, arith, lit<, append_assoc, length-append, nat_le, All, flat_map}
 use Rattle.std.proofs.Common.{le-leb, append-nil}
 use Rattle.std.proofs.lemmas.List.{get_or-append_right}
@@ -13,28 +13,21 @@ use Rattle.rk_entry.specs.Reading.{read_entry}
 use Rattle.rk_entry.proofs.EntryLaws.{entry_takes, one_spelled}
 use Rattle.rk_entry.proofs.StandLaws.{entries_of-cons, entries_of-none}
 use Rattle.rk_inv_tablets.proofs.crash.Groups.{ends_in, group_ends, spelled_first, spelled_none}
-use Rattle.rk_inv_tablets.proofs.crash.Spelt.{entry_bytes}
+use Rattle.rk_inv_wellformed.proofs.bytes.Bytes.{spelled_are}
+
+-- what is spelled of a lawful entry are bytes at every place, and past its end
+pub entry_bytes : (entry : Entry) → IsLawfulEntry entry → IsBytes (spelled entry)
+entry_bytes entry lawful place = grind (arith, spelled, spelled_are, get_or_past, lit<, cases_lt)
 
 -- ---- bytes
 
 -- bytes behind bytes are bytes
 both_bytes : (front back : List ℕ) → IsBytes front → IsBytes back → IsBytes (front ++ back)
-both_bytes front back some others place =
-    ⊎_elim
-    (λ (within : place < length front).
-    rw (get_or_append_left front back 0 place within) (some place))
-    (λ (past : length front ≤ place).
-    rw (get_or-append_right front back (length front) place 0 refl past) (others (place - length front)))
-    (cases_lt place (length front))
+both_bytes front back some others place = grind (arith, get_or_append_left, get_or-append_right, cases_lt)
 
 -- first ones of bytes are bytes
 front_bytes_are : (front back : List ℕ) → IsBytes (front ++ back) → IsBytes front
-front_bytes_are front back all place =
-    ⊎_elim
-    (λ (within : place < length front).
-    rw (← get_or_append_left front back 0 place within) (all place))
-    (λ (past : length front ≤ place). rw (get_or_past front place 0 past) (lit< tt))
-    (cases_lt place (length front))
+front_bytes_are front back all place = grind (arith, get_or_append_left, get_or_past, lit<, cases_lt)
 
 -- what is spelled of lawful entries are bytes
 all_bytes : (list : List Entry) → All IsLawfulEntry list → IsBytes (spelled_all list)

@@ -171,12 +171,7 @@ module _ (segments : List (List ℕ)) (list : List Entry) (places : List EntryEn
 
 -- groups of the same
 groups_same : (segments : List (List ℕ)) (list list' : List Entry) (places places' : List EntryEnd) → list ≡ list' → places ≡ places' → AreGroups segments list places → AreGroups segments list' places'
-groups_same segments list list' places places' same also old = record {
-  groups = old.groups;
-  spelled_are = old.spelled_are;
-  list_is = old.list_is ∙ same;
-  places_are = old.places_are ∙ also;
-}
+groups_same segments list list' places places' same also old = grind arith
 
 groups_after : (segments : List (List ℕ)) (list : List Entry) (places : List EntryEnd) (more : List Entry) → AreGroups segments list places → AreGroups (cut_after segments more) (list ++ more) (places ++ ends_after segments more)
 groups_after segments list places [] old =

@@ -24,10 +24,7 @@ all_groups {X} P (group ∷ groups) all =
 
 -- the list at a place, the empty one behind all
 pub all_at : {X : Type 0} (P : X → Type 0) (groups : List (List X)) (k : ℕ) → All (All P) groups → All P (get_or groups k [])
-all_at {X} P groups k all =
-    ⊎_elim (λ (within : k < length groups). all k [] within)
-    (λ (past : length groups ≤ k). rw (get_or_past groups k [] past) (All-nil P))
-    (cases_lt k (length groups))
+all_at {X} P groups k all = grind (arith, get_or_past, cases_lt)
 
 -- the bytes of a group
 spelled_at : (groups : List (List Entry)) (k : ℕ) → get_or (map spelled_all groups) k [] ≡ spelled_all (get_or groups k [])

@@ -1,42 +1,38 @@
 -- What a master that crashes had merged of a rebuild tells nothing that is not told by its own unmarked entries, and by those of the other
 -- member that backup 1 stores.
-use Rattle.std.proofs.Common.{◌≡◌, ℕ, zero, ◌<◌, ◌≤◌, true, false, ◌&&◌, eqb, leb, List, [], ◌∷◌, ◌++◌, filter, length, Some, refl, sym, ap}
-use Rattle.std.proofs.Common.{subst, ◌∙◌, ⊎_elim, inl, arith, ◌-◌, cond, drop, nat_lt, not, slice_index_or, take, ◌==◌, All, Contains}
-use Rattle.std.proofs.Common.{flat_map, ne_eqb, eq-eqb}
-use Rattle.rk_inv_base.proofs.Words.{cases_eq, cases_lt, cond-true, cond-false, cond_both, false≢true, or_left, or_right, nat_tests}
-use Rattle.rk_inv_base.proofs.Words.{All-append, All-contains, All-contains_itself, Contains-append_left, Contains-append_right, Held}
-use Rattle.rk_inv_base.proofs.Words.{Member, Range, Entry, FIRST_SIDE_SEGMENT, is_in, Role, lineage_of, Phase, Rebuilding, Row, IsBackup}
-use Rattle.rk_inv_base.proofs.Words.{known_of, items_in, items_of, Gather, Gathered, LAST_MAIN_SEGMENT, counted_of, is_member, unmarked}
-use Rattle.rk_inv_base.proofs.Words.{unmarked_from, touches, as_entries, counting, counts, named, side_entries, names, IsMaster, own_place}
-use Rattle.rk_inv_base.proofs.Words.{Written, member_material, member_truth, Mark, stored_of, Post, OnlyRebuilder, FirstRebuilder}
-use Rattle.rk_inv_base.proofs.Words.{LastRebuilder, OutsideRebuilder, FormerMember, Bystander, Holds, bond_of, post_of, rebuilder_post}
-use Rattle.rk_inv_base.proofs.Words.{IsGathered, MarkedFit, NeededOf, READ_BACKUP, StandsLast, TellNoMore, has_merged, member_marked}
-use Rattle.rk_inv_base.proofs.Words.{member_stored, NamedFit, named_items, View, SoundView}
+use Rattle.std.proofs.Common.{◌≡◌, ℕ, zero, ◌<◌, ◌≤◌, true, false, ◌&&◌, eqb, leb, List, [], ◌∷◌, ◌++◌, filter, length, refl, sym, ap}
+use Rattle.std.proofs.Common.{subst, ◌∙◌, ⊎_elim, inl, arith, ◌-◌, drop, nat_lt, not, slice_index_or, take, ◌==◌, All, Contains, flat_map}
+use Rattle.std.proofs.Common.{eq-eqb}
+use Rattle.rk_inv_base.proofs.Words.{cases_eq, cases_lt, cond_both, false≢true, or_left, or_right, nat_tests, All-append, All-contains}
+use Rattle.rk_inv_base.proofs.Words.{All-contains_itself, Contains-append_left, Contains-append_right, Held, Member, Range, Entry}
+use Rattle.rk_inv_base.proofs.Words.{FIRST_SIDE_SEGMENT, is_in, Role, lineage_of, Phase, Rebuilding, Row, known_of, items_in, items_of}
+use Rattle.rk_inv_base.proofs.Words.{Gather, Gathered, LAST_MAIN_SEGMENT, counted_of, is_member, unmarked, unmarked_from, touches}
+use Rattle.rk_inv_base.proofs.Words.{as_entries, counting, counts, named, side_entries, own_place, Written, member_material, member_truth}
+use Rattle.rk_inv_base.proofs.Words.{Mark, stored_of, OnlyRebuilder, FirstRebuilder, LastRebuilder, Holds, bond_of}
+use Rattle.rk_inv_base.proofs.Words.{post_of, rebuilder_post, IsGathered, MarkedFit, NeededOf, READ_BACKUP, StandsLast, TellNoMore}
+use Rattle.rk_inv_base.proofs.Words.{has_merged, member_marked, member_stored, NamedFit, named_items, View, SoundView}
 use Rattle.rk_inv_tablets.proofs.Words.{member as member_at, contains_cases, Extends, counting_extends, drop_extends, extends_behind}
 use Rattle.rk_inv_tablets.proofs.Words.{unmarked_extends, kept_stands, stands_kept, members_by, all_by, AreAmong, among_front, among_then}
-use Rattle.rk_inv_tablets.proofs.Words.{extended_among, sides_extend, AreReadable, row_in}
-use Rattle.rk_entry.specs.declared.entry.Entry.TheVariants as entries
-use Rattle.rk_transfer.specs.declared.role.Role.TheVariants as roles
+use Rattle.rk_inv_tablets.proofs.Words.{extended_among, sides_extend, AreReadable, row_in, former_gone}
 use Rattle.rk_inv_base.proofs.views.Places.{behind_any}
 use Rattle.rk_inv_tablets.proofs.crash.MarkedPieces.{HasMark, mark_of}
 use Rattle.rk_inv_tablets.proofs.crash.MergeTells.{IsToldBy, all_stand_told, all_told, held_told, read_all, read_told, stands_told}
 use Rattle.rk_inv_tablets.proofs.crash.MergeTells.{told_through}
-use Rattle.rk_inv_tablets.proofs.crash.OwnPiece.{own, own_marked_told, read, rebuilt}
+use Rattle.rk_inv_tablets.proofs.crash.OwnPiece.{own, own_marked_told, read, rebuilt, member_backed}
 use Rattle.rk_inv_tablets.proofs.crash.PieceRows.{mark_says, marked_of_row}
 use Rattle.rk_inv_tablets.proofs.crash.ReadTold.{AreMarksTold, count_stored, counted_told, side_material}
 use Rattle.rk_inv_tablets.proofs.crash.Unmarked.{IsUnmarked, first_among, first_stands, free_place, free_stands, marked_stands}
 use Rattle.rk_inv_tablets.proofs.crash.Unmarked.{taken_extends}
 use Rattle.rk_inv_tablets.proofs.ready.Outside.{rebuilder_is, only_post, first_post, last_post}
-use Rattle.rk_inv_tablets.proofs.ready.OwnItems.{at_place, flat_from, flat_stands}
+use Rattle.rk_inv_tablets.proofs.ready.OwnItems.{at_place, flat_from, flat_stands, one_stands, two_stand}
+use Rattle.rk_entry.specs.declared.entry.Entry.TheVariants as entries
+use Rattle.rk_transfer.specs.declared.role.Role.TheVariants as roles
 
 -- ---- places
 
 -- where it merged, the place of a rebuilder is that of the row
 place_of_only : (role : Role) (place term kept applied : ℕ) → Holds (bond_of (OnlyRebuilder place) role) term kept applied → kept ≡ term → has_merged role ≡ true → own_place role ≡ place
-place_of_only (roles.Rebuilding from (Some entry)) place term kept applied fits at merged =
-    ⊎_elim (λ (early : (kept < term) × (entry < applied)). absurd (omega (arith, early.0, at)))
-    (λ (now : (kept ≡ term) × (from ≡ place)). now.1) fits
-place_of_only _ place term kept applied fits at merged = absurd (false≢true merged)
+place_of_only role place term kept applied fits at merged = grind (arith, false≢true)
 
 place_of_first : (role : Role) (place term kept applied : ℕ) → Holds (bond_of (FirstRebuilder place) role) term kept applied → has_merged role ≡ true → own_place role ≡ place
 place_of_first (roles.Rebuilding from entry) place term kept applied fits merged = fits.1
@@ -64,26 +60,17 @@ read_by master lineage = filter (λ member. not (member.master == master)) linea
 none_by_only : (only member : Member) → Contains (read_by only.master (only ∷ [])) member → ⊥
 none_by_only only member at =
     let kept = kept_stands (λ (m : Member). not (m.master == only.master)) (only ∷ []) member at in
-    ⊎_elim (λ (same : only ≡ member). own_out only member same kept.1) (λ (none : Contains [] member). omega (arith, none.1))
-    (contains_cases only [] member kept.0)
+    own_out only member (one_stands only member kept.0) kept.1
 
 last_by_first : (first last member : Member) → Contains (read_by first.master (first ∷ last ∷ [])) member → member ≡ last
 last_by_first first last member at =
     let kept = kept_stands (λ (m : Member). not (m.master == first.master)) (first ∷ last ∷ []) member at in
-    ⊎_elim (λ (same : first ≡ member). absurd (own_out first member same kept.1))
-    (λ (later : Contains (last ∷ []) member).
-    ⊎_elim (λ (same : last ≡ member). sym same) (λ (none : Contains [] member). absurd (omega (arith, none.1)))
-    (contains_cases last [] member later))
-    (contains_cases first (last ∷ []) member kept.0)
+    ⊎_elim (λ same. absurd (own_out first member same kept.1)) (λ same. sym same) (two_stand first last member kept.0)
 
 first_by_last : (first last member : Member) → Contains (read_by last.master (first ∷ last ∷ [])) member → member ≡ first
 first_by_last first last member at =
     let kept = kept_stands (λ (m : Member). not (m.master == last.master)) (first ∷ last ∷ []) member at in
-    ⊎_elim (λ (same : first ≡ member). sym same)
-    (λ (later : Contains (last ∷ []) member).
-    ⊎_elim (λ (same : last ≡ member). absurd (own_out last member same kept.1)) (λ (none : Contains [] member). absurd (omega (arith, none.1)))
-    (contains_cases last [] member later))
-    (contains_cases first (last ∷ []) member kept.0)
+    ⊎_elim (λ same. sym same) (λ same. absurd (own_out last member same kept.1)) (two_stand first last member kept.0)
 
 -- ---- side segments
 
@@ -148,10 +135,7 @@ all_meets : (s f l t g m : ℕ) → g ≤ m → (eqb s t && leb f g && leb m l) 
 all_meets s f l t g m some all = grind (arith, nat_tests)
 
 counts_touches : (range : Range) (entry : Entry) → range.first ≤ range.last → counts range entry ≡ true → touches range entry ≡ true
-counts_touches range (entries.Carried carried) some inside =
-    all_meets carried.range.table carried.range.first carried.range.last range.table range.first range.last some inside
-counts_touches range (entries.Joined joined) some inside = absurd (false≢true inside)
-counts_touches range _ some inside = inside
+counts_touches range entry some inside = grind (arith, all_meets, false≢true)
 
 -- where a marked piece stands last, all that counts and bears no mark stands before it
 before_piece : (range : Range) (w : Written) (mark : Mark) (from : ℕ) (entry : Entry) → range.first ≤ range.last → StandsLast range w mark → (is : IsUnmarked w.marks from w.entries entry) → counts range entry ≡ true → is.place < mark.first
@@ -175,15 +159,6 @@ module _ (v : View) (sound : SoundView v) (readable : AreReadable v.logs v.writt
   abbrev sides : Member → List Entry
   sides m = side_material row.range m (v.written m.master)
 
-  -- each member is there, and knows of backup 1
-  backed : (lineage : List Member) (to : ℕ) → row.phase ≡ Rebuilding lineage to → (q : ℕ) → is_member lineage q ≡ true → IsBackup (v.logs q) READ_BACKUP
-  backed lineage to is q member =
-      let named_it : names row.phase q ≡ true → IsMaster v.masters q =
-      (row_in v sound row has).named q in
-      let there : IsMaster v.masters q =
-      named_it (ap (λ (phase : Phase). names phase q) is ∙ or_right (to == q) (is_member lineage q) member) in
-      record { first = omega arith; last = omega (arith, sound.nodes.known q there, sound.nodes.backed) }
-
   -- what its role is to its post
   role_fits : (lineage : List Member) (q : ℕ) → row.phase ≡ Rebuilding lineage q → v.live q ≡ true → Holds (bond_of (rebuilder_post lineage q) (v.handovers q row.tablet).role) row.term (v.handovers q row.tablet).term (v.written q).applied
   role_fits lineage q is lives =
@@ -193,16 +168,8 @@ module _ (v : View) (sound : SoundView v) (readable : AreReadable v.logs v.writt
   -- a living member is the one that rebuilds
   pub rebuilds_it : (lineage : List Member) (to q : ℕ) → row.phase ≡ Rebuilding lineage to → is_member lineage q ≡ true → v.live q ≡ true → to ≡ q
   rebuilds_it lineage to q is member lives =
-      ⊎_elim (λ (same : to ≡ q). same)
-      (λ (other : to ≡ q → ⊥).
-      let former : post_of row.phase q ≡ FormerMember =
-      ap (λ (phase : Phase). post_of phase q) is
-      ∙ cond-false (to == q) (rebuilder_post lineage q) (cond (is_member lineage q) FormerMember Bystander) (ne_eqb to q other)
-      ∙ cond-true (is_member lineage q) FormerMember Bystander member in
-      absurd (subst (λ (post : Post). Holds (bond_of post (v.handovers q row.tablet).role) row.term (v.handovers q row.tablet).term (v.written q).applied) former
-      ((row_in v sound row has).fitting q
-      (inl lives))))
-      (cases_eq to q)
+      ⊎_elim (λ same. same)
+      (λ other. absurd (former_gone v sound.roles row has lineage to q is lives (λ at. other (sym at)) member)) (cases_eq to q)
 
   -- what is read of a lineage tells nothing new, where that holds of its own entries and of those that are read of each other member
   module _ (lineage : List Member) (q : ℕ) (is : row.phase ≡ Rebuilding lineage q) (lives : v.live q ≡ true) (others : List Entry) where
@@ -292,10 +259,7 @@ module _ (v : View) (sound : SoundView v) (readable : AreReadable v.logs v.writt
       first_place : has_merged (v.handovers first.master row.tablet).role ≡ true → own_place (v.handovers first.master row.tablet).role ≡ first.from
       first_place merged =
           place_of_first (v.handovers first.master row.tablet).role first.from row.term (v.handovers first.master row.tablet).term (v.written first.master).applied
-          (subst
-          (λ (post : Post). Holds (bond_of post (v.handovers first.master row.tablet).role) row.term (v.handovers first.master row.tablet).term (v.written first.master).applied)
-          (first_post first last first.master refl)
-          (role_fits both first.master is lives)) merged
+          (rw (← first_post first last first.master refl) (role_fits both first.master is lives)) merged
 
       fit : MarkedFit v.logs v.written v.stored v.live row.range both
       fit = (rebuilt v row both first.master sound has some is lives).1
@@ -353,7 +317,7 @@ module _ (v : View) (sound : SoundView v) (readable : AreReadable v.logs v.writt
           (own_stand first others (first_place merged) (λ entry there. Contains-append_left (material first) (stored last) entry there))
           (λ gathered there other read.
           let same : gathered.member ≡ last = last_by_first first last gathered.member other in
-          counted_told v sound readable row last (backed both first.master is last.master is_last) (NeededOf row v.written both last.master) gathered
+          counted_told v sound readable row last (member_backed v sound row has both first.master is last.master is_last) (NeededOf row v.written both last.master) gathered
           (All-contains (λ (g : Gathered). length g.main ≤ LAST_MAIN_SEGMENT) (v.gathers first.master row.tablet).members gathered few there)
           (subst (IsGatheredOf both first.master is lives others gathered) same read) others
           (all_stand_told (stored last) others (λ entry its. Contains-append_right (material first) (stored last) entry its))
@@ -398,7 +362,7 @@ module _ (v : View) (sound : SoundView v) (readable : AreReadable v.logs v.writt
           all_read_told both last.master is lives all at (own_stand last all (last_place merged) of_last)
           (λ gathered there other read.
           let same : gathered.member ≡ first = first_by_last first last gathered.member other in
-          counted_told v sound readable row first (backed both last.master is first.master is_first) (NeededOf row v.written both first.master) gathered
+          counted_told v sound readable row first (member_backed v sound row has both last.master is first.master is_first) (NeededOf row v.written both first.master) gathered
           (All-contains (λ (g : Gathered). length g.main ≤ LAST_MAIN_SEGMENT) (v.gathers last.master row.tablet).members gathered few there)
           (subst (IsGatheredOf both last.master is lives all gathered) same read) all
           (all_stand_told (stored first) all (λ entry its. of_first entry (stored_among first entry its)))

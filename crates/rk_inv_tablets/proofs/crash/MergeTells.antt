@@ -1,17 +1,18 @@
 -- What a rebuild merged tells nothing that is not told by what it read: neither its copies nor the entry that closes it.
-use Rattle.std.proofs.Common.{◌≡◌, ◌≤◌, ℕ, zero, List, [], ◌∷◌, ◌++◌, map, fold, cond, true, false, Option, Some, None, refl, sym, ap}
-use Rattle.std.proofs.Common.{subst, ◌∙◌, ⊎_elim, arith, All, Contains, filter, not, ◌==◌, flat_map, nat_cmp}
+use Rattle.std.proofs.Common.{◌≡◌, ◌≤◌, ℕ, zero, List, [], ◌∷◌, ◌++◌, map, fold, Option, Some, None, refl, sym, ap, subst, ◌∙◌, ⊎_elim}
+use Rattle.std.proofs.Common.{arith, All, Contains, not, flat_map}
 use Rattle.rk_inv_base.proofs.Words.{cond_both, flat_map-append, All-append, All-cons, All-contains, All-filter, All-head, All-map, All-nil}
-use Rattle.rk_inv_base.proofs.Words.{All-tail, All-weaker, Contains-append_left, Contains-append_right, ranked, by_order, eq_by_cmp, Less}
-use Rattle.rk_inv_base.proofs.Words.{Equal, Greater, same_number, get, insert, Ended, Held, Member, Entry, Completions, completions_from}
-use Rattle.rk_inv_base.proofs.Words.{ended_of, ends_of, is_later, noted, Completion, Handover, newest_is, newest_items_are, newest_items}
-use Rattle.rk_inv_base.proofs.Words.{item_end, items_in, items_of, told, told_by, Gather, Gathered, by_member, counted_of, is_of_lineage}
-use Rattle.rk_inv_base.proofs.Words.{material_by, as_entries, ends_by_place, first_told, floor_by, floor_of, has_version, is_placed, merge}
-use Rattle.rk_inv_base.proofs.Words.{merged_ends, placed_ends, TellNoMore, closing_carried}
+use Rattle.rk_inv_base.proofs.Words.{All-tail, All-weaker, Contains-append_left, Contains-append_right, get, insert, Ended, Held, Entry}
+use Rattle.rk_inv_base.proofs.Words.{Completions, completions_from, ended_of, ends_of, is_later, noted, Completion, Handover, newest_items}
+use Rattle.rk_inv_base.proofs.Words.{item_end, items_in, items_of, told, told_by, Gather, by_member, counted_of, as_entries, ends_by_place}
+use Rattle.rk_inv_base.proofs.Words.{first_told, floor_by, floor_of, has_version, is_placed, merge, merged_ends, placed_ends, TellNoMore}
+use Rattle.rk_inv_base.proofs.Words.{closing_carried}
 use Rattle.rk_inv_tablets.proofs.Words.{contains_cases, all_by, all_flat, floor_first}
-use Rattle.rk_entry.specs.declared.entry.Entry.TheVariants as entries
-use Rattle.rk_inv_base.proofs.logs.Floors.{floor_above, floor_append, floor_rises, floor_step}
+use Rattle.rk_inv_base.proofs.logs.Floors.{floor_above, floor_rises, floor_step}
 use Rattle.rk_inv_tablets.proofs.ready.OwnItems.{flat_stands}
+use Rattle.rk_inv_tablets.proofs.merge.OfRange.{by_member_all, newest_stand}
+use Rattle.rk_inv_wellformed.proofs.maps.Maps.{All_insert, each_from_pairs}
+use Rattle.rk_entry.specs.declared.entry.Entry.TheVariants as entries
 
 -- an entry tells nothing that these do not
 pub record IsToldBy (others : List Entry) (entry : Entry) : Type 0 where
@@ -71,12 +72,6 @@ held_told others item at = record {
       let some = floor_first others in omega (arith, above, some);
 }
 
--- the newest items are items
-newest_stand : (items : List Held) → All (Contains items) (newest_items items)
-newest_stand items =
-    all_by _ (newest_items items)
-    (λ item at. (newest_is items item.table item.key item (((newest_items_are items).newest item).0 at)).stands)
-
 -- ---- ends
 
 module _ (P : Ended → Type 0) where
@@ -104,19 +99,6 @@ module _ (P : Ended → Type 0) where
   abbrev OfPair : ℕ × Completion → Type 0
   OfPair pair = P (ended_of pair)
 
-  insert_each : (things : Completions) (number : ℕ) (thing : Completion) → All OfPair things → OfPair (number, thing) → All OfPair (insert things number thing)
-  insert_each [] number thing each new = All-cons OfPair (number, thing) [] new (All-nil OfPair)
-  insert_each (here ∷ things) number thing each new =
-      elim (nat_cmp number here.0) as (λ o. nat_cmp number here.0 ≡ o → All OfPair (by_order o ((number, thing) ∷ here ∷ things) ((here.0, thing) ∷ things) (here ∷ insert things number thing))) [
-        | Less ↦ λ is. All-cons OfPair (number, thing) (here ∷ things) new each
-        | Equal ↦ λ is.
-            let same : number ≡ here.0 = ranked number here.0 Equal (sym is) in
-            All-cons OfPair (here.0, thing) things (rw (← same) new) (All-tail OfPair here things each)
-        | Greater ↦ λ is.
-            All-cons OfPair here (insert things number thing) (All-head OfPair here things each)
-            (insert_each things number thing (All-tail OfPair here things each) new)
-      ] refl
-
   -- the last ends of clients are among the ends
   completions_each : (completions : Completions) (ends : List Ended) → All OfPair completions → All P ends → All OfPair (completions_from completions ends)
   completions_each completions [] each new = each
@@ -124,26 +106,17 @@ module _ (P : Ended → Type 0) where
       completions_each (noted completions ended) later
       (cond_both (is_later (get completions ended.client) ended.seq)
       (insert completions ended.client (record { seq = ended.seq; end = ended.end })) completions (All OfPair)
-      (λ late. insert_each completions ended.client (record { seq = ended.seq; end = ended.end }) each (All-head P ended later new))
+      (λ late. All_insert OfPair completions ended.client (record { seq = ended.seq; end = ended.end }) each (All-head P ended later new))
       (λ old. each))
       (All-tail P ended later new)
-
-  got_each : (things : Completions) (q : ℕ) (thing : Completion) → All OfPair things → get things q ≡ Some thing → OfPair (q, thing)
-  got_each [] q thing each found = absurd (cc found)
-  got_each (here ∷ things) q thing each found =
-      elim (eq_by_cmp nat_cmp q here.0) as (λ b. eq_by_cmp nat_cmp q here.0 ≡ b → cond b (Some here.1) (get things q) ≡ Some thing → OfPair (q, thing)) [
-        | true ↦ λ is e.
-            let same : here.1 ≡ thing = cc e in
-            rw (← same, same_number q here.0 is) (All-head OfPair here things each)
-        | false ↦ λ is e. got_each things q thing (All-tail OfPair here things each) e
-      ] refl found
 
   first_each : (all : List Ended) (end : Ended) → All P all → P end → P (first_told end (get (completions_from [] all) end.client))
   first_each all end each it = go (get (completions_from [] all) end.client) refl
     where
       go : (last : Option Completion) → get (completions_from [] all) end.client ≡ last → P (first_told end last)
       go None is = it
-      go (Some last) is = got_each (completions_from [] all) end.client last (completions_each [] all (All-nil OfPair) each) is
+      go (Some last) is =
+          each_from_pairs (λ q thing. OfPair (q, thing)) (completions_from [] all) (completions_each [] all (All-nil OfPair) each) end.client last is
 
   -- so are the ends of a merge
   merged_each : (members : List (List Entry)) → All P (flat_map told members) → All P (merged_ends members)
@@ -237,18 +210,4 @@ told_through list others entry tells is = record {
 
 -- what is told of what counts of each member is told of all that was gathered, and the own entries
 pub read_told : (others own : List Entry) (gather : Gather) → All (IsToldBy others) own → All (λ gathered. All (IsToldBy others) (counted_of gather.range gathered)) gather.members → All (IsToldBy others) (read_all (by_member gather own))
-read_told others own gather of_own each =
-    all_flat (IsToldBy others) (λ (list : List Entry). list) (by_member gather own)
-    (All-append (All (IsToldBy others)) _ _
-    (All-map (All (IsToldBy others)) (λ (member : Member). material_by gather own member.master) gather.lineage
-    (all_by _ gather.lineage (λ member at. of_master member.master)))
-    (cond_both (is_of_lineage gather) [] (own ∷ []) (All (All (IsToldBy others))) (λ e. All-nil _) (λ e. All-cons (All (IsToldBy others)) own [] of_own (All-nil _))))
-  where
-    of_master : (master : ℕ) → All (IsToldBy others) (material_by gather own master)
-    of_master master =
-        cond_both (master == gather.own) own
-        (flat_map (counted_of gather.range) (filter (λ gathered. gathered.member.master == master) gather.members)) (All (IsToldBy others))
-        (λ e. of_own)
-        (λ e.
-        all_flat (IsToldBy others) (counted_of gather.range) (filter (λ gathered. gathered.member.master == master) gather.members)
-        (All-filter (λ (gathered : Gathered). gathered.member.master == master) (λ (gathered : Gathered). All (IsToldBy others) (counted_of gather.range gathered)) gather.members each))
+read_told others own gather of_own each = by_member_all (IsToldBy others) gather own of_own each

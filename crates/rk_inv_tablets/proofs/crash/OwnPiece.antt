@@ -1,13 +1,22 @@
 -- What a living master has in marked pieces of a row that it rebuilds tells nothing that is not told by others, where what it read does not.
 use Rattle.std.proofs.Common.{◌≡◌, ◌<◌, ◌≤◌, ◌+◌, ℕ, suc, true, List, [], ◌∷◌, ◌++◌, drop, Some, refl, subst, Contains, IfSome, slice_get}
+use Rattle.std.proofs.Common.{ap, ap, arith, ◌∙◌, ◌==◌}
 use Rattle.rk_inv_base.proofs.Words.{false≢true, All-contains, Member, Entry, Handover, Role, Phase, Rebuilding, Row, by_member, as_entries}
 use Rattle.rk_inv_base.proofs.Words.{merge, own_place, member_material, Mark, Merged, IsMergedOf, RowIsRebuilt, TellNoMore, closing_carried}
-use Rattle.rk_inv_base.proofs.Words.{has_merged, member_marked, merged_place, View, truths, SoundView}
+use Rattle.rk_inv_base.proofs.Words.{has_merged, member_marked, merged_place, View, truths, SoundView, IsBackup, IsMaster, READ_BACKUP}
+use Rattle.rk_inv_base.proofs.Words.{names, or_right, is_member}
 use Rattle.rk_inv_tablets.proofs.Words.{member as member_at, in_piece, place_of, row_in}
-use Rattle.rk_transfer.specs.declared.role.Role.TheVariants as roles
 use Rattle.rk_inv_tablets.proofs.crash.MarkedPieces.{HasMark, counted_each, mark_of}
 use Rattle.rk_inv_tablets.proofs.crash.PieceRows.{mark_says, marked_of_row}
 use Rattle.rk_inv_tablets.proofs.crash.MergeTells.{IsToldBy, all_told, piece_told, read_all}
+use Rattle.rk_transfer.specs.declared.role.Role.TheVariants as roles
+
+-- each member of a lineage is there, and knows of backup 1
+pub member_backed : (v : View) → SoundView v → (row : Row) → Contains v.rows row → (lineage : List Member) (to : ℕ) → row.phase ≡ Rebuilding lineage to → (q : ℕ) → is_member lineage q ≡ true → IsBackup (v.logs q) READ_BACKUP
+member_backed v sound row has lineage to is q member =
+    let there : IsMaster v.masters q =
+    (row_in v sound row has).named q (ap (λ (phase : Phase). names phase q) is ∙ or_right (to == q) (is_member lineage q) member) in
+    record { first = omega arith; last = omega (arith, sound.nodes.known q there, sound.nodes.backed) }
 
 -- a role that has merged has the place of the entry that closes it
 merged_of : (role : Role) (P : ℕ → Type 0) → has_merged role ≡ true → IfSome (merged_place role) P → (entry : ℕ) × P entry

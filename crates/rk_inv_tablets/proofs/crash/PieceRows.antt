@@ -1,26 +1,22 @@
 -- An entry that bears a mark is of the range of the row whose rebuild the mark is of.
-use Rattle.std.proofs.Common.{◌≡◌, ℕ, true, List, [], Some, refl, sym, ◌∙◌, ⊎_elim, ◌-◌, ◌≤◌, Contains, drop, is_some, slice_get, take}
+use Rattle.std.proofs.Common.{arith}
+use Rattle.std.proofs.Common.{◌≡◌, ℕ, true, List, [], Some, sym, ◌∙◌, ⊎_elim, ◌-◌, ◌≤◌, Contains, drop, is_some, slice_get, take, false, ap}
 use Rattle.rk_inv_base.proofs.Words.{cases_eq, All-contains, Range, Entry, number_of, row_of, Row, counts, named_by, Mark, HasOwnRange}
-use Rattle.rk_inv_base.proofs.Words.{IsOfRange, MarkFits, View, SoundView}
-use Rattle.rk_inv_tablets.proofs.Words.{in_piece, found_stands, row_in}
-use Rattle.rk_entry.specs.declared.entry.Entry.TheVariants as entries
-use Rattle.rk_inv_tablets.proofs.crash.MarkedPieces.{HasMark, counts_alone, row_there}
-
--- such an entry names no side segment
-pub names_none : (range its : Range) (entry : Entry) → IsOfRange its entry → named_by range entry ≡ []
-names_none range its (entries.Refused refused) of = absurd of
-names_none range its (entries.Joined joined) of = absurd of
-names_none range its _ of = refl
+use Rattle.rk_inv_base.proofs.Words.{IsOfRange, MarkFits, View, SoundView, false_from_ne_true, meets, false≢true}
+use Rattle.rk_inv_tablets.proofs.Words.{in_piece, found_stands, row_in, apart_either, entry_apart}
+use Rattle.rk_inv_tablets.proofs.crash.MarkedPieces.{HasMark, row_there}
+use Rattle.rk_inv_tablets.proofs.merge.OfRange.{names_none}
+use Rattle.rk_inv_base.proofs.rows.Apart.{one_met}
 
 module _ (v : View) (sound : SoundView v) (q : ℕ) (place : ℕ) (entry : Entry) (at : slice_get (v.written q).entries place ≡ Some entry) (found : HasMark (v.written q).marks place) where
   -- the row of the mark
-  record OfRow : Type 0 where
-    row : Row
-    stands : Contains v.rows row
-    number : row.tablet ≡ found.mark.tablet
-    in_range : IsOfRange row.range entry
+  pub record OfRow : Type 0 where
+    pub row : Row
+    pub stands : Contains v.rows row
+    pub number : row.tablet ≡ found.mark.tablet
+    pub in_range : IsOfRange row.range entry
 
-  row_of_mark : OfRow
+  pub row_of_mark : OfRow
   row_of_mark =
       let marks : List Mark = (v.written q).marks in
       let list : List Entry = (v.written q).entries in
@@ -43,20 +39,21 @@ module _ (v : View) (sound : SoundView v) (q : ℕ) (place : ℕ) (entry : Entry
 
   -- so it names no side segment
   pub marked_names_none : (range : Range) → named_by range entry ≡ []
-  marked_names_none range = names_none range row_of_mark.row.range entry row_of_mark.in_range
+  marked_names_none range = names_none row_of_mark.row.range range entry row_of_mark.in_range
 
   -- and counts for that row alone
   pub marked_of_row : (row : Row) → Contains v.rows row → row.range.first ≤ row.range.last → counts row.range entry ≡ true → found.mark.tablet ≡ row.tablet
   marked_of_row row has some inside =
       ⊎_elim (λ (same : found.mark.tablet ≡ row.tablet). same)
       (λ (other : found.mark.tablet ≡ row.tablet → ⊥).
-      absurd (counts_alone v.rows row_of_mark.row row entry sound.rows.apart row_of_mark.stands has
-      (λ same. other (sym row_of_mark.number ∙ sym same)) some row_of_mark.in_range inside))
+      let of : Row = row_of_mark.row in
+      let apart : meets of.range row.range ≡ false =
+      false_from_ne_true (meets of.range row.range)
+      (λ met. other (sym row_of_mark.number ∙ ap (λ (r : Row). r.tablet) (one_met v.rows of row sound.rows.apart row_of_mark.stands has met))) in
+      absurd (false≢true
+      (sym (entry_apart of.range row.range apart (apart_either of.range row.range apart) some entry row_of_mark.in_range) ∙ inside)))
       (cases_eq found.mark.tablet row.tablet)
 
   -- what the row says of the mark
   pub mark_says : (row : Row) → Contains v.rows row → found.mark.tablet ≡ row.tablet → MarkFits row q (v.handovers q row.tablet) (v.live q) (v.written q) found.mark
-  mark_says row has its =
-      All-contains (λ (mark : Mark). mark.tablet ≡ row.tablet → MarkFits row q (v.handovers q row.tablet) (v.live q) (v.written q) mark) (v.written q).marks found.mark
-      ((row_in v sound row has).marks q)
-      found.here its
+  mark_says row has its = grind (arith, row_in)

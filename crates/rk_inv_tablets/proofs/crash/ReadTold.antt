@@ -1,6 +1,6 @@
 -- What counts of a member that was read tells nothing that others do not, where they tell what backup 1 stores of it, what its side
 -- segments have, and what is marked there.
-use Rattle.std.proofs.Common.{◌≡◌, ℕ, zero, suc, ◌+◌, ◌<◌, ◌≤◌, true, false, List, [], ◌∷◌, ◌++◌, length, Some, refl, sym, subst, ◌∙◌}
+use Rattle.std.proofs.Common.{◌≡◌, ℕ, ◌+◌, ◌<◌, ◌≤◌, true, false, List, [], ◌++◌, length, Some, refl, sym, subst, ◌∙◌}
 use Rattle.std.proofs.Common.{⊎_elim, arith, drop, slice_get, All, Contains, flat_map}
 use Rattle.rk_inv_base.proofs.Words.{cases_Bool, cond_both, All-append, All-contains, slice_get_within, Member, Range, Entry, Row, ends}
 use Rattle.rk_inv_base.proofs.Words.{IsBackup, Log, is_side_stored, known_of, EntryEnd, Gathered, LAST_MAIN_SEGMENT, counted_of, side_read}
@@ -8,7 +8,6 @@ use Rattle.rk_inv_base.proofs.Words.{is_marked, unmarked_from, counting, counts,
 use Rattle.rk_inv_base.proofs.Words.{segments_in, stored_of, IsGathered, READ_BACKUP, member_stored, stored_count, View, SoundView}
 use Rattle.rk_inv_base.proofs.Words.{false_from_ne_true}
 use Rattle.rk_inv_tablets.proofs.Words.{all_by, kept_stands, stands_kept, place_of, AreReadable}
-use Rattle.rk_entry.specs.declared.entry.Entry.TheVariants as entries
 use Rattle.rk_inv_tablets.proofs.crash.Among.{named_from, named_of, stands_front}
 use Rattle.rk_inv_tablets.proofs.crash.FirstRead.{AreFirstStored}
 use Rattle.rk_inv_tablets.proofs.crash.LogRead.{main_read, side_number, side_stands}
@@ -16,7 +15,8 @@ use Rattle.rk_inv_tablets.proofs.crash.MarkedPieces.{mark_of}
 use Rattle.rk_inv_tablets.proofs.crash.MergeTells.{IsToldBy}
 use Rattle.rk_inv_tablets.proofs.crash.PieceRows.{marked_names_none}
 use Rattle.rk_inv_tablets.proofs.crash.Unmarked.{first_stands, free_stands}
-use Rattle.rk_inv_tablets.proofs.ready.OwnItems.{at_place, flat_from, flat_stands, stands_at}
+use Rattle.rk_inv_tablets.proofs.ready.OwnItems.{at_place, flat_from, flat_stands, stands_at, none_stands}
+use Rattle.rk_entry.specs.declared.entry.Entry.TheVariants as entries
 pub use Rattle.rk_inv_tablets.proofs.ready.OwnItems.{stands_at as stands_there}
 
 -- what counts of the side segments that a member's unmarked entries name
@@ -113,10 +113,7 @@ module _ (v : View) (sound : SoundView v) (readable : AreReadable v.logs v.writt
             false_from_ne_true (is_marked w.marks place)
             (λ marked. let none : named_by range entry ≡ [] =
             marked_names_none v sound m.master place entry at (mark_of w.marks place marked) range in
-            none_there n (subst (λ (l : List ℕ). Contains l n) none names))
-          where
-            none_there : (n : ℕ) → Contains [] n → ⊥
-            none_there n at = omega (arith, at.1)
+            none_stands n (subst (λ (l : List ℕ). Contains l n) none names))
 
         -- what was read of a side segment that is named is of it
         side_told : (number : ℕ) (entry : Entry) → Contains (named range (drop m.from main)) number → Contains (side_read gathered number) entry → counts range entry ≡ true → IsToldBy others entry

@@ -1,10 +1,10 @@
 -- The entries of a log from a place on that bear no mark, and those that bear one, by their places.
-use Rattle.std.proofs.Common.{◌≡◌, ℕ, zero, suc, ◌+◌, ◌<◌, ◌≤◌, true, false, List, [], ◌∷◌, Some, refl, sym, ap, ◌∙◌, ⊎_elim, arith, drop}
-use Rattle.std.proofs.Common.{slice_get, take, Contains, take-append-drop}
-use Rattle.rk_inv_base.proofs.Words.{cond_both, false≢true, Contains-append_right, Range, Entry, is_marked, unmarked, unmarked_from}
-use Rattle.rk_inv_base.proofs.Words.{counting, counts, Mark, marked_entries}
-use Rattle.rk_inv_tablets.proofs.Words.{contains_cases, Extends, counting_extends, still_contains, behind_at, stands_kept, place_of}
-use Rattle.rk_inv_tablets.proofs.ready.OwnItems.{at_front}
+use Rattle.std.proofs.Common.{◌≡◌, ℕ, zero, suc, ◌+◌, ◌<◌, ◌≤◌, true, false, List, [], ◌∷◌, Some, refl, sym, ap, ◌∙◌, arith, drop}
+use Rattle.std.proofs.Common.{slice_get, take, Contains, take-append-drop, max, ⊎_elim}
+use Rattle.rk_inv_base.proofs.Words.{cond_both, false≢true, Contains-append_right, Range, Entry, is_marked, unmarked_from, counting, counts}
+use Rattle.rk_inv_base.proofs.Words.{Mark, marked_entries, is_joined_in, applied_entries, cases_lt, Written, joined_from}
+use Rattle.rk_inv_tablets.proofs.Words.{Extends, counting_extends, still_contains, behind_at, stands_kept, place_of}
+use Rattle.rk_inv_tablets.proofs.ready.OwnItems.{at_front, unmarked_at, unmarked_stands, none_stands, stands_at}
 pub use Rattle.rk_inv_tablets.proofs.ready.OwnItems.{at_front as taken_at}
 
 -- an entry that bears no mark, at its place from some place on
@@ -15,51 +15,14 @@ pub record IsUnmarked (marks : List Mark) (from : ℕ) (list : List Entry) (entr
   pub free : is_marked marks place ≡ false
 
 module _ (marks : List Mark) where
-  -- an entry without a mark is among those that bear none
-  free_at : (start : ℕ) (list : List Entry) (k : ℕ) (entry : Entry) → slice_get list k ≡ Some entry → is_marked marks (start + k) ≡ false → Contains (unmarked marks start list) entry
-  free_at start [] k entry at free = absurd (cc at)
-  free_at start (first ∷ list) zero entry at free =
-      let here : start + 0 ≡ start = omega arith in
-      let same : first ≡ entry = cc at in
-      cond_both (is_marked marks start) (unmarked marks (suc start) list) (first ∷ unmarked marks (suc start) list) (λ l. Contains l entry)
-      (λ e. absurd (false≢true (sym free ∙ ap (is_marked marks) here ∙ e)))
-      (λ e. (zero, omega arith, same))
-  free_at start (first ∷ list) (suc k) entry at free =
-      let there : suc start + k ≡ start + suc k = omega arith in
-      let later : Contains (unmarked marks (suc start) list) entry = free_at (suc start) list k entry at (ap (is_marked marks) there ∙ free) in
-      cond_both (is_marked marks start) (unmarked marks (suc start) list) (first ∷ unmarked marks (suc start) list) (λ l. Contains l entry)
-      (λ e. later) (λ e. Contains-append_right (first ∷ []) (unmarked marks (suc start) list) entry later)
-
   pub free_stands : (from : ℕ) (list : List Entry) (entry : Entry) → IsUnmarked marks from list entry → Contains (unmarked_from marks from list) entry
   free_stands from list entry is =
       let found = behind_at list from is.place entry is.behind is.stands in
-      free_at from (drop from list) found.0 entry found.1 (ap (is_marked marks) found.2 ∙ is.free)
-
-  -- an entry without a mark, by how many stand before it
-  abbrev IsFree : ℕ → List Entry → Entry → Type 0
-  IsFree start list entry = (k : ℕ) × (slice_get list k ≡ Some entry) × (is_marked marks (start + k) ≡ false)
-
-  later_free : (start : ℕ) (first : Entry) (list : List Entry) (entry : Entry) → IsFree (suc start) list entry → IsFree start (first ∷ list) entry
-  later_free start first list entry found =
-      let there : start + suc found.0 ≡ suc start + found.0 = omega arith in
-      (suc found.0, found.1, ap (is_marked marks) there ∙ found.2)
-
-  -- and the other way round
-  free_from : (start : ℕ) (list : List Entry) (entry : Entry) → Contains (unmarked marks start list) entry → IsFree start list entry
-  free_from start [] entry = λ at. absurd (omega (arith, at.1))
-  free_from start (first ∷ list) entry =
-      let here : start ≡ start + 0 = omega arith in
-      cond_both (is_marked marks start) (unmarked marks (suc start) list) (first ∷ unmarked marks (suc start) list)
-      (λ l. Contains l entry → IsFree start (first ∷ list) entry)
-      (λ e at. later_free start first list entry (free_from (suc start) list entry at))
-      (λ e at.
-      ⊎_elim (λ (same : first ≡ entry). (zero, ap Some same, sym (ap (is_marked marks) here) ∙ e))
-      (λ (behind : Contains (unmarked marks (suc start) list) entry). later_free start first list entry (free_from (suc start) list entry behind))
-      (contains_cases first (unmarked marks (suc start) list) entry at))
+      unmarked_stands marks from (drop from list) found.0 entry found.1 (ap (is_marked marks) found.2 ∙ is.free)
 
   pub free_place : (from : ℕ) (list : List Entry) (entry : Entry) → Contains (unmarked_from marks from list) entry → IsUnmarked marks from list entry
   free_place from list entry at =
-      let found = free_from from (drop from list) entry at in
+      let found = unmarked_at marks from (drop from list) entry at in
       record {
         place = from + found.0;
         behind = omega arith;
@@ -92,16 +55,7 @@ module _ (marks : List Mark) where
 
 -- so an entry that counts and bears no mark is among those of the first ones
 pub first_stands : (marks : List Mark) (range : Range) (from count : ℕ) (list : List Entry) (entry : Entry) → (is : IsUnmarked marks from list entry) → is.place < count → counts range entry ≡ true → Contains (counting range (unmarked_from marks from (take count list))) entry
-first_stands marks range from count list entry is before inside =
-    let first : List Entry = take count list in
-    stands_kept (counts range) (unmarked_from marks from first) entry
-    (free_stands marks from first entry (record {
-      place = is.place;
-      behind = is.behind;
-      stands = at_front list count is.place entry before is.stands;
-      free = is.free;
-    }))
-    inside
+first_stands marks range from count list entry is before inside = grind (arith, stands_kept, counts, unmarked_from, free_stands, at_front)
 
 -- the first entries with the others behind them
 pub taken_extends : (count : ℕ) (list : List Entry) → Extends (take count list) list
@@ -112,3 +66,17 @@ pub first_among : (marks : List Mark) (range : Range) (from count : ℕ) (list :
 first_among marks range from count list entry at =
     still_contains (counting range (unmarked_from marks from (take count list))) (counting range (unmarked_from marks from list)) entry
     (counting_extends range marks from (take count list) list (taken_extends count list)) at
+
+-- where no Joined of a range stands behind what is applied, an unmarked one is applied
+pub joined_applied : (range : Range) (w : Written) (from : ℕ) → joined_from range (max from w.applied) w.entries ≡ [] → (entry : Entry) → Contains (unmarked_from w.marks from w.entries) entry → is_joined_in range entry ≡ true → Contains (unmarked_from w.marks from (applied_entries w)) entry
+joined_applied range w from none entry at joins =
+    let is = free_place w.marks from w.entries entry at in
+    ⊎_elim
+    (λ (before : is.place < w.applied).
+    free_stands w.marks from (applied_entries w) entry
+    (record { place = is.place; behind = is.behind; stands = at_front w.entries w.applied is.place entry before is.stands; free = is.free }))
+    (λ (past : w.applied ≤ is.place).
+    let rest : List Entry = drop (max from w.applied) w.entries in
+    let found = behind_at w.entries (max from w.applied) is.place entry (omega (arith, is.behind, past)) is.stands in
+    absurd (none_stands entry (rw none at (stands_kept (is_joined_in range) rest entry (stands_at rest found.0 entry found.1) joins))))
+    (cases_lt is.place w.applied)

@@ -1,5 +1,5 @@
 -- What is told and what is noted of the ends of a grant.
-use Rattle.std.proofs.Common.{◌≡◌, ℕ, ◌<◌, ◌≤◌, max, All, List, [], ◌∷◌, ◌++◌, None, refl, sym, ap, ◌∙◌, arith, append_assoc, append-nil}
+use Rattle.std.proofs.Common.{◌≡◌, ℕ, ◌<◌, ◌≤◌, All, List, [], ◌∷◌, ◌++◌, None, refl, sym, ap, ◌∙◌, arith, append_assoc, append-nil}
 use Rattle.std.proofs.Common.{nat_cmp, Option, subst}
 use Rattle.std.specs.Cmp.{nat_cmp_is}
 use Rattle.rk_inv_base.proofs.Words.{All-head, All-tail, All-weaker, All-push, All-nil, fold-append, Greater, get, insert, Ended, Carried}
@@ -67,11 +67,7 @@ rising_noted ends rising = noted_all 0 [] ends (All-nil _) rising
 
 -- the number from which the next version is taken is still one behind a Carried whose floor is not above it
 pub carried_next : (truth rest : List Entry) (carried : Carried) (number : ℕ) → carried.floor ≤ number → IsNext (truth ++ rest) number → IsNext (truth ++ (rest ++ entries.Carried carried ∷ [])) number
-carried_next truth rest carried number low next =
-    let same : floor_of (truth ++ (rest ++ entries.Carried carried ∷ [])) ≡ max (floor_of (truth ++ rest)) carried.floor =
-    ap floor_of (sym (append_assoc truth rest (entries.Carried carried ∷ [])))
-    ∙ fold-append floor_by 1 (truth ++ rest) (entries.Carried carried ∷ []) in
-    omega (arith, same, low, next)
+carried_next truth rest carried number low next = grind (arith, floor_of, append_assoc, fold-append, floor_by)
 
 -- ---- the rest
 

@@ -1,7 +1,7 @@
 -- A lane stays sound when a target that waits for a row's tablet is granted it: it speaks for the row from now on, by what its source told,
 -- begins to pull, and does not rebuild the row yet.
 use Rattle.std.proofs.Common.{◌≡◌, ℕ, ◌⊎◌, Bool, true, false, ◌&&◌, cond, eqb, List, [], ◌∷◌, ◌++◌, Option, Some, None, refl, sym, ap, ◌∙◌}
-use Rattle.std.proofs.Common.{subst, ⊎_elim, inl, arith, IfSome, All, Contains, zero, suc, ◌≤◌, length, filter, drop, take, ◌<◌, append-nil}
+use Rattle.std.proofs.Common.{subst, ⊎_elim, inl, arith, IfSome, All, Contains, zero, suc, ◌≤◌, length, drop, take, ◌<◌, append-nil, ◌≢◌}
 use Rattle.rk_inv_base.proofs.Words.{and_right, cond-false, cond-true, flat_map-append, All-weaker, Contains-append_left, get, Ended}
 use Rattle.rk_inv_base.proofs.Words.{Member, Carried, Entry, completions_from, ends_of, Handover, lineage_of, Row, Body, Handed, told}
 use Rattle.rk_inv_base.proofs.Words.{told_by, second_of, AreHandedOver, IsKnown, IsStagedEnd, ReachAll, IsNext, handed_by, handed_for_grant}
@@ -9,37 +9,33 @@ use Rattle.rk_inv_base.proofs.Words.{is_waiting, is_waiting_at, is_wanting, seco
 use Rattle.rk_inv_base.proofs.Words.{CallsOf, false≢true, or_from, or_parts, drop-append-le, take-append-le, All-nil, Contains-append_right}
 use Rattle.rk_inv_base.proofs.Words.{list_any_at, list_any, Held, Range, is_in, Grant, items_of, carried_entry, touches, counts}
 use Rattle.rk_inv_base.proofs.Words.{is_joined_in, Tablet, pulling_from, Written, member_material, member_truth, HandedFits, HasArrived}
-use Rattle.rk_inv_base.proofs.Words.{IsBare, IsHandedBy, IsReceived, IsTarget, MembersFit, NamedFit, entries_from, named_items, scan_items}
-use Rattle.rk_inv_base.proofs.Words.{with_one_more, All-contains, Phase, Rebuilding, Mark, HasOwnRange, MarkFits, RowIsRebuilt, has_merged}
-use Rattle.rk_inv_base.proofs.Words.{IfSome_then, meets, Known, first_of, is_member, Master, with_appended, is_absent, without_merged}
-use Rattle.rk_inv_base.proofs.Words.{World, master_at, tablet_in, RoleFits, HandoverFits, view, CoverOf, IsSound, SoundView, target_truth}
-use Rattle.rk_inv_base.proofs.Words.{items_in, is_idle, may_have_staged}
-use Rattle.rk_inv_tablets.proofs.Words.{calls_more, speaker_is, waiting_at, CountsFor, SpeaksFor, not_all, named_stays, joined_same}
-use Rattle.rk_inv_tablets.proofs.Words.{AreBelow, own_push, as_granted, applied_within, joins_beside, IsRebuilderIn, all_by, view_by_rows}
-use Rattle.rk_inv_tablets.proofs.Words.{SoundRow, SoundBeside, put_same, view_master, tablet_apart, tablet_here, terms_look, all_items_same}
-use Rattle.rk_inv_tablets.proofs.Words.{MayGrantFormed, granted, tablet_granted_in, IsSettledIn, IsBareOf}
-use Rattle.rk_message.specs.declared.message.Body.TheVariants as bodies
+use Rattle.rk_inv_base.proofs.Words.{IsBare, IsReceived, IsTarget, MembersFit, NamedFit, entries_from, named_items, scan_items}
+use Rattle.rk_inv_base.proofs.Words.{with_one_more, Phase, Rebuilding, Mark, HasOwnRange, MarkFits, RowIsRebuilt, has_merged}
+use Rattle.rk_inv_base.proofs.Words.{meets, is_member, Master, with_appended, is_absent, without_merged, World, master_at, tablet_in}
+use Rattle.rk_inv_base.proofs.Words.{RoleFits, HandoverFits, view, CoverOf, IsSound, SoundView, target_truth, items_in, is_idle}
+use Rattle.rk_inv_base.proofs.Words.{may_have_staged, IsSettledIn, AreAbove, EachIn, IsRest, IsWithinRows, Message, row_of}
+use Rattle.rk_inv_tablets.proofs.Words.{calls_more, speaker_is, waiting_at, CountsFor, SpeaksFor, named_stays, joined_same, AreBelow}
+use Rattle.rk_inv_tablets.proofs.Words.{own_push, as_granted, applied_within, joins_beside, IsRebuilderIn, all_by, view_by_rows, SoundRow}
+use Rattle.rk_inv_tablets.proofs.Words.{SoundBeside, put_same, view_master, tablet_apart, tablet_here, terms_look, MayGrantFormed, granted}
+use Rattle.rk_inv_tablets.proofs.Words.{tablet_granted_in, IsBareOf, IsNextOf}
 use Rattle.rk_inv_tablets.proofs.grant.Ends.{carried_next, rising_noted, carried_rest}
 use Rattle.rk_inv_tablets.proofs.grant.Granting.{Granting, entry, master, now, of_handover, old, rest_here, taker, row_was, grow, tablet}
 use Rattle.rk_inv_tablets.proofs.grant.Granting.{turned, bare, of_written, ranged, same_term, settled, target_placed, waits, applied_same}
 use Rattle.rk_inv_tablets.proofs.grant.Granting.{by_role, seen_same}
 use Rattle.rk_inv_tablets.proofs.grow.Turned.{of_tablet, seen_apart}
 use Rattle.rk_inv_tablets.proofs.grow.Grown.{truth_same, rests_same, row_cases, material_other, some, SameFirst, rest_other, rebuilds_other}
-use Rattle.rk_inv_tablets.proofs.grow.Grown.{marked_more, target_same, placed_more, done_more, says_more, cover_more, waits_more}
-use Rattle.rk_inv_tablets.proofs.grow.Grown.{found_more, bare_more, rows_more, truths_same}
-use Rattle.rk_entry.specs.declared.entry.Entry.TheVariants as entries
-use Rattle.rk_transfer.specs.declared.role.Role.TheVariants as roles
+use Rattle.rk_inv_tablets.proofs.grow.Grown.{marked_more, target_same, placed_more, done_more, says_more, cover_more, found_more, bare_more}
+use Rattle.rk_inv_tablets.proofs.grow.Grown.{rows_more, truths_same, unnamed_more, items_more, known_more, waiting_more}
 use Rattle.rk_table.proofs.Tokens.{passed_first}
 use Rattle.rk_world.specs.Handovers.{tablet_granted}
 use Rattle.rk_inv_tablets.proofs.grant.GrantedMessages.{says_here}
+use Rattle.rk_inv_tablets.proofs.ready.OwnItems.{none_stands}
+use Rattle.rk_inv_base.proofs.logs.Missed.{counts_none}
+use Rattle.rk_inv_tablets.proofs.merge.Pieces.{none_filtered}
+use Rattle.rk_message.specs.declared.message.Body.TheVariants as bodies
+use Rattle.rk_transfer.specs.declared.role.Role.TheVariants as roles
 
 -- ---- lists of which none passes a test
-
-pub none_filtered : {X : Type 0} (p t : X → Bool) → ((x : X) → t x ≡ false → p x ≡ false) → (xs : List X) → list_any t xs ≡ false → filter p xs ≡ []
-none_filtered p t weaker [] none = refl
-none_filtered p t weaker (x ∷ xs) none =
-    let parts = or_parts (t x) (list_any t xs) none in
-    cond-false (p x) (x ∷ filter p xs) (filter p xs) (weaker x parts.0) ∙ none_filtered p t weaker xs parts.1
 
 pub none_first : {X : Type 0} (t : X → Bool) (n : ℕ) (xs : List X) → list_any t xs ≡ false → list_any t (take n xs) ≡ false
 none_first t (suc n) (x ∷ xs) none =
@@ -52,18 +48,11 @@ none_between t zero n xs none = none_first t n xs none
 none_between t (suc from) (suc n) (x ∷ xs) none = none_between t from n xs none
 none_between t (suc from) _ _ none = refl
 
--- nothing stands in an empty list
-pub none_there : {X : Type 0} (xs : List X) (x : X) → xs ≡ [] → Contains xs x → ⊥
-none_there {X} xs x none at =
-    let empty : Contains [] x = subst (λ (list : List X). Contains list x) none at in omega (arith, empty.1)
-
 -- ---- what does not touch a range
 
 -- does not count for it, where it is not empty
 pub touched : (range : Range) → range.first ≤ range.last → (e : Entry) → touches range e ≡ false → counts range e ≡ false
-touched range some (entries.Carried carried) none = not_all carried.range range none some
-touched range some (entries.Joined joined) none = refl
-touched range some _ none = none
+touched range some e none = counts_none range e some none
 
 -- ---- a target begins
 
@@ -84,11 +73,11 @@ module _ (range : Range) (source : ℕ) (truth material : List Entry) (from : �
   Arrived = HasArrived roles.Receiving (pulling_from grant.source) (scan_items truth)
 
   unarrived : (item : Held) → Arrived item → ⊥
-  unarrived item arrived = ⊎_elim (λ at. none_there _ item (passed_first (scan_items truth)) at) (λ e. false≢true e) (arrived refl)
+  unarrived item arrived = ⊎_elim (λ at. none_stands item (rw (passed_first (scan_items truth)) at at)) (λ e. false≢true e) (arrived refl)
 
   received : IsReceived Arrived range (scan_items truth) (items_of (entries_from range from (take w.applied (w.entries ++ new ∷ [])))) [] table
   received = record {
-    within = λ item at. absurd (none_there [] item refl at);
+    within = λ item at. absurd (none_stands item at);
     copied = λ item at arrived. absurd (unarrived item arrived);
     come = λ item at inside.
         absurd (false≢true (sym ready.empty ∙ list_any_at (is_in range) table at.0 item at.1 (ap (is_in range) at.2 ∙ inside)));
@@ -96,7 +85,7 @@ module _ (range : Range) (source : ℕ) (truth material : List Entry) (from : �
         absurd
         (⊎_elim
         (λ (at : Contains (items_of (entries_from range from (take w.applied (w.entries ++ new ∷ [])))) item).
-        none_there _ item (ap items_of own_none) at)
+        none_stands item (rw own_none at at))
         (λ (there : Contains (scan_items truth) item × Arrived item). unarrived item there.1) come);
   }
 
@@ -128,11 +117,7 @@ module _ (v : View) (a : Granting v) where
 
   -- what is noted for the row is what the grant tells
   noted : handed_for_grant a.row v.handovers v.handed ≡ Some (record { floor = a.grant.floor; ends = a.grant.ends })
-  noted =
-      ap (λ (members : List Member). cond (is_waiting (second_has v.handovers a.row (second_of members))) (get v.handed a.row.tablet) None)
-      a.may.may.lineage_is
-      ∙ cond-true (is_wanting (old v a).role) (get v.handed a.row.tablet) None (ap is_wanting a.may.may.waiting)
-      ∙ a.may.may.told
+  noted = grind (arith, is_waiting, second_has, second_of, tablet, cond-true, is_wanting, old, told)
 
   pub given : AreHandedOver v.base a.row.range v.journal a.grant.ends
   given =
@@ -262,22 +247,11 @@ module _ (v : View) (a : Granting v) where
 
   -- so the members of the row fit each other
   pub members_here : MembersFit a.row written (now v a).handovers (now v a).pullings v.records v.handed (lineage_of a.row.phase)
-  members_here =
-      rw a.may.may.lineage_is (λ granted.
-      rw (truth_same v (grow v a) a.row.range a.source, material_other v (grow v a) a.row.range a.source (taker v a).apart)
-      (of_tablet v (now v a) (master v a) a.row.tablet (tablet v a) (turned v a) (λ q r t. Targets a.row a.source a.target (written q) t)
-      (master v a) a.row.tablet target_here (λ apart. absurd (apart refl refl))))
+  members_here = grind (arith, granted, truth_same, grow, material_other, taker, of_tablet, now, master, tablet, turned, target_here)
 
   -- the source is another master
   pub handed_here : HandedFits a.row (now v a).handovers (now v a).completions v.handed (lineage_of a.row.phase)
-  handed_here =
-      let was : HandedFits a.row v.handovers v.completions v.handed (a.source ∷ a.target ∷ []) =
-      subst (HandedFits a.row v.handovers v.completions v.handed) a.may.may.lineage_is (row_was v a).handed_on in
-      rw a.may.may.lineage_is (λ term.
-      of_tablet v (now v a) (master v a) a.row.tablet (tablet v a) (turned v a)
-      (λ q r t. q ≡ a.source.master → IsHandedBy (get v.handed a.row.tablet) t.handover t.completions) a.source.master a.row.tablet
-      (λ at. absurd ((taker v a).apart (sym at)))
-      (λ apart at. was (sym (same_term v a (master v a) a.row.tablet) ∙ term ∙ same_term v a a.source.master a.row.tablet)) refl)
+  handed_here = grind (arith, row_was, of_tablet, now, master, tablet, turned, taker, same_term)
 
   -- what the target names is what it was
   pub names_here : NamedFit written a.row.range (lineage_of a.row.phase)
@@ -294,33 +268,17 @@ module _ (v : View) (a : Granting v) where
 
   -- of two members the first one is not the master
   pub first_same : SameFirst v (grow v a) a.row.range (lineage_of a.row.phase)
-  first_same first last others two =
-      let both : first ∷ last ∷ others ≡ a.source ∷ a.target ∷ [] = sym two ∙ a.may.may.lineage_is in
-      let one : first ≡ a.source = cc both in
-      let away : first.master ≡ master v a → ⊥ = λ at. (taker v a).apart (ap (λ (m : Member). m.master) (sym one) ∙ at) in (
-        rest_other v (grow v a) a.row.range first away,
-        material_other v (grow v a) a.row.range first away,
-      )
+  first_same first last others two = grind (arith, master, taker, rest_other, grow, material_other)
 
   -- ---- marks
 
   -- the master has no mark of the row
   none_marked : (q : ℕ) (mark : Mark) → q ≡ master v a → Contains (v.written q).marks mark → mark.tablet ≡ a.row.tablet → ⊥
-  none_marked q mark at there its =
-      let fit =
-      All-contains (λ m. m.tablet ≡ a.row.tablet → MarkFits a.row q (v.handovers q a.row.tablet) (v.live q) (v.written q) m)
-      (v.written q).marks mark ((row_was v a).marks q) there its in
-      let by = fit.by_rebuilder (fit.present (ap v.live at ∙ a.may.may.lives)) in
-      false≢true (sym (ap has_merged (waits v a q a.row.tablet at refl)) ∙ by.2)
+  none_marked q mark at there its = grind (arith, tablet, row_was, false≢true, has_merged, waits)
 
   -- so what holds of each mark of the row at another master holds of all
   marked_by : (P : Written → Mark → Type 0) (q : ℕ) → All (λ mark. mark.tablet ≡ a.row.tablet → P (v.written q) mark) (v.written q).marks → All (λ mark. mark.tablet ≡ a.row.tablet → P (written q) mark) (written q).marks
-  marked_by P q was =
-      of_written v a (λ (w : Written). All (λ mark. mark.tablet ≡ a.row.tablet → P w mark) w.marks) q
-      (λ at.
-      all_by (λ mark. mark.tablet ≡ a.row.tablet → P (with_one_more (v.written q) (entry v a)) mark) (v.written q).marks
-      (λ mark there its. absurd (none_marked q mark at there its)))
-      (λ apart. was)
+  marked_by P q was = grind (arith, of_written, tablet, all_by, with_one_more, entry, none_marked)
 
   pub marks_here : (q : ℕ) → All (λ mark. mark.tablet ≡ a.row.tablet → MarkFits a.row q ((now v a).handovers q a.row.tablet) (v.live q) (written q) mark) (written q).marks
   marks_here q =
@@ -376,126 +334,93 @@ module _ (v : View) (a : Granting v) where
   here : SoundRow (now v a) a.row
   here =
       let was = row_was v a in
-      record {
-        named = was.named;
-        begun = was.begun;
-        formed = was.formed;
-        placed = placed_more v (grow v a) (lineage_of a.row.phase) was.placed;
-        sent = was.sent;
-        fitting = λ q.
-            of_tablet v (now v a) (master v a) a.row.tablet (tablet v a) (turned v a)
-            (λ q r t. StillCounts (v.live q) t.handover.term a.row.term → RoleFits a.row q t.handover (written q).applied) q a.row.tablet
-            (λ counts. rw (applied_same v a (master v a)) (taker v a).fits) (λ apart counts. rw (applied_same v a q) (was.fitting q counts));
-        ranged = λ q.
-            of_handover v a
-            (λ h. StillCounts (v.live q) h.term a.row.term → is_member (lineage_of a.row.phase) q ≡ true → h.range ≡ a.row.range) q a.row.tablet
-            (λ at its. was.ranged q) (λ apart. was.ranged q);
-        at_term =
-            terms_look a.row.phase (λ q. (v.handovers q a.row.tablet).term) (λ q. ((now v a).handovers q a.row.tablet).term) a.row.term
-            (λ q. same_term v a q a.row.tablet) was.at_term;
-        truth = rw truths_now was.truth;
-        above =
-            rw (truths_now, rest_here v a, flat_map-append items_in (rests v a.row) (entry v a ∷ []) ∙ append-nil (items_of (rests v a.row)))
-            was.above;
-        reached = rw truths_now was.reached;
-        recorded = rw truths_now was.recorded;
-        moving = rw target_now was.moving;
-        answering = answers;
-        ends_granted = rw none_kept tt;
-        ends_sent = λ n m there. rw (none_sent m.body) tt;
-        low = rw truths_now was.low;
-        low_moving = rw target_now was.low_moving;
-        counted = λ q counts says. rw truths_now (counts_on q counts says);
-        floor_granted = rw none_kept tt;
-        floor_sent = λ n m there. rw (none_sent m.body) tt;
-        goes_on =
-            rw (truths_now, rest_here v a)
-            (carried_rest v.base a.row.range (truths v a.row) (rests v a.row) v.journal v.asked _ given.known was.goes_on);
-        done = done_more v (grow v a) a.row.range (lineage_of a.row.phase) first_same was.done;
-        unnamed = rw a.may.may.lineage_is tt;
-        idle = λ q.
-            of_handover v a
-            (λ h. StillCounts (v.live q) h.term a.row.term → is_idle h.role ≡ true → IsSettledIn a.row.range (written q)) q a.row.tablet
-            (λ at its counts idles. absurd (false≢true idles))
-            (λ apart counts idles.
-            rw ((grow v a).others q (λ at. apart at refl)) (was.idle q counts idles));
-        items = λ q lives has.
-            IfSome_then (first_of (lineage_of a.row.phase))
-            (was.items q lives
-            (sym
-            (all_items_same (post_of a.row.phase q) ((now v a).handovers q a.row.tablet) (v.handovers q a.row.tablet) a.row.term
-            (same_term v a q a.row.tablet))
-            ∙ has))
-            (λ member table. rw (truth_same v (grow v a) a.row.range member) table);
-        target = members_here;
-        handed_on = handed_here;
-        named_items = names_here;
-        rebuilt = rw truths_now (rebuilt_here a.row.phase refl was.rebuilt);
-        marks = marks_here;
-        pieces = pieces_here;
-        says = λ n m there.
-            says_here v a m.from m.to m.body
-            (says_more v (grow v a) a.row a.may.may.has_row m.from m.to m.body (was.says n m there));
-      }
+      let fitting : (q : ℕ) → CountsFor (now v a) a.row q → RoleFits a.row q ((now v a).handovers q a.row.tablet) (written q).applied = λ q.
+      of_tablet v (now v a) (master v a) a.row.tablet (tablet v a) (turned v a)
+      (λ q r t. StillCounts (v.live q) t.handover.term a.row.term → RoleFits a.row q t.handover (written q).applied) q a.row.tablet
+      (λ counts. rw (applied_same v a (master v a)) (taker v a).fits) (λ apart counts. rw (applied_same v a q) (was.fitting q counts)) in
+      let ranged : (q : ℕ) → CountsFor (now v a) a.row q → is_member (lineage_of a.row.phase) q ≡ true → ((now v a).handovers q a.row.tablet).range ≡ a.row.range = λ q.
+      of_handover v a
+      (λ h. StillCounts (v.live q) h.term a.row.term → is_member (lineage_of a.row.phase) q ≡ true → h.range ≡ a.row.range) q a.row.tablet
+      (λ at its. was.ranged q) (λ apart. was.ranged q) in
+      let above : AreAbove (items_of (truths (now v a) a.row)) (items_of (rests (now v a) a.row)) =
+      rw (truths_now, rest_here v a, flat_map-append items_in (rests v a.row) (entry v a ∷ []) ∙ append-nil (items_of (rests v a.row)))
+      was.above in
+      let goes_on : IsRest v.base a.row.range (truths (now v a) a.row) (rests (now v a) a.row) v.journal v.asked =
+      rw (truths_now, rest_here v a)
+      (carried_rest v.base a.row.range (truths v a.row) (rests v a.row) v.journal v.asked _ given.known was.goes_on) in
+      let counted : (q : ℕ) → CountsFor (now v a) a.row q → SpeaksFor (now v a) a.row q → IsNextOf (now v a) a.row ((now v a).handovers q a.row.tablet).counter = λ q counts says.
+      rw truths_now (counts_on q counts says) in
+      let none_granted : (P : Handed → Type 0) → IfSome (handed_for_grant a.row (now v a).handovers v.handed) P = λ P. rw none_kept tt in
+      let none_told : (P : Handed → Type 0) → EachIn (λ n m. IfSome (handed_by a.row (now v a).handovers m.body) P) v.wire = λ P n m there.
+      rw (none_sent m.body) tt in
+      let idle : (q : ℕ) → CountsFor (now v a) a.row q → is_idle ((now v a).handovers q a.row.tablet).role ≡ true → IsSettledIn a.row.range (written q) = λ q.
+      of_handover v a
+      (λ h. StillCounts (v.live q) h.term a.row.term → is_idle h.role ≡ true → IsSettledIn a.row.range (written q)) q a.row.tablet
+      (λ at its counts idles. absurd (false≢true idles))
+      (λ apart counts idles. rw ((grow v a).others q (λ at. apart at refl)) (was.idle q counts idles)) in
+      assumption (
+        was,
+        placed_more v (grow v a) (lineage_of a.row.phase) was.placed,
+        terms_look a.row.phase (λ q. (v.handovers q a.row.tablet).term) (λ q. ((now v a).handovers q a.row.tablet).term) a.row.term
+            (λ q. same_term v a q a.row.tablet) was.at_term,
+        rw (← truths_now) at was.truth,
+        rw (← truths_now) at was.reached,
+        rw (← truths_now) at was.recorded,
+        rw (← target_now) at was.moving,
+        rw (← truths_now) at was.low,
+        rw (← target_now) at was.low_moving,
+        answers,
+        none_granted (λ h. AreHandedOver v.base a.row.range v.journal h.ends),
+        none_told (λ h. AreHandedOver v.base a.row.range v.journal h.ends),
+        none_granted (λ h. IsNextOf (now v a) a.row h.floor),
+        none_told (λ h. IsNextOf (now v a) a.row h.floor),
+        done_more v (grow v a) a.row.range (lineage_of a.row.phase) first_same was.done,
+        unnamed_more v (grow v a) a.row.range (lineage_of a.row.phase) was.unnamed,
+        items_more v (grow v a) a.row (now v a).handovers (λ q. same_term v a q a.row.tablet) was.items,
+        members_here,
+        handed_here,
+        names_here,
+        rw (← truths_now) at (rebuilt_here a.row.phase refl was.rebuilt),
+        marks_here,
+        pieces_here,
+        λ (n : ℕ) (m : Message) (there : get v.wire n ≡ Some m).
+            says_here v a m.from m.to m.body (says_more v (grow v a) a.row a.may.may.has_row m.from m.to m.body (was.says n m there)),
+      )
 
   -- ---- beside rows
 
   cover : CoverOf (now v a)
   cover =
       let more = cover_more v (grow v a) in
-      record {
-        unknown = λ q r none. same_term v a q r ∙ more.unknown q r none;
-        marks = more.marks;
-        sent = more.sent;
-        ranges = λ q r begun.
-            rw (range_same q r) (more.ranges q r (rw (← same_term v a q r) begun));
-        ordered = more.ordered;
-        entries = more.entries;
-        sides = more.sides;
-        items = more.items;
-        wholes = more.wholes;
-      }
+      let ranges : (q r : ℕ) → 1 ≤ ((now v a).handovers q r).term → IsWithinRows v.rows ((now v a).handovers q r).range = λ q r begun.
+      rw (range_same q r) (more.ranges q r (rw (← same_term v a q r) begun)) in
+      assumption (more, λ (q r : ℕ) (none : row_of v.rows r ≡ None). same_term v a q r ∙ more.unknown q r none)
 
   beside : SoundBeside (now v a)
-  beside = record {
-    numbered = a.sound.nodes.numbered;
-    backed = a.sound.nodes.backed;
-    known_backups = λ q there. ap (λ (known : List Known). length known) ((grow v a).known q) ∙ a.sound.nodes.known q there;
-    crashed = a.sound.nodes.crashed;
-    left = a.sound.nodes.left;
-    rows_apart = a.sound.rows.apart;
-    covered = a.sound.rows.covered;
-    kept = λ q r.
-        of_handover v a (λ h. All (λ x. HandoverFits x r h) v.rows) q r
-        (λ at its k d within.
-        let fits = a.sound.terms.kept q r k d within in record { within = fits.within; below = fits.below; exact = fits.exact })
-        (λ apart. a.sound.terms.kept q r);
-    begun = λ q r there.
-        rw (same_term v a q r) (a.sound.terms.begun q r (sym (absent_same q r) ∙ there));
-    apart = λ q i j other i_there j_there.
-        (λ k. meets (range_same q i k) (range_same q j k))
-        ∙ a.sound.terms.apart q i j other (sym (absent_same q i) ∙ i_there) (sym (absent_same q j) ∙ j_there);
-    cover = cover;
-    has_row = λ q r lives there. a.sound.roles.known q r lives (sym (absent_same q r) ∙ there);
-    logs = (grow v a).logs_are;
-    legal = a.sound.truth.legal;
-    rising = a.sound.truth.rising;
-    seen = a.sound.truth.seen;
-    once = a.sound.calls.once;
-    known = known_on;
-    waiting = λ q lives k c there.
-        waits_more v (grow v a) (now v a).handovers
-        (λ q r staged. of_handover v a (λ h. may_have_staged h.role ≡ true) q r (λ at its. refl) (λ apart. staged)) q k c
-        (a.sound.rest.waiting q lives k c there);
-    are_last = a.sound.rest.are_last;
-    found = λ q lives. found_more v (grow v a) q (a.sound.rest.found q lives);
-    ordered = a.sound.records.ordered;
-    bare = λ q r.
-        of_handover v a (λ h. IsBareOf h (written q) (v.records q)) q r (λ at its. tt)
-        (λ apart. bare_more v (grow v a) q r apart (a.sound.receives.bare q r));
-    others = a.sound.messages.others;
-    asked = a.sound.asked;
-  }
+  beside =
+      let kept : (q r : ℕ) → All (λ x. HandoverFits x r ((now v a).handovers q r)) v.rows = λ q r.
+      of_handover v a (λ h. All (λ x. HandoverFits x r h) v.rows) q r
+      (λ at its k d within. let fits = a.sound.terms.kept q r k d within in assumption) (λ apart. a.sound.terms.kept q r) in
+      let begun : (q r : ℕ) → is_absent ((now v a).handovers q r).role ≡ false → 1 ≤ ((now v a).handovers q r).term = λ q r there.
+      rw (same_term v a q r) (a.sound.terms.begun q r (sym (absent_same q r) ∙ there)) in
+      let apart : (q i j : ℕ) → i ≢ j → is_absent ((now v a).handovers q i).role ≡ false → is_absent ((now v a).handovers q j).role ≡ false → meets ((now v a).handovers q i).range ((now v a).handovers q j).range ≡ false = λ q i j other i_there j_there.
+      (λ k. meets (range_same q i k) (range_same q j k))
+      ∙ a.sound.terms.apart q i j other (sym (absent_same q i) ∙ i_there) (sym (absent_same q j) ∙ j_there) in
+      assumption (
+        a.sound,
+        cover,
+        known_on,
+        (grow v a).logs_are,
+        known_more v (grow v a),
+        found_more v (grow v a),
+        λ (q r : ℕ) (lives : v.live q ≡ true) (there : is_absent ((now v a).handovers q r).role ≡ false).
+            a.sound.roles.known q r lives (sym (absent_same q r) ∙ there),
+        waiting_more v (grow v a) (now v a).handovers
+            (λ q r staged. of_handover v a (λ h. may_have_staged h.role ≡ true) q r (λ at its. refl) (λ apart. staged)),
+        λ (q r : ℕ).
+            of_handover v a (λ h. IsBareOf h (written q) (v.records q)) q r (λ at its. tt)
+            (λ apart. bare_more v (grow v a) q r apart (a.sound.receives.bare q r)),
+      )
 
   pub view_granted : SoundView (now v a)
   view_granted =

@@ -67,14 +67,12 @@ module _ (v : View) (a : Granting v) where
   -- what a message says of the row it says still
   pub says_here : (from to : Node) (body : Body) → SaysIn before a.row from to body → SaysIn (now v a) a.row from to body
   says_here from to (bodies.Prepare prepare) says =
-      for_master (λ q t. PrepareFits a.row t.handover (v.live q) q prepare) to
-      (λ fits. record { range = fits.range; invited = fits.invited; members = fits.members }) says
+      for_master (λ q t. PrepareFits a.row t.handover (v.live q) q prepare) to (λ fits. assumption) says
   says_here from to (bodies.Ready ready) says =
       from_master (λ q t. IsOf a.row ready.tenure → ReadyIn a.row.phase t.handover a.row.term q ready.place) from
       (λ told is. ready_moved a.row.phase (old v a) (tablet v a).handover a.row.term (master v a) ready.place (taker v a).moved (told is)) says
   says_here from to (bodies.Close tenure) says =
-      for_master (λ q t. CloseFits a.row t.handover (v.live q) q tenure) to
-      (λ fits. record { source = fits.source; may_follow = fits.may_follow }) says
+      for_master (λ q t. CloseFits a.row t.handover (v.live q) q tenure) to (λ fits. assumption) says
   says_here from to (bodies.Transfer transfer) says =
       from_master (λ q t. IsOf a.row transfer.tenure → TransferIn a.row.phase t.handover t.completions a.row.term q transfer) from
       (λ told is.
@@ -107,14 +105,11 @@ module _ (v : View) (a : Granting v) where
       joined_waits a.row.phase (old v a) (tablet v a).handover a.target.from (written (master v a)).applied a.row.term (master v a)
       a.may.may.waiting (told is)) says
   says_here from to (bodies.Own tenure) says =
-      for_master (λ q t. OwnFits a.row t.handover (v.live q) q tenure) to
-      (λ fits. record { owned = fits.owned; reached = fits.reached; owner = fits.owner }) says
+      for_master (λ q t. OwnFits a.row t.handover (v.live q) q tenure) to (λ fits. assumption) says
   says_here from to (bodies.Release tenure) says =
-      for_master (λ q t. ReleaseFits a.row t.handover (v.live q) q tenure) to
-      (λ fits. record { owned = fits.owned; outside = fits.outside }) says
+      for_master (λ q t. ReleaseFits a.row t.handover (v.live q) q tenure) to (λ fits. assumption) says
   says_here from to (bodies.Rebuild rebuild) says =
-      for_master (λ q t. RebuildFits a.row t.handover (v.live q) q rebuild) to
-      (λ fits. record { range = fits.range; lineage = fits.lineage; ordered = fits.ordered }) says
+      for_master (λ q t. RebuildFits a.row t.handover (v.live q) q rebuild) to (λ fits. assumption) says
   says_here from to (bodies.Rebuilt rebuilt) says =
       from_master (λ q t. IsOf a.row rebuilt.tenure → RebuiltIn a.row.phase t.handover t.merged_ends (written q).applied a.row.term q rebuilt) from
       (λ told is.

@@ -1,18 +1,50 @@
 -- A target is granted its tablet: what is known of its row, what changes at its master, and what stays as it was.
 use Rattle.std.proofs.Common.{◌≡◌, ℕ, ◌≤◌, max, true, false, List, [], ◌∷◌, ◌++◌, length, refl, sym, ap, ◌∙◌, subst, inl, arith, IfSome}
-use Rattle.std.proofs.Common.{drop, All}
-use Rattle.rk_inv_base.proofs.Words.{All-head, All-tail, list_any, Member, Range, Entry, completions_from, Handover, Role, lineage_of, Row}
+use Rattle.std.proofs.Common.{drop, All, ◌<◌, eq-eqb, eqb-true, ne_eqb}
+use Rattle.rk_inv_base.proofs.Words.{list_any, Member, Range, Entry, completions_from, Handover, Role, lineage_of, Row}
 use Rattle.rk_inv_base.proofs.Words.{with_entry, Grant, no_gather, carried_entry, last_of, unmarked_from, touches, counting, counts}
 use Rattle.rk_inv_base.proofs.Words.{has_all, is_idle, Tablet, pulling_from, Written, lineage_rest, member_rest, IsBare, wanted_place}
-use Rattle.rk_inv_base.proofs.Words.{IsPlaced, with_one_more, View, rests, SoundView, is_absent, stored_count}
+use Rattle.rk_inv_base.proofs.Words.{with_one_more, View, rests, SoundView, is_absent, stored_count, cases_Bool, cond-true}
+use Rattle.rk_inv_base.proofs.Words.{cond-false, Phase, Moving, Rebuilding, is_member, is_opening, Post}
+use Rattle.rk_inv_base.proofs.Words.{bond_of, post_of}
+use Rattle.rk_inv_base.proofs.Words.{rebuilder_post, Holds, IsFormed}
 use Rattle.rk_inv_tablets.proofs.Words.{put_by, put2_by, put2_here, put2_other, put_other, applied_within, last_member, rest_inside}
 use Rattle.rk_inv_tablets.proofs.Words.{MayGrantFormed, as_granted, granted, row_in, SoundRow, logs_grown, none_stored, stored_push}
-use Rattle.rk_inv_tablets.proofs.Words.{needed_grown}
-use Rattle.rk_transfer.specs.declared.role.Role.TheVariants as roles
-use Rattle.rk_inv_tablets.proofs.grant.Takers.{IsTaker, waiting_takes}
+use Rattle.rk_inv_tablets.proofs.Words.{needed_grown, speaker_of}
 use Rattle.rk_inv_tablets.proofs.grow.Turned.{IsTurned}
 use Rattle.rk_inv_tablets.proofs.grow.Grown.{Growing}
 use Rattle.rk_inv_tablets.proofs.grow.MoreLog.{more_itself, HasMore, more_one, has_itself}
+use Rattle.rk_inv_tablets.proofs.ready.Outside.{second_member, last_post}
+use Rattle.rk_transfer.specs.declared.role.Role.TheVariants as roles
+use Rattle.rk_transfer.specs.declared.role.Role.TheVariants as roles
+
+-- a master is the second of two members of a lineage, and may take a grant: it is another one than the first, its post takes a target
+-- that pulls, and it alone may speak for the row, which does not open; where it is to rebuild the row, it keeps a smaller term
+pub record IsTaker (phase : Phase) (source master term own applied : ℕ) : Type 0 where
+  pub apart : source ≡ master → ⊥
+  pub fits : Holds (bond_of (post_of phase master) roles.Receiving) term own applied
+  pub speaks : master ≡ speaker_of phase
+  pub moved : is_opening phase ≡ false
+  pub behind : (lineage : List Member) (to : ℕ) → phase ≡ Rebuilding lineage to → own < term
+
+module _ (term own applied from : ℕ) where
+  -- a master with this post waits for its grant, and with this one it may take it
+  abbrev Waits : Post → Type 0
+  Waits post = Holds (bond_of post (roles.Wanting from)) term own applied
+
+  abbrev Takes : Post → Type 0
+  Takes post = Holds (bond_of post roles.Receiving) term own applied
+
+  of_moving : (s sfrom t dfrom : ℕ) (source target : Member) → IsFormed (Moving s sfrom t dfrom) → lineage_of (Moving s sfrom t dfrom) ≡ source ∷ target ∷ [] → Waits (post_of (Moving s sfrom t dfrom) target.master) → IsTaker (Moving s sfrom t dfrom) source.master target.master term own applied
+  of_moving s sfrom t dfrom source target formed is waits = grind (arith, post_of, cond-false, ne_eqb, cond-true, eq-eqb)
+
+  of_rebuilding : (source target : Member) (to : ℕ) → IsFormed (Rebuilding (source ∷ target ∷ []) to) → Waits (post_of (Rebuilding (source ∷ target ∷ []) to) target.master) → IsTaker (Rebuilding (source ∷ target ∷ []) to) source.master target.master term own applied
+  of_rebuilding source target to formed waits =
+      grind (arith, is_member, rebuilder_post, last_post, post_of, cond-true, eqb-true, cond-false, second_member, cases_Bool)
+
+  -- a target that waits as the second of two members may take its grant
+  pub waiting_takes : (phase : Phase) (source target : Member) → IsFormed phase → lineage_of phase ≡ source ∷ target ∷ [] → Waits (post_of phase target.master) → IsTaker phase source.master target.master term own applied
+  waiting_takes phase source target formed is waits = grind (arith, of_moving, of_rebuilding, post_of)
 
 -- a grant that the target of a row may take, in a sound view
 pub record Granting (v : View) : Type 0 where
@@ -60,22 +92,7 @@ module _ (v : View) (a : Granting v) where
 
   -- of the tablet the master has that, and all others have what they had
   pub turned : IsTurned v now master a.row.tablet tablet
-  turned = record {
-    here = λ q r at its i. record {
-      handover = put2_here v.handovers master a.row.tablet (as_granted a.grant.floor old) q r at its i;
-      completions = put2_here v.completions master a.row.tablet (completions_from [] a.grant.ends) q r at its i;
-      pulling = put2_here v.pullings master a.row.tablet (pulling_from a.grant.source) q r at its i;
-      gather = put2_here v.gathers master a.row.tablet no_gather q r at its i;
-      merged_ends = put2_here v.merged master a.row.tablet [] q r at its i;
-    };
-    apart = λ q r apart i. record {
-      handover = put2_other v.handovers master a.row.tablet (as_granted a.grant.floor old) q r apart i;
-      completions = put2_other v.completions master a.row.tablet (completions_from [] a.grant.ends) q r apart i;
-      pulling = put2_other v.pullings master a.row.tablet (pulling_from a.grant.source) q r apart i;
-      gather = put2_other v.gathers master a.row.tablet no_gather q r apart i;
-      merged_ends = put2_other v.merged master a.row.tablet [] q r apart i;
-    };
-  }
+  turned = grind (arith, put2_here, as_granted, completions_from, pulling_from, no_gather, put2_other)
 
   -- the master waits for it
   pub waits : (q r : ℕ) → q ≡ master → r ≡ a.row.tablet → (v.handovers q r).role ≡ roles.Wanting a.target.from
@@ -163,10 +180,7 @@ module _ (v : View) (a : Granting v) where
 
   -- the place of the target is one of its log
   pub target_placed : a.target.from ≤ length (v.written master).entries
-  target_placed =
-      let placed : All (IsPlaced v.written) (a.source ∷ a.target ∷ []) =
-      subst (All (IsPlaced v.written)) a.may.may.lineage_is row_was.placed in
-      All-head (IsPlaced v.written) a.target [] (All-tail (IsPlaced v.written) a.source (a.target ∷ []) placed)
+  target_placed = grind (arith, row_was)
 
   target_grown : member_rest now.written a.row.range a.target ≡ member_rest v.written a.row.range a.target ++ entry ∷ []
   target_grown =
@@ -182,7 +196,4 @@ module _ (v : View) (a : Granting v) where
 
   -- the rest of the row has the entry at its end, and each other one is as it was
   pub rest_here : rests now a.row ≡ rests v a.row ++ entry ∷ []
-  rest_here =
-      ap (lineage_rest now.written a.row.range) a.may.may.lineage_is
-      ∙ target_grown
-      ∙ ap (λ (list : List Entry). list ++ entry ∷ []) (sym (ap (lineage_rest v.written a.row.range) a.may.may.lineage_is))
+  rest_here = grind (arith, lineage_rest, target_grown)

@@ -1,28 +1,29 @@
 -- The law of longer logs: where a living master's log has more behind it, all of one row's range, each other row has what it had; and so
 -- has what stands beside rows. So a change by which a master appends entries is shown by what is to hold of their row.
 use Rattle.std.proofs.Common.{◌≡◌, ◌<◌, ◌≤◌, ◌-◌, ◌⊎◌, ℕ, suc, max, true, false, List, [], ◌∷◌, ◌++◌, length, refl, sym, ap, ◌∙◌, subst}
-use Rattle.std.proofs.Common.{⊎_elim, arith, is_some, slice_get, drop, take, All, Contains, length-append, inl, inr, slice_index_or}
-use Rattle.rk_inv_base.proofs.Words.{IsReadPart, cases_eq, cases_lt, cases_Bool, both_ways, false≢true, All-append, All-contains, All-head}
+use Rattle.std.proofs.Common.{⊎_elim, arith, is_some, slice_get, drop, take, All, Contains, length-append, inl, inr, slice_index_or, IfSome}
+use Rattle.std.proofs.Common.{Some, Some}
+use Rattle.rk_inv_base.proofs.Words.{cases_eq, cases_lt, both_ways, false≢true, All-append, All-contains, All-head}
 use Rattle.rk_inv_base.proofs.Words.{All-tail, All-weaker, IfSome_then, hash_of, has_all, meets, Call, Member, Node, Range, Entry, Handover}
 use Rattle.rk_inv_base.proofs.Words.{is_absent, lineage_of, row_of, Phase, Rebuilding, Row, Known, Log, known_of, EntryEnd, Body}
 use Rattle.rk_inv_base.proofs.Words.{CopySegment, Got, Pulled, first_of, counting, may_have_staged, unmarked_from, own_place, side_entries}
-use Rattle.rk_inv_base.proofs.Words.{material_of, Written, applied_entries, lineage_rest, member_material, member_rest, member_truth, Mark}
+use Rattle.rk_inv_base.proofs.Words.{material_of, Written, applied_entries, member_material, member_rest, member_truth, Mark}
 use Rattle.rk_inv_base.proofs.Words.{Merged, handed_by, handed_for_grant, target_truth, stored_of, CopyIn, GotAgrees, PulledAgrees}
 use Rattle.rk_inv_base.proofs.Words.{HasOwnRange, IsOfRange, IsPieceOf, IsRebuilder, IsRebuildTable, MarkFits, MarkedFit, NeededOf}
 use Rattle.rk_inv_base.proofs.Words.{READ_BACKUP, RowIsRebuilt, marked_entries, member_marked, member_stored, merged_place, stored_count}
 use Rattle.rk_inv_base.proofs.Words.{IsBare, MembersFit, NamedFit, FirstIsDone, EachHasCall, OnlyIsUnnamed, Waits, IsPlaced, IsEntryWithin}
 use Rattle.rk_inv_base.proofs.Words.{IsOfWholeRows, View, truths, rests, SoundView, CoverOf, LogsOf, slice_get_front, joined_from}
-use Rattle.rk_inv_base.proofs.Words.{Completions, Gather, Ended, take-append-le, get, slice_get_within, false_from_ne_true}
-use Rattle.rk_entry.specs.declared.entry.Entry.TheVariants as entries
-use Rattle.rk_message.specs.declared.message.Body.TheVariants as bodies
+use Rattle.rk_inv_base.proofs.Words.{Completions, Gather, Ended, take-append-le, get, slice_get_within, false_from_ne_true, EachIn}
+use Rattle.rk_inv_base.proofs.Words.{HasItems, IsMaster, IsMergedOf, Message, has_all_items, is_idle, post_of, as_entries, closing_carried}
 use Rattle.rk_inv_tablets.proofs.Words.{member as member_at, truth_by, truth_is, piece_push, IsRebuilderIn, former_gone, mark_same}
 use Rattle.rk_inv_tablets.proofs.Words.{IsBareOf, waits_then, applied_within, Extends, extends_behind, tells_extended, rows_apart}
 use Rattle.rk_inv_tablets.proofs.Words.{same_number, meets_either, stands_found, target_truth_same, SaysIn, SoundRow, row_in, covered_by}
 use Rattle.rk_inv_tablets.proofs.Words.{all_by, needed_member, part_weaker, rebuilder_weaker, SeenTablet, alone, row_kept, seen_at}
-use Rattle.rk_inv_tablets.proofs.Words.{by_master, if_master}
-use Rattle.rk_outside.specs.Segments.{bytes_of as copied_bytes}
+use Rattle.rk_inv_tablets.proofs.Words.{by_master, if_master, CountsFor, IsNextOf, SpeaksFor, all_items_same}
 use Rattle.rk_inv_tablets.proofs.grow.MoreLog.{HasMore, LeavesRange, has_itself, joined_more, leaves_more, target_leaves, touched_more}
+use Rattle.rk_inv_tablets.proofs.grow.MoreLog.{waits_by, rest_by}
 use Rattle.rk_inv_tablets.proofs.merge.Pieces.{at_front}
+use Rattle.rk_entry.specs.declared.entry.Entry.TheVariants as entries
 
 -- these are logs, and this is written, where a living master that has a row's tablet appended to its log what is of the row's range
 pub record Growing (v : View) : Type 0 where
@@ -119,12 +120,7 @@ module _ (v : View) (grow : Growing v) where
 
   -- and a member's place is one of its log
   pub placed_more : (members : List Member) → All (IsPlaced v.written) members → All (IsPlaced written) members
-  placed_more members was =
-      All-weaker (IsPlaced v.written) (IsPlaced written)
-      (λ m within.
-      let more = grow.more m.master in
-      omega (arith, within, ap (λ (l : List Entry). length l) more.entries, length-append (v.written m.master).entries more.list))
-      members was
+  placed_more members was = grind (arith, length-append)
 
   -- the only member of a lineage has no more Joined
   pub unnamed_more : (range : Range) (lineage : List Member) → OnlyIsUnnamed v.written range lineage → OnlyIsUnnamed written range lineage
@@ -236,54 +232,33 @@ module _ (v : View) (grow : Growing v) where
           let more = grow.more to in
           let past : was.mark.past ≤ length w.entries =
           All-contains (λ (m : Mark). m.past ≤ length w.entries) w.marks was.mark (grow.sound.logs.each to).marked was.marked in
-          record {
-            mark = was.mark;
-            marked = more.kept was.mark was.marked;
-            past_is = was.past_is;
-            tablet_is = was.tablet_is;
-            term_is = was.term_is;
-            behind = was.behind;
-            alone =
-                λ k d inside its.
-                ⊎_elim
-                (λ (old : Contains w.marks (slice_index_or (written to).marks k d)).
-                All-contains (λ m. m.tablet ≡ x.tablet → m ≡ was.mark) w.marks _ was.alone old its)
-                (λ (new : (slice_index_or (written to).marks k d).tablet ≡ row.tablet). absurd (apart (sym its ∙ new)))
-                (more.marks k d inside);
-            stands =
-                ap (λ (list : List Entry). take (suc entry - was.mark.first) (drop was.mark.first list)) more.entries
-                ∙ piece_push was.mark.first (suc entry) w.entries more.list (omega (arith, past, was.past_is)) ∙ was.stands;
-            last =
-                rw range ((leaves x has apart to).touched (suc entry)
-                (rw (← range) was.last));
-          }
+          let marked : Contains (written to).marks was.mark = more.kept was.mark was.marked in
+          let alone : All (λ m. m.tablet ≡ x.tablet → m ≡ was.mark) (written to).marks = λ k d inside its.
+          ⊎_elim
+          (λ (old : Contains w.marks (slice_index_or (written to).marks k d)).
+          All-contains (λ m. m.tablet ≡ x.tablet → m ≡ was.mark) w.marks _ was.alone old its)
+          (λ (new : (slice_index_or (written to).marks k d).tablet ≡ row.tablet). absurd (apart (sym its ∙ new))) (more.marks k d inside) in
+          let last = (leaves x has apart to).touched (suc entry) (rw (← range) was.last) in
+          let stands : take (suc entry - was.mark.first) (drop was.mark.first (written to).entries) ≡ as_entries made.copies ++ closing_carried h made ∷ [] =
+          ap (λ (list : List Entry). take (suc entry - was.mark.first) (drop was.mark.first list)) more.entries
+          ∙ piece_push was.mark.first (suc entry) w.entries more.list (omega (arith, past, was.past_is)) ∙ was.stands in
+          let at_end = rw (← range) at last in
+          search (marked, alone, stands, at_end, was)
 
       rebuilds_apart : (own : List Entry) → Rebuilds own (v.written to) → Rebuilds own (written to)
       rebuilds_apart own was =
           let more = grow.more to in
-          record {
-            range_is = was.range_is;
-            gather = was.gather;
-            read = was.read;
-            placed =
-                omega (arith, was.placed, ap (λ (l : List Entry). length l) more.entries, length-append (v.written to).entries more.list);
-            merged =
-                IfSome_then (merged_place h.role) was.merged
-                (λ entry done. record {
-                  gathered_all = done.gathered_all;
-                  merged = done.merged;
-                  merged_is = done.merged_is;
-                  ends_are = done.ends_are;
-                  piece = piece_stays done.merged (own_place h.role) entry was.range_is done.piece;
-                  counter = done.counter;
-                  completions = done.completions;
-                });
-            items =
-                subst (λ (list : List Entry). IsRebuildTable x.range (truths v x) list (v.records to))
-                (λ i. material_of x.range (side_entries (sym more.sides i)) (drop (own_place h.role) (sym applied_same i))) was.items;
-            sides = rw ((leaves x has apart to).named (own_place h.role)) was.sides;
-            outside = was.outside;
-          }
+          let from : ℕ = own_place h.role in
+          let placed : from ≤ length (written to).entries =
+          omega (arith, was.placed, ap (λ (l : List Entry). length l) more.entries, length-append (v.written to).entries more.list) in
+          let merged : IfSome (merged_place h.role) (IsMergedOf x.tablet from own h c g e (written to)) =
+          IfSome_then (merged_place h.role) was.merged
+          (λ entry done. let piece = piece_stays done.merged from entry was.range_is done.piece in search (piece, done)) in
+          assumption (
+            subst (λ (list : List Entry). IsRebuildTable x.range (truths v x) list (v.records to))
+                (λ i. material_of x.range (side_entries (sym more.sides i)) (drop from (sym applied_same i))) was.items,
+            rw (← (leaves x has apart to).named from) at was.sides,
+          )
 
       pub rebuilds_beside : RebuildsIn v → RebuildsIn grown
       rebuilds_beside was =
@@ -300,24 +275,20 @@ module _ (v : View) (grow : Growing v) where
 
   -- and what it marks has its row's range alone
   pub own_range_more : (range : Range) (q : ℕ) (mark : Mark) → Contains (v.written q).marks mark → HasOwnRange range (v.written q).entries mark → HasOwnRange range (written q).entries mark
-  own_range_more range q mark there own =
-      let w : Written = v.written q in
-      let past = All-contains (λ (m : Mark). m.past ≤ length w.entries) w.marks mark (grow.sound.logs.each q).marked there in
-      subst (λ (list : List Entry). All (IsOfRange range) list)
-      (sym
-      (ap (λ (list : List Entry). take (mark.past - mark.first) (drop mark.first list)) (grow.more q).entries
-      ∙ piece_push mark.first mark.past w.entries (grow.more q).list past)) own
+  own_range_more range q mark there own = grind (arith, piece_push)
 
   -- what holds of marks of another tablet that were there holds of all of these
   pub marks_apart : (x : Row) (q : ℕ) (P Q : Mark → Type 0) → (x.tablet ≡ row.tablet → ⊥) → ((mark : Mark) → Contains (v.written q).marks mark → P mark → Q mark) → All (λ mark. mark.tablet ≡ x.tablet → P mark) (v.written q).marks → All (λ mark. mark.tablet ≡ x.tablet → Q mark) (written q).marks
-  marks_apart x q P Q apart gives was =
-      All-weaker (λ mark. Contains (v.written q).marks mark ⊎ (mark.tablet ≡ row.tablet)) (λ mark. mark.tablet ≡ x.tablet → Q mark)
-      (λ mark either its.
-      ⊎_elim
-      (λ (old : Contains (v.written q).marks mark).
-      gives mark old (All-contains (λ mark. mark.tablet ≡ x.tablet → P mark) (v.written q).marks mark was old its))
-      (λ (new : mark.tablet ≡ row.tablet). absurd (apart (sym its ∙ new))) either)
-      (written q).marks (grow.more q).marks
+  marks_apart x q P Q apart gives was = grind arith
+
+  -- ---- records
+
+  -- records that had all items of a row have them still, where tablets have the same terms
+  pub items_more : (x : Row) (handovers : ℕ → ℕ → Handover) → ((q : ℕ) → (handovers q x.tablet).term ≡ (v.handovers q x.tablet).term) → ((q : ℕ) → v.live q ≡ true → has_all_items (post_of x.phase q) (v.handovers q x.tablet) x.term ≡ true → HasItems x v.written (v.records q)) → (q : ℕ) → v.live q ≡ true → has_all_items (post_of x.phase q) (handovers q x.tablet) x.term ≡ true → HasItems x written (v.records q)
+  items_more x handovers same was q lives all =
+      IfSome_then (first_of (lineage_of x.phase))
+      (was q lives (sym (all_items_same (post_of x.phase q) (handovers q x.tablet) (v.handovers q x.tablet) x.term (same q)) ∙ all))
+      (λ member table. rw (truth_same x.range member) table)
 
   -- ---- what messages say
 
@@ -333,33 +304,11 @@ module _ (v : View) (grow : Growing v) where
 
   -- no more is needed of a dead master
   copy_more : (x : Row) → Contains v.rows x → (phase : Phase) (copy : CopySegment) → CopyIn x phase v.logs v.written v.stored v.live copy → CopyIn x phase logs written v.stored v.live copy
-  copy_more x has (Rebuilding lineage to) copy says = (
-    says.0,
-    part_weaker (NeededOf x v.written lineage copy.master) (NeededOf x written lineage copy.master) (known_of (logs copy.master) READ_BACKUP)
-        (stored_of v.stored copy.master READ_BACKUP) copy.segment (copied_bytes copy.bytes)
-        (grow.needed x has lineage copy.master (dead_apart copy.master says.0))
-        (subst
-        (λ (k : ℕ → Known).
-        IsReadPart (NeededOf x v.written lineage copy.master) (k copy.master) (stored_of v.stored copy.master READ_BACKUP) copy.segment
-        (copied_bytes copy.bytes))
-        (sym known_same) says.1),
-  )
-  copy_more x has _ copy says = tt
+  copy_more x has phase copy says = grind (arith, part_weaker, known_of, stored_of, dead_apart, known_same)
 
   -- what a message says of a row it says still
   pub says_more : (x : Row) → Contains v.rows x → (from to : Node) (body : Body) → SaysIn v x from to body → SaysIn grown x from to body
-  says_more x has from to (bodies.Pulled pulled) says = (
-    says.0,
-    if_master to _ _ (λ q. pulled_more x (lineage_of x.phase) from q pulled) says.1,
-  )
-  says_more x has from to (bodies.Got got) says = (
-    says.0,
-    if_master to _ _ (λ q. got_more x (lineage_of x.phase) from q got) says.1,
-  )
-  says_more x has from to (bodies.Joined tenure) says = by_master from _ _ (λ q told is. rw (grow.more q).applied (told is)) says
-  says_more x has from to (bodies.Copy copy) says = λ is. copy_more x has x.phase copy (says is)
-  says_more x has from to (bodies.Rebuilt report) says = by_master from _ _ (λ q told is. rw (grow.more q).applied (told is)) says
-  says_more x has from to _ says = says
+  says_more x has from to body says = grind (arith, if_master, pulled_more, lineage_of, got_more, by_master, copy_more)
 
   -- ---- another row
 
@@ -373,13 +322,8 @@ module _ (v : View) (grow : Growing v) where
         ap (λ (n : ℕ). counting x.range (unmarked_from w.marks (max member.from n) w.entries)) (grow.more member.master).applied
         ∙ (near member.master).rest (max member.from (v.written member.master).applied)
 
-    lineage_same : (members : List Member) → lineage_rest written x.range members ≡ lineage_rest v.written x.range members
-    lineage_same [] = refl
-    lineage_same (member ∷ []) = rest_same member
-    lineage_same (member ∷ next ∷ more) = lineage_same (next ∷ more)
-
     pub rests_same : rests grown x ≡ rests v x
-    rests_same = lineage_same (lineage_of x.phase)
+    rests_same = rest_by v.written written x.range (lineage_of x.phase) rest_same
 
     first_same : SameFirst x.range (lineage_of x.phase)
     first_same first last others two = (rest_same first, (near first.master).material first.from)
@@ -413,46 +357,40 @@ module _ (v : View) (grow : Growing v) where
     rebuilt_more _ is fit = tt
 
     pub row_more : SoundRow v x → SoundRow grown x
-    row_more was = record {
-      named = was.named;
-      begun = was.begun;
-      formed = was.formed;
-      placed = placed_more (lineage_of x.phase) was.placed;
-      sent = was.sent;
-      fitting = λ q counts. rw (grow.more q).applied (was.fitting q counts);
-      ranged = was.ranged;
-      at_term = was.at_term;
-      truth = rw (truths_same x) was.truth;
-      above = rw (truths_same x, rests_same) was.above;
-      reached = rw (truths_same x) was.reached;
-      recorded = rw (truths_same x) was.recorded;
-      moving = rw (target_same x) was.moving;
-      answering = was.answering;
-      ends_granted = was.ends_granted;
-      ends_sent = was.ends_sent;
-      low = rw (truths_same x) was.low;
-      low_moving = rw (target_same x) was.low_moving;
-      counted = λ q counts says. rw both_same (was.counted q counts says);
-      floor_granted = IfSome_then (handed_for_grant x v.handovers v.handed) was.floor_granted (λ h next. rw both_same next);
-      floor_sent = λ n m there. IfSome_then (handed_by x v.handovers m.body) (was.floor_sent n m there) (λ h next. rw both_same next);
-      goes_on = rw (truths_same x, rests_same) was.goes_on;
-      done = done_more x.range (lineage_of x.phase) first_same was.done;
-      unnamed = unnamed_more x.range (lineage_of x.phase) was.unnamed;
-      idle = λ q counts idles. rw (grow.more q).applied ((near q).touched (v.written q).applied (was.idle q counts idles));
-      items = λ q lives has_all.
-          IfSome_then (first_of (lineage_of x.phase)) (was.items q lives has_all) (λ member table. rw (truth_same x.range member) table);
-      target = members_more (lineage_of x.phase) was.placed was.target;
-      handed_on = was.handed_on;
-      named_items = names_more (lineage_of x.phase) was.named_items;
-      rebuilt = rw (truths_same x) (rebuilt_more x.phase refl was.rebuilt);
-      marks = λ q.
-          marks_apart x q (MarkFits x q (v.handovers q x.tablet) (v.live q) (v.written q)) (MarkFits x q (v.handovers q x.tablet) (v.live q) (written q))
-          apart (λ mark there fit. fits_more x q mark (near q) fit) (was.marks q);
-      pieces = λ q.
-          marks_apart x q (HasOwnRange x.range (v.written q).entries) (HasOwnRange x.range (written q).entries) apart
-          (λ mark there own. own_range_more x.range q mark there own) (was.pieces q);
-      says = λ n m there. says_more x has m.from m.to m.body (was.says n m there);
-    }
+    row_more was =
+        let counted : (q : ℕ) → CountsFor v x q → SpeaksFor v x q → IsNextOf grown x (v.handovers q x.tablet).counter = λ q counts says.
+        rw both_same (was.counted q counts says) in
+        let floor_sent : EachIn (λ n m. IfSome (handed_by x v.handovers m.body) (λ h. IsNextOf grown x h.floor)) v.wire = λ n m there.
+        IfSome_then (handed_by x v.handovers m.body) (was.floor_sent n m there) (λ h next. rw both_same next) in
+        let floor_granted : IfSome (handed_for_grant x v.handovers v.handed) (λ h. IsNextOf grown x h.floor) =
+        IfSome_then (handed_for_grant x v.handovers v.handed) was.floor_granted (λ h next. rw both_same next) in
+        assumption (
+          placed_more (lineage_of x.phase) was.placed,
+          items_more x v.handovers (λ q. refl) was.items,
+          λ (q : ℕ) (counts : CountsFor v x q). rw (← (grow.more q).applied) at (was.fitting q counts),
+          rw (← truths_same x) at was.truth,
+          rw (← truths_same x, ← rests_same) at was.above,
+          rw (← truths_same x) at was.reached,
+          rw (← truths_same x) at was.recorded,
+          rw (← target_same x) at was.moving,
+          rw (← truths_same x) at was.low,
+          rw (← target_same x) at was.low_moving,
+          rw (← truths_same x, ← rests_same) at was.goes_on,
+          done_more x.range (lineage_of x.phase) first_same was.done,
+          unnamed_more x.range (lineage_of x.phase) was.unnamed,
+          λ (q : ℕ) (counts : CountsFor v x q) (idles : is_idle (v.handovers q x.tablet).role ≡ true).
+              rw (← (grow.more q).applied) at ((near q).touched (v.written q).applied (was.idle q counts idles)),
+          members_more (lineage_of x.phase) was.placed was.target,
+          names_more (lineage_of x.phase) was.named_items,
+          rw (← truths_same x) at (rebuilt_more x.phase refl was.rebuilt),
+          λ (q : ℕ).
+              marks_apart x q (MarkFits x q (v.handovers q x.tablet) (v.live q) (v.written q)) (MarkFits x q (v.handovers q x.tablet) (v.live q) (written q))
+              apart (λ mark there fit. fits_more x q mark (near q) fit) (was.marks q),
+          λ (q : ℕ).
+              marks_apart x q (HasOwnRange x.range (v.written q).entries) (HasOwnRange x.range (written q).entries) apart
+              (λ mark there own. own_range_more x.range q mark there own) (was.pieces q),
+          λ (n : ℕ) (m : Message) (there : get v.wire n ≡ Some m). says_more x has m.from m.to m.body (was.says n m there),
+        )
 
   -- of each row holds what is said of rows, where it holds of this one and masters have of each other tablet what they had
   pub rows_more : (now : View) → ((seen : ℕ → SeenTablet) → alone grown seen ≡ alone now seen) → ((q number : ℕ) → (number ≡ row.tablet → ⊥) → seen_at grown number q ≡ seen_at now number q) → SoundRow now row → All (SoundRow now) v.rows
@@ -494,60 +432,47 @@ module _ (v : View) (grow : Growing v) where
 
   pub cover_more : CoverOf grown
   cover_more =
-      let old = grow.sound.cover in
-      record {
-        unknown = old.unknown;
-        marks = λ q.
-            All-weaker _ _ (λ m either.
-            ⊎_elim
-            (λ (there : Contains (v.written q).marks m).
-            All-contains (λ m. is_some (row_of v.rows m.tablet) ≡ true) (v.written q).marks m (old.marks q) there)
-            (λ (its : m.tablet ≡ row.tablet).
-            ap (λ (n : ℕ). is_some (row_of v.rows n)) its ∙ ap is_some (stands_found v.rows row grow.sound.rows.apart grow.has_row)) either)
-            (written q).marks (grow.more q).marks;
-        sent = old.sent;
-        ranges = old.ranges;
-        ordered = old.ordered;
-        entries = λ q. entries_more (IsEntryWithin v.rows) q within_rows (old.entries q);
-        sides = λ q.
-            rw (grow.more q).sides (old.sides q);
-        items = old.items;
-        wholes = λ q. entries_more (IsOfWholeRows v.rows) q whole_rows (old.wholes q);
-      }
+      let marks : (q : ℕ) → All (λ m. is_some (row_of v.rows m.tablet) ≡ true) (written q).marks = λ q.
+      All-weaker _ _ (λ m either.
+      ⊎_elim
+      (λ (there : Contains (v.written q).marks m).
+      All-contains (λ m. is_some (row_of v.rows m.tablet) ≡ true) (v.written q).marks m (grow.sound.cover.marks q) there)
+      (λ (its : m.tablet ≡ row.tablet).
+      ap (λ (n : ℕ). is_some (row_of v.rows n)) its ∙ ap is_some (stands_found v.rows row grow.sound.rows.apart grow.has_row)) either)
+      (written q).marks (grow.more q).marks in
+      assumption (
+        λ (q : ℕ). entries_more (IsEntryWithin v.rows) q within_rows (grow.sound.cover.entries q),
+        λ (q : ℕ). rw (← (grow.more q).sides) at (grow.sound.cover.sides q),
+        λ (q : ℕ). entries_more (IsOfWholeRows v.rows) q whole_rows (grow.sound.cover.wholes q),
+      )
 
   -- a call that waits does so still, where its tablet may have such
   pub waits_more : (handovers : ℕ → ℕ → Handover) → ((q r : ℕ) → may_have_staged (v.handovers q r).role ≡ true → may_have_staged (handovers q r).role ≡ true) → (q k : ℕ) (c : Call) → Waits v.rows (v.handovers q) (v.written q) q k c → Waits v.rows (handovers q) (written q) q k c
   waits_more handovers stages q k c was =
       let more = grow.more q in
-      record {
-        behind = rw more.applied was.behind;
-        entry = was.entry;
-        stands =
-            ap (λ (l : List Entry). slice_get l k) more.entries ∙ slice_get_front (v.written q).entries more.list k was.entry was.stands;
-        own = was.own;
-        unmarked = more.marked k (slice_get_within (v.written q).entries k was.entry was.stands) ∙ was.unmarked;
-        row = was.row;
-        has_row = was.has_row;
-        in_row = was.in_row;
-        last = was.last;
-        is_last = was.is_last;
-        here = was.here;
-        from = was.from;
-        may_stage = stages q was.row.tablet was.may_stage;
-      }
+      waits_by v.rows (v.handovers q) (handovers q) (v.written q) (written q) q k c was (rw more.applied was.behind)
+      (ap (λ (l : List Entry). slice_get l k) more.entries ∙ slice_get_front (v.written q).entries more.list k was.entry was.stands)
+      (more.marked k (slice_get_within (v.written q).entries k was.entry was.stands) ∙ was.unmarked) (stages q was.row.tablet was.may_stage)
+
+  pub waiting_more : (handovers : ℕ → ℕ → Handover) → ((q r : ℕ) → may_have_staged (v.handovers q r).role ≡ true → may_have_staged (handovers q r).role ≡ true) → (q : ℕ) → v.live q ≡ true → EachIn (λ k c. Waits v.rows (handovers q) (written q) q k c) (v.calls q)
+  waiting_more handovers stages q lives k c there = waits_more handovers stages q k c (grow.sound.rest.waiting q lives k c there)
 
   -- and each entry of a call that is not applied has its call, since those that are new bear a mark
-  pub found_more : (q : ℕ) → EachHasCall (v.calls q) (v.written q) → EachHasCall (v.calls q) (written q)
-  found_more q was k e behind stands own free =
+  pub found_more : (q : ℕ) → v.live q ≡ true → EachHasCall (v.calls q) (written q)
+  found_more q lives k e behind stands own free =
       let more = grow.more q in
       let w : Written = v.written q in
       ⊎_elim
       (λ (before : k < length w.entries).
-      was k e (rw (← more.applied) behind)
+      grow.sound.rest.found q lives k e (rw (← more.applied) behind)
       (at_front w.entries more.list k e before (ap (λ (l : List Entry). slice_get l k) (sym more.entries) ∙ stands)) own
       (sym (more.marked k before) ∙ free))
       (λ (past : length w.entries ≤ k). absurd (more.fresh k e past stands own free))
       (cases_lt k (length w.entries))
+
+  -- each master knows of as many backups
+  pub known_more : (q : ℕ) → IsMaster v.masters q → length (logs q).known ≡ v.backups
+  known_more q there = ap (λ (known : List Known). length known) (grow.known q) ∙ grow.sound.nodes.known q there
 
   -- a master that made ready for another tablet has as little of it as before
   pub bare_more : (q r : ℕ) → (q ≡ master → r ≡ row.tablet → ⊥) → IsBareOf (v.handovers q r) (v.written q) (v.records q) → IsBareOf (v.handovers q r) (written q) (v.records q)
@@ -563,10 +488,8 @@ module _ (v : View) (grow : Growing v) where
       ∙ ap (λ (n : ℕ). meets (v.handovers master row.tablet).range (v.handovers n r).range) at
       ∙ grow.sound.terms.apart master row.tablet r (λ same. apart at (sym same)) grow.present
       (ap (λ (n : ℕ). is_absent (v.handovers n r).role) (sym at) ∙ there) in
-      record {
-        placed = omega (arith, bare.placed, ap (λ (l : List Entry). length l) more.entries, length-append (v.written q).entries more.list);
-        nothing = touched_more row h.range away (v.written q) (written q) more from bare.nothing;
-        empty = bare.empty;
-      }) was)
+      let placed : from ≤ length (written q).entries =
+      omega (arith, bare.placed, ap (λ (l : List Entry). length l) more.entries, length-append (v.written q).entries more.list) in
+      assumption (touched_more row h.range away (v.written q) (written q) more from bare.nothing)) was)
       (λ (away : q ≡ master → ⊥). rw (grow.others q away) was)
       (cases_eq q master)

@@ -2,19 +2,43 @@
 -- it saw.
 use Rattle.std.proofs.Common.{◌&&◌, ◌≡◌, ℕ, ◌+◌, ◌<◌, ◌≤◌, ◌⊎◌, Bool, true, false, List, [], ◌∷◌, ◌++◌, filter, fold, length, Option, Some}
 use Rattle.std.proofs.Common.{refl, sym, ap, ◌∙◌, subst, ⊎_elim, inl, inr, arith, All, Contains, slice_get, drop, take, flat_map}
-use Rattle.std.proofs.Common.{append-nil, length-append, length-take, eqb, leb}
-use Rattle.rk_inv_base.proofs.Words.{cases_lt, false≢true, take-append-le, All-cons, All-contains_itself, All-head, All-nil, All-push}
-use Rattle.rk_inv_base.proofs.Words.{All-tail, All-weaker, Contains-append_left, flat_map-append, slice_get_push_cases, list_any, meets}
-use Rattle.rk_inv_base.proofs.Words.{Held, Range, Entry, is_in, Handover, Row, Handed, items_of, is_marked, unmarked_from, touches}
-use Rattle.rk_inv_base.proofs.Words.{counting, counts, is_joined_in, joined_from, log_material, material_of, named_by, side_entries}
-use Rattle.rk_inv_base.proofs.Words.{with_number, Pulling, Written, applied_entries, Mark, IsOfRange, IsTarget, is_call_entry, named_items}
-use Rattle.rk_inv_base.proofs.Words.{with_one_more, has_all, nat_tests, slice_get_within, list_any_none}
+use Rattle.std.proofs.Common.{append-nil, length-append, length-take, eqb, leb, append_assoc}
+use Rattle.rk_inv_base.proofs.Words.{cases_lt, false≢true, take-append-le, All-cons, All-contains_itself, All-nil, All-push, All-weaker}
+use Rattle.rk_inv_base.proofs.Words.{Contains-append_left, flat_map-append, slice_get_push_cases, list_any, meets, Held, Range, Entry}
+use Rattle.rk_inv_base.proofs.Words.{is_in, Handover, Row, Handed, items_of, is_marked, unmarked_from, touches, counting, counts}
+use Rattle.rk_inv_base.proofs.Words.{is_joined_in, joined_from, log_material, material_of, named_by, side_entries, with_number, Pulling}
+use Rattle.rk_inv_base.proofs.Words.{Written, applied_entries, Mark, IsOfRange, IsTarget, is_call_entry, named_items, with_one_more}
+use Rattle.rk_inv_base.proofs.Words.{has_all, nat_tests, slice_get_within, list_any_none, Waits, Call, may_have_staged, All-head, All-tail}
+use Rattle.rk_inv_base.proofs.Words.{Member, member_rest, lineage_rest}
 use Rattle.rk_inv_tablets.proofs.Words.{Extends, counting_extends, take_extends, apart_either, entry_apart, unless_marked}
-use Rattle.rk_inv_tablets.proofs.Words.{unmarked_from_last, unmarked_from_none, with_piece}
-use Rattle.rk_entry.specs.declared.entry.Entry.TheVariants as entries
-use Rattle.rk_inv_tablets.proofs.grow.Targets.{IsBeside, target_marked, target_more}
+use Rattle.rk_inv_tablets.proofs.Words.{unmarked_from_last, unmarked_from_none, with_piece, target_pushed}
 use Rattle.rk_inv_tablets.proofs.merge.OfRange.{joins_none, touches_none}
 use Rattle.rk_inv_tablets.proofs.merge.Pieces.{from_front, from_piece, from_taken, kept_more, marked_before, marked_in, none_more}
+use Rattle.rk_inv_base.proofs.logs.Missed.{all_names_none}
+
+-- an entry of another range
+pub record IsBeside (range : Range) (e : Entry) : Type 0 where
+  pub joined : is_joined_in range e ≡ false
+  pub uncounted : counts range e ≡ false
+
+module _ (range : Range) (source : ℕ) (truth material : List Entry) (from : ℕ) (handover : Handover) (pulling : Pulling) (handed : Option Handed) (table : List Held) where
+  -- a target that has written this
+  abbrev Targets : Written → Type 0
+  Targets w = IsTarget range source truth material from w handover pulling handed table
+
+  -- marks are not seen
+  pub target_marked : (w : Written) (list : List Entry) (marks : List Mark) → Targets (record w { entries = list }) → Targets (record w { entries = list; marks = marks })
+  target_marked w list marks old = assumption
+
+  pub target_more : (w : Written) (list : List Entry) → w.applied ≤ length w.entries → from ≤ length w.entries → All (IsBeside range) list → Targets w → Targets (record w { entries = w.entries ++ list })
+  target_more w [] fits placed beside was = subst (λ (all : List Entry). Targets (record w { entries = all })) (sym (append-nil w.entries)) was
+  target_more w (e ∷ list) fits placed beside was =
+      let one : IsBeside range e = All-head (IsBeside range) e list beside in
+      let size = length-append w.entries (e ∷ []) in
+      subst (λ (all : List Entry). Targets (record w { entries = all })) (append_assoc w.entries (e ∷ []) list)
+      (target_more (with_one_more w e) list (omega (arith, fits, size)) (omega (arith, placed, size)) (All-tail (IsBeside range) e list beside)
+      (target_pushed range source truth material from handover pulling handed table w e fits placed one.joined
+      (λ counted. absurd (false≢true (sym one.uncounted ∙ counted))) was))
 
 -- a range has all of itself
 pub has_itself : (range : Range) → has_all range range ≡ true
@@ -51,6 +75,16 @@ pub record HasMore (row : Row) (old new : Written) : Type 0 where
       (range : Range) (from few many : ℕ) → few ≤ many
       → Extends (counting range (unmarked_from old.marks from (take few old.entries)))
       (counting range (unmarked_from new.marks from (take many new.entries)))
+
+-- a call that waited waits with a log that has its entry, where its tablet may have such
+pub waits_by : (rows : List Row) (old new : ℕ → Handover) (was is : Written) (q k : ℕ) (c : Call) (wait : Waits rows old was q k c) → is.applied ≤ k → slice_get is.entries k ≡ Some wait.entry → is_marked is.marks k ≡ false → may_have_staged (new wait.row.tablet).role ≡ true → Waits rows new is q k c
+waits_by rows old new was is q k c wait behind stands unmarked may_stage = grind arith
+
+-- the rest of a lineage is what that of its last member is
+pub rest_by : (was is : ℕ → Written) (range : Range) (members : List Member) → ((member : Member) → member_rest is range member ≡ member_rest was range member) → lineage_rest is range members ≡ lineage_rest was range members
+rest_by was is range [] same = refl
+rest_by was is range (member ∷ []) same = same member
+rest_by was is range (member ∷ next ∷ more) same = rest_by was is range (next ∷ more) same
 
 -- ---- logs that have more
 
@@ -154,17 +188,6 @@ module _ (row : Row) (w : Written) (list : List Entry) (mark : Mark) (applies : 
 
 -- ---- entries of another range
 
--- an entry of a rebuild names no side segment
-names_none : (a b : Range) (e : Entry) → IsOfRange a e → named_by b e ≡ []
-names_none a b (entries.Joined joined) of = absurd of
-names_none a b _ of = refl
-
-none_named : (range : Range) (list : List Entry) → All (λ e. named_by range e ≡ []) list → flat_map (named_by range) list ≡ []
-none_named range [] each = refl
-none_named range (e ∷ list) each =
-    ap (λ (numbers : List ℕ). numbers ++ flat_map (named_by range) list) (All-head (λ e. named_by range e ≡ []) e list each)
-    ∙ none_named range list (All-tail (λ e. named_by range e ≡ []) e list each)
-
 -- what a range sees of a log that has more is what it saw
 pub record LeavesRange (range : Range) (old new : Written) : Type 0 where
   pub material : (from : ℕ) → log_material range new.marks new.sides from new.entries ≡ log_material range old.marks old.sides from old.entries
@@ -178,11 +201,7 @@ pub record LeavesRange (range : Range) (old new : Written) : Type 0 where
 
 -- no Joined of any range is new
 pub joined_more : (row : Row) (old new : Written) → HasMore row old new → (range : Range) (from : ℕ) → joined_from range from new.entries ≡ joined_from range from old.entries
-joined_more row old new more range from =
-    ap (joined_from range from) more.entries
-    ∙ kept_more (is_joined_in range) from old.entries more.list
-    (list_any_none (is_joined_in range) more.list
-    (All-weaker _ _ (joins_none row.range range) more.list more.inside))
+joined_more row old new more range from = grind (arith, joined_from, kept_more, is_joined_in, list_any_none, joins_none)
 
 module _ (row : Row) (range : Range) (far : meets row.range range ≡ false) where
   -- no entry of the row's range touches the other one
@@ -199,13 +218,7 @@ module _ (row : Row) (range : Range) (far : meets row.range range ≡ false) whe
 module _ (row : Row) (range : Range) (far : meets row.range range ≡ false) (some : range.first ≤ range.last) where
   -- nor does one count there, or join
   beside : (list : List Entry) → All (IsOfRange row.range) list → All (IsBeside range) list
-  beside list of =
-      All-weaker (IsOfRange row.range) (IsBeside range)
-      (λ e its. record {
-        joined = joins_none row.range range e its;
-        uncounted = entry_apart row.range range far (apart_either row.range range far) some e its;
-      })
-      list of
+  beside list of = grind (arith, joins_none, entry_apart, apart_either)
 
   uncounted : (list few : List Entry) → All (IsOfRange row.range) few → counting range (list ++ few) ≡ counting range list
   uncounted list few of =
@@ -217,7 +230,7 @@ module _ (row : Row) (range : Range) (far : meets row.range range ≡ false) (so
   unnamed list few of =
       flat_map-append (named_by range) list few
       ∙ ap (λ (more : List ℕ). flat_map (named_by range) list ++ more)
-      (none_named range few (All-weaker _ _ (names_none row.range range) few of))
+      (all_names_none range few (All-weaker _ _ (touches_none row.range range far (apart_either row.range range far)) few of))
       ∙ append-nil (flat_map (named_by range) list)
 
   pub leaves_more : (old new : Written) → HasMore row old new → LeavesRange range old new

@@ -1,56 +1,143 @@
 -- What a rebuild has gathered, once all is, tells no end that the truth or the rest of its row does not tell, and so does what it merges.
 use Rattle.std.proofs.Common.{◌≡◌, ℕ, zero, suc, ◌≤◌, ◌⊎◌, Bool, true, false, cond, List, [], ◌∷◌, ◌++◌, filter, length, None, refl, sym}
-use Rattle.std.proofs.Common.{ap, ◌∙◌, subst, ⊎_elim, inl, inr, arith, ◌==◌, All, not, Contains, eq-eqb, eqb-true}
-use Rattle.rk_inv_base.proofs.Words.{cases_Bool, cond_both, cond-true, false≢true, or_from, or_right, All-append, All-contains}
-use Rattle.rk_inv_base.proofs.Words.{All-contains_itself, All-nil, All-weaker, Contains-append_left, Contains-append_right, Ended, Member}
-use Rattle.rk_inv_base.proofs.Words.{Range, Entry, completions_from, ends_of, lineage_of, Phase, Rebuilding, IsBackup, known_of, told}
-use Rattle.rk_inv_base.proofs.Words.{Gather, Gathered, LAST_MAIN_SEGMENT, by_member, counted_of, is_member, unmarked_from, as_entries}
-use Rattle.rk_inv_base.proofs.Words.{counting, names, IsMaster, own_place, Written, member_material, stored_of, OnlyRebuilder}
-use Rattle.rk_inv_base.proofs.Words.{FirstRebuilder, LastRebuilder, OutsideRebuilder, FormerMember, Bystander, Holds, bond_of, post_of}
-use Rattle.rk_inv_base.proofs.Words.{rebuilder_post, IsGathered, MarkedFit, NeededOf, READ_BACKUP, RowIsRebuilt, TellNoMore}
-use Rattle.rk_inv_base.proofs.Words.{closing_carried, member_marked, member_stored, AreApart, IsFormed, View, truths, false_from_ne_true}
-use Rattle.rk_inv_tablets.proofs.Words.{member as member_at, contains_cases, kept_stands, each_member, members_by, all_by, former_gone}
-use Rattle.rk_inv_tablets.proofs.Words.{IsToldIn, own_entries, row_in}
-use Rattle.rk_transfer.specs.declared.role.Role.TheVariants as roles
+use Rattle.std.proofs.Common.{ap, ◌∙◌, subst, ⊎_elim, inl, inr, arith, ◌==◌, All, not, Contains, eq-eqb, eqb-true, ◌<◌, max, take, flat_map}
+use Rattle.rk_inv_base.proofs.Words.{cond_both, cond-true, false≢true, or_from, All-append, All-contains, All-contains_itself}
+use Rattle.rk_inv_base.proofs.Words.{All-nil, All-weaker, Contains-append_left, Contains-append_right, Ended, Member, Range, Entry}
+use Rattle.rk_inv_base.proofs.Words.{completions_from, ends_of, lineage_of, Phase, Rebuilding, known_of, told, Gather, Gathered}
+use Rattle.rk_inv_base.proofs.Words.{LAST_MAIN_SEGMENT, by_member, counted_of, is_member, unmarked_from, as_entries, counting, own_place}
+use Rattle.rk_inv_base.proofs.Words.{Written, member_material, stored_of}
+use Rattle.rk_inv_base.proofs.Words.{FormerMember, Bystander, Holds, bond_of, post_of, rebuilder_post, IsGathered, MarkedFit, NeededOf}
+use Rattle.rk_inv_base.proofs.Words.{READ_BACKUP, TellNoMore, closing_carried, member_marked, member_stored, AreApart, IsFormed, View}
+use Rattle.rk_inv_base.proofs.Words.{false_from_ne_true, cases_lt, Contains-append_cases, Base, item_end, items_of, told_by, counts}
+use Rattle.rk_inv_base.proofs.Words.{joined_from, named, side_entries, lineage_rest, lineage_truth, member_rest, member_truth}
+use Rattle.rk_inv_base.proofs.Words.{NamedFit, FirstIsDone, OnlyIsUnnamed}
+use Rattle.rk_inv_tablets.proofs.Words.{member as member_at, kept_stands, each_member, members_by, all_by, former_gone, IsToldIn}
+use Rattle.rk_inv_tablets.proofs.Words.{own_entries, row_in, stands_kept}
 use Rattle.rk_inv_tablets.proofs.crash.MergeTells.{IsToldBy, all_stand_told, all_told, piece_told, read_all, read_told, stands_told}
-use Rattle.rk_inv_tablets.proofs.crash.MergeTells.{told_through}
+use Rattle.rk_inv_tablets.proofs.crash.MergeTells.{told_through, item_told}
 use Rattle.rk_inv_tablets.proofs.crash.ReadTold.{AreMarksTold, counted_told, side_material}
-use Rattle.rk_inv_tablets.proofs.crash.Unmarked.{first_among, marked_stands}
-use Rattle.rk_inv_tablets.proofs.merge.MaterialTold.{all_material, material_told}
-use Rattle.rk_inv_tablets.proofs.merge.Merging.{Merging, fit, gathers, merged, old, own_is, piece, rebuilder, rebuilt, some}
-use Rattle.rk_inv_tablets.proofs.ready.OwnItems.{flat_stands}
+use Rattle.rk_inv_tablets.proofs.crash.Unmarked.{first_among, marked_stands, first_stands, free_place, free_stands, joined_applied}
+use Rattle.rk_inv_tablets.proofs.merge.Merging.{Merging, fit, gathers, merged, old, own_is, piece, rebuilder, rebuilt, some, rebuilt_row}
+use Rattle.rk_inv_tablets.proofs.ready.OwnItems.{flat_stands, none_stands, one_stands, two_stand, flat_from, sides_into}
+use Rattle.rk_inv_tablets.proofs.crash.OwnPiece.{member_backed}
+use Rattle.rk_inv_tablets.proofs.crash.MarksTold.{sides_named}
+use Rattle.rk_transfer.specs.declared.role.Role.TheVariants as roles
+
+-- ---- the last member
+
+module _ (written : ℕ → Written) (range : Range) (m : Member) where
+  abbrev w : Written
+  w = written m.master
+
+  -- an entry stands in what is applied of a member, or in its rest
+  abbrev StandsIn : Entry → Type 0
+  StandsIn e = Contains (member_truth written range m) e ⊎ Contains (member_rest written range m) e
+
+  -- as one of its own does
+  main_stands : (e : Entry) → Contains (counting range (unmarked_from w.marks m.from w.entries)) e → StandsIn e
+  main_stands e at =
+      let kept = kept_stands (counts range) (unmarked_from w.marks m.from w.entries) e at in
+      let is = free_place w.marks m.from w.entries e kept.0 in
+      ⊎_elim
+      (λ (applied : is.place < w.applied).
+      inl (Contains-append_left _ _ e (first_stands w.marks range m.from w.applied w.entries e is applied kept.1)))
+      (λ (waits : w.applied ≤ is.place).
+      inr (stands_kept (counts range) (unmarked_from w.marks (max m.from w.applied) w.entries) e
+      (free_stands w.marks (max m.from w.applied) w.entries e
+      (record { place = is.place; behind = omega (arith, is.behind, waits); stands = is.stands; free = is.free })) kept.1))
+      (cases_lt is.place w.applied)
+
+  -- and what it names does, where no Joined waits
+  side_stands : joined_from range (max m.from w.applied) w.entries ≡ [] → (e : Entry) → Contains (side_material range m w) e → Contains (member_truth written range m) e
+  side_stands none e at =
+      let free : List Entry = unmarked_from w.marks m.from w.entries in
+      let sure : List Entry = unmarked_from w.marks m.from (take w.applied w.entries) in
+      let kept = kept_stands (counts range) (flat_map (side_entries w.sides) (named range free)) e at in
+      let side : List Entry = flat_map (side_entries w.sides) (named range sure) in
+      Contains-append_right (counting range sure) (counting range side) e
+      (stands_kept (counts range) side e
+      (sides_into range (side_entries w.sides) free sure (joined_applied range w m.from none) e kept.0) kept.1)
+
+-- ---- a lineage
+
+-- all that its members have written, marked pieces apart
+abbrev pub all_material : (ℕ → Written) → Range → List Member → List Entry
+all_material written range lineage = flat_map (member_material written range) lineage
+
+-- an end is told by what is applied of a lineage, or behind it
+abbrev pub IsToldOf : Base → (ℕ → Written) → Range → List Member → Ended → Type 0
+IsToldOf base written range lineage end =
+    Contains (told (lineage_truth base written range lineage)) end ⊎ Contains (told (lineage_rest written range lineage)) end
+
+module _ (base : Base) (written : ℕ → Written) (range : Range) where
+  -- an entry of a member's truth tells of the lineage's
+  of_truth : (lineage : List Member) (first : Member) (more : List Member) → lineage ≡ first ∷ more → (m : Member) → Contains lineage m → (e : Entry) → Contains (member_truth written range m) e → (end : Ended) → Contains (told_by e) end → Contains (told (lineage_truth base written range (first ∷ more))) end
+  of_truth lineage first more is m has e at end its =
+      flat_stands told_by (flat_map (member_truth written range) (first ∷ more)) e end
+      (flat_stands (member_truth written range) (first ∷ more) m e (subst (λ (members : List Member). Contains members m) is has) at) its
+
+  -- so what all members have written tells nothing more
+  pub material_told : (lineage : List Member) → AreApart lineage → FirstIsDone written range lineage → OnlyIsUnnamed written range lineage → NamedFit written range lineage → (end : Ended) → Contains (told (all_material written range lineage)) end → IsToldOf base written range lineage end
+  material_told [] apart done unnamed names end at = absurd (none_stands end at)
+  material_told (only ∷ []) apart done unnamed names end at =
+      let found = flat_from told_by (all_material written range (only ∷ [])) end at in
+      let of = flat_from (member_material written range) (only ∷ []) found.0 found.1 in
+      let same : only ≡ of.0 = one_stands only of.0 of.1 in
+      let there : Contains (member_material written range only) found.0 =
+      subst (λ (m : Member). Contains (member_material written range m) found.0) (sym same) of.2 in
+      let w : Written = written only.master in
+      let truth : Contains (member_truth written range only) found.0 → IsToldOf base written range (only ∷ []) end =
+      (λ its. inl (of_truth (only ∷ []) only [] refl only (zero, omega arith, refl) found.0 its end found.2)) in
+      ⊎_elim
+      (λ (main : Contains (counting range (unmarked_from w.marks only.from w.entries)) found.0).
+      ⊎_elim truth
+      (λ (waits : Contains (member_rest written range only) found.0).
+      inr (flat_stands told_by (member_rest written range only) found.0 end waits found.2))
+      (main_stands written range only found.0 main))
+      (λ (side : Contains (side_material range only w) found.0). truth (side_stands written range only unnamed found.0 side))
+      (Contains-append_cases (counting range (unmarked_from w.marks only.from w.entries)) (side_material range only w) found.0 there)
+  material_told (first ∷ last ∷ []) apart done unnamed names end at =
+      let both : List Member = first ∷ last ∷ [] in
+      let found = flat_from told_by (all_material written range both) end at in
+      let of = flat_from (member_material written range) both found.0 found.1 in
+      let w : Written = written last.master in
+      let is_first : Contains both first = (zero, omega arith, refl) in
+      let is_last : Contains both last = (suc zero, omega arith, refl) in
+      ⊎_elim
+      (λ (same : first ≡ of.0).
+      let there : Contains (member_material written range first) found.0 =
+      subst (λ (m : Member). Contains (member_material written range m) found.0) (sym same) of.2 in
+      inl (of_truth both first (last ∷ []) refl first is_first found.0
+      (rw (← done.all) there) end found.2))
+      (λ (same : last ≡ of.0).
+      let there : Contains (member_material written range last) found.0 =
+      subst (λ (m : Member). Contains (member_material written range m) found.0) (sym same) of.2 in
+      ⊎_elim
+      (λ (main : Contains (counting range (unmarked_from w.marks last.from w.entries)) found.0).
+      ⊎_elim
+      (λ (its : Contains (member_truth written range last) found.0).
+      inl (of_truth both first (last ∷ []) refl last is_last found.0 its end found.2))
+      (λ (waits : Contains (member_rest written range last) found.0).
+      inr (flat_stands told_by (member_rest written range last) found.0 end waits found.2))
+      (main_stands written range last found.0 main))
+      (λ (side : Contains (side_material range last w) found.0).
+      let item = sides_named range last w found.0 side in
+      let true_of : Contains (items_of (member_truth written range first)) item.0 = names item.0 item.2 in
+      let tells : Contains (told (member_truth written range first)) (item_end item.0) = item_told (member_truth written range first) item.0 true_of in
+      let by : Contains (item_end item.0 ∷ []) end = subst (λ (e : Entry). Contains (told_by e) end) (sym item.1) found.2 in
+      let is_end : item_end item.0 ≡ end = one_stands (item_end item.0) end by in
+      let source = flat_from told_by (member_truth written range first) (item_end item.0) tells in
+      inl (of_truth both first (last ∷ []) refl first is_first source.0 source.1 end
+      (subst (λ (x : Ended). Contains (told_by source.0) x) is_end source.2)))
+      (Contains-append_cases (counting range (unmarked_from w.marks last.from w.entries)) (side_material range last w) found.0 there))
+      (two_stand first last of.0 of.1)
+  material_told (first ∷ second ∷ third ∷ more) apart done unnamed names end at = absurd apart
 
 -- ---- who rebuilds
 
 -- a master that gathers is a member at its place, or of no lineage
 pub heir_place : (lineage : List Member) (q term own applied from : ℕ) → AreApart lineage → Holds (bond_of (rebuilder_post lineage q) (roles.Rebuilding from None)) term own applied → (is_member lineage q ≡ false) ⊎ Contains lineage (member_at q from)
-heir_place [] q term own applied from apart = λ holds. inl refl
-heir_place (only ∷ []) q term own applied from apart =
-    cond_both (only.master == q) (OnlyRebuilder only.from) OutsideRebuilder
-    (λ post. Holds (bond_of post (roles.Rebuilding from None)) term own applied → (is_member (only ∷ []) q ≡ false) ⊎ Contains (only ∷ []) (member_at q from))
-    (λ e holds.
-    let at : only.master ≡ q = eqb-true only.master q e in
-    let place : from ≡ only.from = holds.1 in
-    inr (zero, omega arith, (λ i. member_at (at i) (sym place i))))
-    (λ e holds. inl (or_from (only.master == q) false e refl))
-heir_place (first ∷ last ∷ []) q term own applied from apart =
-    let both : List Member = first ∷ last ∷ [] in
-    cond_both (first.master == q) (FirstRebuilder first.from) (cond (last.master == q) (LastRebuilder last.from) OutsideRebuilder)
-    (λ post. Holds (bond_of post (roles.Rebuilding from None)) term own applied → (is_member both q ≡ false) ⊎ Contains both (member_at q from))
-    (λ e holds.
-    let at : first.master ≡ q = eqb-true first.master q e in
-    let place : from ≡ first.from = holds.1 in
-    inr (zero, omega arith, (λ i. member_at (at i) (sym place i))))
-    (λ other.
-    cond_both (last.master == q) (LastRebuilder last.from) OutsideRebuilder
-    (λ post. Holds (bond_of post (roles.Rebuilding from None)) term own applied → (is_member both q ≡ false) ⊎ Contains both (member_at q from))
-    (λ e holds.
-    let at : last.master ≡ q = eqb-true last.master q e in
-    let place : from ≡ last.from = holds.1 in
-    inr (suc zero, omega arith, (λ i. member_at (at i) (sym place i))))
-    (λ e holds.
-    inl (or_from (first.master == q) (is_member (last ∷ []) q) other (or_from (last.master == q) false e refl))))
-heir_place (first ∷ second ∷ third ∷ more) q term own applied from apart = λ holds. absurd apart
+heir_place lineage q term own applied from apart = grind (arith, cond_both, bond_of, is_member, member_at, eqb-true, or_from)
 
 -- ---- what marked pieces of dead members tell
 
@@ -96,17 +183,13 @@ no_more these some others tells each =
 
 -- so a marked piece of a dead member tells nothing more
 pub marks_told : (v : View) (range : Range) (lineage : List Member) → AreApart lineage → MarkedFit v.logs v.written v.stored v.live range lineage → (m : Member) → Contains lineage m → v.live m.master ≡ false → TellNoMore (member_marked v.written range m) (all_material v.written range lineage)
-marks_told v range [] apart fits m has dead = absurd (omega (arith, has.1))
+marks_told v range [] apart fits m has dead = absurd (none_stands m has)
 marks_told v range (only ∷ []) apart fits m has dead =
     let lineage : List Member = only ∷ [] in
-    ⊎_elim
-    (λ (same : only ≡ m).
+    let same : only ≡ m = one_stands only m has in
     let fit : TellNoMore (member_marked v.written range m) (member_material v.written range m) =
-    subst (λ (x : Member). TellNoMore (member_marked v.written range x) (member_material v.written range x)) same
-    (fits (ap (λ (x : Member). v.live x.master) same ∙ dead)) in
-    no_more (member_marked v.written range m) (member_material v.written range m) (materials v range lineage) fit (member_told v range lineage m has))
-    (λ (none : Contains [] m). absurd (omega (arith, none.1)))
-    (contains_cases only [] m has)
+    rw (← same) (fits (ap (λ (x : Member). v.live x.master) same ∙ dead)) in
+    no_more (member_marked v.written range m) (member_material v.written range m) (materials v range lineage) fit (member_told v range lineage m has)
 marks_told v range (first ∷ last ∷ []) apart fits m has dead =
     let lineage : List Member = first ∷ last ∷ [] in
     let is_first : Contains lineage first = (zero, omega arith, refl) in
@@ -119,17 +202,13 @@ marks_told v range (first ∷ last ∷ []) apart fits m has dead =
     rw (← same) (fits.0 (ap (λ (x : Member). v.live x.master) same ∙ dead)) in
     no_more (member_marked v.written range m) (own ++ stored) (materials v range lineage) fit
     (All-append (IsToldBy (materials v range lineage)) own stored (member_told v range lineage first is_first) (stored_told v range lineage last is_last)))
-    (λ (later : Contains (last ∷ []) m).
-    ⊎_elim
     (λ (same : last ≡ m).
     let other : List Entry = member_material v.written range last in
     let fit : TellNoMore (member_marked v.written range m) (own ++ other) =
     rw (← same) (fits.1 (ap (λ (x : Member). v.live x.master) same ∙ dead)) in
     no_more (member_marked v.written range m) (own ++ other) (materials v range lineage) fit
     (All-append (IsToldBy (materials v range lineage)) own other (member_told v range lineage first is_first) (member_told v range lineage last is_last)))
-    (λ (none : Contains [] m). absurd (omega (arith, none.1)))
-    (contains_cases last [] m later))
-    (contains_cases first (last ∷ []) m has)
+    (two_stand first last m has)
 marks_told v range (first ∷ second ∷ third ∷ more) apart fits m has dead = absurd apart
 
 module _ (v : View) (a : Merging v) where
@@ -178,7 +257,7 @@ module _ (v : View) (a : Merging v) where
       members_by (Contains (filter is_read lineage)) gather.members
       (subst (All (Contains (filter is_read lineage))) (sym (rebuilder v a).gather.members_are) (All-contains_itself (filter is_read lineage)))
 
-  -- which has crashed, and knows of backup 1
+  -- which has crashed
   is_one : (m : Member) → Contains lineage m → is_member lineage m.master ≡ true
   is_one m has = All-contains (λ (x : Member). is_member lineage x.master ≡ true) lineage m (each_member lineage) has
 
@@ -186,22 +265,6 @@ module _ (v : View) (a : Merging v) where
   dead m has away =
       false_from_ne_true (v.live m.master)
       (λ lives. former_gone v a.sound.roles a.row a.has_row lineage a.master m.master (rebuilt v a).1 lives away (is_one m has))
-
-  backed : (m : Member) → Contains lineage m → IsBackup (v.logs m.master) READ_BACKUP
-  backed m has =
-      let named_it : names a.row.phase m.master ≡ true → IsMaster v.masters m.master =
-      (row_in v a.sound a.row a.has_row).named m.master in
-      let there : IsMaster v.masters m.master =
-      named_it (ap (λ (phase : Phase). names phase m.master) (rebuilt v a).1 ∙ or_right (a.master == m.master) (is_member lineage m.master) (is_one m has)) in
-      record { first = omega arith; last = omega (arith, a.sound.nodes.known m.master there, a.sound.nodes.backed) }
-
-  fits : MarkedFit v.logs v.written v.stored v.live a.row.range lineage
-  fits =
-      let rebuilt_row =
-      subst (λ (phase : Phase). RowIsRebuilt a.row phase (truths v a.row) v.logs v.written v.stored v.handovers v.completions v.gathers v.merged v.records v.live)
-      (rebuilt v a).1
-      (row_in v a.sound a.row a.has_row).rebuilt in
-      rebuilt_row.1
 
   each_told : (gathered : Gathered) → Contains gather.members gathered → All (IsToldBy all) (counted_of a.row.range gathered)
   each_told gathered there =
@@ -213,9 +276,9 @@ module _ (v : View) (a : Merging v) where
       let w : Written = v.written m.master in
       let tells : AreMarksTold v a.row m all =
       (λ place e behind before at marked inside.
-      told_through (member_marked v.written a.row.range m) all e (marks_told v a.row.range lineage formed fits m has (dead m has away))
+      told_through (member_marked v.written a.row.range m) all e (marks_told v a.row.range lineage formed (rebuilt_row v a).1 m has (dead m has away))
       (stands_told (member_marked v.written a.row.range m) e (marked_stands w.marks a.row.range m.from w.entries place e behind at marked inside))) in
-      counted_told v a.sound a.may.readable a.row m (backed m has) (NeededOf a.row v.written lineage m.master) gathered
+      counted_told v a.sound a.may.readable a.row m (member_backed v a.sound a.row a.has_row lineage a.master (rebuilt v a).1 m.master (is_one m has)) (NeededOf a.row v.written lineage m.master) gathered
       (All-contains (λ (g : Gathered). length g.main ≤ LAST_MAIN_SEGMENT) gather.members gathered a.may.gathered there)
       (All-contains
       (λ (g : Gathered). IsGathered (NeededOf a.row v.written lineage g.member.master) (known_of (v.logs g.member.master) READ_BACKUP)

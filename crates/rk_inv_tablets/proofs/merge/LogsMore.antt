@@ -16,10 +16,7 @@ use Rattle.rk_log.proofs.LogLaws.{committed_entry}
 
 -- segments with more bytes are no fewer
 with_bytes_more : (segments : List (List ℕ)) (bytes : List ℕ) → length segments ≤ length (with_bytes segments bytes)
-with_bytes_more segments bytes =
-    cond_both (has_room segments bytes) (in_last segments bytes) (segments ++ bytes ∷ []) (λ s. length segments ≤ length s)
-    (λ e. omega (arith, length-set segments (length segments - 1) (last_of segments ++ bytes)))
-    (λ e. omega (arith, length-append segments (bytes ∷ [])))
+with_bytes_more segments bytes = grind (arith, cond_both, has_room, in_last, length-set, last_of, length-append)
 
 module _ (log : Log) (entry : Entry) (few : length (cut (log.entries ++ entry ∷ [])) < FIRST_SIDE_SEGMENT) where
   abbrev more : Log
@@ -41,40 +38,15 @@ module _ (log : Log) (entry : Entry) (few : length (cut (log.entries ++ entry �
 
   grown_front : (number : ℕ) → IsFirstPart (bytes_of log number) (bytes_of more number)
   grown_front number =
-      ⊎_elim
-      (λ (less : number < FIRST_SIDE_SEGMENT).
-      ⊎_elim
-      (λ (none : number < 1). first_part_same (bytes_of log number) (bytes_of more number) (grown_zero number none))
-      (λ (some : 1 ≤ number).
-      rw (bytes_main log number some less, grown_main number some less) (with_bytes_front (cut log.entries) (spelled entry) (number - 1)))
-      (cases_lt number 1))
-      (λ (side : FIRST_SIDE_SEGMENT ≤ number). first_part_same (bytes_of log number) (bytes_of more number) (grown_side number side))
-      (cases_lt number FIRST_SIDE_SEGMENT)
+      grind (arith, first_part_same, bytes_of, grown_zero, bytes_main, grown_main, with_bytes_front, cut, spelled, cases_lt, grown_side)
 
   -- a main segment that has bytes is one of those that were cut
   within_cut : (later : ℕ) → 1 ≤ later → later < FIRST_SIDE_SEGMENT → bytes_of log later ≢ [] → later - 1 < length (cut log.entries)
-  within_cut later some less filled =
-      ⊎_elim
-      (λ (within : later - 1 < length (cut log.entries)). within)
-      (λ (past : length (cut log.entries) ≤ later - 1).
-      absurd (filled (bytes_main log later some less ∙ get_or_past (cut log.entries) (later - 1) [] past)))
-      (cases_lt (later - 1) (length (cut log.entries)))
+  within_cut later some less filled = grind (arith, cut, bytes_main, get_or_past, cases_lt)
 
   grown_full : (earlier later : ℕ) → earlier < later → is_main earlier ≡ is_main later → bytes_of log later ≢ [] → bytes_of more earlier ≡ bytes_of log earlier
   grown_full earlier later before sort filled =
-      ⊎_elim
-      (λ (less : earlier < FIRST_SIDE_SEGMENT).
-      ⊎_elim
-      (λ (none : earlier < 1). grown_zero earlier none)
-      (λ (some : 1 ≤ earlier).
-      let later_less : later < FIRST_SIDE_SEGMENT = ltb-true later FIRST_SIDE_SEGMENT (sym sort ∙ lt-ltb earlier FIRST_SIDE_SEGMENT less) in
-      let within : later - 1 < length (cut log.entries) = within_cut later (omega arith) later_less filled in
-      grown_main earlier some less
-      ∙ with_bytes_full (cut log.entries) (spelled entry) (earlier - 1) (omega arith)
-      ∙ sym (bytes_main log earlier some less))
-      (cases_lt earlier 1))
-      (λ (side : FIRST_SIDE_SEGMENT ≤ earlier). grown_side earlier side)
-      (cases_lt earlier FIRST_SIDE_SEGMENT)
+      grind (arith, grown_zero, ltb-true, lt-ltb, cut, within_cut, grown_main, with_bytes_full, spelled, bytes_main, cases_lt, grown_side)
 
   -- and the log grew
   pub grows_one : Grows log (with_entry log entry)

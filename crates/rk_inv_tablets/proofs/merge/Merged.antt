@@ -1,32 +1,33 @@
 -- A view stays sound when a rebuild merges what it gathered: its piece bears the only mark of the tablet there, its master does not speak for
 -- the row and is no target, and the ends that it keeps are told by the truth or the rest of the row.
 use Rattle.std.proofs.Common.{◌≡◌, ℕ, zero, suc, ◌-◌, List, [], ◌∷◌, ◌++◌, filter, length, refl, sym, ap, ◌∙◌, ⊎_elim, arith, length-append}
-use Rattle.std.proofs.Common.{All, drop, take, flat_map, true, cond, subst, inr, ◌==◌, ne_eqb, ◌⊎◌, Some, inl, Contains, eq-eqb}
+use Rattle.std.proofs.Common.{All, drop, take, flat_map, true, inr, ◌⊎◌, Some, inl, Contains, eq-eqb, IfSome, ◌≤◌, false}
 use Rattle.rk_inv_base.proofs.Words.{take-append-le, All-push, Contains-append_right, list_any, Range, Entry, is_in, completions_from}
 use Rattle.rk_inv_base.proofs.Words.{lineage_of, Phase, Rebuilding, known_of, items_of, Gather, by_member, touches, named, side_entries}
 use Rattle.rk_inv_base.proofs.Words.{merge, own_place, Written, Mark, stored_of, HasOwnRange, IsPieceOf, IsRebuilder, MarkFits, NeededOf}
-use Rattle.rk_inv_base.proofs.Words.{READ_BACKUP, RowIsRebuilt, named_items, View, truths, cases_eq, cond-false, cond-true, false≢true, get}
-use Rattle.rk_inv_base.proofs.Words.{Member, Handover, is_member, member_material, member_truth, Post, Bystander, FormerMember, Holds}
-use Rattle.rk_inv_base.proofs.Words.{bond_of, post_of, rebuilder_post, HandedFits, IsHandedBy, IsTarget, MembersFit, NamedFit, is_granted}
-use Rattle.rk_inv_base.proofs.Words.{RoleFits, IsFormed, All-contains, All-weaker, Ended, ends_of, is_serving, told, is_rebuilding, IsKnown}
-use Rattle.rk_inv_base.proofs.Words.{IsStagedEnd, ReachAll, IsNext, is_wanting, speaks, StillCounts, rests, CallsOf, Tablet, IfSome_then}
-use Rattle.rk_inv_base.proofs.Words.{has, Known, first_of, SoundView, target_truth, handed_for_grant, handed_by, is_idle, TermsOf}
-use Rattle.rk_inv_base.proofs.Words.{may_have_staged}
-use Rattle.rk_inv_tablets.proofs.Words.{member as member_at, put2_here, IsRebuilderIn, all_by, drop_all, with_piece, former_never, AreAlike}
-use Rattle.rk_inv_tablets.proofs.Words.{calls_alike, IsHeir, heir_post, IsToldIn, CountsFor, SpeaksFor, view_by_rows, SoundRow, SoundBeside}
-use Rattle.rk_inv_tablets.proofs.Words.{still_counts, handed_for_grant_alike, handed_by_alike, cover_looks, all_items_same, terms_looks}
-use Rattle.rk_inv_tablets.proofs.Words.{role_looks, terms_look, IsSettledIn, IsBareOf}
+use Rattle.rk_inv_base.proofs.Words.{READ_BACKUP, RowIsRebuilt, named_items, View, truths, cases_eq, cond-true, false≢true, get, Member}
+use Rattle.rk_inv_base.proofs.Words.{is_member, member_material, member_truth, post_of, rebuilder_post, HandedFits}
+use Rattle.rk_inv_base.proofs.Words.{IsTarget, MembersFit, NamedFit, is_granted, All-contains, All-weaker, Ended}
+use Rattle.rk_inv_base.proofs.Words.{ends_of, is_serving, told, is_rebuilding, IsKnown, IsStagedEnd, ReachAll, IsNext, is_wanting, speaks}
+use Rattle.rk_inv_base.proofs.Words.{StillCounts, rests, CallsOf, Tablet, IfSome_then, SoundView, target_truth, handed_for_grant}
+use Rattle.rk_inv_base.proofs.Words.{handed_by, is_idle, may_have_staged, IsSettledIn, EachIn, IsMergedOf, Message, is_absent}
+use Rattle.rk_inv_tablets.proofs.Words.{member as member_at, put2_here, IsRebuilderIn, all_by, drop_all, with_piece, AreAlike, calls_alike}
+use Rattle.rk_inv_tablets.proofs.Words.{IsHeir, heir_post, IsToldIn, CountsFor, SpeaksFor, view_by_rows, SoundRow, SoundBeside}
+use Rattle.rk_inv_tablets.proofs.Words.{still_counts, handed_for_grant_alike, handed_by_alike, cover_looks, terms_looks, role_looks}
+use Rattle.rk_inv_tablets.proofs.Words.{terms_look, IsBareOf, IsNextOf}
 use Rattle.rk_world.specs.Marks.{unmarked as unmarked_entries}
 use Rattle.rk_inv_tablets.proofs.merge.Merging.{Merging, closing, first, free_same, inside, mark, material_same, merged, mine, new, now}
 use Rattle.rk_inv_tablets.proofs.merge.Merging.{of_written, old, own_is, past_is, piece, piece_length, rebuilder, rebuilt, term_is}
 use Rattle.rk_inv_tablets.proofs.merge.Merging.{unmarked, within, rest_same, tablet, turned, row_was, looks, new_role, of_handover, role_is}
-use Rattle.rk_inv_tablets.proofs.merge.Merging.{sides_same, by_role, gathers, applied_same, rests_same}
-use Rattle.rk_inv_tablets.proofs.merge.Pieces.{drop_first, from_piece, take_whole}
+use Rattle.rk_inv_tablets.proofs.merge.Merging.{sides_same, by_role, gathers, applied_same, rests_same, grow}
+use Rattle.rk_inv_tablets.proofs.merge.Pieces.{from_piece}
+use Rattle.std.proofs.Math.Seq.{drop-append_seam}
+use Rattle.std.proofs.lemmas.List.{take_all}
 use Rattle.rk_inv_tablets.proofs.grow.Grown.{SameFirst, marked_more, rebuilds_now, rebuilds_other, truth_same, target_same, placed_more}
-use Rattle.rk_inv_tablets.proofs.grow.Grown.{done_more, unnamed_more, cover_more, waits_more, found_more, bare_more, rows_more, truths_same}
-use Rattle.rk_inv_tablets.proofs.merge.MergedLogs.{grow}
+use Rattle.rk_inv_tablets.proofs.grow.Grown.{done_more, unnamed_more, cover_more, found_more, bare_more, rows_more, truths_same, known_more}
+use Rattle.rk_inv_tablets.proofs.grow.Grown.{items_more, waiting_more}
 use Rattle.rk_inv_tablets.proofs.grow.Turned.{of_tablet, seen_apart}
-use Rattle.rk_inv_tablets.proofs.ready.Outside.{second_member}
+use Rattle.rk_inv_tablets.proofs.ready.Outside.{second_member, former_behind}
 use Rattle.rk_inv_tablets.proofs.merge.Collected.{collected}
 use Rattle.rk_inv_tablets.proofs.merge.Heirs.{heir_quiet}
 use Rattle.rk_inv_tablets.proofs.merge.MergedMessages.{says_here}
@@ -37,10 +38,7 @@ module _ (v : View) (a : Merging v) where
 
   -- what a log with the piece names in side segments is what it named
   names_piece : (range : Range) (from q : ℕ) → q ≡ a.master → named_items range from (with_piece (v.written q) (piece v a) (mark v a)) ≡ named_items range from (v.written q)
-  names_piece range from q at =
-      let w : Written = v.written q in
-      ap (λ (list : List Entry). filter (is_in range) (items_of (flat_map (side_entries w.sides) (named range list))))
-      (from_piece w.marks (mark v a) from w.entries (piece v a) (ap (λ (n : ℕ). length (v.written n).entries) at) (omega (arith, past_is v a)))
+  names_piece range from q at = grind (arith, is_in, items_of, side_entries, named, from_piece, mark, piece, past_is)
 
   -- ---- the master, for its own row
 
@@ -60,8 +58,8 @@ module _ (v : View) (a : Merging v) where
             All-push (λ (m : Mark). m.tablet ≡ a.row.tablet → m ≡ mark v a) w.marks (mark v a)
             (all_by (λ (m : Mark). m.tablet ≡ a.row.tablet → m ≡ mark v a) w.marks (λ m stands its. absurd (unmarked v a m stands its))) (λ its. refl);
         stands =
-            ap (take (suc (closing v a) - first v a)) (drop_first w.entries (piece v a))
-            ∙ take_whole (suc (closing v a) - first v a) (piece v a) (omega (arith, size));
+            ap (take (suc (closing v a) - first v a)) (drop-append_seam w.entries (piece v a))
+            ∙ take_all (suc (closing v a) - first v a) (piece v a) (omega (arith, size));
         last =
             ap (list_any (touches (old v a).range))
             (drop_all (suc (closing v a)) (w.entries ++ piece v a) (omega (arith, size, length-append w.entries (piece v a))));
@@ -79,24 +77,21 @@ module _ (v : View) (a : Merging v) where
       let w : Written = v.written a.master in
       let was = rebuilder v a in
       let gather : Gather = v.gathers a.master a.row.tablet in
-      record {
-        range_is = was.range_is;
-        gather = was.gather;
-        read = was.read;
-        placed = omega (arith, was.placed, length-append w.entries (piece v a));
-        merged = record {
-          gathered_all = a.may.may.gathered;
-          merged = merged v a;
-          merged_is = ap (λ (own : List Entry). merge own (by_member gather own)) (own_is v a);
-          ends_are = refl;
-          piece = piece_here;
-          counter = refl;
-          completions = refl;
-        };
-        items = rw (take-append-le w.applied w.entries (piece v a) (within v a a.master)) was.items;
-        sides = rw (names_piece a.row.range (own_place (old v a).role) a.master refl) was.sides;
-        outside = was.outside;
-      }
+      let placed : own_place (old v a).role ≤ length (w.entries ++ piece v a) = omega (arith, was.placed, length-append w.entries (piece v a)) in
+      let done : IsMergedOf a.row.tablet (own_place (old v a).role) (mine v a) (new v a) (completions_from [] (merged v a).ends) gather (merged v a).ends (with_piece w (piece v a) (mark v a)) (closing v a) = record {
+        gathered_all = a.may.may.gathered;
+        merged = merged v a;
+        merged_is = ap (λ (own : List Entry). merge own (by_member gather own)) (own_is v a);
+        ends_are = refl;
+        piece = piece_here;
+        counter = refl;
+        completions = refl;
+      } in
+      assumption (
+        was,
+        rw (← take-append-le w.applied w.entries (piece v a) (within v a a.master)) at was.items,
+        rw (← names_piece a.row.range (own_place (old v a).role) a.master refl) at was.sides,
+      )
 
   -- ---- each master that rebuilds the row at its term
 
@@ -178,8 +173,8 @@ module _ (v : View) (a : Merging v) where
       (λ at.
       let size : length (piece v a) ≡ suc (length (merged v a).copies) = piece_length (old v a) (merged v a) in
       let whole : take ((mark v a).past - first v a) (drop (first v a) ((v.written a.master).entries ++ piece v a)) ≡ piece v a =
-      ap (take ((mark v a).past - first v a)) (drop_first (v.written a.master).entries (piece v a))
-      ∙ take_whole ((mark v a).past - first v a) (piece v a) (omega (arith, size)) in
+      ap (take ((mark v a).past - first v a)) (drop-append_seam (v.written a.master).entries (piece v a))
+      ∙ take_all ((mark v a).past - first v a) (piece v a) (omega (arith, size)) in
       rw whole (inside v a))
       (λ away. absurd (away refl)))
       ((row_was v a).pieces q)
@@ -203,35 +198,10 @@ module _ (v : View) (a : Merging v) where
 
   -- the row's own members, the first of which rebuilds it, do not keep one term
   terms_differ : (source target : Member) → lineage_of a.row.phase ≡ source ∷ target ∷ [] → source.master ≡ a.master → (v.handovers target.master a.row.tablet).term ≡ (v.handovers source.master a.row.tablet).term → ⊥
-  terms_differ source target two at term =
-      let lineage : List Member = source ∷ target ∷ [] in
-      let q : ℕ = target.master in
-      let h : Handover = v.handovers q a.row.tablet in
-      let is : a.row.phase ≡ Rebuilding lineage a.master =
-      (rebuilt v a).1 ∙ ap (λ (members : List Member). Rebuilding members a.master) (sym (ap lineage_of (rebuilt v a).1) ∙ two) in
-      let formed : IsFormed (Rebuilding lineage a.master) =
-      subst IsFormed is (row_was v a).formed in
-      let own : h.term ≡ a.row.term = term ∙ ap (λ (n : ℕ). (v.handovers n a.row.tablet).term) at ∙ term_is v a in
-      let fits : RoleFits a.row q h (v.written q).applied =
-      (row_was v a).fitting q (inr own) in
-      let post : post_of (Rebuilding lineage a.master) q ≡ FormerMember =
-      cond-false (a.master == q) (rebuilder_post lineage q) (cond (is_member lineage q) FormerMember Bystander)
-      (ne_eqb a.master q (λ same. formed (at ∙ same)))
-      ∙ cond-true (is_member lineage q) FormerMember Bystander (second_member source target []) in
-      former_never h.role a.row.term h.term (v.written q).applied
-      (subst (λ (post : Post). Holds (bond_of post h.role) a.row.term h.term (v.written q).applied) post
-      (subst (λ (phase : Phase). Holds (bond_of (post_of phase q) h.role) a.row.term h.term (v.written q).applied) is fits))
+  terms_differ source target two at term = grind (arith, rebuilt, lineage_of, row_was, former_behind, second_member, tablet, term_is)
 
   pub handed_here : (lineage : List Member) → lineage_of a.row.phase ≡ lineage → HandedFits a.row v.handovers v.completions v.handed lineage → HandedFits a.row (now v a).handovers (now v a).completions v.handed lineage
-  handed_here (source ∷ target ∷ []) is fit = λ term.
-      let q : ℕ = source.master in
-      let r : ℕ = a.row.tablet in
-      let before : (v.handovers target.master r).term ≡ (v.handovers q r).term =
-      sym (looks v a target.master r).term ∙ term ∙ (looks v a q r).term in
-      of_tablet v (now v a) a.master r (tablet v a) (turned v a) (λ n r t. q ≡ n → IsHandedBy (get v.handed a.row.tablet) t.handover t.completions) q r
-      (λ at. absurd (terms_differ source target is at before))
-      (λ apart at. fit before) refl
-  handed_here _ is fit = tt
+  handed_here lineage is fit = grind (arith, tablet, looks, of_tablet, now, turned, terms_differ)
 
   -- what the last of two members names is what it was
   pub names_same : (range : Range) (from q : ℕ) → named_items range from ((now v a).written q) ≡ named_items range from (v.written q)
@@ -256,12 +226,7 @@ module _ (v : View) (a : Merging v) where
 
   -- the master is to rebuild its row
   pub heir : IsHeir (post_of a.row.phase a.master)
-  heir =
-      let lineage : List Member = (rebuilt v a).0 in
-      rw (rebuilt v a).1 (subst IsHeir
-      (sym (cond-true (a.master == a.master) (rebuilder_post lineage a.master)
-      (cond (is_member lineage a.master) FormerMember Bystander) (eq-eqb a.master a.master refl)))
-      (heir_post lineage a.master))
+  heir = grind (arith, rebuilt, cond-true, rebuilder_post, is_member, eq-eqb, heir_post)
 
   -- so it does not speak for it
   quiet : speaks (post_of a.row.phase a.master) (new v a) a.row.term ≡ true → ⊥
@@ -309,11 +274,7 @@ module _ (v : View) (a : Merging v) where
       q a.row.tablet (λ counts says. absurd (quiet says)) (λ apart. (row_was v a).answering q)
 
   pub counts_on : (q : ℕ) → CountsFor (now v a) a.row q → SpeaksFor (now v a) a.row q → IsNext (truths v a.row ++ rests v a.row) ((now v a).handovers q a.row.tablet).counter
-  counts_on q =
-      of_tablet v (now v a) a.master a.row.tablet (tablet v a) (turned v a)
-      (λ q r t. StillCounts (v.live q) t.handover.term a.row.term → speaks (post_of a.row.phase q) t.handover a.row.term ≡ true
-      → IsNext (truths v a.row ++ rests v a.row) t.handover.counter)
-      q a.row.tablet (λ counts says. absurd (quiet says)) (λ apart. (row_was v a).counted q)
+  counts_on q = grind (arith, of_tablet, now, tablet, turned, speaks, post_of, truths, rests, quiet, row_was)
 
   -- ---- the whole
 
@@ -338,99 +299,73 @@ module _ (v : View) (a : Merging v) where
   here : SoundRow (now v a) a.row
   here =
       let was = row_was v a in
-      record {
-        named = was.named;
-        begun = was.begun;
-        formed = was.formed;
-        placed = placed_more v (grow v a) (lineage_of a.row.phase) was.placed;
-        sent = was.sent;
-        fitting = λ q counts.
+      let counted : (q : ℕ) → CountsFor (now v a) a.row q → SpeaksFor (now v a) a.row q → IsNextOf (now v a) a.row ((now v a).handovers q a.row.tablet).counter = λ q counts says.
+      rw both_now (counts_on q counts says) in
+      let floor_granted : IfSome (handed_for_grant a.row (now v a).handovers v.handed) (λ h. IsNextOf (now v a) a.row h.floor) =
+      rw (handed_for_grant_alike a.row v.handovers (now v a).handovers v.handed alike)
+      (IfSome_then (handed_for_grant a.row v.handovers v.handed) was.floor_granted (λ h next. rw both_now next)) in
+      let floor_sent : EachIn (λ n m. IfSome (handed_by a.row (now v a).handovers m.body) (λ h. IsNextOf (now v a) a.row h.floor)) v.wire = λ n m there.
+      rw (handed_by_alike a.row v.handovers (now v a).handovers m.body alike)
+      (IfSome_then (handed_by a.row v.handovers m.body) (was.floor_sent n m there) (λ h next. rw both_now next)) in
+      let idle : (q : ℕ) → CountsFor (now v a) a.row q → is_idle ((now v a).handovers q a.row.tablet).role ≡ true → IsSettledIn a.row.range (written q) = λ q.
+      of_handover v a
+      (λ h. StillCounts (v.live q) h.term a.row.term → is_idle h.role ≡ true → IsSettledIn a.row.range (written q)) q a.row.tablet
+      (λ at its counts idles. absurd (false≢true idles))
+      (λ apart counts idles. rw ((grow v a).others q (λ at. apart at refl)) (was.idle q counts idles)) in
+      assumption (
+        was,
+        placed_more v (grow v a) (lineage_of a.row.phase) was.placed,
+        λ (q : ℕ) (counts : CountsFor (now v a) a.row q).
             role_looks a.row q (v.handovers q a.row.tablet) ((now v a).handovers q a.row.tablet) (v.written q).applied (written q).applied
-            (looks v a q a.row.tablet) (applied_same v a q) (was.fitting q (counts_same q counts));
-        ranged = λ q counts member. (looks v a q a.row.tablet).range ∙ was.ranged q (counts_same q counts) member;
-        at_term =
-            terms_look a.row.phase (λ q. (v.handovers q a.row.tablet).term) (λ q. ((now v a).handovers q a.row.tablet).term) a.row.term
-            (λ q. (looks v a q a.row.tablet).term) was.at_term;
-        truth = rw truths_now was.truth;
-        above = rw (truths_now, rests_now) was.above;
-        reached = rw truths_now was.reached;
-        recorded = rw truths_now was.recorded;
-        moving = rw target_now was.moving;
-        answering = answers;
-        ends_granted = rw (handed_for_grant_alike a.row v.handovers (now v a).handovers v.handed alike) was.ends_granted;
-        ends_sent = λ n m there. rw (handed_by_alike a.row v.handovers (now v a).handovers m.body alike) (was.ends_sent n m there);
-        low = rw truths_now was.low;
-        low_moving = rw target_now was.low_moving;
-        counted = λ q counts says. rw both_now (counts_on q counts says);
-        floor_granted =
-            rw (handed_for_grant_alike a.row v.handovers (now v a).handovers v.handed alike)
-            (IfSome_then (handed_for_grant a.row v.handovers v.handed) was.floor_granted (λ h next. rw both_now next));
-        floor_sent = λ n m there.
-            rw (handed_by_alike a.row v.handovers (now v a).handovers m.body alike)
-            (IfSome_then (handed_by a.row v.handovers m.body) (was.floor_sent n m there) (λ h next. rw both_now next));
-        goes_on = rw (truths_now, rests_now) was.goes_on;
-        done = done_more v (grow v a) a.row.range (lineage_of a.row.phase) first_same was.done;
-        unnamed = unnamed_more v (grow v a) a.row.range (lineage_of a.row.phase) was.unnamed;
-        idle = λ q.
-            of_handover v a
-            (λ h. StillCounts (v.live q) h.term a.row.term → is_idle h.role ≡ true → IsSettledIn a.row.range (written q)) q a.row.tablet
-            (λ at its counts idles. absurd (false≢true idles))
-            (λ apart counts idles. rw ((grow v a).others q (λ at. apart at refl)) (was.idle q counts idles));
-        items = λ q lives has.
-            IfSome_then (first_of (lineage_of a.row.phase))
-            (was.items q lives
-            (sym
-            (all_items_same (post_of a.row.phase q) ((now v a).handovers q a.row.tablet) (v.handovers q a.row.tablet) a.row.term
-            (looks v a q a.row.tablet).term)
-            ∙ has))
-            (λ member table. rw (truth_same v (grow v a) a.row.range member) table);
-        target = members_here (lineage_of a.row.phase) was.target;
-        handed_on = handed_here (lineage_of a.row.phase) refl was.handed_on;
-        named_items = names_here (lineage_of a.row.phase) was.named_items;
-        rebuilt = rw truths_now (rebuilt_here a.row.phase refl was.rebuilt);
-        marks = marks_here;
-        pieces = pieces_here;
-        says = says_here v a;
-      }
+            (looks v a q a.row.tablet) (applied_same v a q) (was.fitting q (counts_same q counts)),
+        λ (q : ℕ) (counts : CountsFor (now v a) a.row q) (member : is_member (lineage_of a.row.phase) q ≡ true).
+            (looks v a q a.row.tablet).range ∙ was.ranged q (counts_same q counts) member,
+        terms_look a.row.phase (λ q. (v.handovers q a.row.tablet).term) (λ q. ((now v a).handovers q a.row.tablet).term) a.row.term
+            (λ q. (looks v a q a.row.tablet).term) was.at_term,
+        rw (← truths_now) at was.truth,
+        rw (← truths_now, ← rests_now) at was.above,
+        rw (← truths_now) at was.reached,
+        rw (← truths_now) at was.recorded,
+        rw (← target_now) at was.moving,
+        rw (← truths_now) at was.low,
+        rw (← target_now) at was.low_moving,
+        answers,
+        rw (← handed_for_grant_alike a.row v.handovers (now v a).handovers v.handed alike) at was.ends_granted,
+        λ (n : ℕ) (m : Message) (there : get v.wire n ≡ Some m).
+            rw (← handed_by_alike a.row v.handovers (now v a).handovers m.body alike) at (was.ends_sent n m there),
+        rw (← truths_now, ← rests_now) at was.goes_on,
+        done_more v (grow v a) a.row.range (lineage_of a.row.phase) first_same was.done,
+        unnamed_more v (grow v a) a.row.range (lineage_of a.row.phase) was.unnamed,
+        items_more v (grow v a) a.row (now v a).handovers (λ q. (looks v a q a.row.tablet).term) was.items,
+        members_here (lineage_of a.row.phase) was.target,
+        handed_here (lineage_of a.row.phase) refl was.handed_on,
+        names_here (lineage_of a.row.phase) was.named_items,
+        rw (← truths_now) at (rebuilt_here a.row.phase refl was.rebuilt),
+        marks_here,
+        pieces_here,
+        says_here v a,
+      )
 
   -- ---- beside rows
 
-  terms : TermsOf (now v a)
-  terms = terms_looks v.rows v.handovers (now v a).handovers v.wire a.sound.terms (looks v a)
-
   beside : SoundBeside (now v a)
-  beside = record {
-    numbered = a.sound.nodes.numbered;
-    backed = a.sound.nodes.backed;
-    known_backups = λ q there. ap (λ (known : List Known). length known) ((grow v a).known q) ∙ a.sound.nodes.known q there;
-    crashed = a.sound.nodes.crashed;
-    left = a.sound.nodes.left;
-    rows_apart = a.sound.rows.apart;
-    covered = a.sound.rows.covered;
-    kept = terms.kept;
-    begun = terms.begun;
-    apart = terms.apart;
-    cover = cover_looks v.rows written v.handovers (now v a).handovers v.records v.wire (cover_more v (grow v a)) (looks v a);
-    has_row = λ q r lives there. a.sound.roles.known q r lives (sym (looks v a q r).role.absent ∙ there);
-    logs = (grow v a).logs_are;
-    legal = a.sound.truth.legal;
-    rising = a.sound.truth.rising;
-    seen = a.sound.truth.seen;
-    once = a.sound.calls.once;
-    known = λ q r lives.
-        rw (rests_same v a) (known_now q r lives);
-    waiting = λ q lives k c there.
-        waits_more v (grow v a) (now v a).handovers (λ q r staged. by_role v a may_have_staged refl q r ∙ staged) q k c
-        (a.sound.rest.waiting q lives k c there);
-    are_last = a.sound.rest.are_last;
-    found = λ q lives. found_more v (grow v a) q (a.sound.rest.found q lives);
-    ordered = a.sound.records.ordered;
-    bare = λ q r.
-        of_handover v a (λ h. IsBareOf h (written q) (v.records q)) q r (λ at its. tt)
-        (λ apart. bare_more v (grow v a) q r apart (a.sound.receives.bare q r));
-    others = a.sound.messages.others;
-    asked = a.sound.asked;
-  }
+  beside =
+      let known : (q r : ℕ) → v.live q ≡ true → All (λ end. IsKnown v.base v.journal end ⊎ IsStagedEnd v.rows (rests (now v a)) q r ((now v a).handovers q r).term end) (ends_of ((now v a).completions q r)) = λ q r lives.
+      rw (rests_same v a) (known_now q r lives) in
+      assumption (
+        a.sound,
+        terms_looks v.rows v.handovers (now v a).handovers v.wire a.sound.terms (looks v a),
+        cover_looks v.rows written v.handovers (now v a).handovers v.records v.wire (cover_more v (grow v a)) (looks v a),
+        (grow v a).logs_are,
+        known_more v (grow v a),
+        found_more v (grow v a),
+        λ (q r : ℕ) (lives : v.live q ≡ true) (there : is_absent ((now v a).handovers q r).role ≡ false).
+            a.sound.roles.known q r lives (sym (looks v a q r).role.absent ∙ there),
+        waiting_more v (grow v a) (now v a).handovers (λ q r staged. by_role v a may_have_staged refl q r ∙ staged),
+        λ (q r : ℕ).
+            of_handover v a (λ h. IsBareOf h (written q) (v.records q)) q r (λ at its. tt)
+            (λ apart. bare_more v (grow v a) q r apart (a.sound.receives.bare q r)),
+      )
 
   pub view_merged : SoundView (now v a)
   view_merged =

@@ -1,13 +1,12 @@
 -- What messages say of a row for which a rebuild merges: no report tells what its master had merged before, and all else looks as it did.
-use Rattle.std.proofs.Common.{◌≡◌, ℕ, List, [], ◌∷◌, None, refl, subst, ⊎_elim}
+use Rattle.std.proofs.Common.{arith}
+use Rattle.std.proofs.Common.{◌≡◌, ℕ, List, [], ◌∷◌, None, refl, subst}
 use Rattle.rk_inv_base.proofs.Words.{All-cons, All-head, Ended, Member, Node, Completions, Handover, Role, Phase, Opening, Rebuilding}
 use Rattle.rk_inv_base.proofs.Words.{Transfer, Body, Rebuilt, HasRebuilt, RebuiltIn, TransferIn, View, cases_eq, EachIn, All-nil}
-use Rattle.rk_inv_tablets.proofs.Words.{put2_other, by_master, messages_looks, AllLook, SaysIn}
-use Rattle.rk_transfer.specs.declared.role.Role.TheVariants as roles
-use Rattle.rk_message.specs.declared.message.Body.TheVariants as bodies
-use Rattle.rk_inv_tablets.proofs.merge.Merging.{Merging, gathers, looks, merged, now, rebuilt, role_is, row_was}
+use Rattle.rk_inv_tablets.proofs.Words.{put2_other, by_master, messages_looks, SaysIn}
+use Rattle.rk_inv_tablets.proofs.merge.Merging.{Merging, gathers, looks, merged, now, rebuilt, role_is, row_was, grow}
 use Rattle.rk_inv_tablets.proofs.grow.Grown.{grown, says_more}
-use Rattle.rk_inv_tablets.proofs.merge.MergedLogs.{grow}
+use Rattle.rk_transfer.specs.declared.role.Role.TheVariants as roles
 
 -- of a row that is rebuilt no Transfer says anything
 pub transfer_rebuilds : (phase : Phase) (lineage : List Member) (to : ℕ) → phase ≡ Rebuilding lineage to → (h : Handover) (was is : Completions) (term q : ℕ) (transfer : Transfer) → TransferIn phase h was term q transfer → TransferIn phase h is term q transfer
@@ -33,22 +32,10 @@ module _ (v : View) (a : Merging v) where
 
   -- a master that merged has told no Rebuilt before
   rebuilt_on : (q applied : ℕ) (report : Rebuilt) → RebuiltIn a.row.phase (v.handovers q a.row.tablet) (v.merged q a.row.tablet) applied a.row.term q report → RebuiltIn a.row.phase (v.handovers q a.row.tablet) ((now v a).merged q a.row.tablet) applied a.row.term q report
-  rebuilt_on q applied report says =
-      ⊎_elim
-      (λ (at : q ≡ a.master).
-      rebuilt_gathers a.row.phase (v.handovers q a.row.tablet) (v.merged q a.row.tablet) ((now v a).merged q a.row.tablet) (gathers v a).0 applied
-      a.row.term q report (role_is v a q a.row.tablet at refl) says)
-      (λ (away : q ≡ a.master → ⊥).
-      rw (put2_other v.merged a.master a.row.tablet (merged v a).ends q a.row.tablet (λ at its. away at)) says)
-      (cases_eq q a.master)
+  rebuilt_on q applied report says = grind (arith, rebuilt_gathers, merged, now, gathers, role_is, put2_other, cases_eq)
 
   says_kept : (from to : Node) (body : Body) → SaysIn (grown v (grow v a)) a.row from to body → SaysIn kept a.row from to body
-  says_kept from to (bodies.Transfer transfer) =
-      by_master from _ _ (λ q told is.
-      transfer_rebuilds a.row.phase (rebuilt v a).0 a.master (rebuilt v a).1 (v.handovers q a.row.tablet) (v.completions q a.row.tablet)
-      ((now v a).completions q a.row.tablet) a.row.term q transfer (told is))
-  says_kept from to (bodies.Rebuilt report) = by_master from _ _ (λ q told is. rebuilt_on q ((now v a).written q).applied report (told is))
-  says_kept from to _ = λ says. says
+  says_kept from to body = grind (arith, by_master, transfer_rebuilds, rebuilt, now, rebuilt_on)
 
   -- each message says of the row what it said
   pub says_here : EachIn (λ n m. SaysIn (now v a) a.row m.from m.to m.body) v.wire

@@ -1,22 +1,28 @@
 -- A rebuild merges what it gathered: what is known of its row and its own entries, what changes at its master, and what stays as it was.
-use Rattle.std.proofs.Common.{◌≡◌, ℕ, suc, ◌+◌, ◌≤◌, ◌⊎◌, max, true, false, List, [], ◌∷◌, ◌++◌, length, Some, None, refl, sym, ap, ◌∙◌}
-use Rattle.std.proofs.Common.{subst, ⊎_elim, inl, arith, fold, length-append, All, drop, slice_get, Contains, flat_map}
-use Rattle.rk_inv_base.proofs.Words.{cases_Bool, false≢true, length-map, All-contains, Member, Range, Entry, Handover, Role, lineage_of}
-use Rattle.rk_inv_base.proofs.Words.{Phase, Rebuilding, Row, is_marked, unmarked_from, as_entries, counting, counts, material_of, named_by}
-use Rattle.rk_inv_base.proofs.Words.{side_entries, with_number, own_place, Written, lineage_rest, member_material, member_rest, Mark}
-use Rattle.rk_inv_base.proofs.Words.{Merged, Holds, bond_of, post_of, IsOfRange, MarkFits, RowIsRebuilt, closing_carried, has_merged, View}
-use Rattle.rk_inv_base.proofs.Words.{truths, rests, SoundView, Tablet, completions_from, false_from_ne_true}
+use Rattle.std.proofs.Common.{◌≡◌, ℕ, suc, ◌+◌, ◌≤◌, true, false, List, [], ◌∷◌, ◌++◌, length, Some, None, refl, sym, ap, ◌∙◌}
+use Rattle.std.proofs.Common.{inl, arith, fold, length-append, All, drop, slice_get, Contains, flat_map, subst, ◌&&◌}
+use Rattle.std.proofs.Common.{append_assoc, ◌==◌, nat_lt, le-ltb, ne_eqb, append-nil}
+use Rattle.rk_inv_base.proofs.Words.{false≢true, length-map, All-contains, Member, Range, Entry, Handover, Role, lineage_of}
+use Rattle.rk_inv_base.proofs.Words.{Rebuilding, Row, is_marked, unmarked_from, as_entries, counting, counts, material_of, named_by}
+use Rattle.rk_inv_base.proofs.Words.{side_entries, with_number, own_place, Written, member_material, member_rest, Mark}
+use Rattle.rk_inv_base.proofs.Words.{Merged, Holds, bond_of, post_of, IsOfRange, RowIsRebuilt, closing_carried, has_merged, View}
+use Rattle.rk_inv_base.proofs.Words.{truths, rests, SoundView, Tablet, completions_from, false_from_ne_true, Phase, and_left, and_right}
+use Rattle.rk_inv_base.proofs.Words.{cond-false, All-weaker, filter-append, Log, with_entry, EntryEnd, NeededOf, given_up_marks}
+use Rattle.rk_inv_base.proofs.Words.{marked_entries, member_given_up, stored_count, cases_eq, is_absent, is_side_stored, All-nil}
 use Rattle.rk_inv_tablets.proofs.Words.{member as member_at, put_by, put2_by, put2_here, put2_other, applied_within, place_of}
 use Rattle.rk_inv_tablets.proofs.Words.{IsRebuilderIn, LooksAs, looks_same, MayMergeFormed, as_merged, merge_in, merged_view, own_entries}
-use Rattle.rk_inv_tablets.proofs.Words.{piece_entries, piece_mark, with_piece, row_in, SoundRow}
-use Rattle.rk_entry.specs.declared.entry.Entry.TheVariants as entries
-use Rattle.rk_transfer.specs.declared.role.Role.TheVariants as roles
+use Rattle.rk_inv_tablets.proofs.Words.{piece_entries, piece_mark, with_piece, row_in, SoundRow, put_other, same_number, stored_push}
+use Rattle.rk_inv_tablets.proofs.Words.{kept_within, with_entries, marked_none}
 use Rattle.rk_inv_tablets.proofs.crash.MarkedPieces.{HasMark, mark_of}
 use Rattle.rk_inv_tablets.proofs.crash.PieceRows.{marked_names_none, marked_of_row}
 use Rattle.rk_inv_tablets.proofs.merge.Heirs.{at_term, gathering_rebuilds, gathers_from, merged_goes_on}
-use Rattle.rk_inv_tablets.proofs.merge.OfRange.{Counts, material_counts, piece_inside}
-use Rattle.rk_inv_tablets.proofs.merge.Pieces.{free_counting, free_names, from_piece}
+use Rattle.rk_inv_tablets.proofs.merge.OfRange.{Counts, material_counts, piece_inside, segments_none}
+use Rattle.rk_inv_tablets.proofs.merge.Pieces.{free_counting, free_names, from_piece, marked_from_more}
 use Rattle.rk_inv_tablets.proofs.grow.Turned.{IsTurned}
+use Rattle.rk_inv_tablets.proofs.grow.Grown.{Growing}
+use Rattle.rk_inv_tablets.proofs.merge.LogsMore.{logs_more}
+use Rattle.rk_inv_tablets.proofs.grow.MoreLog.{more_piece, more_itself, HasMore, rest_by}
+use Rattle.rk_transfer.specs.declared.role.Role.TheVariants as roles
 
 -- a merge that a master may make for a row, in a sound view
 pub record Merging (v : View) : Type 0 where
@@ -28,10 +34,7 @@ pub record Merging (v : View) : Type 0 where
 
 -- a piece has one entry more than there are copies
 pub piece_length : (handover : Handover) (merged : Merged) → length (piece_entries handover merged) ≡ suc (length merged.copies)
-piece_length handover merged =
-    let all = length-append (as_entries merged.copies) (closing_carried handover merged ∷ []) in
-    let copies = length-map merged.copies entries.Held in
-    omega (arith, all, copies)
+piece_length handover merged = grind (arith, length-append, as_entries, closing_carried, length-map)
 
 module _ (v : View) (a : Merging v) where
   -- what the master has of the tablet, and what it merges
@@ -84,22 +87,7 @@ module _ (v : View) (a : Merging v) where
 
   -- that it has, and all others have what they had
   pub turned : IsTurned v now a.master a.row.tablet tablet
-  turned = record {
-    here = λ q r at its i. record {
-      handover = put2_here v.handovers a.master a.row.tablet new q r at its i;
-      completions = put2_here v.completions a.master a.row.tablet (completions_from [] merged.ends) q r at its i;
-      pulling = v.pullings (at i) (its i);
-      gather = v.gathers (at i) (its i);
-      merged_ends = put2_here v.merged a.master a.row.tablet merged.ends q r at its i;
-    };
-    apart = λ q r apart i. record {
-      handover = put2_other v.handovers a.master a.row.tablet new q r apart i;
-      completions = put2_other v.completions a.master a.row.tablet (completions_from [] merged.ends) q r apart i;
-      pulling = v.pullings q r;
-      gather = v.gathers q r;
-      merged_ends = put2_other v.merged a.master a.row.tablet merged.ends q r apart i;
-    };
-  }
+  turned = grind (arith, put2_here, completions_from, put2_other)
 
   -- what is applied stands in the log
   pub within : (q : ℕ) → (v.written q).applied ≤ length (v.written q).entries
@@ -132,14 +120,15 @@ module _ (v : View) (a : Merging v) where
   pub term_is : old.term ≡ a.row.term
   term_is = at_term a.row.term old.term (v.written a.master).applied gathers.0 (post_of a.row.phase a.master) fit
 
+  -- what holds of it while it is rebuilt
+  pub rebuilt_row : RowIsRebuilt a.row (Rebuilding rebuilt.0 a.master) (truths v a.row) v.logs v.written v.stored v.handovers v.completions v.gathers v.merged v.records v.live
+  rebuilt_row =
+      subst (λ (phase : Phase). RowIsRebuilt a.row phase (truths v a.row) v.logs v.written v.stored v.handovers v.completions v.gathers v.merged v.records v.live)
+      rebuilt.1 row_was.rebuilt
+
   -- as one that rebuilds
   pub rebuilder : IsRebuilderIn v.logs v.written v.stored a.row rebuilt.0 a.master (truths v a.row) old (v.completions a.master a.row.tablet) (v.gathers a.master a.row.tablet) (v.merged a.master a.row.tablet) (v.records a.master)
-  rebuilder =
-      let fits =
-      subst (λ (phase : Phase). RowIsRebuilt a.row phase (truths v a.row) v.logs v.written v.stored v.handovers v.completions v.gathers v.merged v.records v.live)
-      rebuilt.1
-      row_was.rebuilt in
-      fits.0 term_is
+  rebuilder = rebuilt_row.0 term_is
 
   -- its range is not empty
   pub some : a.row.range.first ≤ a.row.range.last
@@ -149,13 +138,7 @@ module _ (v : View) (a : Merging v) where
 
   -- none is of the row
   pub unmarked : (m : Mark) → Contains (v.written a.master).marks m → m.tablet ≡ a.row.tablet → ⊥
-  unmarked m stands its =
-      let fits : MarkFits a.row a.master old (v.live a.master) (v.written a.master) m =
-      All-contains (λ m. m.tablet ≡ a.row.tablet → MarkFits a.row a.master old (v.live a.master) (v.written a.master) m)
-      (v.written a.master).marks m
-      (row_was.marks a.master) stands its in
-      let by = fits.by_rebuilder (fits.present a.may.may.lives) in
-      false≢true (sym (ap has_merged gathers.1) ∙ by.2)
+  unmarked m stands its = grind (arith, row_was, false≢true, has_merged, gathers)
 
   -- so no marked entry counts for the row
   uncounted : (place : ℕ) (e : Entry) → slice_get (v.written a.master).entries place ≡ Some e → is_marked (v.written a.master).marks place ≡ true → counts a.row.range e ≡ false
@@ -205,11 +188,7 @@ module _ (v : View) (a : Merging v) where
 
   -- the entries without a mark are those that there were
   pub free_same : (q from : ℕ) → unmarked_from (now.written q).marks from (now.written q).entries ≡ unmarked_from (v.written q).marks from (v.written q).entries
-  free_same q from =
-      of_written (λ (w : Written). unmarked_from w.marks from w.entries ≡ unmarked_from (v.written q).marks from (v.written q).entries) q
-      (λ at.
-      from_piece (v.written q).marks mark from (v.written q).entries piece (ap (λ (n : ℕ). length (v.written n).entries) at) (omega (arith, past_is)))
-      (λ apart. refl)
+  free_same q from = grind (arith, of_written, unmarked_from, from_piece, past_is)
 
   pub sides_same : (q : ℕ) → (now.written q).sides ≡ (v.written q).sides
   sides_same q = of_written (λ (w : Written). w.sides ≡ (v.written q).sides) q (λ at. refl) (λ apart. refl)
@@ -222,19 +201,11 @@ module _ (v : View) (a : Merging v) where
   material_same range member = (λ i. material_of range (side_entries (sides_same member.master i)) (free_same member.master member.from i))
 
   pub rest_same : (range : Range) (member : Member) → member_rest now.written range member ≡ member_rest v.written range member
-  rest_same range member =
-      ap (λ (n : ℕ). counting range (unmarked_from (now.written member.master).marks (max member.from n) (now.written member.master).entries))
-      (applied_same member.master)
-      ∙ ap (counting range) (free_same member.master (max member.from (v.written member.master).applied))
+  rest_same range member = grind (arith, counting, unmarked_from, applied_same, free_same)
 
   -- rests of all rows are as before
-  lineage_same : (range : Range) (members : List Member) → lineage_rest now.written range members ≡ lineage_rest v.written range members
-  lineage_same range [] = refl
-  lineage_same range (member ∷ []) = rest_same range member
-  lineage_same range (member ∷ next ∷ more) = lineage_same range (next ∷ more)
-
   pub rests_same : ◌≡◌ {A = Row → List Entry} (rests now) (rests v)
-  rests_same i x = lineage_same x.range (lineage_of x.phase) i
+  rests_same i x = rest_by v.written now.written x.range (lineage_of x.phase) (rest_same x.range) i
 
   -- ---- how tablets look
 
@@ -263,3 +234,95 @@ module _ (v : View) (a : Merging v) where
   by_role f same q r =
       of_handover (λ (h : Handover). f h.role ≡ f (v.handovers q r).role) q r
       (λ at its. ap f (new_role (v.handovers q r) (role_is q r at its)) ∙ same ∙ sym (ap f (role_is q r at its))) (λ apart. refl)
+
+-- a backup stores as many first entries of a log with more
+pub stored_more : (log : Log) (list : List Entry) (stored : ℕ → List ℕ) → stored_count log stored ≤ stored_count (with_entries log list) stored
+stored_more log [] stored =
+    subst (λ (all : Log). stored_count log stored ≤ stored_count all stored) (λ i. record log { entries = sym (append-nil log.entries) i }) (omega arith)
+stored_more log (entry ∷ list) stored =
+    let one = stored_push log entry stored in
+    let rest = stored_more (with_entry log entry) list stored in
+    subst (λ (all : Log). stored_count log stored ≤ stored_count all stored) (λ i. record log { entries = append_assoc log.entries (entry ∷ []) list i })
+    (omega (arith, one, rest))
+
+module _ (v : View) (a : Merging v) where
+  -- ---- what is needed of others
+
+  -- no mark of a rebuild that was given up is new
+  given_up_same : (x : Row) → Contains v.rows x → given_up_marks x ((v.written a.master).marks ++ mark v a ∷ []) ≡ given_up_marks x (v.written a.master).marks
+  given_up_same x has =
+      grind (arith, nat_lt, same_number, term_is, and_right, le-ltb, and_left, ne_eqb, cases_eq, filter-append, cond-false, append-nil)
+
+  -- nor is anything that they count
+  gave_up_same : (x : Row) → Contains v.rows x → (first : Member) → member_given_up (now v a).written x first ≡ member_given_up v.written x first
+  gave_up_same x has first =
+      of_written v a
+      (λ (w : Written). counting x.range (marked_entries (given_up_marks x w.marks) first.from (drop first.from w.entries)) ≡ member_given_up v.written x first)
+      first.master
+      (λ at.
+      let w : Written = v.written first.master in
+      let kept : List Mark = given_up_marks x w.marks in
+      let same : given_up_marks x (w.marks ++ mark v a ∷ []) ≡ kept =
+      rw at (given_up_same x has) in
+      ap (λ (marks : List Mark). counting x.range (marked_entries marks first.from (drop first.from (w.entries ++ piece v a)))) same
+      ∙ ap (counting x.range)
+      (marked_from_more kept first.from w.entries (piece v a)
+      (λ k behind.
+      marked_none kept k
+      (All-weaker (λ m. m.past ≤ length w.entries) (λ m. m.past ≤ k) (λ m past. omega (arith, past, behind)) kept
+      (kept_within (λ m. m.tablet == x.tablet && nat_lt m.term x.term) w.marks (length w.entries) (marked v a first.master))))))
+      (λ apart. refl)
+
+  -- so no more is needed of another master
+  pub needed_on : (x : Row) → Contains v.rows x → (lineage : List Member) (q : ℕ) → (q ≡ a.master → ⊥) → (end : EntryEnd) → NeededOf x (now v a).written lineage q end → NeededOf x v.written lineage q end
+  needed_on x has (one ∷ last ∷ []) q away end needed = (
+    needed.0,
+    rw (
+      ← gave_up_same x has one,
+      ← material_same v a x.range one,
+      ← (put_other v.written a.master (with_piece (v.written a.master) (piece v a) (mark v a)) last.master (λ at. away (sym needed.0 ∙ at))),
+    )
+        needed.1,
+  )
+  needed_on x has _ q away end needed = needed
+
+  -- ---- the log
+
+  -- it grows by the piece
+  abbrev pub grow : Growing v
+  grow = record {
+    row = a.row;
+    master = a.master;
+    logs = (now v a).logs;
+    written = (now v a).written;
+    sound = a.sound;
+    has_row = a.has_row;
+    ranges = a.may.ranges;
+    lives = a.may.may.lives;
+    present = ap is_absent (gathers v a).1;
+    ranged = (rebuilder v a).range_is;
+    logs_are =
+        logs_more v a.master (piece v a) (mark v a)
+        (record {
+          few = a.may.may.room;
+          held =
+              All-weaker _ _ (λ e of.
+              subst (All (λ segment. is_side_stored (v.logs a.master) segment ≡ true)) (sym (segments_none a.row.range e of))
+              (All-nil _))
+              (piece v a) (inside v a);
+          past = omega (arith, past_is v a, length-append (v.written a.master).entries (piece v a));
+        }) a.sound.logs;
+    known = λ q.
+        put_by v.logs a.master (λ log. with_entries log (piece v a)) (λ log. log.known ≡ (v.logs q).known) q (λ at. refl) (λ apart. refl);
+    more = λ q.
+        of_written v a (HasMore a.row (v.written q)) q
+        (λ at.
+        more_piece a.row (v.written q) (piece v a) (mark v a) (within v a q) (inside v a) (ap (λ (n : ℕ). length (v.written n).entries) at)
+        (omega (arith, past_is v a)) refl)
+        (λ apart. more_itself a.row (v.written q));
+    others = λ q apart. put_other v.written a.master (with_piece (v.written a.master) (piece v a) (mark v a)) q apart;
+    stored = λ q stored.
+        put_by v.logs a.master (λ log. with_entries log (piece v a)) (λ log. stored_count (v.logs q) stored ≤ stored_count log stored) q
+        (λ at. stored_more (v.logs q) (piece v a) stored) (λ apart. omega arith);
+    needed = needed_on;
+  }

@@ -1,11 +1,11 @@
 -- What the entries of a rebuild of one range are to another one, and that what a rebuild merges is of its range.
 use Rattle.std.proofs.Common.{◌≡◌, ℕ, Bool, true, false, cond, List, [], ◌∷◌, filter, map, refl, sym, subst, ◌==◌, not, All, Contains}
 use Rattle.std.proofs.Common.{flat_map}
-use Rattle.rk_inv_base.proofs.Words.{cond_both, or_from, All-append, All-cons, All-contains, All-filter, All-head, All-map, All-nil}
-use Rattle.rk_inv_base.proofs.Words.{All-tail, All-weaker, list_any, meets, Held, Range, Entry, is_in, Handover, newest_is}
+use Rattle.rk_inv_base.proofs.Words.{cond_both, All-append, All-cons, All-contains, All-filter, All-head, All-map, All-nil}
+use Rattle.rk_inv_base.proofs.Words.{All-tail, All-weaker, meets, Held, Range, Entry, is_in, Handover, newest_is}
 use Rattle.rk_inv_base.proofs.Words.{newest_items_are, newest_items, items_in, items_of, Gather, Gathered, by_member, counted_of}
 use Rattle.rk_inv_base.proofs.Words.{is_of_lineage, material_by, side_read, touches, as_entries, counting, counts, is_joined_in}
-use Rattle.rk_inv_base.proofs.Words.{material_of, named, has_version, merge, segments_in, IsOfRange}
+use Rattle.rk_inv_base.proofs.Words.{material_of, named, has_version, merge, segments_in, IsOfRange, named_by}
 use Rattle.rk_inv_tablets.proofs.Words.{main_entries, piece_entries, key_outside, kept_stands, all_by, all_flat}
 use Rattle.rk_entry.specs.declared.entry.Entry.TheVariants as entries
 
@@ -15,6 +15,10 @@ use Rattle.rk_entry.specs.declared.entry.Entry.TheVariants as entries
 pub segments_none : (a : Range) (e : Entry) → IsOfRange a e → segments_in e ≡ []
 segments_none a (entries.Joined joined) of = absurd of
 segments_none a _ of = refl
+
+pub names_none : (a b : Range) (e : Entry) → IsOfRange a e → named_by b e ≡ []
+names_none a b (entries.Joined joined) of = absurd of
+names_none a b _ of = refl
 
 -- and is no Joined
 pub joins_none : (a b : Range) (e : Entry) → IsOfRange a e → is_joined_in b e ≡ false
@@ -55,27 +59,31 @@ items_inside range (entry ∷ list) each =
 
 -- ---- what is merged
 
--- all that is merged counts for the range of the gather
+-- what holds of each own entry, and of each that counts of what was gathered, holds of all that is merged
+pub by_member_all : (P : Entry → Type 0) (gather : Gather) (own : List Entry) → All P own → All (λ gathered. All P (counted_of gather.range gathered)) gather.members → All P (flat_map (λ list. list) (by_member gather own))
+by_member_all P gather own mine each =
+    let groups : List (List Entry) = map (λ member. material_by gather own member.master) gather.lineage in
+    all_flat P (λ list. list) (by_member gather own)
+    (All-append (All P) groups (cond (is_of_lineage gather) [] (own ∷ []))
+    (All-map (All P) (λ member. material_by gather own member.master) gather.lineage (all_by _ gather.lineage (λ member at. by member.master)))
+    (cond_both (is_of_lineage gather) [] (own ∷ []) (All (All P)) (λ e. All-nil (All P)) (λ e. All-cons (All P) own [] mine (All-nil (All P)))))
+  where
+    by : (master : ℕ) → All P (material_by gather own master)
+    by master =
+        let here : Gathered → Bool = λ gathered. gathered.member.master == master in
+        cond_both (master == gather.own) own (flat_map (counted_of gather.range) (filter here gather.members)) (All P) (λ e. mine)
+        (λ e.
+        all_flat P (counted_of gather.range) (filter here gather.members)
+        (All-filter here (λ gathered. All P (counted_of gather.range gathered)) gather.members each))
+
+-- so all that is merged counts for the range of the gather
 pub read_counts : (gather : Gather) (own : List Entry) → All (Counts gather.range) own → All (Counts gather.range) (flat_map (λ list. list) (by_member gather own))
 read_counts gather own mine =
-    let Each : List Entry → Type 0 = All (Counts gather.range) in
-    let groups : List (List Entry) = map (λ member. material_by gather own member.master) gather.lineage in
-    all_flat (Counts gather.range) (λ list. list) (by_member gather own)
-    (All-append Each groups (cond (is_of_lineage gather) [] (own ∷ []))
-    (All-map Each (λ member. material_by gather own member.master) gather.lineage
-    (all_by _ gather.lineage (λ member at. by member.master)))
-    (cond_both (is_of_lineage gather) [] (own ∷ []) (All Each) (λ e. All-nil Each) (λ e. All-cons Each own [] mine (All-nil Each))))
-  where
-    by : (master : ℕ) → All (Counts gather.range) (material_by gather own master)
-    by master =
-        let read : List Gathered = filter (λ gathered. gathered.member.master == master) gather.members in
-        cond_both (master == gather.own) own (flat_map (counted_of gather.range) read) (All (Counts gather.range)) (λ e. mine)
-        (λ e.
-        all_flat (Counts gather.range) (counted_of gather.range) read
-        (all_by _ read (λ gathered at. material_counts gather.range (side_read gathered) (main_entries gathered))))
+    by_member_all (Counts gather.range) gather own mine
+    (all_by _ gather.members (λ gathered at. material_counts gather.range (side_read gathered) (main_entries gathered)))
 
 -- the newest items are items
-newest_stand : (items : List Held) → All (Contains items) (newest_items items)
+pub newest_stand : (items : List Held) → All (Contains items) (newest_items items)
 newest_stand items =
     all_by (Contains items) (newest_items items)
     (λ item at. (newest_is items item.table item.key item (((newest_items_are items).newest item).0 at)).stands)

@@ -1,11 +1,12 @@
 -- A piece that is appended to a log, and bears a mark: it is not seen where marked entries are left out.
 use Rattle.std.proofs.Common.{◌≡◌, ℕ, zero, suc, ◌+◌, ◌≤◌, ◌<◌, Bool, true, false, ◌&&◌, ◌||◌, cond, leb, ltb, List, [], ◌∷◌, ◌++◌, length}
-use Rattle.std.proofs.Common.{All, Some, refl, sym, ap, ◌∙◌, ⊎_elim, arith, filter, length-drop, length-take, drop, take, slice_get}
-use Rattle.std.proofs.Common.{flat_map, le-leb, le-ltb, lt-ltb}
-use Rattle.rk_inv_base.proofs.Words.{cases_lt, cond-false, cond-true, cond_both, and_left, and_right, or_from, or_left, or_parts, or_right}
-use Rattle.rk_inv_base.proofs.Words.{drop-append-le, take-append-le, All-head, All-tail, list_any, Range, Entry, is_marked, unmarked}
+use Rattle.std.proofs.Common.{Some, refl, sym, ap, ◌∙◌, ⊎_elim, arith, filter, length-drop, length-take, drop, take, slice_get}
+use Rattle.std.proofs.Common.{flat_map, le-leb, lt-ltb, take_all, ◌-◌}
+use Rattle.rk_inv_base.proofs.Words.{cases_lt, cond-false, cond-true, cond_both, and_left, or_from, or_left, or_parts, or_right}
+use Rattle.rk_inv_base.proofs.Words.{drop-append-le, take-append-le, list_any, Range, Entry, is_marked, unmarked}
 use Rattle.rk_inv_base.proofs.Words.{unmarked_from, counting, counts, named_by, Mark, marked_entries}
 use Rattle.rk_inv_tablets.proofs.Words.{drop_all, lt-leb}
+use Rattle.std.proofs.Math.Seq.{drop-append-add, take-append-add}
 
 -- ---- one more mark
 
@@ -53,10 +54,9 @@ unmarked_piece marks mark place (entry ∷ list) piece first past =
 
 -- what is behind a place of entries with more, where that is behind the first ones
 pub drop_past : {X : Type 0} (from : ℕ) (xs ys : List X) → length xs ≤ from → (n : ℕ) × (from ≡ length xs + n) × (drop from (xs ++ ys) ≡ drop n ys)
-drop_past from [] ys past = (from, omega arith, refl)
-drop_past zero (x ∷ xs) ys past = absurd (omega (arith, past))
-drop_past (suc from) (x ∷ xs) ys past =
-    let later = drop_past from xs ys (omega (arith, past)) in (later.0, omega (arith, later.1), later.2)
+drop_past from xs ys past =
+    let at : from ≡ length xs + (from - length xs) = omega (arith, past) in
+    (from - length xs, at, ap (λ (n : ℕ). drop n (xs ++ ys)) at ∙ drop-append-add xs ys (from - length xs))
 
 -- so of what stands from a place on nothing more is without a mark
 pub from_piece : (marks : List Mark) (mark : Mark) (from : ℕ) (list piece : List Entry) → length list ≡ mark.first → mark.first + length piece ≤ mark.past → unmarked_from (marks ++ mark ∷ []) from (list ++ piece) ≡ unmarked_from marks from list
@@ -81,28 +81,13 @@ from_piece marks mark from list piece first past =
 
 -- the first entries have as many without a mark as before
 pub from_front : (marks : List Mark) (mark : Mark) (from : ℕ) (list : List Entry) → length list ≤ mark.first → unmarked_from (marks ++ mark ∷ []) from list ≡ unmarked_from marks from list
-from_front marks mark from list within =
-    ⊎_elim
-    (λ (inside : from < length list).
-    let size = length-drop from list in
-    unmarked_before marks mark from (drop from list) (omega (arith, size, inside, within)))
-    (λ (beyond : length list ≤ from).
-    ap (unmarked (marks ++ mark ∷ []) from) (drop_all from list beyond) ∙ sym (ap (unmarked marks from) (drop_all from list beyond)))
-    (cases_lt from (length list))
+from_front marks mark from list within = grind (arith, length-drop, unmarked_before, unmarked, drop_all, cases_lt)
 
 -- the first ones of entries with more, where that are all of the first part and some of the other
 pub take_past : {X : Type 0} (n : ℕ) (xs ys : List X) → length xs ≤ n → (k : ℕ) × (take n (xs ++ ys) ≡ xs ++ take k ys)
-take_past n [] ys past = (n, refl)
-take_past zero (x ∷ xs) ys past = absurd (omega (arith, past))
-take_past {X} (suc n) (x ∷ xs) ys past =
-    let later = take_past n xs ys (omega (arith, past)) in (later.0, ap (λ (rest : List X). x ∷ rest) later.1)
-
--- all of them
-pub take_whole : {X : Type 0} (n : ℕ) (xs : List X) → length xs ≤ n → take n xs ≡ xs
-take_whole zero [] past = refl
-take_whole (suc n) [] past = refl
-take_whole zero (x ∷ xs) past = absurd (omega (arith, past))
-take_whole {X} (suc n) (x ∷ xs) past = ap (λ (rest : List X). x ∷ rest) (take_whole n xs (omega (arith, past)))
+take_past n xs ys past =
+    let at : n ≡ length xs + (n - length xs) = omega (arith, past) in
+    (n - length xs, ap (λ (k : ℕ). take k (xs ++ ys)) at ∙ take-append-add xs ys (n - length xs))
 
 -- nor of the first ones of that
 pub from_taken : (marks : List Mark) (mark : Mark) (from n : ℕ) (list piece : List Entry) → length list ≡ mark.first → mark.first + length piece ≤ mark.past → unmarked_from (marks ++ mark ∷ []) from (take n (list ++ piece)) ≡ unmarked_from marks from (take n list)
@@ -117,7 +102,7 @@ from_taken marks mark from n list piece first past =
     let size = length-take there.0 piece in
     ap (unmarked_from (marks ++ mark ∷ []) from) there.1
     ∙ from_piece marks mark from list (take there.0 piece) first (omega (arith, size, past))
-    ∙ sym (ap (unmarked_from marks from) (take_whole n list beyond)))
+    ∙ sym (ap (unmarked_from marks from) (take_all n list beyond)))
     (cases_lt n (length list))
 
 -- ---- marked entries
@@ -138,15 +123,7 @@ marked_more marks place (entry ∷ list) more none =
 
 pub marked_from_more : (marks : List Mark) (from : ℕ) (list more : List Entry) → ((k : ℕ) → length list ≤ k → is_marked marks k ≡ false) → marked_entries marks from (drop from (list ++ more)) ≡ marked_entries marks from (drop from list)
 marked_from_more marks from list more none =
-    ⊎_elim
-    (λ (within : from < length list).
-    let size = length-drop from list in
-    ap (marked_entries marks from) (drop-append-le from list more (omega (arith, within)))
-    ∙ marked_more marks from (drop from list) more (λ k behind. none k (omega (arith, behind, size, within))))
-    (λ (beyond : length list ≤ from).
-    marked_behind marks from (drop from (list ++ more)) (λ k behind. none k (omega (arith, behind, beyond)))
-    ∙ sym (ap (marked_entries marks from) (drop_all from list beyond)))
-    (cases_lt from (length list))
+    grind (arith, length-drop, marked_entries, drop-append-le, marked_more, marked_behind, drop_all, cases_lt)
 
 -- ---- what marked entries do not count, all do not
 
@@ -178,6 +155,14 @@ free_names range marks place (entry ∷ list) none =
     ap (λ (numbers : List ℕ). numbers ++ flat_map (named_by range) list) (none 0 entry refl (ap (is_marked marks) same ∙ marked)) ∙ later)
     (λ free. ap (λ (numbers : List ℕ). named_by range entry ++ numbers) later)
 
+-- ---- lists of which none passes a test
+
+pub none_filtered : {X : Type 0} (p t : X → Bool) → ((x : X) → t x ≡ false → p x ≡ false) → (xs : List X) → list_any t xs ≡ false → filter p xs ≡ []
+none_filtered p t weaker [] none = refl
+none_filtered p t weaker (x ∷ xs) none =
+    let parts = or_parts (t x) (list_any t xs) none in
+    cond-false (p x) (x ∷ filter p xs) (filter p xs) (weaker x parts.0) ∙ none_filtered p t weaker xs parts.1
+
 -- ---- lists with more at their end
 
 -- where nothing passes behind a place, nor of what is appended, nothing does
@@ -196,13 +181,7 @@ none_more p (suc from) (x ∷ xs) ys none more = none_more p from xs ys none mor
 
 -- where none of what is appended passes, what passes behind a place is what did
 pub kept_more : {X : Type 0} (p : X → Bool) (from : ℕ) (xs ys : List X) → list_any p ys ≡ false → filter p (drop from (xs ++ ys)) ≡ filter p (drop from xs)
-kept_more p zero [] ys none = kept_none p ys none
-  where
-    kept_none : {X : Type 0} (p : X → Bool) (ys : List X) → list_any p ys ≡ false → filter p ys ≡ []
-    kept_none p [] none = refl
-    kept_none p (y ∷ ys) none =
-        let parts = or_parts (p y) (list_any p ys) none in
-        cond-false (p y) (y ∷ filter p ys) (filter p ys) parts.0 ∙ kept_none p ys parts.1
+kept_more p zero [] ys none = none_filtered p p (λ x fails. fails) ys none
 kept_more {X} p zero (x ∷ xs) ys none = ap (λ (rest : List X). cond (p x) (x ∷ rest) rest) (kept_more p zero xs ys none)
 kept_more p (suc from) [] [] none = refl
 kept_more {X} p (suc from) [] (y ∷ ys) none =
@@ -213,8 +192,3 @@ pub at_front : {X : Type 0} (xs ys : List X) (k : ℕ) (x : X) → k < length xs
 at_front [] ys k x less at = absurd (omega (arith, less))
 at_front (y ∷ xs) ys zero x less at = at
 at_front (y ∷ xs) ys (suc k) x less at = at_front xs ys k x (omega (arith, less)) at
-
--- what is behind the first part is the other one
-pub drop_first : {X : Type 0} (xs ys : List X) → drop (length xs) (xs ++ ys) ≡ ys
-drop_first [] ys = refl
-drop_first (x ∷ xs) ys = drop_first xs ys

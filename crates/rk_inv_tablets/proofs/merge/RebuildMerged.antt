@@ -1,16 +1,16 @@
 -- A lane stays sound when a rebuild merges what it gathered.
-use Rattle.std.proofs.Common.{◌≡◌, ℕ, suc, ◌+◌, true, List, [], ◌∷◌, ◌++◌, length, Option, Some, None, is_some, refl, sym, ap, ◌∙◌, subst}
-use Rattle.std.proofs.Common.{arith, append_assoc, length-append, ◌==◌, eq-eqb, ne_eqb, append-nil}
-use Rattle.rk_inv_base.proofs.Words.{cond-false, cond-true, length-map, filter-append, Entry, number_of, row_of, Row, Ledger, marks_of}
-use Rattle.rk_inv_base.proofs.Words.{with_marks, Master, with_all, with_appended, with_tablet, as_entries, with_merged, is_absent, Tablet}
-use Rattle.rk_inv_base.proofs.Words.{World, master_at, tablet_in, with_ledger, with_master, written_by, Mark, Merged, closing_carried, put}
-use Rattle.rk_inv_base.proofs.Words.{put2, view, IsSound, SoundView}
+use Rattle.std.proofs.Common.{◌≡◌, ℕ, suc, ◌+◌, List, [], ◌∷◌, ◌++◌, length, refl, sym, ap, ◌∙◌, subst, arith, append_assoc, length-append}
+use Rattle.std.proofs.Common.{◌==◌, eq-eqb, ne_eqb, append-nil}
+use Rattle.rk_inv_base.proofs.Words.{cond-false, cond-true, length-map, filter-append, Entry, number_of, Ledger, marks_of, with_marks}
+use Rattle.rk_inv_base.proofs.Words.{Master, with_all, with_appended, with_tablet, as_entries, with_merged, is_absent, Tablet, World}
+use Rattle.rk_inv_base.proofs.Words.{master_at, tablet_in, with_ledger, with_master, written_by, Mark, Merged, closing_carried, put, put2}
+use Rattle.rk_inv_base.proofs.Words.{view, IsSound, SoundView}
 use Rattle.rk_inv_tablets.proofs.Words.{put_is, put_same, put2_same, master_other, master_same, tablet_apart, tablet_here, found_stands}
 use Rattle.rk_inv_tablets.proofs.Words.{view_master, MayMergeFormed, as_merged, merge_in, merged_view, piece_entries, piece_mark}
 use Rattle.rk_inv_tablets.proofs.Words.{rebuild_merged_in, with_entries, with_piece}
-use Rattle.rk_entry.specs.declared.entry.Entry.TheVariants as entries
 use Rattle.rk_inv_tablets.proofs.merge.Heirs.{gathers_from}
 use Rattle.rk_inv_tablets.proofs.merge.Merged.{view_merged}
+use Rattle.rk_inv_tablets.proofs.crash.MarkedPieces.{row_there}
 
 -- entries that are appended one after the other stand at the end of the log
 pub with_all_is : (master : Master) (list : List Entry) → with_all master list ≡ record master { log = with_entries master.log list }
@@ -67,10 +67,7 @@ module _ (w : World) (master tablet : ℕ) where
 
   -- so many entries stand before the last one
   count : length grown.log.entries ≡ length before.log.entries + length made.copies
-  count =
-      let all = length-append before.log.entries copies in
-      let each = length-map made.copies entries.Held in
-      omega (arith, all, each)
+  count = grind (arith, length-append, length-map)
 
   module _ (numbered : (master_at w master).number ≡ master) where
     abbrev mark : Mark
@@ -136,17 +133,13 @@ module _ (w : World) (master tablet : ℕ) where
 pub sound_merged : (w : World) (master tablet : ℕ) → IsSound w → MayMergeFormed (view w) master tablet → IsSound (rebuild_merged_in w master tablet)
 sound_merged w master tablet sound may =
     let role = gathers_from ((view w).handovers master tablet).role may.may.gathering in
-    at (row_of (view w).rows tablet) refl (sound.roles.known master tablet may.may.lives (ap is_absent role.1))
-  where
-    at : (found : Option Row) → row_of (view w).rows tablet ≡ found → is_some found ≡ true → IsSound (rebuild_merged_in w master tablet)
-    at None found some = absurd (cc)
-    at (Some row) found some =
-        let number_is : row.tablet ≡ tablet = number_of (view w).rows tablet row found in
-        rw (← number_is) (subst SoundView (sym (merged_is w master row.tablet (sound.nodes.numbered master)))
-        (view_merged (view w) (record {
-          row = row;
-          master = master;
-          sound = sound;
-          has_row = found_stands (view w).rows tablet row found;
-          may = rw number_is may;
-        })))
+    let found = row_there (view w).rows tablet (sound.roles.known master tablet may.may.lives (ap is_absent role.1)) in
+    let number_is : found.0.tablet ≡ tablet = number_of (view w).rows tablet found.0 found.1 in
+    rw (← number_is) (subst SoundView (sym (merged_is w master found.0.tablet (sound.nodes.numbered master)))
+    (view_merged (view w) (record {
+      row = found.0;
+      master = master;
+      sound = sound;
+      has_row = found_stands (view w).rows tablet found.0 found.1;
+      may = rw number_is may;
+    })))

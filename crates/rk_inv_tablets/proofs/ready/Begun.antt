@@ -1,13 +1,13 @@
 -- A lane stays sound when a master begins to rebuild a tablet: it gives up each other tablet there, and outside the lineage it drops its
 -- items of the range; nothing is gathered so far.
-use Rattle.std.proofs.Common.{◌≡◌, ℕ, ◌<◌, Bool, true, false, List, [], ◌∷◌, Option, Some, None, cond, length, map, refl, sym, ap, ◌∙◌}
-use Rattle.std.proofs.Common.{subst, ⊎_elim, ◌⊎◌, inr, arith, ◌==◌, ◌||◌, filter, is_some, nat_lt, not, slice_index_or, Contains, lt-ltb}
+use Rattle.std.proofs.Common.{◌≡◌, ℕ, ◌<◌, Bool, true, false, List, [], ◌∷◌, Option, Some, None, cond, map, refl, sym, ap, ◌∙◌}
+use Rattle.std.proofs.Common.{subst, ⊎_elim, ◌⊎◌, arith, ◌==◌, ◌||◌, filter, is_some, nat_lt, not, slice_index_or, Contains, lt-ltb}
 use Rattle.rk_inv_base.proofs.Words.{cases_eq, cond-true, false≢true, drop_all, All-cons, All-nil, Contains-get_or, meets, Held, Member}
-use Rattle.rk_inv_base.proofs.Words.{Range, Entry, order_without, Handover, lineage_of, row_of, Phase, Rebuilding, Row, Known, known_of}
+use Rattle.rk_inv_base.proofs.Words.{Range, order_without, Handover, lineage_of, row_of, Phase, Rebuilding, Row, Known, known_of}
 use Rattle.rk_inv_base.proofs.Words.{EntryEnd, Rebuild, with_others_given_up, is_member, own_member, unmarked, Master, tablet_at}
 use Rattle.rk_inv_base.proofs.Words.{with_tablet, material_of, side_entries, begun_from, rebuild_begun, with_begun, without_foreign, Tablet}
 use Rattle.rk_inv_base.proofs.Words.{World, master_at, tablet_in, with_master, member_material, IsWithinRows, stored_of, IsGathered}
-use Rattle.rk_inv_base.proofs.Words.{NeededOf, READ_BACKUP, AreApart, IsFormed, HandoverFits, View, truths, view, IsSound, SoundView}
+use Rattle.rk_inv_base.proofs.Words.{NeededOf, READ_BACKUP, IsFormed, HandoverFits, View, truths, view, IsSound, SoundView}
 use Rattle.rk_inv_tablets.proofs.Words.{rebuilt as handover_rebuilt, member as member_at, unread, MayBegin, same_number, covered_by, stays}
 use Rattle.rk_inv_tablets.proofs.Words.{stood, IsRebuilderIn, rows_apart, stands_found, as_begun, as_rebuilding, begins_from, begun}
 use Rattle.rk_inv_tablets.proofs.Words.{begun_tablets, items_left, rebuild_begun_in, tablet_seen, row_in}
@@ -22,12 +22,7 @@ use Rattle.rk_inv_tablets.proofs.ready.Yielding.{AreLeft, Yields, YieldsBeside}
 
 -- nothing was read of a member so far
 unread_one : (Needed : EntryEnd → Type 0) (known : Known) (stored : ℕ → List ℕ) (member : Member) → IsGathered Needed known stored (unread member)
-unread_one Needed known stored member = record {
-  main = λ place within. absurd (omega (arith, within));
-  passed = λ read. absurd (false≢true read);
-  passed_needed = λ read. absurd (false≢true read);
-  sides = λ segment entries found. absurd (cc found);
-}
+unread_one Needed known stored member = grind (arith, false≢true)
 
 unread_all : (Needed : ℕ → EntryEnd → Type 0) (known : ℕ → Known) (stored : ℕ → ℕ → List ℕ) (members : List Member) → AreGathered Needed known stored (map unread members)
 unread_all Needed known stored [] =
@@ -100,14 +95,7 @@ module _ (v : View) (row : Row) (master : ℕ) (lineage : List Member) (sound : 
   -- ---- its tablet
 
   beside_row : YieldsBeside row master (v.written master).applied old own.handover
-  beside_row = record {
-    below = below;
-    grows = omega (arith, below);
-    within = omega arith;
-    greater = λ waits. absurd (cc waits);
-    fits = rw (post_is v row master sound has lives below lineage is) begins.fits;
-    kind = inr (record { lineage = lineage; phase_is = is; term_is = refl; range_is = refl; from = place; role_is = refl });
-  }
+  beside_row = grind (arith, post_is, begins)
 
   formed : (x : Row) → Contains v.rows x → HandoverFits x row.tablet own.handover
   formed x there = record {
@@ -124,14 +112,7 @@ module _ (v : View) (row : Row) (master : ℕ) (lineage : List Member) (sound : 
 
   -- outside the lineage it has no entries of its own yet
   none_own : is_member lineage master ≡ false → member_material v.written row.range (member_at master place) ≡ []
-  none_own outside =
-      let none : place ≡ length (v.logs master).entries = ap (begins_from v master) (own_none lineage master outside) in
-      let same : length (v.logs master).entries ≡ length (v.written master).entries =
-      ap (λ (list : List Entry). length list) (sound.logs.each master).entries_are in
-      ap
-      (λ (list : List Entry).
-      material_of row.range (side_entries (v.written master).sides) (unmarked (v.written master).marks place list))
-      (drop_all place (v.written master).entries (omega (arith, none, same)))
+  none_own outside = grind (arith, begins_from, own_none, material_of, side_entries, unmarked, drop_all)
 
   -- a master rebuilds the row, of this lineage, with what it begins with
   abbrev IsBegun : Row → List Member → Type 0

@@ -1,33 +1,28 @@
 -- Each master that is to rebuild a row, of its lineage or not, may begin to: its place, and the records that it has then.
 use Rattle.std.proofs.Common.{◌≡◌, ℕ, ◌<◌, ◌≤◌, Bool, true, false, List, [], ◌∷◌, Option, Some, None, cond, length, refl, sym, ap, ◌∙◌}
-use Rattle.std.proofs.Common.{subst, ⊎_elim, inl, inr, arith, ◌==◌, ◌||◌, IfSome, drop, max, All, Contains, flat_map, eq-eqb, eqb-true}
-use Rattle.std.proofs.Common.{lt-ltb, ne_eqb}
-use Rattle.rk_inv_base.proofs.Words.{both_ways, cond_both, cond-false, cond-true, false≢true, drop_all, All-contains, Contains-append_cases}
-use Rattle.rk_inv_base.proofs.Words.{Contains-append_left, list_any, get, meets, Held, Member, Range, Entry, without, Handover, Role}
+use Rattle.std.proofs.Common.{subst, ⊎_elim, inl, inr, arith, ◌==◌, ◌||◌, IfSome, drop, max, Contains, flat_map, eq-eqb, eqb-true}
+use Rattle.std.proofs.Common.{lt-ltb}
+use Rattle.rk_inv_base.proofs.Words.{both_ways, cond_both, cond-false, false≢true, drop_all, Contains-append_cases}
+use Rattle.rk_inv_base.proofs.Words.{Contains-append_left, get, meets, Held, Member, Range, Entry, without, Handover, Role}
 use Rattle.rk_inv_base.proofs.Words.{lineage_of, Phase, Rebuilding, Row, items_in, items_of, first_of, is_member, own_member, unmarked_from}
 use Rattle.rk_inv_base.proofs.Words.{touches, counting, counts, is_joined_in, joined_from, log_material, material_of, named, named_by}
-use Rattle.rk_inv_base.proofs.Words.{side_entries, is_receiving, Pulling, Written, applied_entries, lineage_truth, member_truth, Bystander}
-use Rattle.rk_inv_base.proofs.Words.{FirstRebuilder, Holds, InvitedTarget, LastRebuilder, OnlyRebuilder, OutsideRebuilder, Post}
-use Rattle.rk_inv_base.proofs.Words.{ReadyTarget, bond_of, post_of, rebuilder_post, applied_from, HasClosing, IsBare, IsFound, MembersFit}
+use Rattle.rk_inv_base.proofs.Words.{side_entries, is_receiving, Pulling, Written, applied_entries, lineage_truth, member_truth}
+use Rattle.rk_inv_base.proofs.Words.{FirstRebuilder, Holds, LastRebuilder, OnlyRebuilder, Post}
+use Rattle.rk_inv_base.proofs.Words.{bond_of, post_of, rebuilder_post, applied_from, HasClosing, IsBare, IsFound, MembersFit}
 use Rattle.rk_inv_base.proofs.Words.{NamedFit, closing_joined, copied_items, entries_from, is_granted, joined_place, named_items}
-use Rattle.rk_inv_base.proofs.Words.{wanted_place, FirstIsDone, IsDone, OnlyIsUnnamed, AreApart, IsPlaced, HasItems, IsTableOf}
+use Rattle.rk_inv_base.proofs.Words.{wanted_place, FirstIsDone, IsDone, OnlyIsUnnamed, AreApart, HasItems, IsTableOf}
 use Rattle.rk_inv_base.proofs.Words.{has_all_items, View, truths, SoundView}
-use Rattle.rk_inv_tablets.proofs.Words.{contains_cases, truth_in, kept_stands, scanned, stands_kept, IsTargetIn, IsOutside, heir_outside}
-use Rattle.rk_inv_tablets.proofs.Words.{IsHeir, heir_post, behind_first, begins_from, items_left, row_in}
-use Rattle.rk_transfer.specs.declared.role.Role.TheVariants as roles
-use Rattle.rk_inv_tablets.proofs.ready.Left.{none_left}
+use Rattle.rk_inv_tablets.proofs.Words.{truth_in, kept_stands, scanned, stands_kept, IsTargetIn, IsOutside, heir_outside, IsHeir, heir_post}
+use Rattle.rk_inv_tablets.proofs.Words.{behind_first, begins_from, items_left, row_in}
+use Rattle.rk_inv_tablets.proofs.ready.OwnItems.{none_left, flat_from, flat_stands, named_counts, named_from, one_stands, none_stands}
 use Rattle.rk_inv_tablets.proofs.ready.Outside.{rebuilder_is, second_member, only_post, first_post, last_post}
-use Rattle.rk_inv_tablets.proofs.ready.OwnItems.{flat_from, flat_stands, named_counts, named_from}
 use Rattle.rk_inv_tablets.proofs.ready.TakenUp.{IsTakenUp, applied_behind, applied_counts, bare_takes, named_applied, named_of, table_comes}
 use Rattle.rk_inv_tablets.proofs.ready.TakenUp.{table_finds, unmarked_behind}
+use Rattle.rk_transfer.specs.declared.role.Role.TheVariants as roles
 
 -- a master outside the lineage may begin at any place
 foreign_fits : (post : Post) (from term applied : ℕ) → IsOutside post → IsHeir post → Holds (bond_of post (roles.Rebuilding from None)) term term applied
-foreign_fits OutsideRebuilder from term applied outside heir = refl
-foreign_fits InvitedTarget from term applied outside heir = absurd heir
-foreign_fits (ReadyTarget place) from term applied outside heir = absurd heir
-foreign_fits Bystander from term applied outside heir = absurd heir
-foreign_fits _ from term applied outside heir = absurd outside
+foreign_fits post from term applied outside heir = grind arith
 
 module _ (v : View) (row : Row) (master : ℕ) (sound : SoundView v) (has : Contains v.rows row) (lives : v.live master ≡ true) (below : (v.handovers master row.tablet).term < row.term) (lineage : List Member) (is : row.phase ≡ Rebuilding lineage master) where
   abbrev w : Written
@@ -65,10 +60,7 @@ module _ (v : View) (row : Row) (master : ℕ) (sound : SoundView v) (has : Cont
 
   -- what counts of what is applied at the master is the truth of a member that it is
   own_truth : (m : Member) → m.master ≡ master → (item : Held) → Contains (items_of (log_material range w.marks w.sides m.from (applied_entries w))) item → Contains (items_of (member_truth v.written range m)) item
-  own_truth m here item =
-      subst
-      (λ (n : ℕ). Contains (items_of (log_material range (v.written n).marks (v.written n).sides m.from (applied_entries (v.written n)))) item)
-      (sym here)
+  own_truth m here item = grind (arith, items_of, log_material, applied_entries)
 
   -- it has all items of its truth
   table_is : (first : Member) (more : List Member) → lineage ≡ first ∷ more → has_all_items (rebuilder_post lineage master) old row.term ≡ true → IsTableOf range (member_truth v.written range first) (v.records master)
@@ -180,21 +172,16 @@ module _ (v : View) (row : Row) (master : ℕ) (sound : SoundView v) (has : Cont
     sealed_is (roles.Joining (Some place)) granted closing n named =
         let only : Contains (closing_joined old pulling.sealed ∷ []) named.joined =
         among_joined named.joined named.stands named.joins (closing_joined old pulling.sealed ∷ []) closing.alone in
-        ⊎_elim
-        (λ (same : closing_joined old pulling.sealed ≡ named.joined).
-        (of_closing (meets old.range range) (subst (λ (e : Entry). Contains (named_by range e) n) (sym same) named.names), refl))
-        (λ (none : Contains [] named.joined). absurd (omega (arith, none.1)))
-        (contains_cases (closing_joined old pulling.sealed) [] named.joined only)
+        let same = one_stands (closing_joined old pulling.sealed) named.joined only in
+        (of_closing (meets old.range range) (subst (λ (e : Entry). Contains (named_by range e) n) (sym same) named.names), refl)
       where
         of_closing : (b : Bool) → Contains (cond b pulling.sealed []) n → Contains pulling.sealed n
         of_closing true at = at
         of_closing false at = absurd (omega (arith, at.1))
     sealed_is (roles.Joining None) granted closing n named =
-        let none : Contains [] named.joined = among_joined named.joined named.stands named.joins [] closing in
-        absurd (omega (arith, none.1))
+        absurd (none_stands named.joined (among_joined named.joined named.stands named.joins [] closing))
     sealed_is roles.Receiving granted closing n named =
-        let none : Contains [] named.joined = among_joined named.joined named.stands named.joins [] closing in
-        absurd (omega (arith, none.1))
+        absurd (none_stands named.joined (among_joined named.joined named.stands named.joins [] closing))
     sealed_is role granted closing n named = absurd (cc)
 
     -- what it copied is of these once it pulls no more
@@ -283,13 +270,7 @@ module _ (v : View) (row : Row) (master : ℕ) (sound : SoundView v) (has : Cont
   entries_are = ap (λ (list : List Entry). length list) (sound.logs.each master).entries_are
 
   outside_takes : IsTakenUp v row master (length (v.logs master).entries) (without range (v.records master))
-  outside_takes =
-      bare_takes v row master sound has lives below (length (v.logs master).entries) (without range (v.records master))
-      (record {
-        placed = omega (arith, entries_are);
-        nothing = ap (list_any (touches range)) (drop_all (length (v.logs master).entries) w.entries (omega (arith, entries_are)));
-        empty = none_left range (v.records master);
-      })
+  outside_takes = grind (arith, bare_takes, without, entries_are, touches, drop_all, none_left)
 
   -- ---- each of them
 
@@ -301,49 +282,28 @@ module _ (v : View) (row : Row) (master : ℕ) (sound : SoundView v) (has : Cont
     pub foreign : own ≡ None → is_member lineage master ≡ false
 
   member_placed : (m : Member) → m.master ≡ master → Contains lineage m → m.from ≤ length w.entries
-  member_placed m here member =
-      let all : All (IsPlaced v.written) lineage =
-      subst (All (IsPlaced v.written)) lineage_is
-      (row_in v sound row has).placed in
-      rw (← here) (All-contains (IsPlaced v.written) lineage m all member)
+  member_placed m here member = grind (arith, lineage_is, row_in)
 
   pub begins_by : AreApart lineage → MayBeginBy (own_member lineage master)
   begins_by apart = go lineage refl apart
     where
+      by_member : (m : Member) → m.master ≡ master → Contains lineage m → Holds (bond_of (rebuilder_post lineage master) (roles.Rebuilding m.from None)) row.term row.term w.applied → IsTakenUp v row master m.from (v.records master) → MayBeginBy (Some m)
+      by_member m here stands fits takes =
+          record { takes = takes; placed = member_placed m here stands; fits = fits; foreign = λ none. absurd (cc none) }
+
       only_begins : (only : Member) → lineage ≡ only ∷ [] → only.master ≡ master → MayBeginBy (Some only)
       only_begins only shape here =
-          let post : rebuilder_post lineage master ≡ OnlyRebuilder only.from =
-          ap (λ (members : List Member). rebuilder_post members master) shape ∙ only_post only master here in
-          record {
-            takes = only_takes only shape here;
-            placed = member_placed only here (rw shape (0, omega arith, refl));
-            fits = rw post (refl, refl);
-            foreign = λ none. absurd (cc none);
-          }
+          by_member only here (rw shape (0, omega arith, refl)) (rw (shape, only_post only master here) (refl, refl)) (only_takes only shape here)
 
       first_begins : (first last : Member) → lineage ≡ first ∷ last ∷ [] → first.master ≡ master → MayBeginBy (Some first)
       first_begins first last shape here =
-          let post : rebuilder_post lineage master ≡ FirstRebuilder first.from =
-          ap (λ (members : List Member). rebuilder_post members master) shape ∙ first_post first last master here in
-          record {
-            takes = first_takes first last shape here;
-            placed = member_placed first here (rw shape (0, omega arith, refl));
-            fits = rw post (refl, refl);
-            foreign = λ none. absurd (cc none);
-          }
+          by_member first here (rw shape (0, omega arith, refl)) (rw (shape, first_post first last master here) (refl, refl))
+          (first_takes first last shape here)
 
       last_begins : (first last : Member) → lineage ≡ first ∷ last ∷ [] → (first.master ≡ master → ⊥) → last.master ≡ master → MayBeginBy (Some last)
       last_begins first last shape away here =
-          let post : rebuilder_post lineage master ≡ LastRebuilder last.from =
-          ap (λ (members : List Member). rebuilder_post members master) shape ∙ last_post first last master away here in
-          record {
-            takes = last_takes first last shape away here;
-            placed =
-                member_placed last here
-                (rw shape (behind_first first (last ∷ []) last (0, omega arith, refl)));
-            fits = rw post (refl, refl);
-            foreign = λ none. absurd (cc none);
-          }
+          by_member last here (rw shape (behind_first first (last ∷ []) last (0, omega arith, refl)))
+          (rw (shape, last_post first last master away here) (refl, refl)) (last_takes first last shape away here)
 
       foreign_begins : is_member lineage master ≡ false → MayBeginBy None
       foreign_begins outside = record {

@@ -1,7 +1,7 @@
 -- A master takes an order for a tablet, and gives up each other one whose range meets the order's: what becomes of those.
 use Rattle.std.proofs.Common.{◌≡◌, ℕ, ◌<◌, ◌≤◌, Bool, true, false, List, refl, sym, ap, ◌∙◌, subst, ⊎_elim, ◌⊎◌, inl, inr, arith, ◌≢◌, ◌==◌}
 use Rattle.std.proofs.Common.{◌&&◌, not, All, Contains, ne_eqb}
-use Rattle.rk_inv_base.proofs.Words.{and_parts, cases_Bool, cases_eq, cond_both, All-contains, meets, Held, Range, Handover, lineage_of}
+use Rattle.rk_inv_base.proofs.Words.{and_parts, cases_eq, cond_both, All-contains, meets, Held, Range, Handover, lineage_of}
 use Rattle.rk_inv_base.proofs.Words.{Row, given_up, is_member, is_absent, Tablet, IsAboveKept, post_of, RoleFits, put, HandoverFits}
 use Rattle.rk_inv_base.proofs.Words.{IsBelowOthers, View, SoundView, false_from_ne_true}
 use Rattle.rk_inv_tablets.proofs.Words.{apart_either, put_here, put_other, outside_post, meets_either, others_given_up, tablet_seen, row_in}
@@ -105,10 +105,7 @@ module _ (v : View) (master number term : ℕ) (range : Range) (sound : SoundVie
     pub gone_yields : Yields v master records r gone
     gone_yields = record {
       beside = gone_beside;
-      formed = λ x has.
-          let was : HandoverFits x r old =
-          All-contains (λ (x : Row). HandoverFits x r old) v.rows x (sound.terms.kept master r) has in
-          record { within = was.within; below = was.below; exact = was.exact };
+      formed = λ x has. let was = All-contains (λ (x : Row). HandoverFits x r old) v.rows x (sound.terms.kept master r) has in assumption;
       begun = λ there. absurd (cc there);
       known = λ there. absurd (cc there);
       unknown = sound.cover.unknown master r;
@@ -137,12 +134,7 @@ module _ (v : View) (master number term : ℕ) (range : Range) (sound : SoundVie
 
   -- one that is not absent then is as it was, and does not meet the order's range
   other_there : (r : ℕ) → (r ≡ number → ⊥) → is_absent (others r).handover.role ≡ false → ((others r).handover ≡ v.handovers master r) × (meets (v.handovers master r).range range ≡ false)
-  other_there r other =
-      let old : Tablet = tablet_seen v master r in
-      cond_both (not (r == number) && meets old.handover.range range) (given_up old) old
-      (λ (t : Tablet). is_absent t.handover.role ≡ false → (t.handover ≡ old.handover) × (meets old.handover.range range ≡ false))
-      (λ gone there. absurd (cc there))
-      (λ stays there. (refl, second_fails (not (r == number)) (meets old.handover.range range) (ap not (ne_eqb r number other)) stays))
+  other_there r other = grind (arith, tablet_seen, cond_both, meets, given_up, is_absent, second_fails, ne_eqb)
 
   other_apart : (r : ℕ) → (r ≡ number → ⊥) → is_absent (others r).handover.role ≡ false → meets (others r).handover.range range ≡ false
   other_apart r other there =
@@ -156,12 +148,7 @@ module _ (v : View) (master number term : ℕ) (range : Range) (sound : SoundVie
       → meets one.handover.range other.handover.range ≡ false
 
   others_apart : (a b : ℕ) → (a ≡ b → ⊥) → (a ≡ number → ⊥) → (b ≡ number → ⊥) → AreApart (others a) (others b)
-  others_apart a b differ a_other b_other a_there b_there =
-      let first = other_there a a_other a_there in
-      let second = other_there b b_other b_there in
-      (λ i. meets (first.0 i).range (second.0 i).range)
-      ∙ sound.terms.apart master a b differ (ap (λ (h : Handover). is_absent h.role) (sym first.0) ∙ a_there)
-      (ap (λ (h : Handover). is_absent h.role) (sym second.0) ∙ b_there)
+  others_apart a b differ a_other b_other a_there b_there = grind (arith, other_there, meets, is_absent)
 
   -- with another role of the order's own tablet, in the order's range
   module _ (own : Tablet) (range_is : own.handover.range ≡ range) where

@@ -1,11 +1,11 @@
 -- Masters that are not of a row's lineage: what they may have of the tablet below the row's term, and what it may become.
-use Rattle.std.proofs.Common.{◌≡◌, ℕ, ◌<◌, ◌≤◌, Bool, true, false, List, ◌∷◌, cond, eqb, refl, ⊎_elim, arith, ◌&&◌, ◌||◌, nat_lt, eq-eqb}
-use Rattle.std.proofs.Common.{[], ◌∙◌, ne_eqb}
+use Rattle.std.proofs.Common.{◌≡◌, ℕ, ◌<◌, ◌≤◌, Bool, true, false, List, ◌∷◌, cond, eqb, refl, arith, ◌&&◌, ◌||◌, nat_lt, eq-eqb}
+use Rattle.std.proofs.Common.{[], ne_eqb}
 use Rattle.rk_inv_base.proofs.Words.{both_ways, cases_eq, cond-true, false≢true, or_left, or_right, nat_tests, Member, is_serving, Handover}
 use Rattle.rk_inv_base.proofs.Words.{Role, Rebuilding, is_member, is_idle, is_rebuilding, Post, InvitedTarget, ReadyTarget, OnlyRebuilder}
 use Rattle.rk_inv_base.proofs.Words.{FirstRebuilder, LastRebuilder, OutsideRebuilder, FormerMember, Bystander, rebuilder_post, post_of}
-use Rattle.rk_inv_base.proofs.Words.{bond_of, Holds, speaks, has_all_items, cond-false}
-use Rattle.rk_inv_tablets.proofs.Words.{IsOutside, heir_outside, IsHeir, heir_post}
+use Rattle.rk_inv_base.proofs.Words.{bond_of, Holds, speaks, has_all_items, cond-false, View, Row}
+use Rattle.rk_inv_tablets.proofs.Words.{IsOutside, heir_outside, IsHeir, heir_post, SoundRow, former_never}
 use Rattle.rk_transfer.specs.declared.role.Role.TheVariants as roles
 
 -- ---- members of a lineage
@@ -16,6 +16,11 @@ first_member source more = or_left (eqb source.master source.master) (is_member 
 pub second_member : (source target : Member) (more : List Member) → is_member (source ∷ target ∷ more) target.master ≡ true
 second_member source target more =
     or_right (eqb source.master target.master) (is_member (target ∷ more) target.master) (first_member target more)
+
+-- a member that another one rebuilds beside keeps no term of the row
+pub former_behind : (v : View) (x : Row) → SoundRow v x → (lineage : List Member) (to q : ℕ) → x.phase ≡ Rebuilding lineage to → is_member lineage q ≡ true → (to ≡ q → ⊥) → (v.handovers q x.tablet).term ≡ x.term → ⊥
+former_behind v x was lineage to q is member away term =
+    grind (arith, post_of, cond-false, rebuilder_post, is_member, ne_eqb, cond-true, former_never, bond_of)
 
 -- ---- quiet roles
 
@@ -32,21 +37,11 @@ quiet_serves role quiet serves = absurd (cc)
 
 -- a master outside the lineage answers for nothing in such a role
 pub quiet_silent : (post : Post) (handover : Handover) (term : ℕ) → is_quiet handover.role ≡ true → IsOutside post → speaks post handover term ≡ true → ⊥
-quiet_silent InvitedTarget handover term quiet outside says = quiet_serves handover.role quiet says
-quiet_silent (ReadyTarget place) handover term quiet outside says = quiet_serves handover.role quiet says
-quiet_silent OutsideRebuilder handover term quiet outside says = quiet_serves handover.role quiet says
-quiet_silent Bystander handover term quiet outside says = quiet_serves handover.role quiet says
-quiet_silent _ handover term quiet outside says = absurd outside
+quiet_silent post handover term quiet outside says = grind (arith, quiet_serves)
 
 -- and rebuilds no row at its term
 heir_waits : (post : Post) (role : Role) (term own applied : ℕ) → IsOutside post → IsHeir post → is_quiet role ≡ true → Holds (bond_of post role) term own applied → own < term
-heir_waits OutsideRebuilder roles.Absent term own applied outside heir quiet holds = holds
-heir_waits OutsideRebuilder (roles.Wanting from) term own applied outside heir quiet holds = holds
-heir_waits OutsideRebuilder role term own applied outside heir quiet holds = absurd (cc)
-heir_waits InvitedTarget role term own applied outside heir quiet holds = absurd heir
-heir_waits (ReadyTarget place) role term own applied outside heir quiet holds = absurd heir
-heir_waits Bystander role term own applied outside heir quiet holds = absurd heir
-heir_waits _ role term own applied outside heir quiet holds = absurd outside
+heir_waits post role term own applied outside heir quiet holds = grind arith
 
 -- what a master that rebuilds a row is to it
 pub rebuilder_is : (lineage : List Member) (master : ℕ) → post_of (Rebuilding lineage master) master ≡ rebuilder_post lineage master
@@ -64,10 +59,7 @@ first_post first last q here =
     (eq-eqb first.master q here)
 
 pub last_post : (first last : Member) (q : ℕ) → (first.master ≡ q → ⊥) → last.master ≡ q → rebuilder_post (first ∷ last ∷ []) q ≡ LastRebuilder last.from
-last_post first last q apart here =
-    cond-false (eqb first.master q) (FirstRebuilder first.from) (cond (eqb last.master q) (LastRebuilder last.from) OutsideRebuilder)
-    (ne_eqb first.master q apart)
-    ∙ cond-true (eqb last.master q) (LastRebuilder last.from) OutsideRebuilder (eq-eqb last.master q here)
+last_post first last q apart here = grind (arith, cond-false, eqb, ne_eqb, cond-true, eq-eqb)
 
 pub quiet_behind : (lineage : List Member) (master : ℕ) (role : Role) (term own applied : ℕ) → is_member lineage master ≡ false → is_quiet role ≡ true → Holds (bond_of (post_of (Rebuilding lineage master) master) role) term own applied → own < term
 quiet_behind lineage master role term own applied outside quiet holds =
@@ -76,11 +68,7 @@ quiet_behind lineage master role term own applied outside quiet holds =
 
 -- such a master has not all items of a tablet
 pub outside_lacks : (post : Post) (handover : Handover) (term : ℕ) → IsOutside post → has_all_items post handover term ≡ true → ⊥
-outside_lacks InvitedTarget handover term outside has = absurd (cc)
-outside_lacks (ReadyTarget place) handover term outside has = absurd (cc)
-outside_lacks OutsideRebuilder handover term outside has = absurd (cc)
-outside_lacks Bystander handover term outside has = absurd (cc)
-outside_lacks _ handover term outside has = absurd outside
+outside_lacks post handover term outside has = grind arith
 
 -- ---- at a smaller term than the row's
 
@@ -91,62 +79,28 @@ ready_never place _ term own applied below holds = holds
 
 -- such a master, at a smaller term than the row's, has nothing staged
 pub outside_idle : (post : Post) (role : Role) (term own applied : ℕ) → IsOutside post → own < term → Holds (bond_of post role) term own applied → is_idle role ≡ true
-outside_idle post roles.Absent term own applied outside below holds = refl
-outside_idle post roles.Frozen term own applied outside below holds = refl
-outside_idle post (roles.Wanting from) term own applied outside below holds = refl
-outside_idle (ReadyTarget place) role term own applied outside below holds = absurd (ready_never place role term own applied below holds)
-outside_idle OutsideRebuilder (roles.Rebuilding from entry) term own applied outside below holds =
-    let e : own ≡ term = holds in absurd (omega (arith, below, e))
-outside_idle OutsideRebuilder role term own applied outside below holds = absurd holds
-outside_idle InvitedTarget role term own applied outside below holds = absurd holds
-outside_idle Bystander role term own applied outside below holds = absurd holds
-outside_idle _ role term own applied outside below holds = absurd outside
+outside_idle post role term own applied outside below holds = grind (arith, ready_never)
 
 -- it may give the tablet up
 pub outside_absent : (post : Post) (role : Role) (term own applied : ℕ) → IsOutside post → own < term → Holds (bond_of post role) term own applied → Holds (bond_of post roles.Absent) term own applied
-outside_absent (ReadyTarget place) role term own applied outside below holds = absurd (ready_never place role term own applied below holds)
-outside_absent OutsideRebuilder role term own applied outside below holds = below
-outside_absent InvitedTarget role term own applied outside below holds = below
-outside_absent Bystander role term own applied outside below holds = omega (arith, below)
-outside_absent _ role term own applied outside below holds = absurd outside
+outside_absent post role term own applied outside below holds = grind (arith, ready_never)
 
 -- and wait for it, at the row's term only where the row asks it to
 pub outside_wants : (post : Post) (role : Role) (from term own new applied : ℕ) → IsOutside post → own < term → new ≤ term → (new ≡ term → post ≡ InvitedTarget) → Holds (bond_of post role) term own applied → Holds (bond_of post (roles.Wanting from)) term new applied
-outside_wants (ReadyTarget place) role from term own new applied outside below within asked holds =
-    absurd (ready_never place role term own applied below holds)
-outside_wants InvitedTarget role from term own new applied outside below within asked holds = within
-outside_wants OutsideRebuilder role from term own new applied outside below within asked holds =
-    ⊎_elim (λ (e : new ≡ term). let other : OutsideRebuilder ≡ InvitedTarget = asked e in absurd (cc other))
-    (λ (apart : new ≡ term → ⊥). omega (arith, within, apart)) (cases_eq new term)
-outside_wants Bystander role from term own new applied outside below within asked holds =
-    ⊎_elim (λ (e : new ≡ term). let other : Bystander ≡ InvitedTarget = asked e in absurd (cc other))
-    (λ (apart : new ≡ term → ⊥). omega (arith, within, apart)) (cases_eq new term)
-outside_wants _ role from term own new applied outside below within asked holds = absurd outside
+outside_wants post role from term own new applied outside below within asked holds = grind (arith, ready_never, cases_eq)
 
 -- ---- a master that begins to rebuild a row, at the row's term
 
 or_both : (a b c : Bool) → a ≡ false → c ≡ false → (a || (b && c)) ≡ true → ⊥
-or_both true b c first last says = absurd (cc)
-or_both false true true first last says = absurd (cc)
-or_both false true false first last says = absurd (cc)
-or_both false false c first last says = absurd (cc)
+or_both a b c first last says = grind arith
 
 at_least : (own term : ℕ) → own ≡ term → nat_lt own term ≡ false
 at_least own term is = grind (arith, nat_tests)
 
 -- it answers for nothing
 pub begun_silent : (post : Post) (handover : Handover) (term : ℕ) → IsHeir post → is_serving handover.role ≡ false → handover.term ≡ term → speaks post handover term ≡ true → ⊥
-begun_silent (OnlyRebuilder place) handover term heir idle at says =
-    or_both (is_serving handover.role) (is_rebuilding handover.role) (nat_lt handover.term term) idle (at_least handover.term term at) says
-begun_silent (FirstRebuilder place) handover term heir idle at says = both_ways (is_serving handover.role) idle says
-begun_silent (LastRebuilder place) handover term heir idle at says = both_ways (is_serving handover.role) idle says
-begun_silent OutsideRebuilder handover term heir idle at says = both_ways (is_serving handover.role) idle says
-begun_silent _ handover term heir idle at says = absurd heir
+begun_silent post handover term heir idle at says = grind (arith, or_both, is_serving, is_rebuilding, nat_lt, at_least, both_ways)
 
 -- and is not said to have all items
 pub begun_lacks : (post : Post) (handover : Handover) (term : ℕ) → IsHeir post → handover.term ≡ term → has_all_items post handover term ≡ true → ⊥
-begun_lacks (OnlyRebuilder place) handover term heir at has = both_ways (nat_lt handover.term term) (at_least handover.term term at) has
-begun_lacks (FirstRebuilder place) handover term heir at has = both_ways (nat_lt handover.term term) (at_least handover.term term at) has
-begun_lacks (LastRebuilder place) handover term heir at has = false≢true has
-begun_lacks OutsideRebuilder handover term heir at has = false≢true has
-begun_lacks _ handover term heir at has = absurd heir
+begun_lacks post handover term heir at has = grind (arith, both_ways, nat_lt, at_least, false≢true)

@@ -1,10 +1,11 @@
 -- Items of what counts for a range: each is of an entry that bears it, an item of the range or a Joined that names its segment.
 use Rattle.std.proofs.Common.{◌≡◌, ℕ, suc, zero, ◌<◌, ◌+◌, Bool, true, false, ◌||◌, List, [], ◌∷◌, ◌++◌, fold, Some, cond, refl, sym, ap}
-use Rattle.std.proofs.Common.{◌∙◌, ⊎_elim, ◌⊎◌, inl, inr, arith, ◌==◌, slice_get, take, Contains, flat_map, eqb-true}
+use Rattle.std.proofs.Common.{◌∙◌, ⊎_elim, ◌⊎◌, inl, inr, arith, ◌==◌, slice_get, take, Contains, flat_map, eqb-true, not, filter, All}
 use Rattle.rk_inv_base.proofs.Words.{cond_both, false≢true, or_left, or_right, Contains-append_cases, Contains-append_left}
 use Rattle.rk_inv_base.proofs.Words.{Contains-append_right, Any-from_list_any, meets, Held, Range, is_among, Entry, is_in, items_in}
 use Rattle.rk_inv_base.proofs.Words.{items_of, is_marked, unmarked, counting, counts, is_joined_in, material_of, named, named_by}
-use Rattle.rk_inv_base.proofs.Words.{with_number, Mark}
+use Rattle.rk_inv_base.proofs.Words.{with_number, Mark, All-contains, All-contains_itself, All-weaker, list_any_none, list_any, without}
+use Rattle.rk_inv_base.proofs.Words.{or_parts}
 use Rattle.rk_inv_tablets.proofs.Words.{contains_cases, kept_stands, stands_kept, behind_first}
 use Rattle.rk_entry.specs.declared.entry.Entry.TheVariants as entries
 
@@ -27,6 +28,17 @@ flat_from {X} {Y} f (z ∷ xs) y at =
     let found = flat_from f xs y later in (found.0, behind_first z xs found.0 found.1, found.2))
     (Contains-append_cases (f z) (flat_map f xs) y at)
 
+-- ---- lists of one and of two
+
+pub none_stands : {X : Type 0} (x : X) → Contains [] x → ⊥
+none_stands x at = omega (arith, at.1)
+
+pub one_stands : {X : Type 0} (y x : X) → Contains (y ∷ []) x → y ≡ x
+one_stands y x at = ⊎_elim (λ same. same) (λ none. absurd (none_stands x none)) (contains_cases y [] x at)
+
+pub two_stand : {X : Type 0} (y z x : X) → Contains (y ∷ z ∷ []) x → (y ≡ x) ⊎ (z ≡ x)
+two_stand y z x at = ⊎_elim (λ same. inl same) (λ later. inr (one_stands z x later)) (contains_cases y (z ∷ []) x at)
+
 -- ---- numbers, each once
 
 among_stands : (numbers : List ℕ) (number : ℕ) → is_among number numbers ≡ true → Contains numbers number
@@ -41,7 +53,7 @@ number_kept some (number ∷ others) n at =
     (cond_both (is_among number some) some (some ++ number ∷ []) (λ next. Contains next n) (λ e. at)
     (λ e. Contains-append_left some (number ∷ []) n at))
 
-number_stands : (some others : List ℕ) (n : ℕ) → Contains others n → Contains (fold with_number some others) n
+pub number_stands : (some others : List ℕ) (n : ℕ) → Contains others n → Contains (fold with_number some others) n
 number_stands some [] n at = absurd (omega (arith, at.1))
 number_stands some (number ∷ others) n at =
     ⊎_elim
@@ -85,20 +97,12 @@ counted_bears range _ item counted at = absurd (omega (arith, at.1))
 -- with an item of the range it counts
 held_counts : (range : Range) (entry : Entry) (item : Held) → is_in range item ≡ true → Contains (items_in entry) item → counts range entry ≡ true
 held_counts range (entries.Held held) item inside at =
-    ⊎_elim (λ (same : held ≡ item). ap (is_in range) same ∙ inside) (λ (none : Contains [] item). absurd (omega (arith, none.1)))
-    (contains_cases held [] item at)
+    ap (is_in range) (one_stands held item at) ∙ inside
 held_counts range _ item inside at = absurd (omega (arith, at.1))
 
 -- one that names a segment is a Joined of the range
 pub names_joined : (range : Range) (entry : Entry) (n : ℕ) → Contains (named_by range entry) n → is_joined_in range entry ≡ true
-names_joined range (entries.Held held) n at = absurd (omega (arith, at.1))
-names_joined range (entries.Refused refused) n at = absurd (omega (arith, at.1))
-names_joined range (entries.Carried carried) n at = absurd (omega (arith, at.1))
-names_joined range (entries.Joined joined) n at = go (meets joined.range range) at
-  where
-    go : (b : Bool) → Contains (cond b joined.segments []) n → b ≡ true
-    go true at = refl
-    go false at = absurd (omega (arith, at.1))
+names_joined range entry n at = grind (arith, meets)
 
 -- a segment that is named, is so by a Joined of the range
 pub named_from : (range : Range) (list : List Entry) (n : ℕ) → Contains (named range list) n → (e : Entry) × Contains list e × Contains (named_by range e) n × (is_joined_in range e ≡ true)
@@ -213,3 +217,39 @@ unmarked_at marks place (first ∷ list) e stands =
     let same : place + 0 ≡ place = omega arith in
     (0, ap (λ (x : Entry). Some x) is, ap (is_marked marks) same ∙ free))
     later (contains_cases first more e at)) stands
+
+-- ---- tests that none passes
+
+-- one of a list passes no test that none of the list passes
+pub fails_at : {X : Type 0} (test : X → Bool) (xs : List X) (x : X) → list_any test xs ≡ false → Contains xs x → test x ≡ false
+fails_at test [] x none (k, within, is) = absurd (omega (arith, within))
+fails_at {X} test (y ∷ ys) x none stands =
+    let parts = or_parts (test y) (list_any test ys) none in
+    ⊎_elim (λ (same : y ≡ x). ap test (sym same) ∙ parts.0) (λ (behind : Contains ys x). fails_at test ys x parts.1 behind)
+    (contains_cases y ys x stands)
+
+-- so none of what is left passes it
+pub none_remains : (test : Held → Bool) (old new : List Held) → ((item : Held) → Contains new item → Contains old item) → list_any test old ≡ false → list_any test new ≡ false
+none_remains test old new stood none =
+    list_any_none test new
+    (All-weaker _ _ (λ item stands. fails_at test old item none (stood item stands)) new
+    (All-contains_itself new))
+
+-- what all had, all that are left have
+pub all_remain : (P : Held → Type 0) (old new : List Held) → ((item : Held) → Contains new item → Contains old item) → All P old → All P new
+all_remain P old new stood all =
+    All-weaker _ _ (λ item stands. All-contains P old item all (stood item stands)) new (All-contains_itself new)
+
+-- ---- what is dropped
+
+-- nothing that passes a test is left once all that passes it is dropped
+none_passes : {X : Type 0} (test : X → Bool) (xs : List X) → list_any test (filter (λ x. not (test x)) xs) ≡ false
+none_passes test [] = refl
+none_passes {X} test (x ∷ xs) = go (test x) refl (none_passes test xs)
+  where
+    go : (b : Bool) → test x ≡ b → list_any test (filter (λ x. not (test x)) xs) ≡ false → list_any test (cond (not b) (x ∷ filter (λ x. not (test x)) xs) (filter (λ x. not (test x)) xs)) ≡ false
+    go true e later = later
+    go false e later = ap (λ (b : Bool). b || list_any test (filter (λ x. not (test x)) xs)) e ∙ later
+
+pub none_left : (range : Range) (records : List Held) → list_any (is_in range) (without range records) ≡ false
+none_left range records = none_passes (is_in range) records

@@ -1,7 +1,7 @@
 -- A lane stays sound when a master makes ready for a tablet: it drops its items of the range, gives up each other tablet there, and waits.
-use Rattle.std.proofs.Common.{◌≡◌, ℕ, ◌<◌, true, false, List, Option, Some, None, refl, sym, ap, ◌∙◌, subst, ⊎_elim, ◌⊎◌, inl, inr, length}
-use Rattle.std.proofs.Common.{arith, drop, is_some, nat_lt, Contains, lt-ltb}
-use Rattle.rk_inv_base.proofs.Words.{cases_Bool, cases_eq, cond-true, drop_all, All-contains, list_any, meets, Held, Range, Entry}
+use Rattle.std.proofs.Common.{◌≡◌, ℕ, ◌<◌, true, false, List, Some, None, refl, sym, ap, ◌∙◌, subst, ⊎_elim, ◌⊎◌, inl, length}
+use Rattle.std.proofs.Common.{arith, is_some, nat_lt, Contains, lt-ltb}
+use Rattle.rk_inv_base.proofs.Words.{cases_eq, cond-true, drop_all, All-contains, meets, Held, Range}
 use Rattle.rk_inv_base.proofs.Words.{order_without, without, Handover, lineage_of, row_of, Phase, Row, Prepare, tablet_prepared, with_move}
 use Rattle.rk_inv_base.proofs.Words.{with_others_given_up, is_member, Master, tablet_at, touches, with_tablet, without_items, Tablet}
 use Rattle.rk_inv_base.proofs.Words.{with_handover, without_merged, World, log_in, master_at, tablet_in, with_master, AsksFor, Holds}
@@ -9,8 +9,7 @@ use Rattle.rk_inv_base.proofs.Words.{bond_of, post_of, IsBare, RoleFits, Handove
 use Rattle.rk_inv_base.proofs.Words.{false_from_ne_true}
 use Rattle.rk_inv_tablets.proofs.Words.{MayPrepare, same_number, stays, stood, outside_post, stands_found, as_wanting, prepared}
 use Rattle.rk_inv_tablets.proofs.Words.{prepared_tablets, tablet_prepared_in, tablet_seen}
-use Rattle.rk_transfer.specs.Handover.{prepared as handover_prepared}
-use Rattle.rk_inv_tablets.proofs.ready.Left.{none_left}
+use Rattle.rk_inv_tablets.proofs.ready.OwnItems.{none_left}
 use Rattle.rk_inv_tablets.proofs.ready.OthersGivenUp.{MayTakeOrder, apart, beside_order, fits, step}
 use Rattle.rk_inv_tablets.proofs.ready.Outside.{outside_wants, quiet_behind}
 use Rattle.rk_inv_tablets.proofs.ready.TakenTablets.{own_at, view_taken}
@@ -55,12 +54,7 @@ module _ (v : View) (row : Row) (master : ℕ) (prepare : Prepare) (sound : Soun
   below_others x has = rw may.tablet_is (All-contains (λ (r : Row). IsBelowOthers r row.tablet term range) v.rows x may.below has)
 
   order : MayTakeOrder v master number term range
-  order = record {
-    lives = may.lives;
-    above = may.above;
-    below = rw may.tablet_is may.below;
-    outside = λ x has other met. not_asked x has (inr met);
-  }
+  order = grind (arith, not_asked)
 
   -- ---- the tablet that it makes ready for
 
@@ -72,18 +66,7 @@ module _ (v : View) (row : Row) (master : ℕ) (prepare : Prepare) (sound : Soun
   old_fits = rw may.tablet_is (fits v master number term range sound order row may.has_row)
 
   beside_row : YieldsBeside row master (v.written master).applied old own.handover
-  beside_row =
-      let below : old.term < row.term = omega (arith, greater, may.within) in
-      record {
-        below = below;
-        grows = omega (arith, greater);
-        within = may.within;
-        greater = λ waits. greater;
-        fits =
-            outside_wants (post_of row.phase master) old.role place row.term old.term term (v.written master).applied
-            (outside_post row.phase master outside) below may.within (λ at. (may.invited at).0) old_fits;
-        kind = inl (record { outside = outside; quiet = refl });
-      }
+  beside_row = grind (arith, greater, fits, outside_wants, post_of, outside_post, outside, old_fits)
 
   beside : (x : Row) → Contains v.rows x → x.tablet ≡ number → YieldsBeside x master (v.written master).applied old own.handover
   beside x has its = rw (same_row x has its) beside_row
@@ -101,15 +84,7 @@ module _ (v : View) (row : Row) (master : ℕ) (prepare : Prepare) (sound : Soun
   found = ap (row_of v.rows) may.tablet_is ∙ stands_found v.rows row sound.rows.apart may.has_row
 
   bare : IsBare range place (v.written master) left
-  bare =
-      let same : (v.logs master).entries ≡ (v.written master).entries = (sound.logs.each master).entries_are in
-      record {
-        placed = rw (← same) (omega arith);
-        nothing =
-            ap (λ (list : List Entry). list_any (touches range) (drop place list)) (sym same)
-            ∙ ap (list_any (touches range)) (drop_all place (v.logs master).entries (omega arith));
-        empty = none_left range (v.records master);
-      }
+  bare = grind (arith, touches, drop_all, none_left)
 
   own_yields : Yields v master left number own
   own_yields = record {
@@ -190,14 +165,7 @@ module _ (w : World) (master : ℕ) (prepare : Prepare) where
 
   -- the move applies
   moves : was.handover.term < prepare.tenure.term → tablet_prepared (master_at w master) prepare ≡ with_tablet left_alone asked ready
-  moves greater =
-      ap (λ (t : Tablet). with_move left_alone asked (moved_to t.handover)) stays_own
-      ∙ ap (with_move left_alone asked)
-      (cond-true (nat_lt was.handover.term prepare.tenure.term) (Some waits) None (lt-ltb was.handover.term prepare.tenure.term greater))
-      ∙ ap (λ (t : Tablet). with_tablet left_alone asked (without_merged (with_handover t waits))) stays_own
-    where
-      moved_to : Handover → Option Handover
-      moved_to handover = handover_prepared handover prepare.tenure.term prepare.range (length (log_in w master).entries)
+  moves greater = grind (arith, with_move, stays_own, cond-true, nat_lt, lt-ltb, with_tablet, without_merged, with_handover, log_in)
 
   pub view_prepared_in : was.handover.term < prepare.tenure.term → view (tablet_prepared_in w master prepare) ≡ prepared (view w) master prepare
   view_prepared_in greater =

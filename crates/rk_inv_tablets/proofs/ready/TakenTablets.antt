@@ -1,12 +1,12 @@
 -- What is seen of a world where one master has other records and tablets, and what it has of each tablet once others are given up.
-use Rattle.std.proofs.Common.{◌≡◌, ℕ, true, false, List, [], ◌∷◌, Option, Some, None, cond, refl, sym, ap, ◌∙◌, ⊎_elim, ◌==◌, ◌&&◌, not}
-use Rattle.std.proofs.Common.{unwrap_or, option_map, nat_cmp, eq-eqb}
-use Rattle.rk_inv_base.proofs.Words.{and_left, cases_eq, cond_both, cond-false, eq_by_cmp, same_number, NumberMap, get, meets, Held, Range}
+use Rattle.std.proofs.Common.{arith}
+use Rattle.std.proofs.Common.{◌≡◌, ℕ, List, Option, cond, refl, ap, ◌∙◌, ◌==◌, ◌&&◌, not}
+use Rattle.std.proofs.Common.{unwrap_or, option_map, eq-eqb}
+use Rattle.rk_inv_base.proofs.Words.{and_left, cases_eq, cond_both, cond-false, NumberMap, get, meets, Held, Range}
 use Rattle.rk_inv_base.proofs.Words.{given_up, with_others_given_up, marks_of, Master, tablet_at, with_tablet, Tablet, no_tablet, World}
 use Rattle.rk_inv_base.proofs.Words.{master_at, tablet_in, with_master, written_by, put, view}
 use Rattle.rk_inv_tablets.proofs.Words.{master_other, master_same, same_of_all, same_of_each, tablet_apart, tablet_here, put_here, put_is}
 use Rattle.rk_inv_tablets.proofs.Words.{put_other, others_given_up, tablets_taken, found_changed}
-use Rattle.rk_types.specs.NumberMap.{changed_each}
 
 -- ---- other tablets are given up
 
@@ -16,10 +16,7 @@ module _ (master : Master) (number : ℕ) (range : Range) where
   giving r tablet = cond (not (r == number) && meets tablet.handover.range range) (given_up tablet) tablet
 
   found_or : (r : ℕ) (o : Option Tablet) → unwrap_or (option_map (giving r) o) no_tablet ≡ giving r (unwrap_or o no_tablet)
-  found_or r (Some tablet) = refl
-  found_or r None =
-      cond_both (not (r == number) && meets no_tablet.handover.range range) (given_up no_tablet) no_tablet
-      (λ (t : Tablet). no_tablet ≡ t) (λ e. refl) (λ e. refl)
+  found_or r o = grind (arith, cond_both, meets, no_tablet, given_up)
 
   others_at : (r : ℕ) → tablet_at (with_others_given_up master number range) r ≡ others_given_up (tablet_at master) number range r
   others_at r =
@@ -27,11 +24,7 @@ module _ (master : Master) (number : ℕ) (range : Range) where
 
   -- the order's own tablet is as it was
   pub own_at : tablet_at (with_others_given_up master number range) number ≡ tablet_at master number
-  own_at =
-      let own : Tablet = tablet_at master number in
-      others_at number
-      ∙ cond-false (not (number == number) && meets own.handover.range range) (given_up own) own
-      (and_left (not (number == number)) (meets own.handover.range range) (ap not (eq-eqb number number refl)))
+  own_at = grind (arith, tablet_at, others_at, cond-false, meets, given_up, and_left, eq-eqb)
 
 -- ---- one master has other records and tablets
 
@@ -87,17 +80,7 @@ module _ (w : World) (master : ℕ) (records : List Held) (number : ℕ) (range 
 
   -- each with the ends that it had
   same_ends : (r : ℕ) → (taken r).completions ≡ (tablet_in w master r).completions
-  same_ends r =
-      let tablet : Tablet = tablet_in w master r in
-      ⊎_elim
-      (λ (is : r ≡ number).
-      ap (λ (t : Tablet). t.completions) (put_here others number own r is) ∙ ends
-      ∙ ap (λ (n : ℕ). (tablet_in w master n).completions) (sym is))
-      (λ (other : r ≡ number → ⊥).
-      ap (λ (t : Tablet). t.completions) (put_other others number own r other)
-      ∙ cond_both (not (r == number) && meets tablet.handover.range range) (given_up tablet) tablet
-      (λ (t : Tablet). t.completions ≡ tablet.completions) (λ e. refl) (λ e. refl))
-      (cases_eq r number)
+  same_ends r = grind (arith, tablet_in, put_here, put_other, cond_both, meets, given_up, cases_eq)
 
   pub view_taken : view (with_master w master (with_tablet cleared number own)) ≡ tablets_taken (view w) master records taken
   view_taken = view_tablets w master records (with_tablet cleared number own).tablets taken has_tablet same_ends

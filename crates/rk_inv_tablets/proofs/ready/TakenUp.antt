@@ -1,19 +1,19 @@
 -- A living master that is to rebuild a row, and has not begun to: the records that it has are those with which it may begin.
-use Rattle.std.proofs.Common.{◌≡◌, ℕ, ◌<◌, ◌≤◌, ◌+◌, Bool, true, false, List, [], ◌&&◌, ◌||◌, ◌-◌, Option, Some, None, refl, sym, ap, ◌∙◌}
-use Rattle.std.proofs.Common.{subst, ⊎_elim, ◌⊎◌, arith, drop, is_some, max, nat_le, nat_lt, slice_get, take, Contains, flat_map, leb-true}
-use Rattle.std.proofs.Common.{ltb-true}
-use Rattle.rk_inv_base.proofs.Words.{and_parts, cases_Bool, cases_lt, false≢true, or_right, All-contains, Any-from_list_any, Held, Range}
-use Rattle.rk_inv_base.proofs.Words.{Entry, is_in, number_of, row_of, Row, newest_is, newest_none, is_of_from, newest_own, is_of, newest}
-use Rattle.rk_inv_base.proofs.Words.{items_in, items_of, is_marked, unmarked_from, touches, is_joined_in, joined_from, log_material}
-use Rattle.rk_inv_base.proofs.Words.{material_of, named, side_entries, Written, applied_entries, Mark, HasOwnRange, IsOfRange, MarkFits}
-use Rattle.rk_inv_base.proofs.Words.{applied_from, IsBare, IsFound, named_items, IsTableOf, View, truths, SoundView, false_from_ne_true}
-use Rattle.rk_inv_tablets.proofs.Words.{in_one_row, AreIn, IsIn, behind_at, kept_stands, stands_kept, in_piece, place_of, found_stands}
-use Rattle.rk_inv_tablets.proofs.Words.{row_in}
-use Rattle.rk_entry.specs.declared.entry.Entry.TheVariants as entries
+use Rattle.std.proofs.Common.{◌≡◌, ℕ, ◌<◌, ◌+◌, Bool, true, false, List, [], ◌||◌, Option, Some, None, refl, sym, ◌∙◌, ◌⊎◌}
+use Rattle.std.proofs.Common.{arith, drop, max, slice_get, Contains, flat_map}
+use Rattle.rk_inv_base.proofs.Words.{false≢true, or_right, All-contains, Held, Range, Entry, is_in, Row, newest_is, newest_none}
+use Rattle.rk_inv_base.proofs.Words.{is_of_from, newest_own, is_of, newest, items_in, items_of, is_marked, unmarked_from, touches}
+use Rattle.rk_inv_base.proofs.Words.{is_joined_in, joined_from, log_material, material_of, named, side_entries, Written, applied_entries}
+use Rattle.rk_inv_base.proofs.Words.{Mark, IsOfRange, applied_from, IsBare, IsFound, named_items, IsTableOf, View, truths}
+use Rattle.rk_inv_base.proofs.Words.{SoundView, false_from_ne_true}
+use Rattle.rk_inv_tablets.proofs.Words.{in_one_row, AreIn, IsIn, behind_at, kept_stands, place_of, row_in}
 use Rattle.rk_overlay.specs.Newest.{IsNewest}
-use Rattle.rk_inv_tablets.proofs.ready.Left.{fails_at}
-use Rattle.rk_inv_tablets.proofs.ready.OwnItems.{at_front, at_place, bears, flat_from, flat_stands, front_at, is_held_in, material_into}
-use Rattle.rk_inv_tablets.proofs.ready.OwnItems.{named_counts, sides_into, stands_at, unmarked_at, unmarked_stands}
+use Rattle.rk_inv_tablets.proofs.ready.OwnItems.{fails_at, at_place, bears, flat_from, flat_stands, front_at, is_held_in, material_into}
+use Rattle.rk_inv_tablets.proofs.ready.OwnItems.{named_counts, sides_into, stands_at, unmarked_stands}
+use Rattle.rk_inv_tablets.proofs.crash.MarkedPieces.{mark_of}
+use Rattle.rk_inv_tablets.proofs.crash.PieceRows.{row_of_mark}
+use Rattle.rk_inv_tablets.proofs.crash.Unmarked.{free_place, joined_applied}
+use Rattle.rk_entry.specs.declared.entry.Entry.TheVariants as entries
 
 -- records of a master are those with which it may begin to rebuild a row, where its own entries count from this place
 pub record IsTakenUp (v : View) (row : Row) (master from : ℕ) (records : List Held) : Type 0 where
@@ -68,44 +68,19 @@ module _ (v : View) (row : Row) (master : ℕ) (sound : SoundView v) (has : Cont
 
   -- nothing of the row's tablet
   unmarked_here : (mark : Mark) → Contains w.marks mark → mark.tablet ≡ row.tablet → ⊥
-  unmarked_here mark stands its =
-      let fits : MarkFits row master (v.handovers master row.tablet) (v.live master) w mark =
-      All-contains (λ m. m.tablet ≡ row.tablet → MarkFits row master (v.handovers master row.tablet) (v.live master) w m) w.marks mark
-      ((row_in v sound row has).marks master) stands its in
-      let told = (fits.by_rebuilder (fits.present lives)).1 in
-      omega (arith, below, told)
+  unmarked_here mark stands its = grind (arith, row_in)
 
   -- an entry of a piece of another row bears nothing of this one
   of_other : (other : Row) (e : Entry) → Contains v.rows other → (row.tablet ≡ other.tablet → ⊥) → IsOfRange other.range e → bears row.range e ≡ true → ⊥
-  of_other other (entries.Held held) stands apart of is =
-      let both : is_in row.range held ≡ true = first_of_or (is_in row.range held) is in
-      false≢true (sym (in_one_row v.rows other row held.table held.key sound.rows.apart stands has apart of) ∙ both)
-  of_other other (entries.Carried carried) stands apart of is = absurd (cc)
-  of_other other _ stands apart of is = of
-
-  of_piece : (mark : Mark) (e : Entry) → Contains w.marks mark → Contains (take (mark.past - mark.first) (drop mark.first w.entries)) e → (found : Option Row) → row_of v.rows mark.tablet ≡ found → is_some found ≡ true → bears row.range e ≡ true → ⊥
-  of_piece mark e marked inside None is known bearing = false≢true known
-  of_piece mark e marked inside (Some other) is known bearing =
-      let stands : Contains v.rows other = found_stands v.rows mark.tablet other is in
-      let number : other.tablet ≡ mark.tablet = number_of v.rows mark.tablet other is in
-      let own : HasOwnRange other.range w.entries mark =
-      All-contains (λ m. m.tablet ≡ other.tablet → HasOwnRange other.range w.entries m) w.marks mark
-      ((row_in v sound other stands).pieces master) marked (sym number) in
-      of_other other e stands (λ same. unmarked_here mark marked (sym (same ∙ number)))
-      (All-contains (IsOfRange other.range) (take (mark.past - mark.first) (drop mark.first w.entries)) e own inside) bearing
+  of_other other e stands apart of is = grind (arith, is_in, first_of_or, false≢true, in_one_row)
 
   -- so an entry that bears an item of the row has no mark
   bare_at : (place : ℕ) (e : Entry) → slice_get w.entries place ≡ Some e → bears row.range e ≡ true → is_marked w.marks place ≡ false
   bare_at place e at bearing =
       false_from_ne_true (is_marked w.marks place)
-      (λ marked. let found = Any-from_list_any (λ (mark : Mark). nat_le mark.first place && nat_lt place mark.past) w.marks marked in
-      let mark : Mark = found.1 in
-      let stands : Contains w.marks mark = (found.0, found.2, found.3) in
-      let parts = and_parts (nat_le mark.first place) (nat_lt place mark.past) found.4 in
-      of_piece mark e stands
-      (in_piece w.entries mark.first mark.past place e (leb-true mark.first place parts.0) (ltb-true place mark.past parts.1) at)
-      (row_of v.rows mark.tablet) refl
-      (All-contains (λ m. is_some (row_of v.rows m.tablet) ≡ true) w.marks mark (sound.cover.marks master) stands) bearing)
+      (λ marked. let found = mark_of w.marks place marked in
+      let of = row_of_mark v sound master place e at found in
+      of_other of.row e of.stands (λ same. unmarked_here found.mark found.here (sym (same ∙ of.number))) of.in_range bearing)
 
   -- ---- what counts of its own, from a place on
 
@@ -128,16 +103,10 @@ module _ (v : View) (row : Row) (master : ℕ) (sound : SoundView v) (has : Cont
         material_into row.range sides (drop from (applied_entries w)) (unmarked_from w.marks from (applied_entries w)) applied_bare item
 
     -- an unmarked entry stands behind the place
-    pub unmarked_place : (list : List Entry) (e : Entry) → Contains (unmarked_from w.marks from list) e → (place : ℕ) × (from ≤ place) × (slice_get list place ≡ Some e) × (is_marked w.marks place ≡ false)
-    unmarked_place list e stands =
-        let found = unmarked_at w.marks from (drop from list) e stands in
-        (from + found.0, omega arith, place_of list from found.0 (from + found.0) e refl found.1, found.2)
-
-    -- so it stands behind it
     pub unmarked_behind : (e : Entry) → Contains (unmarked_from w.marks from w.entries) e → Contains (drop from w.entries) e
     unmarked_behind e stands =
-        let found = unmarked_place w.entries e stands in
-        let behind = behind_at w.entries from found.0 e found.1 found.2 in
+        let found = free_place w.marks from w.entries e stands in
+        let behind = behind_at w.entries from found.place e found.behind found.stands in
         stands_at (drop from w.entries) behind.0 e behind.1
 
     -- and what is applied does
@@ -165,27 +134,7 @@ module _ (v : View) (row : Row) (master : ℕ) (sound : SoundView v) (has : Cont
         let found = flat_from items_in (flat_map sides (named row.range all)) item mine.1 in
         named_counts row.range sides done item mine.0
         (flat_stands items_in (flat_map sides (named row.range done)) found.0 item
-        (sides_into row.range sides all done into found.0 found.1) found.2)
-      where
-        into : (e : Entry) → Contains (unmarked_from w.marks from w.entries) e → is_joined_in row.range e ≡ true → Contains (unmarked_from w.marks from (applied_entries w)) e
-        into e stands joins =
-            let found = unmarked_place w.entries e stands in
-            let place : ℕ = found.0 in
-            ⊎_elim
-            (λ (before : place < w.applied).
-            let front : slice_get (applied_entries w) place ≡ Some e = at_front w.entries w.applied place e before found.2 in
-            let behind = behind_at (applied_entries w) from place e found.1 front in
-            unmarked_stands w.marks from (drop from (applied_entries w)) behind.0 e behind.1
-            (ap (is_marked w.marks) behind.2 ∙ found.3))
-            (λ (past : w.applied ≤ place).
-            let beyond : max from w.applied ≤ place = let after = found.1 in omega (arith, after, past) in
-            let behind = behind_at w.entries (max from w.applied) place e beyond found.2 in
-            let there : Contains (joined_from row.range (max from w.applied) w.entries) e =
-            stands_kept (is_joined_in row.range) (drop (max from w.applied) w.entries) e
-            (stands_at (drop (max from w.applied) w.entries) behind.0 e behind.1) joins in
-            let nowhere : Contains [] e = subst (λ (list : List Entry). Contains list e) none there in
-            absurd (omega (arith, nowhere.1)))
-            (cases_lt place w.applied)
+        (sides_into row.range sides all done (joined_applied row.range w from none) found.0 found.1) found.2)
 
     -- where nothing of the range stands behind the place, a master that has no record of it may begin
     pub bare_takes : (records : List Held) → IsBare row.range from w records → IsTakenUp v row master from records

@@ -1,23 +1,23 @@
 -- A view stays sound when a master yields: of a row that it is a member of, or whose term it keeps, it has all its records still.
-use Rattle.std.proofs.Common.{◌≡◌, ℕ, true, List, [], ◌∷◌, cond, refl, sym, ap, ◌∙◌, subst, ⊎_elim, inl, inr, arith, ◌==◌, Contains, ne_eqb}
-use Rattle.std.proofs.Common.{All, ◌≤◌, false, is_some}
-use Rattle.rk_inv_base.proofs.Words.{All-weaker, both_ways, cond-false, cond-true, false≢true, All-contains, filter_passes, IfSome_then}
-use Rattle.rk_inv_base.proofs.Words.{get, Ended, Held, Member, Entry, is_in, Handover, lineage_of, Phase, Rebuilding, Row, Gather, first_of}
-use Rattle.rk_inv_base.proofs.Words.{is_member, own_place, Pulling, applied_entries, member_truth, IsRebuiltBy, Bystander, FormerMember}
-use Rattle.rk_inv_base.proofs.Words.{Holds, Post, bond_of, post_of, rebuilder_post, MarkFits, RowIsRebuilt, HandedFits, MembersFit}
-use Rattle.rk_inv_base.proofs.Words.{is_granted, named_items, scan_items, wanted_place, RoleFits, AreApart, HasItems, has_all_items, View}
-use Rattle.rk_inv_base.proofs.Words.{truths, SoundView, Handed, AreHandedOver, StillCounts, speaks, ReachAll, ends_of, is_idle}
-use Rattle.rk_inv_base.proofs.Words.{HandoverFits, is_absent, row_of, may_have_staged, IsInScanOrder}
-use Rattle.rk_inv_tablets.proofs.Words.{IsIn, applied_in, scan_in, target_in, truth_in, put_here, IsRebuilderIn, former_never, IsBareOf}
-use Rattle.rk_inv_tablets.proofs.Words.{IsTargetIn, outside_post, heir_post, row_in, IsNextOf, SoundRow, SoundBeside, waits_for}
-use Rattle.rk_inv_tablets.proofs.Words.{view_by_rows, IsSettledIn, formed_apart, all_by}
+use Rattle.std.proofs.Common.{◌≡◌, ℕ, true, List, [], ◌∷◌, refl, sym, ap, ◌∙◌, ⊎_elim, inl, inr, arith, Contains, All, ◌≤◌}
+use Rattle.std.proofs.Common.{false, is_some, Some, ◌⊎◌}
+use Rattle.rk_inv_base.proofs.Words.{All-weaker, both_ways, false≢true, IfSome_then, get, Ended, Held, Member, Entry, is_in, Handover}
+use Rattle.rk_inv_base.proofs.Words.{lineage_of, Phase, Rebuilding, Row, Gather, first_of, is_member, Pulling, member_truth}
+use Rattle.rk_inv_base.proofs.Words.{post_of, rebuilder_post, MarkFits, HandedFits, MembersFit, is_granted, wanted_place}
+use Rattle.rk_inv_base.proofs.Words.{RoleFits, AreApart, HasItems, has_all_items, View, truths, SoundView, Handed, AreHandedOver}
+use Rattle.rk_inv_base.proofs.Words.{StillCounts, speaks, ReachAll, ends_of, is_idle, HandoverFits, is_absent, row_of, may_have_staged}
+use Rattle.rk_inv_base.proofs.Words.{IsInScanOrder, IsSettledIn, Call, Message, has_merged, member_material}
+use Rattle.rk_inv_tablets.proofs.Words.{scan_in, truth_in, put_here, IsRebuilderIn, IsBareOf, IsTargetIn, outside_post, heir_post, row_in}
+use Rattle.rk_inv_tablets.proofs.Words.{IsNextOf, SoundRow, SoundBeside, waits_for, view_by_rows, formed_apart, all_by}
 use Rattle.rk_inv_base.proofs.roles.ItemsDropped.{has_all_member}
-use Rattle.rk_inv_tablets.proofs.ready.Left.{found_kept, none_remains, rebuild_kept, received_kept, table_kept}
-use Rattle.rk_inv_tablets.proofs.ready.Outside.{begun_lacks, first_member, outside_lacks, rebuilder_is, second_member}
-use Rattle.rk_inv_tablets.proofs.ready.Yielding.{Begins, IsBeside, StandsBy, Yielding, by, by_row, of_records, of_tablet, yielded}
+use Rattle.rk_inv_tablets.proofs.ready.OwnItems.{none_remains}
+use Rattle.rk_inv_tablets.proofs.ready.Outside.{begun_lacks, first_member, outside_lacks, rebuilder_is, second_member, former_behind}
+use Rattle.rk_inv_tablets.proofs.ready.Yielding.{Begins, IsBeside, Yielding, by, by_row, of_records, of_tablet, yielded}
 use Rattle.rk_inv_tablets.proofs.ready.Yielding.{member_keeps, of_lineage, cover, term_kept, apart_still, member_range, silent}
 use Rattle.rk_inv_tablets.proofs.ready.Yielding.{for_grant_on, by_message_on, settled, end_known, stages}
 use Rattle.rk_inv_tablets.proofs.ready.YieldedMessages.{says_on}
+use Rattle.rk_inv_base.proofs.logs.InRange.{HaveSame, table_same, target_same, rebuilder_same}
+use Rattle.rk_inv_base.proofs.views.ByRows.{IsRebuiltIn}
 
 module _ (v : View) (a : Yielding v) where
   abbrev now : View
@@ -29,15 +29,13 @@ module _ (v : View) (a : Yielding v) where
 
   -- ---- records
 
+  -- of a row that it is a member of, or whose term it keeps, the master has the same records
+  same_records : (x : Row) → Contains v.rows x → (is_member (lineage_of x.phase) a.master ≡ true) ⊎ ((v.handovers a.master x.tablet).term ≡ x.term) → HaveSame x.range (v.records a.master) a.records
+  same_records x has counts = record { come = λ item inside left. a.left.stood item left; stays = a.left.stays x has counts }
+
   -- the master is not said to have all items of what it yielded
   lacks : (x : Row) → IsBeside v a x → has_all_items (post_of x.phase a.master) (new x) x.term ≡ true → ⊥
-  lacks x beside all =
-      ⊎_elim
-      (λ (stands : StandsBy x a.master (new x)).
-      outside_lacks (post_of x.phase a.master) (new x) x.term (outside_post x.phase a.master stands.outside) all)
-      (λ (begins : Begins x a.master (new x)).
-      begun_lacks (rebuilder_post begins.lineage a.master) (new x) x.term (heir_post begins.lineage a.master) begins.term_is
-      (rw (← (ap (λ (phase : Phase). post_of phase a.master) begins.phase_is ∙ rebuilder_is begins.lineage a.master)) all)) beside.kind
+  lacks x beside all = grind (arith, outside_lacks, post_of, outside_post, begun_lacks, rebuilder_post, heir_post, rebuilder_is)
 
   -- a master has all items of a row, in these records, if it is said to
   abbrev HasAll : Row → ℕ → Handover → List Held → Type 0
@@ -49,8 +47,7 @@ module _ (v : View) (a : Yielding v) where
       has_all_member x.phase a.master x.term (v.handovers a.master x.tablet) all in
       IfSome_then (first_of (lineage_of x.phase)) (was all)
       (λ found.
-      table_kept x.range (v.records a.master) a.records a.left.stood (a.left.stays x has (inl member))
-      (member_truth v.written x.range found))
+      table_same x.range (v.records a.master) a.records (same_records x has (inl member)) (member_truth v.written x.range found))
 
   pub items_on : (x : Row) → Contains v.rows x → (q : ℕ) → HasAll x q (v.handovers q x.tablet) (v.records q) → HasAll x q (now.handovers q x.tablet) (now.records q)
   items_on x has q was =
@@ -72,28 +69,14 @@ module _ (v : View) (a : Yielding v) where
 
   target_left : (x : Row) (source target : Member) (h : Handover) (p : Pulling) → Contains v.rows x → is_member (lineage_of x.phase) a.master ≡ true → IsGranted x source target a.master h p (v.records a.master) → IsGranted x source target a.master h p a.records
   target_left x source target h p has member granted at role =
-      let was = granted at role in
       let truth : List Entry = member_truth v.written x.range source in
-      record {
-        from_source = was.from_source;
-        workers = was.workers;
-        pulled = was.pulled;
-        received =
-            received_kept x.range (v.records a.master) a.records a.left.stood (a.left.stays x has (inl member)) _ (scan_items truth) _ _
-            (scan_in x.range truth (truth_in v.written x.range source))
-            (target_in x.range target.from (applied_entries (v.written target.master))) was.received;
-        above = was.above;
-        told = was.told;
-        early = was.early;
-        closing = was.closing;
-      }
+      target_same x.range (v.records a.master) a.records (same_records x has (inl member)) source.master truth
+      (member_material v.written x.range source) target.from (v.written target.master) h p (get v.handed x.tablet)
+      (scan_in x.range truth (truth_in v.written x.range source)) (granted at role)
 
   -- a master that was granted a tablet of whose row it is a member yields none in which it still is
   ungranted : (x : Row) → IsBeside v a x → is_member (lineage_of x.phase) a.master ≡ true → is_granted (new x).role ≡ true → ⊥
-  ungranted x beside member granted =
-      ⊎_elim
-      (λ (stands : StandsBy x a.master (new x)). false≢true (sym stands.outside ∙ member))
-      (λ (begins : Begins x a.master (new x)). both_ways (is_granted (new x).role) (ap is_granted begins.role_is) granted) beside.kind
+  ungranted x beside member granted = grind (arith, false≢true, both_ways, is_granted)
 
   targets_on : (x : Row) → Contains v.rows x → (source target : Member) → lineage_of x.phase ≡ source ∷ target ∷ [] → IsGrantedIn v x source target → IsGrantedIn now x source target
   targets_on x has source target two was =
@@ -110,31 +93,9 @@ module _ (v : View) (a : Yielding v) where
   members x has (source ∷ target ∷ []) is fit = targets_on x has source target is (λ at. fit) refl
   members x has _ is fit = tt
 
-  -- a member that another one rebuilds beside keeps no term of the row
-  former_behind : (x : Row) → Contains v.rows x → (lineage : List Member) (to q : ℕ) → x.phase ≡ Rebuilding lineage to → is_member (lineage_of x.phase) q ≡ true → (q ≡ to → ⊥) → (v.handovers q x.tablet).term ≡ x.term → ⊥
-  former_behind x has lineage to q is member away term =
-      let h : Handover = v.handovers q x.tablet in
-      let inside : is_member lineage q ≡ true =
-      ap (λ (phase : Phase). is_member (lineage_of phase) q) (sym is) ∙ member in
-      let post : post_of (Rebuilding lineage to) q ≡ FormerMember =
-      cond-false (to == q) (rebuilder_post lineage q) (cond (is_member lineage q) FormerMember Bystander) (ne_eqb to q (λ same. away (sym same)))
-      ∙ cond-true (is_member lineage q) FormerMember Bystander inside in
-      let fits : RoleFits x q h (v.written q).applied =
-      (row_in v a.sound x has).fitting q (inr term) in
-      former_never h.role x.term h.term (v.written q).applied
-      (subst (λ (post : Post). Holds (bond_of post h.role) x.term h.term (v.written q).applied) post
-      (subst (λ (phase : Phase). Holds (bond_of (post_of phase q) h.role) x.term h.term (v.written q).applied) is fits))
-
   -- where a member begins to rebuild a row, no other one has the row's term
   begins_alone : (x : Row) → Contains v.rows x → (q r : ℕ) → (r ≡ q → ⊥) → is_member (lineage_of x.phase) r ≡ true → Begins x q (now.handovers q x.tablet) → (now.handovers r x.tablet).term ≡ x.term → ⊥
-  begins_alone x has q r away member begins term =
-      ⊎_elim
-      (λ (same : now.handovers r x.tablet ≡ v.handovers r x.tablet).
-      former_behind x has begins.lineage q r begins.phase_is member away (ap (λ (h : Handover). h.term) (sym same) ∙ term))
-      (λ (also : Begins x r (now.handovers r x.tablet)).
-      away (subst (λ (phase : Phase). IsRebuiltBy phase q) also.phase_is
-      (rw begins.phase_is refl)))
-      (member_keeps v a x has r member)
+  begins_alone x has q r away member begins term = grind (arith, former_behind, row_in, is_member, lineage_of, member_keeps)
 
   -- what a source told is what it keeps, while source and target have one term
   pub told : (x : Row) → Contains v.rows x → (lineage : List Member) → lineage_of x.phase ≡ lineage → AreApart lineage → HandedFits x v.handovers v.completions v.handed lineage → HandedFits x now.handovers v.completions v.handed lineage
@@ -171,11 +132,7 @@ module _ (v : View) (a : Yielding v) where
       (of_records v a (λ q items. IsBareOf (v.handovers q r) (v.written q) items) q
       (λ was.
       IfSome_then (wanted_place (v.handovers a.master r).role) was
-      (λ from bare. record {
-        placed = bare.placed;
-        nothing = bare.nothing;
-        empty = none_remains (is_in (v.handovers a.master r).range) (v.records a.master) a.records a.left.stood bare.empty;
-      })) was)
+      (λ from bare. assumption (none_remains (is_in (v.handovers a.master r).range) (v.records a.master) a.records a.left.stood bare.empty))) was)
 
   -- ---- rebuilds
 
@@ -190,28 +147,7 @@ module _ (v : View) (a : Yielding v) where
 
   rebuilder_left : (x : Row) (lineage : List Member) → Contains v.rows x → WasRebuilder x lineage a.master (v.records a.master) → WasRebuilder x lineage a.master a.records
   rebuilder_left x lineage has fit is term =
-      let was = fit is term in
-      let from : ℕ = own_place (v.handovers a.master x.tablet).role in
-      let stays : (item : Held) → is_in x.range item ≡ true → Contains (v.records a.master) item → Contains a.records item =
-      a.left.stays x has (inr term) in
-      record {
-        range_is = was.range_is;
-        gather = was.gather;
-        read = was.read;
-        placed = was.placed;
-        merged = was.merged;
-        items =
-            rebuild_kept x.range (v.records a.master) a.records a.left.stood stays (truths v x) _
-            (applied_in x.range from (v.written a.master)) was.items;
-        sides = λ item named.
-            let both = was.sides item named in (
-              both.0,
-              found_kept x.range (v.records a.master) a.records a.left.stood stays item
-                  (All-contains (IsIn x.range) (named_items x.range from (v.written a.master)) item
-                  (filter_passes (is_in x.range) _) named) both.1,
-            );
-        outside = was.outside;
-      }
+      rebuilder_same v x lineage a.master (v.records a.master) a.records (same_records x has (inr term)) (fit is term)
 
   rebuilder_on : (x : Row) (lineage : List Member) (to : ℕ) → Contains v.rows x → WasRebuilder x lineage to (v.records to) → IsRebuilder x lineage to (now.handovers to x.tablet) (now.gathers to x.tablet) (now.merged to x.tablet) (now.records to)
   rebuilder_on x lineage to has was =
@@ -219,10 +155,6 @@ module _ (v : View) (a : Yielding v) where
       (λ yields was is term.
       rw records_are (yields.rebuilds x lineage has refl is term))
       (of_records v a (λ q items. WasRebuilder x lineage q items) to (rebuilder_left x lineage has) was)
-
-  abbrev IsRebuiltIn : View → Row → Phase → Type 0
-  IsRebuiltIn w x phase =
-      RowIsRebuilt x phase (truths v x) w.logs w.written w.stored w.handovers w.completions w.gathers w.merged w.records w.live
 
   pub row_rebuilt : (x : Row) → Contains v.rows x → (phase : Phase) → x.phase ≡ phase → IsRebuiltIn v x phase → IsRebuiltIn now x phase
   row_rebuilt x has (Rebuilding lineage to) is fit = (rebuilder_on x lineage to has (λ _. fit.0) is, fit.1)
@@ -236,15 +168,10 @@ module _ (v : View) (a : Yielding v) where
       All-weaker (λ mark. mark.tablet ≡ x.tablet → MarkFits x a.master (v.handovers a.master x.tablet) (v.live a.master) (v.written a.master) mark)
       (λ mark. mark.tablet ≡ x.tablet → MarkFits x a.master (new x) (v.live a.master) (v.written a.master) mark)
       (λ mark was its.
-      let fit = was its in record {
-        rebuilt = fit.rebuilt;
-        within = fit.within;
-        present = fit.present;
-        by_rebuilder = λ of_term.
-            let told = fit.by_rebuilder of_term in
-            let term = told.1 in absurd (omega (arith, beside.below, term));
-        behind = fit.behind;
-      })
+      let fit = was its in
+      let told : mark.term ≡ x.term → (x.phase ≡ Rebuilding (lineage_of x.phase) a.master) × ((new x).term ≡ x.term) × (has_merged (new x).role ≡ true) = λ of_term.
+      absurd (omega (arith, beside.below, (fit.by_rebuilder of_term).1)) in
+      assumption)
       (v.written a.master).marks)
 
   -- ---- the whole
@@ -259,93 +186,62 @@ module _ (v : View) (a : Yielding v) where
     IsFloor h = IsNextOf v x h.floor
 
     row_yielded : SoundRow v x → SoundRow now x
-    row_yielded was = record {
-      named = was.named;
-      begun = was.begun;
-      formed = was.formed;
-      placed = was.placed;
-      sent = was.sent;
-      fitting = λ q.
-          by_row v a (λ x q h. StillCounts (v.live q) h.term x.term → RoleFits x q h (v.written q).applied) x has q
-          (λ beside old counts. beside.fits) (was.fitting q);
-      ranged = λ q.
-          by_row v a (λ x q h. StillCounts (v.live q) h.term x.term → is_member (lineage_of x.phase) q ≡ true → h.range ≡ x.range) x has q
-          (λ beside old counts. member_range v a x beside) (was.ranged q);
-      at_term = term_kept v a x has was.at_term;
-      truth = was.truth;
-      above = was.above;
-      reached = was.reached;
-      recorded = was.recorded;
-      moving = was.moving;
-      answering = λ q.
-          by_row v a
-          (λ x q h. StillCounts (v.live q) h.term x.term → speaks (post_of x.phase q) h x.term ≡ true
-          → ReachAll x.range v.journal (ends_of (v.completions q x.tablet)))
-          x has q (λ beside old counts says. absurd (silent v a x beside says)) (was.answering q);
-      ends_granted = for_grant_on v a AreHanded x has was.ends_granted;
-      ends_sent = λ n m there. by_message_on v a AreHanded x has m.body (was.ends_sent n m there);
-      low = was.low;
-      low_moving = was.low_moving;
-      counted = λ q.
-          by_row v a
-          (λ x q h. StillCounts (v.live q) h.term x.term → speaks (post_of x.phase q) h x.term ≡ true → IsNextOf v x h.counter) x has q
-          (λ beside old counts says. absurd (silent v a x beside says)) (was.counted q);
-      floor_granted = for_grant_on v a IsFloor x has was.floor_granted;
-      floor_sent = λ n m there. by_message_on v a IsFloor x has m.body (was.floor_sent n m there);
-      goes_on = was.goes_on;
-      done = was.done;
-      unnamed = was.unnamed;
-      idle = λ q.
-          by_row v a
-          (λ x q h. StillCounts (v.live q) h.term x.term → is_idle h.role ≡ true → IsSettledIn x.range (v.written q)) x has q
-          (λ beside old counts idles. settled v a x has beside idles) (was.idle q);
-      items = λ q lives. items_on x has q (was.items q lives);
-      target = members x has (lineage_of x.phase) refl was.target;
-      handed_on = told x has (lineage_of x.phase) refl (formed_apart x.phase was.formed) was.handed_on;
-      named_items = was.named_items;
-      rebuilt = row_rebuilt x has x.phase refl was.rebuilt;
-      marks = λ q. marks_on x has q (was.marks q);
-      pieces = was.pieces;
-      says = λ n m there. says_on v a x has m.from m.to m.body (was.says n m there);
-    }
+    row_yielded was =
+        assumption (
+          λ (q : ℕ).
+              by_row v a (λ x q h. StillCounts (v.live q) h.term x.term → RoleFits x q h (v.written q).applied) x has q
+              (λ beside old counts. beside.fits) (was.fitting q),
+          λ (q : ℕ).
+              by_row v a (λ x q h. StillCounts (v.live q) h.term x.term → is_member (lineage_of x.phase) q ≡ true → h.range ≡ x.range) x has q
+              (λ beside old counts. member_range v a x beside) (was.ranged q),
+          term_kept v a x has was.at_term,
+          λ (q : ℕ).
+              by_row v a
+              (λ x q h. StillCounts (v.live q) h.term x.term → speaks (post_of x.phase q) h x.term ≡ true
+              → ReachAll x.range v.journal (ends_of (v.completions q x.tablet)))
+              x has q (λ beside old counts says. absurd (silent v a x beside says)) (was.answering q),
+          for_grant_on v a AreHanded x has was.ends_granted,
+          λ (n : ℕ) (m : Message) (there : get v.wire n ≡ Some m). by_message_on v a AreHanded x has m.body (was.ends_sent n m there),
+          λ (q : ℕ).
+              by_row v a
+              (λ x q h. StillCounts (v.live q) h.term x.term → speaks (post_of x.phase q) h x.term ≡ true → IsNextOf v x h.counter) x has q
+              (λ beside old counts says. absurd (silent v a x beside says)) (was.counted q),
+          for_grant_on v a IsFloor x has was.floor_granted,
+          λ (n : ℕ) (m : Message) (there : get v.wire n ≡ Some m). by_message_on v a IsFloor x has m.body (was.floor_sent n m there),
+          λ (q : ℕ).
+              by_row v a (λ x q h. StillCounts (v.live q) h.term x.term → is_idle h.role ≡ true → IsSettledIn x.range (v.written q)) x has q
+              (λ beside old counts idles. settled v a x has beside idles) (was.idle q),
+          λ (q : ℕ) (lives : v.live q ≡ true). items_on x has q (was.items q lives),
+          members x has (lineage_of x.phase) refl was.target,
+          told x has (lineage_of x.phase) refl (formed_apart x.phase was.formed) was.handed_on,
+          row_rebuilt x has x.phase refl was.rebuilt,
+          λ (q : ℕ). marks_on x has q (was.marks q),
+          λ (n : ℕ) (m : Message) (there : get v.wire n ≡ Some m). says_on v a x has m.from m.to m.body (was.says n m there),
+        )
 
   beside : SoundBeside now
-  beside = record {
-    numbered = a.sound.nodes.numbered;
-    backed = a.sound.nodes.backed;
-    known_backups = a.sound.nodes.known;
-    crashed = a.sound.nodes.crashed;
-    left = a.sound.nodes.left;
-    rows_apart = a.sound.rows.apart;
-    covered = a.sound.rows.covered;
-    kept = λ q r.
-        by v a (λ q h. All (λ x. HandoverFits x r h) v.rows) q r
-        (λ yields old. all_by _ v.rows yields.formed) (a.sound.terms.kept q r);
-    begun = λ q r.
-        by v a (λ q h. is_absent h.role ≡ false → 1 ≤ h.term) q r (λ yields old. yields.begun) (a.sound.terms.begun q r);
-    apart = apart_still v a;
-    cover = cover v a;
-    has_row = λ q r alive.
-        by v a (λ q h. is_absent h.role ≡ false → is_some (row_of v.rows r) ≡ true) q r (λ yields old. yields.known) (a.sound.roles.known q r alive);
-    logs = a.sound.logs;
-    legal = a.sound.truth.legal;
-    rising = a.sound.truth.rising;
-    seen = a.sound.truth.seen;
-    once = a.sound.calls.once;
-    known = λ q r alive.
-        All-weaker _ _ (end_known v a q r)
-        (ends_of (v.completions q r)) (a.sound.calls.known q r alive);
-    waiting = λ q alive place call there.
-        let wait = a.sound.rest.waiting q alive place call there in
-        waits_for v.rows v.rows (v.handovers q) (now.handovers q) (v.written q) q place call wait wait.row wait.has_row wait.in_row wait.is_last
-        (by_row v a (λ x q h. may_have_staged h.role ≡ true) wait.row wait.has_row q (stages v a wait.row wait.has_row) wait.may_stage);
-    are_last = a.sound.rest.are_last;
-    found = a.sound.rest.found;
-    ordered = λ q. of_records v a (λ q items. IsInScanOrder items) q (λ old. a.left.ordered) (a.sound.records.ordered q);
-    bare = λ q r. bare_on q r (a.sound.receives.bare q r);
-    others = a.sound.messages.others;
-    asked = a.sound.asked;
-  }
+  beside =
+      assumption (
+        a.sound,
+        λ (q r : ℕ).
+            by v a (λ q h. All (λ x. HandoverFits x r h) v.rows) q r
+            (λ yields old. all_by _ v.rows yields.formed) (a.sound.terms.kept q r),
+        λ (q r : ℕ).
+            by v a (λ q h. is_absent h.role ≡ false → 1 ≤ h.term) q r (λ yields old. yields.begun) (a.sound.terms.begun q r),
+        apart_still v a,
+        cover v a,
+        λ (q r : ℕ) (alive : v.live q ≡ true).
+            by v a (λ q h. is_absent h.role ≡ false → is_some (row_of v.rows r) ≡ true) q r (λ yields old. yields.known)
+            (a.sound.roles.known q r alive),
+        λ (q r : ℕ) (alive : v.live q ≡ true).
+            All-weaker _ _ (end_known v a q r) (ends_of (v.completions q r)) (a.sound.calls.known q r alive),
+        λ (q : ℕ) (alive : v.live q ≡ true) (place : ℕ) (call : Call) (there : get (v.calls q) place ≡ Some call).
+            let wait = a.sound.rest.waiting q alive place call there in
+            waits_for v.rows v.rows (v.handovers q) (now.handovers q) (v.written q) q place call wait wait.row wait.has_row wait.in_row wait.is_last
+            (by_row v a (λ x q h. may_have_staged h.role ≡ true) wait.row wait.has_row q (stages v a wait.row wait.has_row) wait.may_stage),
+        λ (q : ℕ). of_records v a (λ q items. IsInScanOrder items) q (λ old. a.left.ordered) (a.sound.records.ordered q),
+        λ (q r : ℕ). bare_on q r (a.sound.receives.bare q r),
+      )
 
   pub view_yielded : SoundView now
   view_yielded = view_by_rows now beside (all_by _ v.rows (λ x has. row_yielded x has (row_in v a.sound x has)))

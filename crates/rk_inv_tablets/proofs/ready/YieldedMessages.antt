@@ -1,7 +1,7 @@
 -- The part Messages where a master yields: what a message says of a row it says still.
-use Rattle.std.proofs.Common.{◌≡◌, ℕ, Bool, true, List, [], ◌∷◌, Option, None, refl, sym, ◌∙◌, subst, ⊎_elim, arith, Contains}
+use Rattle.std.proofs.Common.{◌≡◌, ℕ, Bool, List, [], ◌∷◌, Option, None, refl, subst, arith, Contains}
 use Rattle.rk_inv_base.proofs.Words.{get, Member, Node, Completions, Handover, lineage_of, Phase, Moving, Opening, Rebuilding, Row, Grant}
-use Rattle.rk_inv_base.proofs.Words.{Prepare, Tenure, Transfer, Body, Got, Pulled, Rebuild, Rebuilt, Handed, is_member, AfterMove}
+use Rattle.rk_inv_base.proofs.Words.{Tenure, Transfer, Body, Got, Pulled, Rebuilt, Handed, is_member, AfterMove}
 use Rattle.rk_inv_base.proofs.Words.{AskAgrees, CloseFits, GotAgrees, GrantAgrees, IsMovingOrOwned, IsOf, IsOfTarget, JoinedIn, OwnFits}
 use Rattle.rk_inv_base.proofs.Words.{PrepareFits, PulledAgrees, ReadyIn, RebuildFits, RebuiltIn, ReleaseFits, TransferIn, View, IfMaster}
 use Rattle.rk_inv_base.proofs.Words.{ByMaster}
@@ -25,20 +25,10 @@ module _ (v : View) (a : Yielding v) where
   -- ---- orders and reports
 
   own_on : (x : Row) → IsBeside v a x → (live : Bool) (tenure : Tenure) → OwnFits x (old x) live a.master tenure → OwnFits x (new x) live a.master tenure
-  own_on x beside live tenure fits = record {
-    owned = fits.owned;
-    reached = λ same lives. omega (arith, fits.reached same lives, beside.grows);
-    owner = λ same lives at.
-        let reached = fits.reached same lives in
-        let term : (new x).term ≡ (old x).term = omega (arith, reached, at, beside.grows) in
-        rw term (fits.owner same lives (sym term ∙ at));
-  }
+  own_on x beside live tenure fits = grind arith
 
   grant_on : (x : Row) → IsBeside v a x → (live : Bool) (handed : Option Handed) (grant : Grant) → GrantAgrees x (old x) live handed a.master grant → GrantAgrees x (new x) live handed a.master grant
-  grant_on x beside live handed grant agrees = record {
-    reached = λ same lives. omega (arith, agrees.reached same lives, beside.grows);
-    told = λ same lives at waits. absurd (omega (arith, agrees.reached same lives, at, beside.greater waits));
-  }
+  grant_on x beside live handed grant agrees = grind arith
 
   ready_on : (x : Row) → IsBeside v a x → (phase : Phase) (place : ℕ) → ReadyIn phase (old x) x.term a.master place → ReadyIn phase (new x) x.term a.master place
   ready_on x beside (Opening source sfrom target None) place says = let e = says.2 in absurd (omega (arith, beside.below, e))
@@ -69,15 +59,7 @@ module _ (v : View) (a : Yielding v) where
 
   -- the target of a row has the tablet at the term of a message, if it had it
   of_target : (x : Row) (source target : Member) → HasMembers x (source ∷ target ∷ []) → (q : ℕ) → target.master ≡ q → (tenure : Tenure) → AfterMove x tenure → IsOfTarget x (now.handovers q x.tablet) tenure → IsOfTarget x (v.handovers q x.tablet) tenure
-  of_target x source target has q here tenure moved is =
-      let member : is_member (source ∷ target ∷ []) q ≡ true =
-      rw (← here) (second_member source target []) in
-      ⊎_elim
-      (λ (same : now.handovers q x.tablet ≡ v.handovers q x.tablet). rw (← same) is)
-      (λ (begins : Begins x q (now.handovers q x.tablet)).
-      absurd (begins_still x q (now.handovers q x.tablet) begins
-      (moved (record { tablet = is.tablet; term = is.term ∙ begins.term_is }))))
-      (member_keeps v a x has.0 q (of_lineage v a x (source ∷ target ∷ []) has.1 q member))
+  of_target x source target has q here tenure moved is = grind (arith, is_member, second_member, begins_still, member_keeps, of_lineage)
 
   ask_on : (x : Row) (lineage : List Member) → HasMembers x lineage → (q : ℕ) (to : Node) (tenure : Tenure) → AfterMove x tenure → AskAgrees x v.handovers lineage q to tenure → AskAgrees x now.handovers lineage q to tenure
   ask_on x (source ∷ target ∷ []) has q to tenure moved agrees = λ here is.

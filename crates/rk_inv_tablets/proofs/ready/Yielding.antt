@@ -1,19 +1,19 @@
 -- Yielding: a living master yields what it has of tablets to an order of a greater term. Of one tablet it takes a new role, in which it
 -- waits for the tablet or begins to rebuild it; it gives up others, and may drop items. So are calls, counters and rests then.
 use Rattle.std.proofs.Common.{◌≡◌, ℕ, ◌<◌, ◌≤◌, true, false, List, Some, None, refl, sym, ◌∙◌, ⊎_elim, ◌⊎◌, arith, is_some, All, Contains}
-use Rattle.std.proofs.Common.{Bool, ◌∷◌, ◌&&◌, Option, cond, eqb, ap, subst, inl, inr, IfSome, ◌==◌, drop}
+use Rattle.std.proofs.Common.{Bool, ◌∷◌, ◌&&◌, Option, cond, eqb, ap, subst, inl, inr, IfSome, drop}
 use Rattle.rk_inv_base.proofs.Words.{cases_eq, false≢true, meets, Ended, Held, Member, is_in, IsInScanOrder, Handover, lineage_of, row_of}
 use Rattle.rk_inv_base.proofs.Words.{Phase, Moving, Opening, Rebuilding, Row, Gather, is_member, is_absent, Pulling, Tablet, IsItemWithin}
 use Rattle.rk_inv_base.proofs.Words.{IsWithinRows, is_wanting, KeepTerm, RoleFits, HandoverFits, View, truths, CoverOf, SoundView, and_left}
-use Rattle.rk_inv_base.proofs.Words.{both_ways, list_any, get, is_serving, Role, Body, Handed, second_of, touches, is_idle, may_have_staged}
+use Rattle.rk_inv_base.proofs.Words.{both_ways, list_any, is_serving, Role, Body, Handed, second_of, touches, is_idle, may_have_staged}
 use Rattle.rk_inv_base.proofs.Words.{IsKnown, IsStagedEnd, handed_by, handed_for_grant, is_waiting, is_waiting_at, second_has, post_of}
 use Rattle.rk_inv_base.proofs.Words.{rebuilder_post, speaks, rests}
 use Rattle.rk_inv_tablets.proofs.Words.{put_by, put_here, put_other, IsRebuilderIn, IsBareOf, tablets_taken, outside_post, heir_post}
 use Rattle.rk_inv_tablets.proofs.Words.{row_in}
-use Rattle.rk_transfer.specs.declared.role.Role.TheVariants as roles
-use Rattle.rk_inv_tablets.proofs.ready.Left.{all_remain}
+use Rattle.rk_inv_tablets.proofs.ready.OwnItems.{all_remain}
 use Rattle.rk_inv_tablets.proofs.ready.Outside.{is_quiet, begun_silent, outside_idle, quiet_silent, rebuilder_is, second_member}
-use Rattle.rk_message.specs.declared.message.Body.TheVariants as bodies
+use Rattle.rk_inv_base.proofs.views.ByRows.{staged_as}
+use Rattle.rk_transfer.specs.declared.role.Role.TheVariants as roles
 
 -- ---- what it is
 
@@ -110,10 +110,7 @@ and_less false b c less both = absurd (cc)
 
 -- a role in which nothing may be staged is not one in which something may
 idle_stages : (role : Role) → is_idle role ≡ true → may_have_staged role ≡ true → ⊥
-idle_stages roles.Absent idle stages = absurd (cc)
-idle_stages roles.Frozen idle stages = absurd (cc)
-idle_stages (roles.Wanting from) idle stages = absurd (cc)
-idle_stages role idle stages = absurd (cc)
+idle_stages role idle stages = grind arith
 
 module _ (v : View) (a : Yielding v) where
   abbrev pub yielded : View
@@ -125,34 +122,7 @@ module _ (v : View) (a : Yielding v) where
 
   -- what holds of a tablet, and then of what the master makes of it, holds of what is kept
   pub of_tablet : (P : Said) (q r : ℕ) → (IsYielded r → SaidIn P v a.master r → SaidOf P a.master (a.tablets r)) → SaidIn P v q r → SaidIn P yielded q r
-  of_tablet P q r gives was =
-      let t : Tablet = a.tablets r in
-      let handovers : ℕ → Handover = λ number. (a.tablets number).handover in
-      let pullings : ℕ → Pulling = λ number. (a.tablets number).pulling in
-      let gathers : ℕ → Gather = λ number. (a.tablets number).gather in
-      let merged : ℕ → List Ended = λ number. (a.tablets number).merged_ends in
-      ⊎_elim
-      (λ (at : q ≡ a.master).
-      let here : SaidIn P v a.master r = rw (← at) was in
-      rw (
-        put_here v.handovers a.master handovers q at,
-        put_here v.pullings a.master pullings q at,
-        put_here v.gathers a.master gathers q at,
-        put_here v.merged a.master merged q at,
-      )
-      (rw at (⊎_elim
-      (λ (same : StaysSo v a.master r t).
-      rw (same.handover_is, same.pulling_is, same.gather_is, same.merged_is) here)
-      (λ (yields : IsYielded r). gives yields here)
-      (a.step r))))
-      (λ (other : q ≡ a.master → ⊥).
-      rw (
-        put_other v.handovers a.master handovers q other,
-        put_other v.pullings a.master pullings q other,
-        put_other v.gathers a.master gathers q other,
-      )
-      (rw (put_other v.merged a.master merged q other) was))
-      (cases_eq q a.master)
+  of_tablet P q r gives was = grind (arith, put_here, put_other, cases_eq)
 
   -- so it is of handovers alone
   pub by : (P : ℕ → Handover → Type 0) (q r : ℕ) → (IsYielded r → P a.master (v.handovers a.master r) → P a.master (a.tablets r).handover) → P q (v.handovers q r) → P q (yielded.handovers q r)
@@ -168,10 +138,7 @@ module _ (v : View) (a : Yielding v) where
 
   -- what holds of the records holds of what is left
   pub of_records : (P : ℕ → List Held → Type 0) (q : ℕ) → (P a.master (v.records a.master) → P a.master a.records) → P q (v.records q) → P q (yielded.records q)
-  of_records P q gives was =
-      put_by v.records a.master (λ items. a.records) (P q) q
-      (λ at. rw at (gives (rw (← at) was)))
-      (λ other. was)
+  of_records P q gives was = grind (arith, put_by)
 
   -- ---- Roles
 
@@ -183,10 +150,7 @@ module _ (v : View) (a : Yielding v) where
 
   -- a member of the lineage has the row's range
   pub member_range : (x : Row) → IsBeside x → is_member (lineage_of x.phase) a.master ≡ true → (a.tablets x.tablet).handover.range ≡ x.range
-  member_range x beside member =
-      ⊎_elim
-      (λ (stands : StandsBy x a.master (a.tablets x.tablet).handover). absurd (false≢true (sym stands.outside ∙ member)))
-      (λ (begins : Begins x a.master (a.tablets x.tablet).handover). begins.range_is) beside.kind
+  member_range x beside member = grind (arith, false≢true)
 
   pub term_kept : (x : Row) → Contains v.rows x → KeepTerm x.phase (λ q. (v.handovers q x.tablet).term) x.term → KeepTerm x.phase (λ q. (yielded.handovers q x.tablet).term) x.term
   term_kept x has =
@@ -195,33 +159,20 @@ module _ (v : View) (a : Yielding v) where
 
   -- tablets of one master that are not absent do not meet
   pub apart_still : (q one other : ℕ) → (one ≡ other → ⊥) → is_absent (yielded.handovers q one).role ≡ false → is_absent (yielded.handovers q other).role ≡ false → meets (yielded.handovers q one).range (yielded.handovers q other).range ≡ false
-  apart_still q one other differ =
-      let Apart : (ℕ → Handover) → Type 0 = λ kept.
-      is_absent (kept one).role ≡ false → is_absent (kept other).role ≡ false → meets (kept one).range (kept other).range ≡ false in
-      let new : ℕ → Handover = λ number. (a.tablets number).handover in
-      ⊎_elim
-      (λ (at : q ≡ a.master). rw (put_here v.handovers a.master new q at) (a.apart one other differ))
-      (λ (away : q ≡ a.master → ⊥).
-      rw (put_other v.handovers a.master new q away) (a.sound.terms.apart q one other differ))
-      (cases_eq q a.master)
+  apart_still q one other differ = grind (arith, is_absent, meets, put_here, put_other, cases_eq)
 
   -- ---- Cover
 
   pub cover : CoverOf yielded
-  cover = record {
-    unknown = λ q r. by (λ q h. row_of v.rows r ≡ None → h.term ≡ 0) q r (λ yields was. yields.unknown) (a.sound.cover.unknown q r);
-    marks = a.sound.cover.marks;
-    sent = a.sound.cover.sent;
-    ranges = λ q r.
-        by (λ q h. 1 ≤ h.term → IsWithinRows v.rows h.range) q r (λ yields was. yields.ranges) (a.sound.cover.ranges q r);
-    ordered = a.sound.cover.ordered;
-    entries = a.sound.cover.entries;
-    sides = a.sound.cover.sides;
-    items = λ q.
-        of_records (λ q items. All (IsItemWithin v.rows) items) q
-        (all_remain (IsItemWithin v.rows) (v.records a.master) a.records a.left.stood) (a.sound.cover.items q);
-    wholes = a.sound.cover.wholes;
-  }
+  cover =
+      assumption (
+        a.sound.cover,
+        λ (q r : ℕ). by (λ q h. row_of v.rows r ≡ None → h.term ≡ 0) q r (λ yields was. yields.unknown) (a.sound.cover.unknown q r),
+        λ (q r : ℕ). by (λ q h. 1 ≤ h.term → IsWithinRows v.rows h.range) q r (λ yields was. yields.ranges) (a.sound.cover.ranges q r),
+        λ (q : ℕ).
+            of_records (λ q items. All (IsItemWithin v.rows) items) q
+            (all_remain (IsItemWithin v.rows) (v.records a.master) a.records a.left.stood) (a.sound.cover.items q),
+      )
 
   -- ---- calls, counters and rests
 
@@ -251,21 +202,10 @@ module _ (v : View) (a : Yielding v) where
 
   -- so where it waits for a grant it did before
   waited : (x : Row) → Contains v.rows x → (q : ℕ) → is_member (lineage_of x.phase) q ≡ true → is_wanting (now.handovers q x.tablet).role ≡ true → is_wanting (v.handovers q x.tablet).role ≡ true
-  waited x has q member waits =
-      ⊎_elim
-      (λ (same : now.handovers q x.tablet ≡ v.handovers q x.tablet). ap (λ (h : Handover). is_wanting h.role) (sym same) ∙ waits)
-      (λ (begins : Begins x q (now.handovers q x.tablet)).
-      absurd (both_ways (is_wanting (now.handovers q x.tablet).role) (ap is_wanting begins.role_is) waits))
-      (member_keeps x has q member)
+  waited x has q member waits = grind (arith, is_wanting, both_ways, member_keeps)
 
   waited_at : (x : Row) → Contains v.rows x → (q term : ℕ) → is_member (lineage_of x.phase) q ≡ true → is_waiting_at (Some (now.handovers q x.tablet)) term ≡ true → is_waiting_at (Some (v.handovers q x.tablet)) term ≡ true
-  waited_at x has q term member waits =
-      let h : Handover = now.handovers q x.tablet in
-      ⊎_elim
-      (λ (same : h ≡ v.handovers q x.tablet). ap (λ (h : Handover). is_waiting_at (Some h) term) (sym same) ∙ waits)
-      (λ (begins : Begins x q h).
-      absurd (false≢true (sym (and_left (is_wanting h.role) (h.term == term) (ap is_wanting begins.role_is)) ∙ waits)))
-      (member_keeps x has q member)
+  waited_at x has q term member waits = grind (arith, is_waiting_at, false≢true, and_left, is_wanting, member_keeps)
 
   second_waited : (x : Row) → Contains v.rows x → (lineage : List Member) → lineage_of x.phase ≡ lineage → is_waiting (second_has now.handovers x (second_of lineage)) ≡ true → is_waiting (second_has v.handovers x (second_of lineage)) ≡ true
   second_waited x has (source ∷ target ∷ more) is waits =
@@ -279,50 +219,27 @@ module _ (v : View) (a : Yielding v) where
 
   -- and what is handed over was handed over before
   pub for_grant_on : (P : Handed → Type 0) (x : Row) → Contains v.rows x → IfSome (handed_for_grant x v.handovers v.handed) P → IfSome (handed_for_grant x now.handovers v.handed) P
-  for_grant_on P x has =
-      less_given P (is_waiting (second_has v.handovers x (second_of (lineage_of x.phase))))
-      (is_waiting (second_has now.handovers x (second_of (lineage_of x.phase)))) (get v.handed x.tablet)
-      (second_waited x has (lineage_of x.phase) refl)
+  for_grant_on P x has = grind (arith, less_given, is_waiting, second_has, second_of, lineage_of, second_waited)
 
   pub by_message_on : (P : Handed → Type 0) (x : Row) → Contains v.rows x → (body : Body) → IfSome (handed_by x v.handovers body) P → IfSome (handed_by x now.handovers body) P
-  by_message_on P x has (bodies.Grant grant) =
-      let waits : (ℕ → ℕ → Handover) → Bool = λ handovers.
-      is_waiting_at (second_has handovers x (second_of (lineage_of x.phase))) grant.tenure.term in
-      less_given P (eqb grant.tenure.tablet x.tablet && waits v.handovers) (eqb grant.tenure.tablet x.tablet && waits now.handovers)
-      (Some (record { floor = grant.floor; ends = grant.ends }))
-      (and_less (eqb grant.tenure.tablet x.tablet) (waits v.handovers) (waits now.handovers)
-      (second_waited_at x grant.tenure.term has (lineage_of x.phase) refl))
-  by_message_on P x has _ = λ was. was
+  by_message_on P x has body = grind (arith, is_waiting_at, second_has, second_of, lineage_of, less_given, eqb, and_less, second_waited_at)
 
   -- ---- who answers
 
   -- the master answers for nothing that it yielded
   pub silent : (x : Row) → IsBeside x → speaks (post_of x.phase a.master) (new x) x.term ≡ true → ⊥
   silent x beside says =
-      ⊎_elim
-      (λ (stands : StandsBy x a.master (new x)).
-      quiet_silent (post_of x.phase a.master) (new x) x.term stands.quiet (outside_post x.phase a.master stands.outside) says)
-      (λ (begins : Begins x a.master (new x)).
-      begun_silent (rebuilder_post begins.lineage a.master) (new x) x.term (heir_post begins.lineage a.master)
-      (ap is_serving begins.role_is) begins.term_is
-      (rw (← (ap (λ (phase : Phase). post_of phase a.master) begins.phase_is ∙ rebuilder_is begins.lineage a.master)) says)) beside.kind
+      grind (arith, quiet_silent, post_of, outside_post, begun_silent, rebuilder_post, heir_post, is_serving, rebuilder_is)
 
   -- an end that is kept is known as before
   pub end_known : (q r : ℕ) (end : Ended) → IsKnown v.base v.journal end ⊎ IsStagedEnd v.rows (rests v) q r (v.handovers q r).term end → IsKnown v.base v.journal end ⊎ IsStagedEnd v.rows (rests v) q r (now.handovers q r).term end
   end_known q r end =
       ⊎_elim (λ (known : IsKnown v.base v.journal end). inl known)
       (λ (staged : IsStagedEnd v.rows (rests v) q r (v.handovers q r).term end).
-      inr (record {
-        row = staged.row;
-        stands = staged.stands;
-        told = staged.told;
-        number = staged.number;
-        rebuilt = staged.rebuilt;
-        at_term =
-            rw (← staged.number) (by_row (λ x q h. h.term ≡ x.term) staged.row staged.stands q
-            (λ beside at. absurd (omega (arith, beside.below, at)))
-            (rw staged.number staged.at_term));
-      }))
+      inr (staged_as v.rows v.rows (rests v) (rests v) q r (v.handovers q r).term (now.handovers q r).term end staged staged.stands staged.told
+      (rw (← staged.number) (by_row (λ x q h. h.term ≡ x.term) staged.row staged.stands q
+      (λ beside at. absurd (omega (arith, beside.below, at)))
+      (rw staged.number staged.at_term)))))
 
   -- ---- what is staged
 
@@ -337,15 +254,8 @@ module _ (v : View) (a : Yielding v) where
       (outside_post x.phase a.master outside) beside.below (fitted x has)
 
   pub settled : (x : Row) → Contains v.rows x → IsBeside x → is_idle (new x).role ≡ true → list_any (touches x.range) (drop (v.written a.master).applied (v.written a.master).entries) ≡ false
-  settled x has beside idles =
-      ⊎_elim
-      (λ (stands : StandsBy x a.master (new x)).
-      (row_in v a.sound x has).idle a.master (inl a.lives) (idled x has beside stands.outside))
-      (λ (begins : Begins x a.master (new x)). absurd (both_ways (is_idle (new x).role) (ap is_idle begins.role_is) idles)) beside.kind
+  settled x has beside idles = grind (arith, row_in, idled, both_ways, is_idle)
 
   -- where something may be staged, it may be still
   pub stages : (x : Row) → Contains v.rows x → IsBeside x → may_have_staged (old x).role ≡ true → may_have_staged (new x).role ≡ true
-  stages x has beside staged =
-      ⊎_elim
-      (λ (stands : StandsBy x a.master (new x)). absurd (idle_stages (old x).role (idled x has beside stands.outside) staged))
-      (λ (begins : Begins x a.master (new x)). ap may_have_staged begins.role_is) beside.kind
+  stages x has beside staged = grind (arith, idle_stages, idled, may_have_staged)

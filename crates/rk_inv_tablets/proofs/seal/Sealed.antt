@@ -1,22 +1,22 @@
 -- A lane stays sound when a target that has pulled all seals its side lists: its master cuts them into side segments, which have what
 -- the target copied, and the target joins.
-use Rattle.std.proofs.Common.{◌≡◌, ℕ, ◌+◌, ◌-◌, ◌<◌, true, List, [], ◌∷◌, ◌++◌, fold, length, map, Option, Some, None, is_some, refl, sym}
-use Rattle.std.proofs.Common.{ap, ◌∙◌, subst, inl, arith, append_assoc, length-append, nat_le, nat_lt, slice_index_or, sum, All, Contains}
-use Rattle.std.proofs.Common.{flat_map, le-ltb, append-nil}
+use Rattle.std.proofs.Common.{◌≡◌, ℕ, ◌+◌, ◌-◌, ◌<◌, true, List, [], ◌∷◌, ◌++◌, fold, length, map, refl, sym, ap, ◌∙◌, subst, inl, arith}
+use Rattle.std.proofs.Common.{append_assoc, length-append, nat_le, nat_lt, slice_index_or, sum, All, Contains, flat_map, le-ltb, append-nil}
 use Rattle.rk_inv_base.proofs.Words.{cond-false, cond_both, get_or_append_left, get_or_push, length-map, flat_map-append, All-contains}
 use Rattle.rk_inv_base.proofs.Words.{range_with_len, hash_of, spelled_of, Held, Member, spelled_all, Entry, FIRST_SIDE_SEGMENT, is_in, Role}
-use Rattle.rk_inv_base.proofs.Words.{number_of, row_of, Row, items_in, items_of, Master, tablet_at, with_side_segment, with_tablet}
-use Rattle.rk_inv_base.proofs.Words.{as_entries, side_entries, next_sides, with_pulling, is_absent, sealed_sides, Pulling, Tablet}
-use Rattle.rk_inv_base.proofs.Words.{with_handover, World, master_at, tablet_in, with_master, Written, member_truth, IsItemWithin, Holds}
-use Rattle.rk_inv_base.proofs.Words.{bond_of, post_of, MembersFit, is_granted, View, view, IsSound, SoundView}
+use Rattle.rk_inv_base.proofs.Words.{number_of, Row, items_in, items_of, Master, tablet_at, with_side_segment, with_tablet, as_entries}
+use Rattle.rk_inv_base.proofs.Words.{side_entries, next_sides, with_pulling, is_absent, sealed_sides, Pulling, Tablet, with_handover, World}
+use Rattle.rk_inv_base.proofs.Words.{master_at, tablet_in, with_master, member_truth, IsItemWithin, Holds, bond_of, post_of}
+use Rattle.rk_inv_base.proofs.Words.{MembersFit, is_granted, View, view, IsSound, SoundView}
 use Rattle.rk_inv_tablets.proofs.Words.{covered_by, IsIn, truth_in, IsSecond, joining_second, scanned, all_by, tablet_apart, tablet_here}
 use Rattle.rk_inv_tablets.proofs.Words.{put_here, put_same, put2_same, found_stands, view_master, MaySealThere, as_joining, as_sealed}
 use Rattle.rk_inv_tablets.proofs.Words.{sealed, side_lists_sealed_in, sides_cut, with_side_items, with_sides, row_in, items_again}
-use Rattle.rk_transfer.specs.declared.role.Role.TheVariants as roles
 use Rattle.rk_types.specs.declared.held.TheConstants.{SEGMENT_BYTES}
 use Rattle.rk_world.specs.SideLogs.{cut_items, with_side_item}
 use Rattle.rk_inv_tablets.proofs.seal.SidesCut.{view_sides_cut}
 use Rattle.rk_inv_tablets.proofs.seal.SidesJoined.{HaveCopies, fits_joining, view_sides_joined}
+use Rattle.rk_transfer.specs.declared.role.Role.TheVariants as roles
+use Rattle.rk_inv_tablets.proofs.crash.MarkedPieces.{row_there}
 
 -- ---- lists of items
 
@@ -130,13 +130,7 @@ module _ (v : View) (row : Row) (master : ℕ) (sound : SoundView v) (has_row : 
 
   -- the side segments that are cut have it
   copies : HaveCopies ((sides_cut v master lists).written master) pulling (range_with_len next (length lists))
-  copies =
-      let w : Written = v.written master in
-      let kept = sound.logs.each master in
-      let count : next ≡ FIRST_SIDE_SEGMENT + length w.sides =
-      ap (λ (n : ℕ). FIRST_SIDE_SEGMENT + n) (ap length kept.spelled ∙ length-map w.sides (λ (items : List Held). spelled_all (as_entries items))) in
-      rw (put_here v.written master (with_side_items w lists) master refl)
-      (ap items_of (next_have w.sides lists next count) ∙ items_all lists ∙ sealed_all pulling.sides)
+  copies = grind (arith, length-map, spelled_all, as_entries, put_here, with_side_items, items_of, next_have, items_all, sealed_all)
 
   pub view_sealed : SoundView (sealed v master row.tablet)
   view_sealed =
@@ -189,12 +183,7 @@ sealed_is w master number =
 -- the tablet is that of a row
 pub sound_sealed : (w : World) (master number : ℕ) → IsSound w → MaySealThere (view w) master number → IsSound (side_lists_sealed_in w master number)
 sound_sealed w master number sound may =
-    at (row_of (view w).rows number) refl (sound.roles.known master number may.may.lives (ap is_absent may.may.receiving))
-  where
-    at : (found : Option Row) → row_of (view w).rows number ≡ found → is_some found ≡ true → IsSound (side_lists_sealed_in w master number)
-    at None found some = absurd (cc)
-    at (Some row) found some =
-        let number_is : row.tablet ≡ number = number_of (view w).rows number row found in
-        rw (← number_is) (subst SoundView (sym (sealed_is w master row.tablet))
-        (view_sealed (view w) row master sound (found_stands (view w).rows number row found)
-        (rw number_is may)))
+    let found = row_there (view w).rows number (sound.roles.known master number may.may.lives (ap is_absent may.may.receiving)) in
+    let number_is : found.0.tablet ≡ number = number_of (view w).rows number found.0 found.1 in
+    rw (← number_is) (subst SoundView (sym (sealed_is w master found.0.tablet))
+    (view_sealed (view w) found.0 master sound (found_stands (view w).rows number found.0 found.1) (rw number_is may)))

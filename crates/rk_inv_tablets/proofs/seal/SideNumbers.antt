@@ -1,13 +1,12 @@
 -- No Joined names a side segment that is not there, so with more side segments what counts is the same.
-use Rattle.std.proofs.Common.{◌≡◌, ℕ, suc, ◌+◌, ◌-◌, ◌<◌, ◌≤◌, true, false, cond, List, [], ◌∷◌, ◌++◌, filter, fold, length, Option, refl}
-use Rattle.std.proofs.Common.{sym, ap, ◌∙◌, ⊎_elim, arith, drop, nat_lt, All, flat_map, lt-ltb}
-use Rattle.rk_inv_base.proofs.Words.{cases_lt, cond-true, cond_both, false≢true, get_or_append_left, length-map, All-append, All-cons}
-use Rattle.rk_inv_base.proofs.Words.{All-drop, All-head, All-nil, All-push, All-tail, All-take, All-weaker, list_all, option_map_or, Held}
-use Rattle.rk_inv_base.proofs.Words.{Range, NumberedBytes, spelled_all, is_among, Entry, FIRST_SIDE_SEGMENT, is_in, is_whole, Log}
-use Rattle.rk_inv_base.proofs.Words.{is_side_stored, items_of, is_marked, unmarked, unmarked_from, as_entries, counting, log_material}
-use Rattle.rk_inv_base.proofs.Words.{named, named_by, side_entries, with_number, Written, applied_entries, Mark, IsLog, segments_in}
-use Rattle.rk_inv_base.proofs.Words.{applied_from, named_items}
-use Rattle.rk_inv_tablets.proofs.Words.{numbered_past, with_side_items}
+use Rattle.std.proofs.Common.{◌≡◌, ℕ, suc, ◌+◌, ◌<◌, true, List, [], ◌∷◌, ◌++◌, filter, length, refl}
+use Rattle.std.proofs.Common.{ap, ◌∙◌, arith, drop, nat_lt, All, flat_map, lt-ltb}
+use Rattle.rk_inv_base.proofs.Words.{cases_lt, cond-true, cond_both, false≢true, get_or_append_left, length-map, All-cons, All-drop}
+use Rattle.rk_inv_base.proofs.Words.{All-head, All-nil, All-push, All-tail, All-take, All-weaker, Held, Range}
+use Rattle.rk_inv_base.proofs.Words.{spelled_all, Entry, FIRST_SIDE_SEGMENT, is_in, is_whole, Log, is_side_stored, items_of}
+use Rattle.rk_inv_base.proofs.Words.{is_marked, unmarked, unmarked_from, as_entries, counting, log_material, named, named_by, side_entries}
+use Rattle.rk_inv_base.proofs.Words.{with_number, Written, applied_entries, Mark, IsLog, segments_in, applied_from, named_items}
+use Rattle.rk_inv_tablets.proofs.Words.{numbered_past, with_side_items, all_flat, fold_keeps_all}
 use Rattle.rk_entry.specs.declared.entry.Entry.TheVariants as entries
 
 -- these numbers are below that of the next side segment, where there are so many
@@ -18,24 +17,7 @@ AreBelow count numbers = All (λ number. number < FIRST_SIDE_SEGMENT + count) nu
 
 -- a side segment that is stored is there
 stored_below : (log : Log) (number : ℕ) → is_side_stored log number ≡ true → number < FIRST_SIDE_SEGMENT + length log.sides
-stored_below log number stored =
-    ⊎_elim
-    (λ (below : number < FIRST_SIDE_SEGMENT + length log.sides). below)
-    (λ (past : FIRST_SIDE_SEGMENT + length log.sides ≤ number).
-    absurd (false≢true
-    (sym (ap (λ (found : Option NumberedBytes). option_map_or (λ segment. list_all (λ known. is_whole known segment) log.known) found false)
-    (numbered_past number FIRST_SIDE_SEGMENT log.sides past))
-    ∙ stored)))
-    (cases_lt number (FIRST_SIDE_SEGMENT + length log.sides))
-
--- what holds of numbers, and of others, holds of all
-all_numbers : (P : ℕ → Type 0) (some others : List ℕ) → All P some → All P others → All P (fold with_number some others)
-all_numbers P some [] these those = these
-all_numbers P some (number ∷ others) these those =
-    all_numbers P (with_number some number) others
-    (cond_both (is_among number some) some (some ++ number ∷ []) (All P) (λ e. these)
-    (λ e. All-push P some number these (All-head P number others those)))
-    (All-tail P number others those)
+stored_below log number stored = grind (arith, false≢true, is_whole, numbered_past, cases_lt)
 
 -- what holds of all that an entry names holds of what it names for a range
 named_fit : (P : ℕ → Type 0) (range : Range) (entry : Entry) → All P (segments_in entry) → All P (named_by range entry)
@@ -43,14 +25,10 @@ named_fit P range (entries.Joined joined) all = cond_both _ joined.segments [] (
 named_fit P range _ all = all
 
 all_named : (P : ℕ → Type 0) (range : Range) (list : List Entry) → All (λ entry. All P (segments_in entry)) list → All P (named range list)
-all_named P range list all = all_numbers P [] (flat_map (named_by range) list) (All-nil P) (each list all)
-  where
-    each : (list : List Entry) → All (λ entry. All P (segments_in entry)) list → All P (flat_map (named_by range) list)
-    each [] all = All-nil P
-    each (entry ∷ list) all =
-        All-append P (named_by range entry) (flat_map (named_by range) list)
-        (named_fit P range entry (All-head (λ e. All P (segments_in e)) entry list all))
-        (each list (All-tail (λ e. All P (segments_in e)) entry list all))
+all_named P range list all =
+    fold_keeps_all (All P) P with_number (flat_map (named_by range) list) [] (All-nil P)
+    (all_flat P (named_by range) list (All-weaker _ _ (named_fit P range) list all))
+    (λ numbers number these its. cond_both _ numbers _ (All P) (λ e. these) (λ e. All-push P numbers number these its))
 
 -- what holds of entries holds of those without a mark
 pub unmarked_all : (P : Entry → Type 0) (marks : List Mark) (place : ℕ) (list : List Entry) → All P list → All P (unmarked marks place list)
@@ -64,16 +42,7 @@ unmarked_all P marks place (entry ∷ list) all =
 
 -- a side segment that is there has what it had
 side_kept : (sides lists : List (List Held)) (number : ℕ) → number < FIRST_SIDE_SEGMENT + length sides → side_entries (sides ++ lists) number ≡ side_entries sides number
-side_kept sides lists number there =
-    let k : ℕ = number - FIRST_SIDE_SEGMENT in
-    ⊎_elim
-    (λ (less : number < FIRST_SIDE_SEGMENT).
-    cond-true (nat_lt number FIRST_SIDE_SEGMENT) [] _ (lt-ltb number FIRST_SIDE_SEGMENT less)
-    ∙ sym (cond-true (nat_lt number FIRST_SIDE_SEGMENT) [] _ (lt-ltb number FIRST_SIDE_SEGMENT less)))
-    (λ (side : FIRST_SIDE_SEGMENT ≤ number).
-    ap (λ (items : List Held). cond (nat_lt number FIRST_SIDE_SEGMENT) [] (as_entries items))
-    (get_or_append_left sides lists [] k (omega (arith, there, side))))
-    (cases_lt number FIRST_SIDE_SEGMENT)
+side_kept sides lists number there = grind (arith, cond-true, nat_lt, lt-ltb, as_entries, get_or_append_left, cases_lt)
 
 -- so have several
 pub sides_kept : (sides lists : List (List Held)) (numbers : List ℕ) → AreBelow (length sides) numbers → flat_map (side_entries (sides ++ lists)) numbers ≡ flat_map (side_entries sides) numbers

@@ -1,21 +1,22 @@
 -- A view stays sound when masters cut more side segments, whose items lie in rows: nothing names them, and no target has sealed them.
-use Rattle.std.proofs.Common.{◌≡◌, ℕ, cond, List, [], ◌∷◌, ◌++◌, length, refl, sym, ap, ◌∙◌, subst, arith, slice_index_or, All, flat_map}
-use Rattle.std.proofs.Common.{append-nil}
-use Rattle.rk_inv_base.proofs.Words.{length-map, flat_map-append, All-append, All-nil, IfSome_then, get, Call, Held, Member, Node, Range}
-use Rattle.rk_inv_base.proofs.Words.{spelled_all, Entry, Handover, Role, lineage_of, Phase, Rebuilding, Row, Log, known_of, EntryEnd, Body}
-use Rattle.rk_inv_base.proofs.Words.{items_of, first_of, as_entries, side_entries, own_place, is_receiving, Written, lineage_rest}
+use Rattle.std.proofs.Common.{◌≡◌, ℕ, cond, List, [], ◌∷◌, ◌++◌, refl, sym, ap, ◌∙◌, subst, arith, slice_index_or, All, flat_map}
+use Rattle.std.proofs.Common.{append-nil, IfSome, true, true}
+use Rattle.rk_inv_base.proofs.Words.{length-map, flat_map-append, All-append, All-nil, IfSome_then, get, Held, Member, Node, Range}
+use Rattle.rk_inv_base.proofs.Words.{spelled_all, Entry, Handover, Role, lineage_of, Phase, Rebuilding, Row, known_of, EntryEnd, Body}
+use Rattle.rk_inv_base.proofs.Words.{items_of, first_of, as_entries, side_entries, own_place, is_receiving, Written}
 use Rattle.rk_inv_base.proofs.Words.{member_material, member_truth, IsItemWithin, IsLog, LogSays, stored_of, MarkedFit, NeededOf}
 use Rattle.rk_inv_base.proofs.Words.{READ_BACKUP, RowIsRebuilt, member_given_up, IsTarget, MembersFit, NamedFit, copied_items, wanted_place}
-use Rattle.rk_inv_base.proofs.Words.{FirstIsDone, OnlyIsUnnamed, Waits, View, truths, rests, put, CoverOf, LogsOf, RebuildsOf, RestOf}
-use Rattle.rk_inv_base.proofs.Words.{SoundParts, SoundView}
+use Rattle.rk_inv_base.proofs.Words.{FirstIsDone, OnlyIsUnnamed, Waits, View, truths, rests, put, CoverOf, LogsOf, SoundParts, SoundView}
+use Rattle.rk_inv_base.proofs.Words.{AreAboveMap, EachIn, HasItems, MarkFits, base_map, has_all_items, map_after, post_of, target_truth}
 use Rattle.rk_inv_tablets.proofs.Words.{member as member_at, target_truth_same, truth_by, truth_is, calls_more, piece_grown, messages_looks}
-use Rattle.rk_inv_tablets.proofs.Words.{rebuilder_weaker, put_by, put_here, put_is, put_other, IsRebuilderIn, mark_same, roles_looks}
-use Rattle.rk_inv_tablets.proofs.Words.{AllLook, looks_same, AreSealedThere, sides_cut, with_side_items, with_sides}
+use Rattle.rk_inv_tablets.proofs.Words.{rebuilder_weaker, put_by, put_here, put_is, put_other, IsRebuilderIn, roles_looks, AllLook}
+use Rattle.rk_inv_tablets.proofs.Words.{looks_same, AreSealedThere, sides_cut, with_side_items, with_sides, IsBareOf}
+use Rattle.rk_inv_base.proofs.rows.Rows.{rows_grown}
+use Rattle.rk_inv_tablets.proofs.seal.SideNumbers.{items_kept, material_kept, sides_kept, truth_kept}
+use Rattle.rk_inv_tablets.proofs.seal.SidesGrow.{grows_sides, log_sides, needs_sides, rebuilder_sides}
 use Rattle.rk_types.specs.declared.node.Node.TheVariants as nodes
 use Rattle.rk_message.specs.declared.message.Body.TheVariants as bodies
-use Rattle.rk_inv_base.proofs.rows.Rows.{rows_grown}
-use Rattle.rk_inv_tablets.proofs.seal.SideNumbers.{AreBelow, items_kept, material_kept, sides_kept, truth_kept}
-use Rattle.rk_inv_tablets.proofs.seal.SidesGrow.{grows_sides, log_sides, needs_sides, rebuilder_sides}
+use Rattle.rk_inv_tablets.proofs.grow.MoreLog.{waits_by, rest_by}
 
 -- side segments that a target has sealed have what they had, where each master has these more
 abbrev pub AreKept : View → (ℕ → List (List Held)) → Type 0
@@ -52,13 +53,8 @@ module _ (v : View) (lists : ℕ → List (List Held)) (sound : SoundView v) (wi
       ∙ ap (λ (sure : Range → Member → List Entry). truth_by v.base sure x.range (lineage_of x.phase)) (λ j range member. truth_same range member j)
       ∙ sym (truth_is v.base v.written x.range (lineage_of x.phase))) i
 
-  lineage_same : (range : Range) (members : List Member) → lineage_rest more.written range members ≡ lineage_rest v.written range members
-  lineage_same range [] = refl
-  lineage_same range (member ∷ []) = refl
-  lineage_same range (member ∷ next ∷ others) = lineage_same range (next ∷ others)
-
   rests_same : ◌≡◌ {A = Row → List Entry} (rests more) (rests v)
-  rests_same i x = lineage_same x.range (lineage_of x.phase) i
+  rests_same i x = rest_by v.written more.written x.range (lineage_of x.phase) (λ member. refl) i
 
   looks : AllLook v.written more.written v.handovers v.handovers
   looks = record { each = λ q r. looks_same (v.handovers q r); applied = λ q. refl; truths = truth_same }
@@ -77,20 +73,12 @@ module _ (v : View) (lists : ℕ → List (List Held)) (sound : SoundView v) (wi
   }
 
   cover : CoverOf more
-  cover = record {
-    unknown = sound.cover.unknown;
-    marks = sound.cover.marks;
-    sent = sound.cover.sent;
-    ranges = sound.cover.ranges;
-    ordered = sound.cover.ordered;
-    entries = sound.cover.entries;
-    sides = λ q.
-        rw (flat_map-append (λ (items : List Held). items) (v.written q).sides (lists q))
-        (All-append (IsItemWithin v.rows) (flat_map (λ items. items) (v.written q).sides) (flat_map (λ items. items) (lists q))
-        (sound.cover.sides q) (within q));
-    items = sound.cover.items;
-    wholes = sound.cover.wholes;
-  }
+  cover =
+      let sides : (q : ℕ) → All (IsItemWithin v.rows) (flat_map (λ items. items) ((v.written q).sides ++ lists q)) = λ q.
+      rw (flat_map-append (λ (items : List Held). items) (v.written q).sides (lists q))
+      (All-append (IsItemWithin v.rows) (flat_map (λ items. items) (v.written q).sides) (flat_map (λ items. items) (lists q))
+      (sound.cover.sides q) (within q)) in
+      assumption
 
   -- ---- what is staged
 
@@ -102,36 +90,6 @@ module _ (v : View) (lists : ℕ → List (List Held)) (sound : SoundView v) (wi
   unnamed_on : (range : Range) (lineage : List Member) → OnlyIsUnnamed v.written range lineage → OnlyIsUnnamed more.written range lineage
   unnamed_on range (only ∷ []) none = none
   unnamed_on range _ none = tt
-
-  waits_on : (q k : ℕ) (c : Call) → Waits v.rows (v.handovers q) (v.written q) q k c → Waits v.rows (v.handovers q) (more.written q) q k c
-  waits_on q k c was = record {
-    behind = was.behind;
-    entry = was.entry;
-    stands = was.stands;
-    own = was.own;
-    unmarked = was.unmarked;
-    row = was.row;
-    has_row = was.has_row;
-    in_row = was.in_row;
-    last = was.last;
-    is_last = was.is_last;
-    here = was.here;
-    from = was.from;
-    may_stage = was.may_stage;
-  }
-
-  rest : RestOf more (truths v) (rests v)
-  rest = record {
-    goes_on = sound.rest.goes_on;
-    done = λ k d inside.
-        let x : Row = slice_index_or v.rows k d in done_on x.range (lineage_of x.phase) (sound.rest.done k d inside);
-    unnamed = λ k d inside.
-        let x : Row = slice_index_or v.rows k d in unnamed_on x.range (lineage_of x.phase) (sound.rest.unnamed k d inside);
-    idle = sound.rest.idle;
-    waiting = λ q lives k c is. waits_on q k c (sound.rest.waiting q lives k c is);
-    are_last = sound.rest.are_last;
-    found = sound.rest.found;
-  }
 
   -- ---- rebuilds
 
@@ -177,18 +135,6 @@ module _ (v : View) (lists : ℕ → List (List Held)) (sound : SoundView v) (wi
   rebuilt_on x (Rebuilding lineage to) fit = (λ term. rebuilder_on x lineage to (fit.0 term), marked_on x.range lineage fit.1)
   rebuilt_on x _ fit = tt
 
-  rebuilds : RebuildsOf more (truths v)
-  rebuilds = record {
-    rebuilt = λ k d inside.
-        let x : Row = slice_index_or v.rows k d in rebuilt_on x x.phase (sound.rebuilds.rebuilt k d inside);
-    marks = λ q k d inside j m stands its.
-        let x : Row = slice_index_or v.rows k d in
-        let h : Handover = v.handovers q x.tablet in
-        let fit = sound.rebuilds.marks q k d inside j m stands its in
-        mark_same x q h h (v.live q) (v.written q) (more.written q) (slice_index_or (v.written q).marks j m) refl refl fit.behind fit;
-    pieces = sound.rebuilds.pieces;
-  }
-
   -- ---- targets
 
   -- what a target copied has what it had, where the side segments that it sealed were there
@@ -203,16 +149,9 @@ module _ (v : View) (lists : ℕ → List (List Held)) (sound : SoundView v) (wi
       (get v.handed x.tablet) (v.records target.master)
 
   target_on : (x : Row) (source target : Member) (truth material : List Entry) → IsTargetBy x source target (v.written target.master) truth material → IsTargetBy x source target (more.written target.master) truth material
-  target_on x source target truth material was = record {
-    from_source = was.from_source;
-    workers = was.workers;
-    pulled = was.pulled;
-    received = rw (copied_same target.master x.tablet (v.handovers target.master x.tablet).role) was.received;
-    above = was.above;
-    told = was.told;
-    early = was.early;
-    closing = was.closing;
-  }
+  target_on x source target truth material was =
+      let received = rw (← copied_same target.master x.tablet (v.handovers target.master x.tablet).role) at was.received in
+      assumption
 
   members_on : (x : Row) (lineage : List Member) → MembersFit x v.written v.handovers v.pullings v.records v.handed lineage → MembersFit x more.written v.handovers v.pullings v.records v.handed lineage
   members_on x (source ∷ target ∷ []) fit = λ granted.
@@ -228,54 +167,35 @@ module _ (v : View) (lists : ℕ → List (List Held)) (sound : SoundView v) (wi
   named_on range _ fit = tt
 
   parts : SoundParts more (truths v) (rests v)
-  parts = record {
-    nodes = record {
-      numbered = sound.nodes.numbered;
-      backed = sound.nodes.backed;
-      known = sound.nodes.known;
-      named = sound.nodes.named;
-      crashed = sound.nodes.crashed;
-      left = sound.nodes.left;
-    };
-    rows = rows_grown v.rows v.written more.written v.journal sound.rows (λ q. omega arith);
-    terms = sound.terms;
-    cover = cover;
-    roles = roles_looks v.rows v.handovers v.handovers v.written more.written v.live sound.roles looks.each looks.applied;
-    logs = logs;
-    truth = sound.truth;
-    order = sound.order;
-    calls = calls_more v (truths v) (rests v) (rests v) more.written sound.calls (λ r end stands is. is) truth_same;
-    counters = record {
-      low = sound.counters.low;
-      moving = λ k d inside.
-          let x : Row = slice_index_or v.rows k d in
-          rw (target_truth_same v.written more.written v.handed x x.phase truth_same) (sound.counters.moving k d inside);
-      counted = sound.counters.counted;
-      handed_on = sound.counters.handed_on;
-      sent = sound.counters.sent;
-    };
-    rest = rest;
-    records = record {
-      ordered = sound.records.ordered;
-      items = λ q lives k d inside has.
-          let x : Row = slice_index_or v.rows k d in
-          IfSome_then (first_of (lineage_of x.phase)) (sound.records.items q lives k d inside has)
-          (λ member table. rw (truth_same x.range member) table);
-    };
-    receives = record {
-      targets = λ k d inside.
-          let x : Row = slice_index_or v.rows k d in members_on x (lineage_of x.phase) (sound.receives.targets k d inside);
-      handed_on = sound.receives.handed_on;
-      bare = λ q r.
-          IfSome_then (wanted_place (v.handovers q r).role) (sound.receives.bare q r)
-          (λ from was. record { placed = was.placed; nothing = was.nothing; empty = was.empty });
-      named = λ k d inside.
-          let x : Row = slice_index_or v.rows k d in named_on x.range (lineage_of x.phase) (sound.receives.named k d inside);
-    };
-    rebuilds = rebuilds;
-    messages = messages_looks v more.logs more.written v.handovers looks (λ q. refl) (λ x lineage q dead end. no_more x lineage q end) sound.messages;
-    asked = sound.asked;
-  }
+  parts =
+      let moving : All (λ row. IfSome (target_truth more.written v.handed row row.phase) (AreAboveMap row.range (map_after (base_map v.base) v.journal))) v.rows = λ k d inside.
+      let x : Row = slice_index_or v.rows k d in
+      rw (target_truth_same v.written more.written v.handed x x.phase truth_same) (sound.counters.moving k d inside) in
+      let done : All (λ row. FirstIsDone more.written row.range (lineage_of row.phase)) v.rows = λ k d inside. done_on _ _ (sound.rest.done k d inside) in
+      let unnamed : All (λ row. OnlyIsUnnamed more.written row.range (lineage_of row.phase)) v.rows = λ k d inside.
+      unnamed_on _ _ (sound.rest.unnamed k d inside) in
+      let waiting : (q : ℕ) → v.live q ≡ true → EachIn (λ k c. Waits v.rows (v.handovers q) (more.written q) q k c) (v.calls q) = λ q lives k c is.
+      let was = sound.rest.waiting q lives k c is in
+      waits_by v.rows (v.handovers q) (v.handovers q) (v.written q) (more.written q) q k c was was.behind was.stands was.unmarked was.may_stage in
+      let items : (q : ℕ) → v.live q ≡ true → All (λ row. has_all_items (post_of row.phase q) (v.handovers q row.tablet) row.term ≡ true → HasItems row more.written (v.records q)) v.rows = λ q lives k d inside has.
+      IfSome_then (first_of (lineage_of (slice_index_or v.rows k d).phase)) (sound.records.items q lives k d inside has)
+      (λ member table. rw (truth_same (slice_index_or v.rows k d).range member) table) in
+      let targets : All (λ row. MembersFit row more.written v.handovers v.pullings v.records v.handed (lineage_of row.phase)) v.rows = λ k d inside.
+      members_on (slice_index_or v.rows k d) _ (sound.receives.targets k d inside) in
+      let bare : (q r : ℕ) → IsBareOf (v.handovers q r) (more.written q) (v.records q) = λ q r.
+      IfSome_then (wanted_place (v.handovers q r).role) (sound.receives.bare q r) (λ from was. assumption) in
+      let named : All (λ row. NamedFit more.written row.range (lineage_of row.phase)) v.rows = λ k d inside. named_on _ _ (sound.receives.named k d inside) in
+      let rebuilt : All (λ row. IsRebuiltIn more row row.phase) v.rows = λ k d inside. rebuilt_on _ _ (sound.rebuilds.rebuilt k d inside) in
+      let marks : (q : ℕ) → All (λ row. All (λ mark. mark.tablet ≡ row.tablet → MarkFits row q (v.handovers q row.tablet) (v.live q) (more.written q) mark) (v.written q).marks) v.rows = λ q k d inside j m stands its.
+      let fit = sound.rebuilds.marks q k d inside j m stands its in assumption in
+      assumption (
+        logs,
+        cover,
+        rows_grown v.rows v.written more.written v.journal sound.rows (λ q. omega arith),
+        roles_looks v.rows v.handovers v.handovers v.written more.written v.live sound.roles looks.each looks.applied,
+        calls_more v (truths v) (rests v) (rests v) more.written sound.calls (λ r end stands is. is) truth_same,
+        messages_looks v more.logs more.written v.handovers looks (λ q. refl) (λ x lineage q dead end. no_more x lineage q end) sound.messages,
+      )
 
   pub view_with_sides : SoundView more
   view_with_sides = rw (truths_same, rests_same) parts
@@ -291,31 +211,13 @@ module _ (v : View) (master : ℕ) (lists : List (List Held)) (sound : SoundView
   cut = put none master lists
 
   still_there : AreKept v cut
-  still_there q tablet =
-      let sides : List (List Held) = (v.written q).sides in
-      let sealed : List ℕ = (v.pullings q tablet).sealed in
-      put_by none master (λ _. lists) (λ more. flat_map (side_entries (sides ++ more)) sealed ≡ flat_map (side_entries sides) sealed) q
-      (λ at.
-      let count : length (v.logs q).sides ≡ length sides =
-      ap length (sound.logs.each q).spelled ∙ length-map sides (λ (items : List Held). spelled_all (as_entries items)) in
-      let below : AreBelow (length (v.logs q).sides) sealed = rw at (there tablet) in
-      sides_kept sides lists sealed (rw (← count) below))
-      (λ apart. ap (λ (all : List (List Held)). flat_map (side_entries all) sealed) (append-nil sides))
+  still_there q tablet = grind (arith, put_by, side_entries, logs, length-map, spelled_all, as_entries, sides_kept, append-nil)
 
   logs_are : (q : ℕ) → with_sides (v.logs q) (cut q) ≡ put v.logs master (with_sides (v.logs master) lists) q
-  logs_are q =
-      put_is v.logs master (with_sides (v.logs master) lists) q (with_sides (v.logs q) (cut q))
-      (λ at i. with_sides (v.logs (at i)) (put_here none master lists q at i))
-      (λ apart.
-      ap (with_sides (v.logs q)) (put_other none master lists q apart) ∙ (λ i. record (v.logs q) { sides = append-nil (v.logs q).sides i }))
+  logs_are q = grind (arith, put_is, logs, with_sides, put_here, put_other, append-nil)
 
   written_are : (q : ℕ) → with_side_items (v.written q) (cut q) ≡ put v.written master (with_side_items (v.written master) lists) q
-  written_are q =
-      put_is v.written master (with_side_items (v.written master) lists) q (with_side_items (v.written q) (cut q))
-      (λ at i. with_side_items (v.written (at i)) (put_here none master lists q at i))
-      (λ apart.
-      ap (with_side_items (v.written q)) (put_other none master lists q apart)
-      ∙ (λ i. record (v.written q) { sides = append-nil (v.written q).sides i }))
+  written_are q = grind (arith, put_is, with_side_items, put_here, put_other, append-nil)
 
   pub view_sides_cut : SoundView (sides_cut v master lists)
   view_sides_cut =

@@ -1,11 +1,11 @@
 -- What a log with more side segments keeps: what backups store of it are first parts still, and what it has written is read as before.
 use Rattle.std.proofs.Common.{◌≡◌, ℕ, suc, ◌+◌, ◌-◌, ◌<◌, ◌≤◌, true, false, List, [], ◌∷◌, ◌++◌, length, map, Option, Some, None, refl, sym}
-use Rattle.std.proofs.Common.{ap, ◌∙◌, ⊎_elim, arith, ◌≢◌, ◌==◌}
-use Rattle.rk_inv_base.proofs.Words.{cases_lt, false≢true, map-append, All-weaker, find-append, IfSome_then, list_all, option_map_or}
+use Rattle.std.proofs.Common.{ap, ◌∙◌, ⊎_elim, arith, ◌≢◌, ◌==◌, IfSome}
+use Rattle.rk_inv_base.proofs.Words.{cases_lt, false≢true, map-append, find-append, IfSome_then, list_all, option_map_or}
 use Rattle.rk_inv_base.proofs.Words.{option_or, Ended, Held, Member, Range, NumberedBytes, spelled_all, Entry, FIRST_SIDE_SEGMENT}
 use Rattle.rk_inv_base.proofs.Words.{Completions, Handover, Row, cut, Known, is_whole, Log, bytes_of, is_side_stored, known_of, numbered}
-use Rattle.rk_inv_base.proofs.Words.{segment_of, side_segments, EntryEnd, Gather, as_entries, own_place, Written, Merged, IsFirstPart}
-use Rattle.rk_inv_base.proofs.Words.{IsLog, segments_in, IsMergedOf, IsPieceOf, IsRebuilder, NeedsEnd, merged_place}
+use Rattle.rk_inv_base.proofs.Words.{segment_of, side_segments, EntryEnd, Gather, as_entries, own_place, Written, IsFirstPart, IsLog}
+use Rattle.rk_inv_base.proofs.Words.{segments_in, IsMergedOf, IsRebuilder, NeedsEnd, merged_place}
 use Rattle.rk_inv_tablets.proofs.Words.{copy_grown, Grows, bytes_in, first_part_same, found_in, numbered_at, numbered_before, numbered_past}
 use Rattle.rk_inv_tablets.proofs.Words.{with_side_items, with_sides}
 use Rattle.rk_inv_tablets.proofs.seal.SideNumbers.{applied_kept, items_kept}
@@ -75,27 +75,10 @@ module _ (log : Log) (lists : List (List Held)) where
 
   full_at : (earlier later : ℕ) → earlier < later → bytes_of log later ≢ [] → bytes_of grown earlier ≡ bytes_of log earlier
   full_at earlier later before filled =
-      bytes_now earlier
-      ∙ same_of (main earlier) (side earlier) (new earlier)
-      (λ no_main no_side.
-      ⊎_elim
-      (λ (below : earlier < next). numbered_before earlier next more below)
-      (λ (behind : next ≤ earlier).
-      absurd (filled
-      (found_in log later
-      ∙ (λ i.
-      bytes_in
-      (option_or (none_main earlier later (omega (arith, behind)) before no_main i)
-      (numbered_past later FIRST_SIDE_SEGMENT log.sides (omega (arith, behind, before)) i))))))
-      (cases_lt earlier next))
-      ∙ sym (found_in log earlier)
+      grind (arith, bytes_now, same_of, numbered_before, found_in, bytes_in, none_main, numbered_past, cases_lt)
 
   pub grows_sides : Grows log (with_sides log lists)
-  grows_sides = record {
-    front = λ number.
-        rw (found_in log number, bytes_now number) (front_of (main number) (side number) (new number));
-    full = λ earlier later before sort filled. full_at earlier later before filled;
-  }
+  grows_sides = grind (arith, found_in, bytes_now, front_of, full_at)
 
   -- a side segment that every backup is known to hold is so still
   still_stored : (found another : Option NumberedBytes) → option_map_or (λ segment. list_all (λ known. is_whole known segment) log.known) found false ≡ true → option_map_or (λ segment. list_all (λ known. is_whole known segment) log.known) (option_or found another) false ≡ true
@@ -108,64 +91,17 @@ module _ (log : Log) (lists : List (List Held)) where
       ∙ still_stored (side number) (new number) stored
 
   pub log_sides : (w : Written) (stored : ℕ → ℕ → List ℕ) → IsLog log w stored → IsLog (with_sides log lists) (with_side_items w lists) stored
-  log_sides w stored old = record {
-    entries_are = old.entries_are;
-    held = old.held;
-    copies = λ backup there.
-        copy_grown log grown (stored backup) (known_of log backup) grows_sides
-        (old.copies backup (record { first = there.first; last = there.last }));
-    spelled =
-        ap (λ (sides : List (List ℕ)). sides ++ more) old.spelled
-        ∙ sym (map-append (λ (items : List Held). spelled_all (as_entries items)) w.sides lists);
-    named =
-        All-weaker _ _ (λ entry. All-weaker _ _ side_stored (segments_in entry))
-        w.entries old.named;
-    marked = old.marked;
-  }
+  log_sides w stored old = grind (arith, copy_grown, known_of, grows_sides, map-append, spelled_all, as_entries, side_stored, segments_in)
 
 -- ---- what has to be read
 
 -- nothing more has to be read of a master with more side segments
 pub needs_sides : (range : Range) (given_up own : List Entry) (from : ℕ) (w : Written) (lists : List (List Held)) (end : EntryEnd) → NeedsEnd range given_up own from (with_side_items w lists) end → NeedsEnd range given_up own from w end
-needs_sides range given_up own from w lists end needs = record {
-  place = needs.place;
-  entry = needs.entry;
-  needed = record {
-    behind = needs.needed.behind;
-    stands = needs.needed.stands;
-    unmarked = needs.needed.unmarked;
-    in_range = needs.needed.in_range;
-    tells = needs.needed.tells;
-  };
-  ends_there = needs.ends_there;
-}
+needs_sides range given_up own from w lists end needs =
+    let needed = needs.needed in
+    record { place = needs.place; entry = needs.entry; needed = assumption; ends_there = needs.ends_there }
 
 -- ---- a master that rebuilds
-
--- what it merged is what it was
-piece_sides : (number from : ℕ) (handover : Handover) (merged : Merged) (w : Written) (lists : List (List Held)) (entry : ℕ) → IsPieceOf number from handover merged w entry → IsPieceOf number from handover merged (with_side_items w lists) entry
-piece_sides number from handover merged w lists entry piece = record {
-  mark = piece.mark;
-  marked = piece.marked;
-  past_is = piece.past_is;
-  tablet_is = piece.tablet_is;
-  term_is = piece.term_is;
-  behind = piece.behind;
-  alone = piece.alone;
-  stands = piece.stands;
-  last = piece.last;
-}
-
-merged_sides : (number from : ℕ) (own : List Entry) (handover : Handover) (kept : Completions) (gather : Gather) (ends : List Ended) (w : Written) (lists : List (List Held)) (entry : ℕ) → IsMergedOf number from own handover kept gather ends w entry → IsMergedOf number from own handover kept gather ends (with_side_items w lists) entry
-merged_sides number from own handover kept gather ends w lists entry was = record {
-  gathered_all = was.gathered_all;
-  merged = was.merged;
-  merged_is = was.merged_is;
-  ends_are = was.ends_are;
-  piece = piece_sides number from handover was.merged w lists entry was.piece;
-  counter = was.counter;
-  completions = was.completions;
-}
 
 module _ (row : Row) (lineage : List Member) (master : ℕ) (truth own : List Entry) (Needed : ℕ → EntryEnd → Type 0) (known : ℕ → Known) (stored : ℕ → ℕ → List ℕ) (handover : Handover) (completions : Completions) (gather : Gather) (ends : List Ended) (records : List Held) where
   -- by what it has written
@@ -173,17 +109,10 @@ module _ (row : Row) (lineage : List Member) (master : ℕ) (truth own : List En
   Rebuilds w = IsRebuilder row lineage master truth own Needed known stored w handover completions gather ends records
 
   pub rebuilder_sides : (log : Log) (w : Written) (copies : ℕ → ℕ → List ℕ) (lists : List (List Held)) → IsLog log w copies → Rebuilds w → Rebuilds (with_side_items w lists)
-  rebuilder_sides log w copies lists kept was = record {
-    range_is = was.range_is;
-    gather = was.gather;
-    read = was.read;
-    placed = was.placed;
-    merged =
-        IfSome_then (merged_place handover.role) was.merged
-        (λ entry. merged_sides row.tablet (own_place handover.role) own handover completions gather ends w lists entry);
-    items = rw (applied_kept log w copies kept lists row.range (own_place handover.role)) was.items;
-    sides = λ item at.
-        was.sides item
-        (rw (← items_kept log w copies kept lists row.range (own_place handover.role)) at);
-    outside = was.outside;
-  }
+  rebuilder_sides log w copies lists kept was =
+      let from : ℕ = own_place handover.role in
+      let merged : IfSome (merged_place handover.role) (IsMergedOf row.tablet from own handover completions gather ends (with_side_items w lists)) =
+      IfSome_then (merged_place handover.role) was.merged (λ entry done. search done) in
+      let items = rw (← applied_kept log w copies kept lists row.range from) at was.items in
+      let sides = rw (← items_kept log w copies kept lists row.range from) at was.sides in
+      assumption

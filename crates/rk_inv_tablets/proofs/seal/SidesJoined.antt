@@ -1,27 +1,27 @@
 -- A view stays sound when a target that has pulled all takes what it copied from side segments, and joins.
-use Rattle.std.proofs.Common.{◌≡◌, ◌++◌, ℕ, ◌<◌, ◌⊎◌, true, List, [], ◌∷◌, Option, None, refl, sym, ap, ◌∙◌, subst, ⊎_elim, inl, inr, arith}
-use Rattle.std.proofs.Common.{drop, nat_lt, slice_index_or, take, Contains, flat_map, lt-ltb}
+use Rattle.std.proofs.Common.{◌≡◌, ℕ, ◌<◌, true, List, [], ◌∷◌, Option, None, refl, sym, ap, ◌∙◌, subst, ⊎_elim, inl, inr, arith}
+use Rattle.std.proofs.Common.{drop, nat_lt, slice_index_or, take, Contains, flat_map, lt-ltb, All, Some, false}
 use Rattle.rk_inv_base.proofs.Words.{Contains-append_left, IfSome_then, get, Held, Member, Range, Entry, end, passed, is_serving, Handover}
 use Rattle.rk_inv_base.proofs.Words.{lineage_of, Phase, Rebuilding, Row, Handed, items_of, side_entries, is_idle, is_rebuilding}
 use Rattle.rk_inv_base.proofs.Words.{may_have_staged, Pulling, Written, applied_entries, member_material, member_truth, is_wanting, Post}
-use Rattle.rk_inv_base.proofs.Words.{MovingTarget, LastRebuilder, Holds, bond_of, post_of, RowIsRebuilt, has_merged, HandedFits, HasArrived}
+use Rattle.rk_inv_base.proofs.Words.{MovingTarget, LastRebuilder, Holds, bond_of, post_of, has_merged, HandedFits, HasArrived}
 use Rattle.rk_inv_base.proofs.Words.{HasClosing, IsHandedBy, IsTarget, MembersFit, before_closing, beginning_of, closing_joined}
-use Rattle.rk_inv_base.proofs.Words.{copied_items, entries_from, is_granted, joined_place, scan_items, wanted_place, Role, View}
-use Rattle.rk_inv_base.proofs.Words.{truths, rests, SoundView, TermsOf}
-use Rattle.rk_transfer.specs.declared.role.Role.TheVariants as roles
-use Rattle.rk_inv_tablets.proofs.Words.{AreAlike, handed_by_alike, handed_for_grant_alike, speaks_alike, still_counts, calls_alike, cover_looks}
-use Rattle.rk_inv_tablets.proofs.Words.{stands_kept, put2_by, put2_other, IsRebuilderIn, mark_same, IsBareOf, role_looks, terms_look, AllLook}
-use Rattle.rk_inv_tablets.proofs.Words.{GoesOn, all_items_same, terms_looks, as_joining, as_sealed, sides_joined, row_in, waits_for}
-use Rattle.rk_inv_tablets.proofs.Words.{CountsFor, SoundBeside, SoundRow, SpeaksFor, view_by_rows}
+use Rattle.rk_inv_base.proofs.Words.{copied_items, entries_from, is_granted, joined_place, scan_items, wanted_place, Role, View, truths}
+use Rattle.rk_inv_base.proofs.Words.{rests, SoundView, Call, MarkFits, Message, has_all_items, is_absent, is_member}
+use Rattle.rk_inv_tablets.proofs.Words.{AreAlike, handed_by_alike, handed_for_grant_alike, speaks_alike, still_counts, calls_alike}
+use Rattle.rk_inv_tablets.proofs.Words.{cover_looks, stands_kept, put2_by, put2_other, IsRebuilderIn, mark_same, IsBareOf, role_looks}
+use Rattle.rk_inv_tablets.proofs.Words.{terms_look, AllLook, GoesOn, all_items_same, terms_looks, as_joining, as_sealed, sides_joined}
+use Rattle.rk_inv_tablets.proofs.Words.{row_in, waits_for, CountsFor, SoundBeside, SoundRow, SpeaksFor, view_by_rows, looks_same}
 use Rattle.rk_types.specs.declared.hashing.TheConstants.{BUCKETS}
 use Rattle.rk_table.proofs.InOrder.{bucket_below_end}
 use Rattle.rk_table.specs.Order.{item_bucket}
 use Rattle.rk_table.specs.Scans.{before_bucket, of_bucket}
 use Rattle.rk_inv_base.proofs.pulls.Replayed.{receiving_behind}
 use Rattle.rk_inv_base.proofs.rows.RowAppended.{StaysAs}
-use Rattle.rk_inv_base.proofs.views.Seen.{looks_same}
 use Rattle.rk_inv_base.proofs.views.OwnTablet.{rows_but_one}
 use Rattle.rk_inv_base.proofs.wire.Messages.{says_of_looks}
+use Rattle.rk_transfer.specs.declared.role.Role.TheVariants as roles
+use Rattle.rk_inv_base.proofs.views.ByRows.{IsRebuiltIn}
 
 -- ---- roles
 
@@ -33,15 +33,7 @@ fits_joining _ term own applied holds = absurd holds
 
 -- so it goes on as it was
 joins_goes_on : GoesOn roles.Receiving (roles.Joining None)
-joins_goes_on = record {
-  absent = refl;
-  wanting = refl;
-  waits = λ n is. absurd (cc is);
-  frozen = λ is. absurd (cc is);
-  joined = λ applied has. absurd has;
-  rebuilt = λ applied n has. absurd has;
-  fits = fits_joining;
-}
+joins_goes_on = grind (arith, fits_joining)
 
 -- ---- a target
 
@@ -126,20 +118,8 @@ module _ (v : View) (row : Row) (master : ℕ) (numbers : List ℕ) (sound : Sou
   receives_it q r at its = ap (λ (n : ℕ). (v.handovers n r).role) at ∙ ap (λ (n : ℕ). (v.handovers master n).role) its ∙ receiving
 
   joins_as : (h : Handover) → h.role ≡ roles.Receiving → StaysAs h (as_joining h)
-  joins_as h is = record {
-    looks = record { term = refl; range = refl; role = rw is joins_goes_on; counter = λ frozen. refl };
-    alike = record {
-      same_serving = ap is_serving (sym is);
-      same_rebuilding = ap is_rebuilding (sym is);
-      same_wanting = ap is_wanting (sym is);
-      same_term = refl;
-    };
-    idle = ap is_idle (sym is);
-    merged = ap has_merged (sym is);
-    granted = ap is_granted (sym is);
-    stages = ap may_have_staged (sym is);
-    wanted = ap wanted_place (sym is);
-  }
+  joins_as h is =
+      grind (arith, joins_goes_on, is_serving, is_rebuilding, is_wanting, is_idle, has_merged, is_granted, may_have_staged, wanted_place)
 
   -- each tablet stays as it was
   each : (q r : ℕ) → StaysAs (v.handovers q r) (now.handovers q r)
@@ -166,33 +146,14 @@ module _ (v : View) (row : Row) (master : ℕ) (numbers : List ℕ) (sound : Sou
 
   -- the target has not begun to rebuild its row
   behind : (lineage : List Member) → row.phase ≡ Rebuilding lineage master → old.term < row.term
-  behind lineage is =
-      receiving_behind lineage master row.term old.term (v.written master).applied
-      (rw (← receiving)
-      (subst (λ (phase : Phase). Holds (bond_of (post_of phase master) old.role) row.term old.term (v.written master).applied) is
-      (was.fitting master (inl lives))))
+  behind lineage is = grind (arith, receiving_behind, bond_of, post_of, was)
 
   abbrev IsBy : List Member → ℕ → Handover → Type 0
   IsBy lineage to h =
       IsRebuilderIn v.logs v.written v.stored row lineage to (truths v row) h (v.completions to number) (v.gathers to number) (v.merged to number) (v.records to)
 
-  abbrev IsRebuiltIn : View → Phase → Type 0
-  IsRebuiltIn w phase =
-      RowIsRebuilt row phase (truths v row) v.logs v.written v.stored w.handovers v.completions v.gathers v.merged v.records v.live
-
-  rebuilt_on : (phase : Phase) → row.phase ≡ phase → IsRebuiltIn v phase → IsRebuiltIn now phase
-  rebuilt_on (Rebuilding lineage to) is fit = (
-    λ term.
-        let own : (v.handovers to number).term ≡ row.term = sym (alike to number).same_term ∙ term in
-        of_handover (IsBy lineage to) to number
-        (λ at its.
-        let less : old.term < row.term = behind lineage (is ∙ ap (λ (q : ℕ). Rebuilding lineage q) at) in
-        let here : old.term ≡ row.term = rw (← at) own in
-        absurd (omega (arith, less, here)))
-        (λ apart. fit.0 own),
-    fit.1,
-  )
-  rebuilt_on _ is fit = tt
+  rebuilt_on : (phase : Phase) → row.phase ≡ phase → IsRebuiltIn v row phase → IsRebuiltIn now row phase
+  rebuilt_on phase is fit = grind (arith, alike, of_handover, behind)
 
   -- ---- targets
 
@@ -231,89 +192,61 @@ module _ (v : View) (row : Row) (master : ℕ) (numbers : List ℕ) (sound : Sou
 
   -- ---- the whole
 
-  here : SoundRow now row
-  here = record {
-    named = was.named;
-    begun = was.begun;
-    formed = was.formed;
-    placed = was.placed;
-    sent = was.sent;
-    fitting = λ q counts.
-        role_looks row q (v.handovers q number) (now.handovers q number) (v.written q).applied (v.written q).applied (each q number).looks refl
-        (was.fitting q (counted q counts));
-    ranged = λ q counts member. (each q number).looks.range ∙ was.ranged q (counted q counts) member;
-    at_term =
-        terms_look row.phase (λ q. (v.handovers q number).term) (λ q. (now.handovers q number).term) row.term
-        (λ q. (alike q number).same_term) was.at_term;
-    truth = was.truth;
-    above = was.above;
-    reached = was.reached;
-    recorded = was.recorded;
-    moving = was.moving;
-    answering = λ q counts says. was.answering q (counted q counts) (spoke q says);
-    ends_granted = rw (handed_for_grant_alike row v.handovers now.handovers v.handed alike) was.ends_granted;
-    ends_sent = λ n m there. rw (handed_by_alike row v.handovers now.handovers m.body alike) (was.ends_sent n m there);
-    low = was.low;
-    low_moving = was.low_moving;
-    counted = λ q counts says. rw (counter_same q number) (was.counted q (counted q counts) (spoke q says));
-    floor_granted = rw (handed_for_grant_alike row v.handovers now.handovers v.handed alike) was.floor_granted;
-    floor_sent = λ n m there. rw (handed_by_alike row v.handovers now.handovers m.body alike) (was.floor_sent n m there);
-    goes_on = was.goes_on;
-    done = was.done;
-    unnamed = was.unnamed;
-    idle = λ q counts idles. was.idle q (counted q counts) (sym (each q number).idle ∙ idles);
-    items = λ q alive has.
-        was.items q alive
-        (sym (all_items_same (post_of row.phase q) (now.handovers q number) (v.handovers q number) row.term (alike q number).same_term) ∙ has);
-    target = members_on (lineage_of row.phase) was.target;
-    handed_on = told_on (lineage_of row.phase) was.handed_on;
-    named_items = was.named_items;
-    rebuilt = rebuilt_on row.phase refl was.rebuilt;
-    marks = λ q j m stands its.
-        let fit = was.marks q j m stands its in
-        mark_same row q (v.handovers q number) (now.handovers q number) (v.live q) (v.written q) (v.written q)
-        (slice_index_or (v.written q).marks j m) (alike q number).same_term (each q number).merged fit.behind fit;
-    pieces = was.pieces;
-    says = λ n m there.
-        says_of_looks v v.logs v.written now.handovers looks (λ q. refl) (λ x lineage q dead end needed. needed) row m.from m.to m.body
-        (was.says n m there);
-  }
+  marks : (q : ℕ) → All (λ mark. mark.tablet ≡ number → MarkFits row q (now.handovers q number) (v.live q) (v.written q) mark) (v.written q).marks
+  marks q j m stands its =
+      let fit = was.marks q j m stands its in
+      mark_same row q (v.handovers q number) (now.handovers q number) (v.live q) (v.written q) (v.written q) (slice_index_or (v.written q).marks j m)
+      (alike q number).same_term (each q number).merged fit.behind fit
 
-  terms : TermsOf now
-  terms = terms_looks v.rows v.handovers now.handovers v.wire sound.terms looks.each
+  here : SoundRow now row
+  here =
+      assumption (
+        was,
+        λ (q : ℕ) (counts : CountsFor now row q).
+            role_looks row q (v.handovers q number) (now.handovers q number) (v.written q).applied (v.written q).applied (each q number).looks refl
+            (was.fitting q (counted q counts)),
+        λ (q : ℕ) (counts : CountsFor now row q) (member : is_member (lineage_of row.phase) q ≡ true).
+            (each q number).looks.range ∙ was.ranged q (counted q counts) member,
+        terms_look row.phase (λ q. (v.handovers q number).term) (λ q. (now.handovers q number).term) row.term
+            (λ q. (alike q number).same_term) was.at_term,
+        λ (q : ℕ) (counts : CountsFor now row q) (says : SpeaksFor now row q). was.answering q (counted q counts) (spoke q says),
+        rw (← handed_for_grant_alike row v.handovers now.handovers v.handed alike) at was.ends_granted,
+        λ (n : ℕ) (m : Message) (there : get v.wire n ≡ Some m).
+            rw (← handed_by_alike row v.handovers now.handovers m.body alike) at (was.ends_sent n m there),
+        λ (q : ℕ) (counts : CountsFor now row q) (says : SpeaksFor now row q).
+            rw (← counter_same q number) at (was.counted q (counted q counts) (spoke q says)),
+        rw (← handed_for_grant_alike row v.handovers now.handovers v.handed alike) at was.floor_granted,
+        λ (n : ℕ) (m : Message) (there : get v.wire n ≡ Some m).
+            rw (← handed_by_alike row v.handovers now.handovers m.body alike) at (was.floor_sent n m there),
+        λ (q : ℕ) (counts : CountsFor now row q) (idles : is_idle (now.handovers q number).role ≡ true).
+            was.idle q (counted q counts) (sym (each q number).idle ∙ idles),
+        λ (q : ℕ) (alive : v.live q ≡ true) (has : has_all_items (post_of row.phase q) (now.handovers q number) row.term ≡ true).
+            was.items q alive
+            (sym (all_items_same (post_of row.phase q) (now.handovers q number) (v.handovers q number) row.term (alike q number).same_term) ∙ has),
+        members_on (lineage_of row.phase) was.target,
+        told_on (lineage_of row.phase) was.handed_on,
+        rebuilt_on row.phase refl was.rebuilt,
+        marks,
+        λ (n : ℕ) (m : Message) (there : get v.wire n ≡ Some m).
+            says_of_looks v v.logs v.written now.handovers looks (λ q. refl) (λ x lineage q dead end needed. needed) row m.from m.to m.body
+            (was.says n m there),
+      )
 
   beside : SoundBeside now
-  beside = record {
-    numbered = sound.nodes.numbered;
-    backed = sound.nodes.backed;
-    known_backups = sound.nodes.known;
-    crashed = sound.nodes.crashed;
-    left = sound.nodes.left;
-    rows_apart = sound.rows.apart;
-    covered = sound.rows.covered;
-    kept = terms.kept;
-    begun = terms.begun;
-    apart = terms.apart;
-    cover = cover_looks v.rows v.written v.handovers now.handovers v.records v.wire sound.cover looks.each;
-    has_row = λ q r lives there. sound.roles.known q r lives (sym (each q r).looks.role.absent ∙ there);
-    logs = sound.logs;
-    legal = sound.truth.legal;
-    rising = sound.truth.rising;
-    seen = sound.truth.seen;
-    once = sound.calls.once;
-    known = (calls_alike v (truths v) (rests v) now.handovers sound.calls alike).known;
-    waiting = λ q lives k c there.
-        let wait = sound.rest.waiting q lives k c there in
-        waits_for v.rows v.rows (v.handovers q) (now.handovers q) (v.written q) q k c wait wait.row wait.has_row wait.in_row wait.is_last
-        ((each q wait.row.tablet).stages ∙ wait.may_stage);
-    are_last = sound.rest.are_last;
-    found = sound.rest.found;
-    ordered = sound.records.ordered;
-    bare = λ q r.
-        of_handover (λ (h : Handover). IsBareOf h (v.written q) (v.records q)) q r (λ at its. tt) (λ apart. sound.receives.bare q r);
-    others = sound.messages.others;
-    asked = sound.asked;
-  }
+  beside =
+      assumption (
+        terms_looks v.rows v.handovers now.handovers v.wire sound.terms looks.each,
+        cover_looks v.rows v.written v.handovers now.handovers v.records v.wire sound.cover looks.each,
+        λ (q r : ℕ) (lives : v.live q ≡ true) (there : is_absent (now.handovers q r).role ≡ false).
+            sound.roles.known q r lives (sym (each q r).looks.role.absent ∙ there),
+        calls_alike v (truths v) (rests v) now.handovers sound.calls alike,
+        λ (q : ℕ) (lives : v.live q ≡ true) (k : ℕ) (c : Call) (there : get (v.calls q) k ≡ Some c).
+            let wait = sound.rest.waiting q lives k c there in
+            waits_for v.rows v.rows (v.handovers q) (now.handovers q) (v.written q) q k c wait wait.row wait.has_row wait.in_row wait.is_last
+            ((each q wait.row.tablet).stages ∙ wait.may_stage),
+        λ (q r : ℕ).
+            of_handover (λ (h : Handover). IsBareOf h (v.written q) (v.records q)) q r (λ at its. tt) (λ apart. sound.receives.bare q r),
+      )
 
   pub view_sides_joined : SoundView now
   view_sides_joined =

@@ -1,25 +1,23 @@
 -- What targets have sealed stays there where a master takes a message that hands a tablet over.
-use Rattle.std.proofs.Common.{◌&&◌, ◌==◌, ℕ, true, false, cond, not, [], length, Option, None, Some}
-use Rattle.rk_inv_base.proofs.Words.{All-nil, meets, Range, completions_from, closed, frozen, granted, owned, prepared, released, Handover}
-use Rattle.rk_inv_base.proofs.Words.{Role, Grant, Prepare, Tenure, carried_entry, close_taken, closing, given_up, grant_taken, granting}
+use Rattle.std.proofs.Common.{arith}
+use Rattle.std.proofs.Common.{◌&&◌, ◌==◌, ℕ, cond, not, [], length, Option, None, Some}
+use Rattle.rk_inv_base.proofs.Words.{All-nil, meets, Range, completions_from, closed, granted, owned, prepared, released, Handover, Role}
+use Rattle.rk_inv_base.proofs.Words.{Grant, Prepare, Tenure, carried_entry, close_taken, closing, given_up, grant_taken, granting}
 use Rattle.rk_inv_base.proofs.Words.{is_greater, own_taken, owning, prepare_taken, preparing, ready, ready_again, release_taken, releasing}
-use Rattle.rk_inv_base.proofs.Words.{tablet_closed, tablet_prepared, transfer, transferring, with_move, with_others_given_up, Master}
-use Rattle.rk_inv_base.proofs.Words.{tablet_at, with_appended, without_items, is_frozen_at, Tablet, pulling_from, with_handover}
-use Rattle.rk_inv_base.proofs.Words.{without_merged, changed, sending}
-use Rattle.rk_transfer.specs.declared.role.Role.TheVariants as roles
-use Rattle.rk_inv_tablets.proofs.steady.Commits.{freezing_seals}
+use Rattle.rk_inv_base.proofs.Words.{tablet_closed, tablet_prepared, transfer, with_move, with_others_given_up, Master, tablet_at}
+use Rattle.rk_inv_base.proofs.Words.{with_appended, without_items, is_frozen_at, Tablet, pulling_from, with_handover, without_merged}
+use Rattle.rk_inv_base.proofs.Words.{changed, sending}
 use Rattle.rk_inv_tablets.proofs.steady.Sealed.{IsSealedUnder, Seals, each_under, either_works, sealed_at, seals_with_tablet}
+use Rattle.rk_transfer.specs.declared.role.Role.TheVariants as roles
+use Rattle.rk_inv_wellformed.proofs.masters.Changes.{freezing_is}
+use Rattle.rk_inv_wellformed.proofs.maps.Lists.{by_found}
 
 module _ (count : ℕ) where
   -- ---- moves
 
   given_up_sealed : (number : ℕ) (range : Range) (entry : ℕ × Tablet) → IsSealedUnder count entry.1
       → IsSealedUnder count (cond (not (entry.0 == number) && meets entry.1.handover.range range) (given_up entry.1) entry.1)
-  given_up_sealed number range entry sealed =
-      elim (not (entry.0 == number) && meets entry.1.handover.range range) as (λ b. IsSealedUnder count (cond b (given_up entry.1) entry.1)) [
-        | true ↦ All-nil _
-        | false ↦ sealed
-      ]
+  given_up_sealed number range entry sealed = grind (arith, meets, given_up)
 
   pub others_given_up_seal : (master : Master) (number : ℕ) (range : Range) → Seals count master → Seals count (with_others_given_up master number range)
   others_given_up_seal master number range seals = (
@@ -64,52 +62,47 @@ module _ (count : ℕ) where
     closing_seals number (Some handover) =
         let now = tablet_closed master number handover in
         let closed_seals : Seals count now = move_seals master number (Some handover) seals in
-        freezing_seals count now number (tablet_at now number) closed_seals (sealed_at count now number closed_seals)
-        (frozen handover handover.term)
+        let tablet = tablet_at now number in
+        freezing_is (Seals count) now number tablet closed_seals handover handover.term
+        (λ r is.
+        seals_with_tablet count now number (with_handover tablet (record handover { role = r })) closed_seals (sealed_at count now number closed_seals))
 
-  transferring_seals : (master : Master) (tenure : Tenure) → Seals count master → Seals count (transferring master tenure).master
-  transferring_seals master tenure seals =
-      let tablet = tablet_at master tenure.tablet in
-      either_works count (is_frozen_at tablet tenure.term) (sending master (transfer master tenure tablet)) (changed master) seals seals
-
-  module _ (master : Master) (seals : Seals count master) where
     pub close_seals : (tenure : Tenure) → Seals count (close_taken master tenure).master
     close_seals tenure =
-        let handover = closed (tablet_at master tenure.tablet).handover tenure.term in
-        transferring_seals (closing master tenure.tablet handover) tenure (closing_seals master seals tenure.tablet handover)
+        let now = closing master tenure.tablet (closed (tablet_at master tenure.tablet).handover tenure.term) in
+        let kept : Seals count now = closing_seals tenure.tablet (closed (tablet_at master tenure.tablet).handover tenure.term) in
+        either_works count (is_frozen_at (tablet_at now tenure.tablet) tenure.term) (sending now (transfer now tenure (tablet_at now tenure.tablet)))
+        (changed now) kept kept
 
     -- ---- granted
 
-    granting_seals : (grant : Grant) (handover : Option Handover) → Seals count (granting master grant handover).master
-    granting_seals grant None = seals
-    granting_seals grant (Some handover) =
+    pub grant_seals : (grant : Grant) → Seals count (grant_taken master grant).master
+    grant_seals grant =
+        by_found (λ handover. Seals count (granting master grant handover).master)
+        (granted (tablet_at master grant.tenure.tablet).handover grant.tenure.term grant.floor) (λ none. seals)
+        (λ handover is.
         seals_with_tablet count (with_appended master (carried_entry handover grant)) grant.tenure.tablet
         (record (without_merged (tablet_at master grant.tenure.tablet)) {
           handover = handover;
           completions = completions_from [] grant.ends;
           pulling = pulling_from grant.source;
         })
-        seals (All-nil _)
-
-    pub grant_seals : (grant : Grant) → Seals count (grant_taken master grant).master
-    grant_seals grant = granting_seals grant (granted (tablet_at master grant.tenure.tablet).handover grant.tenure.term grant.floor)
+        seals (All-nil _))
 
     -- ---- owned
 
-    owning_seals : (number : ℕ) (handover : Option Handover) → Seals count (owning master number handover).master
-    owning_seals number None = seals
-    owning_seals number (Some handover) =
-        seals_with_tablet count master number
-        (record (without_merged (tablet_at master number)) { handover = handover; pulling = pulling_from 0 }) seals (All-nil _)
-
     pub own_seals : (tenure : Tenure) → Seals count (own_taken master tenure).master
-    own_seals tenure = owning_seals tenure.tablet (owned (tablet_at master tenure.tablet).handover tenure.term master.applied)
+    own_seals tenure =
+        let tablet = tablet_at master tenure.tablet in
+        by_found (λ handover. Seals count (owning master tenure.tablet handover).master) (owned tablet.handover tenure.term master.applied)
+        (λ none. seals)
+        (λ handover is.
+        seals_with_tablet count master tenure.tablet (record (without_merged tablet) { handover = handover; pulling = pulling_from 0 }) seals (All-nil _))
 
     -- ---- released
 
-    releasing_seals : (number : ℕ) (handover : Option Handover) → Seals count (releasing master number handover).master
-    releasing_seals number None = seals
-    releasing_seals number (Some handover) = move_seals (without_items master handover.range) number (Some handover) seals
-
     pub release_seals : (tenure : Tenure) → Seals count (release_taken master tenure).master
-    release_seals tenure = releasing_seals tenure.tablet (released (tablet_at master tenure.tablet).handover tenure.term)
+    release_seals tenure =
+        by_found (λ handover. Seals count (releasing master tenure.tablet handover).master)
+        (released (tablet_at master tenure.tablet).handover tenure.term) (λ none. seals)
+        (λ handover is. move_seals (without_items master handover.range) tenure.tablet (Some handover) seals)

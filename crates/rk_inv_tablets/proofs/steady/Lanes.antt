@@ -1,6 +1,6 @@
 -- Each backup of a lane tells what it stores, and what targets have sealed is there: in a new lane, after each event, and after a
 -- client's turn or answer.
-use Rattle.std.proofs.Common.{◌≡◌, ◌≤◌, ◌&&◌, ℕ, true, [], length, Option, None, Some, refl, ap, ◌∙◌, ⊎_elim, arith, is_some, nat_le}
+use Rattle.std.proofs.Common.{◌≡◌, ◌≤◌, ◌&&◌, ℕ, true, [], length, Option, None, Some, refl, ap, arith, is_some, nat_le}
 use Rattle.std.proofs.Common.{unwrap_or}
 use Rattle.rk_inv_base.proofs.Words.{cases_eq, nat_tests, All-nil, get_other, get_same, IsInOrder, NumberMap, get, get_or, insert, Range}
 use Rattle.rk_inv_base.proofs.Words.{Segments, Called, no_segments, accept, ask, Session, IsWellFormed, Master, new_master, tablet_at}
@@ -24,22 +24,10 @@ abbrev Tell : Part
 Tell masters count backups = (backup : ℕ) → (nat_le 1 backup && nat_le backup count) ≡ true → is_some (get backups backup) ≡ true
 
 told_with : (backups : NumberMap Segments) (number : ℕ) (segments : Segments) (backup : ℕ) → is_some (get backups backup) ≡ true → is_some (get (insert backups number segments) backup) ≡ true
-told_with backups number segments backup told =
-    ⊎_elim
-    (λ (is : backup ≡ number). ap (λ (o : Option Segments). is_some o) (get_same backups number segments backup is))
-    (λ (apart : backup ≡ number → ⊥).
-    ap (λ (o : Option Segments). is_some o) (get_other backups number segments backup apart) ∙ told)
-    (cases_eq backup number)
+told_with backups number segments backup told = grind (arith, get_same, get_other, cases_eq)
 
 tell_kept : (w : World) → AllTell w → IsKept Tell w
-tell_kept w tell = record {
-  now = tell;
-  steps = λ master message. tell;
-  turns = λ master. tell;
-  adds = λ master tablet range. tell;
-  splits = λ master tablet at new term. tell;
-  stores = λ number segments backup there. told_with w.backups number segments backup (tell backup there);
-}
+tell_kept w tell = grind (arith, told_with)
 
 at_least_one : (backup last : ℕ) → (nat_le 1 backup && nat_le backup last) ≡ true → 1 ≤ backup
 at_least_one backup last there = grind (arith, nat_tests)
@@ -93,11 +81,7 @@ module _ (master : Master) (there : SealsThere master) where
 
 module _ (w : World) (sealed : AllSealedThere w) where
   put_sealed : (number : ℕ) (master : Master) → SealsThere master → AllSealedThere (with_master w number master)
-  put_sealed number master there q =
-      ⊎_elim
-      (λ (is : q ≡ number). rw (master_same w number master q is) (each_from_there master there))
-      (λ (apart : q ≡ number → ⊥). rw (master_other w number master q apart) (sealed q))
-      (cases_eq q number)
+  put_sealed number master there q = grind (arith, master_same, each_from_there, master_other, cases_eq)
 
   -- the tablets of a master of a well formed lane are in order
   order_at : IsWellFormed w → (number : ℕ) → IsInOrder (master_at w number).tablets

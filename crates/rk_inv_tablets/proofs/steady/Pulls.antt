@@ -1,18 +1,18 @@
 -- What targets have sealed is there where a target takes what it pulled, and also where it seals its side lists.
-use Rattle.std.proofs.Common.{◌<◌, ◌≤◌, ◌+◌, ◌&&◌, ℕ, Bool, true, false, cond, All, List, [], ◌∷◌, length, fold, Option, None, Some, arith}
-use Rattle.std.proofs.Common.{◌%◌}
-use Rattle.rk_inv_base.proofs.Words.{All-weaker, range_with_len, Held, Token, Node, FIRST_SIDE_SEGMENT, found, is_newer, end, joined}
-use Rattle.rk_inv_base.proofs.Words.{Handover, got, is_batch, Got, Pull, Pulled, Want, items_of, Master, tablet_at, with_side_segment}
-use Rattle.rk_inv_base.proofs.Words.{batch_taken, got_taken, hashes_resolved, is_token, item_replayed, joining_at, joining_by, next_sides}
-use Rattle.rk_inv_base.proofs.Words.{pull_taken, pulled_all, pulled_taken, replay, replay_one, sealing, token_passed, want_taken}
-use Rattle.rk_inv_base.proofs.Words.{with_pulled, with_pulling, is_frozen_at, is_receiving_at, sealed_sides, Tablet, with_handover, changed}
+use Rattle.std.proofs.Common.{◌<◌, ◌+◌, ◌&&◌, ℕ, All, List, [], ◌∷◌, length, fold, arith, ◌%◌}
+use Rattle.rk_inv_base.proofs.Words.{range_with_len, Held, Token, Node, FIRST_SIDE_SEGMENT, found, is_newer, end, got, is_batch}
+use Rattle.rk_inv_base.proofs.Words.{Got, Pull, Pulled, Want, items_of, Master, tablet_at, with_side_segment, batch_taken, got_taken}
+use Rattle.rk_inv_base.proofs.Words.{hashes_resolved, is_token, item_replayed, joining_by, next_sides, pull_taken, pulled_all, pulled_taken}
+use Rattle.rk_inv_base.proofs.Words.{replay, replay_one, sealing, token_passed, want_taken, with_pulled, with_pulling, is_frozen_at}
+use Rattle.rk_inv_base.proofs.Words.{is_receiving_at, sealed_sides, Tablet, with_handover, changed}
 use Rattle.rk_inv_tablets.proofs.Words.{kept_by_fold}
 use Rattle.rk_priority.specs.Hashes.{no_hashes}
 use Rattle.rk_world.specs.Master.{with_item}
 use Rattle.rk_inv_wellformed.proofs.masters.Turns.{range_within}
-use Rattle.rk_inv_tablets.proofs.steady.Commits.{closing_entry_seals}
 use Rattle.rk_inv_tablets.proofs.steady.Sealed.{IsSealedUnder, Seals, SealsThere, either_seals, either_works, sealed_at, seals_there}
 use Rattle.rk_inv_tablets.proofs.steady.Sealed.{seals_with_tablet, sides_added}
+use Rattle.rk_inv_wellformed.proofs.masters.Changes.{closing_is, joining_is}
+use Rattle.rk_inv_wellformed.proofs.maps.Lists.{either_way}
 
 module _ (count : ℕ) where
   -- ---- a source
@@ -66,10 +66,7 @@ module _ (count : ℕ) where
 
   -- the numbers of side segments that come next are below the count with them
   next_under : (more : ℕ) → All (λ number. number < FIRST_SIDE_SEGMENT + (count + more)) (range_with_len (FIRST_SIDE_SEGMENT + count) more)
-  next_under more =
-      All-weaker (λ n. (FIRST_SIDE_SEGMENT + count ≤ n) × (n < FIRST_SIDE_SEGMENT + count + more))
-      (λ n. n < FIRST_SIDE_SEGMENT + (count + more)) (λ n within. omega (arith, within.1))
-      (range_with_len (FIRST_SIDE_SEGMENT + count) more) (range_within (FIRST_SIDE_SEGMENT + count) more)
+  next_under more = grind (arith, range_within)
 
   sealing_seals : (master : Master) (number : ℕ) (tablet : Tablet) → Seals count master
       → Seals (count + length (sealed_sides tablet.pulling.sides)) (sealing master number tablet)
@@ -85,22 +82,15 @@ module _ (count : ℕ) where
       (rw seals.0 (next_under (length sides)))
 
   module _ (master : Master) (number : ℕ) (tablet : Tablet) (seals : Seals count master) (sealed : IsSealedUnder count tablet) where
-    joining_at_seals : (handover : Option Handover) → Seals count (joining_at master number tablet handover)
-    joining_at_seals None = seals
-    joining_at_seals (Some handover) = seals_with_tablet count master number (with_handover tablet handover) seals sealed
-
     pub joining_seals : (segments : List ℕ) → Seals count (joining_by master number tablet segments)
     joining_seals [] =
-        closing_entry_seals count master number tablet seals sealed
-        (joined tablet.handover tablet.handover.term (Some (length master.log.entries)))
-    joining_seals (segment ∷ more) = joining_at_seals (joined tablet.handover tablet.handover.term None)
+        closing_is (Seals count) master number tablet seals (length master.log.entries)
+        (λ r is. seals_with_tablet count master number (with_handover tablet (record tablet.handover { role = r })) seals sealed)
+    joining_seals (segment ∷ more) =
+        joining_is (Seals count) master number tablet seals
+        (λ r is. seals_with_tablet count master number (with_handover tablet (record tablet.handover { role = r })) seals sealed)
 
 -- ---- batches
-
--- what is made where a test holds, and what where it does not
-either_there : (test : Bool) (one other : Master) → SealsThere one → SealsThere other → SealsThere (cond test one other)
-either_there true one other first second = first
-either_there false one other first second = second
 
 module _ (count : ℕ) (master : Master) (seals : Seals count master) where
   all_there : (number : ℕ) → SealsThere (pulled_all master number)
@@ -120,13 +110,8 @@ module _ (count : ℕ) (master : Master) (seals : Seals count master) where
       let now = token_passed replayed number pulled.next in
       let now_seals : Seals count now =
       token_seals count replayed number pulled.next (replay_seals count master number worker (items_of pulled.entries) seals) in
-      either_there (is_token pulled.next end) (pulled_all now number) now (all_there count now now_seals number)
+      either_way SealsThere (is_token pulled.next end) (all_there count now now_seals number)
       (seals_there count now now_seals)
 
   pub pulled_there : (pulled : Pulled) → SealsThere (pulled_taken master pulled).master
-  pulled_there pulled =
-      let tablet = tablet_at master pulled.tenure.tablet in
-      elim (is_receiving_at tablet pulled.tenure.term && is_token pulled.token tablet.pulling.token) as (λ b. SealsThere (cond b (changed (batch_taken master pulled.tenure.tablet pulled)) (changed master)).master) [
-        | true ↦ batch_there pulled.tenure.tablet pulled
-        | false ↦ seals_there count master seals
-      ]
+  pulled_there pulled = grind (arith, tablet_at, is_receiving_at, is_token, changed, batch_taken, batch_there, seals_there)

@@ -10,23 +10,20 @@ use Rattle.rk_inv_tablets.proofs.Words.{gather_begun}
 use Rattle.rk_world.specs.Rebuilds.{merged_at}
 use Rattle.rk_inv_tablets.proofs.steady.Handovers.{others_given_up_seal}
 use Rattle.rk_inv_tablets.proofs.steady.Sealed.{IsSealedUnder, Seals, either_works, sealed_at, seals_with_all, seals_with_tablet}
+use Rattle.rk_inv_wellformed.proofs.maps.Lists.{by_found}
 
 module _ (count : ℕ) where
   -- ---- merging
 
-  merging_seals : (master : Master) (number : ℕ) (tablet : Tablet) (merged : Merged) (handover : Option Handover) → Seals count master
-      → IsSealedUnder count tablet → Seals count (merging master number tablet merged handover).master
-  merging_seals master number tablet merged None seals sealed = seals
-  merging_seals master number tablet merged (Some handover) seals sealed =
-      seals_with_tablet count (with_appended (with_all master (as_entries merged.copies)) (rebuilt_entry tablet merged)) number
-      (with_merged tablet merged handover) (seals_with_all count master (as_entries merged.copies) seals) sealed
-
   merged_seals : (master : Master) (number : ℕ) (tablet : Tablet) (merged : Merged) → Seals count master → IsSealedUnder count tablet
       → Seals count (merged_at master number tablet merged).master
   merged_seals master number tablet merged seals sealed =
-      merging_seals master number tablet merged
-      (carried tablet.handover tablet.handover.term (length (with_all master (as_entries merged.copies)).log.entries) merged.floor)
-      seals sealed
+      let grown = with_all master (as_entries merged.copies) in
+      by_found (λ handover. Seals count (merging master number tablet merged handover).master)
+      (carried tablet.handover tablet.handover.term (length grown.log.entries) merged.floor) (λ none. seals)
+      (λ handover is.
+      seals_with_tablet count (with_appended grown (rebuilt_entry tablet merged)) number (with_merged tablet merged handover)
+      (seals_with_all count master (as_entries merged.copies) seals) sealed)
 
   rebuilding_seals : (master : Master) (number : ℕ) (reading : Option Reading) → Seals count master → Seals count (rebuilding_on master number reading).master
   rebuilding_seals master number (Some reading) seals = seals

@@ -39,10 +39,7 @@ under_more less more tablets within each = All-weaker _ _ (λ entry sealed. tabl
 
 -- one more side segment
 side_added : (count : ℕ) (master : Master) (items : List Held) → Seals count master → Seals (count + 1) (with_side_segment master items)
-side_added count master items seals = (
-  omega (arith, seals.0, length-append master.log.sides (spelled_all (as_entries items) ∷ [])),
-  under_more count (count + 1) master.tablets (omega arith) seals.1,
-)
+side_added count master items seals = grind (arith, length-append, spelled_all, as_entries, under_more)
 
 -- more side segments, one after the other
 pub sides_added : (sides : List (List Held)) (count : ℕ) (master : Master) → Seals count master → Seals (count + length sides) (fold with_side_segment master sides)

@@ -1,8 +1,8 @@
 -- What targets have sealed is there once a master took a message, whatever it says.
+use Rattle.std.proofs.Common.{arith}
 use Rattle.std.proofs.Common.{ℕ}
 use Rattle.rk_inv_base.proofs.Words.{Node, overreach, Body, Message, Master, backup_message, client_message, master_step, order}
 use Rattle.rk_inv_base.proofs.Words.{peer_message, told_master, Worked}
-use Rattle.rk_types.specs.declared.node.Node.TheVariants as nodes
 use Rattle.rk_message.specs.declared.message.Body.TheVariants as bodies
 use Rattle.rk_inv_tablets.proofs.steady.Commits.{stored_seals}
 use Rattle.rk_inv_tablets.proofs.steady.Handovers.{close_seals, grant_seals, own_seals, prepare_seals, release_seals}
@@ -44,10 +44,7 @@ module _ (count : ℕ) (master : Master) (seals : Seals count master) where
   backup_there backup _ = seals_there count master seals
 
   told_there : (sender : Node) (body : Body) → SealsThere (told_master master sender body).master
-  told_there (nodes.Client client) body = client_there client body
-  told_there nodes.Coordinator body = order_there body
-  told_there (nodes.Master other) body = peer_there (nodes.Master other) body
-  told_there (nodes.Backup backup) body = backup_there backup body
+  told_there sender body = grind (arith, client_there, order_there, peer_there, backup_there)
 
   -- a message
   pub step_there : (message : Message) → SealsThere (master_step master message).master

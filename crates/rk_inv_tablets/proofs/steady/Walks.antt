@@ -1,15 +1,14 @@
 -- What each event and each client keeps of a lane's masters and backups, where each of the parts keeps it.
+use Rattle.std.proofs.Common.{arith}
 use Rattle.std.proofs.Common.{◌+◌, ℕ, true, false, cond, Option, None, Some}
-use Rattle.rk_inv_base.proofs.Words.{NumberMap, get, insert, Call, Node, Range, Segments, row_of, Phase, Owned, Row, Body, Message, Backed}
+use Rattle.rk_inv_base.proofs.Words.{NumberMap, insert, Call, Node, Range, Segments, row_of, Phase, Row, Body, Message, Backed}
 use Rattle.rk_inv_base.proofs.Words.{Called, backup_step, stored_after, accept, accept_by, accepting, ask, ask_by, asking, asking_by}
 use Rattle.rk_inv_base.proofs.Words.{fits_with, is_asked_here, taking, untouched, ClientTurn, Session, session_turn, is_added, with_client}
 use Rattle.rk_inv_base.proofs.Words.{Master, master_step, master_turn, accept_refusal, ask_refusal, world_visited, owner_split, row_split}
 use Rattle.rk_inv_base.proofs.Words.{with_split, backed_at, client_added, delivered, delivered_to, happened, log_bytes_of, losing, quietly}
 use Rattle.rk_inv_base.proofs.Words.{seen_in, sent_again, to_backup, to_master, turned, with_added, with_sends, worked_at, World}
-use Rattle.rk_inv_base.proofs.Words.{has_crashed, is_backup, master_at, with_ledger, with_master, with_stored_by, StepError, Event}
+use Rattle.rk_inv_base.proofs.Words.{has_crashed, is_backup, master_at, with_ledger, with_master, with_stored_by, Event}
 use Rattle.rk_types.specs.declared.node.Node.TheVariants as nodes
-use Rattle.rk_world.specs.declared.event.Event.TheVariants as events
-use Rattle.rk_world.specs.declared.event.Taken.TheVariants as takes
 
 -- something of a lane's masters and of how many backups there are and what they store
 abbrev pub Part : Type 1
@@ -32,11 +31,7 @@ pub record IsKept (P : Part) (w : World) : Type 0 where
 
 module _ (P : Part) (w : World) (kept : IsKept P w) where
   to_master_keeps : (master : ℕ) (message : Message) → Has P (to_master w master message).world
-  to_master_keeps master message =
-      elim (has_crashed w master) as (λ b. Has P (cond b (losing w) (worked_at w master (seen_in message.body) (master_step (master_at w master) message))).world) [
-        | true ↦ kept.now
-        | false ↦ kept.steps master message
-      ]
+  to_master_keeps master message = grind (arith, has_crashed, losing, worked_at, seen_in, master_step, master_at)
 
   backed_keeps : (v : World) (answer : Backed) → Has P v → Has P (backed_at v answer).world
   backed_keeps v answer has =
@@ -48,12 +43,7 @@ module _ (P : Part) (w : World) (kept : IsKept P w) where
 
   to_backup_keeps : (backup : ℕ) (sender : Node) (body : Body) (called : Called) → Has P (to_backup w backup sender body called).world
   to_backup_keeps backup sender body called =
-      let after = with_stored_by w backup (λ (s : Segments). stored_after s sender body called) (get w.backups backup) in
-      let answer = backup_step backup sender body (log_bytes_of w) called in
-      elim (is_backup w backup) as (λ b. Has P (cond b (backed_at after answer) (quietly w)).world) [
-        | true ↦ backed_keeps after answer (stored_keeps backup (λ (s : Segments). stored_after s sender body called) (get w.backups backup))
-        | false ↦ kept.now
-      ]
+      grind (arith, with_stored_by, stored_after, backup_step, log_bytes_of, is_backup, backed_at, quietly, backed_keeps, stored_keeps)
 
   delivered_keeps : (found : Option Message) (called : Called) → Has P (delivered w found called).world
   delivered_keeps None called = kept.now
@@ -73,19 +63,10 @@ module _ (P : Part) (w : World) (kept : IsKept P w) where
   sent_keeps (Some message) = kept.now
 
   client_keeps : (client : ℕ) → Has P (client_added w client)
-  client_keeps client =
-      elim (is_added w.ledger client) as (λ b. Has P (cond b w (with_ledger w (with_client w.ledger client)))) [
-        | true ↦ kept.now
-        | false ↦ kept.now
-      ]
+  client_keeps client = grind (arith, is_added, with_ledger, with_client)
 
   owner_keeps : (tablet at new term : ℕ) (phase : Phase) → Has P (owner_split w tablet phase at new term)
-  owner_keeps tablet at new term (Owned master from) =
-      elim (has_crashed w master) as (λ b. Has P (cond b w (with_master w master (with_split (master_at w master) tablet at new term)))) [
-        | true ↦ kept.now
-        | false ↦ kept.splits master tablet at new term
-      ]
-  owner_keeps tablet at new term _ = kept.now
+  owner_keeps tablet at new term phase = grind (arith, has_crashed, with_master, with_split, master_at)
 
   split_keeps : (found : Option Row) (at new : ℕ) → Has P (row_split w found at new)
   split_keeps None at new = kept.now
@@ -93,13 +74,7 @@ module _ (P : Part) (w : World) (kept : IsKept P w) where
 
   -- each event keeps it
   pub event_keeps : (event : Event) (called : Called) → Has P (happened w event called).world
-  event_keeps (events.AddTablet tablet range master) called = kept.adds master tablet range
-  event_keeps (events.AddClient client) called = client_keeps client
-  event_keeps (events.Deliver number) called = delivered_keeps (get w.wire.messages number) called
-  event_keeps (events.Turn node) called = turned_keeps node
-  event_keeps (events.Again client) called = sent_keeps (get w.ledger.requests client)
-  event_keeps (events.Split tablet at new) called = split_keeps (row_of w.coordinator.rows tablet) at new
-  event_keeps _ called = kept.now
+  event_keeps event called = grind (arith, client_keeps, delivered_keeps, turned_keeps, sent_keeps, split_keeps, row_of)
 
 -- ---- clients
 
@@ -109,33 +84,15 @@ module _ (P : Part) (w : World) (now : Has P w) where
   asking_by_keeps session call (Some turned) = now
 
   asking_keeps : (session : Session) (call : Option Call) → Has P (asking w session call).world
-  asking_keeps session None = now
-  asking_keeps session (Some call) =
-      elim (fits_with w session call) as (λ b. Has P (cond b (asking_by w session call (session_turn session)) (untouched w session None)).world) [
-        | true ↦ asking_by_keeps session call (session_turn session)
-        | false ↦ now
-      ]
+  asking_keeps session call = grind (arith, fits_with, asking_by, session_turn, untouched, asking_by_keeps)
 
   -- a client's turn keeps it
   pub ask_keeps : (session : Session) → Has P (world_visited w (ask w session))
-  ask_keeps session = go (ask_refusal w session)
-    where
-      go : (refused : Option StepError) → Has P (world_visited w (ask_by w session refused))
-      go None = asking_keeps session session.outstanding
-      go (Some error) = now
+  ask_keeps session = grind (arith, ask_refusal, world_visited, ask_by, asking_keeps)
 
   accepting_keeps : (session : Session) (found : Option Message) → Has P (accepting w session found).world
-  accepting_keeps session None = now
-  accepting_keeps session (Some message) =
-      elim (is_asked_here w session) as (λ b. Has P (cond b (taking w session message.body) (untouched w session (Some takes.Ignored))).world) [
-        | true ↦ now
-        | false ↦ now
-      ]
+  accepting_keeps session found = grind (arith, is_asked_here, taking, untouched)
 
   -- and so does an answer
   pub accept_keeps : (number : ℕ) (session : Session) → Has P (world_visited w (accept w number session))
-  accept_keeps number session = go (accept_refusal w number session.client (get w.wire.messages number))
-    where
-      go : (refused : Option StepError) → Has P (world_visited w (accept_by w number session refused))
-      go None = accepting_keeps session (get w.wire.messages number)
-      go (Some error) = now
+  accept_keeps number session = grind (arith, accept_refusal, world_visited, accept_by, accepting_keeps)

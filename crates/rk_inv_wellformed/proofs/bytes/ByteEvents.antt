@@ -1,7 +1,7 @@
 -- The bytes of all logs of a lane rise by each event at most threefold, by an entry, and by what the event brings; so they fit after each
 -- event that brings few.
-use Rattle.std.proofs.Common.{◌≡◌, ◌≤◌, ◌<◌, ◌+◌, ◌*◌, ℕ, false, Option, None, [], refl, arith}
-use Rattle.rk_inv_wellformed.proofs.Words.{get, Node, Range, row_of, Row, Message, Called, backup_step, IsWellFormed, is_added, limits_of}
+use Rattle.std.proofs.Common.{◌≡◌, ◌≤◌, ◌<◌, ◌+◌, ◌*◌, ℕ, Option, None, [], refl, arith}
+use Rattle.rk_inv_wellformed.proofs.Words.{Node, Range, row_of, Row, Message, Called, backup_step, IsWellFormed, is_added, limits_of}
 use Rattle.rk_inv_wellformed.proofs.Words.{Master, log_bytes, new_master, tablet_at, master_step, master_turn, MayHappen, MayTurn}
 use Rattle.rk_inv_wellformed.proofs.Words.{comes_anyway, refusal, HasRoom, MOST_BYTES, row_split, with_split, Stepped, happened}
 use Rattle.rk_inv_wellformed.proofs.Words.{log_bytes_of, quietly, sent_again, tablet_added, turned, with_added, World, bytes_of_logs}
@@ -94,27 +94,11 @@ again_bytes w request = by_found (λ found. bytes_of_logs (sent_again w found).w
 -- how many bytes all logs have at most after an event that is not refused
 pub bytes_rise : (w : World) (event : Event) (called : Called) → MayHappen w event → refusal w event ≡ None → IsWellFormed w → HasRoom w
     → bytes_of_logs (happened w event called).world ≤ most_after w event
-bytes_rise w (Event.AddTablet tablet range master) called may none formed room = added_bytes tablet range master formed
-bytes_rise w (Event.AddClient client) called may none formed room = stays w (client_added w client) 0 (come_bytes w client)
-bytes_rise w (Event.Deliver number) called may none formed room = delivered_bytes number called formed room
-bytes_rise w (Event.Turn node) called may none formed room = turned_bytes node may formed
-bytes_rise w (Event.Again client) called may none formed room =
-    stays w (sent_again w (get w.ledger.requests client)).world 0 (again_bytes w (get w.ledger.requests client))
-bytes_rise w (Event.Split tablet at new) called may none formed room = split_logs w (row_of w.coordinator.rows tablet) at new formed
-bytes_rise w _ called may none formed room = stays w w 0 refl
+bytes_rise w event called may none formed room =
+    grind (arith, added_bytes, stays, client_added, come_bytes, delivered_bytes, turned_bytes, sent_again, again_bytes, split_logs, row_of)
 
 -- so they fit after one that brings few
 pub bytes_event : (w : World) (event : Event) (called : Called) → MayHappen w event → refusal w event ≡ None → brought w event ≤ MOST_BROUGHT
     → IsWellFormed w → HasRoom w → bytes_of_logs (happened w event called).world < MOST_BYTES
-bytes_event w event called may none few formed room = go event may none few
-  where
-    careful : (event : Event) → comes_anyway event ≡ false → MayHappen w event → refusal w event ≡ None → brought w event ≤ MOST_BROUGHT
-        → bytes_of_logs (happened w event called).world < MOST_BYTES
-    careful event is may none few =
-        omega (arith, few, (comes_fresh w event is none).bytes, bytes_rise w event called may none formed room)
-
-    go : (event : Event) → MayHappen w event → refusal w event ≡ None → brought w event ≤ MOST_BROUGHT
-        → bytes_of_logs (happened w event called).world < MOST_BYTES
-    go (Event.Forget number) may none few = room.bytes
-    go (Event.Crash master) may none few = room.bytes
-    go event may none few = careful event refl may none few
+bytes_event w event called may none few formed room =
+    grind (arith, comes_anyway, refusal, brought, bytes_of_logs, happened, comes_fresh, bytes_rise)

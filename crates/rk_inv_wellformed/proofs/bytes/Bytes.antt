@@ -1,13 +1,13 @@
 -- What is spelled of lawful entries are bytes, and the entries that are read of a first part of a spelling are among those spelled.
-use Rattle.std.proofs.Common.{◌≡◌, ◌≤◌, ◌<◌, ◌+◌, ◌/◌, ◌||◌, ◌^◌, ℕ, zero, suc, Bool, false, true, cond, List, [], ◌∷◌, ◌++◌, All, length}
-use Rattle.std.proofs.Common.{Option, None, Some, IfSome, Result, Ok, Err, refl, ap, subst, sym, ◌∙◌, ⊎_elim, append_assoc, arith, lit<}
-use Rattle.std.proofs.Common.{mod-lt, w8, w16, w32, w64, position, option_map, nat_lt, not}
-use Rattle.rk_inv_wellformed.proofs.Words.{byte_len, get_or_past, All-get_or, cases_lt, cond-true, cond_both, nat_tests, All-append}
-use Rattle.rk_inv_wellformed.proofs.Words.{All-cons, All-head, All-nil, All-tail, All-weaker, value_fault, Ended, Range, LONGEST_KEY}
+use Rattle.std.proofs.Common.{◌≡◌, ◌<◌, ◌+◌, ◌/◌, ◌||◌, ◌^◌, ℕ, zero, suc, Bool, false, List, [], ◌∷◌, ◌++◌, All, length}
+use Rattle.std.proofs.Common.{Option, None, Some, IfSome, Result, Ok, Err, refl, ap, subst, sym, ◌∙◌, append_assoc, arith, lit<}
+use Rattle.std.proofs.Common.{mod-lt, w8, w16, w32, w64, position, nat_lt, not}
+use Rattle.rk_inv_wellformed.proofs.Words.{byte_len, get_or_past, cases_lt, cond-true, cond_both, nat_tests, All-append}
+use Rattle.rk_inv_wellformed.proofs.Words.{All-cons, All-head, All-nil, All-tail, value_fault, Ended, Range, LONGEST_KEY}
 use Rattle.rk_inv_wellformed.proofs.Words.{LONGEST_VALUE, kind_of, IsLawfulEntry, Entry, key_fault, End, is_marked, lt-ltb, not-true}
 use Rattle.rk_inv_wellformed.proofs.Words.{Width, byte_at, bytes_high_first, position_or_len, bad_byte, text_fault, FIRST_TEXT_BYTE}
-use Rattle.rk_inv_wellformed.proofs.Words.{LAST_TEXT_BYTE, fields_bytes, item_value_bytes, mark_bytes}
-use Rattle.rk_types.specs.declared.text.TextError.TheVariants.{Byte, Length}
+use Rattle.rk_inv_wellformed.proofs.Words.{LAST_TEXT_BYTE, fields_bytes, item_value_bytes}
+use Rattle.rk_log.proofs.CutLaws.{spelled_none}
 use Rattle.rk_entry.proofs.EntryLaws.{entry_takes, one_spelled}
 use Rattle.rk_entry.proofs.StandLaws.{entries_of-cons, entries_of-none}
 use Rattle.rk_entry.proofs.Tools.{IsBytes}
@@ -53,10 +53,7 @@ none_passes p (x ∷ xs) none = cond_both (not (p x)) (1 + position_or_len p xs)
     (λ is beyond. absurd (beyond (omega arith))) none
 
 none_found : (p : ℕ → Bool) (xs : List ℕ) → position p xs ≡ None → All (λ x. p x ≡ false) xs
-none_found p xs none = none_passes p xs
-    (λ below.
-    let found : position p xs ≡ Some (position_or_len p xs) = cond-true _ _ _ (lt-ltb (position_or_len p xs) (length xs) below) in
-    absurd (cc (sym found ∙ none)))
+none_found p xs none = grind (arith, none_passes, position_or_len, cond-true, lt-ltb)
 
 -- a byte of a text
 text_byte : (byte : ℕ) → (nat_lt byte FIRST_TEXT_BYTE || nat_lt LAST_TEXT_BYTE byte) ≡ false → byte < 256
@@ -64,20 +61,11 @@ text_byte byte is = grind (arith, nat_tests)
 
 -- where no byte is bad all are bytes
 none_bad : (bytes : List ℕ) → bad_byte bytes ≡ None → AreBytes bytes
-none_bad bytes none =
-    All-weaker (λ byte. (nat_lt byte FIRST_TEXT_BYTE || nat_lt LAST_TEXT_BYTE byte) ≡ false) (λ byte. byte < 256) text_byte bytes
-    (none_found (λ byte. nat_lt byte FIRST_TEXT_BYTE || nat_lt LAST_TEXT_BYTE byte) bytes none)
+none_bad bytes none place other within =
+    text_byte _ (none_found (λ byte. nat_lt byte FIRST_TEXT_BYTE || nat_lt LAST_TEXT_BYTE byte) bytes none place other within)
 
 text_bytes : (shortest longest : ℕ) (bytes : List ℕ) → text_fault shortest longest bytes ≡ None → AreBytes bytes
-text_bytes shortest longest bytes none = go (nat_lt (length bytes) shortest || nat_lt longest (length bytes)) none
-  where
-    inner : (bad : Option ℕ) → option_map Byte bad ≡ None → bad ≡ None
-    inner None is = refl
-    inner (Some place) is = absurd (cc is)
-
-    go : (long : Bool) → cond long (Some (Length (length bytes))) (option_map Byte (bad_byte bytes)) ≡ None → AreBytes bytes
-    go true is = absurd (cc is)
-    go false is = none_bad bytes (inner (bad_byte bytes) is)
+text_bytes shortest longest bytes none = grind (arith, nat_lt, bad_byte, none_bad)
 
 -- ---- entries
 
@@ -129,36 +117,26 @@ fields_are (Entry.Carried carried) lawful = both_bytes _ _ (range_are carried.ra
 fields_are (Entry.Joined joined) lawful = both_bytes _ _ (range_are joined.range)
     (both_bytes _ _ (number_are w64 joined.term) (both_bytes _ _ (number_are w32 _) (segments_are joined.segments)))
 
-mark_are : (entry : Entry) → AreBytes (mark_bytes (kind_of entry) (front_bytes entry))
-mark_are entry = either_way AreBytes (is_marked (kind_of entry)) (number_are w8 _) (All-nil _)
-
 -- what is spelled of a lawful entry are bytes
 pub spelled_are : (entry : Entry) → IsLawfulEntry entry → AreBytes (spelled entry)
 unfolding spelled front_bytes
 spelled_are entry lawful =
-    both_bytes _ _ (both_bytes _ _ (number_are w8 _) (both_bytes _ _ (number_are w32 _) (fields_are entry lawful))) (mark_are entry)
+    both_bytes _ _ (both_bytes _ _ (number_are w8 _) (both_bytes _ _ (number_are w32 _) (fields_are entry lawful)))
+    (either_way AreBytes (is_marked (kind_of entry)) (number_are w8 _) (All-nil _))
 
 all_spelled_are : (list : List Entry) → All IsLawfulEntry list → AreBytes (spelled_all list)
 unfolding spelled_all
-all_spelled_are list lawful = all_flat (λ byte. byte < 256) spelled list
-    (All-weaker IsLawfulEntry (λ entry. AreBytes (spelled entry)) (λ entry it. spelled_are entry it) list lawful)
+all_spelled_are list lawful = all_flat (λ byte. byte < 256) spelled list (λ place other within. spelled_are _ (lawful place other within))
 
 -- ---- what is read of a first part
 
 below_length : (list : List ℕ) → AreBytes list → IsBytes list
-below_length list all place =
-    ⊎_elim (λ (within : place < length list). All-get_or (λ byte. byte < 256) list place 0 within all)
-    (λ (past : length list ≤ place). subst (λ (n : ℕ). n < 256) (sym (get_or_past list place 0 past)) (lit< tt))
-    (cases_lt place (length list))
+below_length list all place = grind (arith, get_or_past, lit<, cases_lt)
 
 -- entries one after the other are spelled so
 pub spelled_cons : (entry : Entry) (list : List Entry) → spelled_all (entry ∷ list) ≡ spelled entry ++ spelled_all list
 unfolding spelled_all
 spelled_cons entry list = refl
-
-pub spelled_nil : spelled_all [] ≡ []
-unfolding spelled_all
-spelled_nil = refl
 
 -- an entry that is read stands at the front
 record IsRead (front : List ℕ) (entry : Entry) (after : List ℕ) : Type 0 where
@@ -182,7 +160,7 @@ none_read P (byte ∷ front) rest is = absurd (cc is)
 
 -- what is read of a first part of a spelling has what each spelled entry has
 pub read_front : (P : Entry → Type 0) (list : List Entry) (front rest : List ℕ) → All IsLawfulEntry list → All P list → spelled_all list ≡ front ++ rest → All P (entries_of front)
-read_front P [] front rest lawful all is = none_read P front rest (sym spelled_nil ∙ is)
+read_front P [] front rest lawful all is = none_read P front rest (sym spelled_none ∙ is)
 read_front P (first ∷ list) front rest lawful all is = go (read_entry front) refl
     (λ after same. read_front P list after rest (All-tail IsLawfulEntry first list lawful) (All-tail P first list all) same)
   where

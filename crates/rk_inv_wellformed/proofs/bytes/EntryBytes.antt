@@ -1,6 +1,6 @@
 -- Each entry that a master leaves of its own fits a segment: an item, a refusal, what a target was granted or a rebuild merged.
 use Rattle.std.proofs.Common.{IfSome, ◌≡◌, ◌≤◌, ◌+◌, ℕ, List, length, Option, None, Some, arith}
-use Rattle.rk_inv_wellformed.proofs.Words.{value_fault, Held, SEGMENT_BYTES, LONGEST_KEY, LONGEST_VALUE, spelled_count, kind_of, spelled}
+use Rattle.rk_inv_wellformed.proofs.Words.{value_fault, Held, SEGMENT_BYTES, LONGEST_VALUE, spelled_count, kind_of, spelled}
 use Rattle.rk_inv_wellformed.proofs.Words.{Entry, MOST_BASE_CLIENTS, MOST_CLIENTS, key_fault, text_within, is_marked, Refused, mark_count}
 use Rattle.rk_entry.specs.Lengths.{value_count}
 use Rattle.rk_entry.specs.declared.entry.Carried.{Carried}
@@ -22,24 +22,11 @@ value_few (Some value) fits = omega (arith, (text_within 0 LONGEST_VALUE value f
 
 -- an item whose key and value are within their limits
 pub held_fits : (held : Held) → key_fault held.key ≡ None → IfSome held.value (λ value. value_fault value ≡ None) → FitsSegment (Entry.Held held)
-held_fits held key value =
-    omega (
-      arith,
-      spelled_count (Entry.Held held),
-      mark_few (kind_of (Entry.Held held)),
-      (text_within 1 LONGEST_KEY held.key key).1,
-      value_few held.value value,
-    )
+held_fits held key value = grind (arith, spelled_count, mark_few, kind_of, text_within, value_few)
 
 -- a refusal whose key is within its limits
 pub refused_fits : (refused : Refused) → key_fault refused.key ≡ None → FitsSegment (Entry.Refused refused)
-refused_fits refused key =
-    omega (
-      arith,
-      spelled_count (Entry.Refused refused),
-      mark_few (kind_of (Entry.Refused refused)),
-      (text_within 1 LONGEST_KEY refused.key key).1,
-    )
+refused_fits refused key = grind (arith, spelled_count, mark_few, kind_of, text_within)
 
 -- what came with a tablet, where the ends are no more than the clients that a lane may have
 pub carried_fits : (carried : Carried) → length carried.ends ≤ MOST_CLIENTS + MOST_BASE_CLIENTS → FitsSegment (Entry.Carried carried)

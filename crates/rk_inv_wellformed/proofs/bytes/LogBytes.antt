@@ -1,23 +1,20 @@
 -- How many bytes a master's segments and side logs have after a step: where nothing is appended no more than before, and an entry more
 -- where one is.
-use Rattle.std.proofs.Common.{◌≡◌, ◌≤◌, ◌+◌, ◌==◌, ◌&&◌, ℕ, cond, not, List, [], ◌∷◌, length, map, sum, refl, sym, subst, ap, ◌∙◌, arith}
+use Rattle.std.proofs.Common.{◌≡◌, ◌≤◌, ◌+◌, ◌==◌, ◌&&◌, ℕ, cond, not, List, [], ◌∷◌, length, map, sum, refl, sym, subst, arith}
 use Rattle.std.proofs.Common.{Bool}
 use Rattle.rk_inv_wellformed.proofs.Words.{sum-map, sum_by-append, sum_by-cons, IsInOrder, meets, Held, Range, spelled_all, spelled}
 use Rattle.rk_inv_wellformed.proofs.Words.{Entry, given_up, with_others_given_up, Master, log_bytes, tablet_at, unsealed_bytes}
 use Rattle.rk_inv_wellformed.proofs.Words.{with_appended, with_tablet, as_entries, Pulling, Tablet, no_tablet, pulling_from, changed_each}
 use Rattle.rk_inv_wellformed.proofs.bytes.Sizes.{bytes_spelled}
 use Rattle.rk_inv_wellformed.proofs.maps.{either_way, inserted_most, sum_changed, sum_put, within_or}
-use Rattle.rk_inv_wellformed.proofs.masters.Sealing.{none_spelled}
+use Rattle.rk_log.proofs.CutLaws.{spelled_none}
 
 -- ---- a tablet
 
 -- workers that have pulled nothing have no bytes
 pub none_pulled : (none : List Held) → none ≡ []
     → sum (map (λ items. length (spelled_all (as_entries items))) (none ∷ none ∷ none ∷ none ∷ [])) ≡ 0
-none_pulled none is =
-    let bytes : length (spelled_all (as_entries none)) ≡ 0 =
-    ap (λ (items : List Held). length (spelled_all (as_entries items))) is ∙ ap (λ (l : List ℕ). length l) none_spelled in
-    subst (λ (n : ℕ). sum (n ∷ n ∷ n ∷ n ∷ []) ≡ 0) (sym bytes) refl
+none_pulled none is = grind (arith, spelled_all, as_entries, spelled_none)
 
 -- a tablet for which nothing is pulled has none
 pub pulls_none : (tablet : Tablet) (source : ℕ) → tablet.pulling ≡ pulling_from source → unsealed_bytes tablet ≡ 0

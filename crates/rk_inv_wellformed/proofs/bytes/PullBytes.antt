@@ -1,7 +1,7 @@
 -- How many bytes a master has after it took a batch, or the items that it asked for first: no more than before and what came, and an entry
 -- that closes where all has come.
-use Rattle.std.proofs.Common.{◌≡◌, ◌≤◌, ◌<◌, ◌+◌, ◌%◌, ◌&&◌, ℕ, List, [], ◌∷◌, ◌++◌, fold, length, map, nat_le, sum, refl, sym, subst, ap}
-use Rattle.std.proofs.Common.{⊎_elim, arith, length-append, slice_index_or, slice_set, sum_by, flat_map}
+use Rattle.std.proofs.Common.{◌≡◌, ◌≤◌, ◌+◌, ◌%◌, ◌&&◌, ℕ, List, [], ◌∷◌, ◌++◌, fold, length, map, nat_le, sum, refl, sym, subst, ap}
+use Rattle.std.proofs.Common.{arith, length-append, slice_index_or, slice_set, sum_by, flat_map}
 use Rattle.rk_inv_wellformed.proofs.Words.{cases_lt, sum-map, sum_by-append, sum_by-cons, in_order_insert, spelled_of, IsInOrder}
 use Rattle.rk_inv_wellformed.proofs.Words.{NumberMap, get_or, Held, SEGMENT_BYTES, Token, held_spelled, spelled, Entry, found, is_newer}
 use Rattle.rk_inv_wellformed.proofs.Words.{Got, Pulled, items_of, Master, log_bytes, tablet_at, unsealed_bytes, with_item}
@@ -50,16 +50,7 @@ items_few (entry ∷ list) = omega (arith, items_few list, entry_bytes entry lis
 -- a worker has an item more, where there is that worker
 worker_bytes : (sides : List (List Held)) (worker : ℕ) (item : Held)
     → sum_by items_bytes (slice_set sides worker (slice_index_or sides worker [] ++ item ∷ [])) ≤ sum_by items_bytes sides + spelled_of item
-worker_bytes sides worker item = ⊎_elim
-    (λ (within : worker < length sides).
-    omega (
-      arith,
-      sum_by-set items_bytes sides worker (slice_index_or sides worker [] ++ item ∷ []) [] within,
-      last_bytes (slice_index_or sides worker []) item,
-    ))
-    (λ (past : length sides ≤ worker).
-    omega (arith, ap (λ (s : List (List Held)). sum_by items_bytes s) (set_past sides worker (slice_index_or sides worker [] ++ item ∷ []) past)))
-    (cases_lt worker (length sides))
+worker_bytes sides worker item = grind (arith, sum_by-set, slice_index_or, last_bytes, set_past, cases_lt)
 
 tablet_pulled : (tablet : Tablet) (worker : ℕ) (item : Held)
     → unsealed_bytes (with_pulling tablet (with_pulled tablet.pulling worker item)) ≤ unsealed_bytes tablet + spelled_of item
@@ -74,10 +65,7 @@ pub record HasBytes (bytes : ℕ) (master : Master) : Type 0 where
 -- one of its tablets is so, with so many bytes more than it had
 pub put_has : (bytes more id : ℕ) (master : Master) (tablet : Tablet) → unsealed_bytes tablet ≤ unsealed_bytes (tablet_at master id) + more
     → HasBytes bytes master → HasBytes (bytes + more) (with_tablet master id tablet)
-put_has bytes more id master tablet few has = record {
-  order = in_order_insert master.tablets id tablet has.order;
-  fits = omega (arith, few, has.fits, bytes_put master id tablet has.order);
-}
+put_has bytes more id master tablet few has = grind (arith, in_order_insert, bytes_put)
 
 pub more_has : (bytes more : ℕ) {master : Master} → bytes ≤ more → HasBytes bytes master → HasBytes more master
 more_has bytes more no_fewer has = record { order = has.order; fits = omega (arith, no_fewer, has.fits) }
@@ -178,11 +166,7 @@ module _ (bytes id : ℕ) (master : Master) (has : HasBytes bytes master) where
   -- the tablet whose side logs are sealed
   abbrev new : Tablet
   new =
-      with_pulling it (record it.pulling {
-        hashes = no_hashes;
-        sides = [] ∷ [] ∷ [] ∷ [] ∷ [];
-        sealed = next_sides master (length pieces);
-      })
+      with_pulling it (record it.pulling { hashes = no_hashes; sides = [] ∷ [] ∷ [] ∷ [] ∷ []; sealed = next_sides master (length pieces) })
 
   sealed_has : HasBytes bytes sealed
   sealed_has = record {

@@ -1,10 +1,10 @@
 -- How many bytes a master has after a Rebuild and after a Copy: no more than before, the copies of what was read, once for each member of
 -- the lineage, and a closing entry.
 use Rattle.std.proofs.Common.{◌≡◌, ◌≤◌, ◌+◌, ◌==◌, ◌&&◌, ℕ, Bool, true, cond, not, List, [], ◌∷◌, length, Option, None, Some, refl, sym}
-use Rattle.std.proofs.Common.{ap, ◌∙◌, arith, w64, option_map, nat_lt, unwrap_or, eq-eqb, zero, suc, false, ◌++◌, drop, filter, map}
+use Rattle.std.proofs.Common.{ap, ◌∙◌, arith, w64, option_map, nat_lt, unwrap_or, eq-eqb, false, ◌++◌, filter, map}
 use Rattle.std.proofs.Common.{subst, ⊎_elim, Contains, bytes_eq, flat_map, sum_by, Less, Greater}
 use Rattle.rk_inv_wellformed.proofs.Words.{cond-true, in_order_changed, spelled_of, IsInOrder, NumberMap, get, get_or, meets, Held}
-use Rattle.rk_inv_wellformed.proofs.Words.{Member, Range, held_spelled, IsNumber, Entry, completions_from, ends_of, begun, Handover, Role}
+use Rattle.rk_inv_wellformed.proofs.Words.{Member, Range, held_spelled, IsNumber, Entry, completions_from, ends_of, Handover}
 use Rattle.rk_inv_wellformed.proofs.Words.{CopySegment, Rebuild, IsFormedMaster, MOST_BASE_CLIENTS, by_member, is_awaited, next_reading}
 use Rattle.rk_inv_wellformed.proofs.Words.{given_up, is_greater, with_others_given_up, IsFormedCopy, IsFormedRebuild, Limits, own_member}
 use Rattle.rk_inv_wellformed.proofs.Words.{Master, log_bytes, tablet_at, unsealed_bytes, with_all, with_appended, as_entries, merge}
@@ -101,36 +101,22 @@ module _ {X : Type 0} where
 
 -- ---- copies
 
--- no item comes before itself
-not_before_itself : (item : Held) → item_cmp item item ≡ Less → ⊥
-not_before_itself item is =
-    let both : Less ≡ Greater = sym is ∙ item_total.antisymm item item ∙ ap ordering_reverse is in
-    absurd (cc both)
-
 -- items in order differ
 order_apart : (items : List Held) → IsStrictlySortedBy item_cmp items → AreApart items
 unfolding IsStrictlySortedBy
 order_apart [] order = tt
 order_apart (item ∷ items) order = (
   λ other stands same.
-      not_before_itself item (All-contains (λ z. item_cmp item z ≡ Less) items item (All-after_first item_cmp item items order)
-      (subst (Contains items) (sym same) stands)),
+      let before = All-contains (λ z. item_cmp item z ≡ Less) items item (All-after_first item_cmp item items order)
+      (subst (Contains items) (sym same) stands) in
+      let both : Less ≡ Greater = sym before ∙ item_total.antisymm item item ∙ ap ordering_reverse before in
+      absurd (cc both),
   order_apart items order.1,
 )
 
 -- an item that stands among items has its version there
 own_has : (items : List Held) (item : Held) → Contains items item → has_version items item ≡ true
-own_has items item stands = list_any_at test items stands.0 item stands.1 (ap test stands.2 ∙ itself)
-  where
-    test : Held → Bool
-    test other = other.table == item.table && bytes_eq other.key item.key && (other.version == item.version)
-
-    all_three : (a b c : Bool) → a ≡ true → b ≡ true → c ≡ true → (a && b && c) ≡ true
-    all_three a b c x y z = rw (x, y, z) refl
-
-    itself : test item ≡ true
-    itself = all_three (item.table == item.table) (bytes_eq item.key item.key) (item.version == item.version)
-        (eq-eqb item.table item.table refl) ((bytes_eq-Decides item.key item.key).1 refl) (eq-eqb item.version item.version refl)
+own_has items item stands = grind (arith, list_any_at, bytes_eq, eq-eqb, bytes_eq-Decides)
 
 -- whether an item is no own one
 abbrev is_foreign : List Held → Held → Bool
@@ -155,10 +141,7 @@ abbrev foreign_bytes : List Held → List Entry → ℕ
 foreign_bytes own list = sum_by spelled_of (filter (is_foreign own) (items_of list))
 
 foreign_append : (own : List Held) (a b : List Entry) → foreign_bytes own (a ++ b) ≡ foreign_bytes own a + foreign_bytes own b
-foreign_append own a b =
-    ap (λ (items : List Held). sum_by spelled_of (filter (is_foreign own) items)) (flat_map-append items_in a b)
-    ∙ ap (λ (items : List Held). sum_by spelled_of items) (filter-append (is_foreign own) (items_of a) (items_of b))
-    ∙ sum_by-append spelled_of (filter (is_foreign own) (items_of a)) (filter (is_foreign own) (items_of b))
+foreign_append own a b = grind (arith, spelled_of, flat_map-append, items_in, filter-append, items_of, sum_by-append)
 
 -- they have no more bytes than the entries
 foreign_few : (own : List Held) (list : List Entry) → foreign_bytes own list ≤ length (spelled_all list)
@@ -193,13 +176,7 @@ module _ (gather : Gather) (own : List Entry) where
 
   -- of one member no more than was read of all
   foreign_by : (master : ℕ) → foreign_bytes (items_of own) (material_by gather own master) ≤ read_bytes
-  foreign_by master = either_way (λ (list : List Entry). foreign_bytes (items_of own) list ≤ read_bytes) (master == gather.own)
-      (omega (arith, foreign_none own))
-      (omega (
-        arith,
-        foreign_some (items_of own) gather.range (λ gathered. gathered.member.master == master) gather.members,
-        foreign_few (items_of own) (counted gather),
-      ))
+  foreign_by master = grind (arith, either_way, items_of, foreign_none, foreign_some, foreign_few, counted)
 
   foreign_lineage : (lineage : List Member)
       → sum_by (foreign_bytes (items_of own)) (map (λ member. material_by gather own member.master) lineage) ≤ sum_by (λ member. read_bytes) lineage
@@ -222,12 +199,7 @@ module _ (gather : Gather) (own : List Entry) where
 
 -- nothing counts of a member of which nothing was read
 unread_none : (range : Range) (member : Member) → counted_of range (unread member) ≡ []
-unread_none range member =
-    ap (λ (list : List Entry). material_of range (side_read (unread member)) list) (none_left member.from)
-  where
-    none_left : (n : ℕ) → drop {A = Entry} n [] ≡ []
-    none_left zero = refl
-    none_left (suc n) = refl
+unread_none range member = grind (arith, material_of, side_read, unread)
 
 unread_counts : (range : Range) (members : List Member) → flat_map (counted_of range) (map unread members) ≡ []
 unread_counts range [] = refl
@@ -334,12 +306,6 @@ foreign_tablet : (master : Master) (range : Range) (own : Option Member) (id : �
 foreign_tablet master range own id =
     by_found (λ found. tablet_at (rebuilds.without_foreign master range found) id ≡ tablet_at master id) own (λ none. refl) (λ some is. refl)
 
--- a move to a greater term is made
-move_made : (handover : Handover) (term : ℕ) (range : Range) (role : Role) → nat_lt handover.term term ≡ true
-    → begun handover term range role ≡ Some (record handover { role = role; term = term; range = range })
-move_made handover term range role above =
-    cond-true (nat_lt handover.term term) (Some (record handover { role = role; term = term; range = range })) None above
-
 -- a master that begins, with nothing to copy
 record HasBegun (bytes id : ℕ) (master : Master) : Type 0 where
   has : HasBytes bytes master
@@ -371,10 +337,8 @@ begun_has master rebuild order above =
     let own = own_member rebuild.lineage master.number in
     let foreign = rebuilds.without_foreign master rebuild.range own in
     let now = with_others_given_up foreign id rebuild.range in
-    let role = Role.Rebuilding (rebuilds.begun_from master own) None in
     let same : tablet_at now id ≡ tablet_at master id = kept_tablet foreign id rebuild.range ∙ foreign_tablet master rebuild.range own id in
-    with_begun_has rebuild _ _ (move_made (tablet_at now id).handover rebuild.tenure.term rebuild.range role
-    (ap (λ (t : Tablet). nat_lt t.handover.term rebuild.tenure.term) same ∙ above))
+    with_begun_has rebuild _ _ (cond-true _ _ _ (ap (λ (t : Tablet). nat_lt t.handover.term rebuild.tenure.term) same ∙ above))
     (given_up_has id rebuild.range (foreign_has (log_bytes master) master rebuild.range own (record { order = order; fits = omega arith })))
 
 -- after a Rebuild a master has no more bytes than before, and a closing entry

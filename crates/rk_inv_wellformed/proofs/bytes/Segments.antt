@@ -3,7 +3,7 @@
 use Rattle.std.proofs.Common.{◌≡◌, ◌≤◌, ◌<◌, ◌+◌, ◌-◌, ◌^◌, ℕ, suc, true, not, All, List, [], ◌∷◌, ◌++◌, length, arith, length-append}
 use Rattle.std.proofs.Common.{length-drop, leb, find, sum_by, IfSome, w32, option_map, leb-false, leb-true}
 use Rattle.rk_inv_wellformed.proofs.Words.{cond_both, and_parts, All-append, All-cons, All-head, All-nil, All-push, All-set, All-tail}
-use Rattle.rk_inv_wellformed.proofs.Words.{All-weaker, SEGMENT_BYTES, IsNumber, spelled, Entry, FIRST_SIDE_SEGMENT, cut, Log, pending}
+use Rattle.rk_inv_wellformed.proofs.Words.{SEGMENT_BYTES, IsNumber, spelled, Entry, FIRST_SIDE_SEGMENT, cut, Log, pending}
 use Rattle.rk_inv_wellformed.proofs.Words.{segments, PlacedBytes, IsFormedSide, MOST_BYTES, NumberedBytes, cut_after, last_of, with_bytes}
 use Rattle.rk_inv_wellformed.proofs.Words.{Known, known_of, numbered, segment_bytes, not-true, cut_filled, length-le-bytes, is_whole}
 use Rattle.rk_inv_wellformed.proofs.Words.{known_length, missing}
@@ -64,8 +64,7 @@ pub segments_told : (log : Log) → All FitsSegment log.entries → All IsFormed
 segments_told log fits sides room =
     All-append IsTold (numbered 1 (cut log.entries)) (numbered FIRST_SIDE_SEGMENT log.sides)
     (numbered_told 1 (cut log.entries) (fits_cut log.entries fits) (omega (arith, main_few log.entries)))
-    (numbered_told FIRST_SIDE_SEGMENT log.sides (All-weaker IsFormedSide FitsBytes (λ bytes side. side.few) log.sides sides)
-    (omega (arith, sides_few log.sides sides)))
+    (numbered_told FIRST_SIDE_SEGMENT log.sides (λ place other within. (sides place other within).few) (omega (arith, sides_few log.sides sides)))
 
 -- ---- pieces
 
@@ -76,13 +75,7 @@ pub record IsToldPiece (piece : PlacedBytes) : Type 0 where
   pub ends : piece.at + length piece.bytes ≤ SEGMENT_BYTES
 
 missing_told : (known : Known) (segment : NumberedBytes) → IsTold segment → not (is_whole known segment) ≡ true → IsToldPiece (missing known segment)
-missing_told known segment told lacks =
-    let below : known_length known segment.number < length segment.bytes = leb-false (length segment.bytes) (known_length known segment.number) (not-true (is_whole known segment) lacks) in
-    record {
-      segment = told.number;
-      at = record { least_is = omega arith; fits = omega (arith, told.few) };
-      ends = omega (arith, told.few, length-drop (known_length known segment.number) segment.bytes);
-    }
+missing_told known segment told lacks = grind (arith, known_length, leb-false, not-true, is_whole, length-drop)
 
 -- what a backup is to be sent can be told
 pub pending_told : (log : Log) (backup : ℕ) → All IsTold (segments log) → IfSome (pending log backup) IsToldPiece

@@ -1,21 +1,16 @@
 -- How great a log is: it has no more entries than bytes.
-use Rattle.std.proofs.Common.{◌≡◌, ◌≤◌, ◌<◌, ◌^◌, ℕ, List, [], ◌∷◌, ◌++◌, length, refl, ap, sym, ◌∙◌, arith, w64, flat_map, sum_by}
-use Rattle.rk_inv_wellformed.proofs.Words.{sum_by-cons, IsNumber, spelled, Entry, cut, Master, log_bytes, MOST_BYTES, concat}
+use Rattle.std.proofs.Common.{◌≡◌, ◌≤◌, ◌<◌, ◌^◌, ℕ, List, [], ◌∷◌, length, ap, sym, ◌∙◌, arith, w64, sum_by}
+use Rattle.rk_inv_wellformed.proofs.Words.{sum_by-cons, IsNumber, spelled, Entry, cut, Master, log_bytes, MOST_BYTES}
 use Rattle.rk_inv_wellformed.proofs.Words.{spelled_some}
-use Rattle.std.proofs.lemmas.List.Concat.{length-flat_map}
+use Rattle.std.proofs.lemmas.List.Concat.{concat_is, length-flat_map}
 use Rattle.rk_entry.specs.Entries.{spelled_all}
 use Rattle.rk_log.proofs.CutLaws.{cut_whole}
-
--- lists one after the other
-joined : (segments : List (List ℕ)) → concat segments ≡ flat_map (λ (s : List ℕ). s) segments
-joined [] = refl
-joined (segment ∷ segments) = ap (λ (rest : List ℕ). segment ++ rest) (joined segments)
 
 -- the bytes of the main segments are those of the entries
 pub bytes_spelled : (entries : List Entry) → sum_by (λ (b : List ℕ). length b) (cut entries) ≡ sum_by (λ (e : Entry). length (spelled e)) entries
 unfolding spelled_all
 bytes_spelled entries = sym (length-flat_map (λ (b : List ℕ). b) (cut entries))
-    ∙ ap (λ (b : List ℕ). length b) (sym (joined (cut entries)) ∙ cut_whole entries) ∙ length-flat_map spelled entries
+    ∙ ap (λ (b : List ℕ). length b) (sym (concat_is (cut entries)) ∙ cut_whole entries) ∙ length-flat_map spelled entries
 
 -- each entry has a byte
 count_spelled : (entries : List Entry) → length entries ≤ sum_by (λ (e : Entry). length (spelled e)) entries

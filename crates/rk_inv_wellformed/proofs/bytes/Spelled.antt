@@ -1,7 +1,7 @@
 -- What a master of a well formed lane appends when it takes a message can be spelled, whether or not its log has room for it.
 use Rattle.std.proofs.Common.{◌==◌, ℕ, All, IfSome, arith, inl}
-use Rattle.rk_inv_wellformed.proofs.Words.{All-weaker, Node, IsLawfulEntry, role_granted, Grant, Body, CopySegment, Rebuild}
-use Rattle.rk_inv_wellformed.proofs.Words.{IsFormedMaster, IsFormedBody, IsFormedEntry, IsFormedGrant, Limits, limits_of, Master}
+use Rattle.rk_inv_wellformed.proofs.Words.{Node, IsLawfulEntry, role_granted, Grant, Body, CopySegment, Rebuild}
+use Rattle.rk_inv_wellformed.proofs.Words.{IsFormedMaster, IsFormedBody, IsFormedGrant, Limits, limits_of, Master}
 use Rattle.rk_inv_wellformed.proofs.Words.{tablet_at, Tablet, World, master_at}
 use Rattle.rk_inv_wellformed.specs.Appended.{GrantSpells, StandsOn}
 use Rattle.rk_world.specs.Handovers as handing
@@ -17,8 +17,7 @@ use Rattle.rk_inv_wellformed.proofs.masters.Work.{AreLimits}
 
 -- the entries of a well formed master can be spelled
 written_lawful : {limits : Limits} {number : ℕ} {master : Master} → IsFormedMaster limits number master → All IsLawfulEntry master.log.entries
-written_lawful {limits} {master} formed =
-    All-weaker (IsFormedEntry limits) IsLawfulEntry (λ entry it. lawful_of limits entry it) master.log.entries formed.written
+written_lawful {limits} formed place other within = lawful_of limits _ (formed.written place other within)
 
 module _ (limits : Limits) (number : ℕ) (master : Master) (grant : Grant) (are : AreLimits limits) where
   abbrev target : Tablet

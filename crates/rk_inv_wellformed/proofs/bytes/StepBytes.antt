@@ -76,12 +76,7 @@ module _ (master : Master) (below : log_bytes master < MOST_BYTES) where
   moved_fits : (now : Master) (id : ℕ) (moved : Option Handover) → log_bytes now ≤ log_bytes master → BytesFit (handovers.with_move now id moved)
   moved_fits now id None few = omega (arith, few, below)
   moved_fits now id (Some handover) few =
-      omega (
-        arith,
-        few,
-        below,
-        same_unsealed now id (without_merged (with_handover (tablet_at now id) handover)) (unsealed_at_most now id),
-      )
+      omega (arith, few, below, same_unsealed now id (without_merged (with_handover (tablet_at now id) handover)) (unsealed_at_most now id))
 
   again_fits : (tenure : Tenure) (role : Role) (term : ℕ) → BytesFit (handovers.ready_again master tenure role term).master
   again_fits tenure (Role.Wanting from) term = either_way WorkedFits (term == tenure.term) kept kept
@@ -169,15 +164,8 @@ module _ (master : Master) (below : log_bytes master < MOST_BYTES) where
 
   peer_fits : (sender : ℕ) (body : Body) → IsInOrder master.tablets
       → log_bytes (peer_message master (Node.Master sender) body).master ≤ 3 * log_bytes master + LONGEST_LEFT + brought_by master body
-  peer_fits sender (Body.Pull pull) ordered =
-      risen (Body.Pull pull) (pull_taken master (Node.Master sender) pull).master
-      (either_way WorkedFits (is_frozen_at (tablet_at master pull.tenure.tablet) pull.tenure.term) kept kept)
-  peer_fits sender (Body.Want want) ordered =
-      risen (Body.Want want) (want_taken master (Node.Master sender) want).master
-      (either_way WorkedFits (is_frozen_at (tablet_at master want.tenure.tablet) want.tenure.term) kept kept)
-  peer_fits sender (Body.Pulled pulled) ordered = omega (arith, pulled_bytes master pulled ordered)
-  peer_fits sender (Body.Got message) ordered = omega (arith, got_bytes master message ordered)
-  peer_fits sender other ordered = risen other master kept
+  peer_fits sender body ordered =
+      grind (arith, risen, pull_taken, either_way, is_frozen_at, tablet_at, kept, want_taken, pulled_bytes, got_bytes)
 
   backup_fits : {limits : Limits} {number : ℕ} (backup : ℕ) (body : Body) → AreLimits limits → IsFormedMaster limits number master
       → IsFormedBody limits (Node.Backup backup) body

@@ -1,13 +1,13 @@
 -- How many bytes a master has after its turn: no more than before; and after what a backup tells: no more than before and the entries by
 -- which tablets close that wait for their side segments.
 use Rattle.std.proofs.Common.{not, map, List, ◌&&◌, ◌≡◌, ◌≤◌, ◌+◌, ◌*◌, ℕ, length, max, All, [], ◌∷◌, Option, None, Some, refl, sym, ap}
-use Rattle.std.proofs.Common.{subst, ◌∙◌, ⊎_elim, arith, sum_by}
-use Rattle.rk_inv_wellformed.proofs.Words.{cases_eq, length-map, All-head, All-tail, All-weaker, sum-map, sum_by-cons, in_order_insert}
+use Rattle.std.proofs.Common.{subst, ◌∙◌, ⊎_elim, arith, sum_by, slice_index_or}
+use Rattle.rk_inv_wellformed.proofs.Words.{cases_eq, length-map, All-head, All-tail, sum-map, sum_by-cons, in_order_insert}
 use Rattle.rk_inv_wellformed.proofs.Words.{in_order_changed, IsInOrder, NumberMap, get, Call, Ended, Held, spelled_count, spelled_all}
 use Rattle.rk_inv_wellformed.proofs.Words.{kind_of, spelled, Entry, Role, Overreach, Stored, apply_entries, apply_entry, newly_held}
 use Rattle.rk_inv_wellformed.proofs.Words.{noting, stored_taken, with_applied, with_ended, with_entry_item, with_noted, told_by}
 use Rattle.rk_inv_wellformed.proofs.Words.{IsFormedMaster, IsFormedSide, side_waits, Limits, Master, log_bytes, tablet_at, unsealed_bytes}
-use Rattle.rk_inv_wellformed.proofs.Words.{with_tablet, with_known, order, duties, master_turn, tablet_duty, with_outstanding, as_entries}
+use Rattle.rk_inv_wellformed.proofs.Words.{with_tablet, with_known, order, duties, master_turn, with_outstanding, as_entries}
 use Rattle.rk_inv_wellformed.proofs.Words.{has_key, is_absent, Tablet, with_handover, all_going_on, going_on_in, joined_entry}
 use Rattle.rk_inv_wellformed.proofs.Words.{side_waits_in, with_appended}
 use Rattle.rk_types.specs.Held.{spelled_of}
@@ -29,53 +29,46 @@ record TurnKeeps (bytes : ℕ) (left : NumberMap Tablet) (master : Master) : Typ
   fits : log_bytes master ≤ bytes
   same : All (λ entry. unsealed_bytes entry.1 ≡ unsealed_bytes (tablet_at master entry.0)) left
 
-turn_behind : {bytes : ℕ} (id : ℕ) (tablet : Tablet) (others : NumberMap Tablet) {master : Master} → TurnKeeps bytes ((id, tablet) ∷ others) master
-    → TurnKeeps bytes others master
-turn_behind id tablet others {master} keeps =
-    assumption (All-tail (λ entry. unsealed_bytes entry.1 ≡ unsealed_bytes (tablet_at master entry.0)) (id, tablet) others keeps.same)
+module _ {bytes : ℕ} (id : ℕ) (tablet : Tablet) (others : NumberMap Tablet) {master : Master} (keeps : TurnKeeps bytes ((id, tablet) ∷ others) master) where
+  turn_behind : TurnKeeps bytes others master
+  turn_behind = assumption (All-tail (λ entry. unsealed_bytes entry.1 ≡ unsealed_bytes (tablet_at master entry.0)) (id, tablet) others keeps.same)
 
--- one of them changes, and has the bytes that it had
-put_keeps : {bytes : ℕ} (id : ℕ) (tablet new : Tablet) (others : NumberMap Tablet) {master : Master} → unsealed_bytes new ≡ unsealed_bytes tablet
-    → TurnKeeps bytes ((id, tablet) ∷ others) master → TurnKeeps bytes others (with_tablet master id new)
-put_keeps id tablet new others {master} equal keeps = record {
-  order = in_order_insert master.tablets id new keeps.order;
-  fits = omega (arith, keeps.fits, here, equal, bytes_put master id new keeps.order);
-  same = All-weaker (λ entry. unsealed_bytes entry.1 ≡ unsealed_bytes (tablet_at master entry.0))
-      (λ entry. unsealed_bytes entry.1 ≡ unsealed_bytes (tablet_at (with_tablet master id new) entry.0))
-      (λ entry is. still entry.0 entry.1 is) others
-      (All-tail (λ entry. unsealed_bytes entry.1 ≡ unsealed_bytes (tablet_at master entry.0)) (id, tablet) others keeps.same);
-}
-  where
-    here : unsealed_bytes tablet ≡ unsealed_bytes (tablet_at master id)
-    here = All-head (λ (entry : ℕ × Tablet). unsealed_bytes entry.1 ≡ unsealed_bytes (tablet_at master entry.0)) (id, tablet) others keeps.same
+  -- one of them changes, and has the bytes that it had
+  put_keeps : (new : Tablet) → unsealed_bytes new ≡ unsealed_bytes tablet → TurnKeeps bytes others (with_tablet master id new)
+  put_keeps new equal = record {
+    order = in_order_insert master.tablets id new keeps.order;
+    fits = omega (arith, keeps.fits, here, equal, bytes_put master id new keeps.order);
+    same = λ place other within.
+        let entry = slice_index_or others place other in
+        still entry.0 entry.1 (turn_behind.same place other within);
+  }
+    where
+      here : unsealed_bytes tablet ≡ unsealed_bytes (tablet_at master id)
+      here = All-head (λ (entry : ℕ × Tablet). unsealed_bytes entry.1 ≡ unsealed_bytes (tablet_at master entry.0)) (id, tablet) others keeps.same
 
-    still : (q : ℕ) (other : Tablet) → unsealed_bytes other ≡ unsealed_bytes (tablet_at master q)
-        → unsealed_bytes other ≡ unsealed_bytes (tablet_at (with_tablet master id new) q)
-    still q other is = ⊎_elim
-        (λ (same : q ≡ id).
-        is ∙ ap (λ (n : ℕ). unsealed_bytes (tablet_at master n)) same ∙ sym here ∙ sym equal
-        ∙ sym (ap unsealed_bytes (tablet_with_same master id new))
-        ∙ ap (λ (n : ℕ). unsealed_bytes (tablet_at (with_tablet master id new) n)) (sym same))
-        (λ (apart : q ≡ id → ⊥). is ∙ sym (ap unsealed_bytes (tablet_with_other master id new q apart))) (cases_eq q id)
-
-duty_keeps : {bytes : ℕ} (id : ℕ) (tablet : Tablet) (others : NumberMap Tablet) {master : Master} (role : Role)
-    → TurnKeeps bytes ((id, tablet) ∷ others) master → TurnKeeps bytes others (tablet_duty master id tablet role).master
-duty_keeps {bytes} id tablet others {master} role keeps = duty_is (TurnKeeps bytes others) master id tablet role (turn_behind id tablet others keeps)
-    (put_keeps id tablet (with_outstanding tablet) others refl keeps)
+      still : (q : ℕ) (other : Tablet) → unsealed_bytes other ≡ unsealed_bytes (tablet_at master q)
+          → unsealed_bytes other ≡ unsealed_bytes (tablet_at (with_tablet master id new) q)
+      still q other is = ⊎_elim
+          (λ (same : q ≡ id).
+          subst (λ (n : ℕ). unsealed_bytes other ≡ unsealed_bytes (tablet_at (with_tablet master id new) n)) (sym same)
+          (subst (λ (n : ℕ). unsealed_bytes other ≡ unsealed_bytes (tablet_at master n)) same is ∙ sym here ∙ sym equal
+          ∙ sym (ap unsealed_bytes (tablet_with_same master id new))))
+          (λ (apart : q ≡ id → ⊥). is ∙ sym (ap unsealed_bytes (tablet_with_other master id new q apart))) (cases_eq q id)
 
 duties_bytes : {bytes : ℕ} (tablets : NumberMap Tablet) {master : Master} → TurnKeeps bytes tablets master
     → log_bytes (duties master tablets).master ≤ bytes
 duties_bytes [] keeps = keeps.fits
-duties_bytes ((id, tablet) ∷ others) keeps = duties_bytes others (duty_keeps id tablet others tablet.handover.role keeps)
+duties_bytes {bytes} ((id, tablet) ∷ others) {master} keeps = duties_bytes others
+    (duty_is (TurnKeeps bytes others) master id tablet tablet.handover.role (turn_behind id tablet others keeps)
+    (put_keeps id tablet others keeps (with_outstanding tablet) refl))
 
 -- where it begins each tablet is there
 begins_so : (master : Master) → IsInOrder master.tablets → TurnKeeps (log_bytes master) master.tablets master
 begins_so master order = record {
   order = order;
   fits = omega arith;
-  same = All-weaker (λ entry. get master.tablets entry.0 ≡ Some entry.1) (λ entry. unsealed_bytes entry.1 ≡ unsealed_bytes (tablet_at master entry.0))
-      (λ entry there. sym (ap unsealed_bytes (tablet_found master entry.0 entry.1 there))) master.tablets
-      (All_pairs (λ q tablet. get master.tablets q ≡ Some tablet) master.tablets order (λ q tablet there. there));
+  same = All_pairs (λ q tablet. unsealed_bytes tablet ≡ unsealed_bytes (tablet_at master q)) master.tablets order
+      (λ q tablet there. sym (ap unsealed_bytes (tablet_found master q tablet there)));
 }
 
 -- after its turn a master has no more bytes
@@ -132,9 +125,7 @@ joined_short tablet = omega (arith, spelled_count (joined_entry tablet), mark_fe
 -- more bytes are no fewer
 more_bytes : (bytes more : ℕ) {left : NumberMap Tablet} {master : Master} → bytes ≤ more → TurnKeeps bytes left master
     → TurnKeeps more left master
-more_bytes bytes more {master = master} no_fewer keeps =
-    let fits : log_bytes master ≤ more = omega (arith, no_fewer, keeps.fits) in
-    assumption
+more_bytes bytes more no_fewer keeps = record { order = keeps.order; fits = omega (arith, no_fewer, keeps.fits); same = keeps.same }
 
 -- what was waited for at a tablet goes on
 going_on_keeps : {bytes : ℕ} (id : ℕ) (tablet : Tablet) (others : NumberMap Tablet) {master : Master} (role : Role)
@@ -144,9 +135,9 @@ going_on_keeps {bytes} id tablet others {master} role keeps =
     let more = bytes + CLOSING_BYTES * side_waits_in role tablet.pulling.sealed in
     going_on_in_is (TurnKeeps more others) master id tablet (more_bytes bytes more (omega arith) (turn_behind id tablet others keeps)) role
     (λ r is. more_bytes bytes more (omega arith)
-    (put_keeps id tablet (with_handover tablet (record tablet.handover { role = r })) others refl keeps))
+    (put_keeps id tablet others keeps (with_handover tablet (record tablet.handover { role = r })) refl))
     (λ joins r is.
-    let put = put_keeps id tablet (with_handover tablet (record tablet.handover { role = r })) others refl keeps in
+    let put = put_keeps id tablet others keeps (with_handover tablet (record tablet.handover { role = r })) refl in
     let now = with_tablet master id (with_handover tablet (record tablet.handover { role = r })) in
     let waits = ap (λ (role : Role). side_waits_in role tablet.pulling.sealed) joins in
     let fits : log_bytes (with_appended now (joined_entry tablet)) ≤ more =
@@ -202,16 +193,7 @@ sides_long (items ∷ sides) all =
 -- a master has those bytes for each of its side segments
 side_segments_long : {limits : Limits} {number : ℕ} {master : Master} → IsFormedMaster limits number master
     → SHORTEST_ITEM * length master.log.sides ≤ log_bytes master
-side_segments_long {master} formed =
-    let long = sides_long master.sides (subst (All IsFormedSide) formed.spelled formed.sides) in
-    omega (
-      arith,
-      long,
-      side_bytes master,
-      length-map master.sides (λ (items : List Held). spelled_all (as_entries items)),
-      ap (λ (sides : List (List ℕ)). length sides) formed.spelled,
-      ap (λ (sides : List (List ℕ)). sum_by (λ (b : List ℕ). length b) sides) formed.spelled,
-    )
+side_segments_long {master} formed = grind (arith, sides_long, spelled, side_bytes, length-map, spelled_all, as_entries)
 
 -- so what a backup told lets a well formed master have at most three times the bytes that it had
 pub stored_thrice : {limits : Limits} {number : ℕ} {master : Master} (backup : ℕ) (stored : Stored) (over : Option Overreach)

@@ -1,9 +1,9 @@
 -- What the coordinator makes of a message, of its turn and of a tablet that begins to move, is added or split: where the coordinator is well
 -- formed, it stays so, all that it sends is well formed, and what its rows covered is covered; and so is the master of such a tablet.
 use Rattle.std.proofs.Common.{◌≡◌, ◌≤◌, ◌+◌, ℕ, w8, w32, w64, Bool, ◌==◌, List, [], ◌∷◌, All, IfSome, find, length, Option, None, Some}
-use Rattle.std.proofs.Common.{refl, arith, ◌<◌, true, false, cond, is_some, nat_le, nat_lt, sym, ap, subst, unwrap_or, option_map}
+use Rattle.std.proofs.Common.{refl, arith, true, false, cond, is_some, nat_le, nat_lt, sym, ap, subst, unwrap_or}
 use Rattle.std.proofs.Common.{leb-true, ltb-true}
-use Rattle.rk_inv_wellformed.proofs.Words.{All-cons, All-nil, recursion_from_All, All-weaker, AllByRecursion, each_insert}
+use Rattle.rk_inv_wellformed.proofs.Words.{All-cons, All-nil, recursion_from_All, AllByRecursion, each_insert}
 use Rattle.rk_inv_wellformed.proofs.Words.{in_order_insert, get_or, has, Member, Node, Range, IsLawfulRange, IsNumber, add_fault, row_of}
 use Rattle.rk_inv_wellformed.proofs.Words.{Phase, Moving, Opening, Owned, Rebuilding, Row, IsLawfulBody, Tenure, Body, Message, Rebuilt}
 use Rattle.rk_inv_wellformed.proofs.Words.{Coordinator, with_row, coordinator_step, coordinator_turn, IsFormedCoordinator, IsFormedRow}
@@ -78,19 +78,13 @@ formed_with_handed {limits} {coordinator} tablet {handed} told formed =
 
 -- the owner that a phase tells is there
 owner_is_there : (limits : Limits) (phase : Phase) → IsFormedPhase limits phase → IfSome (owner_of phase) (IsMaster limits.masters)
-owner_is_there limits (Owned master from) there = there.master
-owner_is_there limits (Opening source sfrom target dfrom) there = there.0.master
-owner_is_there limits (Moving source sfrom target dfrom) there = there.1.master
-owner_is_there limits (Rebuilding lineage to) there = tt
+owner_is_there limits phase there = grind arith
 
 -- ---- numbers and ranges that can be spelled
 
 -- a range that is not empty
 any_range : {range : Range} → IsLawfulRange range → IsAnyRange range
-any_range {range} lawful =
-    let table : IsNumber w64 0 range.table = omega (arith, lawful.table) in
-    let last : IsNumber w64 0 range.last = omega (arith, lawful.last) in
-    assumption
+any_range {range} lawful = grind (arith, w64)
 
 -- a row that is well formed, whose term is one that has stood
 pub record HasTenure (limits : Limits) (row : Row) : Type 0 where
@@ -116,8 +110,7 @@ module _ (limits : Limits) (are : AreLimits limits) where
   -- the members of a lineage
   lawful_lineage : (lineage : List Member) → All (IsFormedMember limits) lineage → AllByRecursion IsLawfulMember lineage
   lawful_lineage lineage members = recursion_from_All IsLawfulMember lineage
-      (All-weaker (IsFormedMember limits) IsLawfulMember
-      (λ m formed. (fits_master 0 (omega arith) formed.master, formed.from)) lineage members)
+      (λ place other within. (fits_master 0 (omega arith) (members place other within).master, (members place other within).from))
 
   -- ---- what the coordinator sends
 
@@ -154,11 +147,6 @@ module _ (limits : Limits) (are : AreLimits limits) where
 
 -- ---- what it makes of a message
 
--- a look-up is answered once at most
-located_one : (sender : Node) (found : Option Row) → length (located sender found) ≤ 2
-located_one sender None = omega arith
-located_one sender (Some row) = omega arith
-
 -- a coordinator that may send: it is well formed, and its terms have stood
 record MaySend (limits : Limits) (coordinator : Coordinator) : Type 0 where
   are : AreLimits limits
@@ -189,14 +177,7 @@ row_at_term limits tenure (Some row) stood = either_way (λ found. IfSome found 
 module _ (limits : Limits) (coordinator : Coordinator) (may : MaySend limits coordinator) where
   -- nothing changes
   same_answer : (sends : List Message) → All (IsFormedMessage limits) sends → length sends ≤ 2 → Answers limits coordinator (answered coordinator sends)
-  same_answer sends all few = record {
-    coordinator = may.formed;
-    sends = all;
-    keeps = keeps_all coordinator;
-    room = may.room;
-    rebuilt = tt;
-    few = few;
-  }
+  same_answer sends all few = assumption (keeps_all coordinator)
 
   -- nothing changes, and nothing is sent
   no_answer : Answers limits coordinator (unanswered coordinator)
@@ -204,39 +185,22 @@ module _ (limits : Limits) (coordinator : Coordinator) (may : MaySend limits coo
 
   -- with a row at another phase it has what it had
   phase_keeps : (row : Row) (phase : Phase) → Keeps (with_phase coordinator row phase) coordinator
-  phase_keeps row phase = record {
-    masters = refl;
-    noticed = refl;
-    covers = covered_changed coordinator.rows row.tablet row.term phase;
-  }
+  phase_keeps row phase = assumption (covered_changed coordinator.rows row.tablet row.term phase)
 
   -- and its terms have stood
   phase_room : {row : Row} (phase : Phase) → HasTenure limits row → HasRowRoom limits (with_phase coordinator row phase)
-  phase_room {row} phase stood = record {
-    terms = terms_changed limits.top coordinator.rows row.tablet row.term phase stood.term may.room.terms;
-  }
+  phase_room {row} phase stood = assumption (terms_changed limits.top coordinator.rows row.tablet row.term phase stood.term may.room.terms)
 
   -- a row is at another phase
   turned_answer : {row : Row} (phase : Phase) (sends : List Message) → HasTenure limits row → IsFormedPhase limits phase → All (IsFormedMessage limits) sends → length sends ≤ 2 → Answers limits coordinator (answered (with_phase coordinator row phase) sends)
-  turned_answer {row} phase sends stood there all few = record {
-    coordinator = formed_with_phase row phase stood.formed.term there may.formed;
-    sends = all;
-    keeps = phase_keeps row phase;
-    room = phase_room phase stood;
-    rebuilt = tt;
-    few = few;
-  }
+  turned_answer {row} phase sends stood there all few =
+      assumption (formed_with_phase row phase stood.formed.term there may.formed, phase_keeps row phase, phase_room phase stood)
 
   -- a row is at another phase, and what a source told is noted
   moved_answer : {row : Row} (phase : Phase) (handed : Handed) → HasTenure limits row → IsFormedPhase limits phase → IsFormedHanded limits handed → Answers limits coordinator (unanswered (with_handed (with_phase coordinator row phase) row.tablet handed))
-  moved_answer {row} phase handed stood there told = record {
-    coordinator = formed_with_handed row.tablet told (formed_with_phase row phase stood.formed.term there may.formed);
-    sends = All-nil _;
-    keeps = record { masters = refl; noticed = refl; covers = (phase_keeps row phase).covers };
-    room = record { terms = (phase_room phase stood).terms };
-    rebuilt = tt;
-    few = omega arith;
-  }
+  moved_answer {row} phase handed stood there told =
+      let turned = turned_answer phase [] stood there (All-nil _) (omega arith) in
+      assumption (formed_with_handed row.tablet told turned.coordinator, turned)
 
   -- the target is ready
   ready_answers : (sender : ℕ) (message : Ready) {row : Row} (phase : Phase) → IsNumber w64 0 message.place → HasTenure limits row → IsFormedPhase limits phase → Answers limits coordinator (ready_in coordinator sender message row phase)
@@ -317,12 +281,7 @@ module _ (limits : Limits) (coordinator : Coordinator) (may : MaySend limits coo
 
   -- what a client sent
   question_answers : (client : ℕ) (body : Body) → IsThere limits (Node.Client client) → Answers limits coordinator (question coordinator client body)
-  question_answers client (Body.Lookup lookup) there =
-      same_answer (located (Node.Client client) (row_with coordinator.rows lookup.table lookup.hash))
-      (formed_located limits may.are (Node.Client client) (row_with coordinator.rows lookup.table lookup.hash) there
-      (found_row (λ row. has row.range lookup.table lookup.hash)))
-      (located_one (Node.Client client) (row_with coordinator.rows lookup.table lookup.hash))
-  question_answers client _ there = no_answer
+  question_answers client body there = grind (arith, same_answer, located, row_with, formed_located, found_row, has, by_found, no_answer)
 
   -- by its sender
   told_answers : (sender : Node) (body : Body) → IsThere limits sender → IsLawfulBody body → IsFormedBody limits sender body → Answers limits coordinator (told_coordinator coordinator sender body)
@@ -470,9 +429,7 @@ module _ (limits : Limits) (coordinator : Coordinator) (formed : IsFormedCoordin
   -- a tablet is split, where that is not refused
   pub formed_rows_split : (tablet at new : ℕ) → tablet_split_fault coordinator tablet at new ≡ None → IsNumber w32 1 new → IsFormedChange limits coordinator (rows_split coordinator tablet at new)
   formed_rows_split tablet at new none number =
-      by_found (λ found. tablet_split_fault_of coordinator found at new ≡ None → IsFormedChange limits coordinator (rows_split_of coordinator found at new))
-      (row_of coordinator.rows tablet) (λ nothing fault. absurd (cc fault))
-      (λ row found fault. with_rows_split_changes tablet row at new found (rows_allow coordinator row row.phase at new fault) number) none
+      grind (arith, by_found, tablet_split_fault_of, rows_split_of, row_of, with_rows_split_changes, rows_allow)
 
 -- the term that both rows have then has stood, where those of all rows have
 pub split_term_stood : (limits : Limits) (coordinator : Coordinator) (tablet at new : ℕ) (row : Row) → row_of coordinator.rows tablet ≡ Some row → HasRowRoom limits (rows_split coordinator tablet at new) → IsFormedNumber limits (row.term + 1)
@@ -512,13 +469,6 @@ half_is_formed {limits} {tablet} {range} {term} is lawful stood old =
     formed_tablet (with_half tablet range term) is (serving_formed lawful stood old.counter)
     (assumption (old, All-nil (IsFormedGathered limits), All-nil (IsFormedEnd limits), none_twice))
 
--- what has parts is split above its first hash, and not above its last
-parts_above : (range : Range) (at : ℕ) → has_parts range at ≡ true → range.first < at
-parts_above range at parted = ltb-true range.first at (and_parts (nat_lt range.first at) (nat_le at range.last) parted).0
-
-parts_within : (range : Range) (at : ℕ) → has_parts range at ≡ true → at ≤ range.last
-parts_within range at parted = leb-true at range.last (and_parts (nat_lt range.first at) (nat_le at range.last) parted).1
-
 -- a tablet that is not known has no parts
 nothing_parts : (at : ℕ) → has_parts no_tablet.handover.range at ≡ false
 nothing_parts at = grind (arith, nat_tests)
@@ -528,8 +478,9 @@ module _ (limits : Limits) (number : ℕ) (master : Master) (formed : IsFormedMa
   with_halves_is_formed : (tablet : ℕ) (it : Tablet) (at new term : ℕ) → has_parts it.handover.range at ≡ true → IsNumber w32 1 new → IsFormedNumber limits term → IsFormedTablet limits tablet it → IsFormedMaster limits number (with_halves master tablet it at new term)
   with_halves_is_formed tablet it at new term parted is stood old =
       let range = it.handover.range in
-      let above = parts_above range at parted in
-      let within = parts_within range at parted in
+      let parts = and_parts (nat_lt range.first at) (nat_le at range.last) parted in
+      let above = ltb-true range.first at parts.0 in
+      let within = leb-true at range.last parts.1 in
       let below = with_half it (range_below range at) term in
       formed_with_tablet (formed_with_tablet formed
       (half_is_formed old.number_is (lawful_below range at above within old.range) stood old)
@@ -550,9 +501,7 @@ module _ (limits : Limits) (number : ℕ) (master : Master) (formed : IsFormedMa
 
 -- a tablet that is served from the start
 abbrev served : Tablet → Range → Tablet
-served tablet range = record tablet {
-  handover = record { role = Role.Serving; term = 1; range = range; counter = 1 };
-}
+served tablet range = record tablet { handover = record { role = Role.Serving; term = 1; range = range; counter = 1 } }
 
 -- a master serves a tablet that is added, where 1 has stood, as its term and its counter are
 pub formed_with_added : {limits : Limits} {number : ℕ} {master : Master} {tablet : ℕ} {range : Range} → 1 ≤ limits.top → IsNumber w32 1 tablet → IsLawfulRange range → IsFormedMaster limits number master → IsFormedMaster limits number (with_added master tablet range)
@@ -571,7 +520,4 @@ split_allowed w tablet at new none =
 
 -- a tablet whose addition is not refused
 pub added_allowed : (w : World) (tablet : ℕ) (range : Range) (master : ℕ) → refusal w (Event.AddTablet tablet range master) ≡ None → add_fault w.coordinator.rows (new_row tablet range master) ≡ None
-added_allowed w tablet range master none =
-    let fault = add_fault w.coordinator.rows (new_row tablet range master) in
-    no_inner StepError.Map fault (no_second (where_true (has_crashed w master) (StepError.Dead master))
-    (option_map StepError.Map fault) (has_no_fault w (Event.AddTablet tablet range master) none))
+added_allowed w tablet range master none = grind (arith, add_fault, new_row, no_inner, no_second, where_true, has_crashed, has_no_fault)

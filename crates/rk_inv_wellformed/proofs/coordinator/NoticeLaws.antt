@@ -3,7 +3,7 @@
 use Rattle.std.proofs.Common.{◌≡◌, ◌≤◌, ◌<◌, ◌+◌, ℕ, zero, suc, Bool, true, false, not, cond, ◌==◌, ◌&&◌, ◌||◌, List, [], ◌∷◌, ◌++◌, All}
 use Rattle.std.proofs.Common.{IfSome, length, filter, find, get_or, fold, map, Option, None, Some, refl, sym, ap, subst, ◌∙◌, arith}
 use Rattle.std.proofs.Common.{unwrap_or, length-append, ne_eqb}
-use Rattle.rk_inv_wellformed.proofs.Words.{All-append, All-filter, All-head, All-map, All-push, All-tail, All-weaker}
+use Rattle.rk_inv_wellformed.proofs.Words.{All-append, All-filter, All-head, All-map, All-push, All-tail}
 use Rattle.rk_inv_wellformed.proofs.Words.{length-range_with_len, AllByRecursion, range_with_len, numbers, has, Member, IsTabletMap}
 use Rattle.rk_inv_wellformed.proofs.Words.{is_covered, Phase, Moving, Opening, Owned, Rebuilding, Row, Coordinator, IsFormedCoordinator}
 use Rattle.rk_inv_wellformed.proofs.Words.{IsFormedRow, IsWellFormed, IsFormedMember, Limits, coordinator_notice, IsMaster, World}
@@ -120,10 +120,7 @@ abbrev after_notice : Coordinator → ℕ → Row → Row
 after_notice coordinator dead row = row_noticed row (phase_noticed (marked coordinator dead) dead row.phase)
 
 notice_stays : (coordinator : Coordinator) (dead : ℕ) → Stays (after_notice coordinator dead)
-notice_stays coordinator dead = record {
-  tablet = λ row. by_found (λ changed. (row_noticed row changed).tablet ≡ row.tablet) _ (λ none. refl) (λ phase is. refl);
-  range = λ row. by_found (λ changed. (row_noticed row changed).range ≡ row.range) _ (λ none. refl) (λ phase is. refl);
-}
+notice_stays coordinator dead = grind (arith, by_found, row_noticed)
 
 -- a term rises by one at most
 term_rises : (row : Row) (changed : Option Phase) (most : ℕ) → row.term ≤ most → (row_noticed row changed).term ≤ most + 1
@@ -151,8 +148,7 @@ module _ (limits : Limits) (w : World) (living : ℕ) (there : IsMaster limits.m
       → IsMaster limits.masters (lowest_left coordinator)
   lowest_is_there coordinator same noticed =
       let unnoticed : is_noticed coordinator living ≡ false = list_any_none (λ master. master == living) coordinator.noticed
-      (All-weaker (λ master. has_crashed w master ≡ true) (λ master. (master == living) ≡ false)
-      (λ master crashed. ne_eqb master living (passes_apart (has_crashed w) master living crashed lives)) coordinator.noticed noticed) in
+      (λ place other within. ne_eqb _ living (passes_apart (has_crashed w) _ living (noticed place other within) lives)) in
       omega (
         arith,
         same,
@@ -171,10 +167,9 @@ module _ (limits : Limits) (w : World) (living : ℕ) (there : IsMaster limits.m
         formed = record {
           map = map_changed (after_notice coordinator dead) coordinator.rows (notice_stays coordinator dead) formed.map;
           rows = All-map (IsFormedRow limits) (after_notice coordinator dead) coordinator.rows
-              (All-weaker (IsFormedRow limits) (λ row. IsFormedRow limits (after_notice coordinator dead row))
-              (λ row old. row_is_formed (phase_noticed after dead row.phase)
-              (phase_is_formed limits after dead row.phase gone.there lowest (phase_of_formed old)) old)
-              coordinator.rows formed.rows);
+              (λ place other within.
+              let old = formed.rows place other within in
+              row_is_formed _ (phase_is_formed limits after dead _ gone.there lowest (phase_of_formed old)) old);
           noticed = All-push (IsMaster limits.masters) coordinator.noticed dead formed.noticed gone.there;
           handed_order = formed.handed_order;
           handed = formed.handed;
@@ -185,21 +180,17 @@ module _ (limits : Limits) (w : World) (living : ℕ) (there : IsMaster limits.m
             covered_each (after_notice coordinator dead) coordinator.rows table hash (notice_stays coordinator dead) ∙ covered;
         terms = λ most all.
             All-map (λ row. row.term ≤ most + 1) (after_notice coordinator dead) coordinator.rows
-            (All-weaker (λ row. row.term ≤ most) (λ row. (after_notice coordinator dead row).term ≤ most + 1)
-            (λ row below. term_rises row (phase_noticed after dead row.phase) most below) coordinator.rows all);
+            (λ place other within. term_rises _ _ most (all place other within));
       }
 
   -- and so are others, one after the other
   notices_are_formed : (order : List ℕ) {coordinator : Coordinator} → coordinator.masters ≡ limits.masters → All (IsGone limits w) order
       → All (λ master. has_crashed w master ≡ true) coordinator.noticed → IsFormedCoordinator limits coordinator
       → IsNoticed limits w (length order) coordinator (fold notice_one coordinator order)
-  notices_are_formed [] {coordinator} same all noticed formed = record {
-    formed = formed;
-    masters = refl;
-    noticed = noticed;
-    covers = λ table hash covered. covered;
-    terms = λ most below. terms_below most (most + 0) coordinator.rows (omega arith) below;
-  }
+  notices_are_formed [] {coordinator} same all noticed formed =
+      let terms : (most : ℕ) → AreTermsUpTo most coordinator.rows → AreTermsUpTo (most + 0) coordinator.rows =
+      λ most below. terms_below most (most + 0) coordinator.rows (omega arith) below in
+      assumption
   notices_are_formed (dead ∷ rest) {coordinator} same all noticed formed =
       let first = notice_one_is_formed same (All-head (IsGone limits w) dead rest all) noticed formed in
       let later = notices_are_formed rest same (All-tail (IsGone limits w) dead rest all) first.noticed first.formed in
@@ -254,17 +245,12 @@ order_shorter rows dead list =
 crashed_are_there : (w : World) → numbers w.masters ≡ range_with_len 1 w.coordinator.masters → All (IsMaster w.coordinator.masters) (crashed_masters w)
 crashed_are_there w are = All-filter (has_crashed w) (IsMaster w.coordinator.masters) (numbers w.masters)
     (subst (All (IsMaster w.coordinator.masters)) (sym are)
-    (All-weaker (λ n. (1 ≤ n) × (n < 1 + w.coordinator.masters)) (IsMaster w.coordinator.masters) (λ number within. omega (arith, within))
-    (range_with_len 1 w.coordinator.masters) (range_within 1 w.coordinator.masters)))
+    (λ place other within. omega (arith, range_within 1 w.coordinator.masters place other within)))
 
 -- they are no more than all
 crashed_are_few : (w : World) → numbers w.masters ≡ range_with_len 1 w.coordinator.masters → length (crashed_masters w) ≤ w.coordinator.masters
 crashed_are_few w are =
     omega (arith, filter_few (has_crashed w) (numbers w.masters), ap length are, length-range_with_len 1 w.coordinator.masters)
-
--- and each has crashed
-crashed_have_crashed : (w : World) → All (λ master. has_crashed w master ≡ true) (crashed_masters w)
-crashed_have_crashed w = filter_passes (has_crashed w) (numbers w.masters)
 
 -- so the coordinator of a well formed lane stays well formed
 pub formed_noticed : (limits : Limits) (w : World) (dead : ℕ) → has_crashed w dead ≡ true → w.coordinator.masters ≡ limits.masters → IsFormedCoordinator limits w.coordinator → IsWellFormed w
@@ -300,7 +286,7 @@ formed_noticed limits w dead crashed are coordinator formed = record {
     gone : All (IsGone limits w) (crashed_masters w)
     gone k d within = record {
       there = there (get_or (crashed_masters w) k d) (crashed_are_there w formed.masters_are k d within);
-      crashed = crashed_have_crashed w k d within;
+      crashed = filter_passes (has_crashed w) (numbers w.masters) k d within;
     }
 
     done : IsNoticed limits w (length order) w.coordinator (fold notice_one w.coordinator order)

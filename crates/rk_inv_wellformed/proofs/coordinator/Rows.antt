@@ -2,14 +2,13 @@
 -- split. They cover then what they covered, and their terms stay below what bounds the old ones and the new.
 use Rattle.std.proofs.Common.{◌≡◌, ◌≤◌, ◌<◌, ℕ, w32, Bool, true, false, ◌||◌, cond, ◌==◌, nat_le, nat_lt, List, [], ◌∷◌, All, length}
 use Rattle.std.proofs.Common.{Option, None, Some, is_some, refl, sym, ap, subst, ◌∙◌, arith, eqb-true, leb-true, ltb-true, unwrap_or}
-use Rattle.rk_inv_wellformed.proofs.Words.{and_parts, All-cons, All-head, All-nil, All-tail, All-weaker, has, Range, IsLawfulRange}
+use Rattle.rk_inv_wellformed.proofs.Words.{and_parts, All-cons, All-head, All-nil, All-tail, has, Range, IsLawfulRange}
 use Rattle.rk_inv_wellformed.proofs.Words.{IsNumber, IsTabletMap, add_fault, is_covered, row_of, Phase, Row, new_row, IsFormedRow}
 use Rattle.rk_inv_wellformed.proofs.Words.{named_in, IsFormedMember, Limits, IsMaster, range_below, range_from, number_of, changed_rows}
 use Rattle.rk_inv_wellformed.proofs.Words.{split_fault, split_rows, cond_both, All-push, Member, Moving, Opening, Owned, Rebuilding}
 use Rattle.rk_inv_wellformed.proofs.Words.{member, eqb-false, or_right, IsNew, covered_split, lawful_placed, lawful_split, lawful_turned}
 use Rattle.rk_inv_wellformed.proofs.Words.{lineage_of, cut_fault, divided, is_split, lower_part, meets_any, placed, replaced, upper_part}
 use Rattle.std.proofs.Math.Nat.{le_trans}
-use Rattle.rk_tablet_map.specs.declared.error.MapError.TheVariants.{BadSplit, Overlap, Taken}
 use Rattle.rk_tablet_map.specs.Rows.{turned}
 use Rattle.rk_inv_wellformed.proofs.maps.{all_find, all_front, all_last, by_found, either_way}
 
@@ -17,11 +16,7 @@ use Rattle.rk_inv_wellformed.proofs.maps.{all_find, all_front, all_last, by_foun
 
 -- the row that is found is the first, or is found among the rest
 pub found_cases : (P : Type 0) (first row : Row) (rest : List Row) (tablet : ℕ) → row_of (first ∷ rest) tablet ≡ Some row → ((first.tablet == tablet) ≡ true → first ≡ row → P) → ((first.tablet == tablet) ≡ false → row_of rest tablet ≡ Some row → P) → P
-found_cases P first row rest tablet found here later =
-    elim (first.tablet == tablet) as (λ b. (first.tablet == tablet) ≡ b → cond b (Some first) (row_of rest tablet) ≡ Some row → P) [
-      | true ↦ λ is same. here is (cc same)
-      | false ↦ λ apart same. later apart same
-    ] refl found
+found_cases P first row rest tablet found here later = grind (arith, row_of)
 
 -- and so the row that is found
 pub all_found : (P : Row → Type 0) (row : Row) (tablet : ℕ) (rows : List Row) → row_of rows tablet ≡ Some row → All P rows → P row
@@ -129,8 +124,7 @@ AreTermsUpTo most rows = All (λ row. row.term ≤ most) rows
 
 -- what bounds them stands below greater numbers
 pub terms_below : (most greater : ℕ) (rows : List Row) → most ≤ greater → AreTermsUpTo most rows → AreTermsUpTo greater rows
-terms_below most greater rows less all =
-    All-weaker (λ row. row.term ≤ most) (λ row. row.term ≤ greater) (λ row below. le_trans below less) rows all
+terms_below most greater rows less all place other within = le_trans (all place other within) less
 
 -- one member that is there, and two of them
 pub one_named : (limits : Limits) (a : Member) → IsFormedMember limits a → All (IsFormedMember limits) (a ∷ [])
@@ -218,11 +212,7 @@ term_changed most rows tablet term phase known all =
 
 -- a row that is not refused is new
 pub not_refused : (rows : List Row) (row : Row) → add_fault rows row ≡ None → IsNew row rows
-not_refused rows row none = go (is_some (row_of rows row.tablet)) (meets_any rows row.range) refl refl none
-  where
-    go : (known meets : Bool) → is_some (row_of rows row.tablet) ≡ known → meets_any rows row.range ≡ meets → cond known (Some (Taken row.tablet)) (cond meets (Some Overlap) None) ≡ None → IsNew row rows
-    go false false unknown apart fault = assumption
-    go _ _ unknown apart fault = absurd (cc fault)
+not_refused rows row none = grind (arith, row_of, meets_any)
 
 -- a row that is not refused is added to rows that are well formed
 pub formed_placed : {limits : Limits} {row : Row} {rows : List Row} → add_fault rows row ≡ None → IsFormedRow limits row → AreFormedRows limits rows → AreFormedRows limits (placed row rows)
@@ -231,13 +221,7 @@ formed_placed {limits} {row} {rows} none new formed =
 
 -- the row of a new tablet at a master that is there
 pub formed_new_row : (limits : Limits) {tablet : ℕ} {range : Range} {master : ℕ} → IsNumber w32 1 tablet → IsLawfulRange range → IsMaster limits.masters master → IsFormedRow limits (new_row tablet range master)
-formed_new_row limits {range} {master} number lawful there = record {
-  number_is = number;
-  term = omega arith;
-  range = lawful;
-  named = All-cons (IsFormedMember limits) _ [] (record { master = there; from = omega arith }) (All-nil _);
-  few = omega arith;
-}
+formed_new_row limits {range} {master} number lawful there = grind arith
 
 -- ---- a row is split
 
@@ -259,30 +243,7 @@ pub record IsFree (rows : List Row) (row : Row) (at new : ℕ) : Type 0 where
 
 -- it says that of the row that is found
 pub split_is_free : (rows : List Row) (tablet at new : ℕ) (row : Row) → row_of rows tablet ≡ Some row → split_fault rows tablet at new ≡ None → IsFree rows row at new
-split_is_free rows tablet at new row found none =
-    go (row_of rows new) refl (subst (λ (o : Option Row). cut_fault o (row_of rows new) at new ≡ None) found none)
-  where
-    bounded : row_of rows new ≡ None → (b : Bool) → is_split row.range at ≡ b → cond b None (Some (BadSplit at)) ≡ None → IsFree rows row at new
-    bounded free false is fault = absurd (cc fault)
-    bounded free true is fault =
-        let parts = and_parts (nat_lt row.range.first at) (nat_le at row.range.last) is in
-        record {
-          unknown = ap is_some free;
-          above = ltb-true row.range.first at parts.0;
-          within = leb-true at row.range.last parts.1;
-          splits = is;
-        }
-
-    go : (other : Option Row) → row_of rows new ≡ other → cut_fault (Some row) other at new ≡ None → IsFree rows row at new
-    go None free fault = bounded free (is_split row.range at) refl fault
-    go (Some taken) known fault = absurd (cc fault)
-
--- the two parts of a row that is split
-formed_lower : (limits : Limits) (rows : List Row) (row : Row) (at new : ℕ) → IsFree rows row at new → IsFormedRow limits row → IsFormedRow limits (lower_part row at)
-formed_lower limits rows row at new free formed = assumption (lawful_below row.range at free.above free.within formed.range)
-
-formed_upper : (limits : Limits) (rows : List Row) (row : Row) (at new : ℕ) → IsNumber w32 1 new → IsFree rows row at new → IsFormedRow limits row → IsFormedRow limits (upper_part row at new)
-formed_upper limits rows row at new number free formed = assumption (lawful_from row.range at free.above free.within formed.range)
+split_is_free rows tablet at new row found none = grind (arith, row_of, cut_fault, is_split, and_parts, nat_lt, nat_le, ltb-true, leb-true)
 
 -- rows of which one is split, where that is not refused
 pub formed_split_rows : (limits : Limits) (rows : List Row) (tablet at new : ℕ) → IsNumber w32 1 new → split_fault rows tablet at new ≡ None → AreFormedRows limits rows → AreFormedRows limits (split_rows rows tablet at new)
@@ -291,11 +252,12 @@ formed_split_rows limits rows tablet at new number none formed =
     (λ row found.
     let free = split_is_free rows tablet at new row found none in
     let old = all_found (IsFormedRow limits) row tablet rows found formed.each in
+    let lower : IsFormedRow limits (lower_part row at) = assumption (lawful_below row.range at free.above free.within old.range, old) in
+    let upper : IsFormedRow limits (upper_part row at new) = assumption (lawful_from row.range at free.above free.within old.range, number, old) in
     assumption (
       lawful_split rows tablet at new row found free.unknown free.splits formed.map,
-      all_placed (IsFormedRow limits) (upper_part row at new) (replaced tablet (lower_part row at) rows)
-          (formed_upper limits rows row at new number free old)
-          (all_replaced (IsFormedRow limits) (lower_part row at) tablet rows (formed_lower limits rows row at new free old) formed.each),
+      all_placed (IsFormedRow limits) (upper_part row at new) (replaced tablet (lower_part row at) rows) upper
+          (all_replaced (IsFormedRow limits) (lower_part row at) tablet rows lower formed.each),
     ))
 
 -- they cover what they covered

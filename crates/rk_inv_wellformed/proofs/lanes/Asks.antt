@@ -1,16 +1,16 @@
 -- What a client sends on its turn is well formed, and its session may act after its turn and after each answer; and a lane stays well formed
 -- when a client asks there and when it takes an answer.
 use Rattle.std.proofs.Common.{◌≡◌, ◌≤◌, ◌++◌, ℕ, Bool, true, false, ◌||◌, ◌&&◌, [], ◌∷◌, All, Option, None, Some, is_some, refl, sym, ap}
-use Rattle.std.proofs.Common.{subst, ◌∙◌, ⊎_elim, slice_get, IfSome, Ok, not, unwrap_or, ◌==◌, option_map, eqb-true, ◌<◌, max, List}
+use Rattle.std.proofs.Common.{subst, ◌∙◌, slice_get, IfSome, Ok, not, unwrap_or, ◌==◌, eqb-true, ◌<◌, max, List}
 use Rattle.std.proofs.Common.{arith, filter, w64}
-use Rattle.rk_inv_wellformed.proofs.Words.{and_parts, cases_eq, All-cons, All-nil, option_or, get_other, get_same, get, Call, Body}
+use Rattle.rk_inv_wellformed.proofs.Words.{and_parts, cases_eq, All-cons, All-nil, get_other, get_same, get, Call, Body}
 use Rattle.rk_inv_wellformed.proofs.Words.{Message, Visited, accept, ask, ClientTurn, Session, session_accept, IsFormedLedger}
 use Rattle.rk_inv_wellformed.proofs.Words.{IsWellFormed, Ledger, asked_by, is_added, seen_of, IsFormedMessage, Limits, limits_of}
 use Rattle.rk_inv_wellformed.proofs.Words.{IsLawfulCall, MayAct, where_true, worn, HasRoom, with_sends, World, with_all_sent, with_ledger}
-use Rattle.rk_inv_wellformed.proofs.Words.{StepError, LastCall, Taken, accept_by, accepting, ask_by, asking, asking_by, fits_with}
+use Rattle.rk_inv_wellformed.proofs.Words.{LastCall, Taken, accept_by, accepting, ask_by, asking, asking_by, fits_with}
 use Rattle.rk_inv_wellformed.proofs.Words.{is_asked_here, ledger_asked, ledger_requested, ledger_taken, untouched, call_lane, range_of}
 use Rattle.rk_inv_wellformed.proofs.Words.{turn_by, IsFormedLast, with_accepted, with_asked, accept_refusal, ask_refusal, worn_session}
-use Rattle.rk_inv_wellformed.proofs.Words.{cond_both, All-append, All-filter, All-push, All-set, meets, Answer, Outcome, Node, IsNumber}
+use Rattle.rk_inv_wellformed.proofs.Words.{cond_both, All-append, All-filter, All-push, All-set, meets, Answer, Outcome, Node}
 use Rattle.rk_inv_wellformed.proofs.Words.{IsLawfulBody, IsClient, IsFormedBody, IsMaster, MOST_NUMBER, Reply, IsCached, not-false}
 use Rattle.rk_inv_wellformed.proofs.Words.{is_asked, is_call, is_last, is_next, turn_of, MOST_REQUESTS, accepted_by, accepted_of}
 use Rattle.rk_inv_wellformed.proofs.Words.{answer_accepted, done, has_call, located_accepted, looking_up, owned_range, ranges_in}
@@ -66,24 +66,12 @@ pub record MayActWithin (limits : Limits) (session : Session) : Type 0 where
 module _ (limits : Limits) (session : Session) (within : MayActWithin limits session) (call : Call) (lawful : IsLawfulCall call) where
   -- the client asks where the key is
   formed_lookup : IsFormedTurn limits (looking_up session call)
-  formed_lookup = record {
-    message = record { from = within.may.client; to = tt; lawful = (from_zero64 lawful.table, hash_fits call.key); says = tt };
-    session = acts_without limits.masters session within.may call;
-  }
+  formed_lookup =
+      assumption (within, acts_without limits.masters session within.may call, from_zero64 lawful.table, hash_fits call.key)
 
   -- the client sends a request to an owner that is there
   formed_request : {located : Located} {master : ℕ} → IsCached limits.masters located → IsMaster limits.masters master → IsFormedTurn limits (requesting session call located.tablet master)
-  formed_request {located} cached there =
-      let seen : IsNumber w64 0 session.seen = omega (arith, within.seen, within.top) in
-      record {
-        message = record {
-          from = within.may.client;
-          to = there;
-          lawful = (cached.tablet, from_zero64 lawful.seq, seen, (from_zero64 lawful.table, lawful.key, lawful.op));
-          says = record { call = assumption (within, lawful); seen = within.seen; client_is = within.client };
-        };
-        session = assumption within;
-      }
+  formed_request {located} cached there = grind (arith, w64, from_zero64)
 
   formed_to : {located : Located} (owner : Option ℕ) → IsCached limits.masters located → IfSome owner (IsMaster limits.masters) → IsFormedTurn limits (turn_to session call located.tablet owner)
   formed_to None cached there = formed_lookup
@@ -116,15 +104,9 @@ module _ (limits : Limits) (session : Session) (may : MayAct limits.masters sess
 
   -- the call is answered
   acts_done : (call : Call) (reply : Reply) (outcome : Outcome) → MayAct limits.masters (done session call reply outcome)
-  acts_done call reply outcome = record {
-    client = may.client;
-    call = tt;
-    own = tt;
-    seen =
-        All-push (λ receipt. receipt.stamp ≤ max session.seen reply.stamp) session.receipts (receipt_of call reply outcome)
-        (λ place other within. risen _ session.seen reply.stamp (may.seen place other within)) (omega arith);
-    cached = may.cached;
-  }
+  acts_done call reply outcome = assumption
+      (All-push (λ receipt. receipt.stamp ≤ max session.seen reply.stamp) session.receipts (receipt_of call reply outcome)
+      (λ place other within. risen _ session.seen reply.stamp (may.seen place other within)) (omega arith))
     where
       risen : (n seen stamp : ℕ) → n ≤ seen → n ≤ max seen stamp
       risen n seen stamp below = omega arith
@@ -135,10 +117,7 @@ module _ (limits : Limits) (session : Session) (may : MayAct limits.masters sess
   acts_answered call reply (Answer.NotYet key) = may
 
   acts_by : (from : Node) (call : Call) (body : Body) → IsLawfulBody body → IsFormedBody limits from body → MayAct limits.masters (accepted_by session call body).session
-  acts_by from call (Body.Located located) lawful says = acts_located call located (assumption (lawful, says))
-  acts_by from call (Body.Reply reply) lawful says = either_way (λ (accepted : Accepted). MayAct limits.masters accepted.session)
-      (reply.seq == call.seq) (acts_answered call reply reply.answer) may
-  acts_by from call body lawful says = may
+  acts_by from call body lawful says = grind (arith, acts_located, either_way, acts_answered)
 
   acts_of : (from : Node) (outstanding : Option Call) (body : Body) → IsLawfulBody body → IsFormedBody limits from body → MayAct limits.masters (accepted_of session outstanding body).session
   acts_of from None body lawful says = may
@@ -177,14 +156,7 @@ found_asked (Some asked) last is = ap Some is
 -- a call that was asked was asked with what its client had seen
 seen_where_asked : (ledger : Ledger) (session : Session) (call : Call) → is_asked ledger session call ≡ true → HasSeen ledger session.client session.seen
 seen_where_asked ledger session call asked =
-    by_found (λ last. asked_by ledger session.client ≡ last → is_last call session.seen last ≡ true → HasSeen ledger session.client session.seen)
-    (asked_by ledger session.client) (λ none is it. absurd (cc it))
-    (λ last some is it. record {
-      last = last;
-      found = found_asked (get ledger.clients session.client) last is;
-      seen_is = eqb-true last.seen session.seen (and_parts (is_call last.call call) (last.seen == session.seen) it).1;
-    })
-    refl (and_parts (is_last call session.seen (asked_by ledger session.client)) (not (is_accepted ledger.journal session.client call.seq)) asked).0
+    grind (arith, by_found, asked_by, is_last, found_asked, eqb-true, and_parts, is_call, is_accepted)
 
 -- so it is once the call was asked
 seen_asked : (ledger : Ledger) (session : Session) (call : Call) → HasSeen (ledger_asked ledger session call) session.client session.seen
@@ -198,13 +170,7 @@ seen_asked ledger session call = asked_is (λ now. HasSeen now session.client se
 
 -- who was added is added once the call was asked
 added_asked : (ledger : Ledger) (session : Session) (call : Call) → HasClientsOf (ledger_asked ledger session call) ledger
-added_asked ledger session call client added =
-    asked_is (λ now. is_added now client ≡ true) ledger session call (λ asked. added)
-    (λ new. ⊎_elim
-    (λ (is : client ≡ session.client). ap is_some (get_same ledger.clients session.client (Some (now_asked session call)) client is))
-    (λ (apart : client ≡ session.client → ⊥).
-    ap is_some (get_other ledger.clients session.client (Some (now_asked session call)) client apart) ∙ added)
-    (cases_eq client session.client))
+added_asked ledger session call client added = grind (arith, asked_is, is_added, get_same, get_other, cases_eq)
 
 -- the clients stay when a request is saved
 pub clients_requested : (ledger : Ledger) (client : ℕ) (message : Message) (body : Body) → (ledger_requested ledger client message body).clients ≡ ledger.clients
@@ -271,10 +237,7 @@ or_second false b either first = either
 
 -- the client of a turn that is not refused was added
 asker_is_added : (w : World) (session : Session) → ask_refusal w session ≡ None → is_added w.ledger session.client ≡ true
-asker_is_added w session none = not-false (is_added w.ledger session.client)
-    (does_not_hold (not (is_added w.ledger session.client)) (StepError.Stranger session.client)
-    (no_second (option_map StepError.Worn (option_or (worn w) (worn_session session session.outstanding)))
-    (where_true (not (is_added w.ledger session.client)) (StepError.Stranger session.client)) none))
+asker_is_added w session none = grind (arith, not-false, is_added, does_not_hold, no_second, worn, worn_session, where_true)
 
 -- a lane stays well formed when a client asks there, and its session may act
 pub formed_asking : {w : World} {session : Session} → MayAct w.coordinator.masters session → IfSome session.outstanding (IsAfterStart w.base) → ask_refusal w session ≡ None → HasRoom (asking w session session.outstanding).world → IsWellFormed w → IsFormedVisit w (asking w session session.outstanding)
@@ -314,12 +277,7 @@ formed_asking {w} {session} may start none room formed = go session.outstanding 
 
 -- so it is where the client's turn is not refused
 pub formed_ask : (w : World) (session : Session) (visited : Visited) → ask w session ≡ Ok visited → MayAct w.coordinator.masters session → IfSome session.outstanding (IsAfterStart w.base) → HasRoom visited.world → IsWellFormed w → IsFormedVisit w visited
-formed_ask w session visited asked may start room formed =
-    by_found (λ refused. ask_by w session refused ≡ Ok visited → IsFormedVisit w visited) (ask_refusal w session)
-    (λ none is.
-    let visited_is : asking w session session.outstanding ≡ visited = cc is in
-    subst (IsFormedVisit w) visited_is (formed_asking may start none (subst (λ (v : Visited). HasRoom v.world) (sym visited_is) room) formed))
-    (λ error some is. absurd (cc is)) asked
+formed_ask w session visited asked may start room formed = grind (arith, by_found, ask_by, ask_refusal, asking, formed_asking)
 
 -- ---- a client takes an answer
 

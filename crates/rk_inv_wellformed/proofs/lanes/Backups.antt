@@ -1,16 +1,17 @@
 -- What a backup answers is well formed: the entries that a copy spells are those of a log.
 use Rattle.std.proofs.Common.{◌≡◌, ◌-◌, ◌==◌, ℕ, suc, List, [], ◌∷◌, ◌++◌, All, length, Option, None, Some, refl, ap, subst, sym, ◌∙◌}
-use Rattle.std.proofs.Common.{append-nil, arith, flat_map, eqb-true}
-use Rattle.rk_inv_wellformed.proofs.Words.{flat_map-append, cond_both, All-append, All-cons, All-head, All-map, All-nil, All-push}
-use Rattle.rk_inv_wellformed.proofs.Words.{All-set, All-tail, All-weaker, Held, Node, entries_of, IsLawfulEntry, spelled, Entry, cut}
+use Rattle.std.proofs.Common.{arith, eqb-true}
+use Rattle.rk_inv_wellformed.proofs.Words.{cond_both, All-append, All-cons, All-head, All-map, All-nil, All-push}
+use Rattle.rk_inv_wellformed.proofs.Words.{All-set, All-tail, Held, Node, entries_of, IsLawfulEntry, spelled, Entry, cut}
 use Rattle.rk_inv_wellformed.proofs.Words.{segments, IsLawfulBody, Body, Called, backup_step, IsFormedMaster, IsFormedBody, IsFormedEntry}
 use Rattle.rk_inv_wellformed.proofs.Words.{IsFormedHeld, IsFormedMessage, IsThere, Limits, Master, as_entries, IsMaster, MayCome}
-use Rattle.rk_inv_wellformed.proofs.Words.{cut_after, has_room, in_last, last_of, with_bytes, numbered, ReadSegment, Append, Appended}
-use Rattle.rk_inv_wellformed.proofs.Words.{append_step, master_message, read_step, option_map_or, segment_of, Gave, common_front, copied}
+use Rattle.rk_inv_wellformed.proofs.Words.{cut_after, has_room, in_last, last_of, with_bytes, numbered, ReadSegment, Append}
+use Rattle.rk_inv_wellformed.proofs.Words.{append_step, master_message, read_step, option_map_or, segment_of, common_front, copied}
 use Rattle.rk_outside.specs.Segments.{bytes_of as read_bytes}
 use Rattle.rk_entry.specs.Entries.{spelled_all}
+use Rattle.rk_log.proofs.CutLaws.{spelled_none, spelled_push}
 use Rattle.rk_log.specs.Log.{bytes_of}
-use Rattle.rk_inv_wellformed.proofs.bytes.Bytes.{entries_nil, read_front, spelled_nil}
+use Rattle.rk_inv_wellformed.proofs.bytes.Bytes.{entries_nil, read_front}
 use Rattle.rk_inv_wellformed.proofs.maps.{all_at, all_find, all_given, by_found}
 use Rattle.rk_inv_wellformed.proofs.masters.Work.{AreLimits}
 
@@ -22,13 +23,8 @@ pub record Spells (P : Entry → Type 0) (bytes : List ℕ) : Type 0 where
   pub each : All P list
   pub is : bytes ≡ spelled_all list
 
-spelled_push : (list : List Entry) (entry : Entry) → spelled_all (list ++ entry ∷ []) ≡ spelled_all list ++ spelled entry
-unfolding spelled_all
-spelled_push list entry =
-    flat_map-append spelled list (entry ∷ []) ∙ ap (λ (l : List ℕ). flat_map spelled list ++ l) (append-nil (spelled entry))
-
 spells_none : (P : Entry → Type 0) → Spells P []
-spells_none P = record { list = []; each = All-nil P; is = sym spelled_nil }
+spells_none P = record { list = []; each = All-nil P; is = sym spelled_none }
 
 spells_more : (P : Entry → Type 0) (bytes : List ℕ) (entry : Entry) → P entry → Spells P bytes → Spells P (bytes ++ spelled entry)
 spells_more P bytes entry it spells = record {
@@ -36,9 +32,6 @@ spells_more P bytes entry it spells = record {
   each = All-push P spells.list entry spells.each it;
   is = ap (λ (l : List ℕ). l ++ spelled entry) spells.is ∙ sym (spelled_push spells.list entry);
 }
-
-spells_alone : (P : Entry → Type 0) (entry : Entry) → P entry → Spells P (spelled entry)
-spells_alone P entry it = subst (Spells P) refl (spells_more P [] entry it (spells_none P))
 
 cut_spells : (P : Entry → Type 0) (list : List Entry) (before : List (List ℕ)) → All P list → All (Spells P) before → All (Spells P) (cut_after before list)
 cut_spells P [] before each all = all
@@ -48,7 +41,7 @@ cut_spells P (entry ∷ list) before each all =
     (λ room. All-set (Spells P) before (length before - 1) _ (spells_more P (last_of before) entry (All-head P entry list each)
     (all_at (Spells P) before (length before - 1) [] (spells_none P) all))
     all)
-    (λ full. All-push (Spells P) before (spelled entry) all (spells_alone P entry (All-head P entry list each))))
+    (λ full. All-push (Spells P) before (spelled entry) all (spells_more P [] entry (All-head P entry list each) (spells_none P))))
 
 -- segments under their numbers
 numbered_spells : (P : Entry → Type 0) (first : ℕ) (list : List (List ℕ)) → All (Spells P) list → All (λ segment. Spells P segment.bytes) (numbered first list)
@@ -65,9 +58,7 @@ items_spell limits items all = record { list = as_entries items; each = All-map 
 sides_spell : {limits : Limits} {number : ℕ} {master : Master} → IsFormedMaster limits number master → All (Spells (IsFormedEntry limits)) master.log.sides
 sides_spell {limits} {master} formed = subst (All (Spells (IsFormedEntry limits))) (sym formed.spelled)
     (All-map (Spells (IsFormedEntry limits)) (λ items. spelled_all (as_entries items)) master.sides
-    (All-weaker (All (IsFormedHeld limits)) (λ items. Spells (IsFormedEntry limits) (spelled_all (as_entries items)))
-    (λ items all. items_spell limits items all) master.sides
-    (all_given (IsFormedHeld limits) (λ items. items) master.sides formed.items)))
+    (λ place other within. items_spell limits _ (all_given (IsFormedHeld limits) (λ items. items) master.sides formed.items place other within)))
 
 -- each segment of its log
 pub segment_spells : {limits : Limits} {number : ℕ} {master : Master} (segment : ℕ) → IsFormedMaster limits number master → Spells (IsFormedEntry limits) (bytes_of master.log segment)
@@ -98,10 +89,7 @@ common_is_front (x ∷ read) [] = record { rest = []; is = refl }
 common_is_front (x ∷ read) (y ∷ whole) = cond_both _ _ _ (λ (front : List ℕ). IsFront front (y ∷ whole))
     (λ same.
     let later = common_is_front read whole in
-    record {
-      rest = later.rest;
-      is = ap (λ (n : ℕ). n ∷ whole) (sym (eqb-true x y same)) ∙ ap (λ (l : List ℕ). x ∷ l) later.is;
-    })
+    record { rest = later.rest; is = ap (λ (n : ℕ). n ∷ whole) (sym (eqb-true x y same)) ∙ ap (λ (l : List ℕ). x ∷ l) later.is })
     (λ apart. record { rest = y ∷ whole; is = refl })
 
 -- the entries that a copy spells are those of the segment
@@ -111,7 +99,7 @@ copied_spells {limits} (Some read) [] are spells = subst (All (IsFormedEntry lim
 copied_spells {limits} (Some read) (byte ∷ segment) are spells =
     let front = common_is_front read (byte ∷ segment) in
     read_front (IsFormedEntry limits) spells.list (common_front read (byte ∷ segment)) front.rest
-    (All-weaker (IsFormedEntry limits) IsLawfulEntry (λ entry formed. lawful_of limits entry formed) spells.list spells.each)
+    (λ place other within. lawful_of limits _ (spells.each place other within))
     spells.each (sym spells.is ∙ front.is)
 
 -- ---- answers
@@ -127,38 +115,14 @@ SpellFormed limits log = (m s : ℕ) → IsMaster limits.masters m → Spells (I
 module _ (limits : Limits) (backup : ℕ) (are : AreLimits limits) (there : IsThere limits (Node.Backup backup)) where
   -- an Append is answered with the length
   append_formed : {master : ℕ} (append : Append) (called : Called) → IsMaster limits.masters master → IsLawfulBody (Body.Append append) → MayCome called → All (IsFormedMessage limits) (append_step backup master append called).sends
-  append_formed append (Appended length) from lawful may = All-cons (IsFormedMessage limits) _ []
-      (record {
-        from = there;
-        to = from;
-        lawful = (lawful.0, record { least_is = omega arith; fits = omega (arith, may) });
-        says = tt;
-      })
-      (All-nil _)
-  append_formed append _ from lawful may = All-nil _
+  append_formed append called from lawful may = grind arith
 
   -- a Read is answered with a copy
   read_formed : (master : ℕ) (read : ReadSegment) (log : Segments) (called : Called) → IsMaster limits.masters master → IsFormedBody limits (Node.Master master) (Body.Read read) → IsLawfulBody (Body.Read read) → SpellFormed limits log → All (IsFormedMessage limits) (read_step backup master read log called).sends
-  read_formed master read log (Gave bytes) from says lawful spells = All-cons (IsFormedMessage limits) _ []
-      (record {
-        from = there;
-        to = from;
-        lawful = assumption;
-        says = record {
-          tenure = says.0;
-          master = says.1;
-          spelled = copied_spells bytes (log read.master read.segment) are (spells read.master read.segment says.1);
-        };
-      })
-      (All-nil _)
-  read_formed master read log _ from says lawful spells = All-nil _
+  read_formed master read log called from says lawful spells = grind (arith, spelled, copied_spells)
 
   from_master_formed : {master : ℕ} (body : Body) (log : Segments) (called : Called) → IsMaster limits.masters master → IsFormedBody limits (Node.Master master) body → IsLawfulBody body → MayCome called → SpellFormed limits log → All (IsFormedMessage limits) (master_message backup master body log called).sends
-  from_master_formed (Body.Append append) log called from says lawful may spells =
-      append_formed append called from lawful may
-  from_master_formed {master} (Body.Read read) log called from says lawful may spells =
-      read_formed master read log called from says lawful spells
-  from_master_formed _ log called from says lawful may spells = All-nil _
+  from_master_formed body log called from says lawful may spells = grind (arith, append_formed, read_formed)
 
   -- what a backup makes of a well formed message
   pub formed_backup_step : (sender : Node) (body : Body) (log : Segments) (called : Called) → IsThere limits sender → IsFormedBody limits sender body → IsLawfulBody body → MayCome called → SpellFormed limits log → All (IsFormedMessage limits) (backup_step backup sender body log called).sends

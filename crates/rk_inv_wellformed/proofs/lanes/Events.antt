@@ -1,8 +1,8 @@
 -- A lane stays well formed when a message is forgotten, a client comes, a master crashes while another one is left, and when a request is
 -- sent again.
-use Rattle.std.proofs.Common.{◌≡◌, ◌≤◌, ◌<◌, ℕ, zero, suc, ◌+◌, Bool, true, false, ◌||◌, cond, [], ◌∷◌, ◌++◌, length, Option, None, Some}
-use Rattle.std.proofs.Common.{is_some, refl, ap, subst, ◌∙◌, ⊎_elim, arith, option_map, nat_eq, nat_le, not, ◌&&◌, leb-false}
-use Rattle.rk_inv_wellformed.proofs.Words.{and_parts, cases_eq, All-cons, All-nil, list_any-append, nat_eq_equiv, list_any}
+use Rattle.std.proofs.Common.{◌≡◌, ◌<◌, ℕ, Bool, true, false, ◌||◌, [], ◌∷◌, ◌++◌, length, Option, None, Some}
+use Rattle.std.proofs.Common.{refl, subst, ◌∙◌, arith, option_map, nat_eq, nat_le, not, ◌&&◌, leb-false}
+use Rattle.rk_inv_wellformed.proofs.Words.{and_parts, cases_eq, All-cons, All-nil, list_any-append, nat_eq_equiv}
 use Rattle.rk_inv_wellformed.proofs.Words.{range_with_len, option_or, get_other, get_same, get, without_message, Called, IsWellFormed}
 use Rattle.rk_inv_wellformed.proofs.Words.{is_added, with_client, IsFormedMessage, limits_of, MayHappen, MOST_CLIENTS, WORN_NUMBER}
 use Rattle.rk_inv_wellformed.proofs.Words.{comes_anyway, refusal, where_true, worn, IsCalmEvent, happened, sent_again, World}
@@ -12,7 +12,8 @@ use Rattle.rk_inv_wellformed.proofs.lanes.Ledgers.{formed_client}
 use Rattle.rk_inv_wellformed.proofs.lanes.Worlds.{wire_forgotten, HasClientsOf, SomeIsLeft, kept_with_crash, kept_with_ledger}
 use Rattle.rk_inv_wellformed.proofs.lanes.Worlds.{kept_with_wire, more_limits}
 use Rattle.rk_inv_wellformed.proofs.lanes.Works.{formed_losing, formed_sending_old, top_rises, formed_after_change, more_topped}
-use Rattle.rk_inv_wellformed.proofs.maps.{by_found, either_way}
+use Rattle.rk_inv_wellformed.proofs.maps.{by_found, either_way, range_within}
+use Rattle.std.proofs.lemmas.List.Folds.{Any-from_list_any}
 
 -- ---- what is not refused
 
@@ -56,17 +57,11 @@ pub record IsFresh (w : World) : Type 0 where
   pub bytes : bytes_of_logs w < WORN_BYTES
 
 pub not_worn : (w : World) → worn w ≡ None → IsFresh w
-not_worn w none = record {
-  number = not_too_great WORN_NUMBER w.top (no_first (too_great WORN_NUMBER w.top) (too_great WORN_BYTES (bytes_of_logs w)) none);
-  bytes = not_too_great WORN_BYTES (bytes_of_logs w) (no_second (too_great WORN_NUMBER w.top) (too_great WORN_BYTES (bytes_of_logs w)) none);
-}
+not_worn w none = grind (arith, not_too_great, no_first, too_great, bytes_of_logs, no_second)
 
 -- an event that is not refused comes in a lane that is not worn, unless it comes anyway
 pub comes_fresh : (w : World) (event : Event) → comes_anyway event ≡ false → refusal w event ≡ None → IsFresh w
-comes_fresh w event careful none = not_worn w
-    (no_inner StepError.Worn (worn w)
-    (no_first (option_map StepError.Worn (worn w)) (fault_of w event)
-    (subst (λ b. cond b (fault_of w event) (option_or (option_map StepError.Worn (worn w)) (fault_of w event)) ≡ None) careful none)))
+comes_fresh w event careful none = grind (arith, not_worn, no_inner, worn, no_first, fault_of)
 
 -- ---- a message is forgotten
 
@@ -81,10 +76,7 @@ formed_forgotten {w} number called formed =
 
 -- who was added before a client came is added then
 still_added : (w : World) (client : ℕ) → HasClientsOf (with_client w.ledger client) w.ledger
-still_added w client other added =
-    ⊎_elim (λ (is : other ≡ client). ap is_some (get_same w.ledger.clients client None other is))
-    (λ (apart : other ≡ client → ⊥). ap is_some (get_other w.ledger.clients client None other apart) ∙ added)
-    (cases_eq other client)
+still_added w client other added = grind (arith, get_same, get_other, cases_eq)
 
 -- it stays so when a client comes that is not refused
 pub formed_come : {w : World} (client : ℕ) (called : Called) → MayHappen w (Event.AddClient client) → refusal w (Event.AddClient client) ≡ None → IsWellFormed w → IsWellFormed (happened w (Event.AddClient client) called).world
@@ -104,36 +96,18 @@ formed_come {w} client called number none formed =
 
 -- ---- a master crashes
 
--- a number of a range that passes a test
-record PassesWithin (test : ℕ → Bool) (start count : ℕ) : Type 0 where
-  passing : ℕ
-  low : start ≤ passing
-  high : passing < start + count
-  passes : test passing ≡ true
-
--- there is one where a number of the range passes
-passes_within : (test : ℕ → Bool) (start count : ℕ) → list_any test (range_with_len start count) ≡ true → PassesWithin test start count
-passes_within test start zero some = absurd (cc some)
-passes_within test start (suc count) some =
-    elim (test start) as (λ b. test start ≡ b → (b || list_any test (range_with_len (start + 1) count)) ≡ true → PassesWithin test start (suc count)) [
-      | true ↦ λ is it. record { passing = start; low = omega arith; high = omega arith; passes = is }
-      | false ↦ λ is it.
-          let rest = passes_within test (start + 1) count it in
-          record { passing = rest.passing; low = omega arith; high = omega arith; passes = rest.passes }
-    ] refl some
-
 -- where another master lives, it is left once this one has crashed
 left_after : (w : World) (master : ℕ) → lives_another w master ≡ true → SomeIsLeft w.coordinator.masters (w.crashed ++ master ∷ [])
 left_after w master another =
-    let other = passes_within (λ other. lives w other && not (nat_eq other master)) 1 w.coordinator.masters another in
-    let parts = and_parts (lives w other.passing) (not (nat_eq other.passing master)) other.passes in
+    let numbers = range_with_len 1 w.coordinator.masters in
+    let (place, other, within, is, passes) = Any-from_list_any (λ other. lives w other && not (nat_eq other master)) numbers another in
+    let parts = and_parts (lives w other) (not (nat_eq other master)) passes in
     record {
-      master = other.passing;
-      there = omega (arith, other.low, other.high);
-      lives = list_any-append (λ dead. nat_eq dead other.passing) w.crashed (master ∷ [])
-          ∙ or_from (has_crashed w other.passing) (nat_eq master other.passing || false)
-          (not-true (has_crashed w other.passing) parts.0)
-          (or_from (nat_eq master other.passing) false (nat_eq_equiv.symm master other.passing ∙ not-true (nat_eq other.passing master) parts.1) refl);
+      master = other;
+      there = omega (arith, range_within 1 w.coordinator.masters place other within, is);
+      lives = list_any-append (λ dead. nat_eq dead other) w.crashed (master ∷ [])
+          ∙ or_from (has_crashed w other) (nat_eq master other || false) (not-true (has_crashed w other) parts.0)
+          (or_from (nat_eq master other) false (nat_eq_equiv.symm master other ∙ not-true (nat_eq other master) parts.1) refl);
     }
 
 -- it stays so when a master crashes while another one lives

@@ -20,10 +20,7 @@ formed_asks w session may before = go (ask w session) refl
     go : (asked : Result Visited StepError) → ask w session ≡ asked → IsFormedWithRoom (world_visited w asked)
     go (Ok visited) is =
         let room = room_ask session visited is before.formed before.room in
-        record {
-          formed = (formed_ask w session visited is may.0 may.1 room before.formed).world;
-          room = room;
-        }
+        record { formed = (formed_ask w session visited is may.0 may.1 room before.formed).world; room = room }
     go (Err error) is = before
 
 -- and when a client takes an answer

@@ -43,10 +43,6 @@ stamps_pushed journal placed greater are =
     not_above : (n last next : ℕ) → n ≤ last → last < next → n ≤ next
     not_above n last next below greater = omega arith
 
--- the record of a call has a greater stamp
-next_is_greater : (journal : List Placed) (call : Call) (outcome : Outcome) (seen : ℕ) → last_stamp journal < (next_record journal call outcome seen).stamp
-next_is_greater journal call outcome seen = omega arith
-
 -- the last stamp stays when a record is accepted
 last_accepted : (stamp : ℕ) (journal : List Placed) (place : ℕ) (placed : Placed) → slice_get journal place ≡ Some placed → last_stamp_from stamp (slice_set journal place (as_accepted placed)) ≡ last_stamp_from stamp journal
 last_accepted stamp [] place placed found = absurd (cc found)
@@ -89,8 +85,7 @@ module _ (limits : Limits) (base : Base) (lane : ℕ) where
 
   pub formed_recorded : {ledger : Ledger} (call : Call) (outcome : Outcome) (seen : ℕ) → IsFormedLedger limits base lane ledger → IsFormedLedger limits base lane (with_record ledger call outcome seen)
   formed_recorded {ledger} call outcome seen formed =
-      journaled (stamps_pushed ledger.journal (next_record ledger.journal call outcome seen)
-      (next_is_greater ledger.journal call outcome seen) (assumption formed)) formed
+      journaled (stamps_pushed ledger.journal (next_record ledger.journal call outcome seen) (omega arith) (assumption formed)) formed
 
   pub formed_marked : {ledger : Ledger} (marks : List Mark) → IsFormedLedger limits base lane ledger → IsFormedLedger limits base lane (record ledger { marks = marks })
   formed_marked marks formed = assumption

@@ -1,5 +1,5 @@
 -- What keeps to limits keeps to wider ones: a greater greatest number, and more clients.
-use Rattle.std.proofs.Common.{◌≡◌, ◌≤◌, ◌+◌, ℕ, List, All, Option, None, Some, refl, subst, arith, IfSome, length, flat_map, true}
+use Rattle.std.proofs.Common.{◌≡◌, ◌≤◌, ◌+◌, ℕ, List, All, Option, None, Some, refl, subst, arith, IfSome, length, flat_map}
 use Rattle.rk_inv_wellformed.proofs.Words.{All-weaker, each_weaker, Call, Ended, Held, Member, Node, entries_of, Entry, ends_of, Row}
 use Rattle.rk_inv_wellformed.proofs.Words.{Traffic, Request, Tenure, Body, Message, Coordinator, items_of, IsFormedCall}
 use Rattle.rk_inv_wellformed.proofs.Words.{IsFormedCoordinator, IsFormedGathered, IsFormedLedger, IsFormedMaster, IsFormedPulling}
@@ -61,11 +61,7 @@ module _ (a b : Limits) (more : IsMore a b) where
   more_all_held list all = All-weaker (IsFormedHeld a) (IsFormedHeld b) more_held list all
 
   pub more_entry : (entry : Entry) → IsFormedEntry a entry → IsFormedEntry b entry
-  more_entry (Entry.Held held) formed = more_held held formed
-  more_entry (Entry.Refused refused) formed = assumption (below_top _ formed.found, more.clients refused.client formed.client)
-  more_entry (Entry.Carried carried) formed =
-      assumption (below_top _ formed.term, below_top _ formed.floor, more_all_ends carried.ends formed.each)
-  more_entry (Entry.Joined joined) formed = assumption (below_top _ formed.term)
+  more_entry entry formed = grind (arith, more_held, below_top, more_all_ends)
 
   pub more_entries : (list : List Entry) → All (IsFormedEntry a) list → All (IsFormedEntry b) list
   more_entries list all = All-weaker (IsFormedEntry a) (IsFormedEntry b) more_entry list all
@@ -114,11 +110,7 @@ module _ (a b : Limits) (more : IsMore a b) where
   more_body from _ formed = formed
 
   pub more_message : (message : Message) → IsFormedMessage a message → IsFormedMessage b message
-  more_message message formed = assumption (
-    more_there message.from formed.from,
-    more_there message.to formed.to,
-    more_body message.from message.body formed.says,
-  )
+  more_message message formed = grind (arith, more_there, more_body)
 
   pub more_messages : (list : List Message) → All (IsFormedMessage a) list → All (IsFormedMessage b) list
   more_messages list all = All-weaker (IsFormedMessage a) (IsFormedMessage b) more_message list all
@@ -126,28 +118,14 @@ module _ (a b : Limits) (more : IsMore a b) where
   -- ---- masters
 
   pub more_gathered : (gathered : Gathered) → IsFormedGathered a gathered → IsFormedGathered b gathered
-  more_gathered gathered formed = assumption (
-    more_master_number gathered.member.master formed.member_is,
-    All-weaker (All (IsFormedEntry a)) (All (IsFormedEntry b)) more_entries gathered.main formed.main,
-    each_weaker (λ segment list. All (IsFormedEntry a) list) (λ segment list. All (IsFormedEntry b) list) gathered.sides
-        (λ segment list. more_entries list) formed.sides,
-  )
+  more_gathered gathered formed = grind (arith, more_master_number, more_entries, each_weaker)
 
   pub more_pulling : {pulling : Pulling} → IsFormedPulling a pulling → IsFormedPulling b pulling
   more_pulling {pulling} formed = assumption (more_all_held (flat_map (λ items. items) pulling.sides) formed.items)
 
   pub more_tablet : (number : ℕ) (tablet : Tablet) → IsFormedTablet a number tablet → IsFormedTablet b number tablet
   more_tablet number tablet formed =
-      let source : is_receiving tablet.handover.role ≡ true → IsMaster b.masters tablet.pulling.source =
-      λ receives. more_master_number tablet.pulling.source (formed.source receives) in
-      assumption (
-        more_number formed.term,
-        more_number formed.counter,
-        more_all_ends (ends_of tablet.completions) formed.ended,
-        more_pulling formed.pulled,
-        All-weaker (IsFormedGathered a) (IsFormedGathered b) more_gathered tablet.gather.members formed.gathered,
-        more_all_ends tablet.merged_ends formed.merged,
-      )
+      grind (arith, is_receiving, more_master_number, more_number, more_all_ends, ends_of, more_pulling, more_gathered)
 
   pub more_call : (count place : ℕ) (call : Call) → IsFormedCall a count place call → IsFormedCall b count place call
   more_call count place call formed = assumption (more.clients call.client formed.client)

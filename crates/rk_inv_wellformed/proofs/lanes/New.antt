@@ -1,11 +1,12 @@
 -- A new lane is well formed and has room, and a new session may act, also once it asked its next call.
-use Rattle.std.proofs.Common.{◌≡◌, ◌≤◌, ℕ, zero, suc, List, [], ◌∷◌, length, map, replicate, sum, All, Option, None, Some, refl, ap}
+use Rattle.std.proofs.Common.{◌≡◌, ◌≤◌, ℕ, List, [], ◌∷◌, map, replicate, sum, All, refl}
 use Rattle.std.proofs.Common.{subst, arith, w32, flat_map}
 use Rattle.rk_inv_wellformed.proofs.Words.{All-cons, All-map, All-nil, sum_by-cons, range_with_len, EachIn, IsInOrder, IsNumber}
 use Rattle.rk_inv_wellformed.proofs.Words.{IsInScanOrder, MOST_BACKUPS, Session, IsFormedMaster, IsWellFormed, Limits, limits_of, Master}
 use Rattle.rk_inv_wellformed.proofs.Words.{log_bytes, new_master, IsLawfulCall, MOST_MASTERS, MayAct, HasRoom, counters_of, Op, Known}
-use Rattle.rk_inv_wellformed.proofs.Words.{nothing, IsCached, HasRoomIn, All-replicate, LANES, busy, new_session, next_call}
+use Rattle.rk_inv_wellformed.proofs.Words.{nothing, HasRoomIn, All-replicate, busy, new_session, next_call}
 use Rattle.rk_inv_wellformed.proofs.Words.{session_calling, new_masters, new_world}
+use Rattle.std.proofs.lemmas.List.{length-replicate}
 use Rattle.std.specs.List.Sorted.{IsStrictlySortedBy}
 use Rattle.rk_inv_wellformed.proofs.maps.{all_flat, all_each, found_numbered, numbers_are, with_numbers}
 
@@ -14,10 +15,6 @@ use Rattle.rk_inv_wellformed.proofs.maps.{all_flat, all_each, found_numbered, nu
 -- nothing stands in an empty map
 nothing_in_it : {X : Type 0} (Fits : ℕ → X → Type 0) → EachIn Fits []
 nothing_in_it Fits number thing found = absurd (cc found)
-
-length_replicated : {X : Type 0} (count : ℕ) (thing : X) → length (replicate count thing) ≡ count
-length_replicated zero thing = refl
-length_replicated (suc count) thing = ap suc (length_replicated count thing)
 
 -- no items are in order
 none_in_order : IsInScanOrder []
@@ -28,19 +25,14 @@ none_in_order = tt
 no_bytes_in : (known : List Known) (list : List ℕ) → sum (map (λ entry. log_bytes entry.1) (with_numbers (λ number. new_master number known) list)) ≡ 0
 no_bytes_in known [] = refl
 no_bytes_in known (number ∷ list) =
-    let rest = no_bytes_in known list in
-    let whole = sum_by-cons (λ (n : ℕ). n) (log_bytes (new_master number known)) (map (λ entry. log_bytes entry.1) (with_numbers (λ number. new_master number known) list)) in
-    let first = none known number in
-    omega arith
-  where
-    none : (known : List Known) (number : ℕ) → log_bytes (new_master number known) ≡ 0
-    none known number = refl
+    let first : log_bytes (new_master number known) ≡ 0 = refl in
+    omega (arith, first, no_bytes_in known list, sum_by-cons (λ (n : ℕ). n) (log_bytes (new_master number known)) (map (λ entry. log_bytes entry.1) (with_numbers (λ number. new_master number known) list)))
 
 -- a new master is well formed
 pub new_is_formed : (limits : Limits) (number : ℕ) → IsFormedMaster limits number (new_master number (replicate limits.backups nothing))
 new_is_formed limits number = record {
   number_is = refl;
-  known = length_replicated limits.backups nothing;
+  known = length-replicate limits.backups nothing;
   lengths = All-replicate IsInOrder limits.backups nothing tt;
   written = All-nil _;
   spelled = refl;
@@ -66,13 +58,7 @@ module _ (lane masters backups : ℕ) where
     few_backups = few_backups;
     masters = λ number master found.
         subst (IsFormedMaster limits number) (found_numbered made (range_with_len 1 masters) number master found) (new_is_formed limits number);
-    coordinator = record {
-      map = tt;
-      rows = All-nil _;
-      noticed = All-nil _;
-      handed_order = tt;
-      handed = nothing_in_it _;
-    };
+    coordinator = record { map = tt; rows = All-nil _; noticed = All-nil _; handed_order = tt; handed = nothing_in_it _ };
     ledger = record {
       clients_order = tt;
       clients = nothing_in_it _;
@@ -119,29 +105,10 @@ module _ (lane masters backups : ℕ) where
 
 -- ---- a session
 
-no_ranges : (count : ℕ) → All (All (IsCached count)) (replicate LANES [])
-no_ranges count = All-replicate (All (IsCached count)) LANES [] (All-nil _)
-
 -- a new session may act
 pub new_may_act : (count client : ℕ) → IsNumber w32 1 client → MayAct count (new_session client)
-new_may_act count client number = record {
-  client = number;
-  call = tt;
-  own = tt;
-  seen = All-nil _;
-  cached = no_ranges count;
-}
+new_may_act count client number = grind arith
 
 -- and so may one that asks a lawful call, unless one is outstanding
 pub may_act_calling : (count : ℕ) (session : Session) (table : ℕ) (key : List ℕ) (op : Op) → IsLawfulCall (next_call session table key op) → MayAct count session → MayAct count (session_calling session table key op (busy session))
-may_act_calling count session table key op lawful may = go (busy session)
-  where
-    go : (outstanding : Option ℕ) → MayAct count (session_calling session table key op outstanding)
-    go None = record {
-      client = may.client;
-      call = lawful;
-      own = (refl, refl);
-      seen = may.seen;
-      cached = may.cached;
-    }
-    go (Some seq) = may
+may_act_calling count session table key op lawful may = grind (arith, busy, session_calling)

@@ -101,16 +101,11 @@ formed_added {w} tablet range master (number, lawful, there) none formed =
 
 -- ---- a tablet is split
 
--- the coordinator once it is split
-rows_may : {w : World} (tablet at new : ℕ) → IsNumber w32 1 new → refusal w (Event.Split tablet at new) ≡ None → IsWellFormed w
-    → (limits : Limits) → IsMore (limits_of w) limits → MayCoordinate limits w (rows_split w.coordinator tablet at new)
-rows_may {w} tablet at new number none formed = by_change (rows_split w.coordinator tablet at new) formed
-    (λ limits more old. formed_rows_split limits w.coordinator old tablet at new (split_allowed w tablet at new none) number)
-
 formed_split : (w : World) (tablet at new : ℕ) → IsNumber w32 1 new → refusal w (Event.Split tablet at new) ≡ None → IsWellFormed w → IsWellFormed (quietly (tablet_split w tablet at new)).world
 formed_split w tablet at new number none formed =
     let coordinator = rows_split w.coordinator tablet at new in
-    let may = rows_may tablet at new number none formed in
+    let may = by_change coordinator formed
+    (λ limits more old. formed_rows_split limits w.coordinator old tablet at new (split_allowed w tablet at new none) number) in
     split_is (λ now. IsWellFormed (quietly (with_coordinator now coordinator)).world) w (row_of w.coordinator.rows tablet) at new
     (formed_by_rows w coordinator formed may)
     (λ row owner from found is.

@@ -7,7 +7,7 @@ use Rattle.rk_inv_wellformed.proofs.Words.{Master, IsMaster, MOST_CLIENTS, fille
 use Rattle.rk_inv_wellformed.proofs.Words.{quietly, with_sends, worked_at, Worked, World, master_at, with_all_sent, with_coordinator}
 use Rattle.rk_inv_wellformed.proofs.Words.{with_ledger, with_master, with_top, ledger_after, All-nil, NumberMap, get, insert, Node}
 use Rattle.rk_inv_wellformed.proofs.Words.{Called, IsThere, backup_step, stored_after, delivered, delivered_to, log_bytes_of, seen_in}
-use Rattle.rk_inv_wellformed.proofs.Words.{master_step, has_crashed, is_backup, with_stored_by, owner_split, row_split, with_split, Phase}
+use Rattle.rk_inv_wellformed.proofs.Words.{master_step, has_crashed, is_backup, with_stored_by, owner_split, row_split, with_split}
 use Rattle.rk_inv_wellformed.proofs.Words.{Owned, Row, brought_by, limits_at, to_coordinator}
 use Rattle.rk_inv_wellformed.specs.Brought.{brought_in, brought_to}
 use Rattle.rk_inv_wellformed.proofs.lanes.Ledgers.{clients_rebuilt, clients_served, formed_ledger_after, formed_rebuilt}
@@ -53,12 +53,7 @@ pub split_is : (P : World → Type 0) (w : World) (found : Option Row) (at new :
     → ((row : Row) (master from : ℕ) → found ≡ Some row → row.phase ≡ Owned master from
     → P (with_master w master (with_split (master_at w master) row.tablet at new (row.term + 1))))
     → P (row_split w found at new)
-split_is P w found at new stays splits =
-    by_found (λ there. P (row_split w there at new)) found (λ none. stays) (λ row is. owner row row.phase refl is)
-  where
-    owner : (row : Row) (phase : Phase) → row.phase ≡ phase → found ≡ Some row → P (owner_split w row.tablet phase at new (row.term + 1))
-    owner row (Owned master from) is there = either_way P (has_crashed w master) stays (splits row master from there is)
-    owner row _ is there = stays
+split_is P w found at new stays splits = grind (arith, by_found, row_split, owner_split, either_way, has_crashed)
 
 -- a ledger with the same clients has the clients
 same_clients : (ledger later : Ledger) → later.clients ≡ ledger.clients → HasClientsOf later ledger
@@ -86,18 +81,13 @@ formed_losing {w} formed = formed_after_change w (more_topped w (with_top w).top
 
 -- ---- messages are sent
 
--- and when messages are sent that are well formed within the limits after it
-pub formed_sending_all : {w : World} (messages : List Message) → All (IsFormedMessage (limits_of (with_sends w messages).world)) messages → IsWellFormed w → IsWellFormed (with_sends w messages).world
-formed_sending_all {w} messages all formed =
-    let after = with_all_sent w messages in
-    formed_after_change after (more_topped w (with_top after).top (top_rises after)) (λ before. kept_with_all_sent _ w before messages all) formed
-
--- so it is with messages that are well formed within the limits before it
+-- and when messages are sent that are well formed
 pub formed_sending_old : {w : World} (messages : List Message) → All (IsFormedMessage (limits_of w)) messages → IsWellFormed w → IsWellFormed (with_sends w messages).world
 formed_sending_old {w} messages all formed =
     let after = with_all_sent w messages in
-    formed_sending_all messages
-    (more_messages (limits_of w) (limits_of (with_top after)) (more_topped w (with_top after).top (top_rises after)) messages all) formed
+    let more = more_topped w (with_top after).top (top_rises after) in
+    formed_after_change after more
+    (λ before. kept_with_all_sent _ w before messages (more_messages (limits_of w) (limits_of (with_top after)) more messages all)) formed
 
 -- ---- a master has worked
 
@@ -160,10 +150,6 @@ module _ (w : World) (number seen : ℕ) (worked : Worked) where
 
 -- ---- the coordinator has worked
 
--- a coordinator that may stand in a lane may where the limits are wider
-may_still : {w : World} {coordinator : Coordinator} {limits : Limits} → IsMore (limits_of w) limits → MayCoordinate (limits_of w) w coordinator → MayCoordinate limits w coordinator
-may_still {w} {limits} more may = assumption (more_coordinator (limits_of w) limits more may.formed)
-
 module _ (w : World) (coordinator : Coordinator) (rebuilt : Option Rebuilt) (sends : List Message) where
   -- the world with the coordinator and the ledger after it
   abbrev now_coordinated : World
@@ -191,7 +177,8 @@ module _ (w : World) (coordinator : Coordinator) (rebuilt : Option Rebuilt) (sen
   pub formed_coordinated_old : MayCoordinate (limits_of w) w coordinator → All (IsFormedMessage (limits_of w)) sends → IsWellFormed w → IsWellFormed after_coordinated
   formed_coordinated_old new all formed =
       let more = more_coordinated new.masters in
-      formed_coordinated (may_still more new) (more_messages (limits_of w) (limits_of after_coordinated) more sends all) formed
+      formed_coordinated (assumption (more_coordinator (limits_of w) (limits_of after_coordinated) more new.formed, new))
+      (more_messages (limits_of w) (limits_of after_coordinated) more sends all) formed
 
 -- ---- the coordinator changes, and a master may with it, as once a tablet was added or split
 

@@ -1,15 +1,16 @@
 -- A world that keeps to limits: what is well formed keeps to wider limits, and so do the changes of a lane, of its wire too; a world that
 -- keeps to the limits that its greatest number gives it is well formed.
-use Rattle.std.proofs.Common.{◌≡◌, ◌≤◌, ◌<◌, ℕ, suc, max, true, false, ◌||◌, List, [], ◌∷◌, ◌++◌, length, map, All, Option, Some, is_some}
-use Rattle.std.proofs.Common.{refl, sym, ap, subst, ◌∙◌, ⊎_elim, arith, nat_eq, unwrap_or, flat_map, length-append, ◌+◌, fold, None}
+use Rattle.std.proofs.Common.{◌≡◌, ◌≤◌, ◌<◌, ℕ, suc, max, true, false, List, [], ◌∷◌, ◌++◌, length, map, All, Option, Some, is_some}
+use Rattle.rk_inv_wellformed.proofs.Words.{length-map}
+use Rattle.std.proofs.Common.{refl, subst, ◌∙◌, arith, nat_eq, unwrap_or, flat_map, length-append, ◌+◌, fold, None}
 use Rattle.std.proofs.Common.{slice_get, w64}
 use Rattle.rk_inv_wellformed.proofs.Words.{All-push, All-weaker, list_any-append, list_any, range_with_len, each_insert, hash_of, EachIn}
-use Rattle.rk_inv_wellformed.proofs.Words.{NumberMap, get, numbers, is_among, is_covered, Row, MOST_BACKUPS, Traffic, Message}
+use Rattle.rk_inv_wellformed.proofs.Words.{get, numbers, is_among, is_covered, Row, MOST_BACKUPS, Traffic, Message}
 use Rattle.rk_inv_wellformed.proofs.Words.{Coordinator, IsFormedCoordinator, IsFormedLedger, IsFormedMaster, IsFormedWire, IsWellFormed}
 use Rattle.rk_inv_wellformed.proofs.Words.{MOST_BASE_CLIENTS, last_stamp, Ledger, is_added, seen_of, IsClient, IsFormedMessage, Limits}
 use Rattle.rk_inv_wellformed.proofs.Words.{limits_of, Master, log_bytes, new_master, IsMaster, MOST_MASTERS, MOST_CLIENTS, HasRoom}
 use Rattle.rk_inv_wellformed.proofs.Words.{MOST_NUMBER, World, counters_of, has_crashed, master_at, standing, with_all_sent}
-use Rattle.rk_inv_wellformed.proofs.Words.{with_coordinator, with_crash, with_ledger, with_master, with_top, with_wire, SomeLives}
+use Rattle.rk_inv_wellformed.proofs.Words.{with_coordinator, with_crash, with_ledger, with_master, with_top, with_wire}
 use Rattle.rk_inv_wellformed.proofs.Words.{greatest, each_weaker, MOST_BYTES, All-map, in_order_insert, Answer, Node, IsNumber}
 use Rattle.rk_inv_wellformed.proofs.Words.{IsLawfulBody, without_message, Body, IsFormedBody, filled, Served, each_less, in_order_remove}
 use Rattle.rk_inv_wellformed.proofs.Words.{remove_less, remove, Placed, with_message, Reply, cases_Bool, or_left, or_right, base_clients}
@@ -43,11 +44,7 @@ module _ (limits : Limits) where
 
   -- the wire after a message was forgotten
   pub wire_forgotten : {wire : Traffic} (number : ℕ) → IsFormedWire limits wire → IsFormedWire limits (without_message number wire)
-  wire_forgotten {wire} number formed = record {
-    order = in_order_remove wire.messages number formed.order;
-    numbered = each_less _ (remove wire.messages number) wire.messages (remove_less wire.messages number) formed.numbered;
-    each = each_less _ (remove wire.messages number) wire.messages (remove_less wire.messages number) formed.each;
-  }
+  wire_forgotten {wire} number formed = grind (arith, in_order_remove, each_less, remove, remove_less)
 
 -- ---- replies with stamps and places
 
@@ -90,24 +87,13 @@ module _ (journal : List Placed) (served : List Served) (are : AreStamps journal
 
   -- a message stays well formed when stamp and place are filled in
   pub formed_filled : (limits : Limits) (message : Message) → IsFormedMessage limits message → IsFormedMessage limits (filled journal served message)
-  formed_filled limits message formed = record {
-    from = formed.from;
-    to = formed.to;
-    lawful = lawful_body message.to message.body formed.lawful;
-    says = says_body limits message.from message.to message.body formed.says;
-  }
+  formed_filled limits message formed =
+      assumption (lawful_body message.to message.body formed.lawful, says_body limits message.from message.to message.body formed.says)
 
   -- and so do all messages
   pub all_filled : (limits : Limits) (messages : List Message) → All (IsFormedMessage limits) messages → All (IsFormedMessage limits) (map (filled journal served) messages)
   all_filled limits messages all = All-map (IsFormedMessage limits) (filled journal served) messages
-      (All-weaker (IsFormedMessage limits) (λ message. IsFormedMessage limits (filled journal served message)) (formed_filled limits) messages all)
-
--- ---- clients
-
--- a map has as many numbers as things
-length_numbers : {X : Type 0} (things : NumberMap X) → length (numbers things) ≡ length things
-length_numbers [] = refl
-length_numbers (first ∷ rest) = ap suc (length_numbers rest)
+      (λ place other within. formed_filled limits _ (all place other within))
 
 -- ---- limits
 
@@ -117,36 +103,16 @@ HasClientsOf later ledger = (client : ℕ) → is_added ledger client ≡ true �
 
 -- a client that was added is one of the lane's
 pub added_is_client : (w : World) (top client : ℕ) → is_added w.ledger client ≡ true → IsClient (limits_at w top) client
-added_is_client w top client added =
-    list_any-append (λ n. nat_eq n client) (numbers w.ledger.clients) (base_clients w.base)
-    ∙ or_left (is_among client (numbers w.ledger.clients)) (is_among client (base_clients w.base))
-    (among_numbers w.ledger.clients client ∙ added)
+added_is_client w top client added = grind (arith, list_any-append, nat_eq, numbers, base_clients, or_left, is_among, among_numbers)
 
 -- a lane's limits are wider with another coordinator of the same masters, a ledger that has its clients, and a greater greatest number
 pub more_limits : (w : World) (coordinator : Coordinator) (ledger : Ledger) (top : ℕ) → w.coordinator.masters ≡ coordinator.masters → HasClientsOf ledger w.ledger → w.top ≤ top → IsMore (limits_of w) (limits_at (with_ledger (with_coordinator w coordinator) ledger) top)
-more_limits w coordinator ledger top same has greater = record {
-  masters = same;
-  backups = refl;
-  top = greater;
-  clients = λ client known.
-      list_any-append (λ n. nat_eq n client) (numbers ledger.clients) (base_clients w.base) ∙ ⊎_elim
-      (λ (added : is_among client (numbers w.ledger.clients) ≡ true).
-      or_left (is_among client (numbers ledger.clients)) (is_among client (base_clients w.base))
-      (among_numbers ledger.clients client ∙ has client (sym (among_numbers w.ledger.clients client) ∙ added)))
-      (λ (stranger : is_among client (numbers w.ledger.clients) ≡ false).
-      or_right (is_among client (numbers ledger.clients)) (is_among client (base_clients w.base))
-      (ap (λ b. b || is_among client (base_clients w.base)) (sym stranger)
-      ∙ sym (list_any-append (λ n. nat_eq n client) (numbers w.ledger.clients) (base_clients w.base))
-      ∙ known))
-      (cases_Bool (is_among client (numbers w.ledger.clients)));
-}
+more_limits w coordinator ledger top same has greater =
+    grind (arith, list_any-append, nat_eq, numbers, base_clients, is_among, or_left, among_numbers, or_right, cases_Bool)
 
 -- these are limits that a lane may have, where there are few clients and the greatest number fits
 pub limits_with : (w : World) (coordinator : Coordinator) (ledger : Ledger) (top : ℕ) → w.coordinator.masters ≡ coordinator.masters → length ledger.clients ≤ MOST_CLIENTS → top < MOST_NUMBER → IsWellFormed w → AreLimits (limits_at (with_ledger (with_coordinator w coordinator) ledger) top)
-limits_with w coordinator ledger top same few room formed =
-    let clients : length (numbers ledger.clients ++ base_clients w.base) ≤ MOST_CLIENTS + MOST_BASE_CLIENTS =
-    omega (arith, few, formed.few_base_clients, length-append (numbers ledger.clients) (base_clients w.base), length_numbers ledger.clients) in
-    assumption (subst (λ (count : ℕ). count ≤ MOST_MASTERS) same formed.few_masters)
+limits_with w coordinator ledger top same few room formed = grind (arith, numbers, base_clients, length-append, length-map)
 
 -- a lane that is well formed and has room has limits that a lane may have
 pub formed_limits : (w : World) → IsWellFormed w → HasRoom w → AreLimits (limits_of w)
@@ -160,8 +126,7 @@ IsLimit limit w = All (λ number. number ≤ limit) (standing w)
 
 -- the greatest number of a lane once what stands is counted is such a limit
 pub top_is_limit : (w : World) → IsLimit (with_top w).top w
-top_is_limit w = All-weaker (λ n. n ≤ greatest (standing w)) (λ n. n ≤ max w.top (greatest (standing w)))
-    (λ n below. under n w.top (greatest (standing w)) below) (standing w) (below_greatest (standing w))
+top_is_limit w place other within = under _ w.top (greatest (standing w)) (below_greatest (standing w) place other within)
   where
     under : (n top greatest : ℕ) → n ≤ greatest → n ≤ max top greatest
     under n top greatest below = omega arith
@@ -262,11 +227,7 @@ formed_within {w} {limits} more formed =
 
 -- a world that keeps to the limits that it has is well formed, where its greatest number bounds what stands
 pub formed_standing : {w : World} → IsFormedWorld (limits_of w) w → IsLimit w.top w → IsWellFormed w
-formed_standing {w} kept standing =
-    let left : (master : ℕ) → has_crashed w master ≡ true → SomeLives w = λ master dead.
-    let some = kept.left master dead in
-    record { master = some.master; there = some.there; lives = some.lives } in
-    assumption
+formed_standing {w} kept standing = grind (arith, has_crashed)
 
 -- so is one that keeps to those that it has once what stands is counted
 pub formed_topped : {w : World} → IsFormedWorld (limits_of (with_top w)) w → IsWellFormed (with_top w)
@@ -291,16 +252,12 @@ pub record MayCoordinate (limits : Limits) (w : World) (coordinator : Coordinato
 -- rows that cover what was covered cover what the history starts from
 pub base_covered : {w : World} (rows : List Row) → Cover rows w.coordinator.rows → IsWellFormed w → CoversBase w rows
 base_covered {w} rows covers formed =
-    All-weaker (λ item. is_covered w.coordinator.rows item.table (hash_of item.key) ≡ true) (λ item. is_covered rows item.table (hash_of item.key) ≡ true)
-    (λ item covered. covers item.table (hash_of item.key) covered) w.base.items formed.base
+    λ place other within. covers _ _ (formed.base place other within)
 
 module _ (limits : Limits) (w : World) (coordinator : Coordinator) where
   -- so it may where it noticed no more masters than before, and covers what was covered
   pub may_coordinate : IsFormedCoordinator limits coordinator → w.coordinator.masters ≡ coordinator.masters → coordinator.noticed ≡ w.coordinator.noticed → Cover coordinator.rows w.coordinator.rows → IsWellFormed w → MayCoordinate limits w coordinator
-  may_coordinate new masters noticed covers formed = assumption (
-    subst (All (λ master. has_crashed w master ≡ true)) (sym noticed) formed.noticed,
-    base_covered coordinator.rows covers formed,
-  )
+  may_coordinate new masters noticed covers formed = grind (arith, has_crashed, base_covered)
 
 -- ---- changes of a world that keeps to limits
 

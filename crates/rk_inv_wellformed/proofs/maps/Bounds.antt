@@ -8,16 +8,13 @@ use Rattle.rk_inv_wellformed.proofs.maps.Maps.{each_from_pairs}
 
 start_below : (start : ℕ) (numbers : List ℕ) → start ≤ fold max start numbers
 start_below start [] = omega arith
-start_below start (first ∷ rest) =
-    let next = start_below (max start first) rest in
-    omega arith
+start_below start (first ∷ rest) = omega (arith, start_below (max start first) rest)
 
 each_below : (start : ℕ) (numbers : List ℕ) → All (λ n. n ≤ fold max start numbers) numbers
 each_below start [] = All-nil _
 each_below start (first ∷ rest) =
-    let next = start_below (max start first) rest in
-    let it : first ≤ fold max (max start first) rest = omega arith in
-    All-cons (λ n. n ≤ fold max (max start first) rest) first rest it (each_below (max start first) rest)
+    All-cons (λ n. n ≤ fold max (max start first) rest) first rest (omega (arith, start_below (max start first) rest))
+    (each_below (max start first) rest)
 
 -- no number is above the greatest
 pub below_greatest : (numbers : List ℕ) → All (λ n. n ≤ greatest numbers) numbers

@@ -1,10 +1,12 @@
 -- Lists: what holds of each element of a list stays so where the list is joined, parted, changed, found in or folded over.
 use Rattle.std.proofs.Common.{◌≡◌, ℕ, zero, suc, Bool, true, false, cond, List, [], ◌∷◌, ◌++◌, map, fold, All, Option, None, Some, IfSome}
 use Rattle.std.proofs.Common.{flat_map, refl, subst, find, slice_get, slice_index_or, arith, filter, length, length-append, ◌≤◌, ◌<◌, ◌+◌}
-use Rattle.std.proofs.Common.{sym, ◌∙◌}
-use Rattle.rk_inv_wellformed.proofs.Words.{All-append, All-cons, All-head, All-nil, All-tail, All-weaker, range_with_len}
+use Rattle.std.proofs.Common.{sym, ◌∙◌, not}
+use Rattle.rk_inv_wellformed.proofs.Words.{All-append, All-cons, All-head, All-nil, All-tail, range_with_len}
 use Rattle.std.proofs.lemmas.Option.{get_or_from_slice_get, slice_get_within}
+use Rattle.std.proofs.lemmas.List.Filters.{length-filter_both}
 use Rattle.std.proofs.lemmas.List.Folds.{find_at}
+use Rattle.std.proofs.lemmas.List.FromFn.{get_or-range_with_len, length-range_with_len}
 use Rattle.std.specs.List.{position_or_len}
 
 -- ---- one of two
@@ -77,18 +79,13 @@ find_passes {X} p (y ∷ ys) x found =
 
 -- what passes a test are no more than all
 pub filter_few : {X : Type 0} (p : X → Bool) (xs : List X) → length (filter p xs) ≤ length xs
-filter_few p [] = omega arith
-filter_few {X} p (x ∷ xs) =
-    let rest = filter_few p xs in
-    either_way (λ (kept : List X). length kept ≤ length (x ∷ xs)) (p x) (omega arith) (omega arith)
+filter_few p xs = omega (arith, length-filter_both p (λ x. not (p x)) (λ x. refl) xs)
 
 -- numbers that count up from one on are at least that, and below the one behind the last
 pub range_within : (start count : ℕ) → All (λ n. (start ≤ n) × (n < start + count)) (range_with_len start count)
-range_within start zero = All-nil (λ n. (start ≤ n) × (n < start + 0))
-range_within start (suc count) =
-    All-cons (λ n. (start ≤ n) × (n < start + suc count)) start (range_with_len (start + 1) count) (omega arith)
-    (All-weaker (λ n. (start + 1 ≤ n) × (n < start + 1 + count)) (λ n. (start ≤ n) × (n < start + suc count))
-    (λ n within. omega (arith, within)) (range_with_len (start + 1) count) (range_within (start + 1) count))
+range_within start count place other within =
+    let below : place < count = omega (arith, within, length-range_with_len start count) in
+    omega (arith, below, get_or-range_with_len start count place other below)
 
 -- what each step of a fold keeps, the fold keeps
 pub fold_keeps : {A B : Type 0} (P : B → Type 0) (f : B → A → B) (xs : List A) (b : B) → P b → ((b : B) (a : A) → P b → P (f b a)) → P (fold f b xs)
@@ -127,6 +124,5 @@ few_rising number Rise behind least most [] rise some low high = omega arith
 few_rising number Rise behind least most (x ∷ xs) rise some low high =
     let from = All-head (λ x. least ≤ number x) x xs low in
     let to = All-head (λ x. number x < most) x xs high in
-    let later = behind x xs rise in
-    let rest = few_rising number Rise behind (number x + 1) most xs later.1 (omega arith) later.0 (All-tail (λ x. number x < most) x xs high) in
-    omega arith
+    let (above, later) = behind x xs rise in
+    omega (arith, few_rising number Rise behind (number x + 1) most xs later (omega arith) above (All-tail (λ x. number x < most) x xs high))

@@ -15,10 +15,7 @@ size_found size (Some thing) = size thing
 -- nothing is under a number that is below all
 none_below : {X : Type 0} (size : X → ℕ) (n : ℕ) (things : NumberMap X) → T (below_all nat_cmp n things) → (q : ℕ) → q ≤ n → (found : Option X)
     → get things q ≡ found → size_found size found ≡ 0
-none_below size n things below q up None is = refl
-none_below size n things below q up (Some thing) is =
-    let above = above_all n things q thing below is in
-    absurd (omega arith)
+none_below size n things below q up found is = grind (arith, above_all)
 
 -- a thing under a number counts in place of what was there
 pub sum_inserted : {X : Type 0} (size : X → ℕ) (things : NumberMap X) (number : ℕ) (thing : X) → IsInOrder things

@@ -25,12 +25,7 @@ second false b p = absurd p
 
 -- what the answer that the first number is less means
 pub is_below : (x y : ℕ) → T (is_lt (nat_cmp x y)) → x < y
-is_below x y h =
-    elim (nat_cmp x y) as (λ r. nat_cmp x y ≡ r → T (is_lt r) → x < y) [
-      | Less ↦ λ e _. ranked x y Less (sym e)
-      | Equal ↦ λ _ p. absurd p
-      | Greater ↦ λ _ p. absurd p
-    ] refl h
+is_below x y h = grind (arith, nat_cmp, is_lt, ranked)
 
 module _ {X : Type 0} where
   -- a number that is found is above one that is below all
@@ -51,10 +46,7 @@ module _ {X : Type 0} where
   -- and what is found behind it is found
   pub get_later : (thing : ℕ × X) (things : NumberMap X) (q : ℕ) (x : X) → IsInOrder (thing ∷ things) → get things q ≡ Some x
       → get (thing ∷ things) q ≡ Some x
-  get_later thing things q x order found =
-      let above : thing.0 < q = above_all thing.0 things q x (first (below_all nat_cmp thing.0 things) _ order) found in
-      cond-false (eq_by_cmp nat_cmp q thing.0) (Some thing.1) (get things q)
-      (unsigned_tied q thing.0 ∙ ne_eqb q thing.0 (λ (is : q ≡ thing.0). omega arith)) ∙ found
+  get_later thing things q x order found = grind (arith, above_all, first, below_all, nat_cmp, cond-false, eq_by_cmp, unsigned_tied, ne_eqb)
 
   -- what stands behind the first pair of a map in order is in order
   pub order_tail : (thing : ℕ × X) (things : NumberMap X) → IsInOrder (thing ∷ things) → IsInOrder things
@@ -143,10 +135,7 @@ found_changed {X = X} {Y = Y} change (first ∷ rest) q =
 
 -- each thing has its property after a change that gives it
 pub each_changed : {X Y : Type 0} (Fits : ℕ → X → Type 0) (Gives : ℕ → Y → Type 0) (change : ℕ → X → Y) → ((number : ℕ) (thing : X) → Fits number thing → Gives number (change number thing)) → (things : NumberMap X) → EachIn Fits things → EachIn Gives (changed_each change things)
-each_changed {X = X} {Y = Y} Fits Gives change gives things each q y found = by_found (λ there. option_map (change q) there ≡ Some y → Gives q y)
-    (get things q) (λ is none. absurd (cc none))
-    (λ x there is. let same : change q x ≡ y = cc is in subst (Gives q) same (gives q x (each q x there)))
-    (sym (found_changed change things q) ∙ found)
+each_changed {X = X} {Y = Y} holds also change gives things each q y found = grind (arith, by_found, found_changed)
 
 -- and so has each pair after a change that keeps it
 pub all_changed : {X : Type 0} (P : X → Type 0) (change : ℕ → X → X) → ((number : ℕ) (thing : X) → P thing → P (change number thing))

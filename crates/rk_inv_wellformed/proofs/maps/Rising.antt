@@ -23,10 +23,7 @@ client_among (end ∷ list) clients client all is =
 
 -- ends of distinct clients that are all among some clients are no more than these
 pub once_few : (list : List Ended) (clients : List ℕ) → AreOfDistinctClients list → All (λ end. is_among end.client clients ≡ true) list → length list ≤ length clients
-once_few list clients once all =
-    let few = length-le_from_is_member nat_eq_equiv (map (λ end. end.client) list) clients once (λ client. client_among list clients client all) in
-    let count = length-map list (λ end. end.client) in
-    omega arith
+once_few list clients once all = grind (arith, length-map, length-le_from_is_member, nat_eq_equiv, client_among)
 
 -- ---- ends that rise
 

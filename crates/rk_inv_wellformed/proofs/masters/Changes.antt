@@ -1,17 +1,17 @@
 -- Small changes of a master, and what they leave well formed: of its tablets, its calls, its log and its records; what a tablet waits for goes
 -- on, as it freezes or the closing entry of a target is appended; and the tablets that a master gives up.
 use Rattle.std.proofs.Common.{◌≡◌, ◌≤◌, ◌<◌, ◌+◌, ◌-◌, ℕ, All, List, [], ◌∷◌, ◌++◌, length, flat_map, filter, not, sym, ap, subst, ◌∙◌}
-use Rattle.std.proofs.Common.{⊎_elim, arith, length-append, length-set, ◌==◌, ◌&&◌, Bool, false, true, cond, if◌then◌else◌, refl, w32}
+use Rattle.std.proofs.Common.{arith, length-append, length-set, ◌==◌, ◌&&◌, Bool, false, true, cond, if◌then◌else◌, refl, w32}
 use Rattle.std.proofs.Common.{unwrap_or, Option, None, Some, nat_lt}
-use Rattle.rk_inv_wellformed.proofs.Words.{flat_map-append, get_or_past, All-get_or, cases_lt, cond_both, All-append, All-cons}
-use Rattle.rk_inv_wellformed.proofs.Words.{All-filter, All-nil, All-push, All-set, each_insert, each_weaker, in_order_insert, EachIn}
+use Rattle.rk_inv_wellformed.proofs.Words.{flat_map-append, get_or_past, cases_lt, cond_both, All-append, All-cons}
+use Rattle.rk_inv_wellformed.proofs.Words.{All-filter, All-nil, All-push, All-set, each_insert, in_order_insert, EachIn}
 use Rattle.rk_inv_wellformed.proofs.Words.{IsInOrder, NumberMap, insert, Call, Held, Range, spelled_all, Entry, IsInScanOrder}
 use Rattle.rk_inv_wellformed.proofs.Words.{IsFormedCall, IsFormedMaster, IsFormedSide, IsFormedTablet, side_waits, side_waits_of}
 use Rattle.rk_inv_wellformed.proofs.Words.{IsFormedEntry, IsFormedHeld, Limits, Master, tablet_at, with_all, with_appended, with_item}
 use Rattle.rk_inv_wellformed.proofs.Words.{with_known, with_side_segment, with_tablet, without_items, as_entries, with_staged, Tablet}
 use Rattle.rk_inv_wellformed.proofs.Words.{nothing, known_of, in_order_changed, changed_each, get, meets, IsNumber, Handover, given_up}
 use Rattle.rk_inv_wellformed.proofs.Words.{with_others_given_up, is_absent, no_tablet, with_handover, without_merged, Role, IsFormedEnd}
-use Rattle.rk_inv_wellformed.proofs.Words.{IsFormedGathered, recursion_from_All, spelled_count, spelled, FIRST_SIDE_SEGMENT, frozen}
+use Rattle.rk_inv_wellformed.proofs.Words.{IsFormedGathered, recursion_from_All, spelled_count, frozen}
 use Rattle.rk_inv_wellformed.proofs.Words.{in_role, joined, role_frozen, role_joined, all_going_on, closing_entry, freezing, going_on_in}
 use Rattle.rk_inv_wellformed.proofs.Words.{is_sealed_stored, joined_entry, is_settled, joining_at, role_closed, role_granted, role_owned}
 use Rattle.rk_inv_wellformed.proofs.Words.{role_released, map-append, order_after, order_without, is_in, with_newer, without, is_before}
@@ -58,13 +58,6 @@ formed_with_calls calls formed order each = assumption
 
 -- ---- the log
 
--- a place of a log is one of a longer log
-call_later : (limits : Limits) (count more place : ℕ) (call : Call) → count ≤ more → IsFormedCall limits count place call
-    → IsFormedCall limits more place call
-call_later limits count more place call longer formed =
-    let within : place < more = omega (arith, formed.within) in
-    assumption
-
 -- one more entry makes a log longer
 longer_by : (entries : List Entry) (entry : Entry) → length entries + 1 ≡ length (entries ++ entry ∷ [])
 longer_by entries entry = omega (arith, length-append entries (entry ∷ []))
@@ -74,12 +67,11 @@ pub formed_with_appended : {limits : Limits} {number : ℕ} {master : Master} (e
     → IsFormedEntry limits entry → IsFormedMaster limits number (with_appended master entry)
 formed_with_appended {limits} {master} entry formed new =
     let applied : master.applied ≤ length (master.log.entries ++ entry ∷ []) = omega (arith, formed.applied, longer_by master.log.entries entry) in
-    assumption (
-      All-push (IsFormedEntry limits) master.log.entries entry formed.written new,
-      each_weaker (IsFormedCall limits (length master.log.entries)) (IsFormedCall limits (length (master.log.entries ++ entry ∷ []))) master.calls
-          (λ place call. call_later limits (length master.log.entries) (length (master.log.entries ++ entry ∷ [])) place call (omega (arith, longer_by master.log.entries entry)))
-          formed.calls,
-    )
+    let calls : EachIn (IsFormedCall limits (length (master.log.entries ++ entry ∷ []))) master.calls = λ place call found.
+    let waits = formed.calls place call found in
+    let within : place < length (master.log.entries ++ entry ∷ []) = omega (arith, waits.within, longer_by master.log.entries entry) in
+    assumption waits in
+    assumption (All-push (IsFormedEntry limits) master.log.entries entry formed.written new)
 
 -- entries are put at the end of the log, one after the other
 pub formed_with_all : {limits : Limits} {number : ℕ} (entries : List Entry) {master : Master} → IsFormedMaster limits number master
@@ -101,11 +93,7 @@ formed_with_staged {limits} {master} {call} entry formed waits new =
 -- what a backup is known to hold stays in order
 known_order : {limits : Limits} {number : ℕ} {master : Master} (backup segment size : ℕ) → IsFormedMaster limits number master
     → IsInOrder (told (known_of master.log backup) segment size)
-known_order {master} backup segment size formed = told_in_order (known_of master.log backup) segment size
-    (⊎_elim
-    (λ (within : backup - 1 < length master.log.known). All-get_or IsInOrder master.log.known (backup - 1) nothing within formed.lengths)
-    (λ (past : length master.log.known ≤ backup - 1). subst IsInOrder (sym (get_or_past master.log.known (backup - 1) nothing past)) tt)
-    (cases_lt (backup - 1) (length master.log.known)))
+known_order {master} backup segment size formed = grind (arith, told_in_order, known_of, nothing, get_or_past, cases_lt)
 
 -- a backup told that it holds so many bytes of a segment
 pub formed_with_known : {limits : Limits} {number : ℕ} {master : Master} (backup segment size : ℕ) → IsFormedMaster limits number master
@@ -178,14 +166,8 @@ formed_moved {limits} {tablet} {handover} is new rest =
 
 -- a tablet that is given up
 formed_given_up : {limits : Limits} {number : ℕ} {tablet : Tablet} → IsFormedTablet limits number tablet → IsFormedTablet limits number (given_up tablet)
-formed_given_up {limits} {tablet} formed = formed_tablet (given_up tablet) formed.number_is
-    (formed_in_role Role.Absent Role.Absent refl refl refl (handover_of formed))
-    (assumption (
-      formed_pulling_from limits tablet.pulling.source,
-      All-nil (IsFormedGathered limits),
-      All-nil (IsFormedEnd limits),
-      none_twice,
-    ))
+formed_given_up {limits} {tablet} formed =
+    grind (arith, formed_tablet, given_up, formed_in_role, handover_of, formed_pulling_from, none_twice)
 
 -- whether a tablet is another one than this, and its range meets this one
 abbrev is_met : ℕ → Range → ℕ → Tablet → Bool
@@ -223,10 +205,7 @@ pub record IsAfter (role r after : Role) : Type 0 where
 
 -- after a close
 pub after_close : (role r : Role) → role_closed role ≡ Some r → IsAfter role r Role.Closing
-after_close Role.Serving r is = record { now = cc is; there = refl }
-after_close (Role.Joining entry) r is = record { now = cc is; there = refl }
-after_close (Role.Rebuilding from entry) r is = record { now = cc is; there = refl }
-after_close _ r is = absurd (cc is)
+after_close role r is = grind arith
 
 -- after a freeze
 after_freeze : (role r : Role) → role_frozen role ≡ Some r → IsAfter role r Role.Frozen
@@ -291,26 +270,14 @@ module _ (P : Master → Type 0) (master : Master) (id : ℕ) (tablet : Tablet) 
       → (role ≡ Role.Joining None → (r : Role) → r ≡ Role.Joining (Some (length master.log.entries))
       → P (closing_appended master id tablet (record tablet.handover { role = r })))
       → P (going_on_in master id tablet role)
-  going_on_in_is Role.Closing freezes closes = freezing_is tablet.handover tablet.handover.term freezes
-  going_on_in_is (Role.Joining None) freezes closes =
-      either_way P (is_sealed_stored master tablet) (closing_is (length master.log.entries) (closes refl)) stays
-  going_on_in_is _ freezes closes = stays
+  going_on_in_is role freezes closes = grind (arith, freezing_is, either_way, is_sealed_stored, closing_is)
 
 -- ---- a master stays well formed
 
 -- the entry that closes the role of a target, where it fits a segment
 formed_joined_entry : {limits : Limits} {number : ℕ} {tablet : Tablet} → AreLimits limits → IsFormedTablet limits number tablet
     → FitsSegment (joined_entry tablet) → IsFormedEntry limits (joined_entry tablet)
-formed_joined_entry {tablet} are formed fits = record {
-  lawful = record {
-    range = formed.range;
-    term = counted_fits are formed.term;
-    few = omega (arith, fits, spelled_count (joined_entry tablet));
-    each = recursion_from_All (IsNumber w32 FIRST_SIDE_SEGMENT) tablet.pulling.sealed formed.pulled.sealed.each;
-    distinct = formed.pulled.sealed.distinct;
-  };
-  term = formed.term.last;
-}
+formed_joined_entry {tablet} are formed fits = grind (arith, counted_fits, spelled_count, joined_entry, recursion_from_All, w32)
 
 -- a tablet is frozen
 pub formed_frozen : {limits : Limits} {number : ℕ} {master : Master} {id : ℕ} {tablet : Tablet} {handover : Handover} (r : Role) → r ≡ Role.Frozen

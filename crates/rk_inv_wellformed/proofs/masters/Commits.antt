@@ -1,17 +1,17 @@
 -- What a master makes of what a backup tells is well formed: what every backup holds by then is applied, and what waited goes on.
-use Rattle.std.proofs.Common.{◌≡◌, ◌≤◌, ◌<◌, ◌+◌, ℕ, Bool, true, false, cond, not, ◌&&◌, All, List, [], ◌∷◌, length, take, Option, None}
+use Rattle.std.proofs.Common.{◌≡◌, ◌≤◌, ◌<◌, ◌+◌, ℕ, not, ◌&&◌, All, List, [], ◌∷◌, length, take, Option, None}
 use Rattle.std.proofs.Common.{Some, refl, sym, ap, subst, arith, length-drop, length-take, IfSome}
-use Rattle.rk_inv_wellformed.proofs.Words.{All-take, cond_both, All-cons, All-drop, All-head, All-nil, All-tail, in_order_changed}
+use Rattle.rk_inv_wellformed.proofs.Words.{All-take, cond_both, All-drop, All-head, All-tail, in_order_changed}
 use Rattle.rk_inv_wellformed.proofs.Words.{NumberMap, changed_each, get, Call, Ended, Held, Entry, Overreach, Stored, apply_entries}
 use Rattle.rk_inv_wellformed.proofs.Words.{apply_entry, newly_held, noting, stored_taken, with_applied, with_ended, with_entry_item}
 use Rattle.rk_inv_wellformed.proofs.Words.{with_noted, outcome_of, told_by, IsFormedCall, IsFormedMaster, IsFormedTablet, side_waits}
 use Rattle.rk_inv_wellformed.proofs.Words.{side_waits_of, IsFormedEnd, IsFormedEntry, IsFormedHeld, Limits, Master, with_known, IsMaster}
 use Rattle.rk_inv_wellformed.proofs.Words.{has_key, is_absent, Tablet, all_going_on, changed, each_less, in_order_remove, remove_less}
-use Rattle.rk_inv_wellformed.proofs.Words.{remove, Refused, committed, Answer, End, ended_call, without_call, end_of_item, item_end}
+use Rattle.rk_inv_wellformed.proofs.Words.{remove, Refused, committed, Answer, ended_call, without_call, end_of_item, item_end}
 use Rattle.rk_inv_wellformed.proofs.Words.{refusal_end, IsFormedRefused}
 use Rattle.rk_inv_wellformed.proofs.masters.Work.{formed_answering, AreLimits, IsFormedWork, WorkFits, formed_changed, formed_more}
 use Rattle.rk_inv_wellformed.proofs.masters.Work.{formed_then, formed_told}
-use Rattle.rk_inv_wellformed.proofs.maps.{either_way, All_pairs, each_changed, found_each}
+use Rattle.rk_inv_wellformed.proofs.maps.{by_found, either_way, All_pairs, each_changed, found_each}
 use Rattle.rk_inv_wellformed.proofs.masters.Changes.{formed_with_calls, formed_with_item, formed_with_known, formed_with_tablets}
 use Rattle.rk_inv_wellformed.proofs.masters.Changes.{formed_going_on}
 use Rattle.rk_inv_wellformed.proofs.masters.Requests.{outcome_told}
@@ -21,28 +21,17 @@ use Rattle.rk_inv_wellformed.proofs.masters.Tablets.{formed_noting, waits_change
 
 -- how the call that left an item ended
 pub item_end_formed : {limits : Limits} {held : Held} → IsFormedHeld limits held → IsFormedEnd limits (item_end held)
-item_end_formed {limits} {held} formed = by_value held.value
-  where
-    by_value : (value : Option (List ℕ)) → IsFormedEnd limits (record (item_end held) { end = end_of_item held.version value })
-    by_value None = record { lawful = assumption formed.lawful; version = formed.version; client = formed.client }
-    by_value (Some value) = record { lawful = assumption formed.lawful; version = formed.version; client = formed.client }
+item_end_formed {limits} {held} formed =
+    by_found (λ value. IsFormedEnd limits (record (item_end held) { end = end_of_item held.version value })) held.value
+    (λ none. assumption formed) (λ value is. assumption formed)
 
 -- how a refused call ended
 pub refusal_end_formed : {limits : Limits} {refused : Refused} → IsFormedRefused limits refused → IsFormedEnd limits (refusal_end refused)
-refusal_end_formed {limits} {refused} formed = by_value refused.absent
-  where
-    by_value : (absent : Bool) → IsFormedEnd limits (record (refusal_end refused) { end = cond absent End.Absent (End.Mismatch refused.found) })
-    by_value true = record { lawful = assumption formed.lawful; version = omega arith; client = formed.client }
-    by_value false = record { lawful = assumption formed.lawful; version = formed.found; client = formed.client }
+refusal_end_formed {limits} {refused} formed = grind (arith, either_way, refusal_end)
 
 -- the ends that a well formed entry tells
 pub told_formed : (limits : Limits) (entry : Entry) → IsFormedEntry limits entry → All (IsFormedEnd limits) (told_by entry)
-told_formed limits (Entry.Held held) formed =
-    All-cons (IsFormedEnd limits) (item_end held) [] (item_end_formed formed) (All-nil (IsFormedEnd limits))
-told_formed limits (Entry.Refused refused) formed =
-    All-cons (IsFormedEnd limits) (refusal_end refused) [] (refusal_end_formed formed) (All-nil (IsFormedEnd limits))
-told_formed limits (Entry.Carried carried) formed = formed.each
-told_formed limits (Entry.Joined joined) formed = All-nil (IsFormedEnd limits)
+told_formed limits entry formed = grind (arith, item_end, item_end_formed, refusal_end, refusal_end_formed)
 
 -- ---- small changes of a commit
 
@@ -75,12 +64,6 @@ formed_without_call {limits} {master} place formed = formed_with_calls (remove m
     (in_order_remove master.calls place formed.calls_order) (each_less (IsFormedCall limits (length master.log.entries))
     (remove master.calls place) master.calls (remove_less master.calls place) formed.calls)
 
--- a tablet that may note the end of a call
-formed_may_note : {limits : Limits} {number : ℕ} {tablet : Tablet} (call : Call) {end : Ended} → IsFormedEnd limits end
-    → IsFormedTablet limits number tablet → IsFormedTablet limits number (noting call end tablet)
-formed_may_note {limits} {number} call new formed =
-    cond_both _ _ _ (IsFormedTablet limits number) (λ notes. formed_noting formed new) (λ other. formed)
-
 -- it waits for as many side segments
 noting_waits : (call : Call) (end : Ended) (tablet : Tablet) → side_waits_of (noting call end tablet) ≤ side_waits_of tablet
 noting_waits call end tablet = either_way (λ (now : Tablet). side_waits_of now ≤ side_waits_of tablet)
@@ -100,7 +83,8 @@ formed_with_noted {limits} {number} {master} call {end} formed new =
     formed_with_tablets (changed_each (λ number tablet. noting call end tablet) master.tablets) formed
     (in_order_changed (λ number tablet. noting call end tablet) master.tablets formed.tablets_order)
     (each_changed (IsFormedTablet limits) (IsFormedTablet limits) (λ number tablet. noting call end tablet)
-    (λ id tablet there. formed_may_note call new there) master.tablets formed.tablets)
+    (λ id tablet there. cond_both _ _ _ (IsFormedTablet limits id) (λ notes. formed_noting there new) (λ other. there))
+    master.tablets formed.tablets)
     (omega (arith, formed.waited, noted_waits call end master.tablets))
 
 -- ---- entries that are applied

@@ -1,8 +1,8 @@
 -- Handing a tablet over leaves a master well formed, and what it says of it is.
-use Rattle.std.proofs.Common.{◌≡◌, ◌≤◌, ◌==◌, ◌&&◌, ℕ, false, true, nat_lt, List, [], All, length, refl, ap, subst, sym, arith, w64, ◌+◌}
-use Rattle.rk_inv_wellformed.proofs.Words.{cond_both, All-nil, All-weaker, recursion_from_All, AllByRecursion, IsInOrder, Ended, Range}
+use Rattle.std.proofs.Common.{◌≡◌, ◌≤◌, ◌==◌, ℕ, false, true, nat_lt, List, [], All, length, refl, ap, subst, sym, arith, w64, ◌+◌}
+use Rattle.rk_inv_wellformed.proofs.Words.{cond_both, All-nil, recursion_from_All, AllByRecursion, IsInOrder, Ended, Range}
 use Rattle.rk_inv_wellformed.proofs.Words.{IsLawfulEnd, IsLawfulRange, IsNumber, Completions, ends_of, closed, role_granted, Handover}
-use Rattle.rk_inv_wellformed.proofs.Words.{Role, Grant, Prepare, Tenure, IsFormedMaster, IsFormedTablet, place_in, IsClient, IsFormedEnd}
+use Rattle.rk_inv_wellformed.proofs.Words.{Role, Grant, Prepare, Tenure, IsFormedMaster, IsFormedTablet, place_in, IsFormedEnd}
 use Rattle.rk_inv_wellformed.proofs.Words.{IsFormedEnds, IsFormedEntry, IsFormedGrant, IsFormedMessage, IsFormedNumber, IsFormedTenure}
 use Rattle.rk_inv_wellformed.proofs.Words.{Limits, Master, tablet_at, without_items, IsMaster, is_absent, is_receiving, Tablet}
 use Rattle.rk_inv_wellformed.proofs.Words.{with_handover, without_merged, role_closed, role_owned, role_released, Node, IsFormedGathered}
@@ -83,25 +83,18 @@ module _ (limits : Limits) (number : ℕ) (master : Master) (prepare : Prepare) 
 -- the last ends of completions in order
 pub ends_are_formed : (limits : Limits) (completions : Completions) → IsInOrder completions → All (IsFormedEnd limits) (ends_of completions)
     → IsFormedEnds limits (ends_of completions)
-ends_are_formed limits completions order ended = record {
-  each = ended;
-  rising = ends_rise completions order
-      (All-weaker (IsFormedEnd limits) (λ end. 1 ≤ end.client) (λ end fits. fits.lawful.client.least_is) (ends_of completions) ended);
-}
+ends_are_formed limits completions order ended =
+    record { each = ended; rising = ends_rise completions order (λ place other within. (ended place other within).lawful.client.least_is) }
 
 -- ends of the lane's clients are lawful
 pub ends_are_lawful : (limits : Limits) (list : List Ended) → All (IsFormedEnd limits) list → AllByRecursion IsLawfulEnd list
 ends_are_lawful limits list each =
-    recursion_from_All IsLawfulEnd list (All-weaker (IsFormedEnd limits) IsLawfulEnd (λ end fits. fits.lawful) list each)
+    recursion_from_All IsLawfulEnd list (λ place other within. (each place other within).lawful)
 
 -- the last ends of clients are no more than the clients
 pub formed_ends_few : {limits : Limits} (list : List Ended) → AreLimits limits → IsFormedEnds limits list → length list ≤ MOST_CLIENTS + MOST_BASE_CLIENTS
-formed_ends_few {limits} list are told = omega (
-  arith,
-  are.clients,
-  rising_within list limits.clients told.rising
-      (All-weaker (IsFormedEnd limits) (λ end. IsClient limits end.client) (λ end fits. fits.client) list told.each),
-)
+formed_ends_few {limits} list are told =
+    omega (arith, are.clients, rising_within list limits.clients told.rising (λ place other within. (told.each place other within).client))
 
 module _ (limits : Limits) (number : ℕ) (master : Master) (tenure : Tenure) (told : IsFormedTenure limits tenure) (formed : IsFormedMaster limits number master) where
   abbrev it : Tablet
@@ -200,10 +193,7 @@ module _ (limits : Limits) (number : ℕ) (master : Master) (grant : Grant) wher
   -- the handover of a target that is granted its tablet
   pub granted_is_formed : (role : Role) → role ≡ Role.Receiving → IsFormedGrant limits grant → IsFormedTablet limits grant.tenure.tablet target
       → IsFormedHandover limits grant.source (record target.handover { counter = grant.floor; role = role })
-  granted_is_formed role is told old =
-      let place : IsNumber w64 0 (place_in role) = subst (λ r. IsNumber w64 0 (place_in r)) (sym is) (omega arith) in
-      let source_is : is_receiving role ≡ true → IsMaster limits.masters grant.source = λ receives. told.source in
-      assumption (told.floor, old)
+  granted_is_formed role is told old = grind (arith, w64, place_in, is_receiving)
 
   -- a master that takes a Grant
   pub formed_grant : AreLimits limits → IsFormedGrant limits grant → IsFormedMaster limits number master

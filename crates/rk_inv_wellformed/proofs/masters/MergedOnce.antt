@@ -1,8 +1,8 @@
 -- The ends that a rebuild merges are of distinct clients: each is that of its client's greatest seq, and stands with the last member
 -- that tells it, where it comes first. So there are no more of them than clients.
-use Rattle.std.proofs.Common.{◌≡◌, ◌==◌, ◌&&◌, ℕ, true, false, not, nat_eq, nat_lt, List, [], ◌∷◌, ◌++◌, map, All, Option, refl, subst}
+use Rattle.std.proofs.Common.{◌≡◌, ◌==◌, ◌&&◌, ℕ, true, false, nat_eq, nat_lt, List, [], ◌∷◌, ◌++◌, map, All, Option, refl, subst}
 use Rattle.std.proofs.Common.{sym, ◌∙◌, arith, flat_map}
-use Rattle.rk_inv_wellformed.proofs.Words.{and_parts, nat_tests, All-append, All-cons, All-head, All-map, All-nil, All-tail, All-weaker}
+use Rattle.rk_inv_wellformed.proofs.Words.{and_parts, nat_tests, All-append, All-cons, All-head, All-map, All-nil, All-tail}
 use Rattle.rk_inv_wellformed.proofs.Words.{recursion_from_All, list_any-append, list_any, get, Ended, Entry, completions_from, Completion}
 use Rattle.rk_inv_wellformed.proofs.Words.{AreOfDistinctClients, told, ends_by_place, first_told, is_placed, merged_ends, placed_ends}
 use Rattle.rk_inv_wellformed.proofs.Words.{cond_both, not-true, or_parts, is_outrun_by, is_same_call}
@@ -39,21 +39,17 @@ unfolding IsHeldBy
 each_held [] = All-nil _
 each_held (first ∷ rest) =
     All-cons (IsHeldBy (first ∷ rest)) first rest (λ other none. (or_parts (is_outrun_by other first) (list_any (is_outrun_by other) rest) none).0)
-    (All-weaker (IsHeldBy rest) (IsHeldBy (first ∷ rest))
-    (λ end held other none. held other (or_parts (is_outrun_by other first) (list_any (is_outrun_by other) rest) none).1) rest (each_held rest))
+    (λ place end within other none.
+    each_held rest place end within other (or_parts (is_outrun_by other first) (list_any (is_outrun_by other) rest) none).1)
 
 -- an end whose place is here
-record HasPlace (all later seen : List Ended) (end : Ended) : Type 0 where
+pub record HasPlace (all later seen : List Ended) (end : Ended) : Type 0 where
   last : list_any (is_outrun_by end) all ≡ false
   later_not : list_any (is_same_call end) later ≡ false
   seen_not : list_any (is_same_call end) seen ≡ false
 
 has_place : (all later seen : List Ended) (end : Ended) → is_placed all later seen end ≡ true → HasPlace all later seen end
-has_place all later seen end is =
-    let parts = and_parts (not (list_any (is_outrun_by end) all)) (not (list_any (is_same_call end) (later ++ seen))) is in
-    let both = or_parts (list_any (is_same_call end) later) (list_any (is_same_call end) seen)
-    (sym (list_any-append (is_same_call end) later seen) ∙ not-true _ parts.1) in
-    record { last = not-true _ parts.0; later_not = both.0; seen_not = both.1 }
+has_place all later seen end is = grind (arith, and_parts, is_outrun_by, is_same_call, or_parts, list_any-append, not-true)
 
 -- the last end of its client, among all
 record IsLast (all : List Ended) (end : Ended) : Type 0 where
@@ -75,7 +71,7 @@ apart_by_call all a b first second apart =
 -- ---- the ends that have their place
 
 -- what holds of each end that has its place holds of all that are placed
-placed_each : (P Q : Ended → Type 0) (S : List Ended → Type 0) (all later seen ends : List Ended) → S seen → ((seen : List Ended) (end : Ended) → S seen → S (seen ++ end ∷ []))
+pub placed_each : (P Q : Ended → Type 0) (S : List Ended → Type 0) (all later seen ends : List Ended) → S seen → ((seen : List Ended) (end : Ended) → S seen → S (seen ++ end ∷ []))
     → ((seen : List Ended) (end : Ended) → S seen → Q end → HasPlace all later seen end → P end) → All Q ends → All P (placed_ends all later seen ends)
 placed_each P Q S all later seen [] start next holds each = All-nil P
 placed_each P Q S all later seen (end ∷ ends) start next holds each =

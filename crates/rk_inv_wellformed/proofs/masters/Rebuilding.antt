@@ -2,8 +2,8 @@
 -- well formed entries is: its copies, its ends and its floor.
 use Rattle.std.proofs.Common.{◌≡◌, ◌≤◌, ◌<◌, ◌+◌, ◌==◌, ◌&&◌, ℕ, false, true, if◌then◌else◌, List, [], ◌∷◌, ◌++◌, filter, map, All}
 use Rattle.std.proofs.Common.{length, Option, None, Some, IfSome, refl, subst, sym, ◌∙◌, ⊎_elim, arith, nat_lt, w64, not, flat_map}
-use Rattle.std.proofs.Common.{eq-eqb, ◌-◌, Contains, slice_index_or}
-use Rattle.rk_inv_wellformed.proofs.Words.{cond_both, length_push, All-filter, All-head, All-map, All-nil, All-push, All-tail, All-weaker}
+use Rattle.std.proofs.Common.{eq-eqb, ◌-◌, slice_index_or}
+use Rattle.rk_inv_wellformed.proofs.Words.{cond_both, length_push, All-filter, All-head, All-map, All-nil, All-push, All-tail}
 use Rattle.rk_inv_wellformed.proofs.Words.{each_insert, Ended, Member, Range, entries_of, IsNumber, Entry, completions_from, ends_of}
 use Rattle.rk_inv_wellformed.proofs.Words.{role_carried, Handover, Role, CopySegment, Rebuild, items_of, IsFormedGathered, IsFormedMaster}
 use Rattle.rk_inv_wellformed.proofs.Words.{IsFormedTablet, MOST_BASE_CLIENTS, place_in, Gathered, by_member, next_reading}
@@ -14,7 +14,7 @@ use Rattle.rk_inv_wellformed.proofs.Words.{Worked, Merged, bytes_of, unread, cou
 use Rattle.rk_inv_wellformed.proofs.Words.{All-append, All-cons, All-contains, All-drop, get, Held, FIRST_SIDE_SEGMENT, ended_of}
 use Rattle.rk_inv_wellformed.proofs.Words.{newest_is, told_by, newest_items_are, newest_items, told, Gather, counted_of, is_of_lineage}
 use Rattle.rk_inv_wellformed.proofs.Words.{main_entries, material_by, side_read, material_of, named, copies_of, ends_by_place, first_told}
-use Rattle.rk_inv_wellformed.proofs.Words.{floor_by, floor_of, has_version, is_placed, merged_ends, placed_ends, LAST_MAIN_SEGMENT}
+use Rattle.rk_inv_wellformed.proofs.Words.{floor_by, floor_of, has_version, merged_ends, LAST_MAIN_SEGMENT}
 use Rattle.rk_inv_wellformed.proofs.Words.{with_main, with_read, with_segment, side_entries}
 use Rattle.rk_world.specs.Rebuilds.{own_material, own_place}
 use Rattle.rk_world.specs.Rebuilds as rebuilds
@@ -25,7 +25,7 @@ use Rattle.rk_inv_wellformed.proofs.maps.{all_each, all_given, fold_keeps, each_
 use Rattle.rk_inv_wellformed.proofs.masters.Changes.{formed_with_all, formed_with_appended, formed_with_tablet, formed_without_items}
 use Rattle.rk_inv_wellformed.proofs.masters.Changes.{formed_others_given_up, tablet_there, moved_is}
 use Rattle.rk_inv_wellformed.proofs.masters.Handovers.{ends_are_formed, ends_are_lawful, formed_begun, one_stood, formed_ends_few}
-use Rattle.rk_inv_wellformed.proofs.masters.MergedOnce.{merged_once, none_twice}
+use Rattle.rk_inv_wellformed.proofs.masters.MergedOnce.{merged_once, none_twice, placed_each}
 use Rattle.rk_inv_wellformed.proofs.masters.Requests.{counter_with_tablet, items_formed}
 use Rattle.rk_inv_wellformed.proofs.masters.Sealing.{first_holds}
 use Rattle.rk_inv_wellformed.proofs.masters.Tablets.{counter_at, formed_pulling_from, formed_tablet, rest_at, WaitsForNone, none_waits}
@@ -55,11 +55,6 @@ own_formed {limits} {master} tablet formed =
     (λ segment. side_formed limits master.sides segment formed.items)
     (All-drop (IsFormedEntry limits) (own_place tablet.handover.role) master.log.entries formed.written)
 
--- the entries of a side segment that was read
-side_read_formed : (limits : Limits) (gathered : Gathered) (segment : ℕ) → IsFormedGathered limits gathered → All (IsFormedEntry limits) (side_read gathered segment)
-side_read_formed limits gathered segment formed =
-    each_or (λ segment entries. All (IsFormedEntry limits) entries) [] gathered.sides segment (All-nil _) formed.sides
-
 -- the main entries that were read, from the place of the member on
 pub main_formed : {limits : Limits} {gathered : Gathered} → IsFormedGathered limits gathered → All (IsFormedEntry limits) (main_entries gathered)
 main_formed {limits} {gathered} formed = All-drop (IsFormedEntry limits) gathered.member.from _
@@ -67,16 +62,15 @@ main_formed {limits} {gathered} formed = All-drop (IsFormedEntry limits) gathere
 
 counted_formed : {limits : Limits} (range : Range) {gathered : Gathered} → IsFormedGathered limits gathered → All (IsFormedEntry limits) (counted_of range gathered)
 counted_formed {limits} range {gathered} formed =
-    material_formed limits range (side_read gathered) (main_entries gathered) (λ segment. side_read_formed limits gathered segment formed)
-    (main_formed formed)
+    material_formed limits range (side_read gathered) (main_entries gathered)
+    (λ segment. each_or (λ segment entries. All (IsFormedEntry limits) entries) [] gathered.sides segment (All-nil _) formed.sides) (main_formed formed)
 
 -- what counts of one member
 by_formed : (limits : Limits) (gather : Gather) (own : List Entry) (master : ℕ) → All (IsFormedGathered limits) gather.members → All (IsFormedEntry limits) own → All (IsFormedEntry limits) (material_by gather own master)
 by_formed limits gather own master members own_is = either_way (All (IsFormedEntry limits)) (master == gather.own) own_is
     (all_flat (IsFormedEntry limits) (counted_of gather.range) _
-    (All-weaker (IsFormedGathered limits) (λ gathered. All (IsFormedEntry limits) (counted_of gather.range gathered))
-    (λ gathered formed. counted_formed gather.range formed) (filter (λ gathered. gathered.member.master == master) gather.members)
-    (All-filter _ (IsFormedGathered limits) gather.members members)))
+    (λ place other within. counted_formed gather.range
+    (All-filter (λ gathered. gathered.member.master == master) (IsFormedGathered limits) gather.members members place other within)))
 
 -- what counts of each member
 pub members_formed : (limits : Limits) (gather : Gather) (own : List Entry) → All (IsFormedGathered limits) gather.members → All (IsFormedEntry limits) own → All (All (IsFormedEntry limits)) (by_member gather own)
@@ -90,10 +84,10 @@ members_formed limits gather own members own_is = All-append (All (IsFormedEntry
 -- ---- copies
 
 newest_formed : (limits : Limits) (items : List Held) → All (IsFormedHeld limits) items → All (IsFormedHeld limits) (newest_items items)
-newest_formed limits items all = All-weaker (Contains (newest_items items)) (IsFormedHeld limits)
-    (λ item stands. All-contains (IsFormedHeld limits) items item all
-    (newest_is items item.table item.key item (((newest_items_are items).newest item).0 stands)).stands)
-    (newest_items items) (All-contains_itself (newest_items items))
+newest_formed limits items all place other within =
+    let item = slice_index_or (newest_items items) place other in
+    All-contains (IsFormedHeld limits) items item all
+    (newest_is items item.table item.key item (((newest_items_are items).newest item).0 (All-contains_itself (newest_items items) place other within))).stands
 
 -- the copies of a merge
 pub copies_formed : (limits : Limits) (own all : List Held) → All (IsFormedHeld limits) all → All (IsFormedHeld limits) (copies_of own all)
@@ -122,22 +116,16 @@ floor_within limits list formed =
 
 -- ---- ends
 
-placed_formed : (P : Ended → Type 0) (all later seen ends : List Ended) → All P ends → All P (placed_ends all later seen ends)
-placed_formed P all later seen [] formed = All-nil P
-placed_formed P all later seen (end ∷ ends) formed =
-    let rest = placed_formed P all later (seen ++ end ∷ []) ends (All-tail P end ends formed) in
-    either_way (All P) (is_placed all later seen end) (All-cons P end _ (All-head P end ends formed) rest) rest
-
 by_place_formed : (P : Ended → Type 0) (all : List Ended) (members : List (List Ended)) → All (All P) members → All P (ends_by_place all members)
 by_place_formed P all [] formed = All-nil P
 by_place_formed P all (ends ∷ later) formed =
-    All-append P _ _ (placed_formed P all (flat_map (λ told. told) later) [] ends (All-head (All P) ends later formed))
+    All-append P _ _ (placed_each P P (λ seen. Unit {0}) all (flat_map (λ told. told) later) [] ends tt (λ seen next before. tt)
+    (λ seen end before it place. it) (All-head (All P) ends later formed))
     (by_place_formed P all later (All-tail (All P) ends later formed))
 
 -- the ends of entries
 told_all : (limits : Limits) (list : List Entry) → All (IsFormedEntry limits) list → All (IsFormedEnd limits) (told list)
-told_all limits list all = all_flat (IsFormedEnd limits) told_by list
-    (All-weaker (IsFormedEntry limits) (λ entry. All (IsFormedEnd limits) (told_by entry)) (λ entry formed. told_formed limits entry formed) list all)
+told_all limits list all = all_flat (IsFormedEnd limits) told_by list (λ place other within. told_formed limits _ (all place other within))
 
 -- the end that counts for a call is one of those that were told
 first_formed : {limits : Limits} (all : List Ended) {end : Ended} → All (IsFormedEnd limits) all → IsFormedEnd limits end → IsFormedEnd limits (first_told end (get (completions_from [] all) end.client))
@@ -151,16 +139,12 @@ first_formed {limits} all {end} formed it =
 pub ends_formed : (limits : Limits) (members : List (List Entry)) → All (All (IsFormedEntry limits)) members → All (IsFormedEnd limits) (merged_ends members)
 ends_formed limits members formed =
     All-map (IsFormedEnd limits) (λ end. first_told end (get (completions_from [] (flat_map told members)) end.client)) _
-    (All-weaker (IsFormedEnd limits) (λ end. IsFormedEnd limits (first_told end (get (completions_from [] (flat_map told members)) end.client)))
-    (λ end it. first_formed (flat_map told members) all it) _
+    (λ place other within. first_formed (flat_map told members) (all_flat (IsFormedEnd limits) told members each)
     (by_place_formed (IsFormedEnd limits) (flat_map told members) (map told members)
-    (All-map (All (IsFormedEnd limits)) told members each)))
+    (All-map (All (IsFormedEnd limits)) told members each) place other within))
   where
     each : All (λ list. All (IsFormedEnd limits) (told list)) members
-    each = All-weaker (All (IsFormedEntry limits)) (λ list. All (IsFormedEnd limits) (told list)) (λ list fits. told_all limits list fits) members formed
-
-    all : All (IsFormedEnd limits) (flat_map told members)
-    all = all_flat (IsFormedEnd limits) told members (All-weaker (All (IsFormedEntry limits)) (λ list. All (IsFormedEnd limits) (told list)) (λ list fits. told_all limits list fits) members formed)
+    each place other within = told_all limits _ (formed place other within)
 
 -- ---- merging
 
@@ -201,10 +185,7 @@ record IsCarried (role r : Role) : Type 0 where
   waits : WaitsForNone r
 
 after_carry : (place : ℕ) (role r : Role) → role_carried place role ≡ Some r → IsCarried role r
-after_carry place (Role.Rebuilding from None) r is =
-    let same : Role.Rebuilding from (Some place) ≡ r = cc is in
-    subst (IsCarried (Role.Rebuilding from None)) same (record { place = refl; still = refl; there = refl; waits = λ sealed. refl })
-after_carry place _ r is = absurd (cc is)
+after_carry place role r is = grind arith
 
 module _ (limits : Limits) (number : ℕ) (master : Master) (id : ℕ) (merged : Merged) where
   abbrev it : Tablet
@@ -316,18 +297,11 @@ own_formed_member limits (member ∷ lineage) number all =
 
 -- nothing was read of a member so far
 unread_formed : {limits : Limits} {member : Member} → IsFormedMember limits member → IsFormedGathered limits (unread member)
-unread_formed formed = record {
-  member_is = formed.master;
-  main = All-nil _;
-  few = omega arith;
-  more = λ more. omega arith;
-  sides = λ segment list found. absurd (cc found);
-}
+unread_formed formed = grind arith
 
 begun_formed : (limits : Limits) (lineage : List Member) (number : ℕ) → All (IsFormedMember limits) lineage → All (IsFormedGathered limits) (map unread (filter (λ member. not (member.master == number)) lineage))
-begun_formed limits lineage number all = All-map (IsFormedGathered limits) unread _
-    (All-weaker (IsFormedMember limits) (λ member. IsFormedGathered limits (unread member)) (λ member formed. unread_formed formed) _
-    (All-filter (λ member. not (member.master == number)) (IsFormedMember limits) lineage all))
+begun_formed limits lineage number all = All-map (IsFormedGathered limits) unread _ (λ place other within.
+    unread_formed (All-filter (λ member. not (member.master == number)) (IsFormedMember limits) lineage all place other within))
 
 -- a master outside the lineage drops the items of the range
 foreign_formed : {limits : Limits} {number : ℕ} {master : Master} (range : Range) (own : Option Member) → IsFormedMaster limits number master → IsFormedMaster limits number (rebuilds.without_foreign master range own)

@@ -1,6 +1,6 @@
 -- What a master makes of a client's request is well formed.
-use Rattle.std.proofs.Common.{◌≡◌, ◌≤◌, ◌==◌, nat_lt, ℕ, true, false, not, ◌&&◌, All, List, [], ◌∷◌, ◌++◌, length, Option, None, Some}
-use Rattle.std.proofs.Common.{is_some, refl, subst, arith, length-append, IfSome, IsTrue, w32, w64, option_map, ◌<◌, ⊎_elim}
+use Rattle.std.proofs.Common.{◌≡◌, ◌≤◌, ◌==◌, nat_lt, ℕ, not, ◌&&◌, All, List, [], ◌∷◌, ◌++◌, length, Option, None, Some}
+use Rattle.std.proofs.Common.{refl, subst, arith, length-append, IfSome, IsTrue, w32, w64, ◌<◌}
 use Rattle.rk_inv_wellformed.proofs.Words.{cond_both, All-cons, All-contains, All-head, All-tail, All-drop, All-nil, option_or, ⊤}
 use Rattle.rk_inv_wellformed.proofs.Words.{get_same, hash_of, get, insert, value_fault, Call, Held, IsNumber, Entry, found, Completions}
 use Rattle.rk_inv_wellformed.proofs.Words.{ended_of, ends_of, newest_is, Request, items_of, outcome_of, IsFormedMaster, IsFormedTablet}
@@ -56,10 +56,7 @@ abbrev IsFormedLive : Limits → Option (ℕ × List ℕ) → Type 0
 IsFormedLive limits live = IfSome live (IsFormedRecord limits)
 
 record_formed : (limits : Limits) (state : Option Held) → IsFormedState limits state → IsFormedLive limits (record_of state)
-record_formed limits None formed = tt
-record_formed limits (Some item) formed = by_found (λ value. IfSome value (λ value. value_fault value ≡ None) → IsFormedLive limits (option_map (λ value. (item.version, value)) value))
-    item.value (λ none lawful. tt) (λ value some lawful. record { version = formed.version; fits = formed.lawful.version; value = lawful })
-    formed.lawful.value
+record_formed limits state formed = grind (arith, by_found, value_fault)
 
 -- ---- choices
 
@@ -89,15 +86,7 @@ version_formed limits (Some found) formed = (from_zero64 formed.fits, formed.ver
 operation_formed : {limits : Limits} (master : Master) {number : ℕ} (op : Op) (live : Option (ℕ × List ℕ))
     → IsFormedTablet limits number (tablet_at master number) → IsLawfulOp op → IsFormedLive limits live
     → IsFormedChoice limits master (operation number op live)
-operation_formed {limits} master Op.Get live there lawful formed = read_formed limits live formed
-operation_formed master (Op.Put value) live there lawful formed = (there, lawful)
-operation_formed {limits} master {number} (Op.CondPut expected value) live there lawful formed =
-    cond_both (expected == version_of live) (Writes number (Some value)) (Refuses (version_of live) false) (IsFormedChoice limits master)
-    (λ same. (there, lawful.1))
-    (λ other. ((version_formed limits live formed).0, (version_formed limits live formed).1, λ (is : false ≡ true). absurd (cc is)))
-operation_formed {limits} master {number} Op.Delete live there lawful formed =
-    cond_both (is_some live) (Writes number None) (Refuses 0 true) (IsFormedChoice limits master) (λ some. (there, tt))
-    (λ none. (omega arith, omega arith, λ (is : true ≡ true). refl))
+operation_formed {limits} master op live there lawful formed = grind (arith, read_formed, cond_both, version_of, version_formed)
 
 -- the end that is known of a call
 look_formed : (limits : Limits) (completions : Completions) (client seq : ℕ) (end : End) → All (IsFormedEnd limits) (ends_of completions)
@@ -157,10 +146,7 @@ choice_formed limits number master call formed lawful = go (serving master call.
 
 -- how a call ended, as it is told
 pub outcome_told : (end : End) → IsLawfulOutcome end → IsLawfulAnswer (Answer.Done (outcome_of end))
-outcome_told (End.Written version) lawful = from_zero64 lawful
-outcome_told (End.Deleted version) lawful = from_zero64 lawful
-outcome_told End.Absent lawful = tt
-outcome_told (End.Mismatch version) lawful = lawful
+outcome_told end lawful = grind (arith, from_zero64)
 
 -- the counter of a tablet that is so keeps to the limits where those of the master do
 pub counter_with_tablet : (limits : Limits) (master : Master) (id : ℕ) (tablet : Tablet)
@@ -177,12 +163,8 @@ HasNext limits master choice = ⊤
 
 has_next : (small limits : Limits) (master : Master) (asked : ℕ) (call : Call) (choice : Choice) → IsFormedChoice small master choice
     → Rises small limits (chosen master asked call choice) → HasNext limits master choice
-has_next small limits master asked call (Writes id value) formed rises = ⊎_elim
-    (λ (up : small.top < limits.top). omega (arith, up, formed.0.counter))
-    (λ (counters : All (λ counter. counter ≤ limits.top) (counters_of (write_staged master id call value))).
-    let entry : Entry = Entry.Held (item_of call (tablet_at master id).handover.counter value) in
-    omega (arith, counter_with_tablet limits (with_staged master call entry) id (counted_up (tablet_at master id)) counters)) rises
-has_next small limits master asked call _ formed rises = tt
+has_next small limits master asked call choice formed rises =
+    grind (arith, counters_of, write_staged, item_of, tablet_at, counter_with_tablet, with_staged, counted_up)
 
 module _ (limits : Limits) (number : ℕ) (master : Master) (call : Call) (are : AreLimits limits) (there : IsMaster limits.masters number)
     (formed : IsFormedMaster limits number master) (lawful : IsLawfulCall call) (client : IsClient limits call.client) where

@@ -1,22 +1,25 @@
 -- A target that replays what it pulled stays well formed; and one that has pulled all seals its side logs: the side segments that it makes
 -- are well formed, and so is the master then.
-use Rattle.std.proofs.Common.{◌≡◌, ◌≤◌, ◌<◌, ◌+◌, ◌%◌, ◌&&◌, ◌^◌, ℕ, zero, suc, Bool, false, true, List, [], ◌∷◌, ◌++◌, fold, map, sum}
+use Rattle.std.proofs.Common.{◌≡◌, ◌≤◌, ◌<◌, ◌+◌, ◌%◌, ◌&&◌, ◌^◌, ℕ, Bool, false, true, List, [], ◌∷◌, ◌++◌, fold, map, sum}
 use Rattle.std.proofs.Common.{All, length, length-append, None, refl, ap, subst, sym, arith, w32, w64, sum_by, nat_eq, ne_eqb, leb-true}
 use Rattle.std.proofs.Common.{length-set, ◌∙◌, slice_index_or}
-use Rattle.rk_inv_wellformed.proofs.Words.{All-weaker, cond_both, length_push, All-append, All-cons, All-head, All-nil, All-push}
-use Rattle.rk_inv_wellformed.proofs.Words.{All-tail, length-range_with_len, sum-map, sum_by-cons, AllByRecursion, range_with_len}
-use Rattle.rk_inv_wellformed.proofs.Words.{IsInOrder, NumberMap, Held, SEGMENT_BYTES, held_spelled, IsNumber, spelled, FIRST_SIDE_SEGMENT}
-use Rattle.rk_inv_wellformed.proofs.Words.{Role, IsLawfulToken, Got, Pulled, items_of, IsFormedMaster, IsFormedPulling, IsFormedSide}
+use Rattle.rk_inv_wellformed.proofs.Words.{cond_both, length_push, All-append, All-cons, All-head, All-nil, All-push}
+use Rattle.rk_inv_wellformed.proofs.Words.{All-tail, length-range_with_len, sum-map, sum_by-cons, range_with_len}
+use Rattle.rk_inv_wellformed.proofs.Words.{Held, SEGMENT_BYTES, held_spelled, IsNumber, FIRST_SIDE_SEGMENT}
+use Rattle.rk_inv_wellformed.proofs.Words.{Role, IsLawfulToken, Got, Pulled, items_of, IsFormedMaster, IsFormedPulling}
 use Rattle.rk_inv_wellformed.proofs.Words.{IsFormedTablet, side_waits, IsFormedHeld, Limits, Master, log_bytes, tablet_at}
 use Rattle.rk_inv_wellformed.proofs.Words.{with_side_segment, as_entries, replay, token_passed, with_pulling, is_receiving, sealed_sides}
 use Rattle.rk_inv_wellformed.proofs.Words.{Pulling, Tablet, closing_entry, Hashes, got, is_batch, no_hashes, end, AreSideSegments}
 use Rattle.rk_inv_wellformed.proofs.Words.{batch_taken, got_taken, hashes_resolved, is_token, joining_at, joining_by, next_sides}
 use Rattle.rk_inv_wellformed.proofs.Words.{pulled_all, pulled_taken, sealing, is_receiving_at, cut_items, with_side_item, Entry, All-set}
-use Rattle.rk_inv_wellformed.proofs.Words.{Token, found, is_newer, with_tablet, item_replayed, replay_one, with_pulled, IsDistinct-cons}
-use Rattle.rk_inv_wellformed.proofs.Words.{spelled_all, IsLawfulHeld, length-le-bytes}
+use Rattle.rk_inv_wellformed.proofs.Words.{Token, found, is_newer, with_tablet, item_replayed, replay_one, with_pulled}
+use Rattle.rk_inv_wellformed.proofs.Words.{spelled_all, length-le-bytes}
+use Rattle.std.proofs.lemmas.List.FromFn.{get_or-range_with_len}
+use Rattle.std.proofs.lemmas.Map.Keys.{IsDistinct-from_apart}
 use Rattle.std.specs.List.{IsDistinct}
 use Rattle.rk_types.specs.Held.{spelled_of}
-use Rattle.rk_inv_wellformed.proofs.bytes.Bytes.{spelled_cons, spelled_nil}
+use Rattle.rk_inv_wellformed.proofs.bytes.Bytes.{spelled_cons}
+use Rattle.rk_log.proofs.CutLaws.{spelled_none}
 use Rattle.rk_inv_wellformed.proofs.bytes.EntryBytes.{held_fits, FitsSegment}
 use Rattle.rk_inv_wellformed.proofs.bytes.Sizes.{side_bytes}
 use Rattle.rk_inv_wellformed.proofs.maps.{range_within, all_given, by_found, either_way, all_at, all_flat, fold_keeps, fold_keeps_all}
@@ -86,13 +89,9 @@ formed_passed {id} {master} next token formed =
 
 -- ---- how long items are spelled
 
--- no items take no bytes
-pub none_spelled : spelled_all (as_entries []) ≡ []
-none_spelled = spelled_nil
-
 -- items take what each of them takes
 pub items_spelled : (items : List Held) → length (spelled_all (as_entries items)) ≡ sum (map spelled_of items)
-items_spelled [] = ap (λ (l : List ℕ). length l) none_spelled
+items_spelled [] = ap (λ (l : List ℕ). length l) spelled_none
 items_spelled (item ∷ items) =
     omega (arith, ap (λ (l : List ℕ). length l) (spelled_cons (Entry.Held item) (as_entries items)), length-append {A = ℕ}, held_spelled, items_spelled items, sum-map {X = Held}, sum_by-cons {X = Held})
 
@@ -100,10 +99,6 @@ pub sum_pushed : (items : List Held) (item : Held) → sum (map spelled_of (item
 sum_pushed [] item = omega (arith, sum-map spelled_of (item ∷ []), sum_by-cons spelled_of item [], sum-map spelled_of [])
 sum_pushed (first ∷ items) item =
     omega (arith, sum_pushed items item, sum-map {X = Held}, sum_by-cons {X = Held})
-
--- an item fits a segment
-item_few : {item : Held} → IsLawfulHeld item → spelled_of item ≤ SEGMENT_BYTES
-item_few {item} lawful = omega (arith, held_fits item lawful.key lawful.value, held_spelled item)
 
 item_some : (item : Held) → 1 ≤ spelled_of item
 unfolding spelled_of
@@ -118,11 +113,7 @@ record IsPiece (limits : Limits) (items : List Held) : Type 0 where
   few : sum (map spelled_of items) ≤ SEGMENT_BYTES
 
 piece_alone : {limits : Limits} {item : Held} → IsFormedHeld limits item → IsPiece limits (item ∷ [])
-piece_alone {limits} {item} formed = record {
-  each = All-cons (IsFormedHeld limits) item [] formed (All-nil _);
-  some = omega (arith, item_some item, sum_pushed [] item);
-  few = omega (arith, item_few formed.lawful, sum_pushed [] item, sum-map spelled_of []);
-}
+piece_alone {limits} {item} formed = grind (arith, item_some, sum_pushed, held_fits, held_spelled, sum-map)
 
 piece_more : {limits : Limits} {items : List Held} {item : Held} → IsFormedHeld limits item → sum (map spelled_of items) + spelled_of item ≤ SEGMENT_BYTES → IsPiece limits items → IsPiece limits (items ++ item ∷ [])
 piece_more {limits} {items} {item} formed fits piece = record {
@@ -150,36 +141,23 @@ pieces_sealed limits (side ∷ sides) all = All-append (IsPiece limits) (cut_ite
     (λ pieces item all new. pieces_more pieces new all))
     (pieces_sealed limits sides (All-tail (All (IsFormedHeld limits)) side sides all))
 
--- such items make a side segment
-side_of_piece : {limits : Limits} {items : List Held} → IsPiece limits items → IsFormedSide (spelled_all (as_entries items))
-side_of_piece {items} piece = omega (arith, piece, items_spelled items)
-
 -- a master with side segments of such items
 formed_with_sides : {limits : Limits} {number : ℕ} (pieces : List (List Held)) {master : Master} → All (IsPiece limits) pieces → IsFormedMaster limits number master → IsFormedMaster limits number (fold with_side_segment master pieces)
 formed_with_sides {limits} {number} pieces {master} all formed =
     fold_keeps_all (IsFormedMaster limits number) (IsPiece limits) with_side_segment pieces master formed all
-    (λ now items before piece. formed_with_side_segment items before (side_of_piece piece) piece.each)
+    (λ now items before piece. formed_with_side_segment items before (omega (arith, piece, items_spelled items)) piece.each)
 
 -- ---- the numbers of side segments
 
 numbers_fit : (first count : ℕ) → FIRST_SIDE_SEGMENT ≤ first → first + count ≤ 2 ^ 32 → All (IsNumber w32 FIRST_SIDE_SEGMENT) (range_with_len first count)
-numbers_fit first count least fits =
-    All-weaker (λ n. (first ≤ n) × (n < first + count)) (IsNumber w32 FIRST_SIDE_SEGMENT) (λ n within. omega (arith, within, least, fits))
-    (range_with_len first count) (range_within first count)
-
-numbers_apart : (number first count : ℕ) → number < first → AllByRecursion (λ other. nat_eq number other ≡ false) (range_with_len first count)
-numbers_apart number first zero below = tt
-numbers_apart number first (suc count) below =
-    (ne_eqb number first (λ same. let below = below in omega (arith, same)), numbers_apart number (first + 1) count (omega arith))
-
-none_distinct : IsDistinct nat_eq []
-unfolding IsDistinct
-none_distinct = tt
+numbers_fit first count least fits place other within = omega (arith, range_within first count place other within, least, fits)
 
 numbers_distinct : (first count : ℕ) → IsDistinct nat_eq (range_with_len first count)
-numbers_distinct first zero = none_distinct
-numbers_distinct first (suc count) = IsDistinct-cons nat_eq first (range_with_len (first + 1) count)
-    (numbers_apart first (first + 1) count (omega arith)) (numbers_distinct (first + 1) count)
+numbers_distinct first count = IsDistinct-from_apart nat_eq (range_with_len first count) (λ i j d before within.
+    let below : j < count = omega (arith, within, length-range_with_len first count) in
+    let lower : slice_index_or (range_with_len first count) i d ≡ first + i = get_or-range_with_len first count i d (omega (arith, before, below)) in
+    let upper : slice_index_or (range_with_len first count) j d ≡ first + j = get_or-range_with_len first count j d below in
+    ne_eqb _ _ (λ same. omega (arith, same, before, lower, upper)))
 
 sides_counted : (pieces : List (List Held)) (master : Master) → length (fold with_side_segment master pieces).log.sides ≡ length master.log.sides + length pieces
 sides_counted [] master = omega arith
@@ -197,14 +175,8 @@ sides_tablets pieces master =
 abbrev sealed_pulling : Pulling → List ℕ → Pulling
 sealed_pulling pulling numbers = record pulling { hashes = no_hashes; sides = [] ∷ [] ∷ [] ∷ [] ∷ []; sealed = numbers }
 
-formed_sealed_pulling : {limits : Limits} {pulling : Pulling} {numbers : List ℕ} → AreSideSegments numbers → IsFormedPulling limits pulling → IsFormedPulling limits (sealed_pulling pulling numbers)
-formed_sealed_pulling {limits} are formed = assumption (All-nil (IsNumber w64 0), All-nil (IsFormedHeld limits))
-
 joined_sides : (master : Master) (id : ℕ) (tablet : Tablet) (numbers : List ℕ) → (joining_by master id tablet numbers).log.sides ≡ master.log.sides
-joined_sides master id tablet [] =
-    by_found (λ moved. (closing_entry master id tablet moved).log.sides ≡ master.log.sides) _ (λ none. refl) (λ handover some. refl)
-joined_sides master id tablet (number ∷ numbers) =
-    by_found (λ moved. (joining_at master id tablet moved).log.sides ≡ master.log.sides) _ (λ none. refl) (λ handover some. refl)
+joined_sides master id tablet numbers = grind (arith, by_found, closing_entry, joining_at)
 
 -- a target joins, where there are side segments enough for what it waits for then
 formed_joining : {limits : Limits} {number id : ℕ} {master : Master} {tablet : Tablet} (numbers : List ℕ) → AreLimits limits
@@ -259,24 +231,14 @@ module _ (limits : Limits) (number id : ℕ) (master : Master) where
   sealed_few : IsFormedAt limits number id master
       → side_waits sealed.tablets + length (tablet_at sealed id).pulling.sealed ≤ length sealed.log.sides
   sealed_few formed =
-      let new = with_pulling it (sealed_pulling it.pulling numbers) in
-      omega (
-        arith,
-        formed.master_is.waited,
-        waits_inserted now id new (subst (λ (tablets : NumberMap Tablet). IsInOrder tablets) (sym (sides_tablets pieces master)) formed.master_is.tablets_order),
-        formed.waits numbers,
-        ap (λ (tablets : NumberMap Tablet). side_waits tablets) (sides_tablets pieces master),
-        ap (λ (t : Tablet). length t.pulling.sealed) (tablet_with_same now id new),
-        length-range_with_len (FIRST_SIDE_SEGMENT + length master.log.sides) (length pieces),
-        sides_counted pieces master,
-      )
+      grind (arith, with_pulling, waits_inserted, sides_tablets, side_waits, tablet_with_same, length-range_with_len, sides_counted)
 
   -- a target that has pulled all
   pub formed_pulled_all : AreLimits limits → IsFormedAt limits number id master → HasRoomFor limits (pulled_all master id) → IsFormedMaster limits number (pulled_all master id)
   formed_pulled_all are formed room =
       let put = formed_put (now_formed formed)
       (formed_with_pulling (sealed_pulling it.pulling numbers) formed.tablet_is
-      (formed_sealed_pulling (numbers_formed formed room) formed.tablet_is.pulled)
+      (assumption (numbers_formed formed room, formed.tablet_is.pulled, All-nil (IsNumber w64 0), All-nil (IsFormedHeld limits)))
       formed.tablet_is.source)
       formed.waits in
       formed_joining (tablet_at sealed id).pulling.sealed are put.master_is put.tablet_is refl (sealed_few formed) room

@@ -99,10 +99,7 @@ formed_pulling_from limits source = record {
 -- a handover in a role that names no place, and in which nothing is pulled
 pub formed_in_role : {limits : Limits} {source : ℕ} {handover : Handover} (r after : Role) → r ≡ after → place_in after ≡ 0 → is_receiving after ≡ false
     → IsFormedHandover limits source handover → IsFormedHandover limits source (record handover { role = r })
-formed_in_role {limits} {source} r after is none still formed =
-    let place : IsNumber w64 0 (place_in r) = omega (arith, none, ap place_in is) in
-    let source_is : is_receiving r ≡ true → IsMaster limits.masters source = λ receives. absurd (cc (still, ap is_receiving is, receives)) in
-    assumption
+formed_in_role {limits} {source} r after is none still formed = grind (arith, w64, place_in, is_receiving)
 
 -- a role that passes a test which Absent does not is not Absent
 pub role_there : (test : Role → Bool) → test Role.Absent ≡ false → (role : Role) (at_term : Bool) → (test role && at_term) ≡ true → is_absent role ≡ false
@@ -191,15 +188,11 @@ pub formed_found : {limits : Limits} {number : ℕ} {master : Master} (id : ℕ)
 formed_found {limits} {master} id tablet formed is =
     subst (IsFormedTablet limits id) (sym (tablet_found master id tablet is)) (formed.tablets id tablet is)
 
--- what a tablet that is not known has beside its handover
-pub rest_of_none : (limits : Limits) → IsFormedRest limits no_tablet
-rest_of_none limits =
-    assumption (All-nil (IsFormedEnd limits), formed_pulling_from limits 0, All-nil (IsFormedGathered limits), none_twice)
-
 -- what any tablet of a master has beside its handover
 pub rest_at : (limits : Limits) (number : ℕ) (master : Master) (id : ℕ) → IsFormedMaster limits number master
     → IsFormedRest limits (tablet_at master id)
-rest_at limits number master id formed = each_or (λ id tablet. IsFormedRest limits tablet) no_tablet master.tablets id (rest_of_none limits)
+rest_at limits number master id formed = each_or (λ id tablet. IsFormedRest limits tablet) no_tablet master.tablets id
+    (assumption (All-nil (IsFormedEnd limits), formed_pulling_from limits 0, All-nil (IsFormedGathered limits), none_twice))
     (λ id tablet is. rest_of (formed.tablets id tablet is))
 
 -- its counter counts from 1, and its term is no greater than the greatest number

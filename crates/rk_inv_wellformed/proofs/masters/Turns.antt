@@ -2,7 +2,7 @@
 -- message, by the kinds of messages.
 use Rattle.std.proofs.Common.{◌≡◌, ◌≤◌, ◌<◌, ◌+◌, ℕ, true, not, nat_lt, All, List, [], ◌∷◌, length, flat_map, is_some, Option, None, Some}
 use Rattle.std.proofs.Common.{◌*◌, ◌^◌, length-append, refl, arith, IfSome, w32, w64, option_map, w8, inr}
-use Rattle.rk_inv_wellformed.proofs.Words.{All-from_recursion, cond_both, All-cons, All-head, All-nil, All-push, All-tail, All-weaker}
+use Rattle.rk_inv_wellformed.proofs.Words.{All-from_recursion, cond_both, All-cons, All-head, All-nil, All-push, All-tail}
 use Rattle.rk_inv_wellformed.proofs.Words.{recursion_from_All, range_with_len, NumberMap, get, meets, Range, IsNumber, Entry}
 use Rattle.rk_inv_wellformed.proofs.Words.{FIRST_SIDE_SEGMENT, Role, pending, segments, PlacedBytes, IsFormedGathered, IsFormedMaster}
 use Rattle.rk_inv_wellformed.proofs.Words.{IsFormedTablet, place_in, Gathered, next_reading, IsFormedEntry, IsFormedMessage}
@@ -51,8 +51,7 @@ pub named_formed : (limits : Limits) (range : Range) (entries : List Entry) → 
 named_formed limits range entries each =
     fold_keeps_all (All (IsNumber w32 FIRST_SIDE_SEGMENT)) (IsNumber w32 FIRST_SIDE_SEGMENT) with_number (flat_map (named_by range) entries) []
     (All-nil (IsNumber w32 FIRST_SIDE_SEGMENT))
-    (all_flat (IsNumber w32 FIRST_SIDE_SEGMENT) (named_by range) entries
-    (All-weaker (IsFormedEntry limits) (λ entry. All (IsNumber w32 FIRST_SIDE_SEGMENT) (named_by range entry)) (named_by_formed limits range) entries each))
+    (all_flat (IsNumber w32 FIRST_SIDE_SEGMENT) (named_by range) entries (λ place other within. named_by_formed limits range _ (each place other within)))
     (λ numbers number all new. cond_both _ _ _ (All (IsNumber w32 FIRST_SIDE_SEGMENT)) (λ there. all)
     (λ absent. All-push (IsNumber w32 FIRST_SIDE_SEGMENT) numbers number all new))
 
@@ -114,11 +113,9 @@ module _ (limits : Limits) (number : ℕ) (master : Master) (are : AreLimits lim
   appends_formed : All IsTold (segments master.log) → All (IsFormedMessage limits) (appends master)
   appends_formed told = all_flat (IsFormedMessage limits) (λ backup. append_of master backup (pending master.log backup))
       (range_with_len 1 (length master.log.known))
-      (All-weaker (λ n. (1 ≤ n) × (n < 1 + length master.log.known))
-      (λ backup. All (IsFormedMessage limits) (append_of master backup (pending master.log backup)))
-      (λ backup within. append_formed backup (pending master.log backup)
-      (omega (arith, within.0), omega (arith, within.1, formed.known)) (pending_told master.log backup told))
-      (range_with_len 1 (length master.log.known)) (range_within 1 (length master.log.known)))
+      (λ place other within.
+      let is = range_within 1 (length master.log.known) place other within in
+      append_formed _ _ (is.0, omega (arith, is.1, formed.known)) (pending_told master.log _ told))
 
   -- what a master sends for a tablet
   module _ (id : ℕ) (tablet : Tablet) (held : IsFormedTablet limits id tablet) where
@@ -198,14 +195,7 @@ duties_formed {limits} {number} ((id, tablet) ∷ others) {master} are there for
 -- what a master has before a duty, and with the wanted hashes of a tablet as a batch, it has after it
 pub duty_is : (P : Master → Type 0) (master : Master) (id : ℕ) (tablet : Tablet) (role : Role) → P master
     → P (with_tablet master id (with_outstanding tablet)) → P (tablet_duty master id tablet role).master
-duty_is P master id tablet Role.Receiving stays asks = asks
-duty_is P master id tablet (Role.Joining (Some entry)) stays asks =
-    either_way (λ (worked : Worked). P worked.master) (nat_lt entry master.applied) stays stays
-duty_is P master id tablet (Role.Rebuilding from None) stays asks =
-    by_found (λ reading. P (reading_duty master id tablet reading).master) (next_reading tablet.gather) (λ none. stays) (λ one some. stays)
-duty_is P master id tablet (Role.Rebuilding from (Some entry)) stays asks =
-    either_way (λ (worked : Worked). P worked.master) (nat_lt entry master.applied) stays stays
-duty_is P master id tablet _ stays asks = stays
+duty_is P master id tablet role stays asks = grind (arith, either_way, nat_lt, by_found, reading_duty, next_reading)
 
 -- ---- the turn
 
@@ -215,18 +205,12 @@ append_one master backup None = omega arith
 append_one master backup (Some piece) = omega arith
 
 appends_few : (master : Master) → length (appends master) ≤ length master.log.known
-appends_few master = omega (
-  arith,
-  one_of_each (λ backup. append_of master backup (pending master.log backup)) (range_with_len 1 (length master.log.known))
-      (λ backup. append_one master backup (pending master.log backup)),
-  length-range_with_len 1 (length master.log.known),
-)
+appends_few master = grind (arith, one_of_each, append_of, pending, append_one, length-range_with_len)
 
 -- the number of a tablet can be spelled, so there are not too many
 tablets_few : {limits : Limits} {number : ℕ} {master : Master} → IsFormedMaster limits number master → length master.tablets ≤ 2 ^ 32
 tablets_few {limits} {master} formed = few_in_order (2 ^ 32) master.tablets formed.tablets_order
-    (All-weaker (λ entry. IsFormedTablet limits entry.0 entry.1) (λ entry. entry.0 < 2 ^ 32) (λ entry is. omega (arith, is.number_is))
-    master.tablets (All_pairs (IsFormedTablet limits) master.tablets formed.tablets_order formed.tablets))
+    (All_pairs (λ id tablet. id < 2 ^ 32) master.tablets formed.tablets_order (λ id tablet is. omega (arith, (formed.tablets id tablet is).number_is)))
 
 -- what a master does on its turn is well formed
 pub formed_turn : {limits : Limits} {number : ℕ} {master : Master} → AreLimits limits → IsMaster limits.masters number
@@ -297,11 +281,7 @@ module _ (P : Worked → Type 0) (small limits : Limits) (number : ℕ) (master 
 
   pub told_is : (sender : Node) (body : Body) → IsThere small sender → IsLawfulBody body → IsFormedBody small sender body
       → P (told_master master sender body)
-  told_is (Node.Client client) body from lawful says = client_is client body lawful says
-  told_is Node.Coordinator body from lawful says = order_is body says (more_body small limits more Node.Coordinator body says)
-  told_is (Node.Master sender) body from lawful says = peer_is sender body (more_there small limits more (Node.Master sender) from) lawful says
-      (more_body small limits more (Node.Master sender) body says)
-  told_is (Node.Backup backup) body from lawful says = backup_is backup body says
+  told_is sender body from lawful says = grind (arith, client_is, order_is, more_body, peer_is, more_there, backup_is)
 
 -- what a master makes of a well formed message
 pub formed_step : (limits : Limits) (number : ℕ) (master : Master) → AreLimits limits → IsMaster limits.masters number → IsFormedMaster limits number master

@@ -1,8 +1,8 @@
 -- What a master makes of a message or of its turn, when that is well formed: the master after it and all that it sends are, and it sends
 -- and serves no more than is told. Numbers up to the greatest fit their widths, and so do what messages of a master tell.
-use Rattle.std.proofs.Common.{◌≤◌, ◌<◌, ◌+◌, ◌^◌, ◌⊎◌, ℕ, List, [], length, length-append, All, refl, ap, arith, ◌≡◌, ◌∷◌, ◌%◌, ◌*◌, sym}
+use Rattle.std.proofs.Common.{◌≤◌, ◌<◌, ◌+◌, ◌^◌, ◌⊎◌, ℕ, List, [], length, length-append, All, refl, arith, ◌≡◌, ◌∷◌, ◌%◌, ◌*◌, sym}
 use Rattle.std.proofs.Common.{subst, lit<, mod-lt, bit_xor, w32, w64}
-use Rattle.rk_inv_wellformed.proofs.Words.{All-append, All-cons, All-nil, MOST_BACKUPS, Message, IsFormedMaster, MOST_BASE_CLIENTS}
+use Rattle.rk_inv_wellformed.proofs.Words.{All-append, All-nil, MOST_BACKUPS, Message, IsFormedMaster, MOST_BASE_CLIENTS}
 use Rattle.rk_inv_wellformed.proofs.Words.{IsFormedMessage, Limits, Master, log_bytes, MOST_MASTERS, MOST_CLIENTS, MOST_BYTES}
 use Rattle.rk_inv_wellformed.proofs.Words.{MOST_NUMBER, Worked, changed, sending, counters_of, HasRoomIn, Served, Answer, Call, Node}
 use Rattle.rk_inv_wellformed.proofs.Words.{IsNumber, IsLawfulBody, Tenure, Body, IsFormedBody, IsFormedNumber, IsFormedTenure, IsThere}
@@ -63,12 +63,7 @@ formed_changed {limits} formed = record { master = formed; sends = All-nil (IsFo
 -- a master whose work sends one message, and serves one call at most
 pub formed_told : {limits : Limits} {number : ℕ} {worked : Worked} {message : Message} → IsFormedMaster limits number worked.master
     → IsFormedMessage limits message → worked.sends ≡ message ∷ [] → length worked.served ≤ 1 → IsFormedWork limits number 1 worked
-formed_told {limits} {message} formed new is served = record {
-  master = formed;
-  sends = rw is (All-cons (IsFormedMessage limits) message [] new (All-nil _));
-  few = omega (arith, ap (λ (sends : List Message). length sends) is);
-  served = served;
-}
+formed_told {limits} {message} formed new is served = grind arith
 
 -- a master that changes and sends a message
 pub formed_sending : {limits : Limits} {number : ℕ} {master : Master} {message : Message} → IsFormedMaster limits number master
@@ -133,10 +128,4 @@ formed_from limits master to body there is receiver lawful says = assumption (ma
 -- an answer to the client of a call
 pub formed_answering : (limits : Limits) {number : ℕ} (master : Master) {call : Call} (answer : Answer) → IsMaster limits.masters number
     → master.number ≡ number → IsLawfulCall call → IsLawfulAnswer answer → IsFormedMessage limits (answering master call answer)
-formed_answering limits master answer there is lawful says = record {
-  from = master_there limits master there is;
-  to = lawful.client;
-  lawful =
-      (from_zero64 lawful.seq, record { least_is = omega arith; fits = lit< tt }, record { least_is = omega arith; fits = lit< tt }, says);
-  says = tt;
-}
+formed_answering limits master answer there is lawful says = grind (arith, master_there, from_zero64, lit<)

@@ -64,14 +64,7 @@ all_still_below number limit more list greater all place other within = still_be
 
 -- what keeps to a limit keeps to greater ones
 pub keeps_to_more : (limit more : ℕ) (w : World) → limit ≤ more → KeepsTo limit w → KeepsTo more w
-keeps_to_more limit more w greater keeps = record {
-  top = still_below limit more w.top greater keeps.top;
-  sent = still_below limit more w.wire.sent greater keeps.sent;
-  stamp = still_below limit more (last_stamp w.ledger.journal) greater keeps.stamp;
-  seen = all_still_below (λ entry. seen_of entry.1) limit more w.ledger.clients greater keeps.seen;
-  terms = all_still_below (λ row. row.term) limit more w.coordinator.rows greater keeps.terms;
-  counters = λ place other within. all_still_below (λ n. n) limit more _ greater (keeps.counters place other within);
-}
+keeps_to_more limit more w greater keeps = grind (arith, still_below, last_stamp, all_still_below, seen_of)
 
 -- ---- changes
 
@@ -95,10 +88,7 @@ sent_all wire [] = omega arith
 sent_all wire (first ∷ rest) = omega (arith, sent_all (with_message first wire) rest)
 
 pub keeps_with_sent : {limit : ℕ} {w : World} (messages : List Message) → KeepsTo limit w → KeepsTo (limit + length messages) (with_all_sent w messages)
-keeps_with_sent {limit} {w} messages keeps =
-    let more = keeps_to_more limit (limit + length messages) w (omega arith) keeps in
-    let sent : (with_all_sent w messages).wire.sent ≤ limit + length messages = omega (arith, keeps.sent, sent_all w.wire messages) in
-    assumption
+keeps_with_sent {limit} {w} messages keeps = grind (arith, keeps_to_more, with_all_sent, sent_all)
 
 -- ---- records
 

@@ -52,10 +52,7 @@ record IsLow (w : World) : Type 0 where
 
 -- limits whose greatest number is one more are limits that a lane may have
 raised_limits : {w : World} → IsLow w → AreLimits (raised (limits_of w))
-raised_limits {w} low =
-    let are = formed_limits w low.formed low.room in
-    let top : w.top + 1 < MOST_NUMBER = omega (arith, low.top) in
-    assumption
+raised_limits {w} low = grind (arith, formed_limits)
 
 -- so much may a step add
 most_fits : (top after seen served sends : ℕ) → top < WORN_NUMBER → seen ≤ 2 → served ≤ MOST_AT_ONCE → sends ≤ MOST_AT_ONCE → after ≤ top + seen + served + sends → after < MOST_NUMBER
@@ -93,12 +90,9 @@ sends_fit {w} messages formed low few =
     most_fits w.top (with_sends w messages).world.top 0 0 (length messages) low (omega arith) (omega arith) few
     (omega (arith, top_after_sends w formed messages))
 
-counted_fits_top : {w : World} → IsWellFormed w → w.top < WORN_NUMBER → (with_top w).top < MOST_NUMBER
-counted_fits_top {w} formed low = omega (arith, low, top_within w.top w (keeps_to_top w formed))
-
 backed_fits : {w : World} (backed : Backed) → IsWellFormed w → w.top < WORN_NUMBER → length backed.sends ≤ 1 → (backed_at w backed).world.top < MOST_NUMBER
 backed_fits {w} backed formed low few = either_way (λ (stepped : Stepped). stepped.world.top < MOST_NUMBER) backed.lost
-    (counted_fits_top formed low) (sends_fit backed.sends formed low (omega (arith, few)))
+    (omega (arith, low, top_within w.top w (keeps_to_top w formed))) (sends_fit backed.sends formed low (omega (arith, few)))
 
 -- ---- a message is delivered, and a node takes its turn
 

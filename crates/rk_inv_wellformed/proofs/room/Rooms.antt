@@ -1,11 +1,10 @@
 -- A lane with room keeps it when a client takes an answer, and where the lane is not worn when one asks.
-use Rattle.std.proofs.Common.{◌≡◌, ◌≤◌, ◌<◌, ℕ, ◌+◌, max, [], ◌∷◌, ◌∙◌, All, Option, None, Some, refl, sym, subst, arith, Ok, not}
-use Rattle.std.proofs.Common.{option_map}
-use Rattle.rk_inv_wellformed.proofs.Words.{option_or, get, Call, Body, Message, Visited, accept, ask, ClientTurn, Session, session_accept}
+use Rattle.std.proofs.Common.{◌≡◌, ◌≤◌, ◌<◌, ℕ, ◌+◌, max, [], ◌∷◌, ◌∙◌, All, Option, None, Some, refl, sym, subst, arith, Ok}
+use Rattle.rk_inv_wellformed.proofs.Words.{get, Call, Body, Message, Visited, accept, ask, ClientTurn, Session}
 use Rattle.rk_inv_wellformed.proofs.Words.{IsWellFormed, last_stamp, Ledger, is_added, seen_of, WORN_NUMBER, where_true, worn, HasRoom}
-use Rattle.rk_inv_wellformed.proofs.Words.{MOST_NUMBER, World, with_all_sent, with_ledger, StepError, LastCall, Taken, accept_by}
+use Rattle.rk_inv_wellformed.proofs.Words.{MOST_NUMBER, World, with_all_sent, with_ledger, LastCall, accept_by}
 use Rattle.rk_inv_wellformed.proofs.Words.{accepting, ask_by, asking, asking_by, fits_with, is_asked_here, ledger_asked, ledger_requested}
-use Rattle.rk_inv_wellformed.proofs.Words.{ledger_taken, session_turn, accept_refusal, ask_refusal, too_great, worn_session}
+use Rattle.rk_inv_wellformed.proofs.Words.{session_turn, accept_refusal, ask_refusal, too_great, worn_session}
 use Rattle.rk_inv_wellformed.proofs.lanes.Asks.{asked_is, now_asked, after_asking, asked_ledger, clients_requested}
 use Rattle.rk_inv_wellformed.proofs.lanes.Events.{IsFresh, no_first, no_inner, no_second, not_too_great, not_worn}
 use Rattle.rk_inv_wellformed.proofs.maps.{by_found, either_way}
@@ -24,18 +23,7 @@ record IsFreshTurn (w : World) (session : Session) : Type 0 where
   seen : session.seen < WORN_NUMBER
 
 fresh_turn : (w : World) (session : Session) → ask_refusal w session ≡ None → IsFreshTurn w session
-fresh_turn w session none =
-    record {
-      lane = not_worn w (no_first (worn w) (worn_session session session.outstanding) nothing_worn);
-      seen = seen_fits session session.outstanding (no_second (worn w) (worn_session session session.outstanding) nothing_worn);
-    }
-  where
-    number_worn : Option ℕ
-    number_worn = option_or (worn w) (worn_session session session.outstanding)
-
-    nothing_worn : number_worn ≡ None
-    nothing_worn = no_inner StepError.Worn number_worn (no_first (option_map StepError.Worn number_worn)
-        (where_true (not (is_added w.ledger session.client)) (StepError.Stranger session.client)) none)
+fresh_turn w session none = grind (arith, not_worn, no_first, worn, worn_session, seen_fits, no_second, no_inner, where_true, is_added)
 
 -- the journal stays when a call is asked
 journal_asked : (ledger : Ledger) (session : Session) (call : Call) → (ledger_asked ledger session call).journal ≡ ledger.journal
@@ -93,15 +81,7 @@ room_asking w session none formed room =
 
 -- so it is where the client's turn is not refused
 pub room_ask : {w : World} (session : Session) (visited : Visited) → ask w session ≡ Ok visited → IsWellFormed w → HasRoom w → HasRoom visited.world
-room_ask {w} session visited asked formed room =
-    by_found (λ refused. ask_by w session refused ≡ Ok visited → HasRoom visited.world) (ask_refusal w session)
-    (λ none is.
-    let visited_is : asking w session session.outstanding ≡ visited = cc is in
-    subst (λ (v : Visited). HasRoom v.world) visited_is (room_asking w session none formed room))
-    (λ error some is. absurd (cc is)) asked
-
-room_taken : (w : World) (body : Body) (taken : Taken) → HasRoom w → HasRoom (with_ledger w (ledger_taken w.ledger body taken))
-room_taken w body taken room = assumption
+room_ask {w} session visited asked formed room = grind (arith, by_found, ask_by, ask_refusal, asking, room_asking)
 
 -- a lane keeps its room when a client takes a message of its wire
 pub room_accept : (w : World) (number : ℕ) (session : Session) (visited : Visited) → accept w number session ≡ Ok visited → HasRoom w → HasRoom visited.world
@@ -116,4 +96,4 @@ room_accept w number session visited taken room =
     accepts : HasRoom (accepting w session (get w.wire.messages number)).world
     accepts = by_found (λ found. HasRoom (accepting w session found).world) (get w.wire.messages number) (λ none. room)
         (λ message is. either_way (λ (visited : Visited). HasRoom visited.world) (is_asked_here w session)
-        (room_taken w message.body (session_accept session message.body).taken room) room)
+        (assumption) room)

@@ -2,14 +2,14 @@
 -- messages, serve few calls and tell few ends.
 use Rattle.std.proofs.Common.{◌≤◌, ◌<◌, ◌+◌, ◌^◌, ◌&&◌, ◌%◌, ℕ, All, List, length, length-append, Option, None, Some, arith, IfSome, inl}
 use Rattle.std.proofs.Common.{[], ◌∷◌, fold}
-use Rattle.rk_inv_wellformed.proofs.Words.{All-from_recursion, All-weaker, cond_both, Node, Phase, Opening, Row, overreach, Body, Rebuilt}
+use Rattle.rk_inv_wellformed.proofs.Words.{All-from_recursion, cond_both, Node, Phase, Opening, Row, overreach, Body, Rebuilt}
 use Rattle.rk_inv_wellformed.proofs.Words.{Called, backup_step, Coordinator, coordinator_turn, IsFormedCoordinator, IsFormedMaster}
-use Rattle.rk_inv_wellformed.proofs.Words.{IsTabletMap, IsFormedRow, MOST_BASE_CLIENTS, IsClient, IsFormedEnd, IsFormedHeld, Limits}
+use Rattle.rk_inv_wellformed.proofs.Words.{IsTabletMap, MOST_BASE_CLIENTS, IsFormedHeld, Limits}
 use Rattle.rk_inv_wellformed.proofs.Words.{Master, tablet_at, MOST_CLIENTS, Worked, Appended, master_message, row_duty, Precedes, Message}
 use Rattle.rk_inv_wellformed.proofs.Words.{Served, Stored, Overreach, apply_entries, newly_held, stored_taken, with_known, IsLawfulToken}
 use Rattle.rk_inv_wellformed.proofs.Words.{Pulled, items_of, pulled_taken, batch_taken, changed, is_receiving_at, is_token, replay}
 use Rattle.rk_inv_wellformed.proofs.Words.{token_passed, end, IsMaster, IsFormedMessage, master_step, All-map, Held, NumberMap}
-use Rattle.rk_inv_wellformed.proofs.Words.{IsFormedTablet, with_side_segment, with_tablet, sealed_sides, Tablet, no_tablet, all_going_on}
+use Rattle.rk_inv_wellformed.proofs.Words.{with_side_segment, with_tablet, sealed_sides, Tablet, no_tablet, all_going_on}
 use Rattle.rk_inv_wellformed.proofs.Words.{going_on_in, joining_by, pulled_all, sealing, counters_of}
 use Rattle.rk_inv_wellformed.proofs.bytes.Sizes.{entries_few}
 use Rattle.rk_inv_wellformed.proofs.coordinator.Coordinators.{IsTaken}
@@ -44,13 +44,12 @@ counters_from_counts most master each =
 -- those of a well formed master keep to the greatest number
 pub formed_counters : {limits : Limits} {number : ℕ} {master : Master} → IsFormedMaster limits number master → CountersWithin limits.top master
 formed_counters {limits} {master = master} formed = counters_from_counts limits.top master
-    (All-weaker (λ entry. IsFormedTablet limits entry.0 entry.1) (λ entry. entry.1.handover.counter ≤ limits.top) (λ entry is. is.counter.last)
-    master.tablets (All_pairs (IsFormedTablet limits) master.tablets formed.tablets_order formed.tablets))
+    (All_pairs (λ id tablet. tablet.handover.counter ≤ limits.top) master.tablets formed.tablets_order (λ id tablet is. (formed.tablets id tablet is).counter.last))
 
 -- a greater bound holds too
 pub counters_weaker : (most more : ℕ) (master : Master) → most ≤ more → CountersWithin most master → CountersWithin more master
 counters_weaker most more master up each =
-    All-weaker (λ counter. counter ≤ most) (λ counter. counter ≤ more) (λ counter within. omega arith) (counters_of master) each
+    λ place other within. omega (arith, each place other within)
 
 -- one of its tablets is so
 pub counters_with_tablet : (most : ℕ) (master : Master) (id : ℕ) (tablet : Tablet) → CountersWithin most master
@@ -159,12 +158,8 @@ module _ (limits : Limits) (number : ℕ) (master : Master) (there : IsMaster li
 -- a rebuild that it takes tells no more ends than there are clients
 pub ends_few : {limits : Limits} (rebuilt : Option Rebuilt) → AreLimits limits → IfSome rebuilt (IsTaken limits) → ends_in rebuilt ≤ MOST_CLIENTS + MOST_BASE_CLIENTS
 ends_few None are taken = omega arith
-ends_few {limits} (Some rebuilt) are taken = omega (
-  arith,
-  are,
-  once_few rebuilt.ends limits.clients taken.once
-      (All-weaker (IsFormedEnd limits) (λ end. IsClient limits end.client) (λ end formed. formed.client) rebuilt.ends taken.ends),
-)
+ends_few {limits} (Some rebuilt) are taken =
+    omega (arith, are, once_few rebuilt.ends limits.clients taken.once (λ place other within. (taken.ends place other within).client))
 
 duty_one : (coordinator : Coordinator) (row : Row) (phase : Phase) → length (row_duty coordinator row phase) ≤ 1
 duty_one coordinator row (Opening source sfrom target None) = omega arith
@@ -176,11 +171,7 @@ few_rows most rows map high =
     omega (
       arith,
       few_rising (λ (row : Row). row.tablet) IsTabletMap
-          (λ row rows is. (
-            All-weaker (Precedes row) (λ later. row.tablet + 1 ≤ later.tablet)
-                (λ later precedes. let less = precedes.smaller in omega arith) rows (All-from_recursion (Precedes row) rows is.0),
-            is.1,
-          ))
+          (λ row rows is. (λ place other within. omega (arith, (All-from_recursion (Precedes row) rows is.0 place other within).smaller), is.1))
           0 most rows map (omega arith) (λ place other within. omega arith) high,
     )
 
@@ -190,8 +181,7 @@ coordinator_turn_few {limits} {coordinator} formed =
     omega (
       arith,
       one_of_each (λ row. row_duty coordinator row row.phase) coordinator.rows (λ row. duty_one coordinator row row.phase),
-      few_rows (2 ^ 32) coordinator.rows formed.map
-          (All-weaker (IsFormedRow limits) (λ row. row.tablet < 2 ^ 32) (λ row is. omega (arith, is.number_is)) coordinator.rows formed.rows),
+      few_rows (2 ^ 32) coordinator.rows formed.map (λ place other within. omega (arith, (formed.rows place other within).number_is)),
     )
 
 -- ---- a backup

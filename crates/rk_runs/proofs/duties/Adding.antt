@@ -1,4 +1,5 @@
 -- Who has a session stays added in each lane, whatever occurs in a cluster, where nobody gets one who was not added in each lane.
+use Rattle.std.proofs.Common.{arith}
 use Rattle.std.proofs.Common.{◌≡◌, ℕ, List, Option, Some, None, refl, true, Err, Ok, Result}
 use Rattle.rk_inv_base.proofs.Words.{none-some, each_insert, get, Op, Visited, accept, ask, Session, new_session, Accepts, Asks, Calls}
 use Rattle.rk_inv_base.proofs.Words.{Cluster, Happens, Joins, Occurrence, called_by_client, cluster_after, cluster_stepped}
@@ -29,11 +30,7 @@ session_added cluster client session there all =
 
 -- a client that acts was added in each lane
 actor_added : (cluster : Cluster) (client : ℕ) → MayGetSession cluster client → AreAdded cluster → IsAddedInAll cluster client
-actor_added cluster client may all = go (get cluster.sessions client) refl
-  where
-    go : (found : Option Session) → get cluster.sessions client ≡ found → IsAddedInAll cluster client
-    go None is = may is
-    go (Some session) is = all client session is
+actor_added cluster client may all = grind arith
 
 -- ---- all that may occur
 

@@ -1,6 +1,6 @@
 -- The outstanding call of a client fits its lane: it was asked there last, or it comes next.
-use Rattle.std.proofs.Common.{◌≡◌, ◌==◌, ◌&&◌, ◌+◌, ◌<◌, ℕ, Bool, true, false, not, List, Option, Some, None, length, refl, sym, ap}
-use Rattle.std.proofs.Common.{subst, ◌∙◌, ⊎_elim, arith, Contains, IfSome, bytes_eq, nat_lt, eq-eqb, lt-ltb}
+use Rattle.std.proofs.Common.{◌≡◌, ◌+◌, ◌<◌, ℕ, Bool, true, false, not, List, Option, Some, length, refl, ap}
+use Rattle.std.proofs.Common.{subst, ◌∙◌, arith, Contains, IfSome, bytes_eq, nat_lt, eq-eqb, lt-ltb}
 use Rattle.rk_inv_base.proofs.Words.{and_from, or_left, or_right, All-contains, bytes_eq-Decides, Call, Op, Placed, Answered, fits_with}
 use Rattle.rk_inv_base.proofs.Words.{is_asked, is_call, is_last, Session, call_lane, Cluster, lane_at, session_at, is_accepted, asked_by}
 use Rattle.rk_inv_base.proofs.Words.{World, LastCall, IsAccepted, IsLastCall}
@@ -16,29 +16,15 @@ bytes_same : (bytes : List ℕ) → bytes_eq bytes bytes ≡ true
 bytes_same bytes = (bytes_eq-Decides bytes bytes).1 refl
 
 op_same : (op : Op) → is_op op op ≡ true
-op_same Op.Get = refl
-op_same (Op.Put value) = bytes_same value
-op_same (Op.CondPut expected value) = and_from (expected == expected) _ (eq-eqb expected expected refl) (bytes_same value)
-op_same Op.Delete = refl
+op_same op = grind (arith, bytes_same, and_from, eq-eqb)
 
 call_same : (call : Call) → is_call call call ≡ true
-call_same call =
-    and_from (call.client == call.client && (call.seq == call.seq) && (call.table == call.table) && bytes_eq call.key call.key) _
-    (and_from (call.client == call.client && (call.seq == call.seq) && (call.table == call.table)) _
-    (and_from (call.client == call.client && (call.seq == call.seq)) _
-    (and_from (call.client == call.client) _ (eq-eqb call.client call.client refl) (eq-eqb call.seq call.seq refl))
-    (eq-eqb call.table call.table refl))
-    (bytes_same call.key))
-    (op_same call.op)
+call_same call = grind (arith, and_from, bytes_eq, eq-eqb, bytes_same, op_same)
 
 -- the last call is one that is this
 last_same : (call : Call) (session : Session) (last : LastCall) → IsOutstanding session last → session.outstanding ≡ Some call
     → is_last call session.seen (Some last) ≡ true
-last_same call session last is out =
-    let both : Some last.call ≡ Some call = sym is.call_is ∙ out in
-    let same : last.call ≡ call = cc both in
-    and_from (is_call last.call call) _ (subst (λ (c : Call). is_call c call ≡ true) (sym same) (call_same call))
-    (eq-eqb last.seen session.seen is.seen_is)
+last_same call session last is out = grind (arith, and_from, is_call, call_same, eq-eqb)
 
 module _ (Steady : World → Type 0) (masters : ℕ) (cluster : Cluster) (good : IsGood Steady masters cluster) (lane client : ℕ) (within : lane < length cluster.lanes) (call : Call) (out : (session_at cluster client).outstanding ≡ Some call) (here : call_lane call ≡ lane) where
   abbrev w : World
@@ -89,24 +75,12 @@ module _ (Steady : World → Type 0) (masters : ℕ) (cluster : Cluster) (good :
       (subst (λ (c : ℕ). is_accepted w.ledger.journal c last.call.seq ≡ true) is.own (accepted_found w.ledger.journal last.call accepted))
 
   comes_next : (last : Option LastCall) → asked_by w.ledger session.client ≡ last → is_next w.ledger session call last ≡ true → fits_with w session call ≡ true
-  comes_next last is next =
-      or_right (is_asked w.ledger session call) (call_lane call == w.lane && is_next w.ledger session call (asked_by w.ledger session.client))
-      (and_from (call_lane call == w.lane) _ (eq-eqb (call_lane call) w.lane (here ∙ sym lane_good.lane_is))
-      (ap (is_next w.ledger session call) is ∙ next))
+  comes_next last is next = grind (arith, or_right, is_asked, call_lane, asked_by, and_from, eq-eqb, lane_good)
 
   fits_last : (last : Option LastCall) → asked_by w.ledger session.client ≡ last → IsLastKnown w.ledger.journal session last → IfSome last (IsLastCall w.base w.lane session.client)
       → fits_with w session call ≡ true
-  fits_last None is known own = comes_next None is refl
-  fits_last (Some last) is known own =
-      ⊎_elim (λ (accepted : IsAccepted w.ledger.journal last.call). comes_next (Some last) is (next_after last own accepted))
-      (λ (asked : IsOutstanding session last).
-      or_left (is_asked w.ledger session call) (call_lane call == w.lane && is_next w.ledger session call (asked_by w.ledger session.client))
-      (and_from (is_last call session.seen (asked_by w.ledger session.client)) _
-      (ap (is_last call session.seen) is ∙ last_same call session last asked out) not_accepted))
-      known
+  fits_last last is known own =
+      grind (arith, comes_next, next_after, or_left, is_asked, call_lane, asked_by, and_from, is_last, last_same, not_accepted)
 
   pub fits : fits_with w session call ≡ true
-  fits =
-      fits_last (asked_by w.ledger session.client) refl
-      (subst (λ (c : ℕ). IsLastKnown w.ledger.journal session (asked_by w.ledger c)) (sym agrees.own) (agrees.asked lane))
-      (lane_good.sound.asked.last session.client)
+  fits = grind (arith, fits_last, asked_by, agrees, lane_good)

@@ -1,5 +1,5 @@
 -- What goes on in a lane: who was added there is added still, and no fewer messages were sent, whatever happens.
-use Rattle.std.proofs.Common.{◌≡◌, ◌+◌, ℕ, Bool, true, false, List, [], ◌∷◌, fold, map, Option, Some, None, refl, sym, ap, subst, ◌∙◌}
+use Rattle.std.proofs.Common.{◌≡◌, ◌+◌, ℕ, Bool, true, false, List, [], ◌∷◌, fold, map, Option, Some, None, refl, sym, ap, ◌∙◌}
 use Rattle.std.proofs.Common.{⊎_elim, arith, is_some}
 use Rattle.rk_inv_base.proofs.Words.{cases_eq, cond_both, none-some, get_other, get_same, NumberMap, get, insert, Call, Traffic}
 use Rattle.rk_inv_base.proofs.Words.{with_message, Body, Message, Called, accept, ask, asking_by, is_asked, ledger_asked}
@@ -65,19 +65,11 @@ pub record GoesOn (forgets : Bool) (before after : World) : Type 0 where
 module _ (w : World) (forgets : Bool) where
   -- nobody came, and nothing was sent
   as_it_was : (now : World) → now.ledger.clients ≡ w.ledger.clients → now.wire ≡ w.wire → GoesOn forgets w now
-  as_it_was now clients same = record {
-    clients = same_clients w.ledger now.ledger clients;
-    wire = same_wire w.wire now.wire (ap (λ (wire : Traffic). wire.sent) same);
-    stays = λ keeps there. rw same there;
-  }
+  as_it_was now clients same = grind (arith, same_clients, same_wire)
 
   -- messages were sent
   sends_on : (now : World) (messages : List Message) → now.wire ≡ w.wire → HasClientsOf now.ledger w.ledger → GoesOn forgets w (with_sends now messages).world
-  sends_on now messages same clients = record {
-    clients = clients;
-    wire = subst (λ (wire : Traffic). SendsNoFewer wire (with_sends now messages).world.wire) same (sends_no_fewer messages now.wire);
-    stays = λ keeps there. sent_there messages now.wire (rw same there);
-  }
+  sends_on now messages same clients = grind (arith, with_sends, sends_no_fewer, sent_there)
 
   worked_on : (master seen : ℕ) (worked : Worked) → GoesOn forgets w (worked_at w master seen worked).world
   worked_on master seen worked =
@@ -133,10 +125,7 @@ module _ (w : World) (event : Event) (called : Called) where
 
 module _ (w : World) where
   asked_on : (session : Session) (call : Call) → HasClientsOf (ledger_asked w.ledger session call) w.ledger
-  asked_on session call client added =
-      cond_both (is_asked w.ledger session call) w.ledger (with_asked w.ledger session.client (record { call = call; seen = session.seen }))
-      (λ (ledger : Ledger). is_added ledger client ≡ true) (λ e. added)
-      (λ e. more_clients w.ledger.clients session.client client (Some (record { call = call; seen = session.seen })) added)
+  asked_on session call client added = grind (arith, cond_both, is_asked, with_asked, is_added, more_clients)
 
   asking_on : (session : Session) (call : Call) (turn : ClientTurn) → GoesOn false w (asking_by w session call (Some turn)).world
   asking_on session call turn =
@@ -151,11 +140,7 @@ module _ (w : World) where
   asked_turn_on session = ask_covered (GoesOn false w) w session (as_it_was w false w refl refl) (λ call turn out. asking_on session call turn)
 
   taken_on : (body : Body) (taken : Taken) → GoesOn false w (with_ledger w (ledger_taken w.ledger body taken))
-  taken_on body taken = as_it_was w false (with_ledger w (ledger_taken w.ledger body taken)) (same body taken) refl
-    where
-      same : (body : Body) (taken : Taken) → (ledger_taken w.ledger body taken).clients ≡ w.ledger.clients
-      same (Body.Reply reply) Taken.Done = refl
-      same body taken = refl
+  taken_on body taken = grind (arith, as_it_was, with_ledger, ledger_taken)
 
   -- an answer
   pub answer_on : (number : ℕ) (session : Session) → GoesOn false w (world_visited w (accept w number session))

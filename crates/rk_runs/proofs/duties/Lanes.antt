@@ -1,5 +1,5 @@
 -- One lane of a cluster is another.
-use Rattle.std.proofs.Common.{◌≡◌, ◌<◌, ℕ, length, sym, subst, ⊎_elim, arith, get_or-set_other, length-set}
+use Rattle.std.proofs.Common.{◌<◌, ℕ, length, arith, get_or-set_other, length-set}
 use Rattle.rk_inv_base.proofs.Words.{cases_eq, Cluster, lane_at, with_lane, World, new_world}
 use Rattle.rk_runs.proofs.history.Clusters.{lane_here}
 
@@ -10,10 +10,4 @@ EachLane P cluster = (lane : ℕ) → lane < length cluster.lanes → P (lane_at
 -- each has with another lane in the place of one, where that has it
 pub each_lane : (P : World → Type 0) (cluster : Cluster) (lane : ℕ) (now : World) → (lane < length cluster.lanes → P now) → EachLane P cluster → EachLane P (with_lane cluster lane now)
 each_lane P cluster lane now new each q inside =
-    let within : q < length cluster.lanes = omega (arith, inside, length-set cluster.lanes lane now) in
-    ⊎_elim
-    (λ (is : q ≡ lane).
-    let there : lane < length cluster.lanes = omega (arith, within, is) in
-    subst (λ (l : ℕ). P (lane_at (with_lane cluster lane now) l)) (sym is) (subst P (sym (lane_here cluster lane now there)) (new there)))
-    (λ (apart : q ≡ lane → ⊥). subst P (sym (get_or-set_other cluster.lanes lane q now (new_world q 0 0) apart)) (each q within))
-    (cases_eq q lane)
+    grind (arith, length-set, lane_at, with_lane, lane_here, get_or-set_other, new_world, cases_eq)

@@ -1,18 +1,17 @@
 -- Once one crash is noticed, each master that has crashed was noticed, until the next one crashes.
-use Rattle.std.proofs.Common.{◌≡◌, ◌==◌, ◌&&◌, ◌≤◌, ◌<◌, ◌+◌, ℕ, zero, suc, Bool, true, false, List, [], ◌∷◌, ◌++◌, fold, Option, Some}
+use Rattle.std.proofs.Common.{◌≡◌, ◌==◌, ◌≤◌, ◌<◌, ◌+◌, ℕ, zero, suc, Bool, true, false, List, [], ◌∷◌, ◌++◌, fold, Option, Some}
 use Rattle.std.proofs.Common.{None, refl, sym, ap, subst, ◌∙◌, ⊎_elim, append-nil, append_assoc, arith, filter, not, eq-eqb}
 use Rattle.std.proofs.Common.{eqb-true}
 use Rattle.rk_inv_base.proofs.Words.{and_from, cases_eq, false≢true, or_left, or_right, All-contains}
-use Rattle.rk_inv_base.proofs.Words.{Any-from_list_any, list_any-append, list_any, range_with_len, row_of, Phase, Owned, Row, Called}
+use Rattle.rk_inv_base.proofs.Words.{Any-from_list_any, list_any-append, list_any, range_with_len, row_of, Row, Called}
 use Rattle.rk_inv_base.proofs.Words.{accept, ask, Session, Coordinator, is_noticed, told_coordinator, IsWellFormed, migrating}
 use Rattle.rk_inv_base.proofs.Words.{row_migrated, tablet_migrated, coordinator_notice, notice_one, notice_order, IsMaster, refusal}
 use Rattle.rk_inv_base.proofs.Words.{world_stepped, world_visited, rows_split, rows_split_of, happened, step, stepped_by, World}
-use Rattle.rk_inv_base.proofs.Words.{crashed_masters, has_crashed, new_world, StepError, Event}
+use Rattle.rk_inv_base.proofs.Words.{crashed_masters, has_crashed, new_world, Event}
 use Rattle.rk_inv_base.proofs.pulls.Joining.{stands_kept}
 use Rattle.std.proofs.Common.{Contains}
 use Rattle.rk_inv_base.proofs.Words.{list_any_at}
 use Rattle.rk_types.specs.NumberMap.{numbers}
-use Rattle.rk_world.specs.Notices.{is_named}
 use Rattle.rk_runs.specs.duties.Owners.{AllNoticed, is_crash}
 use Rattle.rk_runs.proofs.duties.Reports.{told_same}
 use Rattle.rk_runs.proofs.duties.Walks.{EventKeeps, IsKept, Part, accept_keeps, ask_keeps, event_keeps}
@@ -61,27 +60,7 @@ noticed_after coordinator (dead ∷ order) =
 
 -- the order of the notices leaves nobody out
 in_order : (rows : List Row) (dead : ℕ) (crashed : List ℕ) (master : ℕ) → is_in crashed master ≡ true → is_in (notice_order rows dead crashed) master ≡ true
-in_order rows dead crashed master inside = go (is_named rows master) (master == dead) refl refl
-  where
-    free : List ℕ
-    free = filter (λ m. not (is_named rows m)) crashed
-
-    others : List ℕ
-    others = filter (λ m. is_named rows m && not (m == dead)) crashed
-
-    itself : List ℕ
-    itself = filter (λ m. is_named rows m && (m == dead)) crashed
-
-    go : (named same : Bool) → is_named rows master ≡ named → (master == dead) ≡ same → is_in (free ++ (others ++ itself)) master ≡ true
-    go false same is e = in_left free (others ++ itself) master (in_filter (λ m. not (is_named rows m)) crashed master (ap not is) inside)
-    go true false is e =
-        in_right free (others ++ itself) master
-        (in_left others itself master
-        (in_filter (λ m. is_named rows m && not (m == dead)) crashed master (and_from (is_named rows master) _ is (ap not e)) inside))
-    go true true is e =
-        in_right free (others ++ itself) master
-        (in_right others itself master
-        (in_filter (λ m. is_named rows m && (m == dead)) crashed master (and_from (is_named rows master) _ is e) inside))
+in_order rows dead crashed master inside = grind (arith, in_left, in_filter, in_right, and_from)
 
 module _ (w : World) where
   abbrev order : ℕ → List ℕ
@@ -117,12 +96,7 @@ module _ (w : World) where
 -- ---- until the next crash
 
 migrated_same : (coordinator : Coordinator) (found : Option Row) (to : ℕ) → (row_migrated coordinator found to).noticed ≡ coordinator.noticed
-migrated_same coordinator None to = refl
-migrated_same coordinator (Some row) to = go row.phase
-  where
-    go : (phase : Phase) → (migrating coordinator row phase to).noticed ≡ coordinator.noticed
-    go (Owned master from) = refl
-    go _ = refl
+migrated_same coordinator found to = grind (arith, migrating)
 
 split_same : (coordinator : Coordinator) (found : Option Row) (at new : ℕ) → (rows_split_of coordinator found at new).noticed ≡ coordinator.noticed
 split_same coordinator None at new = refl
@@ -137,33 +111,14 @@ module _ (w : World) (all : AllNoticed w) where
   same coordinator is master crashed = ap (λ (list : List ℕ). is_in list master) is ∙ all master crashed
 
   kept : IsKept AreNoticed w
-  kept = record {
-    now = all;
-    hears = λ sender body. same (told_coordinator w.coordinator sender body).coordinator (told_same w.coordinator sender body);
-    moves = λ tablet to. same (tablet_migrated w.coordinator tablet to) (migrated_same w.coordinator (row_of w.coordinator.rows tablet) to);
-    splits = λ tablet at new. same (rows_split w.coordinator tablet at new) (split_same w.coordinator (row_of w.coordinator.rows tablet) at new);
-    notices = λ dead master crashed. noticed_still w dead master (all master crashed);
-  }
+  kept = grind (arith, same, told_coordinator, told_same, tablet_migrated, migrated_same, row_of, rows_split, split_same, noticed_still)
 
   comes : (event : Event) → is_crash event ≡ false → EventKeeps AreNoticed w event
-  comes (Event.AddTablet tablet range master) calm = all
-  comes (Event.AddClient client) calm = tt
-  comes (Event.Deliver number) calm = tt
-  comes (Event.Forget number) calm = tt
-  comes (Event.Turn node) calm = tt
-  comes (Event.Again client) calm = tt
-  comes (Event.Migrate tablet to) calm = tt
-  comes (Event.Split tablet at new) calm = tt
-  comes (Event.Crash master) calm = absurd (cc calm)
-  comes (Event.Notice master) calm = tt
+  comes event calm = grind arith
 
   -- an event
   pub stepped_noticed : (event : Event) (called : Called) → is_crash event ≡ false → AllNoticed (world_stepped w (step w event called))
-  stepped_noticed event called calm = go (refusal w event)
-    where
-      go : (refused : Option StepError) → AllNoticed (world_stepped w (stepped_by w event called refused))
-      go None = event_keeps AreNoticed w kept event called (comes event calm)
-      go (Some error) = all
+  stepped_noticed event called calm = grind (arith, refusal, world_stepped, stepped_by, event_keeps, kept, comes)
 
   -- a client's turn
   pub asked_noticed : (session : Session) → AllNoticed (world_visited w (ask w session))

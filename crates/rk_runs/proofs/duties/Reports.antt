@@ -1,6 +1,7 @@
 -- What the coordinator takes gives no row to a master that was noticed dead, since it does not hear one; and it notices none.
+use Rattle.std.proofs.Common.{arith}
 use Rattle.std.proofs.Common.{◌≡◌, ℕ, List, Option, Some, None, refl, All}
-use Rattle.rk_inv_base.proofs.Words.{Node, changed_rows, row_of, Phase, Owned, Opening, Moving, Row, Body, Coordinator, told_coordinator}
+use Rattle.rk_inv_base.proofs.Words.{Node, changed_rows, row_of, Phase, Row, Body, Coordinator, told_coordinator}
 use Rattle.rk_tablet_map.specs.Rows.{turned}
 use Rattle.rk_inv_wellformed.proofs.coordinator.Rows.{all_replaced}
 use Rattle.rk_inv_lanes.proofs.lanes.Reports.{IsMade, told_made}
@@ -25,16 +26,7 @@ keeps : (P : List Row → List ℕ → Type 0) (coordinator : Coordinator) → P
     → ((row : Row) (phase : Phase) → IsNotOwnedBy coordinator.noticed phase
     → P (changed_rows coordinator.rows row.tablet row.term phase) coordinator.noticed)
     → IsMade (λ body made. P made.coordinator.rows made.coordinator.noticed) coordinator
-keeps P coordinator now at_phase = record {
-  silent = λ body. now;
-  locates = λ lookup sender row. now;
-  notes = λ message row source sfrom target. at_phase row (Opening source sfrom target (Some message.place)) tt;
-  moves = λ message row source sfrom target dfrom. at_phase row (Moving source sfrom target dfrom) tt;
-  joins = λ tenure row source target dfrom heard. at_phase row (Owned target dfrom) heard;
-  joins_again = λ tenure row master. now;
-  rebuilds = λ message row to heard. at_phase row (Owned to message.place) heard;
-  rebuilds_again = λ message row master. now;
-}
+keeps P coordinator now at_phase = grind arith
 
 -- no row comes to be owned by a master that was noticed dead
 pub told_free : (coordinator : Coordinator) → NoDeadOwner coordinator → (sender : Node) (body : Body) → NoDeadOwner (told_coordinator coordinator sender body).coordinator

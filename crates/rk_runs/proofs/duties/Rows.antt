@@ -1,9 +1,10 @@
 -- No event gives a row to a master that was noticed dead.
-use Rattle.std.proofs.Common.{◌≡◌, ◌==◌, ◌||◌, ℕ, Bool, true, false, List, [], ◌∷◌, ◌++◌, fold, Option, Some, None, refl, sym, ap}
-use Rattle.std.proofs.Common.{inl, inr, ◌∙◌, All, filter, not, option_map, ne_eqb}
+use Rattle.std.proofs.Common.{arith}
+use Rattle.std.proofs.Common.{◌≡◌, ◌==◌, ℕ, true, false, List, [], ◌∷◌, ◌++◌, fold, Option, Some, None, refl, sym, ap}
+use Rattle.std.proofs.Common.{◌∙◌, All, option_map, ne_eqb}
 use Rattle.rk_inv_base.proofs.Words.{cases_Bool, false≢true, All-contains, All-map, All-nil, All-weaker, list_any-append, list_any_none}
-use Rattle.rk_inv_base.proofs.Words.{list_any, Range, add_fault, changed_rows, divided, lower_part, replaced, row_of, upper_part, Phase}
-use Rattle.rk_inv_base.proofs.Words.{Owned, Opening, Moving, Rebuilding, Row, Called, accept, ask, Session, Coordinator, is_noticed}
+use Rattle.rk_inv_base.proofs.Words.{Range, add_fault, changed_rows, divided, lower_part, replaced, row_of, upper_part, Phase}
+use Rattle.rk_inv_base.proofs.Words.{Row, Called, accept, ask, Session, Coordinator, is_noticed}
 use Rattle.rk_inv_base.proofs.Words.{new_row, migrating, row_migrated, notice_one, notice_order, phase_noticed, row_noticed, refusal}
 use Rattle.rk_inv_base.proofs.Words.{where_true, world_stepped, world_visited, rows_split_of, step, stepped_by, World, crashed_masters}
 use Rattle.rk_inv_base.proofs.Words.{has_crashed, new_world, StepError, Event}
@@ -24,27 +25,11 @@ module _ (coordinator : Coordinator) (dead : ℕ) where
 
   -- another master that was not noticed is not noticed then
   still_heard : (master : ℕ) → is_noticed coordinator master ≡ false → (master == dead) ≡ false → is_noticed marked master ≡ false
-  still_heard master heard apart =
-      let other : (dead == master) ≡ false = ne_eqb dead master (λ is. eqb-false master dead apart (sym is)) in
-      list_any-append (λ (noticed : ℕ). noticed == master) coordinator.noticed (dead ∷ [])
-      ∙ ap (λ (b : Bool). b || list_any (λ (noticed : ℕ). noticed == master) (dead ∷ [])) heard
-      ∙ ap (λ (b : Bool). b || false) other
+  still_heard master heard apart = grind (arith, ne_eqb, eqb-false, list_any-append)
 
   -- each row is rebuilt, or stays as it is
   row_free : (row : Row) (phase : Phase) → row.phase ≡ phase → IsNotOwnedBy coordinator.noticed phase → IsNotOwnedBy marked.noticed (row_noticed row (phase_noticed marked dead phase)).phase
-  row_free row (Owned master from) is heard = elim (cases_Bool (master == dead)) [
-    | inl e ↦ rw e tt
-    | inr e ↦ rw (e, is) (still_heard master heard e)
-  ]
-  row_free row (Opening source sfrom target dfrom) is heard = elim (cases_Bool (source == dead)) [
-    | inl e ↦ rw e tt
-    | inr e ↦ elim (cases_Bool (target == dead)) [ inl f ↦ rw (e, f) tt | inr f ↦ rw (e, f, is) tt ]
-  ]
-  row_free row (Moving source sfrom target dfrom) is heard = elim (cases_Bool (source == dead)) [
-    | inl e ↦ rw e tt
-    | inr e ↦ elim (cases_Bool (target == dead)) [ inl f ↦ rw (e, f) tt | inr f ↦ rw (e, f, is) tt ]
-  ]
-  row_free row (Rebuilding lineage to) is heard = elim (cases_Bool (to == dead)) [ inl e ↦ rw e tt | inr e ↦ rw (e, is) tt ]
+  row_free row phase is heard = grind (arith, cases_Bool, still_heard)
 
   notice_free : NoDeadOwner coordinator → NoDeadOwner (notice_one coordinator dead)
   notice_free free =
@@ -61,13 +46,7 @@ notices_free (dead ∷ order) coordinator free = notices_free order (notice_one 
 
 module _ (coordinator : Coordinator) (free : NoDeadOwner coordinator) where
   migrated_free : (found : Option Row) (to : ℕ) → NoDeadOwner (row_migrated coordinator found to)
-  migrated_free None to = free
-  migrated_free (Some row) to = go row.phase
-    where
-      go : (phase : Phase) → NoDeadOwner (migrating coordinator row phase to)
-      go (Owned master from) =
-          changed_free coordinator.noticed coordinator.rows row.tablet _ (Opening master from to None) tt free
-      go _ = free
+  migrated_free found to = grind (arith, migrating, changed_free)
 
   abbrev HasNone : Row → Type 0
   HasNone row = IsNotOwnedBy coordinator.noticed row.phase
@@ -98,16 +77,7 @@ HasFreeRows crashed coordinator = NoDeadOwner coordinator
 
 module _ (w : World) (free : IsFree w) where
   kept : IsKept HasFreeRows w
-  kept = record {
-    now = free;
-    hears = λ sender body. told_free w.coordinator free sender body;
-    moves = λ tablet to. migrated_free w.coordinator free (row_of w.coordinator.rows tablet) to;
-    splits = λ tablet at new. split_free w.coordinator free tablet at new (row_of w.coordinator.rows tablet) refl;
-    notices = λ master.
-        notices_free
-        (notice_order w.coordinator.rows master (filter (λ other. not (is_noticed w.coordinator other)) (crashed_masters w)))
-        w.coordinator free;
-  }
+  kept = grind (arith, told_free, migrated_free, row_of, split_free, notices_free, notice_order, is_noticed, crashed_masters)
 
   -- a client's turn
   pub asked_free : (session : Session) → IsFree (world_visited w (ask w session))

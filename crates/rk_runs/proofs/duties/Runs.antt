@@ -1,15 +1,15 @@
 -- Runs of a new cluster: its clients do their duties, and no row is owned by a master that was noticed dead.
-use Rattle.std.proofs.Common.{◌≡◌, ◌+◌, ◌<◌, ◌≤◌, ℕ, true, List, [], ◌∷◌, ◌++◌, Option, None, Some, length, refl, sym, subst, arith, All}
-use Rattle.std.proofs.Common.{Err, Ok, Result}
-use Rattle.rk_inv_base.proofs.Words.{length-map-range_with_len, hash_of, get, Call, Op, LANES, MOST_BACKUPS, Visited, accept, ask}
-use Rattle.rk_inv_base.proofs.Words.{Session, call_lane, Accepts, Asks, Calls, Cluster, Happens, Joins, Occurrence, called_by_client}
-use Rattle.rk_inv_base.proofs.Words.{cluster_after, cluster_run, cluster_stepped, cluster_visited, joined_by, lane_at, new_cluster}
-use Rattle.rk_inv_base.proofs.Words.{session_at, IsRun, is_added, MOST_MASTERS, world_stepped, world_visited, Stepped, step, World}
-use Rattle.rk_inv_base.proofs.Words.{has_crashed, new_world, StepError}
+use Rattle.std.proofs.Common.{◌≡◌, ◌+◌, ◌<◌, ◌≤◌, ℕ, true, List, [], ◌∷◌, Option, None, Some, length, sym, subst, arith, Err, Ok, Result}
+use Rattle.rk_inv_base.proofs.Words.{length-map-range_with_len, hash_of, get, Call, LANES, MOST_BACKUPS, Visited, accept, ask, Session}
+use Rattle.rk_inv_base.proofs.Words.{call_lane, Accepts, Asks, Calls, Cluster, Happens, Joins, Occurrence, called_by_client, cluster_after}
+use Rattle.rk_inv_base.proofs.Words.{cluster_run, cluster_stepped, cluster_visited, joined_by, lane_at, new_cluster, session_at, IsRun}
+use Rattle.rk_inv_base.proofs.Words.{is_added, MOST_MASTERS, world_stepped, world_visited, Stepped, step, World, new_world, StepError}
+use Rattle.rk_inv_base.proofs.Words.{Event, Called}
 use Rattle.std.proofs.lemmas.List.FromFn.{get_or-map-range_with_len}
 use Rattle.std.proofs.lemmas.Nat.{mod_below}
-use Rattle.rk_runs.proofs.history.Clusters.{IsGood}
-use Rattle.rk_runs.proofs.history.Runs.{Lasts, good_after}
+use Rattle.rk_runs.proofs.history.Clusters.{IsGood, IsGoodLane}
+use Rattle.rk_runs.proofs.history.Histories.{good_run}
+use Rattle.rk_runs.proofs.history.Runs.{Lasts, clients_keep, events_keep, good_after}
 use Rattle.rk_runs.proofs.history.Staying.{lanes_stay}
 use Rattle.rk_runs.specs.duties.Owners.{NoDeadOwner}
 use Rattle.rk_runs.specs.duties.Worn.{IsWornFor}
@@ -17,53 +17,54 @@ use Rattle.rk_runs.proofs.duties.Asking.{client_sends, client_worn}
 use Rattle.rk_runs.proofs.duties.Lanes.{EachLane, each_lane}
 use Rattle.rk_runs.proofs.duties.Rows.{IsFree, accepted_free, asked_free, new_free, stepped_free}
 
--- ---- one more occurrence
+-- ---- what lanes have in runs
 
-run_pushed : (cluster : Cluster) (before : List Occurrence) (last : Occurrence) → cluster_run cluster (before ++ last ∷ []) ≡ cluster_after (cluster_run cluster before) last
-run_pushed cluster [] last = refl
-run_pushed cluster (first ∷ before) last = run_pushed (cluster_after cluster first) before last
+-- something of a lane that it has at its start, and keeps whatever happens there between good events
+pub record IsKeptByLanes (P : World → Type 0) : Type 0 where
+  pub starts : (lane masters backups : ℕ) → P (new_world lane masters backups)
+  pub steps : (masters lane : ℕ) (w : World) → IsGoodLane Lasts masters lane w → (event : Event) (called : Called) → P w → P (world_stepped w (step w event called))
+  pub asks : (w : World) (session : Session) → P w → P (world_visited w (ask w session))
+  pub accepts : (w : World) (number : ℕ) (session : Session) → P w → P (world_visited w (accept w number session))
 
-is_run_pushed : (cluster : Cluster) (before : List Occurrence) (last : Occurrence) → IsRun cluster before → IsRun (cluster_run cluster before) (last ∷ []) → IsRun cluster (before ++ last ∷ [])
-is_run_pushed cluster [] last run one = one
-is_run_pushed cluster (first ∷ before) last run one =
-    (run.0, run.1, run.2, is_run_pushed (cluster_after cluster first) before last run.3 one)
+module _ (P : World → Type 0) (kept : IsKeptByLanes P) (masters : ℕ) where
+  visits_keep : (cluster : Cluster) (lane client : ℕ) (result : Result Visited StepError) → (lane < length cluster.lanes → P (world_visited (lane_at cluster lane) result))
+      → EachLane P cluster → EachLane P (cluster_visited cluster lane client result)
+  visits_keep cluster lane client (Ok visited) new each = each_lane P cluster lane visited.world new each
+  visits_keep cluster lane client (Err error) new each = each
 
--- ---- each lane of a cluster stays free of dead owners
+  occurs_keeps : (cluster : Cluster) → IsGood Lasts masters cluster → EachLane P cluster → (occurrence : Occurrence) → EachLane P (cluster_after cluster occurrence)
+  occurs_keeps cluster good each (Happens lane event called) = go (step (lane_at cluster lane) event called)
+      (λ there. kept.steps masters lane (lane_at cluster lane) (good.lanes lane there) event called (each lane there))
+    where
+      go : (result : Result Stepped StepError) → (lane < length cluster.lanes → P (world_stepped (lane_at cluster lane) result)) → EachLane P (cluster_stepped cluster lane result)
+      go (Ok stepped) new = each_lane P cluster lane stepped.world new each
+      go (Err error) new = each
+  occurs_keeps cluster good each (Joins client) = go (get cluster.sessions client)
+    where
+      go : (found : Option Session) → EachLane P (joined_by cluster client found)
+      go None = each
+      go (Some session) = each
+  occurs_keeps cluster good each (Calls client table key op) = go (get cluster.sessions client)
+    where
+      go : (found : Option Session) → EachLane P (called_by_client cluster client table key op found)
+      go None = each
+      go (Some session) = each
+  occurs_keeps cluster good each (Asks lane client) =
+      visits_keep cluster lane client (ask (lane_at cluster lane) (session_at cluster client))
+      (λ there. kept.asks (lane_at cluster lane) (session_at cluster client) (each lane there)) each
+  occurs_keeps cluster good each (Accepts lane number client) =
+      visits_keep cluster lane client (accept (lane_at cluster lane) number (session_at cluster client))
+      (λ there. kept.accepts (lane_at cluster lane) number (session_at cluster client) (each lane there)) each
 
-stepped_all : (cluster : Cluster) (lane : ℕ) (result : Result Stepped StepError) → (lane < length cluster.lanes → IsFree (world_stepped (lane_at cluster lane) result))
-    → EachLane IsFree cluster → EachLane IsFree (cluster_stepped cluster lane result)
-stepped_all cluster lane (Ok stepped) new each = each_lane IsFree cluster lane stepped.world new each
-stepped_all cluster lane (Err error) new each = each
+  run_keeps : (cluster : Cluster) (list : List Occurrence) → IsGood Lasts masters cluster → IsRun cluster list → EachLane P cluster → EachLane P (cluster_run cluster list)
+  run_keeps cluster [] good run each = each
+  run_keeps cluster (occurrence ∷ later) good run each = run_keeps (cluster_after cluster occurrence) later
+      (good_run Lasts masters events_keep clients_keep (λ w lasts. lasts.0.tell) cluster (occurrence ∷ []) good (run.0, run.1, run.2, tt))
+      run.3 (occurs_keeps cluster good each occurrence)
 
-visited_all : (cluster : Cluster) (lane client : ℕ) (result : Result Visited StepError) → (lane < length cluster.lanes → IsFree (world_visited (lane_at cluster lane) result))
-    → EachLane IsFree cluster → EachLane IsFree (cluster_visited cluster lane client result)
-visited_all cluster lane client (Ok visited) new each = each_lane IsFree cluster lane visited.world new each
-visited_all cluster lane client (Err error) new each = each
-
-joined_all : (cluster : Cluster) (client : ℕ) (found : Option Session) → EachLane IsFree cluster → EachLane IsFree (joined_by cluster client found)
-joined_all cluster client None each = each
-joined_all cluster client (Some session) each = each
-
-called_all : (cluster : Cluster) (client table : ℕ) (key : List ℕ) (op : Op) (found : Option Session) → EachLane IsFree cluster → EachLane IsFree (called_by_client cluster client table key op found)
-called_all cluster client table key op None each = each
-called_all cluster client table key op (Some session) each = each
-
--- where each master that was noticed dead has crashed
-abbrev OnlyCrashed : World → Type 0
-OnlyCrashed w = All (λ dead. has_crashed w dead ≡ true) w.coordinator.noticed
-
-free_after : (cluster : Cluster) → EachLane OnlyCrashed cluster → EachLane IsFree cluster → (occurrence : Occurrence) → EachLane IsFree (cluster_after cluster occurrence)
-free_after cluster gone each (Happens lane event called) =
-    stepped_all cluster lane (step (lane_at cluster lane) event called)
-    (λ there. stepped_free (lane_at cluster lane) (each lane there) (gone lane there) event called) each
-free_after cluster gone each (Joins client) = joined_all cluster client (get cluster.sessions client) each
-free_after cluster gone each (Calls client table key op) = called_all cluster client table key op (get cluster.sessions client) each
-free_after cluster gone each (Asks lane client) =
-    visited_all cluster lane client (ask (lane_at cluster lane) (session_at cluster client))
-    (λ there. asked_free (lane_at cluster lane) (each lane there) (session_at cluster client)) each
-free_after cluster gone each (Accepts lane number client) =
-    visited_all cluster lane client (accept (lane_at cluster lane) number (session_at cluster client))
-    (λ there. accepted_free (lane_at cluster lane) (each lane there) number (session_at cluster client)) each
+-- no row is owned by a master that was noticed dead
+pub free_kept : IsKeptByLanes IsFree
+free_kept = grind (arith, new_free, stepped_free, asked_free, accepted_free)
 
 -- ---- runs
 
@@ -78,32 +79,21 @@ module _ (masters backups : ℕ) (few : masters ≤ MOST_MASTERS) (backed : 1 �
   within : (list : List Occurrence) (lane : ℕ) → lane < LANES → lane < length (cluster_run start list).lanes
   within list lane inside = omega (arith, inside, lanes_stay start list, start_long)
 
-  start_free : EachLane IsFree start
-  start_free lane inside =
-      subst IsFree
+  -- what lanes keep each lane has
+  pub lanes_in_run : (P : World → Type 0) → IsKeptByLanes P → (list : List Occurrence) → IsRun start list → (lane : ℕ) → lane < LANES → P (lane_at (cluster_run start list) lane)
+  lanes_in_run P kept list run lane inside =
+      run_keeps P kept masters start list (good_after masters backups few backed few_backups [] tt) run
+      (λ q there.
+      subst P
       (sym
-      (get_or-map-range_with_len (λ (number : ℕ). new_world number masters backups) 0 LANES lane lane (new_world lane 0 0)
-      (omega (arith, inside, start_long)) (omega arith)))
-      (new_free lane masters backups)
-
-  crashed_after : (list : List Occurrence) → IsRun start list → EachLane OnlyCrashed (cluster_run start list)
-  crashed_after list run lane inside =
-      let good : IsGood Lasts masters (cluster_run start list) = good_after masters backups few backed few_backups list run in
-      (good.lanes lane inside).formed.noticed
-
-  free_later : (before later : List Occurrence) → IsRun start before → IsRun (cluster_run start before) later → EachLane IsFree (cluster_run start before)
-      → EachLane IsFree (cluster_run (cluster_run start before) later)
-  free_later before [] ran run each = each
-  free_later before (next ∷ later) ran run each =
-      let is = run_pushed start before next in
-      subst (λ (cluster : Cluster). EachLane IsFree (cluster_run cluster later)) is
-      (free_later (before ++ next ∷ []) later (is_run_pushed start before next ran (run.0, run.1, run.2, tt))
-      (subst (λ (cluster : Cluster). IsRun cluster later) (sym is) run.3)
-      (subst (EachLane IsFree) (sym is) (free_after (cluster_run start before) (crashed_after before ran) each next)))
+      (get_or-map-range_with_len (λ (number : ℕ). new_world number masters backups) 0 LANES q q (new_world q 0 0)
+      (omega (arith, there, start_long)) (omega arith)))
+      (kept.starts q masters backups))
+      lane (within list lane inside)
 
   -- no row is owned by a master that was noticed dead
   pub free_in_run : (list : List Occurrence) (lane : ℕ) → IsRun start list → lane < LANES → NoDeadOwner (lane_at (cluster_run start list) lane).coordinator
-  free_in_run list lane run inside = free_later [] list tt run start_free lane (within list lane inside)
+  free_in_run list lane run inside = lanes_in_run IsFree free_kept list run lane inside
 
   -- a client does its duty
   pub sends_in_run : (list : List Occurrence) (lane client : ℕ) (call : Call) (visited : Visited) → IsRun start list

@@ -1,7 +1,7 @@
 -- The coordinator's turn: it sends a message for each row that is not owned.
-use Rattle.std.proofs.Common.{◌≡◌, ◌≤◌, ◌<◌, ℕ, Bool, true, false, List, [], ◌∷◌, length, Option, Some, None, refl, sym, ap, ◌∙◌, ⊎_elim}
-use Rattle.std.proofs.Common.{arith, All, Contains, Err, ◌≢◌, option_map, flat_map, length-append}
-use Rattle.rk_inv_base.proofs.Words.{Event, Node, false≢true, All-contains, option_or, Phase, Owned, Opening, Row, Message, Called}
+use Rattle.std.proofs.Common.{◌≡◌, ◌≤◌, ◌<◌, ℕ, false, List, [], ◌∷◌, length, None, refl, ap, ◌∙◌, ⊎_elim}
+use Rattle.std.proofs.Common.{arith, All, Contains, Err, ◌≢◌, flat_map, length-append}
+use Rattle.rk_inv_base.proofs.Words.{Event, Node, false≢true, All-contains, Phase, Owned, Opening, Row, Message, Called}
 use Rattle.rk_inv_base.proofs.Words.{Coordinator, coordinator_turn, row_duty, worn, happened, step, stepped_by, World, has_crashed}
 use Rattle.rk_inv_base.proofs.Words.{StepError}
 use Rattle.rk_world.specs.Quiet.{IsOwnedLive}
@@ -48,11 +48,7 @@ unowned_sends w row called stands unowned =
 module _ (w : World) (free : NoDeadOwner w.coordinator) (noticed : AllNoticed w) where
   -- an owner lives
   owner_lives : (master from : ℕ) → IsNotOwnedBy w.coordinator.noticed (Owned master from) → IsOwnedLive w.crashed (Owned master from)
-  owner_lives master from heard = go (has_crashed w master) refl
-    where
-      go : (crashed : Bool) → has_crashed w master ≡ crashed → has_crashed w master ≡ false
-      go false is = is
-      go true is = absurd (false≢true (sym heard ∙ noticed master is))
+  owner_lives master from heard = grind (arith, has_crashed, false≢true)
 
   row_lives : (row : Row) (phase : Phase) → row.phase ≡ phase → coordinator_turn w.coordinator ≡ [] → Contains w.coordinator.rows row → IsNotOwnedBy w.coordinator.noticed phase
       → IsOwnedLive w.crashed phase
@@ -78,8 +74,4 @@ module _ (w : World) (free : NoDeadOwner w.coordinator) (noticed : AllNoticed w)
 -- ---- a turn that is refused
 
 pub turn_refused : (w : World) (called : Called) (error : StepError) → step w (Event.Turn Node.Coordinator) called ≡ Err error → IsWorn w error
-turn_refused w called error = go (worn w) refl
-  where
-    go : (number : Option ℕ) → worn w ≡ number → stepped_by w (Event.Turn Node.Coordinator) called (option_or (option_map StepError.Worn number) None) ≡ Err error → IsWorn w error
-    go None is refused = absurd (cc refused)
-    go (Some number) is refused = record { number = number; worn_is = is; error_is = cc refused }
+turn_refused w called error = grind (arith, worn, stepped_by)

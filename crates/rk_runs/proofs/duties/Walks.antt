@@ -1,5 +1,6 @@
 -- What each event and each client keeps of a lane's coordinator and of who has crashed, where each change of these keeps it.
-use Rattle.std.proofs.Common.{ℕ, List, [], subst, ◌++◌, ◌∷◌}
+use Rattle.std.proofs.Common.{arith}
+use Rattle.std.proofs.Common.{ℕ, List, [], ◌++◌, ◌∷◌}
 use Rattle.rk_inv_base.proofs.Words.{Body, Called, Coordinator, Event, Node, Session, World, accept, ask, coordinator_notice}
 use Rattle.rk_inv_base.proofs.Words.{crashed_masters, happened, new_row, rows_split, tablet_migrated, told_coordinator, world_visited, ⊤}
 use Rattle.rk_world.specs.Coordinator.{with_row}
@@ -30,23 +31,7 @@ pub record IsKept (P : Part) (w : World) : Type 0 where
 
 module _ (P : Part) (w : World) where
   covers : IsKept P w → (event : Event) (called : Called) → EventKeeps P w event → Covers (Has P) w event called
-  covers kept event called keeps = record {
-    quiet = λ backups may. kept.now;
-    steps = λ number master message is found to lives. kept.now;
-    turns = λ master. kept.now;
-    hears = λ message. kept.hears message.from message.body;
-    duties = kept.now;
-    answers = λ backup sender body backups may. kept.now;
-    again = λ client message found. kept.now;
-    adds = λ tablet range master is. subst (EventKeeps P w) is keeps;
-    comes = λ client is new. kept.now;
-    forgets = λ number is. kept.now;
-    moves = kept.moves;
-    parts = kept.splits;
-    splits = λ tablet at new number master term. kept.splits tablet at new;
-    crashes = λ master is. subst (EventKeeps P w) is keeps;
-    notices = kept.notices;
-  }
+  covers kept event called keeps = grind arith
 
   -- an event
   pub event_keeps : IsKept P w → (event : Event) (called : Called) → EventKeeps P w event → Has P (happened w event called).world

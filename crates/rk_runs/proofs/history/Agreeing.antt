@@ -47,12 +47,7 @@ accepted_on journal now stays call accepted =
 module _ (before after : ℕ → Ledger) (lane : ℕ) (new : Ledger) (changes : ChangesAt before after lane new) (stays : StaysIn (before lane).journal new.journal) where
   -- so what receipts told is recorded still
   recorded_on : (receipts : List Receipt) → All (IsRecordedIn before) receipts → All (IsRecordedIn after) receipts
-  recorded_on =
-      All-weaker (IsRecordedIn before) (IsRecordedIn after) (λ (receipt : Receipt) was.
-      let placed : Placed = record { call = receipt.call; outcome = receipt.outcome; stamp = receipt.stamp; accepted = true } in
-      at_lane before after lane new changes (λ ledger. slice_get ledger.journal receipt.place ≡ Some placed) receipt.lane
-      (λ is. stays receipt.place placed (subst (λ (q : ℕ). slice_get (before q).journal receipt.place ≡ Some placed) is was) refl)
-      (λ apart. was))
+  recorded_on = grind (arith, at_lane)
 
   told_on : (client : ℕ) (receipts : List Receipt) → AreTold receipts client lane new.journal → ((q : ℕ) → AreTold receipts client q (before q).journal) → (q : ℕ) → AreTold receipts client q (after q).journal
   told_on client receipts here told q =
@@ -61,28 +56,11 @@ module _ (before after : ℕ → Ledger) (lane : ℕ) (new : Ledger) (changes : 
 
   -- a session that stays as it was agrees still, where its receipts tell of the new journal, and its last call there is known
   agrees_on : (client : ℕ) (session : Session) → Agrees before client session → AreTold session.receipts client lane new.journal → IsLastKnown new.journal session (asked_by new client) → Agrees after client session
-  agrees_on client session agrees told asked = record {
-    own = agrees.own;
-    numbered = agrees.numbered;
-    own_calls = agrees.own_calls;
-    last = agrees.last;
-    outstanding = agrees.outstanding;
-    rising = agrees.rising;
-    seen = agrees.seen;
-    recorded = recorded_on session.receipts agrees.recorded;
-    told = told_on client session.receipts told agrees.told;
-    asked = λ q.
-        at_lane before after lane new changes (λ ledger. IsLastKnown ledger.journal session (asked_by ledger client)) q (λ is. asked)
-        (λ apart. agrees.asked q);
-  }
+  agrees_on client session agrees told asked = grind (arith, recorded_on, told_on, at_lane, asked_by)
 
   -- as it is where the client asked what it had asked
   same_agrees : (client : ℕ) (session : Session) → Agrees before client session → asked_by new client ≡ asked_by (before lane) client → AreTold session.receipts client lane new.journal → Agrees after client session
-  same_agrees client session agrees same told =
-      agrees_on client session agrees told
-      (rw same
-      (known_on (before lane).journal new.journal session (asked_by (before lane) client)
-      (accepted_on (before lane).journal new.journal stays) (agrees.asked lane)))
+  same_agrees client session agrees same told = grind (arith, agrees_on, known_on, asked_by, accepted_on)
 
 module _ (before after : ℕ → Ledger) (lane : ℕ) (new : Ledger) (changes : ChangesAt before after lane new) (client : ℕ) (session : Session) (agrees : Agrees before client session) where
   -- a journal that grows
@@ -100,57 +78,18 @@ module _ (before after : ℕ → Ledger) (lane : ℕ) (new : Ledger) (changes : 
 
   -- a client asks its outstanding call there
   pub agrees_asked : (call : Call) → session.outstanding ≡ Some call → new.journal ≡ (before lane).journal → asked_by new client ≡ Some (record { call = call; seen = session.seen }) → Agrees after client session
-  agrees_asked call is_out same last_is =
-      agrees_on before after lane new changes
-      (λ place placed at accepted. ap (λ (list : List Placed). slice_get list place) same ∙ at) client session agrees
-      (rw same (agrees.told lane)) (rw last_is (inr (record { call_is = is_out; seen_is = refl })))
+  agrees_asked call is_out same last_is = grind (arith, agrees_on)
 
 -- ---- the session goes on
 
 module _ (ledgers : ℕ → Ledger) (client : ℕ) (session : Session) (agrees : Agrees ledgers client session) where
   -- with other ranges that it cached, and requests
   pub agrees_looking : (ranges : List (List Located)) (requests : ℕ) (request : Option Message) → Agrees ledgers client (record session { ranges = ranges; requests = requests; request = request })
-  agrees_looking ranges requests request = record {
-    own = agrees.own;
-    numbered = agrees.numbered;
-    own_calls = agrees.own_calls;
-    last = agrees.last;
-    outstanding = agrees.outstanding;
-    rising = agrees.rising;
-    seen = agrees.seen;
-    recorded = agrees.recorded;
-    told = agrees.told;
-    asked = λ q. still (ledgers q).journal (asked_by (ledgers q) client) (agrees.asked q);
-  }
-    where
-      still : (journal : List Placed) (last : Option LastCall) → IsLastKnown journal session last → IsLastKnown journal (record session { ranges = ranges; requests = requests; request = request }) last
-      still journal None known = tt
-      still journal (Some last) known =
-          ⊎_elim (λ (accepted : IsAccepted journal last.call). inl accepted)
-          (λ (out : IsOutstanding session last). inr (record { call_is = out.call_is; seen_is = out.seen_is })) known
+  agrees_looking ranges requests request = grind (arith, asked_by)
 
   -- a client that has no call outstanding asks its next one
   pub agrees_calling : (table : ℕ) (key : List ℕ) (op : Op) → session.outstanding ≡ None → Agrees ledgers client (with_next_call session table key op)
-  agrees_calling table key op idle = record {
-    own = agrees.own;
-    numbered = agrees.numbered;
-    own_calls = agrees.own_calls;
-    last =
-        let none : session.last ≡ length session.receipts + 0 = agrees.last ∙ ap (λ (o : Option Call). length session.receipts + waiting o) idle in
-        omega (arith, none);
-    outstanding = (agrees.own, refl);
-    rising = agrees.rising;
-    seen = agrees.seen;
-    recorded = agrees.recorded;
-    told = agrees.told;
-    asked = λ q. still (ledgers q).journal (asked_by (ledgers q) client) (agrees.asked q);
-  }
-    where
-      still : (journal : List Placed) (last : Option LastCall) → IsLastKnown journal session last → IsLastKnown journal (with_next_call session table key op) last
-      still journal None known = tt
-      still journal (Some last) known =
-          ⊎_elim (λ (accepted : IsAccepted journal last.call). inl accepted)
-          (λ (out : IsOutstanding session last). absurd (let both : None ≡ Some last.call = sym idle ∙ out.call_is in cc both)) known
+  agrees_calling table key op idle = grind (arith, asked_by)
 
 -- ---- a record is accepted
 

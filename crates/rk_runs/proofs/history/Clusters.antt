@@ -2,7 +2,7 @@
 -- That events keep lanes sound is an argument here.
 use Rattle.std.proofs.Common.{◌≡◌, ℕ, ◌<◌, Option, length, refl, sym, ap, subst, ⊎_elim, arith, IfSome, unwrap_or, w32, get_or-set_other}
 use Rattle.std.proofs.Common.{get_or-set_same, length-set}
-use Rattle.rk_inv_base.proofs.Words.{cases_eq, get_other, get_same, NumberMap, HasOwnKeys, no_base, Session, new_session, Cluster}
+use Rattle.rk_inv_base.proofs.Words.{cases_eq, get_other, get_same, NumberMap, no_base, Session, new_session, Cluster}
 use Rattle.rk_inv_base.proofs.Words.{lane_at, session_at, with_lane, with_session, IsWellFormed, Ledger, MayAct, HasRoom, World}
 use Rattle.rk_inv_base.proofs.Words.{new_world, IsSound}
 use Rattle.rk_entry.specs.Numbers.{IsNumber}
@@ -37,12 +37,7 @@ pub record IsGood (Steady : World → Type 0) (masters : ℕ) (cluster : Cluster
 
 -- a sound lane is lawful
 pub lawful_lane : (Steady : World → Type 0) (masters lane : ℕ) (w : World) → IsGoodLane Steady masters lane w → IsLawfulLane lane w.ledger
-lawful_lane Steady masters lane w good = record {
-  rising = good.sound.truth.rising;
-  own_keys = subst (λ (l : ℕ). HasOwnKeys l w.ledger.journal) good.lane_is good.sound.asked.own_keys;
-  once = good.sound.calls.once;
-  asked = good.sound.asked.recorded;
-}
+lawful_lane Steady masters lane w good = grind arith
 
 -- ---- one lane or one session of a cluster is another
 
@@ -54,10 +49,7 @@ module _ (cluster : Cluster) (lane : ℕ) (w : World) (within : lane < length cl
   lane_other q apart = get_or-set_other cluster.lanes lane q w (new_world q 0 0) apart
 
   pub changes_there : (sessions : NumberMap Session) → ChangesAt (ledgers_of cluster) (ledgers_of (record (with_lane cluster lane w) { sessions = sessions })) lane w.ledger
-  changes_there sessions = record {
-    here = ap (λ (v : World). v.ledger) lane_here;
-    others = λ q apart. ap (λ (v : World). v.ledger) (lane_other q apart);
-  }
+  changes_there sessions = grind (arith, lane_here, lane_other)
 
   pub lanes_there : (Steady : World → Type 0) (masters : ℕ) → ((q : ℕ) → q < length cluster.lanes → IsGoodLane Steady masters q (lane_at cluster q)) → IsGoodLane Steady masters lane w → (q : ℕ) → q < length (with_lane cluster lane w).lanes → IsGoodLane Steady masters q (lane_at (with_lane cluster lane w) q)
   lanes_there Steady masters good new q inside =
@@ -78,8 +70,4 @@ module _ (cluster : Cluster) (client : ℕ) (session : Session) where
 
   -- what holds of each session
   pub each_session : (P : ℕ → Session → Type 0) → P client session → ((c : ℕ) → (c ≡ client → ⊥) → P c (session_at cluster c)) → (c : ℕ) → P c (session_at (with_session cluster client session) c)
-  each_session P here other c =
-      ⊎_elim
-      (λ (is : c ≡ client).
-      subst (λ (n : ℕ). P n (session_at (with_session cluster client session) n)) (sym is) (subst (P client) (sym session_here) here))
-      (λ (apart : c ≡ client → ⊥). subst (P c) (sym (session_other c apart)) (other c apart)) (cases_eq c client)
+  each_session P here other c = grind (arith, session_at, with_session, session_here, session_other, cases_eq)

@@ -1,23 +1,15 @@
 -- In a run a row that moves comes to be owned by an event that finishes its migration.
-use Rattle.std.proofs.Common.{◌≡◌, ℕ, Option, Some, None, sym, ap, subst, ◌∙◌, Err, Ok}
+use Rattle.std.proofs.Common.{arith}
+use Rattle.std.proofs.Common.{◌≡◌, ℕ, Some, None, sym, subst, ◌∙◌, Ok}
 use Rattle.rk_inv_base.proofs.Words.{get, Member, Node, row_of, Moving, Owned, Row, Message, Called, Gave, refusal, Stepped, delivered}
-use Rattle.rk_inv_base.proofs.Words.{delivered_to, happened, step, stepped_by, World, StepError, Event, IsSound}
+use Rattle.rk_inv_base.proofs.Words.{delivered_to, happened, step, stepped_by, World, Event, IsSound}
 use Rattle.rk_inv_rows.proofs.finished.JoinedDelivered.{finishes}
 use Rattle.rk_inv_rows.proofs.finished.OnlyJoined.{only_joined}
 use Rattle.rk_runs.specs.history.Runs.{IsFinishedBy}
 
 -- what a replica answers changes nothing of a delivery to the coordinator
 any_answer : (w : World) (number : ℕ) (message : Message) (called : Called) → get w.wire.messages number ≡ Some message → message.to ≡ Node.Coordinator → step w (Event.Deliver number) called ≡ step w (Event.Deliver number) (Gave None)
-any_answer w number message called there for_coordinator = by_refusal (refusal w (Event.Deliver number))
-  where
-    of_message : (called : Called) → happened w (Event.Deliver number) called ≡ delivered_to w message Node.Coordinator called
-    of_message called =
-        ap (λ (found : Option Message). delivered w found called) there
-        ∙ ap (λ (to : Node). delivered_to w message to called) for_coordinator
-
-    by_refusal : (refused : Option StepError) → stepped_by w (Event.Deliver number) called refused ≡ stepped_by w (Event.Deliver number) (Gave None) refused
-    by_refusal None = ap (λ (stepped : Stepped). Ok stepped) (of_message called ∙ sym (of_message (Gave None)))
-    by_refusal (Some error) = λ i. Err error
+any_answer w number message called there for_coordinator = grind (arith, refusal, happened, delivered_to, delivered, stepped_by)
 
 pub finished_by : (w : World) (event : Event) (called : Called) (stepped : Stepped) (row now : Row) (source target : Member) (owner from : ℕ) → IsSound w → row_of w.coordinator.rows row.tablet ≡ Some row
     → row.phase ≡ Moving source.master source.from target.master target.from → step w event called ≡ Ok stepped

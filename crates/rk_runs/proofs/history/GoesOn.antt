@@ -1,7 +1,8 @@
 -- What an event makes of a lane: its journal gets more records at most, none of which is accepted, and what clients asked stays.
-use Rattle.std.proofs.Common.{◌≡◌, ℕ, false, List, [], ◌∷◌, ◌++◌, Option, Some, None, refl, sym, ap, ◌∙◌, append-nil, append_assoc}
+use Rattle.std.proofs.Common.{arith}
+use Rattle.std.proofs.Common.{◌≡◌, ℕ, false, List, [], ◌∷◌, ◌++◌, Option, Some, None, refl, ap, ◌∙◌, append-nil, append_assoc}
 use Rattle.std.proofs.Common.{filter, fold, is_some, not, unwrap_or, All}
-use Rattle.rk_inv_base.proofs.Words.{All-append, All-cons, All-nil, get, Call, Ended, Outcome, Placed, row_of, Phase, Owned, Row, Rebuilt}
+use Rattle.rk_inv_base.proofs.Words.{All-append, All-cons, All-nil, get, Call, Ended, Outcome, Placed, row_of, Row, Rebuilt}
 use Rattle.rk_inv_base.proofs.Words.{Called, Coordinator, is_noticed, coordinator_step, next_record, Ledger, asked_by, seen_of}
 use Rattle.rk_inv_base.proofs.Words.{with_all_served, with_client, with_ends, with_marks, with_rebuilt, with_record, master_step}
 use Rattle.rk_inv_base.proofs.Words.{master_turn, migrating, row_migrated, notice_one, notice_order, rows_split_of, happened}
@@ -25,12 +26,7 @@ pub record Grows (client : ℕ) (before after : Ledger) : Type 0 where
 module _ (client : ℕ) where
   -- a ledger with the same journal and the same calls
   pub same_ledger : (before after : Ledger) → after.journal ≡ before.journal → asked_by after client ≡ asked_by before client → Grows client before after
-  same_ledger before after journal asked = record {
-    more = [];
-    journal_is = journal ∙ sym (append-nil before.journal);
-    unaccepted = All-nil _;
-    asked = asked;
-  }
+  same_ledger before after journal asked = grind (arith, append-nil)
 
   -- one more record
   recorded : (start ledger : Ledger) (call : Call) (outcome : Outcome) (seen : ℕ) → Grows client start ledger → Grows client start (with_record ledger call outcome seen)
@@ -51,12 +47,7 @@ module _ (client : ℕ) where
       (recorded start ledger served.call served.outcome (seen_of (asked_by ledger served.call.client)) grows)
 
   marked : (start ledger : Ledger) (marks : List Mark) → Grows client start ledger → Grows client start (record ledger { marks = marks })
-  marked start ledger marks grows = record {
-    more = grows.more;
-    journal_is = grows.journal_is;
-    unaccepted = grows.unaccepted;
-    asked = grows.asked;
-  }
+  marked start ledger marks grows = grind arith
 
   worked_grows : (ledger : Ledger) (master seen : ℕ) (worked : Worked) → Grows client ledger (ledger_after ledger master seen worked)
   worked_grows ledger master seen worked =
@@ -81,24 +72,10 @@ module _ (client : ℕ) where
 
 -- a coordinator has as many masters as before
 masters_stay : (coordinator : Coordinator) → IsMade (λ body made. made.coordinator.masters ≡ coordinator.masters) coordinator
-masters_stay coordinator = record {
-  silent = λ body. refl;
-  locates = λ lookup sender row. refl;
-  notes = λ message row source sfrom target. refl;
-  moves = λ message row source sfrom target dfrom. refl;
-  joins = λ tenure row source target dfrom heard. refl;
-  joins_again = λ tenure row master. refl;
-  rebuilds = λ message row to heard. refl;
-  rebuilds_again = λ message row master. refl;
-}
+masters_stay coordinator = grind arith
 
 migrated_keeps : (coordinator : Coordinator) (found : Option Row) (to : ℕ) → (row_migrated coordinator found to).masters ≡ coordinator.masters
-migrated_keeps coordinator None to = refl
-migrated_keeps coordinator (Some row) to = go row.phase
-  where
-    go : (phase : Phase) → (migrating coordinator row phase to).masters ≡ coordinator.masters
-    go (Owned master from) = refl
-    go _ = refl
+migrated_keeps coordinator found to = grind (arith, migrating)
 
 noticed_keeps : (count : ℕ) (list : List ℕ) (coordinator : Coordinator) → coordinator.masters ≡ count → (fold notice_one coordinator list).masters ≡ count
 noticed_keeps count list coordinator is =
@@ -120,12 +97,7 @@ pub record GoesOn (before after : World) : Type 0 where
 module _ (w : World) where
   -- what changed is not among these
   pub as_it_was : (after : World) → after.lane ≡ w.lane → after.base ≡ w.base → after.coordinator.masters ≡ w.coordinator.masters → after.ledger ≡ w.ledger → GoesOn w after
-  as_it_was after lane base masters ledger = record {
-    lane_is = lane;
-    base_is = base;
-    masters_are = masters;
-    ledger = λ client. same_ledger client w.ledger after.ledger (ap (λ (l : Ledger). l.journal) ledger) (ap (λ (l : Ledger). asked_by l client) ledger);
-  }
+  as_it_was after lane base masters ledger = grind (arith, same_ledger, asked_by)
 
   worked_on : (master seen : ℕ) (worked : Worked) → GoesOn w (worked_at w master seen worked).world
   worked_on master seen worked = record {

@@ -1,5 +1,6 @@
 -- The good lanes of a cluster: their journals are lawful, and legal.
-use Rattle.std.proofs.Common.{ℕ, map, slice_index_or, List, [], length, refl, subst, suc, sym, zero, ⊎_elim, ◌<◌, ◌∷◌, ◌≡◌, ◌≤◌}
+use Rattle.std.proofs.Common.{arith}
+use Rattle.std.proofs.Common.{ℕ, map, slice_index_or, List, [], length, refl, subst, suc, sym, zero, ◌<◌, ◌∷◌, ◌≡◌}
 use Rattle.rk_inv_base.proofs.Words.{All-nil, Base, Cluster, HasOwnKeys, IsLegal, IsRisingAbove, World, base_map, cases_lt, get_or_past}
 use Rattle.rk_inv_base.proofs.Words.{journal_of, lane_at, new_world, none-some}
 use Rattle.rk_model.specs.History.{empty_map}
@@ -23,10 +24,7 @@ module _ (cluster : Cluster) where
   -- what each lane of the cluster has, and so has one in which nothing happened
   pub each_lane : (P : ℕ → World → Type 0) → ((lane : ℕ) → lane < length cluster.lanes → P lane (lane_at cluster lane))
       → ((lane : ℕ) → P lane (new_world lane 0 0)) → (lane : ℕ) → P lane (lane_at cluster lane)
-  each_lane P there new lane =
-      ⊎_elim (λ (inside : lane < length cluster.lanes). there lane inside)
-      (λ (past : length cluster.lanes ≤ lane). subst (P lane) (sym (get_or_past cluster.lanes lane (new_world lane 0 0) past)) (new lane))
-      (cases_lt lane (length cluster.lanes))
+  each_lane P there new lane = grind (arith, get_or_past, new_world, cases_lt)
 
   module _ {Steady : World → Type 0} {masters : ℕ}
       (good : (lane : ℕ) → lane < length cluster.lanes → IsGoodLane Steady masters lane (lane_at cluster lane)) where

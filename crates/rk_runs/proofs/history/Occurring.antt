@@ -1,4 +1,5 @@
 -- A good cluster stays good at all that occurs in it, where events keep lanes sound.
+use Rattle.std.proofs.Common.{arith}
 use Rattle.std.proofs.Common.{◌≡◌, ℕ, ◌<◌, Bool, true, false, cond, List, Option, Some, None, length, refl, sym, ap, subst, ◌∙◌, ⊎_elim}
 use Rattle.std.proofs.Common.{◌≤◌, IfSome, Ok, unwrap_or, w32, option_map}
 use Rattle.rk_inv_base.proofs.Words.{cases_lt, get_or_past, IfSome_then, get, Call, Op, Message, Called, Visited, accept, accept_by}
@@ -80,12 +81,7 @@ module _ (Steady : World → Type 0) (masters : ℕ) (events_keep : EventsKeep S
   calling client session table key op agrees acts lawful (Some call) idle = gets client session agrees acts
 
   pub calls : (client table : ℕ) (key : List ℕ) (op : Op) → IsLawfulCall (next_call (session_at cluster client) table key op) → (found : Option Session) → get cluster.sessions client ≡ found → IsGood Steady masters (called_by_client cluster client table key op found)
-  calls client table key op lawful None none = good
-  calls client table key op lawful (Some session) some =
-      let is : session_at cluster client ≡ session = ap (λ (o : Option Session). unwrap_or o (new_session client)) some in
-      calling client session table key op (subst (Agrees (ledgers_of cluster) client) is (good.agree client))
-      (subst (IsGoodSession masters client) is (good.sessions client))
-      (subst (λ (s : Session). IsLawfulCall (next_call s table key op)) is lawful) session.outstanding refl
+  calls client table key op lawful found none = grind (arith, session_at, new_session, calling, ledgers_of)
 
   -- ---- a turn or an answer
 

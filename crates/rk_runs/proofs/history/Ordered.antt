@@ -1,11 +1,11 @@
 -- The merged history of the lanes is ordered with the sessions of the clients, where the lanes are lawful and all agree.
 use Rattle.std.proofs.Common.{◌≡◌, ℕ, ◌+◌, ◌<◌, Bool, true, false, ◌&&◌, ◌||◌, eqb, List, Option, Some, None, refl, sym, ap, subst, ◌∙◌}
 use Rattle.std.proofs.Common.{⊎_elim, arith, map, length, slice_get, IfSome, All, Contains, eq-eqb, eqb-true}
-use Rattle.rk_inv_base.proofs.Words.{and_parts, false≢true, All-contains, All-weaker, Call, Placed, Receipt, HasOwnKeys, IsRisingAbove}
+use Rattle.rk_inv_base.proofs.Words.{and_parts, false≢true, All-contains, Call, Placed, Receipt, HasOwnKeys, IsRisingAbove}
 use Rattle.rk_inv_base.proofs.Words.{is_mutation, journal_of, lane_of_key, Answered, AreOneMutation, Line, Session, Ledger, asked_by}
 use Rattle.rk_inv_base.proofs.Words.{LastCall, IsAccepted, WasAsked}
 use Rattle.rk_model.specs.Merged.{IsMergedFrom, is_kept, merged}
-use Rattle.rk_model.specs.Ordered.{Caller, IsOrdered, IsRecorded, accepted_by, answer_of, told_by}
+use Rattle.rk_model.specs.Ordered.{Caller, IsOrdered, accepted_by, answer_of, told_by}
 use Rattle.rk_model.proofs.Merging.{merged-IsMergedFrom}
 use Rattle.rk_model.proofs.Order.{kept_if_accepted}
 use Rattle.rk_inv_base.proofs.pulls.Joining.{kept_stands, stands_kept}
@@ -75,11 +75,7 @@ module _ (journals : List (List Placed)) (ledgers : ℕ → Ledger) (sessions : 
       (eq-eqb receipt.call.client client own)))
 
   answered : (client : ℕ) → map answer_of (accepted_by client history) ≡ map told_by (sessions client).receipts
-  answered client =
-      one_order (map answer_of (accepted_by client history)) (map told_by (sessions client).receipts)
-      (lines_in_order (λ (line : Line). line.placed.accepted && eqb line.placed.call.client client) history from.ordered)
-      (told_in_order 0 (sessions client).receipts (agree client).rising)
-      (told_line client) (line_told client)
+  answered client = grind (arith, one_order, lines_in_order, eqb, from, told_in_order, told_line, line_told)
 
   -- ---- a record that is not accepted is of the outstanding call
 
@@ -187,13 +183,4 @@ module _ (journals : List (List Placed)) (ledgers : ℕ → Ledger) (sessions : 
       one_place history from.ordered i j b (at_i ∙ (λ k. Some (record { lane = lanes k; placed = records k }))) at_j
 
   pub ordered : IsOrdered journals history callers
-  ordered = record {
-    numbered = λ client. (agree client).numbered;
-    recorded = λ client.
-        All-weaker (IsRecordedIn ledgers) (IsRecorded journals)
-        (λ (receipt : Receipt) at. ap (λ (list : List Placed). slice_get list receipt.place) (same receipt.lane) ∙ at)
-        (sessions client).receipts (agree client).recorded;
-    answered = answered;
-    once = once;
-    asked = λ i line at unaccepted. open_line line (stands_at history i line at) unaccepted;
-  }
+  ordered = grind (arith, answered, once, open_line, stands_at)

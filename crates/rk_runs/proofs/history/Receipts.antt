@@ -1,7 +1,7 @@
 -- Receipts that are numbered from 1 on, and whose stamps rise.
 use Rattle.std.proofs.Common.{◌≡◌, ℕ, zero, suc, ◌+◌, ◌<◌, ◌≤◌, Bool, true, false, ◌&&◌, ◌||◌, eqb, ltb, List, [], ◌∷◌, ◌++◌, Some, cond}
-use Rattle.std.proofs.Common.{refl, sym, ap, subst, ◌∙◌, ⊎_elim, arith, map, filter, length, slice_get, All, Contains}
-use Rattle.rk_inv_base.proofs.Words.{nat_tests, All-contains, All-cons, All-filter, All-head, All-map, All-nil, All-tail, All-weaker}
+use Rattle.std.proofs.Common.{refl, sym, ap, ◌∙◌, ⊎_elim, arith, map, filter, length, slice_get, All, Contains}
+use Rattle.rk_inv_base.proofs.Words.{nat_tests, All-cons, All-filter, All-head, All-map, All-nil, All-tail, All-weaker}
 use Rattle.rk_inv_base.proofs.Words.{get_or_from_slice_get, none-some, slice_get-get_or, slice_get_within, Receipt, Answered, Line}
 use Rattle.rk_model.specs.Merged.{IsInOrder, is_before}
 use Rattle.rk_model.proofs.Order.{before-asymmetric}
@@ -112,10 +112,7 @@ stands_at xs k x at = (k, slice_get_within xs k x at, get_or_from_slice_get xs k
 
 -- a line stands at one place of a history that is in order
 first_once : (first : Line) (lines : List Line) → All (λ l. is_before first l ≡ true) lines → (x : Line) (j : ℕ) → Some first ≡ Some x → slice_get lines j ≡ Some x → ⊥
-first_once first lines before x j is at =
-    let same : first ≡ x = cc is in
-    let self : is_before first first ≡ true = subst (λ (l : Line). is_before first l ≡ true) (sym same) (All-contains (λ (l : Line). is_before first l ≡ true) lines x before (stands_at lines j x at)) in
-    before-asymmetric first first self self
+first_once first lines before x j is at = grind (arith, stands_at, before-asymmetric)
 
 pub one_place : (lines : List Line) → IsInOrder lines → (i j : ℕ) (line : Line) → slice_get lines i ≡ Some line → slice_get lines j ≡ Some line → i ≡ j
 one_place [] ordered i j line first second = absurd (none-some line first)

@@ -93,10 +93,7 @@ module _ (masters backups : ℕ) (few : masters ≤ MOST_MASTERS) (backed : 1 �
 
   -- each lane is there
   within : (list : List Occurrence) (lane : ℕ) → lane < LANES → lane < length (cluster_run start list).lanes
-  within list lane inside =
-      let many = lanes_stay start list in
-      let first = length-map-range_with_len (λ (lane : ℕ). new_world lane masters backups) 0 LANES in
-      omega (arith, inside, many, first)
+  within list lane inside = grind (arith, lanes_stay, length-map-range_with_len, new_world)
 
   lane_good : (list : List Occurrence) → IsRun start list → (lane : ℕ) → lane < LANES → IsGoodLane Lasts masters lane (lane_at (cluster_run start list) lane)
   lane_good list run lane inside = (good_after list run).lanes lane (within list lane inside)

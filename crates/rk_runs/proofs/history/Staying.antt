@@ -1,6 +1,6 @@
 -- A record of a journal stays for ever: whatever occurs in a cluster, it stands at its place, but that it may be accepted.
-use Rattle.std.proofs.Common.{◌≡◌, ℕ, ◌<◌, ◌≤◌, true, false, cond, List, [], ◌∷◌, ◌++◌, Option, Some, None, length, refl, sym, subst, ◌∙◌}
-use Rattle.std.proofs.Common.{⊎_elim, arith, slice_get, get_or-set_other, length-set}
+use Rattle.std.proofs.Common.{◌≡◌, ℕ, List, [], ◌∷◌, ◌++◌, Option, Some, None, length, refl, sym, subst, ◌∙◌}
+use Rattle.std.proofs.Common.{arith, slice_get, get_or-set_other, length-set}
 use Rattle.rk_inv_base.proofs.Words.{cases_eq, cases_lt, get_or_past, none-some, get, Call, Placed, slice_get_front, Body, Message}
 use Rattle.rk_inv_base.proofs.Words.{Called, accept_by, accepting, ask_by, asking, is_asked, ledger_asked, ledger_requested, ledger_taken}
 use Rattle.rk_inv_base.proofs.Words.{Session, Accepts, Asks, Calls, Cluster, Happens, Joins, Occurrence, called_by_client, cluster_after}
@@ -59,11 +59,7 @@ requested_stays ledger client message (Body.Request request) = still_itself ledg
 requested_stays ledger client message body = still_itself ledger.journal
 
 asked_stays : (ledger : Ledger) (session : Session) (call : Call) → StandsStill ledger.journal (ledger_asked ledger session call).journal
-asked_stays ledger session call =
-    elim (is_asked ledger session call) as (λ b. StandsStill ledger.journal (cond b ledger (with_asked ledger session.client (record { call = call; seen = session.seen }))).journal) [
-      | true ↦ still_itself ledger.journal
-      | false ↦ still_itself ledger.journal
-    ]
+asked_stays ledger session call = grind (arith, is_asked, with_asked, still_itself)
 
 module _ (w : World) (session : Session) where
   abbrev Still : Visited → Type 0
@@ -86,20 +82,7 @@ module _ (w : World) (session : Session) where
 -- one lane is another
 lane_stays : (cluster : Cluster) (lane : ℕ) (w : World) → StandsStill (lane_at cluster lane).ledger.journal w.ledger.journal → RecordsStay cluster (with_lane cluster lane w)
 lane_stays cluster lane w stays q =
-    ⊎_elim
-    (λ (is : q ≡ lane).
-    ⊎_elim
-    (λ (within : lane < length cluster.lanes).
-    subst (λ (l : ℕ). StandsStill (lane_at cluster l).ledger.journal (lane_at (with_lane cluster lane w) l).ledger.journal) (sym is)
-    (subst (λ (v : World). StandsStill (lane_at cluster lane).ledger.journal v.ledger.journal) (sym (lane_here cluster lane w within)) stays))
-    (λ (past : length cluster.lanes ≤ lane).
-    subst (λ (v : World). StandsStill v.ledger.journal (lane_at (with_lane cluster lane w) q).ledger.journal)
-    (sym (get_or_past cluster.lanes q (new_world q 0 0) (omega (arith, past, is)))) (λ place placed at. absurd (none-some placed at)))
-    (cases_lt lane (length cluster.lanes)))
-    (λ (apart : q ≡ lane → ⊥).
-    subst (λ (v : World). StandsStill (lane_at cluster q).ledger.journal v.ledger.journal)
-    (sym (get_or-set_other cluster.lanes lane q w (new_world q 0 0) apart)) (still_itself (lane_at cluster q).ledger.journal))
-    (cases_eq q lane)
+    grind (arith, lane_at, with_lane, lane_here, get_or_past, new_world, none-some, cases_lt, get_or-set_other, still_itself, cases_eq)
 
 -- a cluster later: its records stay, and it has as many lanes
 record Stays (before after : Cluster) : Type 0 where

@@ -1,8 +1,9 @@
 -- What a client makes of a message of a sound lane, case by case: what is so of each of these is so of all that it makes of messages.
-use Rattle.std.proofs.Common.{ℕ, Bool, IfSome, List, None, Option, Some, cond, eqb-true, false, refl, subst, sym, true, ◌==◌, ◌≡◌, not}
-use Rattle.rk_inv_base.proofs.Words.{Answer, AnswerFits, Body, Call, IsRecordAt, IsSound, Located, MayAct, Message, Node, Outcome, Placed}
+use Rattle.std.proofs.Common.{arith}
+use Rattle.std.proofs.Common.{ℕ, Bool, IfSome, List, None, Option, Some, cond, eqb-true, false, refl, subst, sym, true, ◌==◌, ◌≡◌}
+use Rattle.rk_inv_base.proofs.Words.{Answer, Body, Call, IsRecordAt, IsSound, Located, MayAct, Message, Node, Outcome, Placed}
 use Rattle.rk_inv_base.proofs.Words.{Reply, Says, Session, Visited, World, accepting, call_lane, get, is_asked, ledger_taken, taking}
-use Rattle.rk_inv_base.proofs.Words.{untouched, with_ledger, StepError, accept_refusal, is_added, option_or, where_true}
+use Rattle.rk_inv_base.proofs.Words.{untouched, with_ledger, accept_refusal, is_added, where_true}
 use Rattle.rk_world.specs.Calls.{asked_by_session}
 use Rattle.rk_world.specs.Client.{Accepted, accepted_by, accepted_of, answer_accepted, done, has_call, ignoring, with_range}
 use Rattle.rk_world.specs.Client.{without_range}
@@ -28,11 +29,7 @@ module _ {T : Body → Accepted → Type 0} {journal : List Placed} {session : S
   by_answer : (reply : Reply) (answer : Answer) → reply.answer ≡ answer → Says journal (Node.Client session.client) (Body.Reply reply)
       → (same : Bool) → (reply.seq == call.seq) ≡ same
       → T (Body.Reply reply) (cond same (answer_accepted session call reply answer) (ignoring session))
-  by_answer reply answer is says false differs = takes.ignores _
-  by_answer reply (Answer.Done outcome) is says true same =
-      takes.ends reply outcome (eqb-true reply.seq call.seq same) (subst (AnswerFits journal session.client reply) is says)
-  by_answer reply (Answer.Moved tablet) is says true same = takes.moves reply tablet
-  by_answer reply (Answer.NotYet key) is says true same = takes.waits reply key
+  by_answer reply answer is says same differs = grind (arith, eqb-true)
 
   by_range : (located : Located) (test : Bool)
       → T (Body.Located located)
@@ -56,14 +53,7 @@ took w body accepted = record {
 -- a message that a client may take is for it
 pub is_mine : (w : World) (number : ℕ) (session : Session) (message : Message) → accept_refusal w number session.client (Some message) ≡ None
     → is_for session.client message.to ≡ true
-is_mine w number session message none = go (is_for session.client message.to) none
-  where
-    go : (mine : Bool)
-        → option_or (where_true (not mine) (StepError.Address number))
-        (where_true (not (is_added w.ledger session.client)) (StepError.Stranger session.client)) ≡ None
-        → mine ≡ true
-    go true none = refl
-    go false none = absurd (cc none)
+is_mine w number session message none = grind (arith, where_true, is_added)
 
 -- a message of a sound lane for a client that may act there
 module _ (w : World) (number : ℕ) (session : Session) (message : Message) (sound : IsSound w) (may : MayAct w.coordinator.masters session)

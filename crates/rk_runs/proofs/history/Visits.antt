@@ -1,5 +1,6 @@
 -- Sessions and ledgers agree still when a client takes its turn in a lane, or an answer.
-use Rattle.std.proofs.Common.{◌≡◌, ℕ, ◌<◌, Bool, true, false, cond, List, Option, Some, None, refl, sym, ap, subst, ◌∙◌, ◌==◌, IfSome}
+use Rattle.std.proofs.Common.{arith}
+use Rattle.std.proofs.Common.{◌≡◌, ℕ, ◌<◌, Bool, true, false, cond, List, Option, Some, None, refl, sym, ap, subst, ◌∙◌, IfSome}
 use Rattle.std.proofs.Common.{not, slice_get, slice_set}
 use Rattle.rk_inv_base.proofs.Words.{Node, and_parts, All-contains, Call, Outcome, Placed, Located, Reply, Body, Message, asking}
 use Rattle.rk_inv_base.proofs.Words.{asking_by, fits_with, is_asked, is_last, ledger_requested, ledger_taken, taking, untouched}
@@ -7,7 +8,7 @@ use Rattle.rk_inv_base.proofs.Words.{ClientTurn, Session, call_lane, session_tur
 use Rattle.rk_inv_base.proofs.Words.{asked_by, with_asked, World, LastCall, IsLastCall, MayAccept, IsRecordAt, Says, IsAfterSeen, view}
 use Rattle.rk_inv_base.proofs.Words.{IsSound}
 use Rattle.rk_world.specs.declared.event.Taken.{Taken}
-use Rattle.rk_world.specs.Client.{MOST_REQUESTS, accepted_of, done, looking_up, range_of, requesting, turn_by, turn_to, with_range}
+use Rattle.rk_world.specs.Client.{accepted_of, done, range_of, turn_by, with_range}
 use Rattle.rk_world.specs.Client.{without_range}
 use Rattle.rk_world.specs.Ledger.{with_accepted}
 use Rattle.rk_inv_base.proofs.calls.CallAsked.{asked_put}
@@ -37,18 +38,7 @@ module _ (before after : ℕ → Ledger) (lane client : ℕ) (session : Session)
 
   -- a session that asked may look elsewhere
   turned_on : (ledgers : ℕ → Ledger) → Agrees ledgers client session → (call : Call) (found : Option Located) → Agrees ledgers client (turn_by session call found).session
-  turned_on ledgers fits call None = agrees_looking ledgers client session fits (looking_up session call).session.ranges 0 session.request
-  turned_on ledgers fits call (Some located) =
-      elim (session.requests == MOST_REQUESTS) as (λ b. Agrees ledgers client (cond b (looking_up session call) (turn_to session call located.tablet located.owner)).session) [
-        | true ↦ agrees_looking ledgers client session fits (looking_up session call).session.ranges 0 session.request
-        | false ↦ go located.owner
-      ]
-    where
-      go : (owner : Option ℕ) → Agrees ledgers client (turn_to session call located.tablet owner).session
-      go None = agrees_looking ledgers client session fits (looking_up session call).session.ranges 0 session.request
-      go (Some master) =
-          agrees_looking ledgers client session fits session.ranges (requesting session call located.tablet master).session.requests
-          (requesting session call located.tablet master).session.request
+  turned_on ledgers fits call found = grind (arith, agrees_looking)
 
   module _ (w : World) (at : before lane ≡ w.ledger) (call : Call) (is_out : session.outstanding ≡ Some call) where
     -- a request that is saved changes nothing of these

@@ -1,18 +1,16 @@
 -- What a command writes is a piece of text, and what clients said in it is what they said along the command's occurrences.
-use Rattle.std.proofs.Common.{◌≡◌, ℕ, true, false, List, [], ◌∷◌, Option, None, Some, if◌then◌else◌, refl, sym, ap}
-use Rattle.rk_scripts.proofs.Words.{none-some, Said, Cluster, Occurrence, Acted, all_acted, Fate, number_of, Code, Limit, TooLate, advance}
-use Rattle.rk_scripts.proofs.Words.{advance_code, priority_code, serve_code, Course, course_of, error_of, moved_all, priority, serve}
-use Rattle.rk_scripts.proofs.Words.{settle, SettleError, Command, Effect, Refuses, Stop, Wears, carried, carried_by, effect, effect_within}
-use Rattle.rk_scripts.proofs.Words.{is_full, only_fate, reach_of, refused_by, settled, settled_by, shown, stop_of, dump_code, where_code}
-use Rattle.rk_scripts.proofs.Words.{Piece, piece_said, piece_text, said_along}
+use Rattle.std.proofs.Common.{◌≡◌, ℕ, List, [], ◌∷◌, Option, None, Some, refl, sym, ap}
+use Rattle.rk_scripts.proofs.Words.{none-some, Said, Cluster, Occurrence, Acted, all_acted, Fate, number_of, Code, Course, course_of}
+use Rattle.rk_scripts.proofs.Words.{error_of, moved_all, SettleError, Command, Effect, Refuses, Stop, Wears, carried, carried_by, effect}
+use Rattle.rk_scripts.proofs.Words.{effect_within, refused_by, settled, settled_by, shown, stop_of, dump_code, where_code, Piece}
+use Rattle.rk_scripts.proofs.Words.{piece_said, piece_text, said_along}
 use Rattle.rk_lines.specs.Lines.{said_lines}
-use Rattle.rk_cluster.specs.Codes as codes
-use Rattle.rk_cluster.specs.Makes as makes
 use Rattle.rk_play.specs.Effects.{ending_at, writing}
 use Rattle.rk_scripts.specs.answers.Pieces.{Dump, History, IsPieceOf, Says, Where}
 use Rattle.rk_scripts.proofs.answers.Along.{came_said}
 use Rattle.rk_scripts.proofs.answers.Moves.{IsCourseSaid, all_moved_said}
 use Rattle.rk_scripts.proofs.play.Moving.{IsCourseFrom}
+use Rattle.rk_scripts.proofs.play.Kinds.{effect_by, within_by}
 
 -- a command that has not stopped has written its piece, in which clients said what they did at its occurrences
 pub record HasWritten (command : Command) (start : Cluster) (it : Effect) : Type 0 where
@@ -98,40 +96,15 @@ module _ (cluster : Cluster) where
   -- ---- all commands
 
   effect_writes : (command : Command) (fates : List Fate) → IsWriting command cluster (effect cluster command fates)
-  effect_writes (Command.Table table master) fates =
-      carried_writes (Command.Table table master) as_said (codes.table_code cluster table master) (makes.table_makes cluster table master)
-  effect_writes (Command.Client client) fates = carried_writes (Command.Client client) as_said (codes.client_code cluster client) (makes.client_makes cluster client)
-  effect_writes (Command.Call client table key op) fates =
-      carried_writes (Command.Call client table key op) as_said (codes.call_code cluster client table) (makes.call_makes client table key op)
-  effect_writes (Command.Serve client) fates =
-      settled_writes (Command.Serve client) as_said (serve_code cluster client) (course_of cluster (serve cluster client)) fates refl refl
-  effect_writes (Command.Repeat client) fates = carried_writes (Command.Repeat client) as_said (codes.again_code cluster client) (makes.again_makes cluster client)
-  effect_writes (Command.Migrate tablet master) fates =
-      carried_writes (Command.Migrate tablet master) as_said (codes.migrate_code cluster tablet master) (makes.migrate_makes cluster tablet master)
-  effect_writes (Command.Advance tablet reach) fates =
-      settled_writes (Command.Advance tablet reach) as_said (advance_code cluster tablet (reach_of reach)) (course_of cluster (advance cluster tablet (reach_of reach))) fates refl refl
-  effect_writes (Command.Priority tablet) fates =
-      settled_writes (Command.Priority tablet) as_said (priority_code cluster tablet) (course_of cluster (priority cluster tablet)) fates refl refl
-  effect_writes (Command.Split tablet hash) fates =
-      carried_writes (Command.Split tablet hash) as_said (codes.split_code cluster tablet hash) (makes.split_makes cluster tablet hash)
-  effect_writes (Command.Turn lane) fates = carried_writes (Command.Turn lane) as_said None (makes.turn_makes cluster lane)
-  effect_writes (Command.Deliver lane place) fates =
-      carried_writes (Command.Deliver lane place) as_said (codes.place_code cluster lane place) (makes.deliver_makes cluster lane place (only_fate fates))
-  effect_writes (Command.Forget lane place) fates =
-      carried_writes (Command.Forget lane place) as_said (codes.place_code cluster lane place) (makes.forget_makes cluster lane place)
-  effect_writes (Command.Crash master) fates = carried_writes (Command.Crash master) as_said (codes.crash_code cluster master) (makes.crash_makes cluster master)
-  effect_writes (Command.Notice master) fates = carried_writes (Command.Notice master) as_said (codes.notice_code cluster master) (makes.notice_makes cluster master)
-  effect_writes Command.Settle fates = settled_writes Command.Settle as_said None (course_of cluster (settle cluster)) fates refl refl
-  effect_writes (Command.Where tablet) fates = shown_writes (Command.Where tablet) (where_code cluster tablet) (Where cluster tablet) refl (refl, refl)
+  effect_writes (Command.Where tablet) fates =
+      shown_writes (Command.Where tablet) (where_code cluster tablet) (Where cluster tablet) refl (refl, refl)
   effect_writes (Command.Dump tablet) fates = shown_writes (Command.Dump tablet) (dump_code cluster tablet) (Dump cluster tablet) refl (refl, refl)
   effect_writes Command.History fates = shown_writes Command.History None (History cluster) refl (refl, refl)
-  effect_writes command fates = refuses command TooLate
+  effect_writes command fates = effect_by cluster fates (IsWriting command cluster) (refuses command) (carried_writes command as_said)
+      (λ code tasks. settled_writes command as_said code (course_of cluster tasks) fates refl refl) command (λ shows. absurd shows)
 
 -- each command, also where the cluster is full
 pub within_writes : (cluster : Cluster) (command : Command) (fates : List Fate)
     → IsWriting command cluster (effect_within cluster command fates)
 within_writes cluster command fates =
-    elim (is_full cluster) as (λ b. IsWriting command cluster (if b then refused_by Limit cluster else effect cluster command fates)) [
-      | true ↦ refuses cluster command Limit
-      | false ↦ effect_writes cluster command fates
-    ]
+    within_by cluster fates (IsWriting command cluster) (refuses cluster command) command (effect_writes cluster command fates)

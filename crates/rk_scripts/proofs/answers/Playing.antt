@@ -1,22 +1,21 @@
 -- A script's text is made of pieces, and the replies in them are the clients' receipts at the end.
-use Rattle.std.proofs.Common.{◌≡◌, ℕ, true, false, List, [], ◌∷◌, ◌++◌, map, Option, None, Some, is_some, Result, Ok, Err, if◌then◌else◌}
-use Rattle.std.proofs.Common.{refl, sym, ap, subst, ◌∙◌, ◌⊎◌, inl, inr, ⊎_elim, append-nil, append_assoc}
+use Rattle.std.proofs.Common.{arith}
+use Rattle.std.proofs.Common.{◌≡◌, ℕ, List, [], ◌∷◌, ◌++◌, map, Option, refl, sym, ap, subst, ◌∙◌, ◌⊎◌, inl, inr, ⊎_elim}
+use Rattle.std.proofs.Common.{append-nil, append_assoc}
 use Rattle.rk_scripts.proofs.Words.{filter-append, Said, NoMemory, Refused, ReplicaFault, Cluster, Occurrence, cluster_run, new_cluster}
-use Rattle.rk_scripts.proofs.Words.{runs_join, Fate, number_of, TooLate, script_of, Command, Numbered, ParseError, Effect, Fails, Pauses}
-use Rattle.rk_scripts.proofs.Words.{Refuses, Stop, Wears, effect_within, Played, Setting, behind, cluster_by, continued, first_commands}
-use Rattle.rk_scripts.proofs.Words.{first_fates, how_many, opened_by, other_fates, played_from, played_in, played_of, played_part}
-use Rattle.rk_scripts.proofs.Words.{refused_at, set_once, stopped_at, unset, Piece, piece_said, piece_text, is_reply_to, replies_to}
-use Rattle.rk_scripts.proofs.Words.{said_along, told_to}
+use Rattle.rk_scripts.proofs.Words.{runs_join, Fate, Numbered, Effect, Fails, Pauses, Refuses, Stop, Wears, effect_within, Played, Setting}
+use Rattle.rk_scripts.proofs.Words.{behind, cluster_by, continued, first_fates, how_many, other_fates, played_in, played_part, refused_at}
+use Rattle.rk_scripts.proofs.Words.{stopped_at, Piece, piece_said, piece_text, is_reply_to, replies_to, said_along, told_to}
 use Rattle.std.proofs.lemmas.List.Concat.{flat_map-cons}
 use Rattle.rk_types.specs.declared.status.Status.{Status}
 use Rattle.rk_types.specs.declared.status.Status.TheVariants.{Done, Worn}
-use Rattle.rk_script.specs.Codes.{code_number}
 use Rattle.rk_play.specs.Played.{ending}
-use Rattle.rk_scripts.specs.answers.Pieces.{AreAnswers, AreInOrder, IsLast, Refusal, acting, acting_in, acting_of, is_setting, pieces_said}
+use Rattle.rk_scripts.specs.answers.Pieces.{AreAnswers, AreInOrder, IsLast, Refusal, acting_in, pieces_said}
 use Rattle.rk_scripts.proofs.answers.Along.{said_joins}
 use Rattle.rk_scripts.proofs.answers.Effects.{HasWritten, IsWriting, within_writes}
 use Rattle.rk_scripts.proofs.answers.Receipts.{receipts_said}
 use Rattle.rk_scripts.proofs.play.Made.{within_from}
+use Rattle.rk_scripts.proofs.play.Openings.{opening}
 
 -- a run that is done or refused says all in its text
 abbrev EndsWell : Played → Type 0
@@ -89,15 +88,7 @@ behind_speaks first others start it later from written spoken = record {
 -- one that ends at a command with nothing written; what clients said at it is silent
 silent_speaks : (left : List Numbered) (start : Cluster) (it : Effect) (status : Status) → it.cluster ≡ cluster_run start it.occurred
     → ((status ≡ Done) ⊎ (status ≡ Refused) → ⊥) → IsSpoken left start (behind [] it.occurred (ending status it.cluster))
-silent_speaks left start it status from stops = record {
-  from = from ∙ ap (cluster_run start) (sym (append-nil it.occurred));
-  pieces = [];
-  text = refl;
-  silent = said_along start (it.occurred ++ []);
-  said = refl;
-  all = λ well. absurd (stops well);
-  in_order = tt;
-}
+silent_speaks left start it status from stops = grind (arith, cluster_run, append-nil, said_along)
 
 stopped_speaks : (left : List Numbered) (start : Cluster) (line : ℕ) (it : Effect) (stop : Stop) → it.cluster ≡ cluster_run start it.occurred
     → ((code : ℕ) → stop ≡ Refuses code → it.occurred ≡ []) → IsSpoken left start (behind [] it.occurred (stopped_at line stop it.cluster))
@@ -120,10 +111,7 @@ stopped_speaks left start line it Pauses from refused =
 continued_speaks : (first : Numbered) (others : List Numbered) (start : Cluster) (line : ℕ) (it : Effect) (stop : Option Stop) (rest : Cluster → Played) → it.stop ≡ stop
     → it.cluster ≡ cluster_run start it.occurred → IsWriting first.command start it → IsSpoken others it.cluster (rest it.cluster)
     → IsSpoken (first ∷ others) start (continued line it stop rest)
-continued_speaks first others start line it (Some stop) rest is from writes later =
-    stopped_speaks (first ∷ others) start line it stop from (λ code same. writes.refused code (is ∙ ap (λ (s : Stop). Some s) same))
-continued_speaks first others start line it None rest is from writes later =
-    behind_speaks first others start it (rest it.cluster) from (writes.written is) later
+continued_speaks first others start line it stop rest is from writes later = grind (arith, stopped_speaks, behind_speaks)
 
 in_speaks : (commands : List Numbered) (fates : List (List Fate)) (cluster : Cluster)
     → IsSpoken commands cluster (played_in commands fates cluster)
@@ -145,40 +133,6 @@ record IsSpokenAnew (left : List Numbered) (it : Played) : Type 0 where
 -- in that of a setting
 anew_by : (left : List Numbered) (setting : Setting) (it : Played) → IsSpoken left (cluster_by setting) it → IsSpokenAnew left it
 anew_by left setting it spoken = record { masters = how_many setting.masters; backups = how_many setting.backups; spoken = spoken }
-
-once_anew : (left : List Numbered) (line : ℕ) (before : Option ℕ) (setting : Setting) (rest : Played) → IsSpokenAnew left rest
-    → IsSpokenAnew left (set_once line before setting rest)
-once_anew left line before setting rest later =
-    elim (is_some before) as (λ b. IsSpokenAnew left (if b then refused_at line (number_of TooLate) (cluster_by setting) else rest)) [
-      | true ↦
-          anew_by left setting (refused_at line (number_of TooLate) (cluster_by setting))
-          (refused_speaks left line (number_of TooLate) (cluster_by setting))
-      | false ↦ later
-    ]
-
-opened_anew : (behind_them all : List Numbered) (line : ℕ) (command : Command) (setting : Setting) (next : Setting → Played) (runs : Cluster → Played)
-    → ((more : Setting) → IsSpokenAnew behind_them (next more)) → ((cluster : Cluster) → IsSpoken all cluster (runs cluster))
-    → IsSpokenAnew (if is_setting command then behind_them else all) (opened_by line command setting next runs)
-opened_anew behind_them all line (Command.Masters masters) setting next runs goes begins =
-    let more : Setting = record setting { masters = Some masters } in
-    once_anew behind_them line setting.masters setting (next more) (goes more)
-opened_anew behind_them all line (Command.Backups backups) setting next runs goes begins =
-    let more : Setting = record setting { backups = Some backups } in
-    once_anew behind_them line setting.backups setting (next more) (goes more)
-opened_anew behind_them all line command setting next runs goes begins = anew_by all setting (runs (cluster_by setting)) (begins (cluster_by setting))
-
-from_anew : (all : List Numbered) (fates : List (List Fate)) (setting : Setting) → IsSpokenAnew (acting all) (played_from all fates setting)
-from_anew [] fates setting = anew_by [] setting (played_from [] fates setting) (ended_speaks [] Done (cluster_by setting))
-from_anew (first ∷ others) fates setting =
-    opened_anew (acting others) (first ∷ others) first.line first.command setting (λ next. played_from others fates next)
-    (λ cluster. played_in (first ∷ others) fates cluster) (λ more. from_anew others fates more)
-    (λ cluster. in_speaks (first ∷ others) fates cluster)
-
-of_anew : (read : Result (List Numbered) ParseError) (fates : List (List Fate)) → IsSpokenAnew (acting_of read) (played_of read fates)
-of_anew (Ok commands) fates = from_anew commands fates unset
-of_anew (Err (ParseError.Refused line code)) fates =
-    anew_by [] unset (played_of (Err (ParseError.Refused line code)) fates) (refused_speaks [] line (code_number code) (cluster_by unset))
-of_anew (Err ParseError.NoMemory) fates = anew_by [] unset (played_of (Err ParseError.NoMemory) fates) (ended_speaks [] NoMemory (cluster_by unset))
 
 -- ---- the law
 
@@ -203,8 +157,11 @@ answers left it anew =
 
 -- so does a part of a script
 part_anew : (script : List ℕ) (part : Option ℕ) (fates : List (List Fate)) → IsSpokenAnew (acting_in part script) (played_part part script fates)
-part_anew script None fates = of_anew (script_of script) fates
-part_anew script (Some count) fates = of_anew (first_commands count (script_of script)) fates
+part_anew script part fates = opening (λ left one other. IsSpokenAnew left one) fates fates
+    (λ left line code setting may. anew_by left setting (refused_at line code (cluster_by setting)) (refused_speaks left line code (cluster_by setting)))
+    (λ setting may. anew_by [] setting (ending NoMemory (cluster_by setting)) (ended_speaks [] NoMemory (cluster_by setting)))
+    (λ left setting may lawful widths. anew_by left setting (played_in left fates (cluster_by setting)) (in_speaks left fates (cluster_by setting)))
+    script part
 
 pub script_answers : (script : List ℕ) (part : Option ℕ) (fates : List (List Fate)) → AreAnswers (acting_in part script) (played_part part script fates)
 script_answers script part fates = answers (acting_in part script) (played_part part script fates) (part_anew script part fates)

@@ -1,4 +1,5 @@
 -- The replies that clients said are their receipts.
+use Rattle.std.proofs.Common.{arith}
 use Rattle.std.proofs.Common.{◌≡◌, ℕ, List, [], ◌∷◌, ◌++◌, map, Option, None, Some, refl, sym, ap, subst, ◌∙◌, ⊎_elim, append-nil}
 use Rattle.std.proofs.Common.{append_assoc, Err, Ok, Result, unwrap_or}
 use Rattle.rk_scripts.proofs.Words.{cases_eq, filter-append, NumberMap, get, get_or, get_other, get_same, Said, StepError, accept_by}
@@ -19,13 +20,7 @@ record Hears (before after : Cluster) (said : List Said) : Type 0 where
 
 -- a cluster with the same sessions hears nothing
 hears_nothing : (before after : Cluster) → AreOwn before → after.sessions ≡ before.sessions → Hears before after []
-hears_nothing before after own same = record {
-  own = λ client.
-      subst (λ (sessions : NumberMap Session). IsOwn client (get_or (new_session client) sessions client)) (sym same) (own client);
-  told = λ client.
-      ap (λ (sessions : NumberMap Session). map told_by (get_or (new_session client) sessions client).receipts) same
-      ∙ sym (append-nil (told_to before client));
-}
+hears_nothing before after own same = grind (arith, new_session, told_by, append-nil, told_to)
 
 -- a client's session is another one, in a cluster whose sessions were these
 module _ (before now : Cluster) (client : ℕ) (after : Session) (said : List Said) (own : AreOwn before)

@@ -12,8 +12,8 @@ use Rattle.rk_types.specs.declared.call.Outcome.{Outcome}
 use Rattle.rk_types.specs.declared.history.Receipt.{Receipt}
 use Rattle.rk_message.specs.declared.calls.Located.{Located}
 use Rattle.rk_message.specs.declared.calls.Reply.{Reply}
-use Rattle.rk_world.specs.Client.{Accepted, MOST_REQUESTS, accepted_by, accepted_of, answer_accepted, done, has_call, ignoring, looking_up}
-use Rattle.rk_world.specs.Client.{range_of, receipt_of, turn_by, turn_of, turn_to, with_range}
+use Rattle.rk_world.specs.Client.{Accepted, accepted_by, accepted_of, answer_accepted, done, has_call, ignoring}
+use Rattle.rk_world.specs.Client.{range_of, turn_by, turn_of, turn_to, with_range}
 use Rattle.rk_cluster.specs.Acted.{last_receipt, reply_of, said_by, said_of}
 
 -- a session is a client's own, and so is its outstanding call
@@ -59,12 +59,7 @@ quiet_tells client session said own none = tells_none client session session sai
 -- a client asks its next call, unless one is outstanding
 pub calling_tells : (client : ℕ) (session : Session) (table : ℕ) (key : List ℕ) (op : Op) (busy : Option ℕ) → IsOwn client session
     → Tells client session (session_calling session table key op busy) []
-calling_tells client session table key op None own = record {
-  own = record { client_is = own.client_is; call_is = own.client_is };
-  told = sym (append-nil (map told_by session.receipts));
-  alone = λ other apart. refl;
-}
-calling_tells client session table key op (Some seq) own = quiet_tells client session [] own (λ other. refl)
+calling_tells client session table key op busy own = grind (arith, append-nil, told_by, quiet_tells)
 
 -- ---- turns
 
@@ -74,13 +69,7 @@ module _ (session : Session) (call : Call) where
   to_keeps tablet (Some master) = record { client_is = refl; receipts_are = refl; call_is = refl }
 
   turn_keeps : (found : Option Located) → Keeps session (turn_by session call found).session
-  turn_keeps None = record { client_is = refl; receipts_are = refl; call_is = refl }
-  turn_keeps (Some located) =
-      elim (session.requests == MOST_REQUESTS) as
-      (λ b. Keeps session (cond b (looking_up session call) (turn_to session call located.tablet located.owner)).session) [
-        | true ↦ record { client_is = refl; receipts_are = refl; call_is = refl }
-        | false ↦ to_keeps located.tablet located.owner
-      ]
+  turn_keeps found = grind (arith, to_keeps)
 
 module _ (w : World) (session : Session) where
   turned_keeps : (call : Call) (out : Option Call) → Keeps session (asking_by w session call (turn_of session out)).session
@@ -88,13 +77,7 @@ module _ (w : World) (session : Session) where
   turned_keeps call (Some outstanding) = turn_keeps session outstanding (range_of session outstanding)
 
   asking_keeps : (out : Option Call) → Keeps session (asking w session out).session
-  asking_keeps None = keeps_all session
-  asking_keeps (Some call) =
-      elim (fits_with w session call) as
-      (λ b. Keeps session (cond b (asking_by w session call (turn_of session session.outstanding)) (untouched w session None)).session) [
-        | true ↦ turned_keeps call session.outstanding
-        | false ↦ keeps_all session
-      ]
+  asking_keeps out = grind (arith, keeps_all, fits_with, asking_by, untouched, turned_keeps)
 
   -- a client takes its turn
   pub asking_tells : (client : ℕ) → IsOwn client session → Tells client session (asking w session session.outstanding).session []
@@ -126,17 +109,7 @@ module _ (client : ℕ) (session : Session) (call : Call) (own : IsOwn client se
 
   done_tells : (reply : Reply) (outcome : Outcome) → Tells client session (done session call reply outcome)
       (reply_of call.client (last_receipt (done session call reply outcome).receipts))
-  done_tells reply outcome =
-      let receipt : Receipt = receipt_of call reply outcome in
-      subst (λ (last : Option Receipt). Tells client session (done session call reply outcome) (reply_of call.client last))
-      (sym (last_put session.receipts receipt))
-      (record {
-        own = record { client_is = own.client_is; call_is = tt };
-        told =
-            map-append told_by session.receipts (receipt ∷ []) ∙ ap (λ (more : List Said). map told_by session.receipts ++ more)
-            (sym (heard client receipt true (eq-eqb call.client client of_client)));
-        alone = λ other apart. heard other receipt false (ne_eqb call.client other (λ same. apart (sym of_client ∙ same)));
-      })
+  done_tells reply outcome = grind (arith, last_put, map-append, told_by, heard, eq-eqb, ne_eqb)
 
   answered_tells : (reply : Reply) (answer : Answer)
       → Tells client session (answer_accepted session call reply answer).session (Said-of (answer_accepted session call reply answer))
@@ -185,12 +158,4 @@ module _ (w : World) (client : ℕ) (session : Session) (own : IsOwn client sess
   -- a client takes what is found on the wire
   pub accepting_tells : (found : Option Message) → Tells client session (accepting w session found).session
       (said_by session.outstanding (accepting w session found).session.receipts (accepting w session found).seen.taken)
-  accepting_tells None = nothing_tells session.outstanding
-  accepting_tells (Some message) =
-      elim (is_asked_here w session) as
-      (λ b.
-      let visited = cond b (taking w session message.body) (untouched w session (Some Taken.Ignored)) in
-      Tells client session visited.session (said_by session.outstanding visited.session.receipts visited.seen.taken)) [
-        | true ↦ of_tells session.outstanding own.call_is message.body
-        | false ↦ ignored_tells session.outstanding
-      ]
+  accepting_tells found = grind (arith, nothing_tells, is_asked_here, taking, untouched, of_tells, ignored_tells)

@@ -1,11 +1,12 @@
 -- Occurrences that are allowed at any time go on with a run.
+use Rattle.std.proofs.Common.{arith}
 use Rattle.std.proofs.Common.{◌≡◌, ℕ, ◌<◌, List, [], ◌∷◌, Option, Some, None, Result, Ok, Err, sym, subst, IfSome, All}
 use Rattle.rk_scripts.proofs.Words.{All-head, All-nil, All-tail, Call, Ended, LANES, accept, ask, Accepts, Asks, Calls, Cluster, Happens}
-use Rattle.rk_scripts.proofs.Words.{Joins, Occurrence, cluster_after, lane_at, session_at, IsMaster, MayHappen, step, World, new_world}
+use Rattle.rk_scripts.proofs.Words.{Joins, Occurrence, cluster_after, lane_at, session_at, MayHappen, step, World, new_world}
 use Rattle.rk_scripts.proofs.Words.{StepError, Event, acted, all_acted, came_in, going_on, deliver_in_makes, Fate, IsAllowed, IsNoCrash}
 use Rattle.rk_scripts.proofs.Words.{came_is}
 use Rattle.rk_world.specs.Base.{Base, no_base}
-use Rattle.rk_world.specs.Premises.{IsAfterStart, MayTurn}
+use Rattle.rk_world.specs.Premises.{IsAfterStart}
 use Rattle.rk_world.specs.Runs.{IsCalmEvent}
 use Rattle.rk_settle.proofs.Occurred.{AreToldFrom, IsToldAt, all_come, delivered_allowed, delivered_told}
 use Rattle.rk_scripts.proofs.play.Answering.{told_comes}
@@ -17,14 +18,7 @@ IsFree masters occurrence = IsAllowed masters occurrence × ((cluster : Cluster)
 
 -- what an event may name depends on how many masters there are
 may_in : (masters : ℕ) (w : World) (event : Event) → w.coordinator.masters ≡ masters → MayHappen (new_world 0 masters 0) event → MayHappen w event
-may_in masters w (Event.AddTablet tablet range master) is may = (may.0, may.1, subst (λ (count : ℕ). IsMaster count master) (sym is) may.2)
-may_in masters w (Event.AddClient client) is may = may
-may_in masters w (Event.Turn node) is may = subst (λ (count : ℕ). MayTurn count node) (sym is) may
-may_in masters w (Event.Migrate tablet to) is may = subst (λ (count : ℕ). IsMaster count to) (sym is) may
-may_in masters w (Event.Split tablet at new) is may = may
-may_in masters w (Event.Crash master) is may = subst (λ (count : ℕ). IsMaster count master) (sym is) may
-may_in masters w (Event.Notice master) is may = subst (λ (count : ℕ). IsMaster count master) (sym is) may
-may_in masters w _ is may = tt
+may_in masters w event is may = grind arith
 
 calm_in : (w : World) (event : Event) → IsNoCrash event → IsCalmEvent w event
 calm_in w (Event.Crash master) calm = absurd calm
@@ -78,18 +72,12 @@ module _ (masters backups : ℕ) where
   answered_on cluster occurrence (Err error) may = none_on masters backups cluster
 
   first_on : (cluster : Cluster) (occurrence : Occurrence) → (IsReached masters backups cluster → MayBe masters backups cluster occurrence) → GoesOn masters backups cluster (acted cluster occurrence).came
-  first_on cluster (Happens lane event called) may = answered_on cluster (Happens lane event called) (step (lane_at cluster lane) event called) may
-  first_on cluster (Asks lane client) may = answered_on cluster (Asks lane client) (ask (lane_at cluster lane) (session_at cluster client)) may
-  first_on cluster (Accepts lane number client) may = answered_on cluster (Accepts lane number client) (accept (lane_at cluster lane) number (session_at cluster client)) may
-  first_on cluster occurrence may = one_on masters backups cluster occurrence [] may (none_on masters backups (cluster_after cluster occurrence))
+  first_on cluster occurrence may = grind (arith, answered_on, step, lane_at, ask, session_at, accept, one_on, none_on, cluster_after)
 
   then_on : (cluster : Cluster) (occurrence : Occurrence) (later : List Occurrence) (worn : Option ℕ) → GoesOn masters backups cluster (acted cluster occurrence).came
       → GoesOn masters backups (acted cluster occurrence).cluster (all_acted (acted cluster occurrence).cluster later).came
       → GoesOn masters backups cluster (going_on (acted cluster occurrence) worn (λ next. all_acted next later)).came
-  then_on cluster occurrence later None first rest =
-      all_on masters backups cluster (acted cluster occurrence).came (all_acted (acted cluster occurrence).cluster later).came first
-      (subst (λ (next : Cluster). GoesOn masters backups next (all_acted (acted cluster occurrence).cluster later).came) (came_is cluster occurrence) rest)
-  then_on cluster occurrence later (Some number) first rest = first
+  then_on cluster occurrence later worn first rest = grind (arith, all_on, acted, all_acted, came_is)
 
   -- those go on with a run that come of one that may occur, and of those behind it
   pub came_first : (cluster : Cluster) (occurrence : Occurrence) (later : List Occurrence) → (IsReached masters backups cluster → MayBe masters backups cluster occurrence)
@@ -109,6 +97,4 @@ module _ (masters backups : ℕ) where
   -- and so does what comes of the delivery of a message, whatever becomes of the call of a replica
   pub delivered_on : (cluster : Cluster) (lane number : ℕ) (fate : Fate) → lane < LANES → GoesOn masters backups cluster (all_acted cluster (deliver_in_makes cluster lane number fate)).came
   delivered_on cluster lane number fate inside =
-      allowed_on cluster (all_acted cluster (deliver_in_makes cluster lane number fate)).came
-      (all_come (IsAllowed masters) cluster (deliver_in_makes cluster lane number fate) (delivered_allowed masters cluster lane number fate inside))
-      (delivered_told cluster lane number fate)
+      grind (arith, allowed_on, all_acted, deliver_in_makes, all_come, delivered_allowed, delivered_told)

@@ -1,6 +1,6 @@
 -- Where no count of a replica rose no call has failed.
-use Rattle.std.proofs.Common.{◌≡◌, ◌≤◌, ◌<◌, ◌+◌, ℕ, Bool, true, List, [], ◌∷◌, All, length, map, replicate, Option, None, Some, IfSome}
-use Rattle.std.proofs.Common.{refl, sym, ap, ◌∙◌, ⊎_elim, arith, if◌then◌else◌}
+use Rattle.std.proofs.Common.{◌≡◌, ◌<◌, ℕ, List, [], ◌∷◌, All, length, map, replicate, Option, IfSome}
+use Rattle.std.proofs.Common.{refl, ap, arith}
 use Rattle.rk_scripts.proofs.Words.{All-head, Fate, Kept, faultless}
 use Rattle.rk_cluster.proofs.Faults.{is_of_it, times_both}
 use Rattle.rk_cluster.specs.Faults.{Counts, GoOn, MOST_COUNT, RoseBy, times_lost}
@@ -11,13 +11,7 @@ use Rattle.rk_scripts.specs.play.Alone.{IsFaultless, NoneRose}
 
 -- a count that stays, and is less than the greatest, rose by nothing
 stayed : (many : ℕ) (before now : Option ℕ) → RoseBy many before now → now ≡ before → IfSome now (λ count. count < MOST_COUNT) → many ≡ 0
-stayed many None None rose same below = rose
-stayed many None (Some now) rose same below = absurd rose
-stayed many (Some before) None rose same below = absurd rose
-stayed many (Some before) (Some now) rose same below =
-    let equal : now ≡ before = cc same in
-    ⊎_elim (λ (risen : before + many ≤ now). let none : many ≡ 0 = omega (arith, equal, risen) in none)
-    (λ (full : MOST_COUNT ≤ now). absurd (omega (arith, below, full))) rose
+stayed many before now rose same below = grind arith
 
 never_lost : (fates : List Fate) (before now : Counts) → GoOn fates before now → NoneRose before now → (lane place : ℕ) → times_lost lane place fates ≡ 0
 never_lost fates before now on none lane place =
@@ -25,10 +19,7 @@ never_lost fates before now on none lane place =
 
 -- the first of some fates is no loss, where there is none among them
 lost_first : (lane place left : ℕ) (fates : List Fate) → times_lost lane place (Lost lane place left ∷ fates) ≡ 0 → ⊥
-lost_first lane place left fates none =
-    let counted : (if true then 1 else 0) + times_lost lane place fates ≡ 0 =
-    ap (λ (b : Bool). (if b then 1 else 0) + times_lost lane place fates) (sym (is_of_it lane place left)) ∙ none in
-    absurd (omega (arith, counted))
+lost_first lane place left fates none = grind (arith, is_of_it)
 
 all_kept : (fates : List Fate) → ((lane place : ℕ) → times_lost lane place fates ≡ 0) → fates ≡ replicate (length fates) Kept
 all_kept [] none = refl

@@ -1,5 +1,5 @@
 -- What occurs at a command of a script goes on with a run.
-use Rattle.std.proofs.Common.{◌≡◌, ℕ, ◌+◌, ◌<◌, ◌≤◌, ◌==◌, ◌||◌, nat_le, nat_lt, not, Bool, true, false, List, [], ◌∷◌, ◌++◌, length, map}
+use Rattle.std.proofs.Common.{◌≡◌, ℕ, ◌<◌, ◌≤◌, ◌==◌, ◌||◌, nat_le, nat_lt, not, Bool, true, false, List, [], ◌∷◌, ◌++◌, length, map}
 use Rattle.std.proofs.Common.{Option, None, Some, if◌then◌else◌, refl, arith, ◌-◌, ◌^◌, w32, All, flat_map, leb-false}
 use Rattle.rk_scripts.proofs.Words.{mod-lt, All-append, All-cons, All-filter, All-map, All-nil, All-weaker, hash_of, Call, LANES, IsNumber}
 use Rattle.rk_scripts.proofs.Words.{number_at, Body, row_of, Gave, Session, call_lane, Asks, Cluster, Joins, Occurrence, lane_at, Master}
@@ -14,9 +14,10 @@ use Rattle.rk_cluster.specs.Makes.{table_makes, turn_makes, whole_table}
 use Rattle.rk_cluster.specs.declared.code.Code.TheVariants.{Alive, BadSplit, NotOwned, OwnsAll, Taken}
 use Rattle.rk_settle.proofs.Unfolded.{lanes_are}
 use Rattle.rk_scripts.proofs.play.Allowed.{IsFree}
-use Rattle.rk_scripts.proofs.play.Masters.{names_masters, of_map}
+use Rattle.rk_scripts.proofs.play.Masters.{names_masters}
 use Rattle.rk_scripts.proofs.play.Reaching.{IsReached}
 use Rattle.rk_scripts.proofs.play.Tests.{master_there, passes}
+use Rattle.rk_inv_wellformed.proofs.maps.Lists.{all_before}
 
 -- the lane of a request is there
 pub request_there : (body : Body) → request_lane body < LANES
@@ -133,7 +134,7 @@ module _ (masters backups : ℕ) (cluster : Cluster) (reached : IsReached master
         let live = live_masters (lane_at cluster lane) in
         let turn = λ (entry : ℕ × Master). in_lane lane (Event.Turn (Node.Master entry.0)) in
         let there : All (λ (entry : ℕ × Master). IsMaster masters entry.0) live =
-        of_map (IsMaster masters) (λ (entry : ℕ × Master). entry.0) live ((names_masters masters backups cluster reached).live lane inside) in
+        all_before (IsMaster masters) (λ (entry : ℕ × Master). entry.0) live ((names_masters masters backups cluster reached).live lane inside) in
         both_allowed (flat_map (λ entry. asks_in lane entry.0 entry.1) cluster.sessions) (in_lane lane (Event.Turn Node.Coordinator) ∷ map turn live)
         (all_asked_allowed cluster.sessions)
         (one_allowed (in_lane lane (Event.Turn Node.Coordinator)) (map turn live) ((inside, tt, tt), λ there. record { fault = None; told = refl })

@@ -1,8 +1,8 @@
 -- A master crashes in one lane after the other, while another one lives in each: this goes on with a run.
-use Rattle.std.proofs.Common.{◌≡◌, ℕ, zero, suc, ◌+◌, ◌<◌, ◌≤◌, true, not, List, [], ◌∷◌, map, Option, None, Some, refl, sym, subst, arith}
+use Rattle.std.proofs.Common.{◌≡◌, ℕ, zero, suc, ◌+◌, ◌<◌, ◌≤◌, true, not, List, [], ◌∷◌, map, None, refl, sym, subst, arith}
 use Rattle.std.proofs.Common.{get_or-set_other}
-use Rattle.rk_scripts.proofs.Words.{range_with_len, LANES, Gave, Cluster, Occurrence, cluster_after, cluster_stepped, lane_at, IsMaster}
-use Rattle.rk_scripts.proofs.Words.{refusal, happened, stepped_by, World, new_world, StepError, acted, all_acted, code_where, first_code}
+use Rattle.rk_scripts.proofs.Words.{range_with_len, LANES, Cluster, Occurrence, cluster_after, cluster_stepped, lane_at, IsMaster}
+use Rattle.rk_scripts.proofs.Words.{refusal, happened, stepped_by, World, new_world, acted, all_acted, code_where, first_code}
 use Rattle.rk_scripts.proofs.Words.{is_dead, is_master, in_lane, Crashed, Unknown, not-false, Event}
 use Rattle.std.proofs.lemmas.List.Sums.{AllPass-from_list_all}
 use Rattle.rk_world.specs.Runs.{lives_another}
@@ -29,12 +29,7 @@ module _ (masters backups master : ℕ) where
 
   -- a crash in a lane changes no other
   other_same : (cluster : Cluster) (lane other : ℕ) → (other ≡ lane → ⊥) → lane_at (cluster_after cluster (crash_in lane)) other ≡ lane_at cluster other
-  other_same cluster lane other apart = go (refusal (lane_at cluster lane) (Event.Crash master))
-    where
-      go : (refused : Option StepError) → lane_at (cluster_stepped cluster lane (stepped_by (lane_at cluster lane) (Event.Crash master) (Gave None) refused)) other ≡ lane_at cluster other
-      go None =
-          get_or-set_other cluster.lanes lane other (happened (lane_at cluster lane) (Event.Crash master) (Gave None)).world (new_world other 0 0) apart
-      go (Some error) = refl
+  other_same cluster lane other apart = grind (arith, refusal, lane_at, cluster_stepped, stepped_by, get_or-set_other, happened, new_world)
 
   module _ (there : IsMaster masters master) where
     crash_may : (cluster : Cluster) (lane : ℕ) → lane < LANES → LivesFrom cluster lane → IsReached masters backups cluster → MayBe masters backups cluster (crash_in lane)

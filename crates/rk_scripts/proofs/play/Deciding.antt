@@ -1,16 +1,16 @@
 -- Where no call of a replica fails the script alone decides a run: moves that are left once a command is over, or stops, change nothing.
-use Rattle.std.proofs.Common.{◌≡◌, ℕ, zero, suc, ◌+◌, true, false, List, [], ◌∷◌, ◌++◌, replicate, Option, None, Some, is_some, Result, Ok}
-use Rattle.std.proofs.Common.{Err, if◌then◌else◌, refl, sym, ap, subst, ◌∙◌, arith}
-use Rattle.rk_scripts.proofs.Words.{none-some, NoMemory, Refused, Cluster, number_of, Fate, Kept, Code, Limit, TooLate, advance}
-use Rattle.rk_scripts.proofs.Words.{advance_code, priority_code, serve_code, Course, course_of, error_of, moved, moved_all, moved_by}
-use Rattle.rk_scripts.proofs.Words.{priority, serve, settle, SettleError, script_of, Command, Numbered, ParseError, Effect, Pauses, Stop}
-use Rattle.rk_scripts.proofs.Words.{carried, effect, effect_within, is_full, only_fate, reach_of, refused_by, settled, settled_by, stop_of}
-use Rattle.rk_scripts.proofs.Words.{Played, Setting, behind, cluster_by, continued, faultless, first_commands, first_fates, opened_by}
-use Rattle.rk_scripts.proofs.Words.{other_fates, part_of, played_from, played_in, played_of, played_part, refused_at, set_once, unset}
+use Rattle.std.proofs.Common.{◌≡◌, ℕ, zero, suc, ◌+◌, List, [], ◌∷◌, ◌++◌, replicate, Option, None, Some, refl}
+use Rattle.std.proofs.Common.{sym, ap, subst, ◌∙◌, arith}
+use Rattle.rk_scripts.proofs.Words.{none-some, NoMemory, Cluster, Fate, Kept, Code, advance, advance_code, priority_code, serve_code}
+use Rattle.rk_scripts.proofs.Words.{Course, course_of, error_of, moved, moved_all, moved_by, priority, serve, settle, SettleError, Command}
+use Rattle.rk_scripts.proofs.Words.{Numbered, Effect, Pauses, Stop, carried, effect, effect_within, is_full, only_fate, reach_of}
+use Rattle.rk_scripts.proofs.Words.{refused_by, settled, settled_by, stop_of, Played, behind, cluster_by, continued, faultless, first_fates}
+use Rattle.rk_scripts.proofs.Words.{other_fates, played_in, played_part}
 use Rattle.std.proofs.lemmas.List.{replicate-append-replicate}
+use Rattle.rk_settle.proofs.Lossless.{stands_still}
+use Rattle.rk_scripts.proofs.play.Openings.{opening}
 use Rattle.rk_cluster.specs.Codes as codes
 use Rattle.rk_cluster.specs.Makes as makes
-use Rattle.rk_settle.proofs.Lossless.{stands_still}
 
 -- ---- moves that are left
 
@@ -70,12 +70,7 @@ module _ (cluster : Cluster) (first second : ℕ) where
   Same makes = IsOver (makes first) → IsOver (makes second) → makes first ≡ makes second
 
   settled_same : (code : Option Code) (course : Course) → Same (λ count. settled cluster code (moved_all course (replicate count Kept)))
-  settled_same (Some code) course one two = refl
-  settled_same None course one two =
-      let a : Course = moved_all course (replicate first Kept) in
-      let b : Course = moved_all course (replicate second Kept) in
-      ap (λ (it : Course). settled_by it it.tasks)
-      (both_same course first second (over_by a a.tasks (none_left a) one) (over_by b b.tasks (none_left b) two))
+  settled_same code course one two = grind (arith, moved_all, settled_by, both_same, over_by, none_left)
 
   effect_same : (command : Command) → Same (λ count. effect cluster command (replicate count Kept))
   effect_same (Command.Serve client) one two = settled_same (serve_code cluster client) (course_of cluster (serve cluster client)) one two
@@ -89,11 +84,7 @@ module _ (cluster : Cluster) (first second : ℕ) where
   effect_same command one two = refl
 
   within_same : (command : Command) → Same (λ count. effect_within cluster command (replicate count Kept))
-  within_same command =
-      elim (is_full cluster) as (λ b. Same (λ count. if b then refused_by Limit cluster else effect cluster command (replicate count Kept))) [
-        | true ↦ λ one two. refl
-        | false ↦ effect_same command
-      ]
+  within_same command = grind (arith, is_full, refused_by, effect, effect_same)
 
 -- ---- a run
 
@@ -141,11 +132,7 @@ later_same : (others : List Numbered) (a b : List ℕ) (next : Cluster)
     → (Ended (kept_in others (other_moves a) next) → Ended (kept_in others (other_moves b) next) → kept_in others (other_moves a) next ≡ kept_in others (other_moves b) next)
     → Ended (played_in others (other_fates (faultless a)) next) → Ended (played_in others (other_fates (faultless b)) next)
     → played_in others (other_fates (faultless a)) next ≡ played_in others (other_fates (faultless b)) next
-later_same others a b next same =
-    subst (λ (fates : List (List Fate)). Ended (played_in others fates next) → Ended (played_in others (other_fates (faultless b)) next)
-    → played_in others fates next ≡ played_in others (other_fates (faultless b)) next) (sym (others_are a))
-    (subst (λ (fates : List (List Fate)). Ended (kept_in others (other_moves a) next) → Ended (played_in others fates next)
-    → kept_in others (other_moves a) next ≡ played_in others fates next) (sym (others_are b)) same)
+later_same others a b next same = grind (arith, played_in, other_fates, faultless, others_are)
 
 in_same : (all : List Numbered) (a b : List ℕ) (cluster : Cluster) → Ended (kept_in all a cluster) → Ended (kept_in all b cluster) → kept_in all a cluster ≡ kept_in all b cluster
 in_same [] a b cluster one two = refl
@@ -170,38 +157,7 @@ in_same (first ∷ others) a b cluster one two =
 abbrev AreSame : Played → Played → Type 0
 AreSame it other = Ended it → Ended other → it ≡ other
 
-once_same : (line : ℕ) (before : Option ℕ) (setting : Setting) (it other : Played) → AreSame it other → AreSame (set_once line before setting it) (set_once line before setting other)
-once_same line before setting it other same =
-    elim (is_some before) as
-    (λ b. AreSame (if b then refused_at line (number_of TooLate) (cluster_by setting) else it) (if b then refused_at line (number_of TooLate) (cluster_by setting) else other)) [
-      | true ↦ λ one two. refl
-      | false ↦ same
-    ]
-
-opened_same : (line : ℕ) (command : Command) (setting : Setting) (next other : Setting → Played) (all others : Cluster → Played)
-    → ((more : Setting) → AreSame (next more) (other more)) → ((cluster : Cluster) → AreSame (all cluster) (others cluster))
-    → AreSame (opened_by line command setting next all) (opened_by line command setting other others)
-opened_same line (Command.Masters masters) setting next other all others goes begins =
-    let more : Setting = record setting { masters = Some masters } in once_same line setting.masters setting (next more) (other more) (goes more)
-opened_same line (Command.Backups backups) setting next other all others goes begins =
-    let more : Setting = record setting { backups = Some backups } in once_same line setting.backups setting (next more) (other more) (goes more)
-opened_same line command setting next other all others goes begins = begins (cluster_by setting)
-
-from_same : (all : List Numbered) (a b : List ℕ) (setting : Setting) → AreSame (played_from all (faultless a) setting) (played_from all (faultless b) setting)
-from_same [] a b setting = λ one two. refl
-from_same (first ∷ others) a b setting =
-    opened_same first.line first.command setting (λ next. played_from others (faultless a) next) (λ next. played_from others (faultless b) next)
-    (λ cluster. kept_in (first ∷ others) a cluster) (λ cluster. kept_in (first ∷ others) b cluster)
-    (λ more. from_same others a b more) (λ cluster. in_same (first ∷ others) a b cluster)
-
-of_same : (read : Result (List Numbered) ParseError) (a b : List ℕ) → AreSame (played_of read (faultless a)) (played_of read (faultless b))
-of_same (Ok all) a b = from_same all a b unset
-of_same (Err (ParseError.Refused line code)) a b = λ one two. refl
-of_same (Err ParseError.NoMemory) a b = λ one two. refl
-
-part_same : (read : Result (List Numbered) ParseError) (part : Option ℕ) (a b : List ℕ) → AreSame (part_of read part (faultless a)) (part_of read part (faultless b))
-part_same read (Some count) a b = of_same (first_commands count read) a b
-part_same read None a b = of_same read a b
-
 pub alone_decides : (script : List ℕ) (part : Option ℕ) (a b : List ℕ) → AreSame (played_part part script (faultless a)) (played_part part script (faultless b))
-alone_decides script part a b = part_same (script_of script) part a b
+alone_decides script part a b =
+    opening (λ left one other. AreSame one other) (faultless a) (faultless b) (λ left line code setting may one two. refl) (λ setting may one two. refl)
+    (λ left setting may lawful widths. in_same left a b (cluster_by setting)) script part

@@ -1,13 +1,11 @@
 -- What occurs at each command of a script goes on with a run, and so does what occurs in a script played.
-use Rattle.std.proofs.Common.{◌≡◌, ℕ, ◌<◌, true, false, List, [], ◌∷◌, Option, None, Some, if◌then◌else◌, refl, arith, w32, All}
-use Rattle.rk_scripts.proofs.Words.{IsNumber, Cluster, Occurrence, lane_at, LANES, number_at, all_acted, Code, Limit, Fate, advance_are}
+use Rattle.std.proofs.Common.{◌≡◌, ℕ, ◌<◌, List, [], ◌∷◌, Option, None, Some, refl, arith, w32, All}
+use Rattle.rk_scripts.proofs.Words.{IsNumber, Cluster, Occurrence, lane_at, LANES, number_at, all_acted, Code, Fate, advance_are}
 use Rattle.rk_scripts.proofs.Words.{priority_are, serve_are, settle_are, advance, advance_code, priority_code, serve_code, Course}
 use Rattle.rk_scripts.proofs.Words.{course_of, moved_all, priority, serve, settle, IsLawfulCommand, Command, Effect, carried, carried_by}
-use Rattle.rk_scripts.proofs.Words.{effect, effect_within, is_full, only_fate, reach_of, refused_by, settled, settled_by, shown, dump_code}
-use Rattle.rk_scripts.proofs.Words.{dump_text, where_code, where_text}
+use Rattle.rk_scripts.proofs.Words.{effect, effect_within, only_fate, reach_of, settled, settled_by, shown, dump_code, dump_text}
+use Rattle.rk_scripts.proofs.Words.{where_code, where_text}
 use Rattle.rk_script.proofs.Widths.{HasWidths}
-use Rattle.rk_cluster.specs.Codes as codes
-use Rattle.rk_cluster.specs.Makes as makes
 use Rattle.rk_scripts.proofs.play.Allowed.{IsFree, came_on, delivered_on}
 use Rattle.rk_scripts.proofs.play.Calling.{call_on}
 use Rattle.rk_scripts.proofs.play.Commanding.{client_allowed, forget_allowed, migrate_allowed, notice_allowed, split_allowed, table_allowed}
@@ -17,6 +15,9 @@ use Rattle.rk_scripts.proofs.play.Crashing.{crash_on}
 use Rattle.rk_scripts.proofs.play.Masters.{names_masters}
 use Rattle.rk_scripts.proofs.play.Reaching.{GoesOn, IsReached, none_on}
 use Rattle.rk_scripts.proofs.play.Resending.{again_on}
+use Rattle.rk_scripts.proofs.play.Kinds.{within_by}
+use Rattle.rk_cluster.specs.Codes as codes
+use Rattle.rk_cluster.specs.Makes as makes
 
 module _ (masters backups : ℕ) (cluster : Cluster) where
   -- what occurs at a command goes on with a run
@@ -110,7 +111,4 @@ module _ (masters backups : ℕ) (cluster : Cluster) where
   -- also where the cluster is full
   pub within_on : (command : Command) (fates : List Fate) → IsLawfulCommand command → HasWidths command → EffectGoesOn (effect_within cluster command fates)
   within_on command fates lawful widths =
-      elim (is_full cluster) as (λ b. EffectGoesOn (if b then refused_by Limit cluster else effect cluster command fates)) [
-        | true ↦ none_on masters backups cluster
-        | false ↦ effect_on command fates lawful widths
-      ]
+      within_by cluster fates EffectGoesOn (λ code. none_on masters backups cluster) command (effect_on command fates lawful widths)

@@ -1,13 +1,10 @@
 -- The cluster after a command is what occurred at it made of the one before.
-use Rattle.std.proofs.Common.{◌≡◌, ℕ, true, false, List, [], ◌∷◌, Option, None, Some, if◌then◌else◌, refl}
-use Rattle.rk_scripts.proofs.Words.{Cluster, Occurrence, cluster_run, all_acted, Code, Limit, Fate, advance, advance_code, priority_code}
-use Rattle.rk_scripts.proofs.Words.{serve_code, Course, course_of, moved_all, priority, serve, settle, Command, Effect, carried, carried_by}
-use Rattle.rk_scripts.proofs.Words.{effect, effect_within, is_full, only_fate, reach_of, refused_by, settled, settled_by, shown, dump_code}
-use Rattle.rk_scripts.proofs.Words.{dump_text, where_code, where_text}
-use Rattle.rk_cluster.specs.Codes as codes
-use Rattle.rk_cluster.specs.Makes as makes
+use Rattle.std.proofs.Common.{◌≡◌, ℕ, List, [], ◌∷◌, Option, None, Some, refl}
+use Rattle.rk_scripts.proofs.Words.{Cluster, Occurrence, cluster_run, all_acted, Code, Fate, Course, course_of, moved_all, Command, Effect}
+use Rattle.rk_scripts.proofs.Words.{carried, carried_by, effect_within, settled, settled_by, shown}
 use Rattle.rk_settle.proofs.Occurred.{acted_all_is}
 use Rattle.rk_scripts.proofs.play.Moving.{IsCourseFrom, all_moved_from}
+use Rattle.rk_scripts.proofs.play.Kinds.{command_by}
 
 -- the cluster after a command is what occurred made of the one before
 abbrev pub IsEffectFrom : Cluster → Effect → Type 0
@@ -38,37 +35,7 @@ module _ (cluster : Cluster) where
   shown_from (Some code) text = refl
   shown_from None text = refl
 
-  effect_from : (command : Command) (fates : List Fate) → IsEffectFrom cluster (effect cluster command fates)
-  effect_from (Command.Table table master) fates =
-      carried_from (codes.table_code cluster table master) (makes.table_makes cluster table master)
-  effect_from (Command.Client client) fates = carried_from (codes.client_code cluster client) (makes.client_makes cluster client)
-  effect_from (Command.Call client table key op) fates =
-      carried_from (codes.call_code cluster client table) (makes.call_makes client table key op)
-  effect_from (Command.Serve client) fates = settled_from (serve_code cluster client) (course_of cluster (serve cluster client)) fates refl
-  effect_from (Command.Repeat client) fates = carried_from (codes.again_code cluster client) (makes.again_makes cluster client)
-  effect_from (Command.Migrate tablet master) fates =
-      carried_from (codes.migrate_code cluster tablet master) (makes.migrate_makes cluster tablet master)
-  effect_from (Command.Advance tablet reach) fates =
-      settled_from (advance_code cluster tablet (reach_of reach)) (course_of cluster (advance cluster tablet (reach_of reach))) fates refl
-  effect_from (Command.Priority tablet) fates = settled_from (priority_code cluster tablet) (course_of cluster (priority cluster tablet)) fates refl
-  effect_from (Command.Split tablet hash) fates =
-      carried_from (codes.split_code cluster tablet hash) (makes.split_makes cluster tablet hash)
-  effect_from (Command.Turn lane) fates = carried_from None (makes.turn_makes cluster lane)
-  effect_from (Command.Deliver lane place) fates =
-      carried_from (codes.place_code cluster lane place) (makes.deliver_makes cluster lane place (only_fate fates))
-  effect_from (Command.Forget lane place) fates =
-      carried_from (codes.place_code cluster lane place) (makes.forget_makes cluster lane place)
-  effect_from (Command.Crash master) fates = carried_from (codes.crash_code cluster master) (makes.crash_makes cluster master)
-  effect_from (Command.Notice master) fates = carried_from (codes.notice_code cluster master) (makes.notice_makes cluster master)
-  effect_from Command.Settle fates = settled_from None (course_of cluster (settle cluster)) fates refl
-  effect_from (Command.Where tablet) fates = shown_from (where_code cluster tablet) (where_text cluster tablet)
-  effect_from (Command.Dump tablet) fates = shown_from (dump_code cluster tablet) (dump_text cluster tablet)
-  effect_from _ fates = refl
-
   -- each command, also where the cluster is full
   pub within_from : (command : Command) (fates : List Fate) → IsEffectFrom cluster (effect_within cluster command fates)
-  within_from command fates =
-      elim (is_full cluster) as (λ b. IsEffectFrom cluster (if b then refused_by Limit cluster else effect cluster command fates)) [
-        | true ↦ refl
-        | false ↦ effect_from command fates
-      ]
+  within_from command fates = command_by cluster fates (IsEffectFrom cluster) (λ code. refl) carried_from
+      (λ code tasks. settled_from code (course_of cluster tasks) fates refl) shown_from command

@@ -1,28 +1,21 @@
 -- What a lane of a run and the session of a client name: masters that are there.
-use Rattle.std.proofs.Common.{◌≡◌, ℕ, ◌<◌, not, List, map, find, Option, None, Some, refl, sym, ap, subst, ◌∙◌, arith, IfSome, w32, All}
-use Rattle.rk_scripts.proofs.Words.{range_with_len, length-map, All-filter, All-map, get_or-range_with_len, length-range_with_len, numbers}
-use Rattle.rk_scripts.proofs.Words.{Call, LANES, IsNumber, row_of, Row, known_owner, Cluster, lane_at, session_at, limits_of, Master}
-use Rattle.rk_scripts.proofs.Words.{IsMaster, World, has_crashed, live_masters, NamesMasters, unnoticed, IsGoodLane, Lasts}
-use Rattle.std.proofs.Math.ListN.{get_or-map}
+use Rattle.std.proofs.Common.{◌≡◌, ℕ, ◌<◌, not, find, Option, None, Some, refl, sym, ap, subst, ◌∙◌, arith, IfSome, w32, All}
+use Rattle.rk_scripts.proofs.Words.{range_with_len, All-filter, All-map, get_or-range_with_len, length-range_with_len, numbers, Call, LANES}
+use Rattle.rk_scripts.proofs.Words.{IsNumber, row_of, Row, known_owner, Cluster, lane_at, session_at, limits_of, Master, IsMaster, World}
+use Rattle.rk_scripts.proofs.Words.{has_crashed, live_masters, NamesMasters, unnoticed, IsGoodLane, Lasts}
 use Rattle.rk_session.specs.Owners.{owner_by_call}
 use Rattle.rk_settle.proofs.Found.{first_holds, owner_there, row_names}
 use Rattle.rk_settle.specs.Lawful.{AreNamed}
 use Rattle.rk_settle.specs.Settle.{is_unnoticed}
 use Rattle.rk_runs.proofs.history.Clusters.{IsGoodSession}
 use Rattle.rk_scripts.proofs.play.Reaching.{IsReached, lane_good, reached_eight, reached_good}
+use Rattle.rk_inv_wellformed.proofs.maps.Lists.{all_before}
 
 -- ---- masters that live
 
 -- the numbers from 1 on are those of masters
 counted_are : (masters : ℕ) → All (IsMaster masters) (range_with_len 1 masters)
-counted_are masters k d within =
-    let inside : k < masters = let long = length-range_with_len 1 masters in omega (arith, within, long) in
-    let is = get_or-range_with_len 1 masters k d inside in
-    record { first = omega (arith, is); last = omega (arith, is, inside) }
-
--- what holds of what is made of each thing of a list
-pub of_map : {X Y : Type 0} (P : Y → Type 0) (f : X → Y) (xs : List X) → All P (map f xs) → All (λ x. P (f x)) xs
-of_map P f xs all k d within = subst P (get_or-map f xs k d) (all k (f d) (let long = length-map xs f in omega (arith, within, long)))
+counted_are masters k d within = grind (arith, length-range_with_len, get_or-range_with_len)
 
 module _ (masters backups : ℕ) (cluster : Cluster) (reached : IsReached masters backups cluster) where
   module _ (lane : ℕ) (inside : lane < LANES) where
@@ -45,7 +38,7 @@ module _ (masters backups : ℕ) (cluster : Cluster) (reached : IsReached master
         let all : All (IsMaster masters) (numbers w.masters) = subst (All (IsMaster masters)) (sym numbered) (counted_are masters) in
         All-map (IsMaster masters) (λ entry. entry.0) (live_masters w)
         (All-filter (λ entry. not (has_crashed w entry.0)) (λ (entry : ℕ × Master). IsMaster masters entry.0) w.masters
-        (of_map (IsMaster masters) (λ (entry : ℕ × Master). entry.0) w.masters all))
+        (all_before (IsMaster masters) (λ (entry : ℕ × Master). entry.0) w.masters all))
 
     -- one that has crashed and was not noticed, if there is one
     unnoticed_there : IfSome (unnoticed (lane_at cluster lane)) (IsMaster masters)

@@ -1,15 +1,12 @@
 -- The cluster at the end of a script played is what occurred made of a new one, with as many masters and backups as there may be; and what
 -- occurred is a run.
-use Rattle.std.proofs.Common.{◌≡◌, ◌≤◌, ℕ, true, false, List, [], ◌∷◌, Option, None, Some, is_some, Result, Ok, Err, if◌then◌else◌, refl}
-use Rattle.std.proofs.Common.{sym, ap, subst, ◌∙◌, arith, take, All}
-use Rattle.rk_scripts.proofs.Words.{All-head, All-nil, All-tail, MOST_BACKUPS, Cluster, Occurrence, cluster_run, new_cluster, MOST_MASTERS}
-use Rattle.rk_scripts.proofs.Words.{Fate, runs_join, number_of, TooLate, IsLawfulCommand, script_of, Command, Numbered, ParseError, Effect}
-use Rattle.rk_scripts.proofs.Words.{Refuses, Stop, effect_within, Played, Setting, behind, cluster_by, continued, first_commands}
-use Rattle.rk_scripts.proofs.Words.{first_fates, how_many, opened_by, other_fates, played_from, played_in, played_of, played_part}
-use Rattle.rk_scripts.proofs.Words.{refused_at, set_once, stopped_at, unset, IsRun, IsHistorical}
-use Rattle.std.proofs.lemmas.List.Elements.{All-take}
-use Rattle.rk_script.proofs.LawfulLemmas.{script_of-lawful}
-use Rattle.rk_script.proofs.Widths.{HasWidthsAt, script_of-widths}
+use Rattle.std.proofs.Common.{arith}
+use Rattle.std.proofs.Common.{◌≡◌, ◌≤◌, ℕ, List, [], ◌∷◌, Option, None, Some, refl, sym, ap, subst, ◌∙◌, All}
+use Rattle.rk_scripts.proofs.Words.{All-head, All-tail, MOST_BACKUPS, Cluster, Occurrence, cluster_run, new_cluster, MOST_MASTERS, Fate}
+use Rattle.rk_scripts.proofs.Words.{runs_join, Numbered, Effect, Refuses, Stop, effect_within, Played, Setting, behind, cluster_by}
+use Rattle.rk_scripts.proofs.Words.{continued, first_fates, how_many, other_fates, played_in, played_part, refused_at, stopped_at, IsRun}
+use Rattle.rk_scripts.proofs.Words.{IsHistorical, NoMemory}
+use Rattle.rk_script.proofs.Widths.{HasWidthsAt}
 use Rattle.rk_script.specs.Lawful.{IsLawful}
 use Rattle.rk_play.specs.Settings.{IsSetting}
 use Rattle.rk_scripts.proofs.play.Going.{within_on}
@@ -17,6 +14,8 @@ use Rattle.rk_scripts.proofs.play.Led.{one_map}
 use Rattle.rk_scripts.proofs.play.Made.{within_from}
 use Rattle.rk_scripts.proofs.play.Reaching.{GoesOn, IsReached, all_on, new_reached, none_on}
 use Rattle.rk_scripts.proofs.play.Stepping.{all_finished, all_justified, all_sound}
+use Rattle.rk_scripts.proofs.play.Openings.{opening}
+use Rattle.rk_play.specs.Played.{ending}
 
 -- ---- commands in a cluster
 
@@ -29,11 +28,7 @@ module _ (masters backups : ℕ) where
   -- so it is where something occurred before
   behind_play : (start : Cluster) (pieces : List (List ℕ)) (occurred : List Occurrence) (next : Cluster) (later : Played) → next ≡ cluster_run start occurred
       → GoesOn masters backups start occurred → IsPlay masters backups next later → IsPlay masters backups start (behind pieces occurred later)
-  behind_play start pieces occurred next later from on it = record {
-    from = it.from ∙ ap (λ (cluster : Cluster). cluster_run cluster later.occurred) from ∙ sym (runs_join start occurred later.occurred);
-    on = all_on masters backups start occurred later.occurred on
-        (subst (λ (cluster : Cluster). GoesOn masters backups cluster later.occurred) from it.on);
-  }
+  behind_play start pieces occurred next later from on it = grind (arith, cluster_run, runs_join, all_on)
 
   stopped_play : (line : ℕ) (stop : Stop) (cluster : Cluster) → IsPlay masters backups cluster (stopped_at line stop cluster)
   stopped_play line (Refuses code) cluster = record { from = refl; on = none_on masters backups cluster }
@@ -68,15 +63,7 @@ pub record IsPlayedAnew (it : Played) : Type 0 where
   pub run : IsRun (new_cluster masters backups) it.occurred
 
 anew_by : (setting : Setting) (it : Played) → IsSetting setting → IsPlay (how_many setting.masters) (how_many setting.backups) (cluster_by setting) it → IsPlayedAnew it
-anew_by setting it may plays = record {
-  masters = how_many setting.masters;
-  backups = how_many setting.backups;
-  few_masters = may.masters.last;
-  backed = may.backed;
-  few_backups = may.backups;
-  cluster_is = plays.from;
-  run = plays.on (new_reached (how_many setting.masters) (how_many setting.backups) may.masters.last may.backed may.backups);
-}
+anew_by setting it may plays = grind (arith, how_many, new_reached)
 
 -- so is one that ends before any command
 ended_anew : (setting : Setting) (it : Played) → IsSetting setting → it.cluster ≡ cluster_by setting → it.occurred ≡ [] → IsPlayedAnew it
@@ -89,69 +76,14 @@ ended_anew setting it may is none =
       on = subst (GoesOn masters backups (cluster_by setting)) (sym none) (none_on masters backups (cluster_by setting));
     })
 
-once_anew : (line : ℕ) (before : Option ℕ) (setting : Setting) (rest : Played) → IsSetting setting → IsPlayedAnew rest → IsPlayedAnew (set_once line before setting rest)
-once_anew line before setting rest may later =
-    elim (is_some before) as (λ b. IsPlayedAnew (if b then refused_at line (number_of TooLate) (cluster_by setting) else rest)) [
-      | true ↦ ended_anew setting (refused_at line (number_of TooLate) (cluster_by setting)) may refl refl
-      | false ↦ later
-    ]
-
-opened_anew : (line : ℕ) (command : Command) (setting : Setting) (next : Setting → Played) (all : Cluster → Played) → IsSetting setting → IsLawfulCommand command
-    → ((more : Setting) → IsSetting more → IsPlayedAnew (next more)) → ((masters backups : ℕ) (cluster : Cluster) → IsPlay masters backups cluster (all cluster))
-    → IsPlayedAnew (opened_by line command setting next all)
-opened_anew line (Command.Masters masters) setting next all may lawful goes begins =
-    let more : Setting = record setting { masters = Some masters } in
-    once_anew line setting.masters setting (next more) may
-    (goes more
-    (record {
-      masters = record { first = omega (arith, lawful.0); last = lawful.1 };
-      backed = may.backed;
-      backups = may.backups;
-    }))
-opened_anew line (Command.Backups backups) setting next all may lawful goes begins =
-    let more : Setting = record setting { backups = Some backups } in
-    once_anew line setting.backups setting (next more) may
-    (goes more (record { masters = may.masters; backed = lawful.0; backups = lawful.1 }))
-opened_anew line command setting next all may lawful goes begins =
-    anew_by setting (all (cluster_by setting)) may (begins (how_many setting.masters) (how_many setting.backups) (cluster_by setting))
-
-from_anew : (commands : List Numbered) (fates : List (List Fate)) (setting : Setting) → All IsLawful commands → All HasWidthsAt commands → IsSetting setting
-    → IsPlayedAnew (played_from commands fates setting)
-from_anew [] fates setting lawful widths may = ended_anew setting (played_from [] fates setting) may refl refl
-from_anew (first ∷ others) fates setting lawful widths may =
-    opened_anew first.line first.command setting (λ next. played_from others fates next) (λ cluster. played_in (first ∷ others) fates cluster) may
-    (All-head IsLawful first others lawful).command
-    (λ more fits. from_anew others fates more (All-tail IsLawful first others lawful) (All-tail HasWidthsAt first others widths) fits)
-    (λ masters backups cluster. in_play masters backups (first ∷ others) fates lawful widths cluster)
-
--- nothing was asked for
-unset_may : IsSetting unset
-unset_may = record { masters = record { first = omega arith; last = omega arith }; backed = omega arith; backups = omega arith }
-
-of_anew : (read : Result (List Numbered) ParseError) (fates : List (List Fate)) → ((commands : List Numbered) → read ≡ Ok commands → All IsLawful commands)
-    → ((commands : List Numbered) → read ≡ Ok commands → All HasWidthsAt commands) → IsPlayedAnew (played_of read fates)
-of_anew (Ok commands) fates lawful widths = from_anew commands fates unset (lawful commands refl) (widths commands refl) unset_may
-of_anew (Err (ParseError.Refused line code)) fates lawful widths = ended_anew unset (played_of (Err (ParseError.Refused line code)) fates) unset_may refl refl
-of_anew (Err ParseError.NoMemory) fates lawful widths = ended_anew unset (played_of (Err ParseError.NoMemory) fates) unset_may refl refl
-
--- so is a part of a script
-first_lawful : (count : ℕ) (read : Result (List Numbered) ParseError) → ((commands : List Numbered) → read ≡ Ok commands → All IsLawful commands)
-    → (commands : List Numbered) → first_commands count read ≡ Ok commands → All IsLawful commands
-first_lawful count (Ok all) lawful commands is =
-    let same : take count all ≡ commands = cc is in subst (All IsLawful) same (All-take IsLawful count all (lawful all refl))
-first_lawful count (Err fault) lawful commands is = let none : [] ≡ commands = cc is in subst (All IsLawful) none (All-nil IsLawful)
-
-first_widths : (count : ℕ) (read : Result (List Numbered) ParseError) → ((commands : List Numbered) → read ≡ Ok commands → All HasWidthsAt commands)
-    → (commands : List Numbered) → first_commands count read ≡ Ok commands → All HasWidthsAt commands
-first_widths count (Ok all) widths commands is =
-    let same : take count all ≡ commands = cc is in subst (All HasWidthsAt) same (All-take HasWidthsAt count all (widths all refl))
-first_widths count (Err fault) widths commands is = let none : [] ≡ commands = cc is in subst (All HasWidthsAt) none (All-nil HasWidthsAt)
-
 played_anew : (script : List ℕ) (part : Option ℕ) (fates : List (List Fate)) → IsPlayedAnew (played_part part script fates)
-played_anew script None fates = of_anew (script_of script) fates (script_of-lawful script) (script_of-widths script)
-played_anew script (Some count) fates =
-    of_anew (first_commands count (script_of script)) fates (first_lawful count (script_of script) (script_of-lawful script))
-    (first_widths count (script_of script) (script_of-widths script))
+played_anew script part fates = opening (λ left one other. IsPlayedAnew one) fates fates
+    (λ left line code setting may. ended_anew setting (refused_at line code (cluster_by setting)) may refl refl)
+    (λ setting may. ended_anew setting (ending NoMemory (cluster_by setting)) may refl refl)
+    (λ left setting may lawful widths.
+    anew_by setting (played_in left fates (cluster_by setting)) may
+    (in_play (how_many setting.masters) (how_many setting.backups) left fates lawful widths (cluster_by setting)))
+    script part
 
 -- ---- the law
 

@@ -1,23 +1,17 @@
 -- A cluster that is found to be at rest is quiet.
-use Rattle.std.proofs.Common.{◌≡◌, ◌==◌, ◌&&◌, ℕ, Bool, true, false, List, [], ◌∷◌, All, length, map, Option, None, Some, refl, is_none}
-use Rattle.std.proofs.Common.{eqb-true}
+use Rattle.std.proofs.Common.{◌≡◌, ◌==◌, ℕ, Bool, true, List, [], ◌∷◌, All, length, map, Option, None, Some, refl, is_none, eqb-true}
 use Rattle.rk_scripts.proofs.Words.{list_all, list_any, All-cons, All-map, All-nil, NumberMap, Call, Phase, Owned, Row, Session, Cluster}
 use Rattle.rk_scripts.proofs.Words.{IsQuietCluster, Master, staged, IsOwnedLive, World, live_masters, has_applied_all, has_owners}
-use Rattle.rk_scripts.proofs.Words.{is_owned_live, is_quiet, is_quiet_lane, is_at_rest, is_silent}
+use Rattle.rk_scripts.proofs.Words.{is_owned_live, is_quiet, is_quiet_lane, is_at_rest, is_silent, and_parts}
 use Rattle.std.proofs.lemmas.Bool.{not-true}
 use Rattle.std.proofs.lemmas.List.{nil_from_length}
 use Rattle.rk_world.specs.Quiet.{IsQuiet}
-
--- both hold where they hold together
-both_hold : (a b : Bool) → (a && b) ≡ true → (a ≡ true) × (b ≡ true)
-both_hold true b is = (refl, is)
-both_hold false b is = absurd (cc is)
 
 -- what a test that all pass tells holds of all
 all_by : {X : Type 0} (test : X → Bool) (Holds : X → Type 0) → ((x : X) → test x ≡ true → Holds x) → (xs : List X) → list_all test xs ≡ true → All Holds xs
 all_by test Holds tells [] is = All-nil Holds
 all_by test Holds tells (x ∷ xs) is =
-    let both = both_hold (test x) (list_all test xs) is in
+    let both = and_parts (test x) (list_all test xs) is in
     All-cons Holds x xs (tells x both.0) (all_by test Holds tells xs both.1)
 
 owned_live : (w : World) (phase : Phase) → is_owned_live w phase ≡ true → IsOwnedLive w.crashed phase
@@ -38,7 +32,7 @@ answered sessions is =
 quiet_lane : (sessions : NumberMap Session) (w : World) → list_all (λ entry. is_none entry.1.outstanding) sessions ≡ true → is_quiet_lane w ≡ true
     → IsQuiet w.coordinator.rows w.crashed (live_masters w) (map (λ entry. entry.1) sessions)
 quiet_lane sessions w none is =
-    let both = both_hold (has_owners w) (has_applied_all w) is in
+    let both = and_parts (has_owners w) (has_applied_all w) is in
     record {
       owned = all_by (λ (row : Row). is_owned_live w row.phase) (λ row. IsOwnedLive w.crashed row.phase)
           (λ row passes. owned_live w row.phase passes) w.coordinator.rows both.0;
@@ -49,10 +43,10 @@ quiet_lane sessions w none is =
 
 pub quiet_cluster : (cluster : Cluster) → is_quiet cluster ≡ true → IsQuietCluster cluster
 quiet_cluster cluster is =
-    let both = both_hold (list_all is_quiet_lane cluster.lanes) (list_all (λ (entry : ℕ × Session). is_none entry.1.outstanding) cluster.sessions) is in
+    let both = and_parts (list_all is_quiet_lane cluster.lanes) (list_all (λ (entry : ℕ × Session). is_none entry.1.outstanding) cluster.sessions) is in
     all_by is_quiet_lane (λ w. IsQuiet w.coordinator.rows w.crashed (live_masters w) (map (λ (entry : ℕ × Session). entry.1) cluster.sessions))
     (λ w passes. quiet_lane cluster.sessions w both.1 passes) cluster.lanes both.0
 
 -- so is one that is at rest
 pub rests_quiet : (cluster : Cluster) → is_at_rest cluster ≡ true → IsQuietCluster cluster
-rests_quiet cluster is = quiet_cluster cluster (both_hold (is_quiet cluster) (list_all is_silent cluster.lanes) is).0
+rests_quiet cluster is = quiet_cluster cluster (and_parts (is_quiet cluster) (list_all is_silent cluster.lanes) is).0

@@ -1,18 +1,18 @@
 -- `advance` ends where it is not refused.
 use Rattle.std.proofs.Common.{◌≡◌, ◌<◌, ◌≤◌, ◌+◌, ◌==◌, ◌||◌, ℕ, zero, suc, Bool, true, false, not, nat_le, List, [], ◌∷◌, length, map}
-use Rattle.std.proofs.Common.{Option, None, Some, refl, sym, ap, subst, ◌∙◌, inl, inr, arith, eqb-true, true≢false}
-use Rattle.rk_scripts.proofs.Words.{list_any, range_with_len, false≢true, none-some, LANES, row_of, Phase, Opening, Moving, Row, Cluster}
+use Rattle.std.proofs.Common.{Option, None, refl, sym, ap, subst, ◌∙◌, inl, arith, eqb-true, true≢false}
+use Rattle.rk_scripts.proofs.Words.{list_any, range_with_len, false≢true, none-some, LANES, row_of, Row, Cluster}
 use Rattle.rk_scripts.proofs.Words.{lane_at, World, has_crashed, code_where, first_code, all_lanes, is_tablet, Code, Crashed, Unknown}
 use Rattle.rk_scripts.proofs.Words.{advance, advance_code, Course, course_of, is_short_of, advance_are, EndsUnlessRefused}
 use Rattle.rk_cluster.specs.declared.code.Code.TheVariants.{NotMigrating}
-use Rattle.rk_settle.specs.Codes.{has_dead_migration, has_dead_party, is_dead_migration, short_lanes}
+use Rattle.rk_settle.specs.Codes.{has_dead_migration, is_dead_migration, short_lanes}
 use Rattle.rk_scripts.proofs.play.Reaching.{reached_eight}
 use Rattle.rk_scripts.proofs.settle.Advancing.{advancing}
 use Rattle.rk_scripts.proofs.settle.ExchangeTasks.{Reach, advances}
 use Rattle.rk_scripts.proofs.settle.Finishing.{ends_unless}
 use Rattle.rk_scripts.proofs.settle.Going.{Comes, Goes, comes_here, goes_done, goes_on}
 use Rattle.rk_scripts.proofs.settle.Migrating.{First, migrates, migrates_by}
-use Rattle.rk_scripts.proofs.settle.Noticing.{in_range, is_in}
+use Rattle.rk_scripts.proofs.settle.Noticing.{is_in, in_range}
 use Rattle.rk_scripts.proofs.settle.Ordering.{IsLaneNow}
 use Rattle.rk_scripts.proofs.settle.Rounds.{Never}
 use Rattle.rk_scripts.proofs.settle.Setting.{IsSane, Setting}
@@ -28,45 +28,11 @@ neither true b is = absurd (true≢false is)
 
 -- where no party of a row's migration is dead
 party_lives : (tablet : ℕ) (w : World) (found : Option Row) → row_of w.coordinator.rows tablet ≡ found → is_dead_migration w found ≡ false → First tablet w
-party_lives tablet w None is alive = inl (ap migrates_by is)
-party_lives tablet w (Some row) is alive = go row.phase refl alive
-  where
-    none : (phase : Phase) → row.phase ≡ phase → migrates phase ≡ false → First tablet w
-    none phase at still = inl (ap migrates_by is ∙ (ap migrates at ∙ still))
-
-    go : (phase : Phase) → row.phase ≡ phase → has_dead_party w phase ≡ false → First tablet w
-    go (Opening source sfrom target dfrom) at alive =
-        let each = neither (has_crashed w source) (has_crashed w target) alive in
-        inr
-        (inl
-        (record {
-          row = row;
-          source = source;
-          sfrom = sfrom;
-          target = target;
-          dfrom = dfrom;
-          there = record { found = is; phase_is = at; source_lives = each.0; target_lives = each.1 };
-        }))
-    go (Moving source sfrom target dfrom) at alive =
-        let each = neither (has_crashed w source) (has_crashed w target) alive in
-        inr
-        (inr
-        (record {
-          row = row;
-          source = source;
-          sfrom = sfrom;
-          target = target;
-          dfrom = dfrom;
-          there = record { found = is; phase_is = at; source_lives = each.0; target_lives = each.1 };
-        }))
-    go phase at alive = none phase at refl
+party_lives tablet w found is alive = grind (arith, migrates_by, migrates, neither, has_crashed)
 
 -- where no code applies, the last one does not
 last_none : (a b c : Option Code) → first_code (a ∷ b ∷ c ∷ []) ≡ None → c ≡ None
-last_none None None None none = refl
-last_none None None (Some code) none = absurd (none-some code (sym none))
-last_none None (Some code) c none = absurd (none-some code (sym none))
-last_none (Some code) b c none = absurd (none-some code (sym none))
+last_none a b c none = grind (arith, none-some)
 
 where_none : (b : Bool) (code : Code) → code_where b code ≡ None → b ≡ false
 where_none true code some = absurd (none-some code (sym some))

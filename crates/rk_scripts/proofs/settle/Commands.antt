@@ -1,20 +1,21 @@
 -- Each client with a session was added in each lane after a command of a script too; and where the run does not stop at it, the clients of
 -- each lane are those with sessions.
-use Rattle.std.proofs.Common.{◌≡◌, ◌++◌, ◌==◌, ◌+◌, ℕ, true, false, List, [], ◌∷◌, map, length, All, Option, None, Some, if◌then◌else◌}
-use Rattle.std.proofs.Common.{refl, flat_map}
+use Rattle.std.proofs.Common.{arith}
+use Rattle.std.proofs.Common.{◌≡◌, ◌++◌, ◌==◌, ℕ, List, [], ◌∷◌, map, length, All, Option, None, Some, refl, flat_map}
 use Rattle.rk_scripts.proofs.Words.{All-append, All-cons, All-nil, Call, number_at, Message, Session, call_lane, Asks, Calls, Cluster}
 use Rattle.rk_scripts.proofs.Words.{Joins, Occurrence, lane_at, session_at, Master, live_masters, Event, Acted, acted, all_acted, going_on}
-use Rattle.rk_scripts.proofs.Words.{all_lanes, lanes_without, Fate, Code, Limit, advance, advance_code, priority_code, serve_code, Course}
+use Rattle.rk_scripts.proofs.Words.{all_lanes, lanes_without, Fate, Code, advance, advance_code, priority_code, serve_code, Course}
 use Rattle.rk_scripts.proofs.Words.{course_of, moved_all, priority, serve, settle, Command, Effect, carried, carried_by, effect}
-use Rattle.rk_scripts.proofs.Words.{effect_within, is_full, only_fate, reach_of, refused_by, settled, settled_by, shown, dump_code}
-use Rattle.rk_scripts.proofs.Words.{dump_text, where_code, where_text, AreAdded, added_after, Node}
-use Rattle.rk_cluster.specs.Codes as codes
-use Rattle.rk_cluster.specs.Makes as makes
+use Rattle.rk_scripts.proofs.Words.{effect_within, only_fate, reach_of, refused_by, settled, settled_by, shown, dump_code, dump_text}
+use Rattle.rk_scripts.proofs.Words.{where_code, where_text, AreAdded, added_after, Node}
 use Rattle.rk_scripts.proofs.settle.Joining.{client_own}
 use Rattle.rk_scripts.proofs.settle.OwnClients.{AddsNobody}
 use Rattle.rk_scripts.proofs.settle.OwnCourses.{advance_own, moves_own, priority_own, serve_own, settle_own}
 use Rattle.rk_scripts.proofs.settle.OwnTasks.{deliver_own, one_of_own, where_of_own}
 use Rattle.rk_scripts.proofs.settle.Owning.{HasOwnClients, IsOfOwn, own_added, own_all}
+use Rattle.rk_scripts.proofs.play.Kinds.{within_by}
+use Rattle.rk_cluster.specs.Codes as codes
+use Rattle.rk_cluster.specs.Makes as makes
 
 -- ---- what commands make
 
@@ -55,14 +56,7 @@ turn_of_own cluster lane =
     (all_ask_of_own lane cluster.sessions) (All-cons IsOfOwn coordinator masters tt (masters_of_own lane live))
 
 again_of_own : (cluster : Cluster) (client : ℕ) (request : Option Message) → All IsOfOwn (makes.again_by cluster client request)
-again_of_own cluster client None = All-nil IsOfOwn
-again_of_own cluster client (Some message) =
-    let lane = makes.request_lane message.body in
-    let number = (lane_at cluster lane).wire.sent + 1 in
-    let again = makes.in_lane lane (Event.Again client) in
-    let deliver = makes.in_lane lane (Event.Deliver number) in
-    let forget = makes.in_lane lane (Event.Forget number) in
-    All-cons IsOfOwn again (deliver ∷ forget ∷ []) tt (All-cons IsOfOwn deliver (forget ∷ []) tt (one_of_own forget tt))
+again_of_own cluster client request = grind (arith, lane_at, one_of_own)
 
 -- ---- what commands leave
 
@@ -177,8 +171,4 @@ module _ (cluster : Cluster) (own : HasOwnClients cluster) where
 
   -- also where the cluster is full
   pub within_own : (command : Command) (fates : List Fate) → Leaves (effect_within cluster command fates)
-  within_own command fates =
-      elim (is_full cluster) as (λ b. Leaves (if b then refused_by Limit cluster else effect cluster command fates)) [
-        | true ↦ leaves (refused_by Limit cluster) own
-        | false ↦ effect_own command fates
-      ]
+  within_own command fates = within_by cluster fates Leaves (λ code. leaves (refused_by code cluster) own) command (effect_own command fates)

@@ -18,11 +18,7 @@ use Rattle.rk_scripts.proofs.settle.Worn.{fresh_event}
 -- ---- what is worn does not depend on what the call of a replica comes to
 
 step_worn : (w : World) (number : ℕ) (called other : Called) → worn_in (step w (Event.Deliver number) called) ≡ worn_in (step w (Event.Deliver number) other)
-step_worn w number called other = go (refusal w (Event.Deliver number))
-  where
-    go : (refused : Option StepError) → worn_in (stepped_by w (Event.Deliver number) called refused) ≡ worn_in (stepped_by w (Event.Deliver number) other refused)
-    go None = refl
-    go (Some error) = refl
+step_worn w number called other = grind (arith, refusal, worn_in, stepped_by)
 
 -- what a replica answers that a delivery calls
 abbrev answered : Cluster → ℕ → ℕ → Fate → Called

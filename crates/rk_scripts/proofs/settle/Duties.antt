@@ -14,11 +14,7 @@ use Rattle.rk_scripts.proofs.settle.Turning.{IsTurned, turn_turned, turned_itsel
 
 -- a turn, if it is not refused
 pub stepped_turned : (w : World) (node : Node) (called : Called) → IsTurned w (world_stepped w (step w (Event.Turn node) called))
-stepped_turned w node called = go (refusal w (Event.Turn node))
-  where
-    go : (refused : Option StepError) → IsTurned w (world_stepped w (stepped_by w (Event.Turn node) called refused))
-    go None = turn_turned w node
-    go (Some error) = turned_itself w
+stepped_turned w node called = grind (arith, refusal, world_stepped, stepped_by, turn_turned, turned_itself)
 
 -- a wire on which more was sent is not as it was
 no_more : (before after : Traffic) → after ≡ before → before.sent < after.sent → ⊥
@@ -91,12 +87,7 @@ lives_in w (first ∷ things) master thing found lives =
 
 -- before any turn each master that lives is still to take its own
 pub waits_first : (w : World) → Waits w (numbers (live_masters w))
-waits_first w master lives = go (get w.masters master) refl
-  where
-    go : (found : Option Master) → get w.masters master ≡ found
-        → (staged (unwrap_or found (new_master master [])) ≡ []) ⊎ (is_in master (numbers (live_masters w)) ≡ true)
-    go None is = inl refl
-    go (Some there) is = inr (lives_in w w.masters master there is lives)
+waits_first w master lives = grind (arith, staged, new_master, is_in, numbers, live_masters, lives_in)
 
 -- a turn leaves what is staged
 pub waits_kept : (w now : World) (coming : List ℕ) → IsTurned w now → Waits w coming → Waits now coming

@@ -5,7 +5,7 @@ use Rattle.std.proofs.Common.{All, Option, None, Some, refl, sym, ap, subst, ◌
 use Rattle.std.proofs.Common.{IfSome, unwrap_or, flat_map, eq-eqb, eqb-true, le-ltb, lt-ltb, ne_eqb}
 use Rattle.rk_scripts.proofs.Words.{list_all, and_from, cases_eq, cases_lt, cond-false, cond-true, false≢true, or_left, or_right}
 use Rattle.rk_scripts.proofs.Words.{All-append, All-cons, All-contains, All-head, All-nil, All-tail, IsInOrder, get, get_or, meets, Placed}
-use Rattle.rk_scripts.proofs.Words.{Grant, Prepare, completions_from, Message, row_of, Phase, Owned, Opening, Moving, Rebuilding, Row}
+use Rattle.rk_scripts.proofs.Words.{Grant, Prepare, completions_from, Message, row_of, Phase, Owned, Opening, Moving, Row}
 use Rattle.rk_scripts.proofs.Words.{closed, frozen, granted, in_role, role_closed, role_frozen, role_granted, Handover, Role, Coordinator}
 use Rattle.rk_scripts.proofs.Words.{is_noticed, coordinator_step, coordinator_turn, carried_entry, close_taken, closing, grant_taken}
 use Rattle.rk_scripts.proofs.Words.{granting, prepare_taken, preparing, ready, ready_again, transfer, Master, is_settled, new_master}
@@ -22,8 +22,7 @@ use Rattle.rk_world.specs.Coordinator.{Handed, from_coordinator, row_tenure, wit
 use Rattle.rk_world.specs.CoordinatorStep.{Coordinated, about, at_term, place_noted, ready_in, report, row_moved, transfer_in, unanswered}
 use Rattle.rk_world.specs.CoordinatorStep.{row_duty, row_for}
 use Rattle.rk_world.specs.Handovers.{is_above, tablet_closed, transferring}
-use Rattle.rk_sound.specs.Posts.{InvitedTarget, MovingTarget, OpeningSource, Post, StillCounts, target_post}
-use Rattle.rk_sound.specs.Roles.{RoleFits}
+use Rattle.rk_sound.specs.Posts.{InvitedTarget, MovingTarget, OpeningSource, Post, target_post}
 use Rattle.rk_sound.specs.Rows.{IsFormed}
 use Rattle.rk_sound.specs.Terms.{HandoverFits}
 use Rattle.rk_inv_base.proofs.rows.RowAdded.{meets_turned}
@@ -93,10 +92,7 @@ hand_others coordinator tablet row (Opening source sfrom target (Some dfrom)) ap
 hand_others coordinator tablet row _ apart = one_off (hand_topic tablet) _ refl
 
 grant_others : (coordinator : Coordinator) (tablet : ℕ) (row : Row) (phase : Phase) → (row.tablet ≡ tablet → ⊥) → AreOff (grant_topic tablet) (row_duty coordinator row phase)
-grant_others coordinator tablet row (Owned master from) apart = All-nil _
-grant_others coordinator tablet row (Opening source sfrom target None) apart = one_off (grant_topic tablet) _ refl
-grant_others coordinator tablet row (Moving source sfrom target dfrom) apart = one_off (grant_topic tablet) _ (ne_eqb row.tablet tablet apart)
-grant_others coordinator tablet row _ apart = one_off (grant_topic tablet) _ refl
+grant_others coordinator tablet row phase apart = grind (arith, one_off, grant_topic, ne_eqb)
 
 -- ---- rows
 
@@ -121,23 +117,10 @@ phase_found coordinator row phase found =
 
 freezing_term : (now : Master) (number : ℕ) (tablet : Tablet) (moved : Option Handover) (term : ℕ) → IfSome moved (λ handover. handover.term ≡ term)
     → (tablet_at now number).handover.term ≡ term → (tablet_at (freezing now number tablet moved) number).handover.term ≡ term
-freezing_term now number tablet None term moves is = is
-freezing_term now number tablet (Some handover) term moves is = go (is_settled now tablet.handover.range)
-  where
-    go : (b : Bool) → (tablet_at (cond b (with_tablet now number (with_handover tablet handover)) now) number).handover.term ≡ term
-    go true = ap (λ (it : Tablet). it.handover.term) (at_put now number (with_handover tablet handover)) ∙ moves
-    go false = is
+freezing_term now number tablet moved term moves is = grind (arith, is_settled, tablet_at, with_tablet, with_handover, at_put)
 
 frozen_term : (handover : Handover) → IfSome (frozen handover handover.term) (λ it. it.term ≡ handover.term)
-frozen_term handover = go (handover.term == handover.term)
-  where
-    by : (role : Option Role) → IfSome (in_role handover role) (λ it. it.term ≡ handover.term)
-    by None = tt
-    by (Some role) = refl
-
-    go : (b : Bool) → IfSome (cond b (in_role handover (role_frozen handover.role)) None) (λ it. it.term ≡ handover.term)
-    go true = by (role_frozen handover.role)
-    go false = tt
+frozen_term handover = grind (arith, in_role, role_frozen)
 
 closing_term : (master : Master) (number term : ℕ) (handover : Handover) → handover.term ≡ term → (tablet_at (closing master number (Some handover)) number).handover.term ≡ term
 closing_term master number term handover is =
@@ -176,11 +159,7 @@ module _ (masters lane : ℕ) (w : World) (good : IsGoodLane Lasts masters lane 
   kept m = (tablet_in w m row.tablet).handover
 
   pub fitted : (m : ℕ) (post : Post) → has_crashed w m ≡ false → post_of row.phase m ≡ post → Holds (bond_of post (kept m).role) row.term (kept m).term (master_at w m).applied
-  fitted m post living is =
-      subst (λ (p : Post). Holds (bond_of p (kept m).role) row.term (kept m).term (master_at w m).applied) is
-      (All-contains
-      (λ (r : Row). StillCounts (lives w m) (tablet_in w m r.tablet).handover.term r.term → RoleFits r m (tablet_in w m r.tablet).handover (master_at w m).applied)
-      w.coordinator.rows row (good.sound.roles.fitting m) stands (inl (ap not living)))
+  fitted m post living is = grind (arith, bond_of, master_at, lives, tablet_in, stands)
 
   opening_apart : (source sfrom target : ℕ) (dfrom : Option ℕ) → row.phase ≡ Opening source sfrom target dfrom → source ≢ target
   opening_apart source sfrom target dfrom is =

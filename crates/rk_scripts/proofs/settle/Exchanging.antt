@@ -26,11 +26,7 @@ pub record IsThere (messages : NumberMap Message) (number : ℕ) : Type 0 where
   pub found : get messages number ≡ Some message
 
 pub tested_there : (messages : NumberMap Message) (number : ℕ) → is_some (get messages number) ≡ true → IsThere messages number
-tested_there messages number there = go (get messages number) refl there
-  where
-    go : (found : Option Message) → get messages number ≡ found → is_some found ≡ true → IsThere messages number
-    go None is none = absurd (false≢true none)
-    go (Some message) is some = record { message = message; found = is }
+tested_there messages number there = grind (arith, false≢true)
 
 -- these tasks are left
 abbrev pub HasLeft : List Task → Course → Type 0

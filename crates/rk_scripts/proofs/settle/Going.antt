@@ -1,10 +1,10 @@
 -- Courses that go on until something holds, or until they are done.
+use Rattle.std.proofs.Common.{arith}
 use Rattle.std.proofs.Common.{◌≡◌, ℕ, zero, suc, Bool, List, [], ◌∷◌, Option, None, Some, is_some, refl, sym, ap, subst, ◌∙◌, inl, inr}
 use Rattle.std.proofs.Common.{⊎_elim, ◌⊎◌}
 use Rattle.rk_scripts.proofs.Words.{none-some, Cluster, Occurrence, acted, going_on, Course, moved_by, occurrence_error, occurring}
 use Rattle.rk_scripts.proofs.Words.{occurring_by, SettleError, AreAdded, Stops, after_moves}
-use Rattle.rk_cluster.specs.Acted.{idle}
-use Rattle.rk_settle.specs.Course.{error_by, worn_error}
+use Rattle.rk_settle.specs.Course.{error_by}
 use Rattle.rk_scripts.proofs.settle.Following.{Follows, follows_itself, follows_on}
 use Rattle.rk_scripts.proofs.settle.Setting.{IsSane, Setting, next_follows, next_of, sane_next}
 use Rattle.rk_scripts.proofs.settle.Tasks.{Task}
@@ -108,24 +108,8 @@ module _ (s : Setting) where
       → ((next : Course) → IsAt (acted course.cluster occurrence).cluster rest next → (acted course.cluster occurrence).worn ≡ None → P next)
       → Goes before course P
   occurs_move before course task rest occurrence failed P comes are moves tells added holds =
-      one_move before course (task ∷ rest) P comes are
-      (λ none.
-      let fresh = tells none in
-      let at = came (acted course.cluster occurrence).worn fresh in
-      subst (λ (next : Course). AreAdded next.cluster × P next) (sym moves)
-      (subst AreAdded (sym at.cluster_is) added, holds (occurring course (occurrence ∷ []) failed rest) at fresh))
-    where
-      came : (worn : Option ℕ) → worn ≡ None → IsAt (acted course.cluster occurrence).cluster rest
-          (occurring_by course failed rest (going_on (acted course.cluster occurrence) worn (λ next. idle next)) (going_on (acted course.cluster occurrence) worn (λ next. idle next)).worn)
-      came None is = record { cluster_is = refl; tasks_are = refl }
-      came (Some number) is = absurd (none-some number (sym is))
+      grind (arith, one_move, acted, occurring, occurring_by, going_on, none-some)
 
 -- where the list of one occurrence finds no lane worn, this does not
 pub alone_fresh : (cluster : Cluster) (occurrence : Occurrence) → occurrence_error cluster (occurrence ∷ []) ≡ None → (acted cluster occurrence).worn ≡ None
-alone_fresh cluster occurrence none = go (acted cluster occurrence).worn refl none
-  where
-    go : (worn : Option ℕ) → (acted cluster occurrence).worn ≡ worn → worn_error (going_on (acted cluster occurrence) worn (λ next. idle next)).worn ≡ None
-        → (acted cluster occurrence).worn ≡ None
-    go None is error = is
-    go (Some number) is error =
-        let never : worn_error (Some number) ≡ None = ap worn_error (sym is) ∙ error in cc never
+alone_fresh cluster occurrence none = grind (arith, acted, going_on)

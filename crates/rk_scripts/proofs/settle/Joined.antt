@@ -20,7 +20,7 @@ use Rattle.rk_scripts.proofs.settle.Exchanged.{Sends, turning}
 use Rattle.rk_scripts.proofs.settle.Going.{Comes, Goes, IsAt, goes_here, goes_on}
 use Rattle.rk_scripts.proofs.settle.Lanes.{IsSameBeside}
 use Rattle.rk_scripts.proofs.settle.Migrated.{grants_it, in_still, lives_on}
-use Rattle.rk_scripts.proofs.settle.Migrating.{AfterGranted, AfterPulled, IsIn, second_fails, skips, tasks_in, unfolds}
+use Rattle.rk_scripts.proofs.settle.Migrating.{AfterGranted, AfterPulled, IsIn, skips, tasks_in, unfolds}
 use Rattle.rk_scripts.proofs.settle.Numbers.{sends_left}
 use Rattle.rk_scripts.proofs.settle.Ordering.{IsLaneNow, two_orders}
 use Rattle.rk_scripts.proofs.settle.Orders.{HasAnswered, made}
@@ -33,6 +33,11 @@ use Rattle.rk_scripts.proofs.settle.Staging.{good_at, master_sends, past_some}
 use Rattle.rk_scripts.proofs.settle.Tasks.{Task}
 use Rattle.rk_scripts.proofs.settle.Tracking.{IsTracked, IsTrackedTo, tracking}
 use Rattle.rk_scripts.proofs.settle.Walking.{HasTurned}
+
+-- a test of two parts fails where the second does
+second_fails : (a b : Bool) → b ≡ false → (a && b) ≡ false
+second_fails true b is = is
+second_fails false b is = refl
 
 -- where a role has its closing entry, that is closed
 closed_at : (role : Role) (entry : ℕ) (closing : Entry) (range : Range) (from : ℕ) (list : List Entry) → role ≡ Role.Joining (Some entry)

@@ -1,8 +1,8 @@
 -- A client that gets a session is added in each lane first: each has room for it, since it has as many clients as there are sessions.
-use Rattle.std.proofs.Common.{◌≡◌, ◌≤◌, ◌<◌, ◌+◌, ◌&&◌, ℕ, zero, suc, Bool, true, false, nat_le, not, List, [], ◌∷◌, ◌++◌, length, Option}
-use Rattle.std.proofs.Common.{Some, None, refl, sym, ap, subst, ◌∙◌, ⊎_elim, arith, Ok, Result, is_some, option_map, leb-false, leb-true}
+use Rattle.std.proofs.Common.{◌≡◌, ◌≤◌, ◌<◌, ◌+◌, ◌&&◌, ℕ, zero, suc, false, nat_le, not, List, [], ◌∷◌, ◌++◌, length, Option}
+use Rattle.std.proofs.Common.{Some, None, refl, sym, subst, ◌∙◌, ⊎_elim, arith, Ok, Result, is_some, leb-false, leb-true}
 use Rattle.std.proofs.Common.{get_or-set_other, length-set}
-use Rattle.rk_scripts.proofs.Words.{range_with_len, option_or, cases_lt, cond-false, IsInOrder, get, insert, numbers, in_order_insert, Gave}
+use Rattle.rk_scripts.proofs.Words.{range_with_len, cases_lt, cond-false, IsInOrder, get, insert, numbers, in_order_insert, Gave}
 use Rattle.rk_scripts.proofs.Words.{Session, new_session, Cluster, Joins, Occurrence, cluster_stepped, joined_by, lane_at, with_lane}
 use Rattle.rk_scripts.proofs.Words.{is_added, where_true, worn, Stepped, quietly, step, stepped_by, World, new_world, with_ledger, with_top}
 use Rattle.rk_scripts.proofs.Words.{StepError, Acted, all_acted, going_on, worn_in, code_where, first_code, is_client, client_makes}
@@ -21,26 +21,12 @@ use Rattle.rk_scripts.proofs.settle.SameNumbers.{as_many, found_alike, insert_al
 module _ (w : World) (client : ℕ) (strange : is_added w.ledger client ≡ false) (few : length w.ledger.clients < MOST_CLIENTS) where
   -- the lane is not too full
   not_too_many : where_true (not (is_added w.ledger client) && nat_le MOST_CLIENTS (length w.ledger.clients)) StepError.TooMany ≡ None
-  not_too_many = go (is_added w.ledger client) (nat_le MOST_CLIENTS (length w.ledger.clients)) refl
-    where
-      go : (added many : Bool) → nat_le MOST_CLIENTS (length w.ledger.clients) ≡ many → where_true (not added && many) StepError.TooMany ≡ None
-      go true many is = refl
-      go false false is = refl
-      go false true is = absurd (omega (arith, few, leb-true MOST_CLIENTS (length w.ledger.clients) is))
+  not_too_many = grind (arith, is_added, nat_le, where_true, leb-true)
 
   -- so the client is added, unless the lane is worn
   comes : worn_in (step w (Event.AddClient client) (Gave None)) ≡ None
       → step w (Event.AddClient client) (Gave None) ≡ Ok (quietly (with_ledger w (with_client w.ledger client)))
-  comes = go (worn w) (where_true (not (is_added w.ledger client) && nat_le MOST_CLIENTS (length w.ledger.clients)) StepError.TooMany) not_too_many
-    where
-      go : (found : Option ℕ) (fault : Option StepError) → fault ≡ None
-          → worn_in (stepped_by w (Event.AddClient client) (Gave None) (option_or (option_map StepError.Worn found) fault)) ≡ None
-          → stepped_by w (Event.AddClient client) (Gave None) (option_or (option_map StepError.Worn found) fault)
-          ≡ Ok (quietly (with_ledger w (with_client w.ledger client)))
-      go (Some number) fault none fresh = absurd (cc fresh)
-      go None (Some error) none fresh = absurd (cc none)
-      go None None none fresh =
-          ap (λ (now : World). Ok (quietly now)) (cond-false (is_added w.ledger client) w (with_ledger w (with_client w.ledger client)) strange)
+  comes = grind (arith, worn, where_true, is_added, nat_le, not_too_many, worn_in, stepped_by, quietly, with_ledger, cond-false)
 
 -- ---- one lane after the other
 
@@ -95,11 +81,7 @@ module _ (client : ℕ) where
   -- at the end it joins
   joins : (cluster : Cluster) (found : Option Session) → get cluster.sessions client ≡ found → is_some found ≡ false → IsInOrder cluster.sessions
       → IsAddedBefore (length cluster.lanes) cluster → HasOwnClients (joined_by cluster client found)
-  joins cluster (Some session) is strange order added = absurd (cc strange)
-  joins cluster None is strange order added = record {
-    order = in_order_insert cluster.sessions client (new_session client) order;
-    lanes = λ lane inside. added.before lane inside;
-  }
+  joins cluster found is strange order added = grind (arith, in_order_insert, new_session)
 
   adds : (count first : ℕ) (cluster : Cluster) → first + count ≡ length cluster.lanes → IsInOrder cluster.sessions → is_client cluster client ≡ false
       → length cluster.sessions < MOST_CLIENTS → IsAddedBefore first cluster

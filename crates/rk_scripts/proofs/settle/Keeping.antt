@@ -1,16 +1,17 @@
 -- What a master has of a tablet, where it takes its turn, is told what backups hold, or pulls: its term stays, a target stays one, and one that
 -- has all too.
-use Rattle.std.proofs.Common.{◌≡◌, ◌%◌, ◌&&◌, ℕ, Bool, true, false, cond, not, nat_lt, List, [], ◌∷◌, length, fold, Option, None, Some}
-use Rattle.std.proofs.Common.{refl, sym, ap, subst, ◌∙◌, ⊎_elim, unwrap_or, option_map, nat_cmp}
+use Rattle.std.proofs.Common.{arith}
+use Rattle.std.proofs.Common.{◌≡◌, ◌%◌, ◌&&◌, ℕ, Bool, true, false, cond, not, List, [], ◌∷◌, length, fold, Option, None, Some, refl, sym}
+use Rattle.std.proofs.Common.{ap, subst, ◌∙◌, unwrap_or, option_map, nat_cmp}
 use Rattle.rk_scripts.proofs.Words.{below_all, cases_eq, false≢true, IsInOrder, NumberMap, changed_each, get, Call, Ended, Held, Entry}
-use Rattle.rk_scripts.proofs.Words.{Overreach, Stored, found, is_newer, end, frozen, in_role, joined, role_joined, Handover, Role, Reading}
+use Rattle.rk_scripts.proofs.Words.{Overreach, Stored, found, is_newer, end, frozen, in_role, joined, role_joined, Handover, Role}
 use Rattle.rk_scripts.proofs.Words.{apply_entries, apply_entry, newly_held, noting, stored_taken, with_applied, with_ended, with_entry_item}
-use Rattle.rk_scripts.proofs.Words.{items_of, next_reading, Master, is_settled, tablet_at, with_known, with_side_segment, with_tablet}
-use Rattle.rk_scripts.proofs.Words.{duties, master_turn, reading_duty, tablet_duty, with_outstanding, batch_taken, is_token, item_replayed}
-use Rattle.rk_scripts.proofs.Words.{joining_at, joining_by, pulled_all, pulled_taken, replay, replay_one, token_passed, with_pulled}
-use Rattle.rk_scripts.proofs.Words.{with_pulling, is_receiving_at, sealed_sides, Tablet, no_tablet, with_handover, all_going_on}
-use Rattle.rk_scripts.proofs.Words.{closing_entry, freezing, going_on_in, is_sealed_stored, Worked, changed, is_joining, is_target}
-use Rattle.rk_scripts.proofs.Words.{kept_by_fold, above_all, first, found_changed, get_first, get_later, order_tail}
+use Rattle.rk_scripts.proofs.Words.{items_of, Master, is_settled, tablet_at, with_known, with_side_segment, with_tablet, duties}
+use Rattle.rk_scripts.proofs.Words.{master_turn, tablet_duty, with_outstanding, batch_taken, is_token, item_replayed, joining_at}
+use Rattle.rk_scripts.proofs.Words.{joining_by, pulled_all, pulled_taken, replay, replay_one, token_passed, with_pulled, with_pulling}
+use Rattle.rk_scripts.proofs.Words.{is_receiving_at, sealed_sides, Tablet, no_tablet, with_handover, all_going_on, closing_entry, freezing}
+use Rattle.rk_scripts.proofs.Words.{going_on_in, is_sealed_stored, changed, is_joining, is_target, kept_by_fold, above_all, first}
+use Rattle.rk_scripts.proofs.Words.{found_changed, get_first, get_later, order_tail}
 use Rattle.rk_done.specs.Completions.{noted}
 use Rattle.rk_message.specs.declared.pulling.Pulled.{Pulled}
 use Rattle.rk_world.specs.Ends.{told_by}
@@ -19,7 +20,9 @@ use Rattle.rk_world.specs.Ranges.{has_key}
 use Rattle.rk_world.specs.RoleTests.{is_absent}
 use Rattle.rk_scripts.proofs.settle.Patient.{at_other, at_put}
 use Rattle.rk_scripts.proofs.settle.PatientPulls.{joins}
+use Rattle.rk_scripts.proofs.settle.Turning.{duty_is, either_is}
 use Rattle.rk_scripts.proofs.settle.PatientSteps.{below_apart, entries_order, frozen_own, joined_own}
+use Rattle.rk_inv_wellformed.proofs.masters.Sealing.{sides_tablets}
 
 -- a handover goes on so: its term stays, a target stays one, and one that has all too
 pub record Onward (before after : Handover) : Type 0 where
@@ -31,11 +34,7 @@ pub onward_itself : (handover : Handover) → Onward handover handover
 onward_itself handover = record { term = refl; target = λ is. is; joining = λ is. is }
 
 pub onward_then : (a b c : Handover) → Onward a b → Onward b c → Onward a c
-onward_then a b c first second = record {
-  term = second.term ∙ first.term;
-  target = λ is. second.target (first.target is);
-  joining = λ is. second.joining (first.joining is);
-}
+onward_then a b c first second = grind arith
 
 -- so it is with one tablet of a master
 abbrev pub GoesOnAt : ℕ → Master → Master → Type 0
@@ -44,30 +43,9 @@ GoesOnAt number before after = Onward (tablet_at before number).handover (tablet
 module _ (number : ℕ) where
   -- one tablet is put
   put_on : (master : Master) (n : ℕ) (tablet : Tablet) → Onward (tablet_at master n).handover tablet.handover → GoesOnAt number master (with_tablet master n tablet)
-  put_on master n tablet on = ⊎_elim (λ (is : number ≡ n). subst
-      (λ (k : ℕ). Onward (tablet_at master k).handover (tablet_at (with_tablet master n tablet) k).handover) (sym is)
-      (subst (λ (it : Tablet). Onward (tablet_at master n).handover it.handover) (sym (at_put master n tablet)) on))
-      (λ (apart : number ≡ n → ⊥). subst (λ (it : Tablet). Onward (tablet_at master number).handover it.handover)
-      (sym (at_other master n tablet number apart)) (onward_itself (tablet_at master number).handover))
-      (cases_eq number n)
+  put_on master n tablet on = grind (arith, tablet_at, with_tablet, at_put, at_other, onward_itself, cases_eq)
 
 -- ---- turns
-
-pub either_is : (P : Master → Type 0) (test : Bool) (one other : Worked) → P one.master → P other.master → P (cond test one other).master
-either_is P true one other first second = first
-either_is P false one other first second = second
-
-reading_is : (P : Master → Type 0) (now : Master) (n : ℕ) (tablet : Tablet) (reading : Option Reading) → P now → P (reading_duty now n tablet reading).master
-reading_is P now n tablet None same = same
-reading_is P now n tablet (Some reading) same = same
-
--- a duty changes nothing, or asks for what is wanted first
-duty_is : (P : Master → Type 0) (now : Master) (n : ℕ) (tablet : Tablet) (role : Role) → P now → P (with_tablet now n (with_outstanding tablet)) → P (tablet_duty now n tablet role).master
-duty_is P now n tablet Role.Receiving same asks = asks
-duty_is P now n tablet (Role.Joining (Some entry)) same asks = either_is P (nat_lt entry now.applied) _ (changed now) same same
-duty_is P now n tablet (Role.Rebuilding from None) same asks = reading_is P now n tablet (next_reading tablet.gather) same
-duty_is P now n tablet (Role.Rebuilding from (Some entry)) same asks = either_is P (nat_lt entry now.applied) _ (changed now) same same
-duty_is P now n tablet role same asks = same
 
 -- the tablets that are left are as they were
 abbrev AreComing : NumberMap Tablet → Master → Type 0
@@ -225,10 +203,6 @@ module _ (number : ℕ) where
           (same_handover now n (with_pulling (tablet_at now n) (with_pulled (tablet_at now n).pulling worker item)) refl)
       go now item kept false = kept
 
-  sides_same : (sides : List (List Held)) (master : Master) → (fold with_side_segment master sides).tablets ≡ master.tablets
-  sides_same [] master = refl
-  sides_same (items ∷ sides) master = sides_same sides (with_side_segment master items)
-
   module _ (now : Master) (n : ℕ) (tablet : Tablet) (at : (tablet_at now n).handover ≡ tablet.handover) where
     moved_put : (role : Role) → Onward tablet.handover (record tablet.handover { role = role }) → GoesOnAt number now (with_tablet now n (with_handover tablet (record tablet.handover { role = role })))
     moved_put role on =
@@ -264,7 +238,7 @@ module _ (number : ℕ) where
       let sides = sealed_sides tablet.pulling.sides in
       let after : Master = fold with_side_segment master sides in
       let sealed : Master = sealing master n tablet in
-      let same : (q : ℕ) → tablet_at after q ≡ tablet_at master q = λ q. ap (λ (tablets : NumberMap Tablet). unwrap_or (get tablets q) no_tablet) (sides_same sides master) in
+      let same : (q : ℕ) → tablet_at after q ≡ tablet_at master q = λ q. ap (λ (tablets : NumberMap Tablet). unwrap_or (get tablets q) no_tablet) (sides_tablets sides master) in
       let first_on : GoesOnAt number after sealed = same_handover after n _ (ap (λ (it : Tablet). it.handover) (sym (same n))) in
       onward_then (tablet_at master number).handover (tablet_at sealed number).handover (tablet_at (pulled_all master n) number).handover
       (subst (λ (it : Tablet). Onward it.handover (tablet_at sealed number).handover) (same number) first_on)

@@ -1,4 +1,5 @@
 -- What occurs in one lane of a cluster changes that lane alone.
+use Rattle.std.proofs.Common.{arith}
 use Rattle.std.proofs.Common.{◌≡◌, ◌<◌, ℕ, length, refl, sym, subst, ⊎_elim, Err, Ok, Result, get_or-set_other, length-set}
 use Rattle.rk_scripts.proofs.Words.{cases_eq, Visited, Cluster, cluster_stepped, cluster_visited, lane_at, with_lane, world_stepped}
 use Rattle.rk_scripts.proofs.Words.{world_visited, Stepped, World, new_world, StepError, lane_here}
@@ -19,11 +20,7 @@ changes_none lane cluster = record { here = refl; beside = λ q apart. refl; cou
 
 module _ (cluster : Cluster) (lane : ℕ) (within : lane < length cluster.lanes) where
   with_lane_changes : (w : World) → ChangesLane lane w cluster (with_lane cluster lane w)
-  with_lane_changes w = record {
-    here = lane_here cluster lane w within;
-    beside = λ q apart. get_or-set_other cluster.lanes lane q w (new_world q 0 0) apart;
-    count = length-set cluster.lanes lane w;
-  }
+  with_lane_changes w = grind (arith, lane_here, get_or-set_other, new_world, length-set)
 
   -- an event, as it was answered
   pub stepped_changes : (answer : Result Stepped StepError) → ChangesLane lane (world_stepped (lane_at cluster lane) answer) cluster (cluster_stepped cluster lane answer)

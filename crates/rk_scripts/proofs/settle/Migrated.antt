@@ -2,7 +2,7 @@
 use Rattle.std.proofs.Common.{◌≡◌, ◌≢◌, ◌<◌, ◌+◌, ◌==◌, ℕ, zero, suc, Bool, true, false, cond, not, List, [], ◌∷◌, ◌++◌, Some, refl, sym}
 use Rattle.std.proofs.Common.{ap, subst, ◌∙◌, inl, inr, arith, ◌⊎◌, eq-eqb, eqb-true, true≢false}
 use Rattle.rk_scripts.proofs.Words.{list_any, and_from, and_parts, cond-true, false≢true, LANES, Entry, Message, row_of, Phase, Opening}
-use Rattle.rk_scripts.proofs.Words.{Moving, Row, Role, Cluster, lane_at, Coordinator, Master, is_settled, staged, tablet_at, touches}
+use Rattle.rk_scripts.proofs.Words.{Moving, Row, Role, Cluster, lane_at, Master, is_settled, staged, tablet_at, touches}
 use Rattle.rk_scripts.proofs.Words.{is_frozen, World, has_crashed, master_at, tablet_in, Holds, MovingSource, bond_of, post_of}
 use Rattle.rk_scripts.proofs.Words.{coordinator_exchange, freeze_by, grant_task, log_round, reach_phase, Course, is_source_frozen}
 use Rattle.rk_scripts.proofs.Words.{is_target, is_on, Frozen, IsGoodLane, Lasts, Node}
@@ -30,12 +30,7 @@ lives_on w v m same living = ap (λ (crashed : List ℕ). list_any (λ (c : ℕ)
 -- where the coordinator is as it was, so is the row
 pub in_still : (tablet : ℕ) (row : Row) (phase : Phase) (source target : ℕ) (w v : World) → v.coordinator ≡ w.coordinator → v.crashed ≡ w.crashed → IsIn tablet row phase source target w
     → IsIn tablet row phase source target v
-in_still tablet row phase source target w v same crashed there = record {
-  found = ap (λ (it : Coordinator). row_of it.rows tablet) same ∙ there.found;
-  phase_is = there.phase_is;
-  source_lives = lives_on w v source crashed there.source_lives;
-  target_lives = lives_on w v target crashed there.target_lives;
-}
+in_still tablet row phase source target w v same crashed there = grind (arith, row_of, lives_on)
 
 is_frozen_role : (role : Role) → is_frozen role ≡ true → role ≡ Role.Frozen
 is_frozen_role Role.Frozen is = refl

@@ -1,7 +1,8 @@
 -- A migration whose source and target live is brought from reach to reach.
-use Rattle.std.proofs.Common.{◌≡◌, ◌<◌, ◌==◌, ◌&&◌, ℕ, Bool, true, false, cond, not, List, [], ◌∷◌, ◌++◌, Option, None, Some, refl, sym, ap}
+use Rattle.std.proofs.Common.{arith}
+use Rattle.std.proofs.Common.{◌≡◌, ◌<◌, ◌==◌, ℕ, Bool, true, false, cond, not, List, [], ◌∷◌, ◌++◌, Option, None, Some, refl, sym, ap}
 use Rattle.std.proofs.Common.{subst, ◌∙◌, inl, inr, ◌⊎◌}
-use Rattle.rk_scripts.proofs.Words.{list_any, false≢true, LANES, Message, row_of, Phase, Owned, Opening, Moving, Rebuilding, Row, Cluster}
+use Rattle.rk_scripts.proofs.Words.{list_any, false≢true, LANES, Message, row_of, Phase, Opening, Moving, Row, Cluster}
 use Rattle.rk_scripts.proofs.Words.{lane_at, Coordinator, coordinator_step, World, has_crashed, tablet_in, coordinator_exchange}
 use Rattle.rk_scripts.proofs.Words.{reach_phase, reach_row, reach_tasks, Course, is_joining, is_target, is_on, Begun, IsGoodLane, Lasts}
 use Rattle.rk_scripts.proofs.Words.{Role}
@@ -104,28 +105,13 @@ module _ (tablet : ℕ) where
 -- ---- what a reach unfolds into
 
 pub no_tasks : (w : World) (lane tablet : ℕ) (reach : Reach) → HasNoMigration tablet w → reach_tasks w lane tablet reach ≡ []
-no_tasks w lane tablet reach none = go (row_of w.coordinator.rows tablet) none
-  where
-    by : (row : Row) (phase : Phase) → migrates phase ≡ false → cond (not (is_at_reach w row phase reach)) (reach_phase lane tablet phase reach) [] ≡ []
-    by row (Owned master from) is = refl
-    by row (Rebuilding lineage to) is = refl
-    by row (Opening source sfrom target dfrom) never = absurd (false≢true (sym never))
-    by row (Moving source sfrom target dfrom) never = absurd (false≢true (sym never))
-
-    go : (found : Option Row) → migrates_by found ≡ false → cond (is_short_by w found reach) (reach_row lane tablet found reach) [] ≡ []
-    go None is = refl
-    go (Some row) is = by row row.phase is
+no_tasks w lane tablet reach none = grind (arith, row_of, reach_phase, false≢true, reach_row)
 
 pub tasks_in : (w : World) (lane tablet : ℕ) (reach : Reach) (row : Row) (phase : Phase) → row_of w.coordinator.rows tablet ≡ Some row → row.phase ≡ phase
     → reach_tasks w lane tablet reach ≡ cond (not (is_at_reach w row phase reach)) (reach_phase lane tablet phase reach) []
 tasks_in w lane tablet reach row phase found is =
     ap (λ (o : Option Row). cond (is_short_by w o reach) (reach_row lane tablet o reach) []) found
     ∙ ap (λ (p : Phase). cond (not (is_at_reach w row p reach)) (reach_phase lane tablet p reach) []) is
-
--- a test of two parts of which the second fails
-pub second_fails : (a b : Bool) → b ≡ false → (a && b) ≡ false
-second_fails true b is = is
-second_fails false b is = refl
 
 module _ (s : Setting) (lane : ℕ) (inside : lane < LANES) (origin : Cluster) (rest : List Task) where
   pub unfolds : (tablet : ℕ) (reach : Reach) (list : List Task) (before : Cluster) (course : Course) → Comes s before course → course.tasks ≡ reaches lane tablet reach ∷ rest

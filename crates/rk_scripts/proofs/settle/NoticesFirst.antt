@@ -1,6 +1,6 @@
 -- The first tasks of `settle`: in each lane all crashed masters are noticed.
 use Rattle.std.proofs.Common.{◌≡◌, ◌<◌, ◌≤◌, ◌+◌, ℕ, true, false, zero, suc, List, [], ◌∷◌, ◌++◌, length, map, Option, None, Some, refl}
-use Rattle.std.proofs.Common.{sym, ap, subst, ◌∙◌, ⊎_elim, arith}
+use Rattle.std.proofs.Common.{sym, ap, subst, ⊎_elim, arith}
 use Rattle.rk_scripts.proofs.Words.{range_with_len, cases_lt, LANES, Gave, Cluster, Happens, lane_at, IsWellFormed, step, World}
 use Rattle.rk_scripts.proofs.Words.{has_crashed, Course, notice_by, unnoticed, AllNoticed, added_after, Event}
 use Rattle.rk_scripts.proofs.play.Reaching.{lane_good}
@@ -101,7 +101,4 @@ module _ (s : Setting) where
   -- all crashed masters are noticed first
   pub notices_first : (course : Course) → IsSane s course → course.tasks ≡ map notices (range_with_len 0 (length course.cluster.lanes)) ++ settles ∷ []
       → Goes s course.cluster course (λ next. (next.tasks ≡ settles ∷ []) × AreNoticed LANES next.cluster)
-  notices_first course sane are =
-      all_noticing LANES 0 refl course.cluster course (record { sane = sane; follows = follows_itself course.cluster })
-      (are ∙ ap (λ (count : ℕ). map notices (range_with_len 0 count) ++ settles ∷ []) (eight s course sane))
-      (λ q below. absurd (omega (arith, below)))
+  notices_first course sane are = grind (arith, all_noticing, follows_itself, notices, settles, eight)

@@ -1,11 +1,12 @@
 -- Whether a lane has a master that has crashed and was not noticed; once one is noticed it has none.
 use Rattle.std.proofs.Common.{◌≡◌, ◌==◌, ◌||◌, ◌&&◌, ◌≤◌, ◌<◌, ◌+◌, ℕ, zero, suc, Bool, true, false, cond, not, List, [], ◌∷◌, find, Option}
 use Rattle.std.proofs.Common.{Some, None, refl, sym, ap, subst, ◌∙◌, arith, All, option_map, eqb-true, true≢false}
-use Rattle.rk_scripts.proofs.Words.{list_any, range_with_len, option_or, or_left, or_right, All-head, All-tail, All-cons, All-nil}
-use Rattle.rk_scripts.proofs.Words.{StepError, Called, is_noticed, IsWellFormed, IsMaster, refusal, worn, world_stepped, step, stepped_by}
-use Rattle.rk_scripts.proofs.Words.{World, has_crashed, find_passes, AllNoticed, Event}
+use Rattle.rk_scripts.proofs.Words.{list_any, range_with_len, option_or, or_left, or_right, All-head, All-tail, StepError, Called}
+use Rattle.rk_scripts.proofs.Words.{is_noticed, IsWellFormed, IsMaster, refusal, worn, world_stepped, step, stepped_by, World, has_crashed}
+use Rattle.rk_scripts.proofs.Words.{find_passes, AllNoticed, Event}
 use Rattle.std.proofs.lemmas.Bool.{eqb-false}
 use Rattle.rk_runs.proofs.duties.Noticing.{all_noticed}
+use Rattle.rk_inv_lanes.proofs.late.Tests.{none_passes}
 
 -- ---- lists of numbers
 
@@ -35,16 +36,6 @@ in_range start (suc count) number first before =
         let apart = eqb-false start number is in
         or_right (start == number) (is_in number (range_with_len (start + 1) count)) (later (omega (arith, first, apart)))
 
--- where nothing is found all fail
-pub none_found : (test : ℕ → Bool) (list : List ℕ) → find test list ≡ None → All (λ number. test number ≡ false) list
-none_found test [] none = All-nil _
-none_found test (first ∷ rest) none = go (none_found test rest) (test first) refl none
-  where
-    go : (find test rest ≡ None → All (λ number. test number ≡ false) rest) → (b : Bool) → test first ≡ b → cond b (Some first) (find test rest) ≡ None
-        → All (λ number. test number ≡ false) (first ∷ rest)
-    go later true is found = absurd (cc found)
-    go later false is found = All-cons (λ (number : ℕ). test number ≡ false) first rest is (later found)
-
 -- ---- a lane
 
 module _ (w : World) (formed : IsWellFormed w) where
@@ -72,7 +63,7 @@ module _ (w : World) (formed : IsWellFormed w) where
   pub none_unnoticed : find is_unnoticed_in (range_with_len 1 w.coordinator.masters) ≡ None → AllNoticed w
   none_unnoticed none master crashed = go (has_crashed w master) (is_noticed w.coordinator master) crashed
       (one_of (λ (other : ℕ). is_unnoticed_in other ≡ false) (range_with_len 1 w.coordinator.masters) master
-      (none_found is_unnoticed_in (range_with_len 1 w.coordinator.masters) none) (crashed_there master crashed))
+      (none_passes is_unnoticed_in (range_with_len 1 w.coordinator.masters) none) (crashed_there master crashed))
     where
       go : (a b : Bool) → a ≡ true → (a && not b) ≡ false → b ≡ true
       go true true gone is = refl
@@ -81,18 +72,8 @@ module _ (w : World) (formed : IsWellFormed w) where
 
   -- one that is found has crashed
   pub unnoticed_crashed : (dead : ℕ) → find is_unnoticed_in (range_with_len 1 w.coordinator.masters) ≡ Some dead → has_crashed w dead ≡ true
-  unnoticed_crashed dead found = go (has_crashed w dead) (is_noticed w.coordinator dead) (find_passes is_unnoticed_in (range_with_len 1 w.coordinator.masters) dead found)
-    where
-      go : (a b : Bool) → (a && not b) ≡ true → a ≡ true
-      go true b is = refl
-      go false b is = is
+  unnoticed_crashed dead found = grind (arith, has_crashed, is_noticed, find_passes)
 
   -- and where all were noticed none is found
   pub all_noticed_none : (dead : ℕ) → AllNoticed w → find is_unnoticed_in (range_with_len 1 w.coordinator.masters) ≡ Some dead → ⊥
-  all_noticed_none dead all found =
-      go (has_crashed w dead) (is_noticed w.coordinator dead) (all dead) (find_passes is_unnoticed_in (range_with_len 1 w.coordinator.masters) dead found)
-    where
-      go : (a b : Bool) → (a ≡ true → b ≡ true) → (a && not b) ≡ true → ⊥
-      go true true all is = true≢false (sym is)
-      go true false all is = true≢false (sym (all refl))
-      go false b all is = true≢false (sym is)
+  all_noticed_none dead all found = grind (arith, has_crashed, is_noticed, find_passes, true≢false)

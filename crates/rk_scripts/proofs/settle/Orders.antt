@@ -43,11 +43,7 @@ IsSentOn n wire list now = (now ≡ sent_on wire list) ⊎ (now ≡ without_mess
 module _ (topic : Topic) where
   -- beyond the one that is alone, nothing is on the topic
   pub off_beyond : (from number : ℕ) (wire : Traffic) → from < number → OnlyAt topic from number wire → OnlyOff topic number wire
-  off_beyond from number wire after only n message beyond found = go (is_on topic message.body) refl
-    where
-      go : (b : Bool) → is_on topic message.body ≡ b → is_on topic message.body ≡ false
-      go false is = is
-      go true is = absurd (omega (arith, only n message (omega (arith, after, beyond)) found is, beyond))
+  off_beyond from number wire after only n message beyond found = grind (arith, is_on)
 
   pub off_sent : (n : ℕ) (wire now : Traffic) (list : List Message) → AreOff topic list → OnlyOff topic n wire → IsSentOn n wire list now → OnlyOff topic n now
   off_sent n wire now list all off is =

@@ -1,21 +1,18 @@
 -- The clients of a lane's ledger have the same numbers whatever happens there, but for a client that is added.
-use Rattle.std.proofs.Common.{◌≡◌, ◌+◌, ℕ, Bool, true, false, not, Option, Some, None, refl, ap, ◌∙◌, Ok}
-use Rattle.rk_scripts.proofs.Words.{option_or, IsInOrder, NumberMap, get, numbers, Call, Node, Segments, row_of, Phase, Owned, Row, Body}
-use Rattle.rk_scripts.proofs.Words.{Message, StepError, Event, Taken, LastCall, Backed, Called, backup_step, stored_after, Visited, accept}
-use Rattle.rk_scripts.proofs.Words.{accept_by, accepting, ask, ask_by, asking, asking_by, fits_with, is_asked_here, taking, untouched}
-use Rattle.rk_scripts.proofs.Words.{Session, coordinator_step, is_added, master_step, master_turn, accept_refusal, ask_refusal, refusal}
-use Rattle.rk_scripts.proofs.Words.{where_true, world_stepped, world_visited, with_split, Stepped, backed_at, delivered, delivered_to}
-use Rattle.rk_scripts.proofs.Words.{happened, log_bytes_of, losing, quietly, seen_in, sent_again, step, stepped_by, turned, with_sends}
-use Rattle.rk_scripts.proofs.Words.{worked_at, Worked, World, has_crashed, is_backup, master_at, with_master, with_stored_by}
+use Rattle.std.proofs.Common.{arith}
+use Rattle.std.proofs.Common.{subst, ◌≡◌, ℕ, Bool, true, false, not, Option, Some, None, refl, ap, ◌∙◌, Ok}
+use Rattle.rk_scripts.proofs.Words.{option_or, IsInOrder, NumberMap, numbers, Call, Body, Message, StepError, Event, Taken, LastCall}
+use Rattle.rk_scripts.proofs.Words.{Called, Visited, accept, accept_by, ask, ask_by, Session, coordinator_step, is_added, master_step}
+use Rattle.rk_scripts.proofs.Words.{master_turn, accept_refusal, ask_refusal, refusal, where_true, world_stepped, world_visited, seen_in}
+use Rattle.rk_scripts.proofs.Words.{step, stepped_by, worked_at, Worked, World, master_at}
 use Rattle.std.proofs.lemmas.Bool.{cond_both}
 use Rattle.rk_world.specs.Calls.{is_asked, ledger_asked, ledger_taken}
-use Rattle.rk_world.specs.Client.{ClientTurn, session_accept, session_turn}
+use Rattle.rk_world.specs.Client.{session_accept}
 use Rattle.rk_world.specs.Ledger.{Ledger, with_asked}
-use Rattle.rk_world.specs.Refusals.{is_for}
-use Rattle.rk_world.specs.Splits.{owner_split, row_split}
-use Rattle.rk_world.specs.Step.{to_backup, to_master}
 use Rattle.rk_inv_wellformed.proofs.lanes.Asks.{clients_requested}
 use Rattle.rk_inv_wellformed.proofs.lanes.Ledgers.{clients_rebuilt, clients_served}
+use Rattle.rk_inv_lanes.proofs.lanes.Events.{Covers, event_covered}
+use Rattle.rk_inv_lanes.proofs.lanes.Visits.{accept_covered, asking_covered}
 use Rattle.rk_scripts.proofs.settle.SameNumbers.{numbers_kept}
 
 -- an event adds no client
@@ -34,70 +31,31 @@ module _ (w : World) where
   same_worked master seen worked =
       ap (λ (clients : NumberMap (Option LastCall)). numbers clients) (clients_served w.ledger seen worked.served)
 
-  same_master : (master : ℕ) (message : Message) → HasSameClients (to_master w master message).world
-  same_master master message =
-      cond_both (has_crashed w master) (losing w) (worked_at w master (seen_in message.body) (master_step (master_at w master) message))
-      (λ (stepped : Stepped). HasSameClients stepped.world) (λ e. refl)
-      (λ e. same_worked master (seen_in message.body) (master_step (master_at w master) message))
-
-  same_backed : (now : World) (answer : Backed) → HasSameClients now → HasSameClients (backed_at now answer).world
-  same_backed now answer same =
-      cond_both answer.lost (losing now) (with_sends now answer.sends) (λ (stepped : Stepped). HasSameClients stepped.world) (λ e. same) (λ e. same)
-
-  same_stored : (backup : ℕ) (store : Segments → Segments) (found : Option Segments) → HasSameClients (with_stored_by w backup store found)
-  same_stored backup store None = refl
-  same_stored backup store (Some segments) = refl
-
-  same_backup : (backup : ℕ) (sender : Node) (body : Body) (called : Called) → HasSameClients (to_backup w backup sender body called).world
-  same_backup backup sender body called =
-      let store = λ (segments : Segments). stored_after segments sender body called in
-      let answer = backup_step backup sender body (log_bytes_of w) called in
-      cond_both (is_backup w backup) (backed_at (with_stored_by w backup store (get w.backups backup)) answer) (quietly w)
-      (λ (stepped : Stepped). HasSameClients stepped.world)
-      (λ e. same_backed (with_stored_by w backup store (get w.backups backup)) answer (same_stored backup store (get w.backups backup)))
-      (λ e. refl)
-
-  same_received : (message : Message) (to : Node) (called : Called) → HasSameClients (delivered_to w message to called).world
-  same_received message (Node.Client client) called = refl
-  same_received message Node.Coordinator called = ap (λ (clients : NumberMap (Option LastCall)). numbers clients)
-      (clients_rebuilt w.ledger (coordinator_step w.coordinator message).rebuilt)
-  same_received message (Node.Master master) called = same_master master message
-  same_received message (Node.Backup backup) called = same_backup backup message.from message.body called
-
-  same_delivered : (found : Option Message) (called : Called) → HasSameClients (delivered w found called).world
-  same_delivered None called = refl
-  same_delivered (Some message) called = same_received message message.to called
-
-  same_turned : (node : Node) → HasSameClients (turned w node).world
-  same_turned (Node.Master master) = same_worked master 0 (master_turn (master_at w master))
-  same_turned _ = refl
-
-  same_again : (found : Option Message) → HasSameClients (sent_again w found).world
-  same_again None = refl
-  same_again (Some message) = refl
-
-  same_owner : (tablet at new term : ℕ) (phase : Phase) → HasSameClients (owner_split w tablet phase at new term)
-  same_owner tablet at new term (Owned master from) = cond_both (has_crashed w master) w
-      (with_master w master (with_split (master_at w master) tablet at new term)) HasSameClients (λ e. refl) (λ e. refl)
-  same_owner tablet at new term _ = refl
-
-  same_split : (found : Option Row) (at new : ℕ) → HasSameClients (row_split w found at new)
-  same_split None at new = refl
-  same_split (Some row) at new = same_owner row.tablet at new (row.term + 1) row.phase
-
-  same_event : (event : Event) (called : Called) → AddsNobody event → HasSameClients (happened w event called).world
-  same_event (Event.AddClient client) called none = absurd none
-  same_event (Event.Deliver number) called none = same_delivered (get w.wire.messages number) called
-  same_event (Event.Turn node) called none = same_turned node
-  same_event (Event.Again client) called none = same_again (get w.ledger.requests client)
-  same_event (Event.Split tablet at new) called none = same_split (row_of w.coordinator.rows tablet) at new
-  same_event _ called none = refl
+  same_event : (event : Event) (called : Called) → AddsNobody event → Covers HasSameClients w event called
+  same_event event called none = record {
+    quiet = λ backups may. refl;
+    steps = λ number master message is found to lives. same_worked master (seen_in message.body) (master_step (master_at w master) message);
+    turns = λ master. same_worked master 0 (master_turn (master_at w master));
+    hears = λ message. ap (λ (clients : NumberMap (Option LastCall)). numbers clients)
+        (clients_rebuilt w.ledger (coordinator_step w.coordinator message).rebuilt);
+    duties = refl;
+    answers = λ backup sender body backups may. refl;
+    again = λ client message found. refl;
+    adds = λ tablet range master is. refl;
+    comes = λ client is new. absurd (subst AddsNobody is none);
+    forgets = λ number is. refl;
+    moves = λ tablet to. refl;
+    parts = λ tablet at new. refl;
+    splits = λ tablet at new number master term. refl;
+    crashes = λ master is. refl;
+    notices = λ master. refl;
+  }
 
   pub same_stepped : (event : Event) (called : Called) → AddsNobody event → HasSameClients (world_stepped w (step w event called))
   same_stepped event called none = go (refusal w event)
     where
       go : (refused : Option StepError) → HasSameClients (world_stepped w (stepped_by w event called refused))
-      go None = same_event event called none
+      go None = event_covered (same_event event called none)
       go (Some error) = refl
 
 -- ---- clients
@@ -114,26 +72,14 @@ module _ (w : World) (session : Session) where
 
   -- who takes its turn was added
   pub asker_added : (visited : Visited) → ask w session ≡ Ok visited → is_added w.ledger session.client ≡ true
-  asker_added visited is = go (ask_refusal w session) refl is
-    where
-      go : (refused : Option StepError) → ask_refusal w session ≡ refused → ask_by w session refused ≡ Ok visited → is_added w.ledger session.client ≡ true
-      go None none made = ask_not_refused none
-      go (Some error) some made = absurd (cc made)
+  asker_added visited is = grind (arith, ask_refusal, ask_by, is_added, ask_not_refused)
 
   accept_not_refused : (number : ℕ) (found : Option Message) → accept_refusal w number session.client found ≡ None → is_added w.ledger session.client ≡ true
-  accept_not_refused number None none = absurd (cc none)
-  accept_not_refused number (Some message) none =
-      was_added (where_true (not (is_for session.client message.to)) (StepError.Address number)) (is_added w.ledger session.client) (StepError.Stranger session.client)
-      none
+  accept_not_refused number found none = grind (arith, was_added, where_true, is_added)
 
   -- and so was who takes an answer
   pub taker_added : (number : ℕ) (visited : Visited) → accept w number session ≡ Ok visited → is_added w.ledger session.client ≡ true
-  taker_added number visited is = go (accept_refusal w number session.client (get w.wire.messages number)) refl is
-    where
-      go : (refused : Option StepError) → accept_refusal w number session.client (get w.wire.messages number) ≡ refused → accept_by w number session refused ≡ Ok visited
-          → is_added w.ledger session.client ≡ true
-      go None none made = accept_not_refused number (get w.wire.messages number) none
-      go (Some error) some made = absurd (cc made)
+  taker_added number visited is = grind (arith, accept_refusal, accept_by, is_added, accept_not_refused)
 
   -- ---- their turns and answers
 
@@ -144,42 +90,22 @@ module _ (w : World) (session : Session) where
         (λ (ledger : Ledger). numbers ledger.clients ≡ numbers w.ledger.clients) (λ e. refl)
         (λ e. numbers_kept w.ledger.clients session.client (Some (record { call = call; seen = session.seen })) order added)
 
-    same_asking_by : (call : Call) (turn : Option ClientTurn) → is_added w.ledger session.client ≡ true → HasSameClients w (asking_by w session call turn).world
-    same_asking_by call None added = refl
-    same_asking_by call (Some turn) added = ap (λ (clients : NumberMap (Option LastCall)). numbers clients)
-        (clients_requested (ledger_asked w.ledger session call) session.client turn.message turn.message.body)
-        ∙ same_asked call added
-
-    same_asking : (out : Option Call) → is_added w.ledger session.client ≡ true → HasSameClients w (asking w session out).world
-    same_asking None added = refl
-    same_asking (Some call) added =
-        cond_both (fits_with w session call) (asking_by w session call (session_turn session)) (untouched w session None)
-        (λ (visited : Visited). HasSameClients w visited.world) (λ e. same_asking_by call (session_turn session) added) (λ e. refl)
-
     -- a client's turn
     pub same_turn : HasSameClients w (world_visited w (ask w session))
     same_turn = go (ask_refusal w session) refl
       where
         go : (refused : Option StepError) → ask_refusal w session ≡ refused → HasSameClients w (world_visited w (ask_by w session refused))
-        go None none = same_asking session.outstanding (ask_not_refused none)
+        go None none = asking_covered (λ visited. HasSameClients w visited.world) w session refl
+            (λ call turned out fits is. ap (λ (clients : NumberMap (Option LastCall)). numbers clients)
+            (clients_requested (ledger_asked w.ledger session call) session.client turned.message turned.message.body)
+            ∙ same_asked call (ask_not_refused none))
         go (Some error) some = refl
 
   same_taken : (body : Body) (taken : Taken) → (ledger_taken w.ledger body taken).clients ≡ w.ledger.clients
   same_taken (Body.Reply reply) Taken.Done = refl
   same_taken body taken = refl
 
-  same_accepting : (found : Option Message) → HasSameClients w (accepting w session found).world
-  same_accepting None = refl
-  same_accepting (Some message) =
-      cond_both (is_asked_here w session) (taking w session message.body) (untouched w session (Some Taken.Ignored))
-      (λ (visited : Visited). HasSameClients w visited.world)
-      (λ e. ap (λ (clients : NumberMap (Option LastCall)). numbers clients) (same_taken message.body (session_accept session message.body).taken))
-      (λ e. refl)
-
   -- an answer
   pub same_answer : (number : ℕ) → HasSameClients w (world_visited w (accept w number session))
-  same_answer number = go (accept_refusal w number session.client (get w.wire.messages number))
-    where
-      go : (refused : Option StepError) → HasSameClients w (world_visited w (accept_by w number session refused))
-      go None = same_accepting (get w.wire.messages number)
-      go (Some error) = refl
+  same_answer number = accept_covered (HasSameClients w) w session refl number
+      (λ body. ap (λ (clients : NumberMap (Option LastCall)). numbers clients) (same_taken body (session_accept session body).taken))

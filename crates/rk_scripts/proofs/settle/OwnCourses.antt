@@ -1,7 +1,8 @@
 -- The clients of each lane stay those with sessions at all moves of a settling command.
-use Rattle.std.proofs.Common.{◌≡◌, ℕ, zero, suc, List, [], ◌∷◌, length, Option, refl, sym, subst, ◌∙◌, inl, inr, ⊎_elim}
+use Rattle.std.proofs.Common.{arith}
+use Rattle.std.proofs.Common.{◌≡◌, ℕ, zero, suc, List, [], ◌∷◌, length, Option, refl, inl, inr, ⊎_elim}
 use Rattle.rk_scripts.proofs.Words.{Call, Cluster, Fate, advance, Course, moved, moved_all, moved_by, priority, serve_by, settle, Reach}
-use Rattle.rk_scripts.proofs.settle.AddingNobody.{all_own}
+use Rattle.rk_scripts.proofs.settle.AddingNobody.{Advances, Hastens, Serves, Settles, all_own}
 use Rattle.rk_scripts.proofs.settle.OwnTasks.{Each, Goes, IsOwn, Precedes, joined_own, weaker_own}
 use Rattle.rk_scripts.proofs.settle.Owning.{HasOwnClients}
 use Rattle.rk_scripts.proofs.settle.Tasks.{Task}
@@ -26,17 +27,7 @@ pub record IsOwnCourse (n : ℕ) (course : Course) : Type 0 where
 
 moved_own : (n : ℕ) (course : Course) (fate : Fate) (left : List Task) → course.tasks ≡ left → HasOwnClients course.cluster → Each (IsOwn (suc n)) left
     → IsOwnCourse n (moved_by course fate left)
-moved_own n course fate [] is own each = record { own = own; left = subst (Each (IsOwn n)) (sym is) tt }
-moved_own n course fate (task ∷ rest) is own each =
-    let goes : Goes (IsOwn n) course rest (moved_by course fate (task ∷ rest)) = each.0 course fate rest own in
-    record {
-      own = goes.own;
-      left = ⊎_elim (λ (same : (moved_by course fate (task ∷ rest)).tasks ≡ course.tasks). subst (Each (IsOwn n))
-          (sym (same ∙ is)) (weaker_own (IsOwn (suc n)) (IsOwn n) (fewer_moves n) (task ∷ rest) each))
-          (λ (behind : Precedes (IsOwn n) rest (moved_by course fate (task ∷ rest)).tasks). subst (Each (IsOwn n)) (sym behind.is)
-          (joined_own (IsOwn n) behind.more rest behind.are (weaker_own (IsOwn (suc n)) (IsOwn n) (fewer_moves n) rest each.1)))
-          goes.left;
-    }
+moved_own n course fate left is own each = grind (arith, moved_by, weaker_own, fewer_moves, joined_own)
 
 -- the clients of each lane are those with sessions after all moves
 pub moves_own : (fates : List Fate) (course : Course) → IsOwnCourse (length fates) course → HasOwnClients (moved_all course fates).cluster
@@ -46,13 +37,13 @@ moves_own (fate ∷ fates) course is =
 
 module _ (n : ℕ) where
   pub serve_own : (client : ℕ) (out : Option Call) → Each (IsOwn n) (serve_by client out)
-  serve_own = (all_own n).serves
+  serve_own client out = all_own n _ (Serves client out)
 
   pub advance_own : (cluster : Cluster) (tablet : ℕ) (reach : Reach) → Each (IsOwn n) (advance cluster tablet reach)
-  advance_own = (all_own n).advances
+  advance_own cluster tablet reach = all_own n _ (Advances cluster tablet reach)
 
   pub priority_own : (cluster : Cluster) (tablet : ℕ) → Each (IsOwn n) (priority cluster tablet)
-  priority_own = (all_own n).hastens
+  priority_own cluster tablet = all_own n _ (Hastens cluster tablet)
 
   pub settle_own : (cluster : Cluster) → Each (IsOwn n) (settle cluster)
-  settle_own = (all_own n).settles
+  settle_own cluster = all_own n _ (Settles cluster)

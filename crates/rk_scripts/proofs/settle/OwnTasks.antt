@@ -1,24 +1,11 @@
 -- A task is known by what its moves make, since the type of tasks has no name here: however few more moves are looked at, none adds a
 -- client, and so it is of the tasks that are then left.
 use Rattle.std.proofs.Common.{◌≡◌, ◌++◌, ℕ, zero, suc, Bool, true, false, List, [], ◌∷◌, map, All, Option, None, Some, if◌then◌else◌, refl}
-use Rattle.std.proofs.Common.{inl, inr, ◌⊎◌, slice_index_or}
+use Rattle.std.proofs.Common.{inl, inr, ◌⊎◌}
 use Rattle.rk_scripts.proofs.Words.{All-cons, All-nil, get, Node, Message, Cluster, Occurrence, lane_at, all_acted, deliver_in_makes}
 use Rattle.rk_scripts.proofs.Words.{delivery, delivery_of, has_receiver, Fate, Course, moved_by, occurring, occurring_by, with_tasks}
-use Rattle.rk_scripts.proofs.Words.{hand_by, turn_exchange}
 use Rattle.rk_scripts.proofs.settle.Owning.{HasOwnClients, IsOfOwn, own_all}
-use Rattle.rk_scripts.proofs.settle.Tasks.{Task, begins}
-
--- the type of what a function takes
-abbrev Taken : {A B : Type 0} → (A → B) → Type 0
-Taken {A} f = A
-
--- the type of topics
-abbrev pub Topic : Type 0
-Topic = Taken (turn_exchange 0)
-
--- what was sent after a message is sorted
-abbrev pub sorts : ℕ → Topic → ℕ → ℕ → Task
-sorts lane topic from last = slice_index_or (hand_by (record { messages = []; sent = last }) lane topic (Some from)) 2 begins
+use Rattle.rk_scripts.proofs.settle.Tasks.{Task}
 
 -- ---- tasks that add nobody
 

@@ -1,7 +1,8 @@
 -- The clients that were added in each lane of a cluster are those that have a session. It stays so whatever occurs, unless a client is added
 -- or joins.
-use Rattle.std.proofs.Common.{◌≡◌, ◌≤◌, ◌<◌, ℕ, true, false, List, [], ◌∷◌, length, All, Option, None, Some, refl, sym, ap, subst, ◌∙◌}
-use Rattle.std.proofs.Common.{⊎_elim, Err, Ok, Result, is_some, unwrap_or}
+use Rattle.std.proofs.Common.{arith}
+use Rattle.std.proofs.Common.{◌≡◌, ◌<◌, ℕ, true, List, [], ◌∷◌, length, All, Option, None, Some, refl, sym, ap, subst, ◌∙◌}
+use Rattle.std.proofs.Common.{Err, Ok, Result, is_some}
 use Rattle.rk_scripts.proofs.Words.{cases_lt, All-head, All-tail, IsInOrder, get, numbers, Op, in_order_insert, Visited, accept, ask}
 use Rattle.rk_scripts.proofs.Words.{Session, busy, new_session, session_calling, Accepts, Asks, Calls, Cluster, Happens, Joins, Occurrence}
 use Rattle.rk_scripts.proofs.Words.{called_by_client, cluster_after, cluster_stepped, cluster_visited, lane_at, session_at, with_lane}
@@ -31,22 +32,10 @@ module _ (cluster : Cluster) (own : HasOwnClients cluster) where
 
   -- and who was added in some lane has a session
   added_known : (lane client : ℕ) → is_added (lane_at cluster lane).ledger client ≡ true → is_client cluster client ≡ true
-  added_known lane client added = ⊎_elim
-      (λ (inside : lane < length cluster.lanes).
-      sym (found_alike (lane_at cluster lane).ledger.clients cluster.sessions (own.lanes lane inside) client) ∙ added)
-      (λ (away : length cluster.lanes ≤ lane).
-      let nobody : false ≡ true =
-      subst (λ (w : World). is_added w.ledger client ≡ true) (get_or_past cluster.lanes lane (new_world lane 0 0) away) added in
-      absurd (cc nobody))
-      (cases_lt lane (length cluster.lanes))
+  added_known lane client added = grind (arith, found_alike, lane_at, is_added, get_or_past, new_world, cases_lt)
 
   actor_known : (lane client : ℕ) → is_added (lane_at cluster lane).ledger (session_at cluster client).client ≡ true → is_client cluster client ≡ true
-  actor_known lane client added = go (get cluster.sessions client) refl
-    where
-      go : (found : Option Session) → get cluster.sessions client ≡ found → is_client cluster client ≡ true
-      go (Some session) is = ap is_some is
-      go None is = added_known lane client
-          (subst (λ (found : Option Session). is_added (lane_at cluster lane).ledger (unwrap_or found (new_session client)).client ≡ true) is added)
+  actor_known lane client added = grind (arith, is_client, added_known, is_added, lane_at, new_session)
 
   -- a lane has the same clients as before
   lane_own : (lane : ℕ) (now : World) → (lane < length cluster.lanes → HasSameClients (lane_at cluster lane) now) → HasOwnClients (with_lane cluster lane now)
@@ -58,10 +47,7 @@ module _ (cluster : Cluster) (own : HasOwnClients cluster) where
 
   -- a session is another
   session_own : (client : ℕ) (session : Session) → is_client cluster client ≡ true → HasOwnClients (with_session cluster client session)
-  session_own client session known = record {
-    order = in_order_insert cluster.sessions client session own.order;
-    lanes = λ lane inside. own.lanes lane inside ∙ sym (numbers_kept cluster.sessions client session own.order known);
-  }
+  session_own client session known = grind (arith, in_order_insert, numbers_kept)
 
   stepped_own : (lane : ℕ) (result : Result Stepped StepError) → HasSameClients (lane_at cluster lane) (world_stepped (lane_at cluster lane) result)
       → HasOwnClients (cluster_stepped cluster lane result)

@@ -1,14 +1,16 @@
 -- What tablets of a master wait for has not come yet: where one closes something of it is staged, and where a target has all but its closing
 -- entry not every side segment of it is stored. Here so it stays at the small changes of a master.
 use Rattle.std.proofs.Common.{◌≡◌, ◌≤◌, ◌+◌, ◌==◌, ◌||◌, ◌&&◌, ℕ, zero, suc, Bool, true, false, cond, not, List, [], ◌∷◌, ◌++◌, length}
-use Rattle.std.proofs.Common.{Option, None, Some, refl, sym, ap, subst, ⊎_elim, arith, drop, get_or, unwrap_or, option_map, eqb-true}
-use Rattle.rk_scripts.proofs.Words.{list_all, list_any, option_map_or, cases_eq, false≢true, get_other, get_same, in_order_changed}
-use Rattle.rk_scripts.proofs.Words.{in_order_insert, IsInOrder, NumberMap, changed_each, get, Held, Entry, FIRST_SIDE_SEGMENT, Known}
-use Rattle.rk_scripts.proofs.Words.{is_whole, known_length, Log, is_side_stored, numbered, segment_of, NumberedBytes, Role, Master}
-use Rattle.rk_scripts.proofs.Words.{is_settled, staged, tablet_at, touches, with_all, with_appended, with_side_segment, with_tablet}
-use Rattle.rk_scripts.proofs.Words.{as_entries, Tablet, no_tablet, is_sealed_stored, kept_by_fold, found_changed}
+use Rattle.std.proofs.Common.{Option, None, Some, refl, sym, ap, subst, arith, drop, get_or, unwrap_or, option_map}
+use Rattle.rk_scripts.proofs.Words.{list_all, list_any, option_map_or, cases_eq, false≢true, in_order_changed, in_order_insert, IsInOrder}
+use Rattle.rk_scripts.proofs.Words.{changed_each, get, Held, Entry, FIRST_SIDE_SEGMENT, Known, is_whole, known_length, Log}
+use Rattle.rk_scripts.proofs.Words.{is_side_stored, numbered, segment_of, NumberedBytes, Role, Master, is_settled, staged, tablet_at}
+use Rattle.rk_scripts.proofs.Words.{touches, with_all, with_appended, with_side_segment, with_tablet, as_entries, Tablet, no_tablet}
+use Rattle.rk_scripts.proofs.Words.{is_sealed_stored, kept_by_fold, found_changed}
 use Rattle.std.proofs.lemmas.Bool.{lt-leb}
 use Rattle.rk_entry.specs.Entries.{spelled_all}
+use Rattle.rk_inv_base.proofs.logs.Segments.{numbered_past}
+pub use Rattle.rk_inv_base.proofs.views.Masters.{tablet_apart as at_other, tablet_here as at_put}
 
 -- what a tablet in a role waits for has not come
 abbrev pub WaitsIn : Master → Tablet → Role → Type 0
@@ -45,20 +47,9 @@ pub patient_beside : (number : ℕ) (master : Master) → ArePatient master → 
 patient_beside number master patient = record { order = patient.order; each = λ q apart. patient.each q }
 
 pub patient_whole : (number : ℕ) (master : Master) → ArePatientBeside number master → Waits master (tablet_at master number) → ArePatient master
-patient_whole number master beside own = record {
-  order = beside.order;
-  each = λ q.
-      ⊎_elim (λ (is : q ≡ number). subst (λ (n : ℕ). Waits master (tablet_at master n)) (sym is) own)
-      (λ (apart : q ≡ number → ⊥). beside.each q apart) (cases_eq q number);
-}
+patient_whole number master beside own = grind (arith, tablet_at, cases_eq)
 
 -- ---- tablets
-
-pub at_put : (master : Master) (number : ℕ) (tablet : Tablet) → tablet_at (with_tablet master number tablet) number ≡ tablet
-at_put master number tablet = ap (λ (o : Option Tablet). unwrap_or o no_tablet) (get_same master.tablets number tablet number refl)
-
-pub at_other : (master : Master) (number : ℕ) (tablet : Tablet) (q : ℕ) → (q ≡ number → ⊥) → tablet_at (with_tablet master number tablet) q ≡ tablet_at master q
-at_other master number tablet q apart = ap (λ (o : Option Tablet). unwrap_or o no_tablet) (get_other master.tablets number tablet q apart)
 
 pub put_beside : (number : ℕ) (master : Master) (tablet : Tablet) → ArePatientBeside number master → ArePatientBeside number (with_tablet master number tablet)
 put_beside number master tablet patient = record {
@@ -116,20 +107,10 @@ waits_on before after on tablet (Role.Joining None) waits = λ backed.
 waits_on before after on tablet _ waits = waits
 
 pub beside_on : (number : ℕ) (before after : Master) → WaitsOn before after → after.tablets ≡ before.tablets → ArePatientBeside number before → ArePatientBeside number after
-beside_on number before after on same patient = record {
-  order = subst IsInOrder (sym same) patient.order;
-  each = λ q apart.
-      subst (λ (tablets : NumberMap Tablet). Waits after (unwrap_or (get tablets q) no_tablet)) (sym same)
-      (waits_on before after on (tablet_at before q) (tablet_at before q).handover.role (patient.each q apart));
-}
+beside_on number before after on same patient = grind (arith, no_tablet, waits_on, tablet_at)
 
 pub patient_on : (before after : Master) → WaitsOn before after → after.tablets ≡ before.tablets → ArePatient before → ArePatient after
-patient_on before after on same patient = record {
-  order = subst IsInOrder (sym same) patient.order;
-  each = λ q.
-      subst (λ (tablets : NumberMap Tablet). Waits after (unwrap_or (get tablets q) no_tablet)) (sym same)
-      (waits_on before after on (tablet_at before q) (tablet_at before q).handover.role (patient.each q));
-}
+patient_on before after on same patient = grind (arith, no_tablet, waits_on, tablet_at)
 
 -- ---- entries
 
@@ -151,12 +132,7 @@ unnot true is = refl
 unnot false is = absurd (false≢true (sym is))
 
 pub appended_on : (master : Master) (entry : Entry) → WaitsOn master (with_appended master entry)
-appended_on master entry = record {
-  staged = λ range is.
-      ap not (any_past (touches range) master.applied master.log.entries (entry ∷ []) (unnot (list_any (touches range) (staged master)) is));
-  known = refl;
-  stored = λ some number is. is;
-}
+appended_on master entry = grind (arith, staged, any_past, touches, unnot)
 
 pub appended_beside : (number : ℕ) (master : Master) (entry : Entry) → ArePatientBeside number master → ArePatientBeside number (with_appended master entry)
 appended_beside number master entry patient = beside_on number master (with_appended master entry) (appended_on master entry) refl patient
@@ -210,14 +186,9 @@ side_still known number first (side ∷ sides) bytes some long none is =
 
 -- one that is not there is not stored
 pub side_missing : (known : List Known) (number first : ℕ) (sides : List (List ℕ)) → first + length sides ≤ number → stored_in known number (numbered first sides) ≡ false
-side_missing known number first [] past = refl
-side_missing known number first (side ∷ sides) past =
-    go (λ further. side_missing known number (suc first) sides further) (first == number) refl
-  where
-    go : (suc first + length sides ≤ number → stored_in known number (numbered (suc first) sides) ≡ false) → (b : Bool) → (first == number) ≡ b
-        → option_map_or (λ segment. list_all (λ k. is_whole k segment) known) (cond b (Some (record { number = first; bytes = side })) (segment_of number (numbered (suc first) sides))) false ≡ false
-    go later true here = absurd (omega (arith, past, eqb-true first number here))
-    go later false apart = later (omega (arith, past))
+side_missing known number first sides past =
+    ap (λ (found : Option NumberedBytes). option_map_or (λ segment. list_all (λ k. is_whole k segment) known) found false)
+    (numbered_past number first sides past)
 
 -- a side segment with bytes becomes known to the log, where the first backup is known to hold nothing of it
 pub side_on : (master : Master) (items : List Held) → IsFresh master.log → 1 ≤ length (spelled_all (as_entries items)) → WaitsOn master (with_side_segment master items)

@@ -1,23 +1,23 @@
 -- Nothing that the tablets of a master wait for has come: in each lane of a cluster to which a run of a new one has led.
 use Rattle.std.proofs.Common.{◌≡◌, ◌<◌, ◌≤◌, ◌+◌, ◌==◌, ℕ, zero, suc, Bool, true, false, cond, List, [], ◌∷◌, ◌++◌, length, Option, None}
 use Rattle.std.proofs.Common.{Some, refl, sym, ap, subst, ◌∙◌, ⊎_elim, arith, length-append, get_or, unwrap_or, eqb-true}
-use Rattle.rk_scripts.proofs.Words.{option_map_or, cases_eq, get_or-map-range_with_len, length-map-range_with_len, get, LANES}
-use Rattle.rk_scripts.proofs.Words.{FIRST_SIDE_SEGMENT, NumberedBytes, cut, Known, known_length, Log, bytes_of, numbered, segment_of}
-use Rattle.rk_scripts.proofs.Words.{side_segments, Called, accept, ask, Accepts, Asks, Calls, Cluster, Happens, Joins, Occurrence}
-use Rattle.rk_scripts.proofs.Words.{cluster_after, cluster_run, lane_at, new_cluster, session_at, IsRun, IsWellFormed, Master, new_master}
-use Rattle.rk_scripts.proofs.Words.{tablet_at, master_step, master_turn, refusal, HasRoom, world_stepped, with_split, step, stepped_by}
-use Rattle.rk_scripts.proofs.Words.{World, master_at, new_world, with_master, StepError, Event, view, IsSound, EachLane, master_other}
+use Rattle.rk_scripts.proofs.Words.{option_map_or, cases_eq, get, LANES, FIRST_SIDE_SEGMENT, NumberedBytes, cut, Known, known_length, Log}
+use Rattle.rk_scripts.proofs.Words.{bytes_of, numbered, segment_of, side_segments, Called, Cluster, lane_at, IsWellFormed, Master}
+use Rattle.rk_scripts.proofs.Words.{new_master, tablet_at, master_step, master_turn, refusal, HasRoom, world_stepped, with_split, step}
+use Rattle.rk_scripts.proofs.Words.{stepped_by, World, master_at, new_world, with_master, StepError, Event, view, IsSound, master_other}
 use Rattle.rk_scripts.proofs.Words.{master_same}
 use Rattle.rk_world.specs.Splits.{has_parts, with_halves}
 use Rattle.rk_sound.specs.Logs.{stored_of}
 use Rattle.rk_inv_base.proofs.views.Fresh.{each_fresh}
 use Rattle.rk_inv_tablets.proofs.steady.Walks.{IsKept, Part, accept_keeps, ask_keeps, event_keeps}
 use Rattle.rk_inv_lanes.proofs.applied.Lanes.{few_of}
-use Rattle.rk_scripts.proofs.play.Reaching.{IsReached, lane_good, lane_there, new_reached, reached_after, reached_eight}
+use Rattle.rk_scripts.proofs.play.Reaching.{IsReached}
 use Rattle.rk_scripts.proofs.settle.Patient.{ArePatient, IsFresh, put_patient}
 use Rattle.rk_scripts.proofs.settle.PatientPulls.{pulled_patient}
 use Rattle.rk_scripts.proofs.settle.PatientSteps.{either_patient, step_patient, turn_patient}
-use Rattle.rk_scripts.proofs.settle.Reached.{called_all, joined_all, stepped_all, visited_all}
+use Rattle.rk_scripts.proofs.settle.Reached.{reached_lane}
+use Rattle.rk_runs.proofs.duties.Runs.{IsKeptByLanes}
+use Rattle.rk_inv_base.proofs.logs.Segments.{numbered_past}
 
 -- ---- what no backup can hold
 
@@ -33,19 +33,10 @@ missing_behind (bytes ∷ main) first number more past none =
     go later true here = absurd (omega (arith, past, eqb-true first number here))
     go later false apart = later (omega (arith, past))
 
-missing_in : (sides : List (List ℕ)) (first number : ℕ) → first + length sides ≤ number → segment_of number (numbered first sides) ≡ None
-missing_in [] first number past = refl
-missing_in (bytes ∷ sides) first number past = go (λ further. missing_in sides (suc first) number further) (first == number) refl
-  where
-    go : (suc first + length sides ≤ number → segment_of number (numbered (suc first) sides) ≡ None) → (b : Bool) → (first == number) ≡ b
-        → cond b (Some (record { number = first; bytes = bytes })) (segment_of number (numbered (suc first) sides)) ≡ None
-    go later true here = absurd (omega (arith, past, eqb-true first number here))
-    go later false apart = later (omega (arith, past))
-
 no_bytes : (log : Log) (segment : ℕ) → length (cut log.entries) < FIRST_SIDE_SEGMENT → FIRST_SIDE_SEGMENT + length log.sides ≤ segment → bytes_of log segment ≡ []
 no_bytes log segment few past =
     ap (λ (o : Option NumberedBytes). option_map_or (λ (it : NumberedBytes). it.bytes) o [])
-    (missing_behind (cut log.entries) 1 segment (side_segments log) (omega (arith, few, past)) (missing_in log.sides FIRST_SIDE_SEGMENT segment past))
+    (missing_behind (cut log.entries) 1 segment (side_segments log) (omega (arith, few, past)) (numbered_past segment FIRST_SIDE_SEGMENT log.sides past))
 
 few_segments : (w : World) → IsWellFormed w → HasRoom w → (number : ℕ) → length (cut (master_at w number).log.entries) < FIRST_SIDE_SEGMENT
 few_segments w formed room number = go (get w.masters number) refl
@@ -119,44 +110,16 @@ patient_new : (lane masters backups : ℕ) → AllPatient (new_world lane master
 patient_new lane masters backups master =
     subst ArePatient (sym (each_fresh lane masters backups master).is_new) (record { order = tt; each = λ q. tt })
 
--- ---- runs
+-- lanes keep it
+patience_kept : IsKeptByLanes AllPatient
+patience_kept = record {
+  starts = patient_new;
+  steps = λ masters lane w good event called patient. patient_stepped w event called (fresh_at w good.sound good.formed good.room) patient;
+  asks = λ w session patient. ask_keeps Patience w patient session;
+  accepts = λ w number session patient. accept_keeps Patience w patient number session;
+}
 
-module _ (masters backups : ℕ) where
-  patient_after : (cluster : Cluster) (occurrence : Occurrence) → IsReached masters backups cluster → EachLane AllPatient cluster → EachLane AllPatient (cluster_after cluster occurrence)
-  patient_after cluster (Happens lane event called) reached each =
-      stepped_all AllPatient cluster lane (step (lane_at cluster lane) event called)
-      (λ there.
-      let eight = reached_eight masters backups cluster reached in
-      let good = lane_good masters backups cluster reached lane (omega (arith, there, eight)) in
-      patient_stepped (lane_at cluster lane) event called (fresh_at (lane_at cluster lane) good.sound good.formed good.room) (each lane there))
-      each
-  patient_after cluster (Joins client) reached each = joined_all (EachLane AllPatient) cluster client (get cluster.sessions client) each (λ session. each)
-  patient_after cluster (Calls client table key op) reached each =
-      called_all (EachLane AllPatient) cluster client table key op (get cluster.sessions client) each (λ session. each)
-  patient_after cluster (Asks lane client) reached each =
-      visited_all AllPatient cluster lane client (ask (lane_at cluster lane) (session_at cluster client))
-      (λ there. ask_keeps Patience (lane_at cluster lane) (each lane there) (session_at cluster client)) each
-  patient_after cluster (Accepts lane number client) reached each =
-      visited_all AllPatient cluster lane client (accept (lane_at cluster lane) number (session_at cluster client))
-      (λ there. accept_keeps Patience (lane_at cluster lane) (each lane there) number (session_at cluster client)) each
-
-  patient_run : (cluster : Cluster) (list : List Occurrence) → IsReached masters backups cluster → IsRun cluster list → EachLane AllPatient cluster
-      → EachLane AllPatient (cluster_run cluster list)
-  patient_run cluster [] reached run each = each
-  patient_run cluster (occurrence ∷ later) reached run each = patient_run (cluster_after cluster occurrence) later
-      (reached_after masters backups cluster reached (occurrence ∷ []) (run.0, run.1, run.2, tt)) run.3
-      (patient_after cluster occurrence reached each)
-
-  -- in a cluster to which a run of a new one has led
-  pub reached_patient : (cluster : Cluster) → IsReached masters backups cluster → (lane : ℕ) → lane < LANES → AllPatient (lane_at cluster lane)
-  reached_patient cluster reached lane inside = subst (EachLane AllPatient) (sym reached.is)
-      (patient_run (new_cluster masters backups) reached.before
-      (new_reached masters backups reached.few_masters reached.backed reached.few_backups) reached.run first)
-      lane (lane_there masters backups cluster reached lane inside)
-    where
-      first : EachLane AllPatient (new_cluster masters backups)
-      first at there =
-          let long = length-map-range_with_len (λ (number : ℕ). new_world number masters backups) 0 LANES in
-          subst AllPatient (sym (get_or-map-range_with_len (λ (number : ℕ). new_world number masters backups) 0 LANES at at
-          (new_world at 0 0) (omega (arith, there, long)) (omega arith)))
-          (patient_new at masters backups)
+-- so it is in a cluster to which a run of a new one has led
+pub reached_patient : (masters backups : ℕ) (cluster : Cluster) → IsReached masters backups cluster → (lane : ℕ) → lane < LANES
+    → AllPatient (lane_at cluster lane)
+reached_patient masters backups cluster reached = reached_lane masters backups cluster reached AllPatient patience_kept

@@ -18,7 +18,8 @@ use Rattle.rk_world.specs.SideLogs.{cut_items, with_side_item}
 use Rattle.rk_scripts.proofs.settle.Patient.{ArePatient, ArePatientBeside, IsCalmRole, IsFresh, Waits, WaitsIn, WaitsOn, appended_beside}
 use Rattle.rk_scripts.proofs.settle.Patient.{at_put, calm_waits, patient_beside, patient_on, patient_whole, put_beside, put_patient}
 use Rattle.rk_scripts.proofs.settle.Patient.{put_whole, side_missing, side_on}
-use Rattle.rk_scripts.proofs.settle.PatientSteps.{either_patient, either_work, replay_patient}
+use Rattle.rk_scripts.proofs.settle.PatientSteps.{either_patient, replay_patient}
+use Rattle.rk_scripts.proofs.settle.Turning.{either_is}
 
 -- ---- the items of side segments
 
@@ -194,6 +195,6 @@ pulled_patient master patient fresh pulled =
     let first : ArePatient replayed = replay_patient master number worker (items_of pulled.entries) patient in
     let then_is : ArePatient now = put_patient replayed number _ first (first.each number) in
     let still : IsFresh now.log = subst IsFresh (sym (replayed_log master number worker (items_of pulled.entries))) fresh in
-    either_work (is_receiving_at tablet pulled.tenure.term && is_token pulled.token tablet.pulling.token)
+    either_is ArePatient (is_receiving_at tablet pulled.tenure.term && is_token pulled.token tablet.pulling.token)
     (changed (batch_taken master number pulled)) (changed master)
     (either_patient (is_token pulled.next end) (pulled_all now number) now (all_patient now number then_is still) then_is) patient

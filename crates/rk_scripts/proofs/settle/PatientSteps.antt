@@ -8,11 +8,11 @@ use Rattle.rk_scripts.proofs.Words.{frozen, granted, in_role, joined, role_close
 use Rattle.rk_scripts.proofs.Words.{Reading, apply_entries, apply_entry, newly_held, noting, stored_taken, with_applied, with_ended}
 use Rattle.rk_scripts.proofs.Words.{with_entry_item, items_of, next_reading, carried_entry, close_taken, closing, grant_taken, granting}
 use Rattle.rk_scripts.proofs.Words.{prepare_taken, preparing, ready, ready_again, transfer, Master, is_settled, tablet_at, with_all}
-use Rattle.rk_scripts.proofs.Words.{with_appended, with_known, with_tablet, master_step, told_master, duties, master_turn, reading_duty}
-use Rattle.rk_scripts.proofs.Words.{tablet_duty, with_outstanding, as_entries, item_replayed, pulled_taken, replay, replay_one, with_pulled}
+use Rattle.rk_scripts.proofs.Words.{with_appended, with_known, with_tablet, master_step, told_master, duties, master_turn, tablet_duty}
+use Rattle.rk_scripts.proofs.Words.{with_outstanding, as_entries, item_replayed, pulled_taken, replay, replay_one, with_pulled}
 use Rattle.rk_scripts.proofs.Words.{with_pulling, is_frozen_at, is_receiving_at, Tablet, no_tablet, pulling_from, with_handover}
 use Rattle.rk_scripts.proofs.Words.{without_merged, all_going_on, closing_entry, freezing, going_on_in, is_sealed_stored, joined_entry}
-use Rattle.rk_scripts.proofs.Words.{Worked, changed, sending, kept_by_fold, All_pairs, above_all, first, get_first, get_later, order_tail}
+use Rattle.rk_scripts.proofs.Words.{changed, sending, kept_by_fold, All_pairs, above_all, first, get_first, get_later, order_tail}
 use Rattle.std.specs.Cmp.{unsigned_tied}
 use Rattle.rk_types.specs.declared.lineage.Member.{Member}
 use Rattle.rk_transfer.specs.Handover.{carried, owned, prepared, rebuilt, released, role_carried, role_owned, role_released}
@@ -31,7 +31,6 @@ use Rattle.rk_world.specs.Handovers.{given_up, is_greater, own_taken, owning, re
 use Rattle.rk_world.specs.Lineage.{own_member}
 use Rattle.rk_world.specs.Master.{without_items}
 use Rattle.rk_world.specs.MasterStep.{backup_message, client_message, order, peer_message}
-use Rattle.rk_world.specs.MasterTurn.{tenure_at}
 use Rattle.rk_world.specs.Merge.{merge}
 use Rattle.rk_world.specs.Pulls.{got_taken, hashes_resolved, pull_taken, want_taken}
 use Rattle.rk_world.specs.Rebuilds.{begun_from, beginning, copy_taken, merging, own_material, rebuild_begun, rebuild_goes_on, rebuild_taken}
@@ -39,10 +38,10 @@ use Rattle.rk_world.specs.Rebuilds.{rebuilding_on, rebuilt_entry, segment_gather
 use Rattle.rk_world.specs.Requests.{call_of, choice_of, chosen, counted_up, item_of, refusal_of, request_taken}
 use Rattle.rk_world.specs.RoleTests.{is_gathering}
 use Rattle.rk_world.specs.Waiting.{tablet_frozen}
-use Rattle.rk_world.specs.Worked.{from_master}
 use Rattle.rk_world.specs.declared.choice.Choice.{Choice}
 use Rattle.rk_world.specs.declared.choice.Choice.TheVariants.{Wants, Writes, Refuses}
 use Rattle.rk_world.specs.declared.work.Merged.{Merged}
+use Rattle.rk_scripts.proofs.settle.Turning.{duty_is, either_is}
 use Rattle.rk_scripts.proofs.settle.Patient.{ArePatient, IsCalmRole, Waits, WaitsIn, WaitsOn, all_patient, appended_on, appended_patient}
 use Rattle.rk_scripts.proofs.settle.Patient.{at_other, at_put, calm_waits, changed_patient, patient_beside, put_beside, put_patient}
 use Rattle.rk_scripts.proofs.settle.Patient.{put_whole, waits_on}
@@ -52,10 +51,6 @@ use Rattle.rk_scripts.proofs.settle.Patient.{put_whole, waits_on}
 pub either_patient : (test : Bool) (one other : Master) → ArePatient one → ArePatient other → ArePatient (cond test one other)
 either_patient true one other first second = first
 either_patient false one other first second = second
-
-pub either_work : (test : Bool) (one other : Worked) → ArePatient one.master → ArePatient other.master → ArePatient (cond test one other).master
-either_work true one other first second = first
-either_work false one other first second = second
 
 -- ---- moves of a handover
 
@@ -68,18 +63,7 @@ granted_calm true handover (Role.Wanting from) = tt
 granted_calm _ handover role = tt
 
 owned_calm : (b : Bool) (handover : Handover) (applied : ℕ) (role : Role) → MovesCalm (cond b (in_role handover (role_owned applied role)) None)
-owned_calm true handover applied (Role.Joining (Some entry)) = go (nat_lt entry applied)
-  where
-    go : (b : Bool) → MovesCalm (in_role handover (cond b (Some Role.Serving) None))
-    go true = tt
-    go false = tt
-owned_calm true handover applied (Role.Rebuilding from (Some entry)) = go (nat_lt entry applied)
-  where
-    go : (b : Bool) → MovesCalm (in_role handover (cond b (Some Role.Serving) None))
-    go true = tt
-    go false = tt
-owned_calm true handover applied role = tt
-owned_calm false handover applied role = tt
+owned_calm b handover applied role = grind (arith, nat_lt, in_role)
 
 released_calm : (b : Bool) (handover : Handover) (role : Role) → MovesCalm (cond b (in_role handover (role_released role)) None)
 released_calm true handover Role.Frozen = tt
@@ -90,10 +74,7 @@ carried_calm true handover entry (Role.Rebuilding from None) = tt
 carried_calm _ handover entry role = tt
 
 closed_closes : (b : Bool) (handover : Handover) (role : Role) → IfSome (cond b (in_role handover (role_closed role)) None) (λ now. now.role ≡ Role.Closing)
-closed_closes true handover Role.Serving = refl
-closed_closes true handover (Role.Joining entry) = refl
-closed_closes true handover (Role.Rebuilding from entry) = refl
-closed_closes _ handover role = tt
+closed_closes b handover role = grind arith
 
 begun_calm : (b : Bool) (handover : Handover) → IsCalmRole handover.role → MovesCalm (cond b (Some handover) None)
 begun_calm true handover calm = calm
@@ -126,31 +107,14 @@ same_on master = record { staged = λ range is. is; known = refl; stored = λ so
 
 module _ (now : Master) (number : ℕ) (tablet : Tablet) (at : tablet_at now number ≡ tablet) where
   gone_still : Waits now tablet → HasGone number now now
-  gone_still waits = record {
-    order = λ order. order;
-    other = λ q apart. refl;
-    own = subst (Waits now) (sym at) waits;
-    on = same_on now;
-  }
+  gone_still waits = grind (arith, same_on)
 
   gone_calm : (role : Role) → tablet.handover.role ≡ role → IsCalmRole role → HasGone number now now
   gone_calm role is calm = gone_still (calm_waits now tablet tablet.handover.role (subst IsCalmRole (sym is) calm))
 
   gone_closing : tablet.handover.role ≡ Role.Closing → HasGone number now (freezing now number tablet (frozen tablet.handover tablet.handover.term))
-  gone_closing is = subst (λ (moved : Option Handover). HasGone number now (freezing now number tablet moved))
-      (sym (frozen_own tablet.handover is)) (go (is_settled now tablet.handover.range) refl)
-    where
-      go : (b : Bool) → is_settled now tablet.handover.range ≡ b
-          → HasGone number now (cond b (with_tablet now number (with_handover tablet (record tablet.handover { role = Role.Frozen }))) now)
-      go true settled =
-          let after : Tablet = with_handover tablet (record tablet.handover { role = Role.Frozen }) in
-          record {
-            order = λ order. in_order_insert now.tablets number after order;
-            other = λ q apart. at_other now number after q apart;
-            own = subst (Waits (with_tablet now number after)) (sym (at_put now number after)) tt;
-            on = record { staged = λ range is. is; known = refl; stored = λ some number is. is };
-          }
-      go false waits = gone_still (subst (WaitsIn now tablet) (sym is) waits)
+  gone_closing is =
+      grind (arith, freezing, frozen_own, is_settled, with_tablet, with_handover, in_order_insert, at_other, at_put, gone_still)
 
   gone_joining : tablet.handover.role ≡ Role.Joining None
       → HasGone number now (cond (is_sealed_stored now tablet) (closing_entry now number tablet (joined tablet.handover tablet.handover.term (Some (length now.log.entries)))) now)
@@ -276,7 +240,7 @@ dropped_patient master range patient = record { order = patient.order; each = pa
 
 again_patient : (master : Master) (tenure : Tenure) (role : Role) (term : ℕ) → ArePatient master → ArePatient (ready_again master tenure role term).master
 again_patient master tenure (Role.Wanting from) term patient =
-    either_work (term == tenure.term) (sending master (ready master tenure from)) (changed master) patient patient
+    either_is ArePatient (term == tenure.term) (sending master (ready master tenure from)) (changed master) patient patient
 again_patient master tenure role term patient = patient
 
 prepare_patient : (master : Master) (prepare : Prepare) → ArePatient master → ArePatient (prepare_taken master prepare).master
@@ -285,7 +249,7 @@ prepare_patient master prepare patient =
     let handover = (tablet_at master number).handover in
     let now = with_others_given_up (without_items master prepare.range) number prepare.range in
     let old = (tablet_at now number).handover in
-    either_work (is_greater master number prepare.tenure.term prepare.range) (preparing master prepare)
+    either_is ArePatient (is_greater master number prepare.tenure.term prepare.range) (preparing master prepare)
     (ready_again master prepare.tenure handover.role handover.term)
     (move_patient now number (prepared old prepare.tenure.term prepare.range (length master.log.entries))
     (others_patient (without_items master prepare.range) number prepare.range (dropped_patient master prepare.range patient))
@@ -320,7 +284,7 @@ close_patient master tenure patient =
     let done : ArePatient now = closing_patient master tenure.tablet (closed old tenure.term) patient
     (closed_closes (nat_lt old.term tenure.term) (record old { term = tenure.term }) old.role) in
     let tablet = tablet_at now tenure.tablet in
-    either_work (is_frozen_at tablet tenure.term) (sending now (transfer now tenure tablet)) (changed now) done done
+    either_is ArePatient (is_frozen_at tablet tenure.term) (sending now (transfer now tenure tablet)) (changed now) done done
 
 granting_patient : (master : Master) (grant : Grant) (moved : Option Handover) → ArePatient master → MovesCalm moved → ArePatient (granting master grant moved).master
 granting_patient master grant None patient calm = patient
@@ -405,7 +369,7 @@ rebuild_patient master rebuild patient =
     let number = rebuild.tenure.tablet in
     let now = with_others_given_up (without_foreign master rebuild.range own) number rebuild.range in
     let old = (tablet_at now number).handover in
-    either_work (is_greater master number rebuild.tenure.term rebuild.range) (beginning master rebuild) (changed master)
+    either_is ArePatient (is_greater master number rebuild.tenure.term rebuild.range) (beginning master rebuild) (changed master)
     (goes_on_patient (rebuild_begun master rebuild) number
     (with_begun_patient now rebuild (rebuilt old rebuild.tenure.term rebuild.range (begun_from master own))
     (others_patient (without_foreign master rebuild.range own) number rebuild.range (foreign_patient master rebuild.range own patient))
@@ -417,7 +381,7 @@ copy_patient : (master : Master) (copy : CopySegment) → ArePatient master → 
 copy_patient master copy patient =
     let number = copy.tenure.tablet in
     let tablet = tablet_at master number in
-    either_work
+    either_is ArePatient
     (is_gathering tablet.handover.role && (tablet.handover.term == copy.tenure.term)
     && is_awaited (next_reading tablet.gather) copy.master copy.segment)
     (rebuild_goes_on (segment_gathered master copy) number) (changed master)
@@ -427,11 +391,11 @@ copy_patient master copy patient =
 
 pull_patient : (master : Master) (sender : Node) (pull : Pull) → ArePatient master → ArePatient (pull_taken master sender pull).master
 pull_patient master sender pull patient =
-    either_work (is_frozen_at (tablet_at master pull.tenure.tablet) pull.tenure.term) _ (changed master) patient patient
+    either_is ArePatient (is_frozen_at (tablet_at master pull.tenure.tablet) pull.tenure.term) _ (changed master) patient patient
 
 want_patient : (master : Master) (sender : Node) (want : Want) → ArePatient master → ArePatient (want_taken master sender want).master
 want_patient master sender want patient =
-    either_work (is_frozen_at (tablet_at master want.tenure.tablet) want.tenure.term) _ (changed master) patient patient
+    either_is ArePatient (is_frozen_at (tablet_at master want.tenure.tablet) want.tenure.term) _ (changed master) patient patient
 
 replayed_patient : (number worker : ℕ) (master : Master) (item : Held) → ArePatient master → ArePatient (item_replayed number worker master item)
 replayed_patient number worker master item patient =
@@ -450,43 +414,11 @@ got_patient master message patient =
     let tablet = tablet_at master number in
     let now = replay master number 0 (items_of message.entries) in
     let replayed : ArePatient now = replay_patient master number 0 (items_of message.entries) patient in
-    either_work (is_receiving_at tablet message.tenure.term && is_batch tablet.pulling.hashes.outstanding message.hashes)
+    either_is ArePatient (is_receiving_at tablet message.tenure.term && is_batch tablet.pulling.hashes.outstanding message.hashes)
     (changed (hashes_resolved now number message.hashes)) (changed master)
     (put_patient now number _ replayed (replayed.each number)) patient
 
 -- ---- turns
-
-reading_patient : (master : Master) (number : ℕ) (tablet : Tablet) (reading : Option Reading) → ArePatient master → ArePatient (reading_duty master number tablet reading).master
-reading_patient master number tablet None patient = patient
-reading_patient master number tablet (Some reading) patient = patient
-
-duty_patient : (master : Master) (number : ℕ) (tablet : Tablet) (role : Role) → Waits master tablet → ArePatient master → ArePatient (tablet_duty master number tablet role).master
-duty_patient master number tablet Role.Receiving waits patient = put_patient master number (with_outstanding tablet) patient waits
-duty_patient master number tablet (Role.Joining (Some entry)) waits patient = either_work (nat_lt entry master.applied) _ (changed master) patient patient
-duty_patient master number tablet (Role.Rebuilding from None) waits patient = reading_patient master number tablet (next_reading tablet.gather) patient
-duty_patient master number tablet (Role.Rebuilding from (Some entry)) waits patient = either_work (nat_lt entry master.applied) _ (changed master) patient patient
-duty_patient master number tablet role waits patient = patient
-
--- a duty changes neither the log nor what is applied
-duty_on : (master : Master) (number : ℕ) (tablet : Tablet) (role : Role) → WaitsOn master (tablet_duty master number tablet role).master
-duty_on master number tablet Role.Receiving = record { staged = λ range is. is; known = refl; stored = λ some number is. is }
-duty_on master number tablet (Role.Joining (Some entry)) = go (nat_lt entry master.applied)
-  where
-    go : (b : Bool) → WaitsOn master (cond b (sending master (from_master master Node.Coordinator (Body.Joined (tenure_at number tablet)))) (changed master)).master
-    go true = same_on master
-    go false = same_on master
-duty_on master number tablet (Role.Rebuilding from None) = go (next_reading tablet.gather)
-  where
-    go : (reading : Option Reading) → WaitsOn master (reading_duty master number tablet reading).master
-    go None = same_on master
-    go (Some reading) = same_on master
-duty_on master number tablet (Role.Rebuilding from (Some entry)) = go (nat_lt entry master.applied)
-  where
-    go : (b : Bool) → WaitsOn master
-        (cond b (sending master (from_master master Node.Coordinator (Body.Rebuilt (record { tenure = tenure_at number tablet; place = from; ends = tablet.merged_ends })))) (changed master)).master
-    go true = same_on master
-    go false = same_on master
-duty_on master number tablet role = same_on master
 
 -- what tablets of a list wait for has not come
 abbrev AllWait : Master → NumberMap Tablet → Type 0
@@ -503,8 +435,11 @@ duties_patient (entry ∷ rest) master all patient =
     let now = (tablet_duty master entry.0 entry.1 entry.1.handover.role).master in
     let waits = All-head (λ (it : ℕ × Tablet). Waits master it.1) entry rest all in
     duties_patient rest now
-    (all_wait_on master now (duty_on master entry.0 entry.1 entry.1.handover.role) rest (All-tail (λ (it : ℕ × Tablet). Waits master it.1) entry rest all))
-    (duty_patient master entry.0 entry.1 entry.1.handover.role waits patient)
+    (all_wait_on master now
+    (duty_is (WaitsOn master) master entry.0 entry.1 entry.1.handover.role (same_on master)
+    (record { staged = λ range is. is; known = refl; stored = λ some number is. is }))
+    rest (All-tail (λ (it : ℕ × Tablet). Waits master it.1) entry rest all))
+    (duty_is ArePatient master entry.0 entry.1 entry.1.handover.role patient (put_patient master entry.0 (with_outstanding entry.1) patient waits))
 
 -- at its turn
 pub turn_patient : (master : Master) → ArePatient master → ArePatient (master_turn master).master
@@ -530,11 +465,7 @@ module _ (master : Master) (patient : ArePatient master) (pulled_patient : (pull
   order_patient _ = patient
 
   peer_patient : (sender : Node) (body : Body) → ArePatient (peer_message master sender body).master
-  peer_patient sender (Body.Pull pull) = pull_patient master sender pull patient
-  peer_patient sender (Body.Pulled pulled) = pulled_patient pulled
-  peer_patient sender (Body.Want want) = want_patient master sender want patient
-  peer_patient sender (Body.Got message) = got_patient master message patient
-  peer_patient sender _ = patient
+  peer_patient sender body = grind (arith, pull_patient, want_patient, got_patient)
 
   backup_patient : (backup : ℕ) (body : Body) → ArePatient (backup_message master backup body).master
   backup_patient backup (Body.Stored stored) =

@@ -1,18 +1,16 @@
 -- What lies on a wire beyond a number: nothing that is on a topic, or one message alone. And what an arrival leaves of what lay there.
-use Rattle.std.proofs.Common.{◌≡◌, ◌<◌, ◌≤◌, ◌+◌, ℕ, Bool, true, false, cond, List, [], ◌∷◌, ◌++◌, eqb, fold, map, All, Option, None, Some}
-use Rattle.std.proofs.Common.{refl, sym, ap, subst, ◌∙◌, ⊎_elim, arith, ne_eqb}
-use Rattle.rk_scripts.proofs.Words.{cases_eq, cond-false, false≢true, All-head, All-tail, get_other, get_same, NumberMap, get, Node}
-use Rattle.rk_scripts.proofs.Words.{Segments, HasSentNumbers, Traffic, with_message, without_message, Message, Backed, Called, Gave}
-use Rattle.rk_scripts.proofs.Words.{backup_step, stored_after, accept, accept_by, accepting, is_asked_here, taking, untouched, Session}
-use Rattle.rk_scripts.proofs.Words.{coordinator_step, master_step, filled, accept_refusal, refusal, world_stepped, world_visited, backed_at}
-use Rattle.rk_scripts.proofs.Words.{delivered, delivered_to, ledger_after, log_bytes_of, losing, quietly, seen_in, step, stepped_by}
-use Rattle.rk_scripts.proofs.Words.{with_sends, worked_at, World, has_crashed, is_backup, master_at, with_stored_by, with_top, with_wire}
-use Rattle.rk_scripts.proofs.Words.{StepError, is_on, Arrival, Delivers, Loses, arrived, forgotten, Event, Taken}
+use Rattle.std.proofs.Common.{◌≡◌, ◌<◌, ◌≤◌, ◌+◌, ℕ, true, false, List, [], ◌∷◌, ◌++◌, eqb, fold, map, All, Option, None, Some, refl, sym}
+use Rattle.std.proofs.Common.{ap, subst, ◌∙◌, arith, ne_eqb}
+use Rattle.rk_scripts.proofs.Words.{cases_eq, cond-false, false≢true, All-head, All-tail, get_other, get_same, get}
+use Rattle.rk_scripts.proofs.Words.{HasSentNumbers, Traffic, with_message, without_message, Message, Called, backup_step, accept}
+use Rattle.rk_scripts.proofs.Words.{Session, coordinator_step, master_step, filled, refusal, world_stepped, world_visited, ledger_after}
+use Rattle.rk_scripts.proofs.Words.{log_bytes_of, seen_in, step, stepped_by, worked_at, World, master_at, with_top, with_wire, StepError}
+use Rattle.rk_scripts.proofs.Words.{is_on, Arrival, Delivers, Loses, arrived, forgotten, Event, coordinator_turn, master_turn, Worked}
 use Rattle.rk_types.proofs.NumberMaps.{get_remove, get_removed, remove_less}
-use Rattle.rk_types.specs.NumberMap.{remove}
-use Rattle.rk_world.specs.Refusals.{wire_fault}
 use Rattle.rk_inv_lanes.specs.wires.Emptied.{Accepts}
 use Rattle.rk_scripts.proofs.settle.ExchangeTasks.{Topic}
+use Rattle.rk_inv_lanes.proofs.lanes.Events.{Covers, event_covered}
+use Rattle.rk_inv_lanes.proofs.lanes.Visits.{accept_covered}
 
 -- ---- beyond a number
 
@@ -39,13 +37,7 @@ module _ (topic : Topic) where
   -- one more message
   newer : (P : ℕ → Message → Type 0) (wire : Traffic) (message : Message) → P (wire.sent + 1) message
       → ((n : ℕ) (it : Message) → get wire.messages n ≡ Some it → P n it) → (n : ℕ) (it : Message) → get (with_message message wire).messages n ≡ Some it → P n it
-  newer P wire message new old n it found = ⊎_elim
-      (λ (is : n ≡ wire.sent + 1).
-      let same : Some message ≡ Some it = sym (get_same wire.messages (wire.sent + 1) message n is) ∙ found in
-      let one : message ≡ it = cc same in
-      subst (P n) one (subst (λ (k : ℕ). P k message) (sym is) new))
-      (λ (apart : n ≡ wire.sent + 1 → ⊥). old n it (sym (get_other wire.messages (wire.sent + 1) message n apart) ∙ found))
-      (cases_eq n (wire.sent + 1))
+  newer P wire message new old n it found = grind (arith, get_same, get_other, cases_eq)
 
   off_more : (from : ℕ) (wire : Traffic) (message : Message) → is_on topic message.body ≡ false → OnlyOff from wire → OnlyOff from (with_message message wire)
   off_more from wire message is off n it after found =
@@ -130,26 +122,12 @@ module _ (topic : Topic) where
 
   pub pending_without : (from number : ℕ) (ours : Message) (wire : Traffic) (pending : IsPending from ours wire) → (pending.number ≡ number → ⊥)
       → IsPending from ours (without_message number wire)
-  pending_without from number ours wire pending apart = record {
-    number = pending.number;
-    after = pending.after;
-    within = pending.within;
-    found = get_beside wire.messages number pending.number apart ∙ pending.found;
-    only = λ n message after found on. pending.only n message after (remove_less wire.messages number n message found) on;
-  }
-    where
-      get_beside : (messages : NumberMap Message) (out q : ℕ) → (q ≡ out → ⊥) → get (remove messages out) q ≡ get messages q
-      get_beside messages out q apart =
-          get_remove messages out q ∙ cond-false (eqb q out) None (get messages q) (ne_eqb q out apart)
+  pending_without from number ours wire pending apart = grind (arith, remove_less, get_remove, cond-false, eqb, ne_eqb)
 
 -- ---- an event that forgets
 
 pub forgotten_cases : (P : World → Type 0) (w : World) (number : ℕ) → P w → P (with_top (with_wire w (without_message number w.wire))) → P (forgotten w number)
-forgotten_cases P w number same without = go (get w.wire.messages number)
-  where
-    go : (found : Option Message) → P (world_stepped w (stepped_by w (Event.Forget number) (Gave None) (wire_fault number found)))
-    go None = same
-    go (Some message) = without
+forgotten_cases P w number same without = grind (arith, world_stepped, stepped_by)
 
 -- no more is there
 pub forgotten_less : (w : World) (number n : ℕ) (message : Message) → get (forgotten w number).wire.messages n ≡ Some message → get w.wire.messages n ≡ Some message
@@ -159,12 +137,7 @@ forgotten_less w number n message =
 
 -- and not the one that is forgotten
 pub forgotten_gone : (w : World) (number : ℕ) → get (forgotten w number).wire.messages number ≡ None
-forgotten_gone w number = go (get w.wire.messages number) refl
-  where
-    go : (found : Option Message) → get w.wire.messages number ≡ found
-        → get (world_stepped w (stepped_by w (Event.Forget number) (Gave None) (wire_fault number found))).wire.messages number ≡ None
-    go None is = is
-    go (Some message) is = get_removed w.wire.messages number
+forgotten_gone w number = grind (arith, world_stepped, stepped_by, get_removed)
 
 -- ---- an arrival leaves what was sent before
 
@@ -178,69 +151,38 @@ sent_old wire (message ∷ list) n within = sent_old (with_message message wire)
     ∙ get_other wire.messages (wire.sent + 1) message n (λ is. omega (arith, within, is))
 
 module _ (w : World) where
-  backed_old : (v : World) (answer : Backed) → KeepsOld w v → v.wire ≡ w.wire → KeepsOld w (backed_at v answer).world
-  backed_old v answer keeps same n within = go answer.lost
-    where
-      go : (b : Bool) → get (cond b (losing v) (with_sends v answer.sends)).world.wire.messages n ≡ get w.wire.messages n
-      go true = keeps n within
-      go false =
-          subst (λ (wire : Traffic). get (fold (λ it message. with_message message it) wire answer.sends).messages n ≡ get w.wire.messages n) (sym same)
-          (sent_old w.wire answer.sends n within)
+  worked_old : (master seen : ℕ) (worked : Worked) → KeepsOld w (worked_at w master seen worked).world
+  worked_old master seen worked = sent_old w.wire (map (filled (ledger_after w.ledger master seen worked).journal worked.served) worked.sends)
 
-  stored_same : (number : ℕ) (store : Segments → Segments) (found : Option Segments) → (with_stored_by w number store found).wire ≡ w.wire
-  stored_same number store None = refl
-  stored_same number store (Some segments) = refl
-
-  delivered_old : (message : Message) (to : Node) (called : Called) → KeepsOld w (delivered_to w message to called).world
-  delivered_old message (Node.Client client) called n within = refl
-  delivered_old message Node.Coordinator called n within = sent_old w.wire (coordinator_step w.coordinator message).sends n within
-  delivered_old message (Node.Master master) called n within = go (has_crashed w master)
-    where
-      go : (b : Bool) → get (cond b (losing w) (worked_at w master (seen_in message.body) (master_step (master_at w master) message))).world.wire.messages n ≡ get w.wire.messages n
-      go true = refl
-      go false =
-          let worked = master_step (master_at w master) message in
-          sent_old w.wire (map (filled (ledger_after w.ledger master (seen_in message.body) worked).journal worked.served) worked.sends) n within
-  delivered_old message (Node.Backup backup) called n within = go (is_backup w backup)
-    where
-      v : World
-      v = with_stored_by w backup (λ segments. stored_after segments message.from message.body called) (get w.backups backup)
-
-      same : v.wire ≡ w.wire
-      same = stored_same backup (λ segments. stored_after segments message.from message.body called) (get w.backups backup)
-
-      go : (b : Bool)
-          → get (cond b (backed_at v (backup_step backup message.from message.body (log_bytes_of w) called)) (quietly w)).world.wire.messages n ≡ get w.wire.messages n
-      go true = backed_old v (backup_step backup message.from message.body (log_bytes_of w) called)
-          (λ k inside. ap (λ (wire : Traffic). get wire.messages k) same) same n within
-      go false = refl
-
-  all_old : (found : Option Message) (called : Called) → KeepsOld w (delivered w found called).world
-  all_old None called n within = refl
-  all_old (Some message) called n within = delivered_old message message.to called n within
+  delivered_old : (number : ℕ) (called : Called) → Covers (KeepsOld w) w (Event.Deliver number) called
+  delivered_old number called = record {
+    quiet = λ backups may n within. refl;
+    steps = λ place master message is found to lives. worked_old master (seen_in message.body) (master_step (master_at w master) message);
+    turns = λ master. worked_old master 0 (master_turn (master_at w master));
+    hears = λ message. sent_old w.wire (coordinator_step w.coordinator message).sends;
+    duties = sent_old w.wire (coordinator_turn w.coordinator);
+    answers = λ backup sender body backups may. sent_old w.wire (backup_step backup sender body (log_bytes_of w) called).sends;
+    again = λ client message found. sent_old w.wire (message ∷ []);
+    adds = λ tablet range master is n within. refl;
+    comes = λ client is new n within. refl;
+    forgets = λ other is. absurd (cc is);
+    moves = λ tablet to n within. refl;
+    parts = λ tablet at new n within. refl;
+    splits = λ tablet at new other master term n within. refl;
+    crashes = λ master is n within. refl;
+    notices = λ master n within. refl;
+  }
 
   stepped_old : (number : ℕ) (called : Called) → KeepsOld w (world_stepped w (step w (Event.Deliver number) called))
-  stepped_old number called n within = go (refusal w (Event.Deliver number))
+  stepped_old number called = go (refusal w (Event.Deliver number))
     where
-      go : (refused : Option StepError) → get (world_stepped w (stepped_by w (Event.Deliver number) called refused)).wire.messages n ≡ get w.wire.messages n
-      go None = all_old (get w.wire.messages number) called n within
-      go (Some error) = refl
+      go : (refused : Option StepError) → KeepsOld w (world_stepped w (stepped_by w (Event.Deliver number) called refused))
+      go None = event_covered (delivered_old number called)
+      go (Some error) = λ n within. refl
 
   -- a client that takes a message changes no wire
   pub accepted_wire : (number : ℕ) (session : Session) → (world_visited w (accept w number session)).wire ≡ w.wire
-  accepted_wire number session = go (accept_refusal w number session.client (get w.wire.messages number))
-    where
-      by : (found : Option Message) → (accepting w session found).world.wire ≡ w.wire
-      by None = refl
-      by (Some message) = asked_here (is_asked_here w session)
-        where
-          asked_here : (b : Bool) → (cond b (taking w session message.body) (untouched w session (Some Taken.Ignored))).world.wire ≡ w.wire
-          asked_here true = refl
-          asked_here false = refl
-
-      go : (refused : Option StepError) → (world_visited w (accept_by w number session refused)).wire ≡ w.wire
-      go None = by (get w.wire.messages number)
-      go (Some error) = refl
+  accepted_wire number session = accept_covered (λ now. now.wire ≡ w.wire) w session refl number (λ body. refl)
 
   pub arrived_old : (number : ℕ) (arrival : Arrival) → KeepsOld w (arrived w number arrival)
   arrived_old number (Delivers called) n within = stepped_old number called n within

@@ -2,21 +2,20 @@
 use Rattle.std.proofs.Common.{◌≡◌, ◌<◌, ℕ, Bool, true, false, cond, List, [], ◌∷◌, ◌++◌, Option, None, Some, refl, sym, subst, ◌∙◌, ⊎_elim}
 use Rattle.std.proofs.Common.{arith, unwrap_or}
 use Rattle.rk_scripts.proofs.Words.{cases_eq, false≢true, IsInOrder, get, LANES, Node, overreach, Segments, Body, Message, Backed, Called}
-use Rattle.rk_scripts.proofs.Words.{Gave, backup_step, stored_after, accept, accept_by, accepting, is_asked_here, taking, untouched}
-use Rattle.rk_scripts.proofs.Words.{Session, Cluster, lane_at, Coordinator, IsWellFormed, Master, new_master, tablet_at, master_step}
-use Rattle.rk_scripts.proofs.Words.{told_master, master_turn, accept_refusal, refusal, is_frozen_at, world_stepped, world_visited}
-use Rattle.rk_scripts.proofs.Words.{backed_at, delivered, delivered_to, log_bytes_of, losing, quietly, seen_in, step, stepped_by}
-use Rattle.rk_scripts.proofs.Words.{with_sends, worked_at, Worked, changed, World, has_crashed, is_backup, master_at, tablet_in}
+use Rattle.rk_scripts.proofs.Words.{Gave, backup_step, stored_after, accept, Session, Cluster, lane_at, Coordinator, IsWellFormed, Master}
+use Rattle.rk_scripts.proofs.Words.{new_master, tablet_at, master_step, told_master, master_turn, refusal, is_frozen_at, world_stepped}
+use Rattle.rk_scripts.proofs.Words.{world_visited, backed_at, delivered, delivered_to, log_bytes_of, losing, quietly, seen_in, step}
+use Rattle.rk_scripts.proofs.Words.{stepped_by, with_sends, worked_at, Worked, changed, World, has_crashed, is_backup, master_at, tablet_in}
 use Rattle.rk_scripts.proofs.Words.{with_stored_by, StepError, Course, round_of, turn_exchange, is_on, master_other, master_same, Arrival}
-use Rattle.rk_scripts.proofs.Words.{Delivers, Loses, arrived, forgotten, Event, Taken}
+use Rattle.rk_scripts.proofs.Words.{arrived, forgotten, Event}
 use Rattle.rk_world.specs.CoordinatorStep.{told_coordinator}
-use Rattle.rk_inv_lanes.specs.wires.Emptied.{Accepts}
 use Rattle.rk_scripts.proofs.settle.Delivering.{ArrivesAt}
 use Rattle.rk_scripts.proofs.settle.ExchangeTasks.{Topic, log_topic, pull_topic, sorts}
 use Rattle.rk_scripts.proofs.settle.Exchanged.{Sends, turning}
 use Rattle.rk_scripts.proofs.settle.Following.{follows_itself}
 use Rattle.rk_scripts.proofs.settle.Going.{Comes, Goes, IsAt, goes_here, goes_on, goes_then, still_move}
-use Rattle.rk_scripts.proofs.settle.Keeping.{GoesOnAt, Onward, either_is, onward_itself, onward_then, pulled_on, stored_on, turn_on}
+use Rattle.rk_scripts.proofs.settle.Turning.{either_is}
+use Rattle.rk_scripts.proofs.settle.Keeping.{GoesOnAt, Onward, onward_itself, onward_then, pulled_on, stored_on, turn_on}
 use Rattle.rk_scripts.proofs.settle.Lanes.{IsSameBeside}
 use Rattle.rk_scripts.proofs.settle.NoticesFirst.{formed_at}
 use Rattle.rk_scripts.proofs.settle.Numbers.{left_fewer, left_no_more, sends_left}
@@ -29,6 +28,7 @@ use Rattle.rk_scripts.proofs.settle.Tasks.{Task, ends}
 use Rattle.rk_scripts.proofs.settle.Tracking.{IsTracked, IsTrackedTo, tracking}
 use Rattle.rk_scripts.proofs.settle.Walking.{HasTurned}
 use Rattle.rk_scripts.proofs.settle.Worn.{sent_below}
+use Rattle.rk_inv_lanes.proofs.lanes.Visits.{accept_covered}
 
 -- ---- arrivals that change no node
 
@@ -37,19 +37,8 @@ same_itself v = record { coordinator = refl; each = λ q. refl; crashed = refl }
 
 module _ (v : World) where
   accepted_same : (number : ℕ) (session : Session) → IsSameAs v (world_visited v (accept v number session))
-  accepted_same number session = go (accept_refusal v number session.client (get v.wire.messages number))
-    where
-      by : (found : Option Message) → IsSameAs v (accepting v session found).world
-      by None = same_itself v
-      by (Some message) = asked_here (is_asked_here v session)
-        where
-          asked_here : (b : Bool) → IsSameAs v (cond b (taking v session message.body) (untouched v session (Some Taken.Ignored))).world
-          asked_here true = record { coordinator = refl; each = λ q. refl; crashed = refl }
-          asked_here false = same_itself v
-
-      go : (refused : Option StepError) → IsSameAs v (world_visited v (accept_by v number session refused))
-      go None = by (get v.wire.messages number)
-      go (Some error) = same_itself v
+  accepted_same number session =
+      accept_covered (IsSameAs v) v session (same_itself v) number (λ body. record { coordinator = refl; each = λ q. refl; crashed = refl })
 
   stored_nodes : (number : ℕ) (store : Segments → Segments) (found : Option Segments) → IsSameAs v (with_stored_by v number store found)
   stored_nodes number store None = same_itself v
@@ -73,14 +62,8 @@ module _ (v : World) where
       go false = record { coordinator = refl; each = λ q. refl; crashed = refl }
 
   client_same : (n client : ℕ) (message : Message) (arrival : Arrival) → get v.wire.messages n ≡ Some message → message.to ≡ Node.Client client → IsSameAs v (arrived v n arrival)
-  client_same n client message (Delivers called) found to_is = go (refusal v (Event.Deliver n))
-    where
-      go : (refused : Option StepError) → IsSameAs v (world_stepped v (stepped_by v (Event.Deliver n) called refused))
-      go None = subst (λ (o : Option Message). IsSameAs v (delivered v o called).world) (sym found)
-          (subst (λ (to : Node). IsSameAs v (delivered_to v message to called).world) (sym to_is) (record { coordinator = refl; each = λ q. refl; crashed = refl }))
-      go (Some error) = same_itself v
-  client_same n client message (Accepts session) found to_is = accepted_same n session
-  client_same n client message Loses found to_is = same_itself v
+  client_same n client message arrival found to_is =
+      grind (arith, refusal, world_stepped, stepped_by, delivered, delivered_to, same_itself, accepted_same)
 
 -- ---- what goes on at masters
 
@@ -92,11 +75,7 @@ module _ (number : ℕ) (w : World) where
     pub each : (q : ℕ) → Onward (tablet_in w q number).handover (tablet_in v q number).handover
 
   on_same : (v u : World) → IsSameAs v u → IsOn v → IsOn u
-  on_same v u same on = record {
-    coordinator = same.coordinator ∙ on.coordinator;
-    crashed = same.crashed ∙ on.crashed;
-    each = λ q. subst (λ (it : Master). Onward (tablet_in w q number).handover (tablet_at it number).handover) (sym (same.each q)) (on.each q);
-  }
+  on_same v u same on = grind (arith, tablet_in, tablet_at)
 
   on_forgotten : (v : World) (n : ℕ) → IsOn v → IsOn (forgotten v n)
   on_forgotten v n on = forgotten_cases IsOn v n on (record { coordinator = on.coordinator; crashed = on.crashed; each = on.each })
@@ -230,55 +209,17 @@ module _ (s : Setting) (lane : ℕ) (inside : lane < LANES) (origin : Cluster) (
 -- ---- log exchanges
 
 pub log_quiet : (c : Coordinator) (sender : Node) (body : Body) → is_on log_topic body ≡ true → (told_coordinator c sender body).coordinator ≡ c
-log_quiet c (Node.Client client) (Body.Lookup lookup) on = absurd (false≢true on)
-log_quiet c (Node.Master m) (Body.Ready it) on = absurd (false≢true on)
-log_quiet c (Node.Master m) (Body.Transfer it) on = absurd (false≢true on)
-log_quiet c (Node.Master m) (Body.Joined it) on = absurd (false≢true on)
-log_quiet c (Node.Master m) (Body.Rebuilt it) on = absurd (false≢true on)
-log_quiet c _ body on = refl
+log_quiet c sender body on = grind (arith, false≢true)
 
 pub log_steps : (number : ℕ) (master : Master) (sender : Node) (body : Body) → IsInOrder master.tablets → is_on log_topic body ≡ true → GoesOnAt number master (told_master master sender body).master
-log_steps number master (Node.Client client) (Body.Request it) order on = absurd (false≢true on)
-log_steps number master Node.Coordinator (Body.Prepare it) order on = absurd (false≢true on)
-log_steps number master Node.Coordinator (Body.Close it) order on = absurd (false≢true on)
-log_steps number master Node.Coordinator (Body.Grant it) order on = absurd (false≢true on)
-log_steps number master Node.Coordinator (Body.Own it) order on = absurd (false≢true on)
-log_steps number master Node.Coordinator (Body.Release it) order on = absurd (false≢true on)
-log_steps number master Node.Coordinator (Body.Rebuild it) order on = absurd (false≢true on)
-log_steps number master (Node.Master m) (Body.Pull it) order on = absurd (false≢true on)
-log_steps number master (Node.Master m) (Body.Pulled it) order on = absurd (false≢true on)
-log_steps number master (Node.Master m) (Body.Want it) order on = absurd (false≢true on)
-log_steps number master (Node.Master m) (Body.Got it) order on = absurd (false≢true on)
-log_steps number master (Node.Backup backup) (Body.Stored stored) order on =
-    stored_on number master backup stored (overreach master.log stored.segment stored.length) order
-log_steps number master (Node.Backup backup) (Body.Copy it) order on = absurd (false≢true on)
-log_steps number master _ body order on = onward_itself (tablet_at master number).handover
+log_steps number master sender body order on = grind (arith, stored_on, overreach, onward_itself, tablet_at, false≢true)
 
 -- ---- pulls
 
 pub pull_quiet : (tablet : ℕ) (c : Coordinator) (sender : Node) (body : Body) → is_on (pull_topic tablet) body ≡ true → (told_coordinator c sender body).coordinator ≡ c
-pull_quiet tablet c (Node.Client client) (Body.Lookup lookup) on = absurd (false≢true on)
-pull_quiet tablet c (Node.Master m) (Body.Ready it) on = absurd (false≢true on)
-pull_quiet tablet c (Node.Master m) (Body.Transfer it) on = absurd (false≢true on)
-pull_quiet tablet c (Node.Master m) (Body.Joined it) on = absurd (false≢true on)
-pull_quiet tablet c (Node.Master m) (Body.Rebuilt it) on = absurd (false≢true on)
-pull_quiet tablet c _ body on = refl
+pull_quiet tablet c sender body on = grind (arith, false≢true)
 
 pub pull_steps : (tablet number : ℕ) (master : Master) (sender : Node) (body : Body) → IsInOrder master.tablets → is_on (pull_topic tablet) body ≡ true
     → GoesOnAt number master (told_master master sender body).master
-pull_steps tablet number master (Node.Client client) (Body.Request it) order on = absurd (false≢true on)
-pull_steps tablet number master Node.Coordinator (Body.Prepare it) order on = absurd (false≢true on)
-pull_steps tablet number master Node.Coordinator (Body.Close it) order on = absurd (false≢true on)
-pull_steps tablet number master Node.Coordinator (Body.Grant it) order on = absurd (false≢true on)
-pull_steps tablet number master Node.Coordinator (Body.Own it) order on = absurd (false≢true on)
-pull_steps tablet number master Node.Coordinator (Body.Release it) order on = absurd (false≢true on)
-pull_steps tablet number master Node.Coordinator (Body.Rebuild it) order on = absurd (false≢true on)
-pull_steps tablet number master (Node.Master m) (Body.Pull pull) order on =
-    either_is (GoesOnAt number master) (is_frozen_at (tablet_at master pull.tenure.tablet) pull.tenure.term) _ (changed master)
-    (onward_itself (tablet_at master number).handover) (onward_itself (tablet_at master number).handover)
-pull_steps tablet number master (Node.Master m) (Body.Pulled pulled) order on = pulled_on number master pulled
-pull_steps tablet number master (Node.Master m) (Body.Want it) order on = absurd (false≢true on)
-pull_steps tablet number master (Node.Master m) (Body.Got it) order on = absurd (false≢true on)
-pull_steps tablet number master (Node.Backup backup) (Body.Stored stored) order on = absurd (false≢true on)
-pull_steps tablet number master (Node.Backup backup) (Body.Copy it) order on = absurd (false≢true on)
-pull_steps tablet number master _ body order on = onward_itself (tablet_at master number).handover
+pull_steps tablet number master sender body order on =
+    grind (arith, either_is, is_frozen_at, tablet_at, changed, onward_itself, pulled_on, false≢true)

@@ -1,14 +1,14 @@
 -- The rounds of `settle`: each one leaves all wires empty, and each that begins so leaves fewer messages to be sent, or the cluster at rest.
-use Rattle.std.proofs.Common.{◌≡◌, ◌<◌, ◌≤◌, ◌+◌, ℕ, zero, suc, Bool, true, false, cond, List, [], ◌∷◌, ◌++◌, length, None, Some, refl, sym}
+use Rattle.std.proofs.Common.{◌≡◌, ◌<◌, ◌≤◌, ◌+◌, ℕ, zero, suc, Bool, true, false, cond, List, [], ◌∷◌, ◌++◌, length, refl, sym}
 use Rattle.std.proofs.Common.{ap, subst, ◌∙◌, append-nil, append_assoc, inl, inr, ⊎_elim, arith, ◌⊎◌, flat_map}
-use Rattle.rk_scripts.proofs.Words.{range_with_len, cases_eq, cases_lt, none-some, LANES, Cluster, lane_at, World, is_quiet_lane}
-use Rattle.rk_scripts.proofs.Words.{clients_in, Course, is_at_limit, with_tasks, is_at_rest, lane_tasks, round_of, AreAdded, SettleError}
+use Rattle.rk_scripts.proofs.Words.{range_with_len, cases_eq, cases_lt, none-some, LANES, Cluster, lane_at, is_quiet_lane}
+use Rattle.rk_scripts.proofs.Words.{clients_in, Course, is_at_limit, with_tasks, is_at_rest, lane_tasks, round_of}
 use Rattle.rk_scripts.proofs.settle.Emptying.{IsSilent}
 use Rattle.rk_scripts.proofs.settle.Following.{Follows, follows_itself}
 use Rattle.rk_scripts.proofs.settle.Going.{Comes, Goes, IsAt, goes_done, goes_here, goes_on, goes_then, one_move, still_move}
 use Rattle.rk_scripts.proofs.settle.NoticesFirst.{AreNoticed}
 use Rattle.rk_scripts.proofs.settle.Numbers.{left_no_more, sends_left}
-use Rattle.rk_scripts.proofs.settle.Passing.{IsLeftQuiet, IsPassed, passing_idle, passing_walked}
+use Rattle.rk_scripts.proofs.settle.Passing.{IsPassed, passing_idle, passing_walked}
 use Rattle.rk_scripts.proofs.settle.Resting.{rests}
 use Rattle.rk_scripts.proofs.settle.Setting.{Setting, eight}
 use Rattle.rk_scripts.proofs.settle.Tasks.{Task, begins, ends, settles}
@@ -48,31 +48,8 @@ module _ (s : Setting) where
   -- one more lane is passed
   passed_one : (lane : ℕ) (inside : lane < LANES) (most : ℕ) (rest before_rest : List Task) (course later : Course) → Follows course.cluster later.cluster
       → IsRound most lane before_rest course → IsPassed s lane inside most rest course.cluster later → IsRound most (lane + 1) rest later
-  passed_one lane inside most rest before_rest course later follows round passed = record {
-    left = passed.left;
-    noticed = λ q within. (follows q).noticed (round.noticed q within);
-    silent = below_next (λ q. IsSilent (lane_at later.cluster q)) lane
-        (λ q below. subst IsSilent (sym (passed.beside q (λ is. omega (arith, below, is)))) (round.silent q below)) passed.silent;
-    mode = ⊎_elim
-        (λ (risen : sends_left course.cluster < most).
-        let no_more = left_no_more course.cluster later.cluster (λ q. (follows q).sent) in inl (omega (arith, no_more, risen)))
-        (λ (calm : IsCalm most lane course.cluster).
-        ⊎_elim (λ (risen : sends_left later.cluster < most). inl risen)
-        (λ (left_quiet : IsLeftQuiet s lane inside most rest course.cluster later.cluster). inr (still calm left_quiet)) passed.mode)
-        round.mode;
-  }
-    where
-      still : IsCalm most lane course.cluster → IsLeftQuiet s lane inside most rest course.cluster later.cluster → IsCalm most (lane + 1) later.cluster
-      still calm left_quiet = record {
-        limit = left_quiet.limit;
-        silent = λ q within.
-            ⊎_elim (λ (is : q ≡ lane). subst (λ (l : ℕ). IsSilent (lane_at later.cluster l)) (sym is) passed.silent)
-            (λ (apart : q ≡ lane → ⊥). subst IsSilent (sym (passed.beside q apart)) (calm.silent q within)) (cases_eq q lane);
-        quiet = below_next (λ q. is_quiet_lane (lane_at later.cluster q) ≡ true) lane
-            (λ q below. subst (λ (w : World). is_quiet_lane w ≡ true) (sym (passed.beside q (λ is. omega (arith, below, is)))) (calm.quiet q below)) left_quiet.quiet;
-        calls = below_next (λ q. clients_in q later.cluster.sessions ≡ []) lane
-            (λ q below. ap (clients_in q) left_quiet.sessions ∙ calm.calls q below) left_quiet.calls;
-      }
+  passed_one lane inside most rest before_rest course later follows round passed =
+      grind (arith, below_next, lane_at, sends_left, left_no_more, cases_eq, is_quiet_lane, clients_in)
 
   -- the lanes are passed, one after the other
   lanes_pass : (most count from : ℕ) → from + count ≡ LANES → (rest : List Task) (before : Cluster) (course : Course) → Comes s before course
@@ -98,25 +75,12 @@ module _ (s : Setting) where
 
   -- a round begins, unless replicas have failed too often
   pub begin : (rest : List Task) (before : Cluster) (course : Course) → Comes s before course → course.tasks ≡ begins ∷ rest → Goes s before course (IsAt course.cluster rest)
-  begin rest before course comes are =
-      one_move s before course (begins ∷ rest) (IsAt course.cluster rest) comes are (λ none. go (is_at_limit course) none)
-    where
-      go : (b : Bool) → cond b (Some (SettleError.Replica course.faults)) None ≡ None
-          → AreAdded (cond b course (with_tasks course rest)).cluster × IsAt course.cluster rest (cond b course (with_tasks course rest))
-      go true none = absurd (none-some (SettleError.Replica course.faults) (sym none))
-      go false none = (comes.sane.added, record { cluster_is = refl; tasks_are = refl })
+  begin rest before course comes are = grind (arith, one_move, begins, is_at_limit, with_tasks, none-some)
 
   -- a cluster that is found to be at rest is the end
   rest_ends : (before : Cluster) (course : Course) (P : Course → Type 0) → Comes s before course → course.tasks ≡ settles ∷ [] → is_at_rest course.cluster ≡ true
       → Goes s before course P
-  rest_ends before course P comes are at_rest = goes_on s before course (IsAt course.cluster []) P
-      (still_move s before course settles [] [] (IsAt course.cluster []) comes are
-      (record {
-        cluster_is = refl;
-        tasks_are = ap (λ (b : Bool). (cond b [] (round_of (flat_map lane_tasks (range_with_len 0 (length course.cluster.lanes))) ++ settles ∷ [])) ++ []) at_rest;
-      })
-      (λ next at. at))
-      (λ later comes_later at. goes_done s before later P (inl at.tasks_are))
+  rest_ends before course P comes are at_rest = grind (arith, goes_on, still_move, settles, round_of, lane_tasks, goes_done)
 
   -- a round, where the cluster is not at rest
   round : (most : ℕ) (before : Cluster) (course : Course) → Comes s before course → course.tasks ≡ settles ∷ [] → is_at_rest course.cluster ≡ false

@@ -1,7 +1,7 @@
 -- Who sends on its turn in a migration: a target that pulls, and one that has all but is not done with its closing entry.
 use Rattle.std.proofs.Common.{◌≡◌, ◌<◌, ◌≤◌, ◌+◌, ◌-◌, ◌==◌, ◌&&◌, ◌++◌, ℕ, zero, suc, Bool, true, false, cond, not, List, [], ◌∷◌, length}
 use Rattle.std.proofs.Common.{get_or, find, map, All, Option, None, Some, is_some, refl, sym, ap, subst, ◌∙◌, ⊎_elim, arith, length-append}
-use Rattle.std.proofs.Common.{unwrap_or, option_map, nat_cmp, eq-eqb}
+use Rattle.std.proofs.Common.{option_map, nat_cmp, eq-eqb}
 use Rattle.rk_scripts.proofs.Words.{list_all, range_with_len, option_map_or, option_or, eq_by_cmp, cases_lt, false≢true, length-map}
 use Rattle.rk_scripts.proofs.Words.{All-head, All-tail, get_or-range_with_len, length-range_with_len, none-some, NumberMap, get}
 use Rattle.rk_scripts.proofs.Words.{FIRST_SIDE_SEGMENT, NumberedBytes, Known, is_whole, is_side_stored, known_of, numbered, segment_of}
@@ -13,7 +13,6 @@ use Rattle.std.proofs.lemmas.List.Folds.{length-flat_map-take}
 use Rattle.rk_log.specs.Log.{missing, pending}
 use Rattle.rk_log.specs.Piece.{PlacedBytes}
 use Rattle.rk_world.specs.MasterTurn.{append_of, appends, pull_of, want_of}
-use Rattle.rk_world.specs.RoleTests.{is_receiving}
 use Rattle.rk_scripts.proofs.settle.Exchanged.{Sends}
 
 -- ---- a turn that sends
@@ -62,17 +61,7 @@ duties_send (entry ∷ rest) now number tablet found is =
     go false there later = omega (arith, later there)
 
 pub receiving_sends : (w : World) (m number : ℕ) → has_crashed w m ≡ false → (tablet_in w m number).handover.role ≡ Role.Receiving → Sends w (Node.Master m)
-receiving_sends w m number living is = turn_sends w m living
-    (omega (
-      arith,
-      length-append (appends (master_at w m)) (duties (master_at w m) (master_at w m).tablets).sends,
-      go (get (master_at w m).tablets number) refl is,
-    ))
-  where
-    go : (it : Option Tablet) → get (master_at w m).tablets number ≡ it → (unwrap_or it no_tablet).handover.role ≡ Role.Receiving
-        → 1 ≤ length (duties (master_at w m) (master_at w m).tablets).sends
-    go None at never = absurd (false≢true (ap is_receiving never))
-    go (Some tablet) at role_is = duties_send (master_at w m).tablets (master_at w m) number tablet at role_is
+receiving_sends w m number living is = grind (arith, turn_sends, length-append, master_at, duties, no_tablet, false≢true, duties_send)
 
 -- ---- a target whose side segments are not all stored
 
@@ -195,9 +184,4 @@ pub waiting_sends : (w : World) (m number : ℕ) → has_crashed w m ≡ false �
     → All (λ n. FIRST_SIDE_SEGMENT ≤ n) (tablet_in w m number).pulling.sealed
     → All (λ n. n < FIRST_SIDE_SEGMENT + length (master_at w m).log.sides) (tablet_in w m number).pulling.sealed
     → is_sealed_stored (master_at w m) (tablet_in w m number) ≡ false → Sends w (Node.Master m)
-waiting_sends w m number living backed low high fails = turn_sends w m living
-    (omega (
-      arith,
-      length-append (appends (master_at w m)) (duties (master_at w m) (master_at w m).tablets).sends,
-      sealed_sent (master_at w m) (tablet_in w m number).pulling.sealed backed low high fails,
-    ))
+waiting_sends w m number living backed low high fails = grind (arith, turn_sends, length-append, master_at, duties, sealed_sent, tablet_in)

@@ -1,12 +1,13 @@
 -- `settle` ends.
-use Rattle.std.proofs.Common.{◌≡◌, ◌≤◌, ℕ, zero, suc, true, List, [], ◌∷◌, refl, sym, subst, inl, inr, ⊎_elim}
+use Rattle.std.proofs.Common.{arith}
+use Rattle.std.proofs.Common.{◌≡◌, ◌≤◌, ℕ, zero, suc, List, [], ◌∷◌, refl, inl, inr, ⊎_elim}
 use Rattle.rk_scripts.proofs.Words.{LANES, MOST_BACKUPS, Cluster, Occurrence, cluster_run, new_cluster, IsRun, MOST_MASTERS, Fate, Kept}
 use Rattle.rk_scripts.proofs.Words.{Course, moved, moved_all, is_at_rest, settled_rests, IsWell, moved_well, well_other, settle_are}
 use Rattle.rk_scripts.proofs.Words.{AreAdded, Adversary, Ends, Rests, Stops, after_moves, settling}
 use Rattle.rk_scripts.specs.settle.Moves.{HasSettled, faultless}
 use Rattle.rk_scripts.proofs.play.Masters.{names_masters}
 use Rattle.rk_scripts.proofs.play.Reaching.{IsReached}
-use Rattle.rk_scripts.proofs.settle.Going.{Comes, Goes, IsDone, comes_here, goes_then}
+use Rattle.rk_scripts.proofs.settle.Going.{Goes, comes_here, goes_then}
 use Rattle.rk_scripts.proofs.settle.NoticesFirst.{AreNoticed, notices_first}
 use Rattle.rk_scripts.proofs.settle.Rounds.{Never, rounds}
 use Rattle.rk_scripts.proofs.settle.Setting.{IsSane, Setting}
@@ -25,12 +26,7 @@ fates_lead adversary zero course = refl
 fates_lead adversary (suc moves) course = fates_lead adversary moves (moved course (adversary course))
 
 settled_at_end : (adversary : Adversary) (moves : ℕ) (cluster : Cluster) → (after_moves adversary moves (settling cluster)).tasks ≡ [] → HasSettled (after_moves adversary moves (settling cluster))
-settled_at_end adversary moves cluster none =
-    let same = fates_lead adversary moves (settling cluster) in (
-      none,
-      subst (λ (course : Course). is_at_rest course.cluster ≡ true) (sym same)
-          (settled_rests cluster (fates_of adversary moves (settling cluster)) (subst (λ (course : Course). course.tasks ≡ []) same none)),
-    )
+settled_at_end adversary moves cluster none = grind (arith, fates_lead, settling, is_at_rest, settled_rests, fates_of)
 
 -- ---- settle ends
 
@@ -52,15 +48,7 @@ module _ (adversary : Adversary) (masters backups : ℕ) (cluster : Cluster) (re
 
   -- from a cluster to which a run of a new one has led
   pub reached_ends : Ends adversary (settling cluster)
-  reached_ends = record {
-    moves = goes.moves;
-    over = ⊎_elim
-        (λ (done : IsDone (after_moves adversary goes.moves (settling cluster))).
-        ⊎_elim (λ (none : (after_moves adversary goes.moves (settling cluster)).tasks ≡ []). inl (settled_at_end adversary goes.moves cluster none))
-        (λ (stops : Stops (after_moves adversary goes.moves (settling cluster))). inr stops) done)
-        (λ (never : Comes s cluster (after_moves adversary goes.moves (settling cluster)) × Never (after_moves adversary goes.moves (settling cluster))). absurd never.1)
-        goes.is;
-  }
+  reached_ends = grind (arith, goes, after_moves, settling, settled_at_end)
 
 pub settle_ends : (masters backups : ℕ) (before : List Occurrence) (adversary : Adversary) → masters ≤ MOST_MASTERS → 1 ≤ backups → backups ≤ MOST_BACKUPS
     → IsRun (new_cluster masters backups) before → AreAdded (cluster_run (new_cluster masters backups) before)

@@ -14,7 +14,8 @@ use Rattle.rk_scripts.proofs.settle.Exchanging.{forgotten_no_more, tested_there}
 use Rattle.rk_scripts.proofs.settle.Going.{Comes, Goes, IsAt, alone_fresh, goes_here, goes_on, occurs_move, still_move}
 use Rattle.rk_scripts.proofs.settle.Lanes.{IsSameBeside, stepped_changes}
 use Rattle.rk_scripts.proofs.settle.NoticesFirst.{formed_at}
-use Rattle.rk_scripts.proofs.settle.Noticing.{in_range, is_in, none_found, one_of}
+use Rattle.rk_scripts.proofs.settle.Noticing.{is_in, one_of, in_range}
+use Rattle.rk_inv_lanes.proofs.late.Tests.{none_passes}
 use Rattle.rk_scripts.proofs.settle.Pending.{arrived_old, forgotten_gone, forgotten_less}
 use Rattle.rk_scripts.proofs.settle.Setting.{Setting, eight}
 use Rattle.rk_scripts.proofs.settle.Staging.{good_at}
@@ -79,11 +80,7 @@ module _ (topic : Topic) where
         → get w.wire.messages n ≡ Some message → is_on topic message.body ≡ true → ArrivesAt w n message.to arrival → Holds from w → Holds n (taken_off w n arrival)
 
   off_is : (w : World) (n : ℕ) → is_number_off w.wire topic n ≡ true → IsOffAt w n
-  off_is w n off message found = unnot (is_on topic message.body) (ap (is_message_off topic) (sym found) ∙ off)
-    where
-      unnot : (b : Bool) → not b ≡ true → b ≡ false
-      unnot true is = absurd (false≢true is)
-      unnot false is = refl
+  off_is w n off message found = grind (arith, is_on, false≢true)
 
   off_tested : (w : World) (n : ℕ) (message : Message) → get w.wire.messages n ≡ Some message → is_on topic message.body ≡ false → is_number_off w.wire topic n ≡ true
   off_tested w n message found off = ap (is_message_off topic) found ∙ ap not off
@@ -228,7 +225,7 @@ module _ (s : Setting) (lane : ℕ) (inside : lane < LANES) (origin : Cluster) (
                 (λ n message after found.
                 let there = between from w.wire.sent n after (within n message found) in
                 let missing : is_there w.wire n ≡ false =
-                one_of (λ (k : ℕ). is_there w.wire k ≡ false) (sent_after w.wire from) n (none_found (is_there w.wire) (sent_after w.wire from) is)
+                one_of (λ (k : ℕ). is_there w.wire k ≡ false) (sent_after w.wire from) n (none_passes (is_there w.wire) (sent_after w.wire from) is)
                 (in_range (from + 1) (w.wire.sent - from) n there.0 there.1) in
                 false≢true (sym missing ∙ ap is_some found));
           })

@@ -1,11 +1,11 @@
 -- What the turns of the coordinator and of masters leave as it was: the rows, who has crashed, and what is staged at each master. A turn
 -- sends something, or leaves the wire as it was.
-use Rattle.std.proofs.Common.{◌≡◌, ◌<◌, ℕ, Bool, true, false, cond, nat_lt, List, [], ◌∷◌, Option, Some, None, refl, sym, ap, ◌∙◌, inl, inr}
-use Rattle.std.proofs.Common.{⊎_elim, arith, ◌⊎◌, drop, map, unwrap_or}
-use Rattle.rk_scripts.proofs.Words.{cases_eq, NumberMap, get_other, get_same, Node, Log, Role, Traffic, Message, Reading, coordinator_turn}
+use Rattle.std.proofs.Common.{◌≡◌, ◌<◌, ℕ, Bool, true, false, cond, nat_lt, List, [], ◌∷◌, Option, Some, None, refl, ◌∙◌, inl, inr}
+use Rattle.std.proofs.Common.{arith, ◌⊎◌}
+use Rattle.rk_scripts.proofs.Words.{cases_eq, NumberMap, get_other, get_same, Node, Role, Traffic, Message, Reading, coordinator_turn}
 use Rattle.rk_scripts.proofs.Words.{next_reading, Master, new_master, staged, duties, master_turn, reading_duty, tablet_duty, filled}
 use Rattle.rk_scripts.proofs.Words.{ledger_after, turned, with_sends, worked_at, Tablet, Worked, changed, World, master_at, with_ledger}
-use Rattle.rk_scripts.proofs.Words.{with_master, sent_all}
+use Rattle.rk_scripts.proofs.Words.{with_master, sent_all, with_outstanding, with_tablet}
 
 -- ---- a master's turn
 
@@ -20,35 +20,29 @@ keeps_itself master = record { log = refl; applied = refl }
 keeps_on : (a b c : Master) → KeepsLog a b → KeepsLog b c → KeepsLog a c
 keeps_on a b c first second = record { log = second.log ∙ first.log; applied = second.applied ∙ first.applied }
 
-either_keeps : (b : Bool) (master : Master) (one other : Worked) → KeepsLog master one.master → KeepsLog master other.master → KeepsLog master (cond b one other).master
-either_keeps true master one other first second = first
-either_keeps false master one other first second = second
+pub either_is : (P : Master → Type 0) (test : Bool) (one other : Worked) → P one.master → P other.master → P (cond test one other).master
+either_is P true one other first second = first
+either_is P false one other first second = second
 
-reading_keeps : (master : Master) (number : ℕ) (tablet : Tablet) (reading : Option Reading) → KeepsLog master (reading_duty master number tablet reading).master
-reading_keeps master number tablet None = keeps_itself master
-reading_keeps master number tablet (Some reading) = keeps_itself master
+reading_is : (P : Master → Type 0) (now : Master) (n : ℕ) (tablet : Tablet) (reading : Option Reading) → P now → P (reading_duty now n tablet reading).master
+reading_is P now n tablet None same = same
+reading_is P now n tablet (Some reading) same = same
 
-duty_keeps : (master : Master) (number : ℕ) (tablet : Tablet) (role : Role) → KeepsLog master (tablet_duty master number tablet role).master
-duty_keeps master number tablet Role.Receiving = record { log = refl; applied = refl }
-duty_keeps master number tablet (Role.Joining (Some entry)) =
-    either_keeps (nat_lt entry master.applied) master _ (changed master) (keeps_itself master) (keeps_itself master)
-duty_keeps master number tablet (Role.Rebuilding from None) = reading_keeps master number tablet (next_reading tablet.gather)
-duty_keeps master number tablet (Role.Rebuilding from (Some entry)) =
-    either_keeps (nat_lt entry master.applied) master _ (changed master) (keeps_itself master) (keeps_itself master)
-duty_keeps master number tablet _ = keeps_itself master
+-- a duty changes nothing, or asks for what is wanted first
+pub duty_is : (P : Master → Type 0) (now : Master) (n : ℕ) (tablet : Tablet) (role : Role) → P now → P (with_tablet now n (with_outstanding tablet)) → P (tablet_duty now n tablet role).master
+duty_is P now n tablet role same asks = grind (arith, either_is, nat_lt, changed, reading_is, next_reading)
 
 duties_keep : (tablets : NumberMap Tablet) (master : Master) → KeepsLog master (duties master tablets).master
 duties_keep [] master = keeps_itself master
 duties_keep ((number, tablet) ∷ others) master =
     let now : Master = (tablet_duty master number tablet tablet.handover.role).master in
-    keeps_on master now (duties now others).master (duty_keeps master number tablet tablet.handover.role) (duties_keep others now)
+    keeps_on master now (duties now others).master
+    (duty_is (KeepsLog master) master number tablet tablet.handover.role (keeps_itself master) (record { log = refl; applied = refl }))
+    (duties_keep others now)
 
 -- what is staged stays so
 turn_stages : (master : Master) → staged (master_turn master).master ≡ staged master
-turn_stages master =
-    let keeps = duties_keep master.tablets master in
-    let now : Master = (duties master master.tablets).master in
-    ap (λ (count : ℕ). drop count now.log.entries) keeps.applied ∙ ap (λ (log : Log). drop master.applied log.entries) keeps.log
+turn_stages master = grind (arith, duties_keep, duties)
 
 -- ---- what is sent
 
@@ -76,23 +70,10 @@ module _ (w : World) where
   -- one master is another, where the same is staged
   staged_there : (number : ℕ) (now : Master) → staged now ≡ staged (master_at w number) → (master : ℕ)
       → staged (master_at (with_master w number now) master) ≡ staged (master_at w master)
-  staged_there number now same master = ⊎_elim
-      (λ (is : master ≡ number).
-      ap (λ (o : Option Master). staged (unwrap_or o (new_master master []))) (get_same w.masters number now master is)
-      ∙ same ∙ ap (λ (n : ℕ). staged (master_at w n)) (sym is))
-      (λ (apart : master ≡ number → ⊥).
-      ap (λ (o : Option Master). staged (unwrap_or o (new_master master []))) (get_other w.masters number now master apart))
-      (cases_eq master number)
+  staged_there number now same master = grind (arith, staged, new_master, get_same, master_at, get_other, cases_eq)
 
   worked_turned : (number : ℕ) (worked : Worked) → staged worked.master ≡ staged (master_at w number) → IsTurned w (worked_at w number 0 worked).world
-  worked_turned number worked same =
-      let ledger = ledger_after w.ledger number 0 worked in
-      record {
-        coordinator = refl;
-        crashed = refl;
-        staged_is = staged_there number worked.master same;
-        wire = sends_or_not (with_ledger (with_master w number worked.master) ledger) (map (filled ledger.journal worked.served) worked.sends);
-      }
+  worked_turned number worked same = grind (arith, ledger_after, staged_there, sends_or_not, with_ledger, with_master, filled)
 
   pub turn_turned : (node : Node) → IsTurned w (turned w node).world
   turn_turned Node.Coordinator =

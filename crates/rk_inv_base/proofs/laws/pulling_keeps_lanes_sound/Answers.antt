@@ -1,7 +1,7 @@
+use Rattle.rk_inv_base.proofs.laws.pulling_keeps_lanes_sound.Goals as goal
 use Rattle.rk_inv_base.proofs.pulls.HashWanted.{sound_wanted, sound_asked_for}
 use Rattle.rk_inv_base.proofs.pulls.HashesResolved.{sound_resolved}
 use Rattle.rk_inv_base.proofs.pulls.TokenPassed.{sound_passed}
-use Rattle.rk_inv_base.proofs.laws.pulling_keeps_lanes_sound.Goals as goal
 
 pub returns-clause-wanted : goal.returns-clause-wanted
 returns-clause-wanted c = sound_wanted

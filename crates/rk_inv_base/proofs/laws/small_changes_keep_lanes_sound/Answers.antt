@@ -1,3 +1,4 @@
+use Rattle.rk_inv_base.proofs.laws.small_changes_keep_lanes_sound.Goals as goal
 use Rattle.rk_inv_base.proofs.wire.Sent.{sound_sent}
 use Rattle.rk_inv_base.proofs.wire.Forgotten.{sound_forgotten}
 use Rattle.rk_inv_base.proofs.calls.Come.{sound_come}
@@ -19,7 +20,6 @@ use Rattle.rk_inv_base.proofs.rows.MigrationBegun.{sound_migrated}
 use Rattle.rk_inv_base.proofs.rows.CrashNoticed.{sound_crash_noticed}
 use Rattle.rk_inv_base.proofs.pulls.Replayed.{sound_replayed}
 use Rattle.rk_inv_base.proofs.rows.RowAdded.{sound_added}
-use Rattle.rk_inv_base.proofs.laws.small_changes_keep_lanes_sound.Goals as goal
 
 pub returns-clause-sent : goal.returns-clause-sent
 returns-clause-sent c = sound_sent

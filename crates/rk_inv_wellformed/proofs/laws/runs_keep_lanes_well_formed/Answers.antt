@@ -3,7 +3,4 @@ use Rattle.rk_inv_wellformed.proofs.lanes.Whole.{formed_run}
 use Rattle.rk_inv_wellformed.proofs.room.RoomEvents.{room_run}
 
 pub returns : goal.returns
-returns c = record {
-  run = formed_run;
-  room = λ w list formed calm may number fits. room_run w list may calm formed number fits;
-}
+returns c = record { run = formed_run; room = λ w list formed calm may number fits. room_run w list may calm formed number fits }

@@ -1,5 +1,5 @@
 use Rattle.rk_inv_events.proofs.laws.pulls.pulls_keep_lanes_sound.Goals as goal
-use Rattle.rk_inv_events.proofs.pulls.Answered.{sound_got}
+use Rattle.rk_inv_events.proofs.pulls.Targets.{sound_got}
 use Rattle.rk_inv_events.proofs.pulls.Batches.{sound_pulled}
 use Rattle.rk_inv_events.proofs.pulls.Sources.{sound_pull, sound_want}
 

@@ -1,4 +1,4 @@
-use Rattle.rk_inv_events.proofs.stored.AllApplied.{sound_all_applied}
+use Rattle.rk_inv_events.proofs.stored.StoredTaken.{sound_all_applied}
 use Rattle.rk_inv_events.proofs.laws.stored.entries_in_a_row_keep_lanes_sound.Goals as goal
 
 pub returns : goal.returns

@@ -1,4 +1,4 @@
-use Rattle.rk_inv_events.proofs.stored.GoingOn.{sound_going_on}
+use Rattle.rk_inv_events.proofs.stored.StoredTaken.{sound_going_on}
 use Rattle.rk_inv_events.proofs.laws.stored.tablets_that_go_on_keep_lanes_sound.Goals as goal
 
 pub returns : goal.returns

@@ -1,5 +1,4 @@
-use Rattle.rk_inv_lanes.proofs.late.Lanes.{older_changes_nothing, passed_changes_nothing, passed_is_silent, ready_again_sent}
-use Rattle.rk_inv_lanes.proofs.late.Lanes.{transfer_sent}
+use Rattle.rk_inv_lanes.proofs.late.Lanes.{older_changes_nothing, passed_changes_nothing, passed_is_silent, ready_again_sent, transfer_sent}
 use Rattle.rk_inv_lanes.proofs.laws.late.late_orders_change_nothing.Goals as goal
 
 pub returns : goal.returns
