@@ -4,7 +4,7 @@ use Rattle.std.specs.Prelude.{IfSome, IsSomeAnd, slice_index_or}
 use Rattle.rk_types.specs.NumberMap.{get}
 use Rattle.rk_outside.specs.Segments.{Segments}
 use Rattle.rk_world.specs.Backup.{Called, Gave}
-use Rattle.rk_world.specs.Calls.{Visited, accept, accept_by, ask, ask_by}
+use Rattle.rk_world.specs.Calls.{Visited, accept, ask, ask_by}
 use Rattle.rk_world.specs.Client.{Session}
 use Rattle.rk_world.specs.Refusals.{accept_refusal, ask_refusal}
 use Rattle.rk_world.specs.World.{World}
@@ -52,13 +52,7 @@ module _ {R : Type 0} (segments : R → Option Segments) where
   }
 
   pub sending_one : (old new : LaneState R) (seen : Seen) (worn : Option ℕ) → (seen.sent == 0) ≡ false → IsHanded segments old new seen.first worn → IsSending segments old new seen worn
-  sending_one old new seen worn some it = record {
-    called = it.called;
-    may = it.may;
-    comes =
-        comes_as segments old new (λ w. handed (started w) seen.first it.called) (has_come worn) (λ w. sent_on w seen it.called) (has_come worn) it.comes
-        (λ w v of_old of_new one. ap (sent_by w seen it.called) some ∙ one);
-  }
+  sending_one old new seen worn some it = grind (arith, comes_as)
 
   -- ---- one message that is taken
 
@@ -82,11 +76,7 @@ module _ {R : Type 0} (segments : R → Option Segments) where
   -- it was taken
   pub taken_one : (old middle : LaneState R) (session now : Session) (number : ℕ) (seen : Seen) → IsVisitOf (λ w. accept w number session) old middle now seen
       → Comes segments old middle (λ w. visited_or w session (accept w number session)) (λ w. record { world = w; session = now; seen = seen })
-  taken_one old middle session now number seen it =
-      comes_as segments old middle (λ w. accept w number session) (λ w. Ok (record { world = w; session = now; seen = seen }))
-      (λ w. visited_or w session (accept w number session)) (λ w. record { world = w; session = now; seen = seen })
-      (comes_visit segments (λ w. accept w number session) old middle now seen it)
-      (λ w v of_old of_new one. ap (visited_or w session) one)
+  taken_one old middle session now number seen it = grind (arith, comes_as, comes_visit)
 
   -- what a client saw that could take nothing
   abbrev pub nothing_seen : Seen
@@ -96,15 +86,7 @@ module _ {R : Type 0} (segments : R → Option Segments) where
   pub taken_none : (old : LaneState R) (running : Running) (session : Session) (number : ℕ) (error : StepError) → old.running ≡ Some running
       → IsRefusedFor (λ w. accept_refusal w number session.client (get w.wire.messages number)) old error
       → Comes segments old old (λ w. visited_or w session (accept w number session)) (λ w. record { world = w; session = session; seen = nothing_seen })
-  taken_none old running session number error runs refused =
-      comes_as segments old old started started (λ w. visited_or w session (accept w number session)) (λ w. record { world = w; session = session; seen = nothing_seen })
-      (comes_nowhere segments old running started runs)
-      (λ w v of_old of_new one.
-      let cause : accept_refusal w number session.client (get w.wire.messages number) ≡ Some error =
-      ap (λ (it : World). accept_refusal it number session.client (get it.wire.messages number)) of_old.is
-      ∙ subst (λ (o : Option Running). IsSomeAnd o (λ it_runs. accept_refusal (world_with old it_runs []) number session.client (get it_runs.wire.messages number) ≡ Some error)) of_old.runs refused in
-      ap (λ (o : Option StepError). visited_or w session (accept_by w number session o)) cause
-      ∙ ap (λ (p : Progress). let visited : Visited = record { world = p.world; session = session; seen = nothing_seen } in visited) one)
+  taken_none old running session number error runs refused = grind (arith, comes_as, comes_nowhere)
 
   -- ---- messages that are taken, one after the other
 
@@ -152,10 +134,7 @@ module _ {R : Type 0} (segments : R → Option Segments) where
 
   pub taking_waits : (old new : LaneState R) (session now : Session) (numbers : List ℕ) (place : ℕ) → length numbers ≤ place → IsTaking old new session now numbers place
       → IsTakenUpTo segments old new session now numbers attempts.Waiting
-  taking_waits old new session now numbers place past it =
-      comes_as segments old new (λ w. taking_all w session numbers) (λ w. taking_all w now (drop place numbers)) (λ w. taking_all w session numbers)
-      (λ w. record { world = w; session = now; answer = Ok attempts.Waiting }) it
-      (λ w v of_old of_new one. one ∙ ap (taking_all v now) (drop_past numbers place past))
+  taking_waits old new session now numbers place past it = grind (arith, comes_as, drop_past)
 
   -- ---- attempts
 

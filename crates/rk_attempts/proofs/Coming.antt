@@ -1,16 +1,15 @@
 -- Work in a lane, event by event.
-use Rattle.std.proofs.Common.{◌≡◌, ◌≢◌, ℕ, cond, List, [], Option, Some, None, Result, Ok, refl, sym, ap, subst, ◌∙◌}
+use Rattle.std.proofs.Common.{arith, ◌≡◌, ◌≢◌, ℕ, cond, [], Option, Some, None, Result, Ok, refl, sym, ap, subst, ◌∙◌}
 use Rattle.std.specs.Prelude.{IsSomeAnd}
 use Rattle.std.specs.Option.{option_map, option_or}
 use Rattle.rk_types.specs.NumberMap.{NumberMap}
 use Rattle.rk_types.specs.declared.node.Node.TheVariants as nodes
 use Rattle.rk_outside.specs.Segments.{Segments}
-use Rattle.rk_backup.specs.declared.lane.BackupLane.{BackupLane}
 use Rattle.rk_world.specs.Backup.{Called, Gave}
 use Rattle.rk_world.specs.Calls.{Visited}
 use Rattle.rk_world.specs.Client.{Session}
 use Rattle.rk_world.specs.Refusals.{comes_anyway, fault_of, refusal, worn}
-use Rattle.rk_world.specs.Step.{Stepped, happened, stepped_by}
+use Rattle.rk_world.specs.Step.{happened, stepped_by}
 use Rattle.rk_world.specs.World.{World}
 use Rattle.rk_world.specs.declared.error.StepError.{StepError}
 use Rattle.rk_world.specs.declared.error.StepError.TheVariants as errors
@@ -18,7 +17,7 @@ use Rattle.rk_world.specs.declared.event.Event.{Event}
 use Rattle.rk_world.specs.declared.event.Event.TheVariants as events
 use Rattle.rk_world.specs.declared.event.Seen.{Seen}
 use Rattle.rk_lane.specs.Events.{IsRefused, IsStepOf}
-use Rattle.rk_lane.specs.LaneState.{AreTold, LaneState, Running, world_with}
+use Rattle.rk_lane.specs.LaneState.{LaneState, Running, world_with}
 use Rattle.rk_lane.specs.Visits.{IsVisitOf}
 use Rattle.rk_attempts.specs.Came.{Comes}
 use Rattle.rk_attempts.specs.Ends.{IsEvent}
@@ -31,19 +30,7 @@ module _ (w : World) (stored : NumberMap Segments) where
   with_stored = record w { backups = stored }
 
   fault_same : (event : Event) → fault_of with_stored event ≡ fault_of w event
-  fault_same (events.AddTablet tablet range master) = refl
-  fault_same (events.AddClient client) = refl
-  fault_same (events.Deliver number) = refl
-  fault_same (events.Forget number) = refl
-  fault_same (events.Turn (nodes.Client client)) = refl
-  fault_same (events.Turn nodes.Coordinator) = refl
-  fault_same (events.Turn (nodes.Master master)) = refl
-  fault_same (events.Turn (nodes.Backup backup)) = refl
-  fault_same (events.Again client) = refl
-  fault_same (events.Migrate tablet to) = refl
-  fault_same (events.Split tablet at new) = refl
-  fault_same (events.Crash master) = refl
-  fault_same (events.Notice master) = refl
+  fault_same event = grind arith
 
   pub refusal_without : (event : Event) → refusal with_stored event ≡ refusal w event
   refusal_without event =
@@ -115,13 +102,7 @@ module _ {R : Type 0} (segments : R → Option Segments) where
   -- nothing has come yet
   pub comes_nowhere : {T : Type 0} (lane : LaneState R) (running : Running) (at : World → T) → lane.running ≡ Some running
       → Comes segments lane lane at at
-  comes_nowhere lane running at runs = record {
-    before = running;
-    after = running;
-    was = runs;
-    is = runs;
-    come = λ stored told. record { stored = stored; told = told; is = refl };
-  }
+  comes_nowhere lane running at runs = grind arith
 
   -- ---- one event
 
@@ -172,25 +153,11 @@ module _ {R : Type 0} (segments : R → Option Segments) where
   -- what an event made is the same with whatever its replica answered, where it calls none
   pub came_with : (w : World) (event : Event) (called other : Called) → happened w event called ≡ happened w event other
       → came (started w) event called ≡ came (started w) event other
-  came_with w event called other same = go (refusal w event)
-    where
-      go : (error : Option StepError) → after_step w (stepped_by w event called error) ≡ after_step w (stepped_by w event other error)
-      go None = ap (λ (stepped : Stepped). started stepped.world) same
-      go (Some error) = refl
+  came_with w event called other same = grind arith
 
   -- ---- one visit
 
   pub comes_visit : (visit : World → Result Visited StepError) (old new : LaneState R) (session : Session) (seen : Seen)
       → IsVisitOf visit old new session seen
       → Comes segments old new visit (λ w. Ok (record { world = w; session = session; seen = seen }))
-  comes_visit visit old new session seen it = record {
-    before = it.before;
-    after = it.after;
-    was = it.was;
-    is = it.is;
-    come = λ stored told. record {
-      stored = stored;
-      told = subst (λ (backups : List (BackupLane R)). AreTold segments backups stored) (sym it.backups) told;
-      is = it.visited stored;
-    };
-  }
+  comes_visit visit old new session seen it = grind arith

@@ -45,21 +45,7 @@ passed error (Err short) worn none at other stops ends = absurd (let never : Non
 
 known : {T : Type 0} (error : StepError) (result : Result T Short) (worn : Option ℕ) → OnOk result (short_by error ≡ None) → IfErr result (λ short. short_by error ≡ Some short)
     → EndsAt result worn → IsKnown error worn
-known errors.NoMemory (Ok x) worn goes stops ends = absurd (cc goes)
-known errors.NoMemory (Err short) worn goes stops ends =
-    let same : shorts.NoMemory ≡ short = cc stops in absurd (subst (λ (it : Short). StopsAt it worn) (sym same) ends)
-known (errors.Worn number) (Ok x) worn goes stops ends = absurd (cc goes)
-known (errors.Worn number) (Err short) worn goes stops ends =
-    let same : shorts.Worn number ≡ short = cc stops in
-    (λ e. cc e, sym (subst (λ (it : Short). StopsAt it worn) (sym same) ends))
-known (errors.NoMessage number) result worn goes stops ends = passed (errors.NoMessage number) result worn refl refl (λ e. cc e) stops ends
-known (errors.Address number) result worn goes stops ends = passed (errors.Address number) result worn refl refl (λ e. cc e) stops ends
-known (errors.Dead master) result worn goes stops ends = passed (errors.Dead master) result worn refl refl (λ e. cc e) stops ends
-known (errors.Alive master) result worn goes stops ends = passed (errors.Alive master) result worn refl refl (λ e. cc e) stops ends
-known (errors.Stranger client) result worn goes stops ends = passed (errors.Stranger client) result worn refl refl (λ e. cc e) stops ends
-known errors.TooMany result worn goes stops ends = passed errors.TooMany result worn refl refl (λ e. cc e) stops ends
-known (errors.Move error) result worn goes stops ends = passed (errors.Move error) result worn refl refl (λ e. cc e) stops ends
-known (errors.Map error) result worn goes stops ends = passed (errors.Map error) result worn refl refl (λ e. cc e) stops ends
+known error result worn goes stops ends = grind (arith, passed)
 
 module _ {R : Type 0} (segments : R → Option Segments) where
   -- ---- one event
@@ -87,10 +73,6 @@ module _ {R : Type 0} (segments : R → Option Segments) where
         by_running None is some ok = absurd (cc some)
         by_running (Some running) is some ok = event_answered running is answer result ok err goes stops worn ends
 
-  -- a lane to which something came is not spent
-  pub still_runs : {T : Type 0} (old new : LaneState R) (makes at : World → T) → Comes segments old new makes at → is_some new.running ≡ true
-  still_runs old new makes at comes = ap is_some comes.is
-
   -- ---- a message that is handed over
 
   pub handed_both : (old middle new : LaneState R) (number : ℕ) (worn : Option ℕ) → IsEvent segments old middle (events.Deliver number) None
@@ -109,17 +91,7 @@ module _ {R : Type 0} (segments : R → Option Segments) where
 
   pub handed_short : (old new : LaneState R) (number : ℕ) (worn : Option ℕ) (at : ℕ) → worn ≡ Some at → IsEvent segments old new (events.Deliver number) worn
       → IsHanded segments old new number worn
-  handed_short old new number worn at is first =
-      let it = subst (IsEvent segments old new (events.Deliver number)) is first in
-      subst (IsHanded segments old new number) (sym is)
-      (record {
-        called = it.called;
-        may = it.may;
-        comes =
-            comes_as segments old new (λ w. came (started w) (events.Deliver number) it.called) (has_come (Some at))
-            (λ w. handed (started w) number it.called) (has_come (Some at)) it.comes
-            (λ w v of_old of_new one. ap (λ (p : Progress). came p (events.Forget number) (Gave None)) one);
-      })
+  handed_short old new number worn at is first = grind (arith, comes_as)
 
   -- ---- turns of nodes
 
@@ -129,23 +101,15 @@ module _ {R : Type 0} (segments : R → Option Segments) where
 
   crashed_in : (lane : LaneState R) (master : ℕ) (crashed : Bool) → IfSome lane.running (λ running. crashed ≡ has_crashed (world_with lane running []) master)
       → (w : World) → IsOneOf lane w → has_crashed w master ≡ crashed
-  crashed_in lane master crashed tells w it =
-      ap (λ (v : World). has_crashed v master) it.is
-      ∙ sym (subst (λ (o : Option Running). IfSome o (λ running. crashed ≡ has_crashed (world_with lane running []) master)) it.runs tells)
+  crashed_in lane master crashed tells w it = grind arith
 
   pub master_lives : (old new : LaneState R) (master : ℕ) (worn : Option ℕ) → IfSome old.running (λ running. false ≡ has_crashed (world_with old running []) master)
       → IsEvent segments old new (events.Turn (nodes.Master master)) worn → Comes segments old new (λ w. master_turned (started w) master) (has_come worn)
-  master_lives old new master worn lives it =
-      comes_as segments old new (λ w. came (started w) (events.Turn (nodes.Master master)) it.called) (has_come worn) (λ w. master_turned (started w) master) (has_come worn) it.comes
-      (λ w v of_old of_new one.
-      ap (turned_by w master) (crashed_in old master false lives w of_old)
-      ∙ came_with segments w (events.Turn (nodes.Master master)) (Gave None) it.called refl ∙ one)
+  master_lives old new master worn lives it = grind (arith, comes_as, crashed_in, came_with)
 
   pub master_crashed : (old : LaneState R) (running : Running) (master : ℕ) → old.running ≡ Some running → IfSome old.running (λ running. true ≡ has_crashed (world_with old running []) master)
       → Comes segments old old (λ w. master_turned (started w) master) (has_come None)
-  master_crashed old running master runs crashed =
-      comes_as segments old old started started (λ w. master_turned (started w) master) (has_come None) (comes_nowhere segments old running started runs)
-      (λ w v of_old of_new one. ap (turned_by w master) (crashed_in old master true crashed w of_old) ∙ one)
+  master_crashed old running master runs crashed = grind (arith, comes_as, comes_nowhere, crashed_in)
 
   -- the coordinator has taken its turn, and the first masters
   abbrev pub first_turned : ℕ → World → Progress
@@ -153,15 +117,11 @@ module _ {R : Type 0} (segments : R → Option Segments) where
 
   pub coordinator_turned : (old new : LaneState R) (worn : Option ℕ) → IsEvent segments old new (events.Turn nodes.Coordinator) worn
       → Comes segments old new (first_turned 0) (has_come worn)
-  coordinator_turned old new worn it =
-      comes_as segments old new (λ w. came (started w) (events.Turn nodes.Coordinator) it.called) (has_come worn) (first_turned 0) (has_come worn) it.comes
-      (λ w v of_old of_new one. came_with segments w (events.Turn nodes.Coordinator) (Gave None) it.called refl ∙ one)
+  coordinator_turned old new worn it = grind (arith, comes_as, came_with)
 
   range_more : (from count : ℕ) → range_with_len from (suc count) ≡ range_with_len from count ++ (from + count) ∷ []
   range_more from zero = let same : from ≡ from + 0 = omega arith in ap (λ (n : ℕ). n ∷ []) same
-  range_more from (suc count) =
-      ap (λ (rest : List ℕ). from ∷ rest) (range_more (from + 1) count)
-      ∙ (let same : (from + 1) + count ≡ from + suc count = omega arith in ap (λ (n : ℕ). from ∷ range_with_len (from + 1) count ++ n ∷ []) same)
+  range_more from (suc count) = grind (arith, (range_more (from + 1) count))
 
   pub one_more_turned : (old middle new : LaneState R) (count : ℕ) (worn : Option ℕ) → Comes segments old middle (first_turned count) started
       → Comes segments middle new (λ w. master_turned (started w) (count + 1)) (has_come worn) → Comes segments old new (first_turned (count + 1)) (has_come worn)
@@ -179,17 +139,10 @@ module _ {R : Type 0} (segments : R → Option Segments) where
   -- work that has ended does not go on
   ended_turns : (w : World) (at : ℕ) (masters : List ℕ) → fold master_turned (has_come (Some at) w) masters ≡ has_come (Some at) w
   ended_turns w at [] = refl
-  ended_turns w at (master ∷ masters) =
-      ap (λ (p : Progress). fold master_turned p masters) (by_crash (has_crashed w master)) ∙ ended_turns w at masters
-    where
-      by_crash : (crashed : Bool) → cond crashed (has_come (Some at) w) (came (has_come (Some at) w) (events.Turn (nodes.Master master)) (Gave None)) ≡ has_come (Some at) w
-      by_crash true = refl
-      by_crash false = refl
+  ended_turns w at (master ∷ masters) = grind (arith, (ended_turns w at masters))
 
   range_in_two : (from count more : ℕ) → range_with_len from (count + more) ≡ range_with_len from count ++ range_with_len (from + count) more
-  range_in_two from zero more =
-      ap (λ (n : ℕ). range_with_len from n) (let next : 0 + more ≡ more = omega arith in next)
-      ∙ (let same : from ≡ from + 0 = omega arith in ap (λ (n : ℕ). range_with_len n more) same)
+  range_in_two from zero more = grind arith
   range_in_two from (suc count) more =
       ap (λ (n : ℕ). range_with_len from n) (let next : suc count + more ≡ suc (count + more) = omega arith in next)
       ∙ ap (λ (rest : List ℕ). from ∷ rest) (range_in_two (from + 1) count more)
@@ -241,44 +194,17 @@ module _ {R : Type 0} (segments : R → Option Segments) where
         ∙ ap (handed_next (started v) it.called) (next_in middle (Some number) next v of_middle) ∙ two);
   }
 
-  pub all_handed_out : (old new : LaneState R) → IsHandingOut old new None → IfSome new.running (λ running. None ≡ next_message (world_with new running []))
-      → IsHandedOut segments old new None
-  all_handed_out old new it next = record {
-    calls = it.calls;
-    may = it.may;
-    comes = it.comes;
-    rest = λ none running runs.
-        sym (subst (λ (o : Option Running). IfSome o (λ running. None ≡ next_message (world_with new running []))) runs next);
-  }
-
   pub handed_out_short : (old new : LaneState R) (worn : Option ℕ) (at : ℕ) → worn ≡ Some at → IsHandingOut old new worn → IsHandedOut segments old new worn
-  handed_out_short old new worn at is it = record {
-    calls = it.calls;
-    may = it.may;
-    comes = it.comes;
-    rest = λ none running runs. absurd (let never : Some at ≡ None = sym is ∙ none in cc never);
-  }
+  handed_out_short old new worn at is it = grind arith
 
   -- ---- turns
 
   counts_masters : (lane : LaneState R) → IfSome lane.running (λ running. running.coordinator.masters ≡ lane.masters) → (w : World) → IsOneOf lane w → w.coordinator.masters ≡ lane.masters
-  counts_masters lane tells w it =
-      ap (λ (v : World). v.coordinator.masters) it.is
-      ∙ subst (λ (o : Option Running). IfSome o (λ running. running.coordinator.masters ≡ lane.masters)) it.runs tells
+  counts_masters lane tells w it = grind arith
 
   pub turn_taken : (old middle new : LaneState R) (worn : Option ℕ) → IfSome old.running (λ running. running.coordinator.masters ≡ old.masters)
       → Comes segments old middle (λ w. nodes_turned w old.masters) (has_come None) → IsHandedOut segments middle new worn → IsTurn segments old new worn
-  turn_taken old middle new worn counts before it = record {
-    calls = it.calls;
-    may = it.may;
-    comes =
-        comes_then segments old middle new (λ w. nodes_turned w old.masters) started (λ w. fold handed_oldest (started w) it.calls) (has_come worn)
-        (λ w. turn_on w it.calls) (has_come worn) before it.comes
-        (λ w v u of_old of_middle of_new one two.
-        ap (λ (n : ℕ). fold handed_oldest (nodes_turned w n) it.calls) (counts_masters old counts w of_old)
-        ∙ ap (λ (p : Progress). fold handed_oldest p it.calls) one ∙ two);
-    rest = it.rest;
-  }
+  turn_taken old middle new worn counts before it = grind (arith, comes_then, counts_masters)
 
   pub turn_short : (old new : LaneState R) (worn : Option ℕ) (at : ℕ) → worn ≡ Some at → IfSome old.running (λ running. running.coordinator.masters ≡ old.masters)
       → Comes segments old new (λ w. nodes_turned w old.masters) (has_come worn) → IsTurn segments old new worn
@@ -298,19 +224,11 @@ module _ {R : Type 0} (segments : R → Option Segments) where
 
   replayed_in : (lane : LaneState R) (number : ℕ) (here : Bool) → IfSome lane.running (λ running. here ≡ is_replayed (world_with lane running []) number)
       → (w : World) → IsOneOf lane w → is_replayed w number ≡ here
-  replayed_in lane number here tells w it =
-      ap (λ (v : World). is_replayed v number) it.is
-      ∙ sym (subst (λ (o : Option Running). IfSome o (λ running. here ≡ is_replayed (world_with lane running []) number)) it.runs tells)
+  replayed_in lane number here tells w it = grind arith
 
   pub replay_done : (old new : LaneState R) (number : ℕ) (worn : Option ℕ) → IfSome old.running (λ running. true ≡ is_replayed (world_with old running []) number)
       → IsHanded segments old new number worn → IsReplay segments old new number worn
-  replay_done old new number worn here it = record {
-    called = it.called;
-    may = it.may;
-    comes =
-        comes_as segments old new (λ w. handed (started w) number it.called) (has_come worn) (λ w. replay_on w number it.called) (has_come worn) it.comes
-        (λ w v of_old of_new one. ap (replayed_by w number it.called) (replayed_in old number true here w of_old) ∙ one);
-  }
+  replay_done old new number worn here it = grind (arith, comes_as, replayed_in)
 
   pub replay_none : (old : LaneState R) (running : Running) (number : ℕ) → old.running ≡ Some running → IfSome old.running (λ running. false ≡ is_replayed (world_with old running []) number)
       → IsReplay segments old old number None

@@ -1,11 +1,11 @@
 -- Scans: what a walk from a token's bucket on passes over, gives, and counts.
-use Rattle.rk_bucket_table.proofs.Words.{◌≡◌, ◌≢◌, ℕ, zero, suc, ◌+◌, ◌<◌, ◌≤◌, eqb, cond, List, [], ◌∷◌, ◌++◌, None, length, drop, refl}
-use Rattle.rk_bucket_table.proofs.Words.{sym, ap, ◌∙◌, subst, ⊎_elim, arith, append_assoc, length-append, cases_lt, cond-true, cond-false}
-use Rattle.rk_bucket_table.proofs.Words.{eq-eqb, ne_eqb, append-nil, filter-append, Held, Token, item_bucket, left, token_behind, Rises}
+use Rattle.rk_bucket_table.proofs.Words.{◌≡◌, ◌≢◌, ℕ, zero, suc, ◌+◌, ◌<◌, ◌≤◌, eqb, cond, List, [], ◌∷◌, ◌++◌, length, drop, refl, sym, ap}
+use Rattle.rk_bucket_table.proofs.Words.{◌∙◌, subst, ⊎_elim, arith, append_assoc, length-append, cases_lt, cond-true, cond-false, eq-eqb}
+use Rattle.rk_bucket_table.proofs.Words.{ne_eqb, append-nil, filter-append, Held, Token, item_bucket, left, token_behind, Rises}
 use Rattle.rk_bucket_table.proofs.Words.{filter_kept, filter_left_out, counted_by}
 use Rattle.std.proofs.Common.{ltb}
 use Rattle.std.proofs.lemmas.Bool.{cases_eq, le-ltb}
-use Rattle.rk_table.specs.Scans.{behind_bucket, of_bucket, token_of}
+use Rattle.rk_table.specs.Scans.{behind_bucket, of_bucket}
 use Rattle.rk_table.proofs.Ordered.{AllFrom, AllUpTo, ends_with_one, last_of_end, more_all, same_and_more, same_none}
 
 -- the items without so many first ones of a bucket
@@ -26,9 +26,6 @@ pub unskipped_past : (bucket skip : ℕ) (item : Held) (items : List Held) → i
     → unskipped bucket skip (item ∷ items) ≡ item ∷ items
 unskipped_past bucket zero item items differs = refl
 unskipped_past bucket (suc skip) item items differs = cond-false _ _ _ (ne_eqb (item_bucket item) bucket differs)
-
-abbrev token_at : ℕ → ℕ → Token
-token_at bucket skip = record { bucket = bucket; skip = skip }
 
 -- that is what is left at a token
 pub unskipped_left : (bucket skip : ℕ) (items : List Held) → AllFrom item_bucket bucket items → Rises item_bucket items
@@ -82,8 +79,7 @@ up_to_more a b (x ∷ done) item less its all = (let k : item_bucket x ≤ a = a
 none_up_to : (a b : ℕ) (done : List Held) → a < b → AllUpTo item_bucket a done → of_bucket b done ≡ []
 none_up_to a b [] less all = refl
 none_up_to a b (x ∷ done) less all =
-    let k : item_bucket x ≤ a = all.0 in
-    filter_left_out (λ y. eqb (item_bucket y) b) x done (ne_eqb (item_bucket x) b (λ e. omega arith)) ∙ none_up_to a b done less all.1
+    grind (arith, item_bucket, filter_left_out, eqb, ne_eqb, all.0, all.1, (none_up_to a b done less all.1))
 
 one_of : (item : Held) → of_bucket (item_bucket item) (item ∷ []) ≡ item ∷ []
 one_of item = filter_kept (λ y. eqb (item_bucket y) (item_bucket item)) item [] (eq-eqb (item_bucket item) (item_bucket item) refl)
@@ -91,23 +87,25 @@ one_of item = filter_kept (λ y. eqb (item_bucket y) (item_bucket item)) item []
 counts_more : (token : Token) (done : List Held) (item : Held) → Counts token done → token.bucket ≤ item_bucket item
     → Counts (counted_by token (item_bucket item)) (done ++ item ∷ [])
 counts_more token done item counted from =
-    let b : ℕ = item_bucket item in
-    let whole : of_bucket b (done ++ item ∷ []) ≡ of_bucket b done ++ item ∷ [] =
-    filter-append _ done (item ∷ []) ∙ ap (λ (l : List Held). of_bucket b done ++ l) (one_of item) in
-    let size : length (of_bucket b (done ++ item ∷ [])) ≡ length (of_bucket b done) + 1 =
-    ap length whole ∙ length-append (of_bucket b done) (item ∷ []) in
-    record {
-      number =
-          ⊎_elim
-          (λ (same : b ≡ token.bucket).
-          cond-true (eqb b token.bucket) (token.skip + 1) 1 (eq-eqb b token.bucket same)
-          ∙ omega (arith, size, counted.number, ap (λ (k : ℕ). length (of_bucket k done)) same))
-          (λ (differs : b ≢ token.bucket).
-          cond-false (eqb b token.bucket) (token.skip + 1) 1 (ne_eqb b token.bucket differs)
-          ∙ omega (arith, size, ap length (none_up_to token.bucket b done (omega arith) counted.up_to)))
-          (cases_eq b token.bucket);
-      up_to = up_to_more token.bucket b done item from (omega arith) counted.up_to;
-    }
+    grind (
+      arith,
+      item_bucket,
+      filter-append,
+      one_of,
+      length-append,
+      cond-true,
+      eqb,
+      eq-eqb,
+      cond-false,
+      ne_eqb,
+      none_up_to,
+      cases_eq,
+      up_to_more,
+      token.bucket,
+      token.skip,
+      counted.number,
+      counted.up_to,
+    )
 
 counts_all : (token : Token) (done items : List Held) → Counts token done → AllFrom item_bucket token.bucket items → Rises item_bucket items
     → Counts (counts token items) (done ++ items)
@@ -120,13 +118,7 @@ counts_all token done (item ∷ items) counted from rises =
 behind_last : (bucket : ℕ) (front : List Held) (item : Held)
     → Counts (counts (record { bucket = bucket; skip = 0 }) (front ++ item ∷ [])) (front ++ item ∷ [])
     → counts (record { bucket = bucket; skip = 0 }) (front ++ item ∷ []) ≡ token_behind (front ++ item ∷ [])
-behind_last bucket front item counted =
-    let pushed = counts_push (record { bucket = bucket; skip = 0 }) front item in
-    let at : Counts (counted_by (counts (record { bucket = bucket; skip = 0 }) front) (item_bucket item)) (front ++ item ∷ []) =
-    subst (λ (t : Token). Counts t (front ++ item ∷ [])) pushed counted in
-    pushed
-    ∙ ap (λ (k : ℕ). token_at (item_bucket item) k) at.number
-    ∙ ap (λ (o : _). token_of o (front ++ item ∷ [])) (sym (last_of_end None front item))
+behind_last bucket front item counted = grind (arith, counts_push, counted_by, item_bucket, last_of_end)
 
 pub counts_behind : (bucket : ℕ) (done : List Held) → 0 < length done → AllFrom item_bucket bucket done → Rises item_bucket done
     → counts (record { bucket = bucket; skip = 0 }) done ≡ token_behind done

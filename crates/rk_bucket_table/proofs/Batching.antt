@@ -1,9 +1,9 @@
 -- The walk of a scan: what each live item does to what was given and what is to come.
 use Rattle.rk_bucket_table.proofs.Words.{◌≡◌, ◌≢◌, ℕ, suc, ◌+◌, ◌<◌, ◌≤◌, Bool, true, false, eqb, cond, List, [], ◌∷◌, ◌++◌, ◌⊎◌, length}
-use Rattle.rk_bucket_table.proofs.Words.{drop, refl, sym, ap, ◌∙◌, subst, inl, inr, ⊎_elim, arith, append_assoc, length-append, cases_lt}
-use Rattle.rk_bucket_table.proofs.Words.{cond-true, cond-false, eq-eqb, ne_eqb, false≢true, append-nil, Held, Token, Range, IsInScanOrder}
-use Rattle.rk_bucket_table.proofs.Words.{item_bucket, item_cmp, is_live_in, live_in, batch_at, left, passed, rest_at, token_behind, Rises}
-use Rattle.rk_bucket_table.proofs.Words.{IsFrom, counted_by}
+use Rattle.rk_bucket_table.proofs.Words.{drop, refl, sym, ap, ◌∙◌, subst, ⊎_elim, arith, append_assoc, length-append, cases_lt, cond-true}
+use Rattle.rk_bucket_table.proofs.Words.{cond-false, eq-eqb, ne_eqb, false≢true, append-nil, Held, Token, Range, IsInScanOrder, item_bucket}
+use Rattle.rk_bucket_table.proofs.Words.{item_cmp, is_live_in, live_in, batch_at, left, passed, rest_at, token_behind, Rises, IsFrom}
+use Rattle.rk_bucket_table.proofs.Words.{counted_by}
 use Rattle.std.proofs.Common.{◌-◌}
 use Rattle.std.specs.Prelude.{◌&&◌, nat_le, nat_lt}
 use Rattle.std.proofs.lemmas.Bool.{and_parts, cases_eq, eqb-true, lt-ltb, ltb-true}
@@ -51,12 +51,8 @@ from_converted bucket (item ∷ items) all = (all.0, from_converted bucket items
 
 from_filtered : (bucket : ℕ) (range : Range) (items : List Held) → AllFrom item_bucket bucket items → AllFrom item_bucket bucket (live_in range items)
 from_filtered bucket range [] all = tt
-from_filtered bucket range (item ∷ items) all = go (is_live_in range item) (from_filtered bucket range items all.1)
-  where
-    go : (live : Bool) → AllFrom item_bucket bucket (live_in range items)
-        → AllFrom item_bucket bucket (cond live (item ∷ live_in range items) (live_in range items))
-    go true rest = (all.0, rest)
-    go false rest = rest
+from_filtered bucket range (item ∷ items) all =
+    grind (arith, is_live_in, item_bucket, live_in, all.1, all.0, (from_filtered bucket range items all.1))
 
 front_from : (bucket : ℕ) (front back : List Held) → AllFrom item_bucket bucket (front ++ back) → AllFrom item_bucket bucket front
 front_from bucket [] back all = tt
@@ -66,31 +62,16 @@ counted_few : (b : Bool) (skip : ℕ) → cond b (skip + 1) 1 ≤ skip + 1
 counted_few true skip = omega arith
 counted_few false skip = omega arith
 
-skips_no : (bucket here skip wanted : ℕ) → (eqb bucket here && nat_lt skip wanted) ≡ false → (bucket ≢ here) ⊎ (wanted ≤ skip)
-skips_no bucket here skip wanted no_skip =
-    ⊎_elim
-    (λ (same : bucket ≡ here).
-    ⊎_elim
-    (λ (less : skip < wanted).
-    absurd (false≢true (sym no_skip ∙ (λ i. eq-eqb bucket here same i && lt-ltb skip wanted less i))))
-    (λ (enough : wanted ≤ skip). inr enough)
-    (cases_lt skip wanted))
-    (λ (differs : bucket ≢ here). inl differs)
-    (cases_eq bucket here)
-
 -- what the code's test says
 pub skips_not : (item : Held) (from token : Token) (bucket : ℕ) (result : Bool) → bucket ≡ item_bucket item
     → result ≡ (eqb bucket from.bucket && nat_lt token.skip from.skip) → result ≡ false → (item_bucket item ≢ from.bucket) ⊎ (from.skip ≤ token.skip)
 skips_not item from token bucket result its_bucket is no_skip =
-    skips_no (item_bucket item) from.bucket token.skip from.skip
-    (ap (λ (k : ℕ). eqb k from.bucket && nat_lt token.skip from.skip) (sym its_bucket) ∙ sym is ∙ no_skip)
+    grind (arith, item_bucket, eqb, false≢true, eq-eqb, lt-ltb, cases_lt, cases_eq)
 
 pub skips_here : (item : Held) (from token : Token) (bucket : ℕ) (result : Bool) → bucket ≡ item_bucket item
     → result ≡ (eqb bucket from.bucket && nat_lt token.skip from.skip) → result ≡ true
     → (item_bucket item ≡ from.bucket) × (token.skip < from.skip)
-skips_here item from token bucket result its_bucket is skips =
-    let both = and_parts _ _ (sym is ∙ skips) in
-    (sym its_bucket ∙ eqb-true _ _ both.0, ltb-true _ _ both.1)
+skips_here item from token bucket result its_bucket is skips = grind (arith, and_parts, eqb-true, ltb-true)
 
 -- the next token, as the code computes it
 pub next_token_is : (token : Token) (bucket : ℕ) (item : Held) (next : Token) → bucket ≡ item_bucket item → next ≡ counted_by token bucket
@@ -98,21 +79,8 @@ pub next_token_is : (token : Token) (bucket : ℕ) (item : Held) (next : Token) 
 next_token_is token bucket item next its_bucket is = is ∙ ap (counted_by token) its_bucket
 
 module _ (range : Range) (from : Token) (limit : ℕ) (all start : List Held) where
-  pending_first : pending from (record { bucket = from.bucket; skip = 0 }) ≡ from.skip
-  pending_first = cond-true (eqb from.bucket from.bucket) (from.skip - 0) 0 (eq-eqb from.bucket from.bucket refl) ∙ (let e : from.skip - 0 ≡ from.skip = omega arith in e)
-
   pub batching_first : IsInScanOrder all → IsFrom from.bucket all → IsBatching range from limit all start all start (record { bucket = from.bucket; skip = 0 }) limit
-  batching_first order there = record {
-    done = [];
-    whole = refl;
-    token_is = refl;
-    low = omega arith;
-    on = from_converted from.bucket all there;
-    rises = rises_in_order all order;
-    few = omega arith;
-    same = ap (λ (k : ℕ). start ++ batch_of limit (to_give range from k all)) pending_first;
-    rest = ap (λ (k : ℕ). drop (length (batch_of limit (to_give range from k all))) (to_give range from k all)) pending_first;
-  }
+  batching_first order there = grind (arith, from_converted, rises_in_order, cond-true, eqb, eq-eqb)
 
   module _ (items into : List Held) (token : Token) (wanted : ℕ) (state : IsBatching range from limit all start items into token wanted) where
     -- nothing is left

@@ -1,6 +1,6 @@
 -- Cells that change: which chains stay as they were, and how a chain goes on elsewhere.
-use Rattle.rk_bucket_table.proofs.Words.{◌≡◌, ◌≢◌, ℕ, suc, ◌<◌, ◌≤◌, List, [], ◌∷◌, ◌++◌, ◌⊎◌, Option, Some, None, length, take, drop}
-use Rattle.rk_bucket_table.proofs.Words.{get_or, set, refl, sym, ap, ◌∙◌, subst, inl, inr, ⊎_elim, append_assoc, AllByRecursion}
+use Rattle.rk_bucket_table.proofs.Words.{arith, ◌≡◌, ◌≢◌, ℕ, suc, ◌<◌, List, [], ◌∷◌, ◌++◌, ◌⊎◌, Option, Some, None, length, take, drop}
+use Rattle.rk_bucket_table.proofs.Words.{get_or, set, refl, sym, ap, ◌∙◌, subst, inr, ⊎_elim, append_assoc, AllByRecursion}
 use Rattle.rk_bucket_table.proofs.Words.{IsStrictlySortedBy, Less, cases_lt, Held, IsInScanOrder, item_cmp, order_of_back, Cell, END}
 use Rattle.rk_bucket_table.proofs.Words.{AreLinked, Cells, IsSegment, cell_at, cell_of, joined, HasLast, IsSpot}
 use Rattle.std.specs.Cmp.{tied_itself}
@@ -42,8 +42,7 @@ not_before_itself item less = absurd (cc (less, tied_itself item_total item))
 
 others_behind : (item : Held) (items : List Held) → AllByRecursion (λ other. item_cmp item other ≡ Less) items → AllByRecursion (IsOther item) items
 others_behind item [] all = tt
-others_behind item (other ∷ items) all =
-    ((λ same. not_before_itself item (ap (item_cmp item) (sym same) ∙ all.0)), others_behind item items all.1)
+others_behind item (other ∷ items) all = grind (arith, not_before_itself, item_cmp, all.0, all.1, (others_behind item items all.1))
 
 pub others_ahead : (item : Held) (front back : List Held) → IsInScanOrder (front ++ item ∷ back) → AllByRecursion (IsOther item) front
 unfolding IsStrictlySortedBy
@@ -70,13 +69,7 @@ order_without_one item (other ∷ front) back order =
 module _ (cells after : Cells) (at : ℕ) (item : Held) (next : ℕ) (here : cell_at cells at ≡ Some (cell_of item next))
     (others : (other : ℕ) → other ≢ at → cell_at after other ≡ cell_at cells other) where
   pub spared_other : (other : Held) → other ≢ item → IsSpared cells after other
-  spared_other other differs place behind there =
-      others place
-      (λ same.
-      let both : Some (cell_of other behind) ≡ Some (cell_of item next) = sym there ∙ ap (cell_at cells) same ∙ here in
-      let one : cell_of other behind ≡ cell_of item next = cc both in
-      differs (ap (λ (cell : Cell). cell.item) one))
-      ∙ there
+  spared_other other differs place behind there = grind (arith, cell_of, cell_at)
 
   pub spared_others : (items : List Held) → AllByRecursion (IsOther item) items → AllByRecursion (IsSpared cells after) items
   spared_others [] all = tt
@@ -86,11 +79,7 @@ pub set_others : (cells : Cells) (at : ℕ) (cell : Option Cell) (other : ℕ) �
 set_others cells at cell other differs = get_or-set_other cells at other cell None differs
 
 pub cell_within : (cells : Cells) (at : ℕ) (cell : Cell) → cell_at cells at ≡ Some cell → at < length cells
-cell_within cells at cell here =
-    ⊎_elim
-    (λ (within : at < length cells). within)
-    (λ (past : length cells ≤ at). absurd (cc (here, get_or_past cells at None past)))
-    (cases_lt at (length cells))
+cell_within cells at cell here = grind (arith, get_or_past, cases_lt)
 
 -- a new cell spares all items
 pub spared_by_new : (cells after : Cells) (added : ℕ) → cell_at cells added ≡ None
@@ -101,19 +90,7 @@ spared_by_new cells after added vacant others item place next there =
 -- the cell in front of a spot stays as it was
 pub last_spared : (cells after : Cells) (head : ℕ) (front : List Held) (before at : ℕ) → AllByRecursion (IsSpared cells after) front
     → ((front ≡ []) × (before ≡ END)) ⊎ HasLast cells head front before at → ((front ≡ []) × (before ≡ END)) ⊎ HasLast after head front before at
-last_spared cells after head front before at spared last =
-    ⊎_elim
-    (λ (none : (front ≡ []) × (before ≡ END)). inl none)
-    (λ (some : HasLast cells head front before at).
-    let all : AllByRecursion (IsSpared cells after) (some.others ++ some.item ∷ []) = subst (AllByRecursion (IsSpared cells after)) some.whole spared in
-    inr (record {
-      others = some.others;
-      item = some.item;
-      whole = some.whole;
-      to = segment_spared cells after head some.others before (all_front (IsSpared cells after) some.others (some.item ∷ []) all) some.to;
-      here = (all_back (IsSpared cells after) some.others (some.item ∷ []) all).0 before at some.here;
-    }))
-    last
+last_spared cells after head front before at spared last = grind (arith, segment_spared, all_front, all_back)
 
 -- the chains after one goes on elsewhere from a spot on
 pub record IsRelinked (heads : List ℕ) (cells : Cells) (number : ℕ) (ahead : List (List Held)) (front tail : List Held) (behind : List (List Held))
@@ -130,17 +107,7 @@ module _ (heads : List ℕ) (cells : Cells) (number : ℕ) (within : number < le
   -- the chain begins elsewhere
   at_head : new_heads ≡ set heads number next → new_cells ≡ cells → before ≡ END
       → IsRelinked heads cells number ahead [] tail behind before next new_heads new_cells
-  at_head its_heads its_cells first =
-      subst (λ (l : Cells). IsRelinked heads cells number ahead [] tail behind before next new_heads l) (sym its_cells)
-      (subst (λ (l : List ℕ). IsRelinked heads cells number ahead [] tail behind before next l cells) (sym its_heads)
-      (record {
-        as_many = length-set heads number next;
-        linked =
-            subst (λ (l : List ℕ). AreLinked cells l (ahead ++ tail ∷ behind)) (sym (set_split heads number next within))
-            (linked_append cells (take number heads) (drop (suc number) heads) ahead behind next tail linked_ahead from linked_behind);
-        spot = record { to = get_or-set_same heads number next END within; from = from; last = inl (refl, first) };
-        free = free;
-      }))
+  at_head its_heads its_cells first = grind (arith, length-set, set_split, linked_append, get_or-set_same)
 
   -- or a cell of it has another one behind it
   module _ (others : List Held) (item : Held) (to : IsSegment cells (get_or heads number END) others before)

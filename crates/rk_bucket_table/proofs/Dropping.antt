@@ -1,9 +1,9 @@
 -- A range that is dropped: chain by chain, and cell by cell.
-use Rattle.rk_bucket_table.proofs.Words.{◌≡◌, ◌≢◌, ℕ, ◌+◌, ◌<◌, ◌≤◌, true, false, List, [], ◌∷◌, ◌++◌, Some, None, is_some, length, map}
-use Rattle.rk_bucket_table.proofs.Words.{take, drop, get_or, set, refl, sym, ap, ◌∙◌, subst, inl, inr, ⊎_elim, arith, append_assoc}
-use Rattle.rk_bucket_table.proofs.Words.{length-append, append-nil, drop_more, get_or_at, length-take, filter-append, count_by-le-length}
-use Rattle.rk_bucket_table.proofs.Words.{ContainsKey, Slab, Held, Range, without, filter_kept, filter_left_out, Cell, END, Cells, IsChain}
-use Rattle.rk_bucket_table.proofs.Words.{IsSegment, IsTable, cell_at, cell_of, chain, joined, taken, HasLast}
+use Rattle.rk_bucket_table.proofs.Words.{◌≡◌, ◌≢◌, ℕ, ◌+◌, ◌<◌, ◌≤◌, true, false, List, [], ◌∷◌, ◌++◌, Some, None, length, map, take, drop}
+use Rattle.rk_bucket_table.proofs.Words.{get_or, set, refl, sym, ap, ◌∙◌, subst, inl, inr, ⊎_elim, arith, append_assoc, length-append}
+use Rattle.rk_bucket_table.proofs.Words.{append-nil, drop_more, get_or_at, length-take, filter-append, count_by-le-length, ContainsKey}
+use Rattle.rk_bucket_table.proofs.Words.{Slab, Held, Range, without, filter_kept, filter_left_out, Cell, END, Cells, IsChain, IsSegment}
+use Rattle.rk_bucket_table.proofs.Words.{IsTable, cell_at, cell_of, chain, joined, taken, HasLast}
 use Rattle.std.proofs.Common.{not}
 use Rattle.std.proofs.lemmas.List.{drop_all, length-map, set_at, take_all, take_more}
 use Rattle.std.proofs.lemmas.List.Sums.{length-filter}
@@ -52,15 +52,7 @@ dropping_first per_bucket heads cells number range chains head within read table
 module _ (per_bucket : ℕ) (heads : List ℕ) (cells : Cells) (number : ℕ) (range : Range) (chains : List (List Held)) (before at : ℕ)
     (now : IsDropping per_bucket heads cells number range chains before at) where
   back_short : length now.back ≤ length cells
-  back_short =
-      omega (
-        arith,
-        short per_bucket heads cells (now.ahead ++ (now.front ++ now.back) ∷ now.behind) now.state.table,
-        ap length (joined_parts now.ahead (now.front ++ now.back) now.behind),
-        length-append (joined now.ahead) ((now.front ++ now.back) ++ joined now.behind),
-        length-append (now.front ++ now.back) (joined now.behind),
-        length-append now.front now.back,
-      )
+  back_short = grind (arith, short, joined_parts, length-append, joined)
 
   pub back_is : chain cells at ≡ now.back
   back_is = chain_is cells now.state.table.free at now.back now.state.spot.from back_short
@@ -71,24 +63,11 @@ module _ (per_bucket : ℕ) (heads : List ℕ) (cells : Cells) (number : ℕ) (r
   -- the cell in front of the spot is there
   pub before_there : (slab : Slab Cell) (gone : ℕ) → gone ≢ before → ((other : ℕ) → other ≢ gone → cell_at slab.slots other ≡ cell_at cells other)
       → before ≢ END → ContainsKey slab before
-  before_there slab gone differs others some =
-      ⊎_elim
-      (λ (none : (now.front ≡ []) × (before ≡ END)). absurd (some none.1))
-      (λ (last : HasLast cells (get_or heads number END) now.front before at).
-      ap is_some (others before (λ e. differs (sym e)) ∙ last.here))
-      now.state.spot.last
+  before_there slab gone differs others some = grind arith
 
   -- at the end of the chain
   pub dropped_chain : None ≡ cell_at cells at → IsTable per_bucket heads cells (set chains number (without range (get_or chains number [])))
-  dropped_chain none =
-      let nothing : now.back ≡ [] = sym back_is ∙ chain_none cells now.state.table.free at (sym none) back_ends in
-      let kept : now.front ++ now.back ≡ without range now.mine =
-      ap (λ (l : List Held). now.front ++ l) nothing ∙ ap (λ (l : List Held). now.front ++ without range l) (sym nothing) ∙ now.same in
-      let its : get_or chains number [] ≡ now.mine =
-      ap (λ (l : List (List Held)). get_or l number []) now.whole ∙ get_or_at now.ahead now.mine now.behind [] number now.state.size in
-      let after : set chains number (without range (get_or chains number [])) ≡ now.ahead ++ without range now.mine ∷ now.behind =
-      (λ i. set (now.whole i) number (without range (its i))) ∙ set_at now.ahead now.mine now.behind (without range now.mine) number now.state.size in
-      subst (IsTable per_bucket heads cells) (ap (λ (l : List Held). now.ahead ++ l ∷ now.behind) kept ∙ sym after) now.state.table
+  dropped_chain none = grind (arith, back_is, chain_none, back_ends, without, get_or_at, set_at)
 
   module _ (cell : Cell) (here : Some cell ≡ cell_at cells at) where
     parts : (chain cells at ≡ cell.item ∷ chain cells cell.next) × IsChain cells cell.next
@@ -213,9 +192,7 @@ all_chains_last f chains number past =
 
 pub joined_without : (range : Range) (chains : List (List Held)) → joined (map (without range) chains) ≡ without range (joined chains)
 joined_without range [] = refl
-joined_without range (items ∷ chains) =
-    ap (λ (l : List Held). without range items ++ l) (joined_without range chains)
-    ∙ sym (filter-append (λ x. not (is_in range x)) items (joined chains))
+joined_without range (items ∷ chains) = grind (arith, without, filter-append, joined, (joined_without range chains))
 
 pub without_less : (range : Range) (items : List Held) → length (without range items) ≤ length items
 without_less range items =

@@ -20,10 +20,7 @@ use Rattle.rk_bucket_table.proofs.Tables.{IsBelow, IsFromOn, IsPart, ahead_place
 not_at_other_chain : (per_bucket table : ℕ) (key : List ℕ) (item : Held) → chain_of per_bucket (hash_of key) < chain_of per_bucket (item_hash item)
     → is_at table key item ≡ false
 not_at_other_chain per_bucket table key item behind =
-    false_from_ne_true _ (λ here.
-    let its_key : item.key ≡ key = (bytes_decides item.key key).0 (and_parts _ _ here).1 in
-    let same : chain_of per_bucket (item_hash item) ≡ chain_of per_bucket (hash_of key) = ap (λ (k : List ℕ). chain_of per_bucket (hash_of k)) its_key in
-    omega arith)
+    grind (arith, false_from_ne_true, bytes_decides, and_parts, chain_of, item_hash, hash_of)
 
 module _ (per_bucket : ℕ) (heads : List ℕ) (cells : Cells) (chains : List (List Held)) (table : IsTable per_bucket heads cells chains)
     (hash number : ℕ) (below : hash < 2 ^ 64) (its_number : number ≡ chain_of per_bucket hash) where
@@ -68,11 +65,8 @@ module _ (per_bucket : ℕ) (heads : List ℕ) (cells : Cells) (chains : List (L
       ∙ ap (λ (l : List Held). joined its_part.ahead ++ l) (append_assoc sought.so_far.front sought.so_far.back (joined its_part.behind))
       ∙ sym (append_assoc (joined its_part.ahead) sought.so_far.front greater)
 
-  parts_order : IsInScanOrder (lesser ++ greater)
-  parts_order = subst IsInScanOrder two_parts table.order
-
   back_order : IsInScanOrder sought.so_far.back
-  back_order = order_front sought.so_far.back (joined its_part.behind) (order_of_back lesser greater parts_order)
+  back_order = grind (arith, order_front, joined, order_of_back, two_parts)
 
   all_before : All (λ item. comes_before (place_of name key) item ≡ true) lesser
   all_before =
@@ -94,13 +88,7 @@ module _ (per_bucket : ℕ) (heads : List ℕ) (cells : Cells) (chains : List (L
       (behind_placed per_bucket heads cells chains table number within)))
 
   cut : IsCut (comes_before (place_of name key)) items (length lesser)
-  cut =
-      subst (λ (l : List Held). IsCut (comes_before (place_of name key)) l (length lesser)) (sym two_parts)
-      (record {
-        within = omega (arith, length-append lesser greater);
-        front = subst (All (λ item. comes_before (place_of name key) item ≡ true)) (sym (take_at lesser greater (length lesser) refl)) all_before;
-        back = subst (All (λ item. comes_before (place_of name key) item ≡ false)) (sym (drop_at lesser greater (length lesser) refl)) all_from;
-      })
+  cut = grind (arith, comes_before, place_of, two_parts, within, length-append, take_at, all_before, drop_at, all_from)
 
   -- the first item from the place on
   module _ (item : Held) (rest : List Held) (first : greater ≡ item ∷ rest) where
@@ -161,8 +149,4 @@ module _ (per_bucket : ℕ) (heads : List ℕ) (cells : Cells) (chains : List (L
     gap_cell is_not = is_gap cell.item (chain cells cell.next ++ joined its_part.behind) first_is is_not
 
   pub gap_none : None ≡ cell_at cells at → IsGap name key items (length lesser)
-  gap_none none =
-      let empty : sought.so_far.back ≡ [] =
-      sym (behind_is cells head (comes_before (place_of name key)) table.free before at sought.so_far)
-      ∙ chain_none cells table.free at (sym none) (ends_behind cells head (comes_before (place_of name key)) table.free before at sought.so_far) in
-      gap_at (joined its_part.behind) (ap (λ (l : List Held). l ++ joined its_part.behind) empty) refl
+  gap_none none = grind (arith, behind_is, comes_before, place_of, chain_none, ends_behind, gap_at, joined)

@@ -1,11 +1,10 @@
 -- The number of a chain: it does not fall along scan order.
 use Rattle.rk_bucket_table.proofs.Words.{◌≡◌, ℕ, ◌*◌, ◌^◌, ◌<◌, ◌≤◌, ◌⊎◌, true, false, List, [], ◌∷◌, refl, sym, ap, inl, inr, ⊎_elim}
-use Rattle.rk_bucket_table.proofs.Words.{arith, Less, cases_lt, Held, hash_of, item_bucket, item_hash, place_of, comes_before, chain_of}
+use Rattle.rk_bucket_table.proofs.Words.{arith, cases_lt, Held, hash_of, item_bucket, item_hash, place_of, comes_before, chain_of}
 use Rattle.std.proofs.Common.{◌/◌, ◌%◌}
 use Rattle.std.specs.Prelude.{bit_xor, fold}
 use Rattle.std.specs.Ordering.{nat_cmp, ordering_then, is_lt}
 use Rattle.std.specs.declared.cmp.Ordering.{Ordering}
-use Rattle.std.specs.declared.cmp.Ordering.TheVariants.{Equal, Greater}
 use Rattle.std.proofs.lemmas.Cmp.{ranked}
 use Rattle.std.proofs.lemmas.Nat.{div_below, mod_below, mul-add-lt, mul-le, row_fits}
 use Rattle.rk_types.specs.declared.hashing.TheConstants.{BUCKETS, HASH_PRIME, HASH_START}
@@ -26,9 +25,7 @@ module _ (per_bucket : ℕ) (some : 0 < per_bucket) where
   chain_in_bucket hash = (hash / 2 ^ 32) * per_bucket / 2 ^ 32
 
   in_bucket_below : (hash : ℕ) → hash < 2 ^ 64 → chain_in_bucket hash < per_bucket
-  in_bucket_below hash below =
-      div_below ((hash / 2 ^ 32) * per_bucket) (2 ^ 32) per_bucket (omega arith)
-      (omega (arith, mul-le (hash / 2 ^ 32) per_bucket 4294967295 per_bucket (omega arith) (omega arith)))
+  in_bucket_below hash below = grind (arith, div_below, mul-le)
 
   in_bucket_rises : (a b : ℕ) → a ≤ b → chain_in_bucket a ≤ chain_in_bucket b
   in_bucket_rises a b less = omega (arith, mul-le (a / 2 ^ 32) per_bucket (b / 2 ^ 32) per_bucket (omega arith) (omega arith))
@@ -40,19 +37,10 @@ module _ (per_bucket : ℕ) (some : 0 < per_bucket) where
 
   -- the chains before those of a bucket have items of the buckets before it alone, and those from there on of no such bucket
   pub bucket_less : (bucket hash : ℕ) → chain_of per_bucket hash < bucket * per_bucket → bucket_of hash < bucket
-  bucket_less bucket hash less =
-      ⊎_elim
-      (λ (below : bucket_of hash < bucket). below)
-      (λ (above : bucket ≤ bucket_of hash). absurd (omega (arith, mul-le bucket per_bucket (bucket_of hash) per_bucket above (omega arith))))
-      (cases_lt (bucket_of hash) bucket)
+  bucket_less bucket hash less = grind (arith, mul-le, cases_lt)
 
   pub bucket_from : (bucket hash : ℕ) → hash < 2 ^ 64 → bucket * per_bucket ≤ chain_of per_bucket hash → bucket ≤ bucket_of hash
-  bucket_from bucket hash below from =
-      ⊎_elim
-      (λ (less : bucket_of hash < bucket).
-      absurd (omega (arith, row_fits (bucket_of hash) per_bucket bucket per_bucket less (omega arith), in_bucket_below hash below)))
-      (λ (above : bucket ≤ bucket_of hash). above)
-      (cases_lt (bucket_of hash) bucket)
+  bucket_from bucket hash below from = grind (arith, row_fits, in_bucket_below, cases_lt)
 
   -- a hash of a lesser chain has a lesser bucket, or the same and is less
   pub chain_less : (a b : ℕ) → a < 2 ^ 64 → b < 2 ^ 64 → chain_of per_bucket a < chain_of per_bucket b
@@ -75,24 +63,16 @@ module _ (per_bucket : ℕ) (some : 0 < per_bucket) where
 
 -- how places compare by bucket and hash
 less_first : (a b : ℕ) (r o : Ordering) → r ≡ nat_cmp a b → a < b → is_lt (ordering_then r o) ≡ true
-less_first a b Less o e h = refl
-less_first a b Equal o e h = let k : a ≡ b = ranked a b Equal e in absurd (omega arith)
-less_first a b Greater o e h = let k : b < a = ranked a b Greater e in absurd (omega arith)
+less_first a b r o e h = grind (arith, ranked)
 
 more_first : (a b : ℕ) (r o : Ordering) → r ≡ nat_cmp a b → b < a → is_lt (ordering_then r o) ≡ false
-more_first a b Less o e h = let k : a < b = ranked a b Less e in absurd (omega arith)
-more_first a b Equal o e h = let k : a ≡ b = ranked a b Equal e in absurd (omega arith)
-more_first a b Greater o e h = refl
+more_first a b r o e h = grind (arith, ranked)
 
 less_then : (a b : ℕ) (r o : Ordering) → r ≡ nat_cmp a b → a ≡ b → is_lt o ≡ true → is_lt (ordering_then r o) ≡ true
-less_then a b Less o e h less = refl
-less_then a b Equal o e h less = less
-less_then a b Greater o e h less = let k : b < a = ranked a b Greater e in absurd (omega arith)
+less_then a b r o e h less = grind (arith, ranked)
 
 more_then : (a b : ℕ) (r o : Ordering) → r ≡ nat_cmp a b → a ≡ b → is_lt o ≡ false → is_lt (ordering_then r o) ≡ false
-more_then a b Less o e h more = let k : a < b = ranked a b Less e in absurd (omega arith)
-more_then a b Equal o e h more = more
-more_then a b Greater o e h more = refl
+more_then a b r o e h more = grind (arith, ranked)
 
 -- an item of a chain in front comes before a place, and one of a chain behind does not
 module _ (per_bucket : ℕ) (some : 0 < per_bucket) (table : ℕ) (key : List ℕ) (item : Held) where

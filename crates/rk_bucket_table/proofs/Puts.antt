@@ -1,6 +1,6 @@
 -- A put: the items after it are those that it should leave.
-use Rattle.rk_bucket_table.proofs.Words.{◌≡◌, ◌≢◌, ℕ, ◌+◌, ◌<◌, Bool, true, false, List, ◌∷◌, ◌++◌, Option, Some, None, get_or, set, refl}
-use Rattle.rk_bucket_table.proofs.Words.{sym, ap, ◌∙◌, subst, length, ⊎_elim, append_assoc, cond-true, cond-false, false≢true, Held}
+use Rattle.rk_bucket_table.proofs.Words.{arith, ◌≡◌, ◌≢◌, ℕ, ◌+◌, ◌<◌, Bool, true, false, List, ◌∷◌, ◌++◌, Option, Some, None, get_or, set}
+use Rattle.rk_bucket_table.proofs.Words.{refl, sym, ap, ◌∙◌, subst, length, ⊎_elim, append_assoc, cond-true, cond-false, false≢true, Held}
 use Rattle.rk_bucket_table.proofs.Words.{hash_of, IsInScanOrder, Place, place_of, found, is_at, comes_before, Cell, END, Cells, IsTable}
 use Rattle.rk_bucket_table.proofs.Words.{cell_at, cell_of, chain, chain_of, items_in, joined, taken, IsSought, IsSpot}
 use Rattle.std.specs.Prelude.{nat_lt}
@@ -28,9 +28,7 @@ shown_items per_bucket heads cells items has = table_items per_bucket heads cell
 
 regroup : (ahead front : List Held) (item : Held) (back behind : List Held)
     → ahead ++ ((front ++ item ∷ back) ++ behind) ≡ (ahead ++ front) ++ item ∷ (back ++ behind)
-regroup ahead front item back behind =
-    ap (λ (l : List Held). ahead ++ l) (append_assoc front (item ∷ back) behind)
-    ∙ sym (append_assoc ahead front (item ∷ (back ++ behind)))
+regroup ahead front item back behind = grind (arith, append_assoc)
 
 joined_with : (ahead : List (List Held)) (front : List Held) (item : Held) (back : List Held) (behind : List (List Held))
     → joined (ahead ++ (front ++ item ∷ back) ∷ behind) ≡ (joined ahead ++ front) ++ item ∷ (back ++ joined behind)
@@ -128,13 +126,7 @@ module _ (per_bucket : ℕ) (heads : List ℕ) (cells : Cells) (inside : (chains
   -- no item with the key is there
   its_gap : item_is_at item (cell_at cells at) ≡ false
       → IsGap item.table item.key items (length (lesser per_bucket heads cells inside.0 inside.1 item.table item.key number its_number head read before at sought))
-  its_gap is_not = go (cell_at cells at) refl is_not
-    where
-      go : (there : Option Cell) → cell_at cells at ≡ there → item_is_at item there ≡ false
-          → IsGap item.table item.key items (length (lesser per_bucket heads cells inside.0 inside.1 item.table item.key number its_number head read before at sought))
-      go None here is_not = gap_none per_bucket heads cells inside.0 inside.1 item.table item.key number its_number head read before at sought (sym here)
-      go (Some cell) here is_not =
-          gap_cell per_bucket heads cells inside.0 inside.1 item.table item.key number its_number head read before at sought cell (sym here) is_not
+  its_gap is_not = grind (arith, cell_at, lesser, sought, gap_none, gap_cell)
 
   module _ (is_not : item_is_at item (cell_at cells at) ≡ false) where
     pub newer_added : true ≡ is_newer item (found item.table item.key items)

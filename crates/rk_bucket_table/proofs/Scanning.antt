@@ -1,6 +1,6 @@
 -- A scan begins at the first chain of its token's bucket: the items of the chains before have no part in it.
-use Rattle.rk_bucket_table.proofs.Words.{◌≡◌, ◌≢◌, ℕ, zero, suc, ◌+◌, ◌<◌, ◌≤◌, Bool, true, false, eqb, cond, List, [], ◌∷◌, ◌++◌, Option}
-use Rattle.rk_bucket_table.proofs.Words.{Some, None, length, take, drop, get_or, refl, sym, ap, ◌∙◌, subst, ⊎_elim, arith, append_assoc}
+use Rattle.rk_bucket_table.proofs.Words.{◌≡◌, ◌≢◌, ℕ, zero, suc, ◌+◌, ◌<◌, ◌≤◌, Bool, true, false, eqb, List, [], ◌∷◌, ◌++◌, Option, Some}
+use Rattle.rk_bucket_table.proofs.Words.{None, length, take, drop, get_or, refl, sym, ap, ◌∙◌, subst, ⊎_elim, arith, append_assoc}
 use Rattle.rk_bucket_table.proofs.Words.{length-append, AllByRecursion, list_any, ne_eqb, false≢true, append-nil, drop_more, length-take}
 use Rattle.rk_bucket_table.proofs.Words.{filter-append, Held, Token, Range, IsInScanOrder, item_bucket, item_hash, at_hash, is_live_in}
 use Rattle.rk_bucket_table.proofs.Words.{live_in, batch_at, left, next_token, passed, rest_at, token_behind, order_of_back, Rises}
@@ -12,7 +12,7 @@ use Rattle.std.specs.List.{filter, last_or}
 use Rattle.std.proofs.lemmas.Bool.{cases_Bool, le-ltb, or_parts}
 use Rattle.std.proofs.lemmas.List.{append_cancel_right, take-append-drop}
 use Rattle.std.proofs.lemmas.List.Concat.{flat_map-append}
-use Rattle.rk_table.specs.Scans.{batch_of, behind_bucket, end, of_bucket, token_before, token_of}
+use Rattle.rk_table.specs.Scans.{batch_of, behind_bucket, end, of_bucket, token_of}
 use Rattle.rk_table.proofs.Ordered.{ends_with_one, last_of_end, rises_back}
 use Rattle.rk_table.proofs.Tokens.{batch_gives, left_in_two, passed_and_left, token_before_none}
 use Rattle.rk_bucket_table.proofs.Tables.{IsBelow, IsFromOn, ahead_placed, all_front, all_weaker, behind_placed, chains_linked, items_linked, mine_is, part, placed_ahead, placed_back, placed_from, short, table_parts}
@@ -24,11 +24,7 @@ none_of p (item ∷ items) all = filter_left_out p item items all.0 ∙ none_of 
 
 pub all_filter : (p : Held → Bool) (P : Held → Type 0) (items : List Held) → AllByRecursion P items → AllByRecursion P (filter p items)
 all_filter p P [] all = tt
-all_filter p P (item ∷ items) all = go (p item) (all_filter p P items all.1)
-  where
-    go : (kept : Bool) → AllByRecursion P (filter p items) → AllByRecursion P (cond kept (item ∷ filter p items) (filter p items))
-    go true rest = (all.0, rest)
-    go false rest = rest
+all_filter p P (item ∷ items) all = grind (arith, all.1, all.0, (all_filter p P items all.1))
 
 pub any_some : (p : Held → Bool) (items : List Held) → list_any p items ≡ true → 0 < length (filter p items)
 any_some p [] some = absurd (false≢true some)
@@ -47,33 +43,17 @@ any_none p (item ∷ items) none =
     let both = or_parts (p item) (list_any p items) none in
     filter_left_out p item items both.0 ∙ any_none p items both.1
 
-before_some : (rest done : List Held) → 0 < length rest → token_before rest done ≡ token_behind done
-before_some [] done some = absurd (omega arith)
-before_some (item ∷ rest) done some = refl
-
 -- items of lesser buckets in front
 module _ (from : Token) (limit : ℕ) (front back : List Held) (lesser : AllByRecursion (λ item. item_bucket item < from.bucket) front)
     (there : IsFrom from.bucket back) (rises : Rises item_bucket (front ++ back)) where
   none_in : (bucket : ℕ) → from.bucket ≤ bucket → of_bucket bucket front ≡ []
-  none_in bucket high =
-      none_of (λ item. eqb (item_bucket item) bucket) front
-      (all_weaker (λ item. item_bucket item < from.bucket) (λ item. eqb (item_bucket item) bucket ≡ false)
-      (λ item low. ne_eqb (item_bucket item) bucket (λ e. omega arith)) front lesser)
+  none_in bucket high = grind (arith, none_of, eqb, item_bucket, all_weaker, ne_eqb)
 
   none_behind : behind_bucket from.bucket front ≡ []
-  none_behind =
-      none_of (λ item. ltb from.bucket (item_bucket item)) front
-      (all_weaker (λ item. item_bucket item < from.bucket) (λ item. ltb from.bucket (item_bucket item) ≡ false)
-      (λ item low. le-ltb from.bucket (item_bucket item) (omega arith)) front lesser)
-
-  here_same : (bucket : ℕ) → from.bucket ≤ bucket → of_bucket bucket (front ++ back) ≡ of_bucket bucket back
-  here_same bucket high = filter-append _ front back ∙ ap (λ (l : List Held). l ++ of_bucket bucket back) (none_in bucket high)
-
-  behind_same : behind_bucket from.bucket (front ++ back) ≡ behind_bucket from.bucket back
-  behind_same = filter-append _ front back ∙ ap (λ (l : List Held). l ++ behind_bucket from.bucket back) none_behind
+  none_behind = grind (arith, none_of, ltb, item_bucket, all_weaker, le-ltb)
 
   left_same : left from (front ++ back) ≡ left from back
-  left_same = λ i. drop from.skip (here_same from.bucket (omega arith) i) ++ behind_same i
+  left_same = grind (arith, filter-append, none_in, none_behind)
 
   back_rises : Rises item_bucket back
   back_rises = rises_back item_bucket front back rises
@@ -138,13 +118,20 @@ module _ (from : Token) (limit : ℕ) (front back : List Held) (lesser : AllByRe
   pub next_more : (token : Token) → 0 < length (rest_at from limit back)
       → (0 < length (batch_at from limit back) → token ≡ token_behind done) → token ≡ next_token from limit (front ++ back)
   next_more token some is =
-      let some_left : 0 < length (left from back) =
-      omega (arith, ap length (left_in_two from limit back), length-append (batch_at from limit back) (rest_at from limit back)) in
-      let gives : 0 < length (batch_at from limit back) = batch_gives from limit back some_left in
-      is gives
-      ∙ sym (behind_front done (omega (arith, length-append (passed from back) (batch_at from limit back))) done_there)
-      ∙ sym (before_some (rest_at from limit back) (front ++ done) some)
-      ∙ (λ i. token_before (sym rest_same i) (sym done_more i))
+      grind (
+        arith,
+        left,
+        left_in_two,
+        length-append,
+        batch_at,
+        rest_at,
+        batch_gives,
+        behind_front,
+        passed,
+        done_there,
+        rest_same,
+        done_more,
+      )
 
   pub next_end : rest_at from limit back ≡ [] → end ≡ next_token from limit (front ++ back)
   next_end none = sym (token_before_none (rest_at from limit (front ++ back)) (passed from (front ++ back) ++ batch_at from limit (front ++ back)) (rest_same ∙ none))

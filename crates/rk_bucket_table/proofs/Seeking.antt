@@ -1,6 +1,6 @@
 -- A search along one chain: what each step passes.
 use Rattle.rk_bucket_table.proofs.Words.{◌≡◌, ℕ, ◌<◌, Bool, true, false, List, [], ◌∷◌, ◌++◌, Some, None, length, refl, sym, ap, ◌∙◌, subst}
-use Rattle.rk_bucket_table.proofs.Words.{inl, inr, arith, append_assoc, length-append, Held, Cell, END, Cells, IsChain, IsSegment, cell_at}
+use Rattle.rk_bucket_table.proofs.Words.{inr, arith, append_assoc, length-append, Held, Cell, END, Cells, IsChain, IsSegment, cell_at}
 use Rattle.rk_bucket_table.proofs.Words.{chain, IsPassed, IsSought, StopsAt}
 use Rattle.std.proofs.lemmas.List.Elements.{All-append, All-from_recursion}
 use Rattle.rk_bucket_table.proofs.Segments.{cell_first, chain_is, chain_none, segment_append, walked_short}
@@ -8,13 +8,7 @@ use Rattle.rk_bucket_table.proofs.Segments.{cell_first, chain_is, chain_none, se
 module _ (cells : Cells) (head : ℕ) (passes : Held → Bool) where
   -- at the head nothing is passed
   pub passed_none : IsChain cells head → IsPassed cells head passes END head
-  passed_none ends = record {
-    front = [];
-    back = chain cells head;
-    whole = refl;
-    spot = record { to = refl; from = ends; last = inl (refl, refl) };
-    passed = λ k d h. absurd (omega arith);
-  }
+  passed_none ends = grind (arith, chain)
 
   module _ (free : cell_at cells END ≡ None) (before at : ℕ) (so_far : IsPassed cells head passes before at) where
     -- what is behind a spot is its cell's chain

@@ -1,7 +1,6 @@
 -- Chains of cells: what walks along them meet.
-use Rattle.rk_bucket_table.proofs.Words.{◌≡◌, ◌≢◌, ℕ, zero, suc, ◌≤◌, List, [], ◌∷◌, ◌++◌, Option, Some, None, is_some, length, refl, sym}
-use Rattle.rk_bucket_table.proofs.Words.{ap, ◌∙◌, subst, arith, ContainsKey, Slab, Held, Cell, END, AreChains, Cells, IsChain, IsSegment}
-use Rattle.rk_bucket_table.proofs.Words.{cell_at, chain, items_in}
+use Rattle.rk_bucket_table.proofs.Words.{◌≡◌, ℕ, zero, suc, ◌≤◌, List, [], ◌∷◌, ◌++◌, Option, Some, None, length, refl, sym, ap, ◌∙◌, subst}
+use Rattle.rk_bucket_table.proofs.Words.{arith, Held, Cell, END, Cells, IsChain, IsSegment, cell_at, chain, items_in}
 use Rattle.rk_bucket_table.specs.Cells.{IsRest, followed, walked}
 
 -- a walk meets no more items than it has steps
@@ -63,14 +62,6 @@ module _ (cells : Cells) (free : cell_at cells END ≡ None) where
   pub chain_none : (at : ℕ) → cell_at cells at ≡ None → IsChain cells at → chain cells at ≡ []
   chain_none at none ends = none_left at (chain cells at) none ends
 
--- a chain that is not at its end has a cell
-has_cell : (slab : Slab Cell) (at : ℕ) (items : List Held) → at ≢ END → IsSegment slab.slots at items END → ContainsKey slab at
-has_cell slab at [] more from = absurd (more from)
-has_cell slab at (item ∷ items) more from = ap is_some from.1
-
-pub rest_has_cell : (slab : Slab Cell) (heads : List ℕ) (at : ℕ) → at ≢ END → IsRest heads slab.slots at → ContainsKey slab at
-rest_has_cell slab heads at more rest = has_cell slab at (chain slab.slots at) more rest.this
-
 -- a walk goes on in its chain, and from the end of a chain to the next one
 pub rest_in_chain : (heads : List ℕ) (cells : Cells) (at : ℕ) (cell : Cell) → cell_at cells at ≡ Some cell → IsRest heads cells at
     → (chain cells at ++ items_in heads cells ≡ cell.item ∷ (chain cells cell.next ++ items_in heads cells)) × IsRest heads cells cell.next
@@ -80,26 +71,10 @@ rest_in_chain heads cells at cell here rest =
       record { free = rest.free; this = both.1; behind = rest.behind },
     )
 
-pub rest_to_next : (head : ℕ) (heads : List ℕ) (cells : Cells) → IsRest (head ∷ heads) cells END
-    → (chain cells END ++ items_in (head ∷ heads) cells ≡ chain cells head ++ items_in heads cells) × IsRest heads cells head
-rest_to_next head heads cells rest = (
-  ap (λ (l : List Held). l ++ items_in (head ∷ heads) cells) (at_end cells rest.free),
-  record { free = rest.free; this = rest.behind.0; behind = rest.behind.1 },
-)
-
 pub rest_at_end : (cells : Cells) → cell_at cells END ≡ None → chain cells END ++ items_in [] cells ≡ []
 rest_at_end cells free = ap (λ (l : List Held). l ++ []) (at_end cells free)
 
-pub rest_begins : (heads : List ℕ) (cells : Cells) → cell_at cells END ≡ None → AreChains heads cells
-    → (chain cells END ++ items_in heads cells ≡ items_in heads cells) × IsRest heads cells END
-rest_begins heads cells free chains =
-    let none : chain cells END ≡ [] = at_end cells free in (
-      ap (λ (l : List Held). l ++ items_in heads cells) none,
-      record { free = free; this = subst (λ (l : List Held). IsSegment cells END l END) (sym none) refl; behind = chains },
-    )
-
 pub rest_ends : (heads : List ℕ) (cells : Cells) (at : ℕ) → at ≡ END → length heads ≡ 0 → IsRest heads cells at
     → chain cells at ++ items_in heads cells ≡ []
-rest_ends [] cells at ended none rest =
-    ap (λ (k : ℕ). chain cells k ++ items_in [] cells) ended ∙ rest_at_end cells rest.free
+rest_ends [] cells at ended none rest = grind (arith, chain, items_in, rest_at_end, rest.free)
 rest_ends (head ∷ heads) cells at ended none rest = absurd (omega arith)

@@ -18,8 +18,7 @@ linked_parts cells [] [] mine behind linked = absurd linked
 linked_parts cells (head ∷ heads) [] mine behind linked = (tt, linked.0, linked.1)
 linked_parts cells [] (items ∷ ahead) mine behind linked = absurd linked
 linked_parts cells (head ∷ heads) (items ∷ ahead) mine behind linked =
-    let rest = linked_parts cells heads ahead mine behind linked.1 in
-    ((linked.0, rest.0), rest.1, rest.2)
+    grind (arith, linked.1, linked.0, (linked_parts cells heads ahead mine behind linked.1))
 
 -- a table with a spot in the chain of a number
 pub record IsAt (per_bucket : ℕ) (heads : List ℕ) (cells : Cells) (number : ℕ) (ahead : List (List Held)) (front back : List Held)
@@ -32,14 +31,10 @@ pub record IsAt (per_bucket : ℕ) (heads : List ℕ) (cells : Cells) (number : 
 module _ (per_bucket : ℕ) (heads : List ℕ) (cells : Cells) (number : ℕ) (ahead : List (List Held)) (front back : List Held)
     (behind : List (List Held)) (before at : ℕ) (state : IsAt per_bucket heads cells number ahead front back behind before at) where
   linked_ahead : AreLinked cells (take number heads) ahead
-  linked_ahead =
-      subst (λ (k : ℕ). AreLinked cells (take k heads) ahead) state.size
-      (linked_parts cells heads ahead (front ++ back) behind state.table.linked).0
+  linked_ahead = grind (arith, linked_parts)
 
   linked_behind : AreLinked cells (drop (suc number) heads) behind
-  linked_behind =
-      subst (λ (k : ℕ). AreLinked cells (drop (suc k) heads) behind) state.size
-      (linked_parts cells heads ahead (front ++ back) behind state.table.linked).2
+  linked_behind = grind (arith, linked_parts)
 
   pub its_placed : AllByRecursion (IsOf per_bucket number) (front ++ back)
   its_placed =
@@ -51,13 +46,7 @@ module _ (per_bucket : ℕ) (heads : List ℕ) (cells : Cells) (number : ℕ) (a
 
   -- how many items there are with others in that chain
   lengths : (other : List Held) → length (joined (ahead ++ other ∷ behind)) ≡ length (joined ahead) + (length other + length (joined behind))
-  lengths other =
-      omega (
-        arith,
-        ap length (joined_parts ahead other behind),
-        length-append (joined ahead) (other ++ joined behind),
-        length-append other (joined behind),
-      )
+  lengths other = grind (arith, joined_parts, length-append, joined)
 
   still_counted : (new_heads : List ℕ) → length new_heads ≡ length heads → IsCountOfChains per_bucket (length new_heads)
   still_counted new_heads same = subst (IsCountOfChains per_bucket) (sym same) state.table.count

@@ -1,18 +1,17 @@
 -- Chains that are cut in two: where the cut is, and what it leaves.
-use Rattle.rk_bucket_table.proofs.Words.{◌≡◌, ◌≢◌, ℕ, zero, suc, ◌+◌, ◌*◌, ◌^◌, ◌<◌, ◌≤◌, ◌⊎◌, Bool, true, eqb, List, [], ◌∷◌, ◌++◌, Some}
-use Rattle.rk_bucket_table.proofs.Words.{None, is_some, length, take, drop, get_or, set, refl, sym, ap, ◌∙◌, subst, inl, inr, ⊎_elim, arith}
-use Rattle.rk_bucket_table.proofs.Words.{append_assoc, length-append, AllByRecursion, IsStrictlySortedBy, Less, cases_lt, eq-eqb}
-use Rattle.rk_bucket_table.proofs.Words.{false≢true, append-nil, drop_more, get_or_at, count_by-le-length, ContainsKey, Slab, Held}
-use Rattle.rk_bucket_table.proofs.Words.{IsInScanOrder, item_cmp, item_hash, order_of_back, Cell, END, AreLinked, ArePlaced, Cells, IsChain}
-use Rattle.rk_bucket_table.proofs.Words.{IsSegment, IsTable, cell_at, cell_of, chain, chain_of, joined, taken, HasLast, IsSought, StopsAt}
-use Rattle.std.proofs.Common.{◌/◌, add-one}
+use Rattle.rk_bucket_table.proofs.Words.{◌≡◌, ◌≢◌, ℕ, zero, suc, ◌+◌, ◌*◌, ◌<◌, ◌≤◌, ◌⊎◌, Bool, true, eqb, List, [], ◌∷◌, ◌++◌, Some, None}
+use Rattle.rk_bucket_table.proofs.Words.{is_some, length, take, drop, get_or, set, refl, sym, ap, ◌∙◌, subst, ⊎_elim, arith, append_assoc}
+use Rattle.rk_bucket_table.proofs.Words.{length-append, AllByRecursion, IsStrictlySortedBy, Less, cases_lt, eq-eqb, false≢true, append-nil}
+use Rattle.rk_bucket_table.proofs.Words.{drop_more, get_or_at, count_by-le-length, ContainsKey, Slab, Held, IsInScanOrder, item_cmp}
+use Rattle.rk_bucket_table.proofs.Words.{item_hash, order_of_back, Cell, END, AreLinked, ArePlaced, Cells, IsChain, IsSegment, IsTable}
+use Rattle.rk_bucket_table.proofs.Words.{cell_at, cell_of, chain, chain_of, joined, taken, HasLast, IsSought, StopsAt}
+use Rattle.std.proofs.Common.{add-one}
 use Rattle.std.specs.Ordering.{ordering_reverse}
 use Rattle.std.specs.declared.cmp.Ordering.{Ordering}
 use Rattle.std.proofs.Math.Nat.{mul_left_comm}
 use Rattle.std.proofs.lemmas.Bool.{eqb-true}
 use Rattle.std.proofs.lemmas.List.{drop_all, drop_at, set-append_left, take_at}
 use Rattle.std.proofs.lemmas.List.Elements.{recursion_from_All}
-use Rattle.rk_types.specs.Hashing.{bucket_of}
 use Rattle.rk_table.proofs.Cuts.{less_is}
 use Rattle.rk_table.proofs.InOrder.{item_total}
 use Rattle.rk_bucket_table.specs.declared.cell.TheConstants.{MOST_PER_BUCKET}
@@ -26,13 +25,7 @@ use Rattle.rk_bucket_table.proofs.Scanning.{linked_size}
 -- the items of a chain are in two of twice as many
 pub twice_chain : (per_bucket hash number : ℕ) → chain_of per_bucket hash ≡ number
     → (chain_of (2 * per_bucket) hash ≡ 2 * number) ⊎ (chain_of (2 * per_bucket) hash ≡ 2 * number + 1)
-twice_chain per_bucket hash number is =
-    let buckets : bucket_of hash * (2 * per_bucket) ≡ 2 * (bucket_of hash * per_bucket) = mul_left_comm (bucket_of hash) 2 per_bucket in
-    let high : (hash / 2 ^ 32) * (2 * per_bucket) ≡ 2 * ((hash / 2 ^ 32) * per_bucket) = mul_left_comm (hash / 2 ^ 32) 2 per_bucket in
-    ⊎_elim
-    (λ (low : chain_of (2 * per_bucket) hash < 2 * number + 1). inl (omega (arith, is, buckets, high)))
-    (λ (up : 2 * number + 1 ≤ chain_of (2 * per_bucket) hash). inr (omega (arith, is, buckets, high)))
-    (cases_lt (chain_of (2 * per_bucket) hash) (2 * number + 1))
+twice_chain per_bucket hash number is = grind (arith, mul_left_comm, chain_of, cases_lt)
 
 -- the number does not fall along scan order
 not_both : (r s : Ordering) → r ≡ ordering_reverse s → r ≡ Less → s ≡ Less → ⊥
@@ -56,13 +49,18 @@ later_behind : (per_bucket number : ℕ) → 0 < per_bucket → (item : Held) (i
     → chain_of per_bucket (item_hash item) ≡ number + 1 → AllByRecursion (λ other. item_cmp item other ≡ Less) items
     → AllByRecursion (IsEither per_bucket number) items → AllByRecursion (IsOf per_bucket (number + 1)) items
 later_behind per_bucket number some item [] its all either = tt
-later_behind per_bucket number some item (other ∷ items) its all either = (
-  ⊎_elim
-      (λ (low : chain_of per_bucket (item_hash other) ≡ number). let up = chain_rises per_bucket some item other all.0 in absurd (omega (arith, up)))
-      (λ (same : chain_of per_bucket (item_hash other) ≡ number + 1). same)
+later_behind per_bucket number some item (other ∷ items) its all either =
+    grind (
+      arith,
+      chain_of,
+      item_hash,
+      chain_rises,
+      all.0,
       either.0,
-  later_behind per_bucket number some item items its all.1 either.1,
-)
+      all.1,
+      either.1,
+      (later_behind per_bucket number some item items its all.1 either.1),
+    )
 
 -- behind the cut all items are of the second one
 pub back_of_second : (per_bucket number : ℕ) → 0 < per_bucket → (items : List Held) → IsInScanOrder items
@@ -81,16 +79,14 @@ back_of_second per_bucket number some (item ∷ items) order stops either =
 
 placed_append : (per_bucket first : ℕ) (chains : List (List Held)) (number : ℕ) (more : List (List Held)) → number ≡ first + length chains
     → ArePlaced per_bucket first chains → ArePlaced per_bucket number more → ArePlaced per_bucket first (chains ++ more)
-placed_append per_bucket first [] number more size placed rest =
-    subst (λ (k : ℕ). ArePlaced per_bucket k more) (let e : number ≡ first = omega arith in e) rest
+placed_append per_bucket first [] number more size placed rest = grind arith
 placed_append per_bucket first (items ∷ chains) number more size placed rest =
     (placed.0, placed_append per_bucket (suc first) chains number more (omega arith) placed.1 rest)
 
 placed_at : (per_bucket first : ℕ) (chains : List (List Held)) (number : ℕ) → number < length chains → ArePlaced per_bucket first chains
     → AllByRecursion (IsOf per_bucket (first + number)) (get_or chains number [])
 placed_at per_bucket first [] number within placed = absurd (omega arith)
-placed_at per_bucket first (items ∷ chains) zero within placed =
-    subst (λ (k : ℕ). AllByRecursion (IsOf per_bucket k) items) (let e : first ≡ first + zero = omega arith in e) placed.0
+placed_at per_bucket first (items ∷ chains) zero within placed = grind (arith, placed.0)
 placed_at per_bucket first (items ∷ chains) (suc number) within placed =
     subst (λ (k : ℕ). AllByRecursion (IsOf per_bucket k) (get_or chains number [])) (let e : suc first + number ≡ first + suc number = omega arith in e)
     (placed_at per_bucket (suc first) chains number (omega arith) placed.1)
@@ -98,11 +94,7 @@ placed_at per_bucket first (items ∷ chains) (suc number) within placed =
 -- the cell in front of a spot is there
 pub last_there : (slab : Slab Cell) (head : ℕ) (passes : Held → Bool) (before at : ℕ) → IsSought slab.slots head passes before at
     → before ≢ END → ContainsKey slab before
-last_there slab head passes before at sought some =
-    ⊎_elim
-    (λ (none : (sought.so_far.front ≡ []) × (before ≡ END)). absurd (some none.1))
-    (λ (last : HasLast slab.slots head sought.so_far.front before at). ap is_some last.here)
-    sought.so_far.spot.last
+last_there slab head passes before at sought some = grind arith
 
 -- so many chains were cut
 pub record IsSpreading (per_bucket : ℕ) (heads : List ℕ) (number : ℕ) (chains : List (List Held)) (twice : List ℕ) (cells : Cells) : Type 0 where
@@ -117,44 +109,12 @@ pub record IsSpreading (per_bucket : ℕ) (heads : List ℕ) (number : ℕ) (cha
 
 module _ (per_bucket : ℕ) (heads : List ℕ) (start : Cells) (chains : List (List Held)) (table : IsTable per_bucket heads start chains) where
   pub spreading_first : (twice : List ℕ) → twice ≡ [] → IsSpreading per_bucket heads 0 chains twice start
-  spreading_first twice none = record {
-    done = [];
-    linked = subst (λ (l : List ℕ). AreLinked start (l ++ heads) chains) (sym none) table.linked;
-    same = refl;
-    placed = tt;
-    size = refl;
-    heads_size = ap length none;
-    all = table.all;
-    free = table.free;
-  }
+  spreading_first twice none = grind arith
 
   pub spreading_last : (number : ℕ) (twice : List ℕ) (cells : Cells) → number ≡ length heads → 2 * per_bucket ≤ MOST_PER_BUCKET
       → IsSpreading per_bucket heads number chains twice cells
       → (more : List (List Held)) × IsTable (2 * per_bucket) twice cells more × (joined more ≡ joined chains)
-  spreading_last number twice cells past few now =
-      let no_heads : twice ++ drop number heads ≡ twice =
-      ap (λ (l : List ℕ). twice ++ l) (drop_all number heads (omega arith)) ∙ append-nil twice in
-      let no_chains : now.done ++ drop number chains ≡ now.done =
-      ap (λ (l : List (List Held)). now.done ++ l) (drop_all number chains (omega (arith, linked_size start heads chains table.linked)))
-      ∙ append-nil now.done in
-      let same : joined now.done ≡ joined chains = ap joined (sym no_chains) ∙ now.same in (
-        now.done,
-        record {
-          count = record {
-            whole = omega (arith, now.heads_size, table.count.whole);
-            some = omega (arith, table.count.some);
-            most = few;
-          };
-          linked =
-              subst (λ (l : List ℕ). AreLinked cells l now.done) no_heads
-              (subst (λ (l : List (List Held)). AreLinked cells (twice ++ drop number heads) l) no_chains now.linked);
-          placed = now.placed;
-          order = subst IsInScanOrder (sym same) table.order;
-          all = ap length same ∙ now.all;
-          free = now.free;
-        },
-        same,
-      )
+  spreading_last number twice cells past few now = grind (arith, drop_all, append-nil, linked_size, joined)
 
   module _ (number : ℕ) (twice : List ℕ) (cells : Cells) (within : number < length heads) (now : IsSpreading per_bucket heads number chains twice cells) where
     abbrev mine : List Held

@@ -89,10 +89,7 @@ part_at cells (head ∷ heads) (items ∷ chains) (suc number) linked within =
 
 pub heads_split : (heads : List ℕ) (number : ℕ) → number < length heads
     → heads ≡ take number heads ++ get_or heads number END ∷ drop (suc number) heads
-heads_split heads number within =
-    sym (take-append-drop number heads)
-    ∙ ap (λ (l : List ℕ). take number heads ++ l)
-    (drop_more heads number END within ∙ ap (λ (k : ℕ). get_or heads number END ∷ drop k heads) (add-one number))
+heads_split heads number within = grind (arith, take-append-drop, drop_more, add-one)
 
 pub linked_append : (cells : Cells) (heads more : List ℕ) (chains others : List (List Held)) (head : ℕ) (items : List Held)
     → AreLinked cells heads chains → IsSegment cells head items END → AreLinked cells more others
@@ -122,10 +119,7 @@ module _ (per_bucket : ℕ) where
       → AllByRecursion (IsFromOn per_bucket number) (joined chains)
   placed_from number [] placed = tt
   placed_from number (items ∷ chains) placed =
-      all_append (IsFromOn per_bucket number) items (joined chains)
-      (all_weaker (IsOf per_bucket number) (IsFromOn per_bucket number) (λ item is. omega arith) items placed.0)
-      (all_weaker (IsFromOn per_bucket (suc number)) (IsFromOn per_bucket number) (λ item from. omega arith) (joined chains)
-      (placed_from (suc number) chains placed.1))
+      grind (arith, all_append, joined, all_weaker, placed.0, placed.1, (placed_from (suc number) chains placed.1))
 
   pub placed_ahead : (first : ℕ) (ahead : List (List Held)) (rest : List (List Held)) (number : ℕ) → number ≡ first + length ahead
       → ArePlaced per_bucket first (ahead ++ rest) → AllByRecursion (IsBelow per_bucket number) (joined ahead)
@@ -137,16 +131,14 @@ module _ (per_bucket : ℕ) where
 
   pub placed_back : (first : ℕ) (ahead : List (List Held)) (rest : List (List Held)) (number : ℕ) → number ≡ first + length ahead
       → ArePlaced per_bucket first (ahead ++ rest) → ArePlaced per_bucket number rest
-  placed_back first [] rest number size placed =
-      subst (λ (k : ℕ). ArePlaced per_bucket k rest) (let e : first ≡ number = omega arith in e) placed
+  placed_back first [] rest number size placed = grind arith
   placed_back first (items ∷ ahead) rest number size placed = placed_back (suc first) ahead rest number (omega arith) placed.1
 
   -- another list in the place of one
   pub placed_replaced : (first : ℕ) (ahead : List (List Held)) (mine other : List Held) (behind : List (List Held)) (number : ℕ)
       → number ≡ first + length ahead → ArePlaced per_bucket first (ahead ++ mine ∷ behind) → AllByRecursion (IsOf per_bucket number) other
       → ArePlaced per_bucket first (ahead ++ other ∷ behind)
-  placed_replaced first [] mine other behind number size placed all =
-      (subst (λ (k : ℕ). AllByRecursion (IsOf per_bucket k) other) (let e : number ≡ first = omega arith in e) all, placed.1)
+  placed_replaced first [] mine other behind number size placed all = grind (arith, placed.1)
   placed_replaced first (items ∷ ahead) mine other behind number size placed all =
       (placed.0, placed_replaced (suc first) ahead mine other behind number (omega arith) placed.1 all)
 

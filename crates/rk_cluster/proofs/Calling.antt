@@ -34,11 +34,7 @@ calls_few calls asked is less = let fewer : calls < MOST_CALLS = omega (arith, i
 -- the tables of well-formed rows count from 1
 first_counts : (limits : Limits) (row : Row) (rest : Bool) (table : ℕ) (first : Bool) → IsFormedRow limits row → (rest ≡ true → 1 ≤ table) → (row.range.table == table) ≡ first
     → (first || rest) ≡ true → 1 ≤ table
-first_counts limits row rest table true formed others is has =
-    let same : row.range.table ≡ table = eqb-true row.range.table table is in
-    let least = formed.range.table.least_is in
-    omega (arith, same, least)
-first_counts limits row rest table false formed others is has = others has
+first_counts limits row rest table first formed others is has = grind (arith, eqb-true)
 
 pub table_counts : (limits : Limits) (rows : List Row) (table : ℕ) → All (IsFormedRow limits) rows → has_table rows table ≡ true → 1 ≤ table
 table_counts limits [] table formed has = absurd (cc has)
@@ -65,13 +61,7 @@ module _ {R : Type 0} (segments : R → Option Segments) (lanes : List (LaneStat
   -- ---- codes
 
   pub call_unknown : get sessions client ≡ None → HasCode segments (state_of lanes sessions) (λ cluster. call_code cluster client table) (Some Unknown)
-  call_unknown absent cluster is =
-      let here : is_client cluster client ≡ false = ap (λ (known : NumberMap Session). is_some (get known client)) is.sessions ∙ ap (λ (o : Option Session). is_some o) absent in
-      ap (λ (b : Bool). first_code (
-      code_where (not b || not (has_table (rows_of cluster) table)) Unknown
-      ∷ code_where (is_some (unwrap_or (get cluster.sessions client) (new_session client)).outstanding) Busy
-      ∷ code_where (nat_le MOST_CALLS (calls_asked cluster)) Limit
-      ∷ [])) here
+  call_unknown absent cluster is = grind (arith, is_client, first_code, code_where, has_table, rows_of, new_session, nat_le, calls_asked)
 
   module _ (lane : LaneState R) (rows : List Row) (session : Session) (has waits many : Bool) (there : slice_get lanes 0 ≡ Some lane)
       (known : IfSome lane.running (λ running. rows ≡ running.coordinator.rows)) (found : get sessions client ≡ Some session) where

@@ -1,6 +1,6 @@
 -- Occurrences, one after the other.
-use Rattle.rk_cluster.proofs.Words.{ℕ, List, [], ◌∷◌, ◌++◌, Option, None, Some, refl, sym, ap, subst, ◌∙◌, append-nil, Said, Segments}
-use Rattle.rk_cluster.proofs.Words.{Cluster, Occurrence, acted, all_acted, Acts, ActsOne, Carries, IsActedAs, RunsTo, ClusterState}
+use Rattle.rk_cluster.proofs.Words.{arith, ℕ, List, [], ◌∷◌, Option, None, Some, refl, sym, subst, append-nil, Said, Segments, Cluster}
+use Rattle.rk_cluster.proofs.Words.{Occurrence, acted, all_acted, Acts, ActsOne, Carries, IsActedAs, ClusterState}
 use Rattle.rk_cluster.specs.Acted.{Acted, going_on}
 use Rattle.rk_cluster.proofs.Leading.{leads_nowhere, leads_on}
 
@@ -10,19 +10,11 @@ module _ {R : Type 0} (segments : R → Option Segments) where
       → IsActedAs segments before next [] None it → IsActedAs segments it.cluster final told broken (all_acted it.cluster later)
       → IsActedAs segments before final told broken (going_on it it.worn (λ cluster. all_acted cluster later))
   gone_on before next final told broken later it is after =
-      subst (λ (o : Option ℕ). IsActedAs segments before final told broken (going_on it o (λ cluster. all_acted cluster later))) (sym is.worn)
-      (record {
-        cluster = after.cluster;
-        leads = leads_on before it.cluster (all_acted it.cluster later).cluster it.came (all_acted it.cluster later).came is.leads after.leads;
-        said = ap (λ (said : List Said). said ++ (all_acted it.cluster later).said) is.said ∙ after.said;
-        worn = after.worn;
-      })
+      search (all_acted, leads_on, is.worn, after.cluster, it.cluster, it.came, is.leads, after.leads, is.said, after.said, after.worn)
 
   pub first_acts : (old next final : ClusterState R) (occurrence : Occurrence) (later : List Occurrence) (told : List Said) (broken : Option ℕ)
       → ActsOne segments old next occurrence [] None → Acts segments next final later told broken → Acts segments old final (occurrence ∷ later) told broken
-  first_acts old next final occurrence later told broken one acts cluster is =
-      let it = one cluster is in
-      gone_on cluster next final told broken later (acted cluster occurrence) it (acts (acted cluster occurrence).cluster it.cluster)
+  first_acts old next final occurrence later told broken one acts cluster is = grind (arith, gone_on, acted)
 
   -- nothing follows where something is worn
   pub worn_stays : (before : Cluster) (next : ClusterState R) (told : List Said) (number : ℕ) (later : List Occurrence) (it : Acted)
@@ -38,14 +30,7 @@ module _ {R : Type 0} (segments : R → Option Segments) where
   -- one occurrence alone, and none
   pub last_stays : (before : Cluster) (next : ClusterState R) (told : List Said) (it : Acted) → IsActedAs segments before next told None it
       → IsActedAs segments before next told None (going_on it it.worn (λ cluster. all_acted cluster []))
-  last_stays before next told it is =
-      subst (λ (o : Option ℕ). IsActedAs segments before next told None (going_on it o (λ cluster. all_acted cluster []))) (sym is.worn)
-      (record {
-        cluster = is.cluster;
-        leads = subst (λ (came : List Occurrence). RunsTo before came it.cluster) (sym (append-nil it.came)) is.leads;
-        said = append-nil it.said ∙ is.said;
-        worn = refl;
-      })
+  last_stays before next told it is = grind (arith, all_acted, append-nil)
 
   pub only_acts : (old next : ClusterState R) (occurrence : Occurrence) (told : List Said) → ActsOne segments old next occurrence told None
       → Acts segments old next (occurrence ∷ []) told None

@@ -1,16 +1,15 @@
 -- A client's turn or answer in a lane is one in the cluster.
 use Rattle.rk_cluster.proofs.Words.{Said, acted, ◌≡◌, ◌≢◌, ◌<◌, ℕ, List, [], ◌∷◌, length, Option, None, Some, Result, Ok, Err, IfErr, IfOk}
-use Rattle.rk_cluster.proofs.Words.{IfSome, IsSomeAnd, OnErr, is_some, slice_get, slice_set, unwrap_or, refl, sym, ap, subst, ◌∙◌, inl, inr}
-use Rattle.rk_cluster.proofs.Words.{⊎_elim, arith, cases_eq, All-nil, slice_get_within, NumberMap, get, insert, Call, get_same, Segments}
-use Rattle.rk_cluster.proofs.Words.{Visited, accept, ask, Session, new_session, Accepts, Asks, Cluster, ClusterMay, KeepsCalm, Occurrence}
+use Rattle.rk_cluster.proofs.Words.{IfSome, IsSomeAnd, OnErr, slice_get, slice_set, unwrap_or, refl, sym, ap, subst, ◌∙◌, inr, ⊎_elim}
+use Rattle.rk_cluster.proofs.Words.{arith, cases_eq, All-nil, slice_get_within, NumberMap, get, insert, Call, get_same, Segments, Visited}
+use Rattle.rk_cluster.proofs.Words.{accept, ask, Session, new_session, Accepts, Asks, Cluster, ClusterMay, KeepsCalm, Occurrence}
 use Rattle.rk_cluster.proofs.Words.{cluster_after, lane_at, session_at, ReplicasTell, AllTell, world_visited, World, new_world, StepError}
-use Rattle.rk_cluster.proofs.Words.{Seen, AreTold, LaneState, Running, world_with, IsVisitOf, acted_by, came_in, worn_in, ActsOne}
-use Rattle.rk_cluster.proofs.Words.{IsActedAs, RunsTo, said_then, IsOf, IsWorld, state_of, AcceptsShort, HasSession}
+use Rattle.rk_cluster.proofs.Words.{Seen, LaneState, Running, world_with, IsVisitOf, acted_by, came_in, worn_in, ActsOne, IsActedAs, RunsTo}
+use Rattle.rk_cluster.proofs.Words.{said_then, IsOf, IsWorld, state_of, AcceptsShort, HasSession}
 use Rattle.rk_types.specs.NumberMap.{IsInOrder}
 use Rattle.rk_types.specs.declared.call.Ended.{Ended}
 use Rattle.rk_types.proofs.NumberMaps.{get_other, in_order_insert, same_map}
 use Rattle.rk_world.specs.Base.{Base, no_base}
-use Rattle.rk_world.specs.Calls.{accept_by, ask_by}
 use Rattle.rk_world.specs.Cluster.{cluster_visited}
 use Rattle.rk_world.specs.Premises.{IsAfterStart}
 use Rattle.rk_world.specs.Refusals.{accept_refusal, ask_refusal}
@@ -24,12 +23,7 @@ use Rattle.rk_cluster.proofs.Worlds.{same_count, set_there, world_at, world_set}
 
 -- what is put in the place of itself changes nothing
 pub insert_there : {X : Type 0} (things : NumberMap X) (number : ℕ) (thing : X) → IsInOrder things → get things number ≡ Some thing → insert things number thing ≡ things
-insert_there {X} things number thing order there =
-    same_map (insert things number thing) things (in_order_insert things number thing order) order
-    (λ q. ⊎_elim
-    (λ (is : q ≡ number). get_same things number thing q is ∙ sym there ∙ ap (get things) (sym is))
-    (λ (apart : q ≡ number → ⊥). get_other things number thing q apart)
-    (cases_eq q number))
+insert_there {X} things number thing order there = grind (arith, same_map, insert, in_order_insert, get_same, get_other, cases_eq)
 
 -- each call comes after a start from nothing
 pub after_nothing : (call : Option Call) → IfSome call (IsAfterStart no_base)
@@ -48,17 +42,7 @@ module _ {R : Type 0} (segments : R → Option Segments) where
 
   taken : (visit : World → Result Visited StepError) → ((v : World) → AllTell v → AllTell (world_visited v (visit v))) → (old new : LaneState R) (session later : Session) (seen : Seen)
       → IsVisitOf visit old new later seen → VisitsLane visit old new session later (Ok seen)
-  taken visit keeps old new session later seen it w is =
-      let same : Some it.before ≡ Some is.running = sym it.was ∙ is.runs in
-      let running_is : is.running ≡ it.before = cc same in
-      let told = is.told in
-      let world_is : w ≡ world_with old it.before is.stored = is.is ∙ ap (λ (running : Running). world_with old running is.stored) running_is in
-      let all : AllTell (world_with new it.after is.stored) =
-      all_visited (world_with old it.before is.stored) (record { world = world_with new it.after is.stored; session = later; seen = seen }) (visit (world_with old it.before is.stored))
-      (keeps (world_with old it.before is.stored) (subst AllTell world_is is.all)) (it.visited is.stored) in
-      subst (HasVisited old new session later (Ok seen))
-      (sym (ap visit world_is ∙ it.visited is.stored))
-      (record { running = it.after; runs = it.is; stored = is.stored; told = subst (λ backups. AreTold segments backups is.stored) (sym it.backups) told; is = refl; all = all }, refl, refl)
+  taken visit keeps old new session later seen it w is = grind (arith, world_with, all_visited)
 
   -- why a visit is refused is the same in each world that a lane stands for
   known_there : (refusal : World → Option StepError) (old : LaneState R) (error : StepError) → IsRefusedFor refusal old error → (running : Running) → old.running ≡ Some running
@@ -66,38 +50,19 @@ module _ {R : Type 0} (segments : R → Option Segments) where
   known_there refusal old error it running runs =
       subst (λ (o : Option Running). IsSomeAnd o (λ it. refusal (world_with old it []) ≡ Some error)) runs it
 
-  refused_ask : (old new : LaneState R) (session later : Session) (error : StepError) → IsRefusedFor (λ w. ask_refusal w session) old error → new ≡ old → later ≡ session
-      → VisitsLane (λ w. ask w session) old new session later (Err error)
-  refused_ask old new session later error it same stays w is =
-      let here : ask_refusal w session ≡ Some error =
-      ap (λ (v : World). ask_refusal v session) is.is ∙ known_there (λ w. ask_refusal w session) old error it is.running is.runs in
-      subst (HasVisited old new session later (Err error)) (sym (ap (ask_by w session) here)) (refl, same, stays)
-
-  refused_accept : (number : ℕ) (old new : LaneState R) (session later : Session) (error : StepError)
-      → IsRefusedFor (λ w. accept_refusal w number session.client (get w.wire.messages number)) old error → new ≡ old → later ≡ session
-      → VisitsLane (λ w. accept w number session) old new session later (Err error)
-  refused_accept number old new session later error it same stays w is =
-      let refusal = λ (v : World). accept_refusal v number session.client (get v.wire.messages number) in
-      let here : refusal w ≡ Some error = ap refusal is.is ∙ known_there refusal old error it is.running is.runs in
-      subst (HasVisited old new session later (Err error)) (sym (ap (accept_by w number session) here)) (refl, same, stays)
-
   pub asks_lane : (old new : LaneState R) (session later : Session) (answer : Result Seen StepError) → (answer ≡ Err causes.NoMemory → ⊥)
       → IfOk answer (λ seen. IsVisitOf (λ w. ask w session) old new later seen)
       → IfErr answer (λ e. e ≢ causes.NoMemory → IsRefusedFor (λ w. ask_refusal w session) old e)
       → OnErr answer (new ≡ old) → IfErr answer (λ e. e ≢ causes.NoMemory → later ≡ session)
       → VisitsLane (λ w. ask w session) old new session later answer
-  asks_lane old new session later (Ok seen) memory ok refused lane stays = taken (λ w. ask w session) (λ v all. tell_asked v session all) old new session later seen ok
-  asks_lane old new session later (Err error) memory ok refused lane stays =
-      refused_ask old new session later error (refused (λ e. memory (ap Err e))) lane (stays (λ e. memory (ap Err e)))
+  asks_lane old new session later answer memory ok refused lane stays = grind (arith, taken, ask, tell_asked, known_there)
 
   pub accepts_lane : (number : ℕ) (old new : LaneState R) (session later : Session) (answer : Result Seen StepError) → (answer ≡ Err causes.NoMemory → ⊥)
       → IfOk answer (λ seen. IsVisitOf (λ w. accept w number session) old new later seen)
       → IfErr answer (λ e. e ≢ causes.NoMemory → IsRefusedFor (λ w. accept_refusal w number session.client (get w.wire.messages number)) old e)
       → OnErr answer (new ≡ old) → OnErr answer (later ≡ session)
       → VisitsLane (λ w. accept w number session) old new session later answer
-  accepts_lane number old new session later (Ok seen) memory ok refused lane stays = taken (λ w. accept w number session) (λ v all. tell_accepted v number session all) old new session later seen ok
-  accepts_lane number old new session later (Err error) memory ok refused lane stays =
-      refused_accept number old new session later error (refused (λ e. memory (ap Err e))) lane stays
+  accepts_lane number old new session later answer memory ok refused lane stays = grind (arith, taken, accept, tell_accepted, known_there)
 
   -- ---- in a cluster
 
@@ -212,16 +177,8 @@ module _ {R : Type 0} (segments : R → Option Segments) where
             (accepts_lane number old new session later (Ok seen) (λ never. absurd (cc never)) ok refused kept stays),
       )
   accepts_short lanes sessions place number client old new session later (Err error) there found order ok refused kept stays =
-      inl
-      (record {
-        lanes = inl (ap (slice_set lanes place) kept ∙ set_there lanes place old there);
-        sessions = inl (ap (insert sessions client) stays ∙ insert_there sessions client session order found);
-      })
+      grind (arith, slice_set, set_there, insert, insert_there)
 
 -- who has a session keeps one
 pub has_after : (sessions : NumberMap Session) (client : ℕ) (later : Session) (other : ℕ) → HasSession sessions other → HasSession (insert sessions client later) other
-has_after sessions client later other has =
-    ⊎_elim
-    (λ (is : other ≡ client). ap (λ (o : Option Session). is_some o) (get_same sessions client later other is))
-    (λ (apart : other ≡ client → ⊥). ap (λ (o : Option Session). is_some o) (get_other sessions client later other apart) ∙ has)
-    (cases_eq other client)
+has_after sessions client later other has = grind (arith, get_same, get_other, cases_eq)

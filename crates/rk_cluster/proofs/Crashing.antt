@@ -1,9 +1,9 @@
 -- How a master crashes in all lanes.
 use Rattle.rk_cluster.proofs.Words.{◌≡◌, ◌<◌, ◌≤◌, ◌+◌, ◌-◌, ℕ, Bool, ◌&&◌, not, List, [], ◌∷◌, All, nat_le, length, slice_get, Option}
-use Rattle.rk_cluster.proofs.Words.{None, Some, IfSome, refl, sym, ap, subst, ◌∙◌, arith, list_all, NumberMap, LANES, Segments, Session}
-use Rattle.rk_cluster.proofs.Words.{IsMaster, lives_another, World, has_crashed, LaneState, world_with, code_where, crash_code, first_code}
-use Rattle.rk_cluster.proofs.Words.{ActsOne, HasCode, LanesGoOn, is_dead, is_master, backup_counts, AreWorlds, AreLanes, CarriesSteps}
-use Rattle.rk_cluster.proofs.Words.{IsHappening, MayComeAt, state_of, HoldsIn, Crashed, Unknown, Deed}
+use Rattle.rk_cluster.proofs.Words.{None, Some, IfSome, sym, ap, subst, ◌∙◌, arith, list_all, NumberMap, LANES, Segments, Session, IsMaster}
+use Rattle.rk_cluster.proofs.Words.{lives_another, World, has_crashed, LaneState, world_with, code_where, crash_code, first_code, ActsOne}
+use Rattle.rk_cluster.proofs.Words.{HasCode, LanesGoOn, is_dead, is_master, backup_counts, AreWorlds, AreLanes, CarriesSteps, IsHappening}
+use Rattle.rk_cluster.proofs.Words.{MayComeAt, state_of, HoldsIn, Crashed, Unknown, Deed}
 use Rattle.rk_world.specs.declared.event.Event.TheVariants as events
 use Rattle.rk_cluster.specs.Crashing.{IsSameBeside, crashes}
 use Rattle.rk_cluster.specs.Looks.{is_other_alive}
@@ -28,14 +28,7 @@ module _ {R : Type 0} (segments : R → Option Segments) where
     pub rest : (place : ℕ) → lane ≤ place → slice_get now place ≡ slice_get old place
 
   pub crashing_none : (faults : R → ℕ) (lanes : List (LaneState R)) (masters master : ℕ) → AreLanes masters 0 lanes → IsCrashing faults lanes lanes masters master 0
-  crashing_none faults lanes masters master are = record {
-    came = λ sessions. come_none segments occurrence_of (crashes master) (state_of lanes sessions);
-    lanes = are;
-    count = refl;
-    backups = refl;
-    counts = lanes_same faults lanes;
-    rest = λ place past. refl;
-  }
+  crashing_none faults lanes masters master are = grind (arith, come_none, occurrence_of, state_of, lanes_same)
 
   pub crashing_one : (faults : R → ℕ) (old now next : List (LaneState R)) (masters master lane : ℕ) → lane < LANES → IsHappening segments faults now next lane (events.Crash master) None
       → IsSameBeside lane now next → ((count : ℕ) → AreLanes count 0 now → AreLanes count 0 next) → length next ≡ length now → backup_counts next ≡ backup_counts now

@@ -1,10 +1,9 @@
 -- Deeds that are done, one after the other.
-use Rattle.rk_cluster.proofs.Words.{◌≡◌, ◌<◌, ℕ, ◌+◌, List, [], length, slice_index_or, Option, None, Some, refl, sym, subst, ◌∙◌}
-use Rattle.rk_cluster.proofs.Words.{NumberMap, Segments, Called, Gave, Session, Happens, Occurrence, lane_at, IsMaster, MayHappen}
-use Rattle.rk_cluster.proofs.Words.{told_by_replica, World, new_world, Event, LaneState, acted, ActsOne, IsActedAs, LanesGoOn}
-use Rattle.rk_cluster.proofs.Words.{backup_counts, AreButOne, AreLanes, AreStepsCutShort, CarriesSteps, IsDeed, IsHappening, IsPlain}
-use Rattle.rk_cluster.proofs.Words.{MayComeAt, state_of, Deed, StepsEndWorn}
-use Rattle.rk_world.specs.Premises.{MayTurn}
+use Rattle.rk_cluster.proofs.Words.{arith, ◌≡◌, ◌<◌, ℕ, ◌+◌, List, [], length, slice_index_or, Option, None, Some, refl, subst, ◌∙◌}
+use Rattle.rk_cluster.proofs.Words.{NumberMap, Segments, Called, Gave, Session, Happens, Occurrence, lane_at, MayHappen, told_by_replica}
+use Rattle.rk_cluster.proofs.Words.{World, new_world, Event, LaneState, acted, ActsOne, IsActedAs, LanesGoOn, backup_counts, AreButOne}
+use Rattle.rk_cluster.proofs.Words.{AreLanes, AreStepsCutShort, CarriesSteps, IsDeed, IsHappening, IsPlain, MayComeAt, state_of, Deed}
+use Rattle.rk_cluster.proofs.Words.{StepsEndWorn}
 use Rattle.std.specs.Prelude.{◌≤◌}
 use Rattle.rk_world.specs.declared.event.Event.TheVariants as events
 use Rattle.rk_lane.specs.Events.{MayComeTo}
@@ -26,14 +25,7 @@ plain_answer w _ fault plain = refl
 
 -- it needs no calm, and what it may name depends on how many masters there are
 pub may_come : {R : Type 0} (lane : LaneState R) (masters : ℕ) (event : Event) → IsPlain event → MayHappen (new_world 0 masters 0) event → lane.masters ≡ masters → MayComeTo lane event
-may_come lane masters (events.AddTablet tablet range master) plain may is =
-    record { may = (may.0, may.1, subst (λ (count : ℕ). IsMaster count master) (sym is) may.2); calm = λ running runs. tt }
-may_come lane masters (events.Deliver number) plain may is = absurd plain
-may_come lane masters (events.Turn node) plain may is = record { may = subst (λ (count : ℕ). MayTurn count node) (sym is) may; calm = λ running runs. tt }
-may_come lane masters (events.Migrate tablet to) plain may is = record { may = subst (λ (count : ℕ). IsMaster count to) (sym is) may; calm = λ running runs. tt }
-may_come lane masters (events.Crash master) plain may is = absurd plain
-may_come lane masters (events.Notice master) plain may is = record { may = subst (λ (count : ℕ). IsMaster count master) (sym is) may; calm = λ running runs. tt }
-may_come lane masters _ plain may is = record { may = may; calm = λ running runs. tt }
+may_come lane masters event plain may is = grind arith
 
 module _ {R : Type 0} (segments : R → Option Segments) where
   pub happens_plain : {faults : R → ℕ} (old new : List (LaneState R)) (lane : ℕ) (event : Event) (broken : Option ℕ) → IsPlain event → IsHappening segments faults old new lane event broken
@@ -53,13 +45,7 @@ module _ {R : Type 0} (segments : R → Option Segments) where
 
   pub acting_none : (faults : R → ℕ) (lanes : List (LaneState R)) (masters : ℕ) (deeds : List Deed) → AreLanes masters 0 lanes
       → IsActing faults lanes lanes masters deeds 0
-  acting_none faults lanes masters deeds are = record {
-    came = λ sessions. come_none segments occurrence_of deeds (state_of lanes sessions);
-    lanes = are;
-    count = refl;
-    backups = refl;
-    counts = lanes_same faults lanes;
-  }
+  acting_none faults lanes masters deeds are = grind (arith, come_none, state_of, lanes_same)
 
   module _ (faults : R → ℕ) (old now : List (LaneState R)) (masters : ℕ) (deeds : List Deed) (index : ℕ) (before : IsActing faults old now masters deeds index) where
     module _ (d : Deed) (within : index < length deeds) (may : IsDeed (length old) masters (slice_index_or deeds index d)) where

@@ -1,14 +1,14 @@
 -- A message that is delivered.
-use Rattle.rk_cluster.proofs.Words.{◌≡◌, ℕ, Bool, true, false, ◌&&◌, List, [], ◌∷◌, is_some, slice_get, Option, None, Some, IfSome, refl}
-use Rattle.rk_cluster.proofs.Words.{sym, ap, subst, ◌∙◌, ⊎_elim, option_map, option_to_list, NumberMap, get, Node, Said, Segments, Traffic}
-use Rattle.rk_cluster.proofs.Words.{number_at, receiver_of, Message, Session, Accepts, Cluster, Occurrence, lane_at, step, LaneState, acted}
-use Rattle.rk_cluster.proofs.Words.{all_acted, lost_in, place_code, Delivers, DeliversShort, IsDelivery, is_backup, Acts, ActsBy, ActsOne}
-use Rattle.rk_cluster.proofs.Words.{EndsIn, HasCode, IsActedAs, IsCarriedOut, BySomeFate, LanesGoOn, counts_in, deliver_makes, Fate, Kept}
-use Rattle.rk_cluster.proofs.Words.{answer_of, IsShortOf, ClusterState, IsOf, IsHappening, IsLosing, WhereWorn, state_of, AcceptsShort}
-use Rattle.rk_cluster.proofs.Words.{Delivered, ClusterError}
+use Rattle.rk_cluster.proofs.Words.{arith, ◌≡◌, ℕ, Bool, true, false, ◌&&◌, List, [], ◌∷◌, is_some, slice_get, Option, None, Some, IfSome}
+use Rattle.rk_cluster.proofs.Words.{refl, sym, ap, subst, ◌∙◌, ⊎_elim, option_map, option_to_list, NumberMap, get, Node, Said, Segments}
+use Rattle.rk_cluster.proofs.Words.{Traffic, number_at, receiver_of, Message, Session, Accepts, Cluster, Occurrence, lane_at, step}
+use Rattle.rk_cluster.proofs.Words.{LaneState, acted, all_acted, lost_in, place_code, Delivers, DeliversShort, IsDelivery, is_backup, Acts}
+use Rattle.rk_cluster.proofs.Words.{ActsBy, ActsOne, EndsIn, HasCode, IsActedAs, IsCarriedOut, BySomeFate, LanesGoOn, counts_in}
+use Rattle.rk_cluster.proofs.Words.{deliver_makes, Fate, Kept, answer_of, IsShortOf, ClusterState, IsOf, IsHappening, IsLosing, WhereWorn}
+use Rattle.rk_cluster.proofs.Words.{state_of, AcceptsShort, Delivered, ClusterError}
 use Rattle.std.proofs.Common.{if◌then◌else◌}
 use Rattle.rk_types.specs.declared.node.Node.TheVariants as nodes
-use Rattle.rk_message.specs.Wire.{missing, missing_in}
+use Rattle.rk_message.specs.Wire.{missing}
 use Rattle.rk_message.specs.declared.missing.NoMessage.{NoMessage}
 use Rattle.rk_world.specs.declared.event.Event.TheVariants as events
 use Rattle.rk_cluster.specs.Delivering.{is_lost_at_backup}
@@ -20,13 +20,8 @@ use Rattle.rk_cluster.proofs.Faults.{go_on_kept, lanes_same}
 use Rattle.rk_cluster.proofs.Forgetting.{place_by, wire_is}
 use Rattle.rk_cluster.proofs.Shortage.{all_done, as_short, nothing_done}
 
--- a number that has no message has no receiver
-missing_by : (number : ℕ) (found : Option Message) (e : NoMessage) → missing_in number found ≡ Some e → option_map (λ (message : Message). message.to) found ≡ None
-missing_by number None e missing_is = refl
-missing_by number (Some message) e missing_is = absurd (cc missing_is)
-
 pub no_receiver : (number : ℕ) (wire : Traffic) (e : NoMessage) → missing number wire ≡ Some e → receiver_of number wire ≡ None
-no_receiver number wire e missing_is = missing_by number (get wire.messages number) e missing_is
+no_receiver number wire e missing_is = grind (arith, wire.messages)
 
 module _ {R : Type 0} (segments : R → Option Segments) (faults : R → ℕ) where
   -- one occurrence alone, whether or not something is worn there

@@ -1,7 +1,7 @@
 -- Things that are dealt to eight hands.
 use Rattle.rk_cluster.proofs.Words.{◌≡◌, ◌≢◌, ◌%◌, ◌*◌, ◌<◌, ◌≤◌, ◌+◌, ℕ, zero, suc, List, [], ◌∷◌, ◌++◌, Some, length, slice_get}
-use Rattle.rk_cluster.proofs.Words.{slice_set, refl, sym, ap, subst, ◌∙◌, ⊎_elim, arith, length-append, append_assoc, append-nil}
-use Rattle.rk_cluster.proofs.Words.{length-set, cases_eq, slice_get_within, Vec, LANES, AreDealt, IsEighth}
+use Rattle.rk_cluster.proofs.Words.{slice_set, refl, sym, ap, ◌∙◌, ⊎_elim, arith, length-append, append_assoc, append-nil, length-set}
+use Rattle.rk_cluster.proofs.Words.{slice_get_within, Vec, LANES, AreDealt, IsEighth}
 use Rattle.rk_cluster.proofs.Worlds.{set_beside, set_here}
 
 -- each eighth of a list, the first of them at this place
@@ -58,37 +58,11 @@ module _ {X : Type 0} (all things left rest : List X) (hands : List (Vec X)) (pl
   within : place < LANES
   within = omega (arith, dealing.next)
 
-  hand_then : (other : ℕ) (hand : Vec X) → slice_get (slice_set hands place now) other ≡ Some hand → hand.items ≡ each_eighth other (things ++ thing ∷ [])
-  hand_then other hand stands =
-      ⊎_elim
-      (λ (is : other ≡ place).
-      let here : Some now ≡ Some hand = sym (set_here hands place now (omega (arith, within, dealing.count))) ∙ ap (slice_get (slice_set hands place now)) (sym is) ∙ stands in
-      let same : now ≡ hand = cc here in
-      ap (λ (it : Vec X). it.items) (sym same) ∙ put ∙ ap (λ (items : List X). items ++ thing ∷ []) (dealing.each place before there)
-      ∙ sym (eighth_here things thing place within (sym dealing.next)) ∙ ap (λ (n : ℕ). each_eighth n (things ++ thing ∷ [])) (sym is))
-      (λ (apart : other ≡ place → ⊥).
-      let stood : slice_get hands other ≡ Some hand = sym (set_beside hands place now other apart) ∙ stands in
-      let few : other < LANES = omega (arith, slice_get_within hands other hand stood, dealing.count) in
-      dealing.each other hand stood ∙ sym (eighth_apart things thing other few (λ is. apart (sym is ∙ sym dealing.next))))
-      (cases_eq other place)
-
   -- one more is dealt
   pub dealing_one : IsDealing all (things ++ thing ∷ []) rest (slice_set hands place now) ((place + 1) % LANES)
-  dealing_one = record {
-    whole = append_assoc things (thing ∷ []) rest ∙ ap (λ (list : List X). things ++ list) (sym first) ∙ dealing.whole;
-    count = length-set hands place now ∙ dealing.count;
-    each = hand_then;
-    next = omega (arith, dealing.next, length-append things (thing ∷ []));
-  }
+  dealing_one =
+      grind (arith, append_assoc, length-set, length-append, set_here, eighth_here, set_beside, slice_get_within, eighth_apart)
 
 -- all are dealt
 pub dealt : {X : Type 0} (all things left : List X) (hands : List (Vec X)) (place : ℕ) → left ≡ [] → IsDealing all things left hands place → AreDealt all hands
-dealt {X = X} all things left hands place none dealing =
-    let whole : things ≡ all = sym (append-nil things) ∙ ap (λ (list : List X). things ++ list) (sym none) ∙ dealing.whole in
-    subst (λ (list : List X). AreDealt list hands) whole
-    (record {
-      count = dealing.count;
-      each = λ lane hand there at.
-          ap (λ items. slice_get items at) (dealing.each lane hand there)
-          ∙ eighth_is things lane (omega (arith, slice_get_within hands lane hand there, dealing.count)) at;
-    })
+dealt {X = X} all things left hands place none dealing = grind (arith, append-nil, eighth_is, slice_get_within)

@@ -1,16 +1,15 @@
 -- What a lane's answer to an event tells of how often its replicas failed.
-use Rattle.rk_cluster.proofs.Words.{◌≡◌, ℕ, Bool, true, false, List, [], ◌∷◌, ◌+◌, ◌&&◌, cond, slice_get, slice_set, Option, None, Some}
-use Rattle.rk_cluster.proofs.Words.{IfSome, Result, Ok, Err, IfErr, IfOk, OnErr, refl, sym, ap, subst, ◌∙◌, ⊎_elim, option_map, eq-eqb, get}
-use Rattle.rk_cluster.proofs.Words.{Node, Segments, Traffic, receiver_of, Message, Visited, Session, Called, Gave, comes_anyway, refusal}
-use Rattle.rk_cluster.proofs.Words.{Stepped, stepped_by, told_by_replica, told_for, told_to, World, StepError, Event, Seen, IsRefused}
-use Rattle.rk_cluster.proofs.Words.{IsStepOf, OneFailed, fault_counts, receiver_by, LaneState, Running, world_with, IsVisitOf, is_backup}
-use Rattle.rk_cluster.proofs.Words.{LanesGoOn, counts_in, Fate, Kept, Lost, left_by, lost_by}
+use Rattle.rk_cluster.proofs.Words.{arith, ◌≡◌, ℕ, true, false, List, [], ◌∷◌, ◌+◌, slice_get, slice_set, Option, None, Some, IfSome}
+use Rattle.rk_cluster.proofs.Words.{Result, Ok, Err, IfErr, IfOk, OnErr, refl, sym, ap, subst, ◌∙◌, ⊎_elim, eq-eqb, Node, Segments, Traffic}
+use Rattle.rk_cluster.proofs.Words.{receiver_of, Message, Visited, Session, Called, comes_anyway, refusal, Stepped, stepped_by}
+use Rattle.rk_cluster.proofs.Words.{told_by_replica, World, StepError, Event, Seen, IsRefused, IsStepOf, OneFailed, fault_counts}
+use Rattle.rk_cluster.proofs.Words.{receiver_by, LaneState, Running, world_with, IsVisitOf, is_backup, LanesGoOn, counts_in, Fate, Lost}
+use Rattle.rk_cluster.proofs.Words.{left_by, lost_by}
 use Rattle.rk_types.specs.declared.node.Node.TheVariants as nodes
 use Rattle.rk_message.specs.declared.message.Body.{Body}
 use Rattle.rk_message.specs.declared.message.Body.TheVariants as bodies
-use Rattle.rk_world.specs.Backup.{Appended, Backed, Failed, backup_step, called_by, calls_replica}
-use Rattle.rk_world.specs.Step.{backed_at, delivered, delivered_to, losing, quietly, with_sends}
-use Rattle.rk_world.specs.World.{backup_at, is_backup as has_backup}
+use Rattle.rk_world.specs.Backup.{Failed, called_by}
+use Rattle.rk_world.specs.Step.{delivered_to}
 use Rattle.rk_world.specs.declared.error.StepError.TheVariants as causes
 use Rattle.rk_world.specs.declared.event.Event.TheVariants as events
 use Rattle.rk_lane.specs.Events.{HasCause, IsAnswerOf, IsFailed}
@@ -20,87 +19,33 @@ use Rattle.rk_cluster.proofs.Faults.{go_on_kept, go_on_none, lanes_failed_once, 
 
 -- ---- a message that was lost at a backup
 
-lost_there : (backup : ℕ) (sender : Node) (body : Body) (log : ℕ → ℕ → List ℕ) (called : Called) → (backup_step backup sender body log called).lost ≡ true → IsFailed called
-lost_there backup (nodes.Master master) (bodies.Append append) log (Appended length) lost = absurd (cc lost)
-lost_there backup (nodes.Master master) (bodies.Append append) log (Gave bytes) lost = absurd (cc lost)
-lost_there backup (nodes.Master master) (bodies.Append append) log (Failed stored) lost = tt
-lost_there backup (nodes.Master master) (bodies.Read read) log (Appended length) lost = absurd (cc lost)
-lost_there backup (nodes.Master master) (bodies.Read read) log (Gave bytes) lost = absurd (cc lost)
-lost_there backup (nodes.Master master) (bodies.Read read) log (Failed stored) lost = tt
-lost_there backup (nodes.Master master) _ log called lost = absurd (cc lost)
-lost_there backup _ body log called lost = absurd (cc lost)
-
-lost_if : (lost : Bool) (w v : World) (sends : List Message) → (cond lost (losing w) (with_sends v sends)).seen.lost ≡ true → lost ≡ true
-lost_if true w v sends lost = refl
-lost_if false w v sends lost = absurd (cc lost)
-
-lost_at : (there : Bool) (w v : World) (backed : Backed) → (cond there (backed_at w backed) (quietly v)).seen.lost ≡ true → backed.lost ≡ true
-lost_at true w v backed lost = lost_if backed.lost w w backed.sends lost
-lost_at false w v backed lost = absurd (cc lost)
-
 lost_to : (w : World) (message : Message) (to : Node) (called : Called) → is_backup (Some to) ≡ true → (delivered_to w message to called).seen.lost ≡ true → IsFailed called
-lost_to w message (nodes.Backup backup) called is lost =
-    lost_there backup message.from message.body _ called (lost_at (has_backup w backup) _ w (backup_step backup message.from message.body _ called) lost)
-lost_to w message _ called is lost = absurd (cc is)
-
-lost_of : (w : World) (found : Option Message) (called : Called) → is_backup (option_map (λ (message : Message). message.to) found) ≡ true
-    → (delivered w found called).seen.lost ≡ true → IsFailed called
-lost_of w None called is lost = absurd (cc is)
-lost_of w (Some message) called is lost = lost_to w message message.to called is lost
+lost_to w message to called is lost = grind arith
 
 lost_then : (w : World) (number : ℕ) (called : Called) (refused : Option StepError) (stepped : Stepped) → is_backup (receiver_of number w.wire) ≡ true
     → stepped_by w (events.Deliver number) called refused ≡ Ok stepped → stepped.seen.lost ≡ true → IsFailed called
-lost_then w number called None stepped is came lost =
-    let same : delivered w (get w.wire.messages number) called ≡ stepped = cc came in
-    lost_of w (get w.wire.messages number) called is (ap (λ (it : Stepped). it.seen.lost) same ∙ lost)
-lost_then w number called (Some error) stepped is came lost = absurd (cc came)
+lost_then w number called refused stepped is came lost = grind (arith, lost_to)
 
 -- ---- whom a message is for
-
-for_by : (number : ℕ) (wire : Traffic) (to : Node) (running : Option Running) → IfSome running (λ it. wire ≡ it.wire) → receiver_of number wire ≡ Some to
-    → is_backup (Some to) ≡ true → IfSome running (λ it. is_backup (receiver_of number it.wire) ≡ true)
-for_by number wire to None known to_is is = tt
-for_by number wire to (Some running) known to_is is = ap (λ (t : Traffic). is_backup (receiver_of number t)) (sym known) ∙ ap is_backup to_is ∙ is
 
 -- where a lane's wire has a message for a backup, its delivery there is one to a backup
 pub for_backup : {R : Type 0} (lanes : List (LaneState R)) (place number : ℕ) (lane : LaneState R) (wire : Traffic) (to : Node) → slice_get lanes place ≡ Some lane
     → IfSome lane.running (λ running. wire ≡ running.wire) → receiver_of number wire ≡ Some to → is_backup (Some to) ≡ true
     → IsForBackup lanes place (events.Deliver number)
-for_backup {R = R} lanes place number lane wire to there known to_is is other at =
-    let same : lane ≡ other = let both : Some lane ≡ Some other = sym there ∙ at in cc both in
-    subst (λ (it : LaneState R). IfSome it.running (λ running. is_backup (receiver_of number running.wire) ≡ true)) same
-    (for_by number wire to lane.running known to_is is)
+for_backup {R = R} lanes place number lane wire to there known to_is is other at = grind (arith, is_backup, receiver_of)
 
 -- ---- what a replica that tells its segments answers where it fails
 
-if_failed : (calls : Bool) (kept left length : ℕ) → cond calls (Failed kept) (Appended length) ≡ Failed left → cond calls (Failed left) (Appended length) ≡ Failed left
-if_failed true kept left length is = refl
-if_failed false kept left length is = is
-
 called_left : (stored : Segments) (sender : Node) (body : Body) (kept left : ℕ) → called_by stored sender body (Some kept) ≡ Failed left → called_by stored sender body (Some left) ≡ Failed left
-called_left stored (nodes.Master master) (bodies.Append append) kept left is = if_failed (calls_replica _ append) kept left _ is
-called_left stored (nodes.Master master) (bodies.Read read) kept left is = is
-called_left stored (nodes.Master master) _ kept left is = absurd (cc is)
-called_left stored _ body kept left is = absurd (cc is)
-
-told_to_left : (w : World) (message : Message) (to : Node) (kept left : ℕ) → told_to w message to (Some kept) ≡ Failed left → told_to w message to (Some left) ≡ Failed left
-told_to_left w message (nodes.Backup backup) kept left is = called_left (backup_at w backup) message.from message.body kept left is
-told_to_left w message _ kept left is = absurd (cc is)
-
-told_for_left : (w : World) (found : Option Message) (kept left : ℕ) → told_for w found (Some kept) ≡ Failed left → told_for w found (Some left) ≡ Failed left
-told_for_left w None kept left is = absurd (cc is)
-told_for_left w (Some message) kept left is = told_to_left w message message.to kept left is
+called_left stored sender body kept left is = grind arith
 
 -- it leaves just what is left
 told_left : (w : World) (event : Event) (kept left : ℕ) → told_by_replica w event (Some kept) ≡ Failed left → told_by_replica w event (Some left) ≡ Failed left
-told_left w (events.Deliver number) kept left is = told_for_left w (get w.wire.messages number) kept left is
-told_left w _ kept left is = absurd (cc is)
+told_left w event kept left is = grind (arith, called_left)
 
 -- what a fault leaves at the receiver whose replica it strikes
 left_there : (lane place left : ℕ) (receiver : Option Node) → receiver ≡ Some (nodes.Backup (place + 1)) → left_by (Lost lane place left) lane receiver ≡ Some left
-left_there lane place left receiver whose =
-    ap (left_by (Lost lane place left) lane) whose
-    ∙ (λ i. cond (eq-eqb lane lane refl i && eq-eqb (place + 1) (place + 1) refl i) (Some left) None)
+left_there lane place left receiver whose = grind (arith, left_by, eq-eqb)
 
 -- ---- a lane
 
@@ -111,13 +56,6 @@ module _ {R : Type 0} (faults : R → ℕ) (lanes : List (LaneState R)) (place :
     pub counts : LanesGoOn faults (fate ∷ []) lanes (slice_set lanes place new)
     pub answers : (w : World) (event : Event) → IsAnswerOf (told_by_replica w event) called → told_by_replica w event (left_by fate place receiver) ≡ called
 
-  kept_fate : (receiver : Option Node) (called : Called) → (IsFailed called → ⊥) → fault_counts faults new.backups ≡ fault_counts faults old.backups → HasFate receiver called
-  kept_fate receiver called fine same = record {
-    fate = Kept;
-    counts = go_on_kept (counts_in faults lanes) (counts_in faults (slice_set lanes place new)) (lanes_kept faults lanes place old new there same);
-    answers = λ w event answer. sym (answer.fine fine);
-  }
-
   lost_fate : (receiver : Option Node) (left : ℕ) → OneFailed faults receiver old.backups new.backups → HasFate receiver (Failed left)
   lost_fate receiver left it = record {
     fate = Lost place it.place left;
@@ -127,15 +65,8 @@ module _ {R : Type 0} (faults : R → ℕ) (lanes : List (LaneState R)) (place :
         ap (told_by_replica w event) (left_there place it.place left receiver it.whose) ∙ told_left w event kept.0 left (sym kept.1);
   }
 
-  failed_fate : (receiver : Option Node) (called : Called) → IsFailed called → OneFailed faults receiver old.backups new.backups → HasFate receiver called
-  failed_fate receiver (Failed left) failed it = lost_fate receiver left it
-  failed_fate receiver (Appended length) failed it = absurd failed
-  failed_fate receiver (Gave bytes) failed it = absurd failed
-
   pub has_fate : (receiver : Option Node) (called : Called) → HasCause faults receiver called old.backups new.backups → HasFate receiver called
-  has_fate receiver called cause =
-      ⊎_elim (λ (it : IsFailed called × OneFailed faults receiver old.backups new.backups). failed_fate receiver called it.0 it.1)
-      (λ (it : (IsFailed called → ⊥) × (fault_counts faults new.backups ≡ fault_counts faults old.backups)). kept_fate receiver called it.0 it.1) cause
+  has_fate receiver called cause = grind (arith, fault_counts, lost_fate, go_on_kept, counts_in, slice_set, lanes_kept)
 
   -- no replica of the lane has failed
   same_backups : new.backups ≡ old.backups → LanesGoOn faults [] lanes (slice_set lanes place new)
@@ -180,8 +111,7 @@ module _ {R : Type 0} (faults : R → ℕ) (lanes : List (LaneState R)) (place :
   lost_on : (segments : R → Option Segments) (number : ℕ) (seen : Seen) (running : Option Running) → old.running ≡ running
       → IfSome running (λ it. is_backup (receiver_of number it.wire) ≡ true) → seen.lost ≡ true → IsStepOf segments faults (events.Deliver number) old new seen
       → SomeLaneFailed faults lanes (slice_set lanes place new)
-  lost_on segments number seen None was is lost step =
-      absurd (let never : None ≡ Some step.before = sym was ∙ step.was in cc never)
+  lost_on segments number seen None was is lost step = grind (arith, step.before, step.was)
   lost_on segments number seen (Some running) was is lost step =
       let both : Some running ≡ Some step.before = sym was ∙ step.was in
       let same : running ≡ step.before = cc both in
@@ -197,10 +127,7 @@ module _ {R : Type 0} (faults : R → ℕ) (lanes : List (LaneState R)) (place :
       → (running ≡ None → comes_anyway (events.Deliver number) ≡ false → answer ≡ Err causes.NoMemory)
       → IfSome running (λ it. is_backup (receiver_of number it.wire) ≡ true) → lost_by answer ≡ true
       → SomeLaneFailed faults lanes (slice_set lanes place new)
-  failed_on segments number None answer was ok never is lost =
-      absurd (let found : false ≡ true = sym (ap lost_by (never refl refl)) ∙ lost in cc found)
-  failed_on segments number (Some running) (Ok seen) was ok never is lost = lost_on segments number seen (Some running) was is lost ok
-  failed_on segments number (Some running) (Err error) was ok never is lost = absurd (cc lost)
+  failed_on segments number running answer was ok never is lost = grind (arith, lost_by, lost_on)
 
   pub lanes_failed : (segments : R → Option Segments) (event : Event) (answer : Result Seen StepError)
       → IfSome old.running (λ _. IfOk answer (IsStepOf segments faults event old new))

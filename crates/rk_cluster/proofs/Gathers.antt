@@ -82,8 +82,7 @@ module _ {X : Type 0} (all hands : List (Vec X)) (things : List X) (place : ℕ)
 
   by_hand : (items : List X) (now : Vec X) → hand.items ≡ items → now.items ≡ drop 1 items → (count : ℕ) → All (HasSoMany count) all
       → IsGathered all (slice_set hands (place % LANES) now) (things ++ take 1 items) count (place + 1)
-  by_hand [] now is left count equal =
-      subst (λ (list : List X). IsGathered all (slice_set hands (place % LANES) now) list count (place + 1)) (sym (append-nil things)) (past now is left count equal)
+  by_hand [] now is left count equal = search (slice_set, append-nil, past)
   by_hand (x ∷ rest) now is left count equal = first_next x rest now is left count equal
 
   pub gathering_one : (now : Vec X) (next : List X) → now.items ≡ drop 1 hand.items → next ≡ things ++ take 1 hand.items
@@ -142,10 +141,7 @@ module _ {R : Type 0} where
       → slice_get lanes place ≡ Some lane → ((hand : Vec R) → slice_get hands place ≡ Some hand → at place hand.items) → at place (replicas_of lane.backups)
   by_lane at hands [] place lane same there each = absurd (cc there)
   by_lane at [] (first ∷ lanes) place lane same there each = absurd (cc same)
-  by_lane at (hand ∷ hands) (first ∷ lanes) zero lane same there each =
-      let its : hand.items ≡ replicas_of first.backups = cc same in
-      let here : first ≡ lane = cc there in
-      subst (λ (l : LaneState R). at zero (replicas_of l.backups)) here (subst (at zero) its (each hand refl))
+  by_lane at (hand ∷ hands) (first ∷ lanes) zero lane same there each = grind (arith, its, replicas_of, hand.items, first.backups)
   by_lane at (hand ∷ hands) (first ∷ lanes) (suc place) lane same there each =
       let rest : AreOfLanes hands lanes = cc same in
       by_lane (λ (n : ℕ). at (suc n)) hands lanes place lane rest there each

@@ -29,13 +29,8 @@ module _ (w : World) (stored : NumberMap Segments) where
   abbrev with_stored : World
   with_stored = record w { backups = stored }
 
-  turn_same : (node : Node) → fault_of with_stored (events.Turn node) ≡ fault_of w (events.Turn node)
-  turn_same nodes.Coordinator = refl
-  turn_same _ = refl
-
   fault_same : (event : Event) → fault_of with_stored event ≡ fault_of w event
-  fault_same (events.Turn node) = turn_same node
-  fault_same _ = refl
+  fault_same event = grind arith
 
   refusal_same : (event : Event) → refusal with_stored event ≡ refusal w event
   refusal_same event =

@@ -1,10 +1,9 @@
 -- Lanes in which no turn leaves anything.
-use Rattle.rk_cluster.proofs.Words.{◌≡◌, ◌<◌, ◌&&◌, ℕ, Bool, true, false, not, cond, List, [], ◌∷◌, filter, length, Option, None, Result}
-use Rattle.rk_cluster.proofs.Words.{IfSome, refl, sym, ap, subst, list_all, NumberMap, numbers, Segments, Node, Gave, Session, Cluster}
-use Rattle.rk_cluster.proofs.Words.{Happens, Occurrence, cluster_stepped, lane_at, Stepped, World, new_world, StepError, LaneState, Running}
-use Rattle.rk_cluster.proofs.Words.{world_with, acted_by, ActsOne, IsActedAs, ClusterState, IsOf, IsWorld, clients_in, is_call_in}
+use Rattle.rk_cluster.proofs.Words.{arith, ◌≡◌, ◌<◌, ◌&&◌, ℕ, Bool, true, false, not, cond, [], ◌∷◌, filter, length, Option, None, IfSome}
+use Rattle.rk_cluster.proofs.Words.{refl, sym, subst, list_all, NumberMap, numbers, Segments, Node, Gave, Session, Cluster, Happens}
+use Rattle.rk_cluster.proofs.Words.{cluster_stepped, lane_at, World, new_world, LaneState, Running, world_with, acted_by, ActsOne}
+use Rattle.rk_cluster.proofs.Words.{ClusterState, IsOf, IsWorld, clients_in, is_call_in}
 use Rattle.std.proofs.lemmas.List.{set-get_or}
-use Rattle.rk_world.specs.Cluster.{with_lane}
 use Rattle.rk_world.specs.declared.event.Event.TheVariants as events
 use Rattle.rk_lane.specs.Resting.{IsIdle, IsResting}
 use Rattle.rk_cluster.proofs.Worlds.{same_count}
@@ -36,22 +35,4 @@ pub idle_acts : {R : Type 0} (segments : R → Option Segments) (state : Cluster
     → ((cluster : Cluster) → IsOf segments state cluster → IsIdle (lane_at cluster lane) node)
     → ActsOne segments state state (Happens lane (events.Turn node) (Gave None)) [] None
 idle_acts {R} segments state lane node there idle cluster is =
-    subst (λ (stepped : Result Stepped StepError). IsActedAs segments cluster state [] None (acted_by occurrence (cluster_stepped cluster lane stepped) [] stepped)) (sym here.leaves)
-    (record {
-      cluster = subst (IsOf segments state) (sym same) is;
-      leads = record {
-        run = ((subst (λ (count : ℕ). lane < count) (sym (same_count segments state.lanes cluster.lanes is.lanes)) there, here.may, tt), tt, (λ all. record { fault = None; told = refl }), tt);
-        is = sym (ap (cluster_stepped cluster lane) here.leaves);
-      };
-      said = refl;
-      worn = refl;
-    })
-  where
-    here : IsIdle (lane_at cluster lane) node
-    here = idle cluster is
-
-    occurrence : Occurrence
-    occurrence = Happens lane (events.Turn node) (Gave None)
-
-    same : with_lane cluster lane (lane_at cluster lane) ≡ cluster
-    same = ap (λ (lanes : List World). record cluster { lanes = lanes }) (set-get_or cluster.lanes lane (new_world lane 0 0))
+    grind (arith, acted_by, cluster_stepped, same_count, lane_at, set-get_or, new_world)

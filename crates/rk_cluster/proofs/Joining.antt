@@ -1,16 +1,13 @@
 -- How a client gets a session.
-use Rattle.rk_cluster.proofs.Words.{get_or-map-range_with_len, ◌≡◌, ◌≤◌, ◌<◌, ◌^◌, ℕ, Bool, true, false, List, [], ◌∷◌, ◌++◌, All, length}
-use Rattle.rk_cluster.proofs.Words.{map, is_some, nat_le, Option, None, Some, refl, sym, ap, subst, ◌∙◌, inl, arith, nat_tests, All-nil}
-use Rattle.rk_cluster.proofs.Words.{range_with_len, NumberMap, get, insert, LANES, Segments, Session, new_session, Cluster, Joins}
-use Rattle.rk_cluster.proofs.Words.{Occurrence, MayAct, MayHappen, new_world, Event, LaneState, acted_well, all_acted, client_code}
-use Rattle.rk_cluster.proofs.Words.{code_where, first_code, ActsBy, ActsOne, CutShortBy, EndsIn, HasCode, IsActedAs, RunsTo, all_lanes}
-use Rattle.rk_cluster.proofs.Words.{client_makes, in_lanes, ClusterState, IsOf, AreStepsCutShort, CarriesSteps, IsDeed, IsPlain}
-use Rattle.rk_cluster.proofs.Words.{StepsEndWorn, WhereWorn, occurrences, state_of, Code, Limit, Taken, ClusterError, Deed}
-use Rattle.std.proofs.lemmas.List.Elements.{All-from_recursion, All-replicate}
+use Rattle.rk_cluster.proofs.Words.{◌≡◌, ◌≤◌, ◌<◌, ◌^◌, ℕ, Bool, true, false, List, [], ◌∷◌, ◌++◌, All, length, map, is_some, nat_le}
+use Rattle.rk_cluster.proofs.Words.{Option, None, Some, refl, sym, ap, subst, ◌∙◌, inl, arith, nat_tests, range_with_len, NumberMap, get}
+use Rattle.rk_cluster.proofs.Words.{insert, LANES, Segments, Session, new_session, Cluster, Joins, Occurrence, MayAct, MayHappen, new_world}
+use Rattle.rk_cluster.proofs.Words.{Event, LaneState, acted_well, all_acted, client_code, code_where, first_code, ActsBy, ActsOne}
+use Rattle.rk_cluster.proofs.Words.{CutShortBy, EndsIn, HasCode, IsActedAs, all_lanes, client_makes, in_lanes, ClusterState, IsOf}
+use Rattle.rk_cluster.proofs.Words.{AreStepsCutShort, CarriesSteps, IsDeed, IsPlain, StepsEndWorn, WhereWorn, occurrences, state_of, Code}
+use Rattle.rk_cluster.proofs.Words.{Limit, Taken, ClusterError, Deed}
 use Rattle.std.specs.Int.{w32}
 use Rattle.rk_entry.specs.Numbers.{IsNumber}
-use Rattle.rk_world.specs.Cluster.{joined_by}
-use Rattle.rk_world.specs.Premises.{IsCached}
 use Rattle.rk_world.specs.Refusals.{MOST_CLIENTS}
 use Rattle.rk_world.specs.declared.event.Event.TheVariants as events
 use Rattle.rk_cluster.specs.declared.error.ClusterError.TheVariants as errors
@@ -31,50 +28,16 @@ many count much = grind (arith, nat_tests, much)
 pub few : (count : ℕ) → count < MOST_CLIENTS → nat_le MOST_CLIENTS count ≡ false
 few count less = grind (arith, nat_tests, less)
 
-deed_fits : (masters count lane : ℕ) (event : Event) → lane < count → IsPlain event → MayHappen (new_world 0 masters 0) event → IsDeed count masters (record { lane = lane; event = event })
-deed_fits masters count lane event there plain may = record { there = there; plain = plain; may = may }
-
 -- the same event in each lane
 abbrev pub deeds_in : Event → List Deed
 deeds_in event = map (λ lane. record { lane = lane; event = event }) (range_with_len 0 LANES)
 
 pub deeds_fit : (masters count : ℕ) (event : Event) → count ≡ LANES → IsPlain event → MayHappen (new_world 0 masters 0) event → All (IsDeed count masters) (deeds_in event)
-deeds_fit masters count event is plain may =
-    All-from_recursion (IsDeed count masters) (deeds_in event) (
-      deed_fits masters count 0 event (omega (arith, is)) plain may,
-      (
-        deed_fits masters count 1 event (omega (arith, is)) plain may,
-        (
-          deed_fits masters count 2 event (omega (arith, is)) plain may,
-          (
-            deed_fits masters count 3 event (omega (arith, is)) plain may,
-            (
-              deed_fits masters count 4 event (omega (arith, is)) plain may,
-              (
-                deed_fits masters count 5 event (omega (arith, is)) plain may,
-                (
-                  deed_fits masters count 6 event (omega (arith, is)) plain may,
-                  (
-                    deed_fits masters count 7 event (omega (arith, is)) plain may,
-                    tt,
-                  ),
-                ),
-              ),
-            ),
-          ),
-        ),
-      ),
-    )
+deeds_fit masters count event is plain may = grind arith
 
 -- a new session may act
 pub new_acts : (masters client : ℕ) → 1 ≤ client → client < 2 ^ 32 → MayAct masters (new_session client)
-new_acts masters client first fits = record {
-  client = record { least_is = first; fits = fits };
-  call = tt;
-  own = tt;
-  seen = All-nil _;
-  cached = All-replicate (All (IsCached masters)) LANES [] (All-nil (IsCached masters));
-}
+new_acts masters client first fits = grind arith
 
 module _ {R : Type 0} (segments : R → Option Segments) where
   -- ---- codes
@@ -102,24 +65,12 @@ module _ {R : Type 0} (segments : R → Option Segments) where
 
   joins : (lanes : List (LaneState R)) (sessions : NumberMap Session) (client : ℕ) → IsNumber w32 1 client → get sessions client ≡ None
       → ActsOne segments (state_of lanes sessions) (state_of lanes (insert sessions client (new_session client))) (Joins client) [] None
-  joins lanes sessions client number absent cluster is =
-      let none : get cluster.sessions client ≡ None = ap (λ (known : NumberMap Session). get known client) is.sessions ∙ absent in
-      subst (λ (found : Option Session). IsActedAs segments cluster (state_of lanes (insert sessions client (new_session client))) [] None (acted_well (Joins client) (joined_by cluster client found))) (sym none)
-      (record {
-        cluster = record { lanes = is.lanes; sessions = ap (λ (known : NumberMap Session). insert known client (new_session client)) is.sessions };
-        leads =
-            subst (λ (found : Option Session). RunsTo cluster (Joins client ∷ []) (joined_by cluster client found)) none
-            (leads_by cluster (Joins client) number tt tt);
-        said = refl;
-        worn = refl;
-      })
+  joins lanes sessions client number absent cluster is = grind (arith, state_of, insert, new_session, acted_well, leads_by)
 
   -- there are eight lanes, so an event in all of them is as many deeds
   pub made_in_all : (lanes : List (LaneState R)) (sessions : NumberMap Session) (event : Event) → length lanes ≡ LANES → (cluster : Cluster)
       → IsOf segments (state_of lanes sessions) cluster → occurrences (deeds_in event) ≡ in_lanes (all_lanes cluster) event
-  made_in_all lanes sessions event count cluster is =
-      let many : length cluster.lanes ≡ LANES = same_count segments lanes cluster.lanes is.lanes ∙ count in
-      ap (λ (n : ℕ). in_lanes (range_with_len 0 n) event) (sym many)
+  made_in_all lanes sessions event count cluster is = grind (arith, many, same_count, in_lanes)
 
   pub client_acts : (old new : List (LaneState R)) (sessions later : NumberMap Session) (client : ℕ) → IsNumber w32 1 client → length old ≡ LANES → get sessions client ≡ None
       → later ≡ insert sessions client (new_session client) → CarriesSteps segments old new (deeds_in (events.AddClient client)) []

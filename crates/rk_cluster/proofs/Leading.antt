@@ -1,5 +1,6 @@
 -- Runs that lead from one cluster to another, one after the other, with what occurred.
-use Rattle.std.proofs.Common.{◌≡◌, List, [], ◌∷◌, ◌++◌, refl, ap, subst, sym, ◌∙◌}
+use Rattle.rk_cluster.proofs.Words.{arith}
+use Rattle.std.proofs.Common.{◌≡◌, List, [], ◌∷◌, ◌++◌, refl}
 use Rattle.rk_world.specs.Cluster.{Cluster, ClusterMay, KeepsCalm, Occurrence, cluster_after, cluster_run}
 use Rattle.rk_world.specs.ClusterRuns.{IsRun, ReplicasTell}
 use Rattle.rk_cluster.specs.Effects.{RunsTo}
@@ -25,9 +26,4 @@ leads_by cluster occurrence may calm tell = record { run = (may, calm, tell, tt)
 
 -- where one run follows another
 pub leads_on : (before middle after : Cluster) (first second : List Occurrence) → RunsTo before first middle → RunsTo middle second after → RunsTo before (first ++ second) after
-leads_on before middle after first second one two = record {
-  run = run_on before first second one.run (subst (λ (cluster : Cluster). IsRun cluster second) one.is two.run);
-  is =
-      two.is ∙ ap (λ (cluster : Cluster). cluster_run cluster second) one.is
-      ∙ sym (runs_join before first second);
-}
+leads_on before middle after first second one two = grind (arith, run_on, runs_join)

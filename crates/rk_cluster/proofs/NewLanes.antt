@@ -2,8 +2,8 @@
 use Rattle.rk_cluster.proofs.Words.{◌≡◌, ◌≤◌, ◌<◌, ◌+◌, ◌*◌, ℕ, zero, suc, List, [], ◌∷◌, ◌++◌, All, length, map, slice_get, Option, None}
 use Rattle.rk_cluster.proofs.Words.{Some, IfSome, is_some, refl, sym, ap, subst, ◌∙◌, arith, length-append, append_assoc, range_with_len}
 use Rattle.rk_cluster.proofs.Words.{All-cons, All-head, All-nil, All-tail, slice_get_past, slice_get_within, Vec, length-map, LANES}
-use Rattle.rk_cluster.proofs.Words.{Segments, Cluster, new_cluster, World, new_world, AreTold, LaneState, Running, replicas_of, world_with}
-use Rattle.rk_cluster.proofs.Words.{AreDealt, IsEighth, HasBackups, AreWorlds, ClusterState, IsOf, IsWorld, AreLanes, state_of}
+use Rattle.rk_cluster.proofs.Words.{Segments, Cluster, new_cluster, World, new_world, AreTold, LaneState, replicas_of, world_with, AreDealt}
+use Rattle.rk_cluster.proofs.Words.{IsEighth, HasBackups, AreWorlds, ClusterState, IsOf, IsWorld, AreLanes, state_of}
 use Rattle.std.specs.Prelude.{true}
 use Rattle.rk_log.specs.declared.copied.TheConstants.{MOST_BACKUPS}
 use Rattle.rk_world.specs.Backup.{no_segments}
@@ -74,11 +74,7 @@ module _ {R : Type 0} (segments : R → Option Segments) (masters : ℕ) where
 
   pub making_one : (all made left rest : List (Vec R)) (lanes : List (LaneState R)) (number : ℕ) (hand : Vec R) (lane : LaneState R) → left ≡ hand ∷ rest
       → IsMadeOf segments masters number hand.items lane → IsMaking all made left lanes number → IsMaking all (made ++ hand ∷ []) rest (lanes ++ lane ∷ []) (number + 1)
-  making_one all made left rest lanes number hand lane first is making = record {
-    whole = append_assoc made (hand ∷ []) rest ∙ ap (λ (list : List (Vec R)). made ++ list) (sym first) ∙ making.whole;
-    next = omega (arith, making.next, length-append made (hand ∷ []));
-    lanes_are = made_one 0 made lanes hand lane making.lanes_are (subst (λ (n : ℕ). IsMadeOf segments masters n hand.items lane) (making.next ∙ omega arith) is);
-  }
+  making_one all made left rest lanes number hand lane first is making = grind (arith, append_assoc, length-append, made_one)
 
   -- ---- what was made
 
@@ -86,16 +82,9 @@ module _ {R : Type 0} (segments : R → Option Segments) (masters : ℕ) where
       → slice_get lanes place ≡ Some lane → AreMadeOf segments masters from hands lanes → IsMadeOf segments masters (from + place) hand.items lane
   made_at from [] lanes place hand lane here there are = absurd (cc here)
   made_at from (one ∷ hands) [] place hand lane here there are = absurd are
-  made_at from (one ∷ hands) (first ∷ lanes) zero hand lane here there are =
-      let same_hand : one ≡ hand = cc here in
-      let same_lane : first ≡ lane = cc there in
-      let number : from ≡ from + 0 = omega arith in
-      subst (λ (n : ℕ). IsMadeOf segments masters n hand.items lane) number
-      (subst (λ (h : Vec R). IsMadeOf segments masters from h.items lane) same_hand
-      (subst (λ (l : LaneState R). IsMadeOf segments masters from one.items l) same_lane are.0))
+  made_at from (one ∷ hands) (first ∷ lanes) zero hand lane here there are = grind (arith, hand.items, one.items, are.0)
   made_at from (one ∷ hands) (first ∷ lanes) (suc place) hand lane here there are =
-      let number : from + 1 + place ≡ from + suc place = omega arith in
-      subst (λ (n : ℕ). IsMadeOf segments masters n hand.items lane) number (made_at (from + 1) hands lanes place hand lane here there are.1)
+      grind (arith, hand.items, are.1, (made_at (from + 1) hands lanes place hand lane here there are.1))
 
   pub made_count : (from : ℕ) (hands : List (Vec R)) (lanes : List (LaneState R)) → AreMadeOf segments masters from hands lanes → length lanes ≡ length hands
   made_count from [] [] are = refl
@@ -175,35 +164,14 @@ module _ {R : Type 0} (segments : R → Option Segments) (masters : ℕ) where
 
 -- ---- one lane
 
-made_running : {R : Type 0} (masters backups number : ℕ) (lane : LaneState R) (running : Option Running) → lane.running ≡ running → is_some running ≡ true → lane.number ≡ number
-    → lane.masters ≡ masters → length lane.backups ≡ backups → IfSome running (λ it. world_with lane it [] ≡ record (new_world number masters backups) { backups = [] })
-    → IsNewLane masters backups number lane
-made_running masters backups number lane (Some running) is runs number_is masters_are backups_are world = record {
-  number_is = number_is;
-  masters_are = masters_are;
-  backups_are = backups_are;
-  running = running;
-  runs = is;
-  world = world;
-}
-made_running masters backups number lane None is runs number_is masters_are backups_are world = absurd (cc runs)
-
 pub one_made : {R : Type 0} (segments : R → Option Segments) (masters number : ℕ) (replicas : List R) (lane : LaneState R) → is_some lane.running ≡ true → lane.number ≡ number
     → lane.masters ≡ masters → replicas_of lane.backups ≡ replicas
     → IfSome lane.running (λ it. world_with lane it [] ≡ record (new_world number masters (length replicas)) { backups = [] })
     → (AreEmpty segments replicas → AreTold segments lane.backups (new_backups (length replicas))) → IsMadeOf segments masters number replicas lane
 one_made {R = R} segments masters number replicas lane runs number_is masters_are replicas_are world told =
-    let many : length (replicas_of lane.backups) ≡ length lane.backups = length-map lane.backups _ in
-    record {
-      new = made_running masters (length replicas) number lane lane.running refl runs number_is masters_are (sym many ∙ ap (λ (list : List R). length list) replicas_are) world;
-      replicas_are = replicas_are;
-      told = told;
-    }
+    grind (arith, replicas_of, length-map)
 
 -- a cluster with lanes and without sessions is that of its lanes
 pub of_parts : {R : Type 0} (segments : R → Option Segments) (state : ClusterState R) (lanes : List (LaneState R)) (cluster : Cluster) → state.lanes ≡ lanes → state.sessions ≡ []
     → IsOf segments (state_of lanes []) cluster → IsOf segments state cluster
-of_parts {R = R} segments state lanes cluster its none is = record {
-  lanes = subst (λ (list : List (LaneState R)). AreWorlds segments list cluster.lanes) (sym its) is.lanes;
-  sessions = is.sessions ∙ sym none;
-}
+of_parts {R = R} segments state lanes cluster its none is = grind arith

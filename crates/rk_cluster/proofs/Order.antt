@@ -2,7 +2,6 @@
 use Rattle.rk_cluster.proofs.Words.{◌≡◌, ◌≤◌, ◌<◌, ◌+◌, ◌*◌, ℕ, zero, suc, List, [], ◌∷◌, map, length, slice_get, Option, None, Some, refl}
 use Rattle.rk_cluster.proofs.Words.{sym, ap, subst, ◌∙◌, arith, option_map, slice_get_past, LANES, LaneState, replicas_of, IsEighth}
 use Rattle.rk_cluster.proofs.Words.{LanesGoOn, RoseBy, counts_in, lane_counts, times_lost, Fate}
-use Rattle.rk_backup.specs.Lane.{replica_of}
 use Rattle.rk_cluster.proofs.Worlds.{something_within}
 
 -- what is at a place of a list once each element has changed
@@ -14,14 +13,7 @@ get_map f (x ∷ xs) (suc place) = get_map f xs place
 module _ {R : Type 0} (faults : R → ℕ) where
   -- the counts of a lane are those of its replicas
   lane_counts_are : (lane : LaneState R) (place : ℕ) → lane_counts faults (Some lane) place ≡ option_map faults (slice_get (replicas_of lane.backups) place)
-  lane_counts_are lane place =
-      get_map (λ backup. faults (replica_of backup)) lane.backups place
-      ∙ twice (slice_get lane.backups place)
-      ∙ ap (option_map faults) (sym (get_map replica_of lane.backups place))
-    where
-      twice : (found : Option _) → option_map (λ backup. faults (replica_of backup)) found ≡ option_map faults (option_map replica_of found)
-      twice None = refl
-      twice (Some backup) = refl
+  lane_counts_are lane place = grind (arith, get_map)
 
   module _ (lanes : List (LaneState R)) (replicas : List R) (eight : length lanes ≡ LANES)
       (dealt : (number : ℕ) (lane : LaneState R) → slice_get lanes number ≡ Some lane → IsEighth replicas number (replicas_of lane.backups)) where

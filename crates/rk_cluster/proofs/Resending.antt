@@ -2,16 +2,15 @@
 use Rattle.rk_cluster.proofs.Words.{get_or-set_same, ◌≡◌, ◌<◌, ◌≤◌, ◌+◌, ℕ, Bool, true, false, not, List, [], ◌∷◌, length, slice_get}
 use Rattle.rk_cluster.proofs.Words.{is_none, is_some, unwrap_or, Option, Some, None, IfSome, Result, Ok, Err, refl, sym, ap, subst, ◌∙◌}
 use Rattle.rk_cluster.proofs.Words.{arith, slice_get_within, NumberMap, get, Segments, get_same, Node, Traffic, Message, Called, Gave}
-use Rattle.rk_cluster.proofs.Words.{refusal, IsFormedWithRoom, step, stepped_by, Stepped, told_for, told_to, World, new_world, StepError}
-use Rattle.rk_cluster.proofs.Words.{Session, new_session, Cluster, Happens, Occurrence, cluster_stepped, lane_at, session_at, LaneState}
-use Rattle.rk_cluster.proofs.Words.{Running, world_with, acted, all_acted, IsNextIn, IsSentAgain, again_code, code_where, first_code, Acts}
-use Rattle.rk_cluster.proofs.Words.{ActsBy, ActsOne, CutShortBy, HasCode, IsActedAs, is_client, again_makes, in_lane, AreButOne}
-use Rattle.rk_cluster.proofs.Words.{ClusterState, IsOf, IsWorld, IsHappening, state_of, Code, NothingSent, Unknown}
+use Rattle.rk_cluster.proofs.Words.{refusal, IsFormedWithRoom, step, Stepped, told_for, World, new_world, StepError, Session, new_session}
+use Rattle.rk_cluster.proofs.Words.{Cluster, Happens, Occurrence, cluster_stepped, lane_at, session_at, LaneState, Running, world_with}
+use Rattle.rk_cluster.proofs.Words.{acted, all_acted, IsNextIn, IsSentAgain, again_code, code_where, first_code, Acts, ActsBy, ActsOne}
+use Rattle.rk_cluster.proofs.Words.{CutShortBy, HasCode, IsActedAs, is_client, again_makes, in_lane, AreButOne, ClusterState, IsOf, IsWorld}
+use Rattle.rk_cluster.proofs.Words.{IsHappening, state_of, Code, NothingSent, Unknown}
 use Rattle.rk_types.specs.declared.node.Node.TheVariants as nodes
 use Rattle.rk_message.specs.Wire.{HasSentNumbers}
 use Rattle.rk_world.specs.Room.{MOST_NUMBER}
 use Rattle.rk_world.specs.Runs.{world_stepped}
-use Rattle.rk_world.specs.Step.{sent_again}
 use Rattle.rk_world.specs.World.{standing}
 use Rattle.rk_world.specs.declared.event.Event.TheVariants as events
 use Rattle.rk_lane.specs.Requests.{AreForMasters, IsOfMaster}
@@ -24,13 +23,8 @@ use Rattle.rk_cluster.proofs.Worlds.{all_at, same_count, world_at}
 
 -- ---- a message for a master calls no replica
 
-told_none_to : (w : World) (message : Message) (to : Node) (fault : Option ℕ) → IsOfMaster to → told_to w message to fault ≡ Gave None
-told_none_to w message (nodes.Backup backup) fault is = absurd is
-told_none_to w message _ fault is = refl
-
 told_none : (w : World) (found : Option Message) (fault : Option ℕ) → IfSome found (λ it. IsOfMaster it.to) → told_for w found fault ≡ Gave None
-told_none w None fault is = refl
-told_none w (Some message) fault is = told_none_to w message message.to fault is
+told_none w found fault is = grind arith
 
 -- ---- what is sent again is for a master
 
@@ -39,20 +33,9 @@ none_next w None is numbered = tt
 none_next w (Some message) is numbered = absurd (omega (arith, (numbered (w.wire.sent + 1) message is).1))
 
 module _ (w : World) (numbered : HasSentNumbers w.wire) where
-  sent_for_master : (found : Option Message) → IfSome found (λ it. IsOfMaster it.to)
-      → IfSome (get (sent_again w found).world.wire.messages (w.wire.sent + 1)) (λ it. IsOfMaster it.to)
-  sent_for_master None is = none_next w (get w.wire.messages (w.wire.sent + 1)) refl numbered
-  sent_for_master (Some message) is =
-      subst (λ (found : Option Message). IfSome found (λ it. IsOfMaster it.to)) (sym (get_same w.wire.messages (w.wire.sent + 1) message (w.wire.sent + 1) refl)) is
-
-  refused_or_sent : (client : ℕ) (refused : Option StepError) → IfSome (get w.ledger.requests client) (λ it. IsOfMaster it.to)
-      → IfSome (get (world_stepped w (stepped_by w (events.Again client) (Gave None) refused)).wire.messages (w.wire.sent + 1)) (λ it. IsOfMaster it.to)
-  refused_or_sent client None is = sent_for_master (get w.ledger.requests client) is
-  refused_or_sent client (Some error) is = none_next w (get w.wire.messages (w.wire.sent + 1)) refl numbered
-
   pub again_for_master : (client : ℕ) → IfSome (get w.ledger.requests client) (λ it. IsOfMaster it.to)
       → IfSome (get (world_stepped w (step w (events.Again client) (Gave None))).wire.messages (w.wire.sent + 1)) (λ it. IsOfMaster it.to)
-  again_for_master client is = refused_or_sent client (refusal w (events.Again client)) is
+  again_for_master client is = grind (arith, refusal, none_next, get_same)
 
 -- ---- in a cluster
 
@@ -153,10 +136,7 @@ module _ {R : Type 0} (segments : R → Option Segments) where
 
   pub unsent : {faults : R → ℕ} (old new : List (LaneState R)) (lane client number broken : ℕ) → IsHappening segments faults old new lane (events.Again client) (Some broken)
       → IsSentAgain segments old new lane client number (Some broken)
-  unsent old new lane client number broken sent sessions =
-      worn_acts segments (state_of old sessions) (state_of new sessions) (Happens lane (events.Again client) (Gave None))
-      (in_lane lane (events.Deliver number) ∷ in_lane lane (events.Forget number) ∷ []) broken
-      (happens_plain segments old new lane (events.Again client) (Some broken) tt sent sessions)
+  unsent old new lane client number broken sent sessions = search (worn_acts, state_of, in_lane, happens_plain)
 
   pub undelivered : {faults : R → ℕ} (old now new : List (LaneState R)) (lane client number : ℕ) (its : LaneState R) → slice_get old lane ≡ Some its → IsNextIn number its
       → IsHappening segments faults old now lane (events.Again client) None → (broken : ℕ) → IsHappening segments faults now new lane (events.Deliver number) (Some broken)
@@ -253,19 +233,7 @@ module _ {R : Type 0} (segments : R → Option Segments) where
 -- the next number of a lane that is not spent
 pub next_in : {R : Type 0} (its : LaneState R) (wire : Traffic) (sent : ℕ) → sent ≡ wire.sent → IfSome its.running (λ running. wire ≡ running.wire)
     → IfSome its.running (λ running. IsFormedWithRoom (world_with its running [])) → IfSome its.running (λ _. AreForMasters its.ledger.requests) → IsNextIn (sent + 1) its
-next_in its wire sent is known formed requests = record {
-  next = by_wire its.running known;
-  numbered = by_form its.running formed;
-  requests = requests;
-}
-  where
-    by_wire : (running : Option Running) → IfSome running (λ it. wire ≡ it.wire) → IfSome running (λ it. sent + 1 ≡ it.wire.sent + 1)
-    by_wire None same = tt
-    by_wire (Some running) same = ap (λ (n : ℕ). n + 1) (is ∙ ap (λ (w : Traffic). w.sent) same)
-
-    by_form : (running : Option Running) → IfSome running (λ it. IsFormedWithRoom (world_with its it [])) → IfSome running (λ it. HasSentNumbers it.wire)
-    by_form None whole = tt
-    by_form (Some running) whole = whole.formed.wire.numbered
+next_in its wire sent is known formed requests = grind (arith, world_with)
 
 -- it is no great number
 pub few_sent : {R : Type 0} (its : LaneState R) (wire : Traffic) (sent : ℕ) (spent : Bool) → spent ≡ not (is_some its.running) → spent ≡ false → sent ≡ wire.sent

@@ -1,9 +1,8 @@
 -- Masters of a lane that live, number by number.
 use Rattle.rk_cluster.proofs.Words.{◌≡◌, ◌<◌, ◌+◌, ◌==◌, ◌||◌, ◌&&◌, ℕ, zero, suc, Bool, true, false, not, cond, List, [], ◌∷◌, filter}
-use Rattle.rk_cluster.proofs.Words.{length, Option, Some, None, IfSome, unwrap_or, slice_get, refl, sym, ap, subst, ◌∙◌, arith}
-use Rattle.rk_cluster.proofs.Words.{unsigned_tied, nat_tests, length-map, length-range_with_len, list_all, range_with_len, nat_cmp}
-use Rattle.rk_cluster.proofs.Words.{eq_by_cmp, NumberMap, get, numbers, Master, IsFormedWithRoom, World, has_crashed, LaneState, Running}
-use Rattle.rk_cluster.proofs.Words.{world_with}
+use Rattle.rk_cluster.proofs.Words.{length, Option, Some, None, IfSome, unwrap_or, slice_get, refl, sym, ap, ◌∙◌, arith, unsigned_tied}
+use Rattle.rk_cluster.proofs.Words.{nat_tests, length-map, length-range_with_len, list_all, range_with_len, nat_cmp, eq_by_cmp, NumberMap}
+use Rattle.rk_cluster.proofs.Words.{get, numbers, Master, IsFormedWithRoom, World, has_crashed, LaneState, Running, world_with}
 use Rattle.rk_world.specs.Master.{new_master, staged}
 use Rattle.rk_world.specs.World.{master_at}
 use Rattle.rk_cluster.specs.Quiet.{has_applied_all}
@@ -45,12 +44,7 @@ numbered : {X : Type 0} (from count : ℕ) (things : NumberMap X) → numbers th
     → (place : ℕ) (entry : ℕ × X) → slice_get things place ≡ Some entry → (entry.0 ≡ from + place) × (get things entry.0 ≡ Some entry.1)
 numbered from count [] is place entry there = absurd (cc there)
 numbered from zero (first ∷ rest) is place entry there = absurd (cc is)
-numbered {X = X} from (suc count) (first ∷ rest) is zero entry there =
-    let same : first ≡ entry = cc there in
-    let number : first.0 ≡ from = cc is in (
-      ap (λ (it : ℕ × X). it.0) (sym same) ∙ number ∙ omega arith,
-      subst (λ (it : ℕ × X). get (first ∷ rest) it.0 ≡ Some it.1) same (ap (λ (test : Bool). cond test (Some first.1) (get rest first.0)) (itself first.0)),
-    )
+numbered {X = X} from (suc count) (first ∷ rest) is zero entry there = grind (arith, itself, first.0, first.1)
 numbered from (suc count) (first ∷ rest) is (suc place) entry there =
     let number : first.0 ≡ from = cc is in
     let tail : numbers rest ≡ range_with_len (from + 1) count = cc is in
@@ -76,10 +70,7 @@ module _ {R : Type 0} (lane : LaneState R) (masters : ℕ) (many : lane.masters 
   -- that each master of the lane rests says that nothing is staged at those that live
   pub applied_told : (told : Bool) (running : Option Running) → IfSome running (λ it. IsFormedWithRoom (world_with lane it [])) → IfSome running (λ it. it.coordinator.masters ≡ lane.masters)
       → IfSome running (λ it. told ≡ list_all (rests (world_with lane it [])) (range_with_len 1 masters)) → IfSome running (λ it. told ≡ has_applied_all (world_with lane it []))
-  applied_told told None formed counted known = tt
-  applied_told told (Some running) formed counted known =
-      let w = world_with lane running [] in
-      known ∙ sym (applied_all w masters (formed.formed.masters_are ∙ ap (range_with_len 1) (counted ∙ many)))
+  applied_told told running formed counted known = grind (arith, world_with, applied_all)
 
   -- a master rests, as its own test tells
   pub rests_told : (told : Bool) (master : ℕ) (running : Option Running) → IfSome running (λ it. told ≡ (has_crashed (world_with lane it []) master

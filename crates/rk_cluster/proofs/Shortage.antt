@@ -1,14 +1,13 @@
 -- How calls that run out of memory end.
-use Rattle.rk_cluster.proofs.Words.{◌≡◌, ◌⊎◌, ℕ, List, [], ◌∷◌, ◌++◌, Option, None, Some, Result, Ok, Err, IfErr, OnErr, slice_get}
-use Rattle.rk_cluster.proofs.Words.{slice_set, refl, sym, ap, subst, ◌∙◌, inl, inr, ⊎_elim, append-nil, append_assoc, NumberMap, get}
-use Rattle.rk_cluster.proofs.Words.{insert, Said, Segments, Session, Cluster, Occurrence, StepError, Event, Seen, IsRefused, IsSameLane}
-use Rattle.rk_cluster.proofs.Words.{LaneState, Acts, ActsBy, ActsOne, AreCutShort, Carries, CutShortBy, AreButOne, HasTurnedOne, IsShortOf}
+use Rattle.rk_cluster.proofs.Words.{arith, ◌≡◌, ℕ, List, [], ◌∷◌, ◌++◌, Option, None, Some, Result, Ok, Err, IfErr, OnErr, slice_get}
+use Rattle.rk_cluster.proofs.Words.{slice_set, refl, sym, ap, subst, ◌∙◌, inl, ⊎_elim, append-nil, append_assoc, NumberMap, get, insert}
+use Rattle.rk_cluster.proofs.Words.{Said, Segments, Session, Cluster, Occurrence, StepError, Event, Seen, IsRefused, IsSameLane, LaneState}
+use Rattle.rk_cluster.proofs.Words.{Acts, ActsBy, ActsOne, AreCutShort, Carries, CutShortBy, AreButOne, HasTurnedOne, IsShortOf}
 use Rattle.rk_cluster.proofs.Words.{ClusterState, IsOf, failure_of, state_of, ClusterError}
 use Rattle.std.proofs.lemmas.Option.{none-some}
 use Rattle.rk_world.specs.declared.error.StepError.TheVariants as causes
 use Rattle.rk_lane.specs.Visits.{MayHaveTurned}
 use Rattle.rk_cluster.specs.Effects.{IsCutShort}
-use Rattle.rk_cluster.specs.Spending.{IsSpentFrom}
 use Rattle.rk_cluster.proofs.Carrying.{first_acts, none_acts}
 use Rattle.rk_cluster.proofs.Worlds.{set_there}
 
@@ -32,22 +31,11 @@ same_short state = record { lanes = inl refl; sessions = inl refl }
 pub lanes_short : {R : Type 0} (old new : List (LaneState R)) (sessions : NumberMap Session) → AreButOne old new → IsShortOf (state_of old sessions) (state_of new sessions)
 lanes_short old new sessions but = record { lanes = but; sessions = inl refl }
 
--- a lane that refused an event is as it was, or it is spent
-refused_short : {R : Type 0} (faults : R → ℕ) (event : Event) (old new : LaneState R) (error : StepError) → IsSameLane old new → IsRefused faults event old new error
-    → (new ≡ old) ⊎ IsSpentFrom old new
-refused_short faults event old new causes.NoMemory same it =
-    inr (record { spent = it.spent refl; lane = same; journal = it.journal; asked = it.asked; clients = it.clients })
-refused_short faults event old new _ same it = inl (it.same (λ never. cc never))
-
 -- so all lanes are as they were, but for that one
 pub stepped_short : {R : Type 0} (faults : R → ℕ) (event : Event) (lanes : List (LaneState R)) (place : ℕ) (old new : LaneState R) (answer : Result Seen StepError) (e : ClusterError)
     → slice_get lanes place ≡ Some old → IsSameLane old new → IfErr answer (IsRefused faults event old new) → failure_of answer ≡ Some e
     → AreButOne lanes (slice_set lanes place new)
-stepped_short faults event lanes place old new (Ok seen) e there same refused failed = absurd (none-some e failed)
-stepped_short faults event lanes place old new (Err error) e there same refused failed =
-    ⊎_elim (λ (is : new ≡ old). inl (ap (slice_set lanes place) is ∙ set_there lanes place old there))
-    (λ (spent : IsSpentFrom old new). inr (record { place = place; was = old; is = new; there = there; spent = spent; others = refl }))
-    (refused_short faults event old new error same refused)
+stepped_short faults event lanes place old new answer e there same refused failed = grind (arith, none-some, slice_set, set_there)
 
 -- a client that was refused has changed no lane
 pub kept_short : {R : Type 0} (lanes : List (LaneState R)) (place : ℕ) (old new : LaneState R) (answer : Result Seen StepError) (e : ClusterError) → slice_get lanes place ≡ Some old
@@ -58,9 +46,7 @@ kept_short lanes place old new (Err error) e there kept failed = ap (slice_set l
 -- and has taken its turn at most
 pub turned_short : (sessions : NumberMap Session) (client : ℕ) (session later : Session) (answer : Result Seen StepError) (e : ClusterError) → get sessions client ≡ Some session
     → OnErr answer (MayHaveTurned session later) → failure_of answer ≡ Some e → HasTurnedOne sessions (insert sessions client later)
-turned_short sessions client session later (Ok seen) e found turned failed = absurd (none-some e failed)
-turned_short sessions client session later (Err error) e found turned failed =
-    record { client = client; was = session; is = later; there = found; turned = turned; others = refl }
+turned_short sessions client session later answer e found turned failed = grind (arith, none-some)
 
 module _ {R : Type 0} (segments : R → Option Segments) where
   -- ---- some occurrences, in each cluster
@@ -94,21 +80,12 @@ module _ {R : Type 0} (segments : R → Option Segments) where
 
   -- others would have followed
   pub before_short : (old new : ClusterState R) (first later : List Occurrence) → AreCutShort segments old new first → AreCutShort segments old new (first ++ later)
-  before_short old new first later it = record {
-    done = it.done;
-    left = it.left ++ later;
-    whole = ap (λ (list : List Occurrence). list ++ later) it.whole ∙ append_assoc it.done it.left later;
-    between = it.between;
-    acts = it.acts;
-    since = it.since;
-  }
+  before_short old new first later it = grind (arith, append_assoc)
 
   -- one more has come
   pub carries_then : (old now next : ClusterState R) (all : List Occurrence) (occurrence : Occurrence) → Carries segments old now all [] → ActsOne segments now next occurrence [] None
       → Carries segments old next (all ++ occurrence ∷ []) []
-  carries_then old now next all occurrence carries one final more told broken acts =
-      subst (λ (list : List Occurrence). Acts segments old final list told broken) (sym (append_assoc all (occurrence ∷ []) more))
-      (carries final (occurrence ∷ more) told broken (first_acts segments now next final occurrence more told broken one acts))
+  carries_then old now next all occurrence carries one final more told broken acts = search (append_assoc, first_acts)
 
   -- ---- what a call makes
 

@@ -1,9 +1,9 @@
 -- Who takes a turn in a lane: the clients that ask there, and the masters that live.
-use Rattle.rk_cluster.proofs.Words.{◌≡◌, ◌<◌, ◌≤◌, ◌+◌, ◌-◌, ◌++◌, ℕ, suc, Bool, true, false, cond, List, [], ◌∷◌, All, filter, is_some}
-use Rattle.rk_cluster.proofs.Words.{map, Option, None, Some, IfSome, refl, sym, ap, subst, ◌∙◌, append_assoc, append-nil, arith, flat_map}
+use Rattle.rk_cluster.proofs.Words.{◌≡◌, ◌<◌, ◌≤◌, ◌+◌, ◌-◌, ◌++◌, ℕ, suc, Bool, true, false, cond, List, [], ◌∷◌, All, filter, map, Option}
+use Rattle.rk_cluster.proofs.Words.{None, Some, IfSome, refl, sym, ap, subst, ◌∙◌, append_assoc, append-nil, arith, flat_map}
 use Rattle.rk_cluster.proofs.Words.{range_with_len, nat_cmp, eq_by_cmp, unsigned_tied, All-cons, All-map, All-nil, All-push, All-weaker}
-use Rattle.rk_cluster.proofs.Words.{NumberMap, get, numbers, Call, Session, Asks, Occurrence, Master, IsMaster, IsFormedWithRoom, LaneState}
-use Rattle.rk_cluster.proofs.Words.{Running, world_with, asks_in, in_lane, IsDeed, occurrences, clients_in, is_call_in, live_in, turns_of}
+use Rattle.rk_cluster.proofs.Words.{NumberMap, numbers, Call, Session, Occurrence, Master, IsMaster, IsFormedWithRoom, LaneState, Running}
+use Rattle.rk_cluster.proofs.Words.{world_with, asks_in, in_lane, IsDeed, occurrences, clients_in, is_call_in, live_in, turns_of}
 use Rattle.rk_cluster.proofs.Words.{HasSession, all_ask}
 use Rattle.std.proofs.Common.{eq-eqb}
 use Rattle.rk_types.specs.declared.node.Node.TheVariants as nodes
@@ -15,62 +15,32 @@ use Rattle.rk_cluster.specs.Turns.{turn_of}
 
 -- ---- clients
 
--- one that asks in the lane stands among those that do, and no other one does
-kept_number : (b : Bool) (client : ℕ) (session : Session) (rest : NumberMap Session)
-    → cond b (client ∷ []) [] ++ numbers rest ≡ numbers (cond b ((client, session) ∷ rest) rest)
-kept_number true client session rest = refl
-kept_number false client session rest = refl
-
 -- the next session of those that are left
 pub client_next : (lane client : ℕ) (session : Session) (rest later : NumberMap Session) (items : List ℕ) → rest ≡ (client, session) ∷ later
     → (items ++ cond (is_call_in lane session.outstanding) (client ∷ []) []) ++ clients_in lane later ≡ items ++ clients_in lane rest
-client_next lane client session rest later items is =
-    append_assoc items (cond (is_call_in lane session.outstanding) (client ∷ []) []) (clients_in lane later)
-    ∙ ap (λ (list : List ℕ). items ++ list)
-    (kept_number (is_call_in lane session.outstanding) client session (filter (λ entry. is_call_in lane entry.1.outstanding) later)
-    ∙ ap (clients_in lane) (sym is))
-
--- who has a session here, or further on, has one
-has_here : (client : ℕ) (session : Session) (rest : NumberMap Session) → HasSession ((client, session) ∷ rest) client
-has_here client session rest =
-    ap (λ (b : Bool). is_some (cond b (Some session) (get rest client))) (unsigned_tied client client ∙ eq-eqb client client refl)
-
-here_or_later : (b : Bool) (session : Session) (found : Option Session) → is_some found ≡ true → is_some (cond b (Some session) found) ≡ true
-here_or_later true session found has = refl
-here_or_later false session found has = has
+client_next lane client session rest later items is = grind (arith, append_assoc, is_call_in, clients_in)
 
 has_later : (entry : ℕ × Session) (rest : NumberMap Session) (client : ℕ) → HasSession rest client → HasSession (entry ∷ rest) client
-has_later entry rest client has = here_or_later (eq_by_cmp nat_cmp client entry.0) entry.1 (get rest client) has
+has_later entry rest client has = grind (arith, eq_by_cmp, nat_cmp, entry.0, entry.1)
 
 have_by : (b : Bool) (entry : ℕ × Session) (rest kept : NumberMap Session) → All (HasSession (entry ∷ rest)) (numbers kept)
     → All (HasSession (entry ∷ rest)) (numbers (cond b (entry ∷ kept) kept))
-have_by true entry rest kept have = All-cons (HasSession (entry ∷ rest)) entry.0 (numbers kept) (has_here entry.0 entry.1 rest) have
-have_by false entry rest kept have = have
+have_by b entry rest kept have = grind (arith, numbers, unsigned_tied, eq-eqb)
 
 -- those who ask in a lane have sessions
 pub clients_have : (lane : ℕ) (sessions : NumberMap Session) → All (HasSession sessions) (clients_in lane sessions)
 clients_have lane [] = All-nil (HasSession [])
-clients_have lane (entry ∷ rest) =
-    have_by (is_call_in lane entry.1.outstanding) entry rest (filter (λ it. is_call_in lane it.1.outstanding) rest)
-    (All-weaker (HasSession rest) (HasSession (entry ∷ rest)) (has_later entry rest) (clients_in lane rest) (clients_have lane rest))
-
--- the turn of one that asks in the lane, before others
-asks_where : (b : Bool) (lane client : ℕ) (session : Session) (kept : NumberMap Session)
-    → all_ask lane (numbers (cond b ((client, session) ∷ kept) kept)) ≡ cond b (Asks lane client ∷ []) [] ++ all_ask lane (numbers kept)
-asks_where true lane client session kept = refl
-asks_where false lane client session kept = refl
+clients_have lane (entry ∷ rest) = grind (arith, have_by, is_call_in, has_later, clients_in, entry.1.outstanding, (clients_have lane rest))
 
 asks_first : (lane client : ℕ) (session : Session) (call : Option Call) (kept : NumberMap Session)
     → all_ask lane (numbers (cond (is_call_in lane call) ((client, session) ∷ kept) kept)) ≡ asks_by lane client call ++ all_ask lane (numbers kept)
-asks_first lane client session None kept = refl
-asks_first lane client session (Some call) kept = asks_where (is_call_in lane (Some call)) lane client session kept
+asks_first lane client session call kept = grind (arith, is_call_in)
 
 -- the turns of those who ask in a lane are what each session makes there
 pub all_ask_is : (lane : ℕ) (sessions : NumberMap Session) → all_ask lane (clients_in lane sessions) ≡ flat_map (λ entry. asks_in lane entry.0 entry.1) sessions
 all_ask_is lane [] = refl
 all_ask_is lane (entry ∷ rest) =
-    asks_first lane entry.0 entry.1 entry.1.outstanding (filter (λ it. is_call_in lane it.1.outstanding) rest)
-    ∙ ap (λ (list : List Occurrence). asks_in lane entry.0 entry.1 ++ list) (all_ask_is lane rest)
+    grind (arith, asks_first, is_call_in, asks_in, entry.0, entry.1, entry.1.outstanding, (all_ask_is lane rest))
 
 -- ---- masters
 
@@ -127,11 +97,7 @@ module _ {R : Type 0} (at : LaneState R) (masters : ℕ) where
   }
 
   pub collected : (found : List ℕ) (index : ℕ) → masters ≤ index → IsCollecting found index → (running : Running) → at.running ≡ Some running → found ≡ live_in at running
-  collected found index past before running runs =
-      let none : masters - index ≡ 0 = omega (arith, past) in
-      sym (append-nil found)
-      ∙ ap (λ (count : ℕ). found ++ filter (lives (world_with at running [])) (range_with_len (index + 1) count)) (sym none)
-      ∙ before.live running runs
+  collected found index past before running runs = grind (arith, append-nil, world_with)
 
 -- ---- turns
 

@@ -13,18 +13,11 @@ use Rattle.rk_cluster.proofs.Worlds.{same_count, world_at}
 -- one more number
 range_more : (from count : ℕ) → range_with_len from (count + 1) ≡ range_with_len from count ++ (from + count) ∷ []
 range_more from zero = let same : from ≡ from + 0 = omega arith in ap (λ (n : ℕ). n ∷ []) same
-range_more from (suc count) =
-    let step : suc count + 1 ≡ suc (count + 1) = omega arith in
-    let same : from + 1 + count ≡ from + suc count = omega arith in
-    ap (range_with_len from) step
-    ∙ ap (λ (rest : List ℕ). from ∷ rest) (range_more (from + 1) count ∙ ap (λ (n : ℕ). range_with_len (from + 1) count ++ n ∷ []) same)
+range_more from (suc count) = grind (arith, (range_more (from + 1) count))
 
 -- the numbers so far that pass a test, with one more
 pub filter_more : (test : ℕ → Bool) (count : ℕ) → filter test (range_with_len 0 (count + 1)) ≡ filter test (range_with_len 0 count) ++ cond (test count) (count ∷ []) []
-filter_more test count =
-    let same : 0 + count ≡ count = omega arith in
-    ap (filter test) (range_more 0 count) ∙ filter-append test (range_with_len 0 count) ((0 + count) ∷ [])
-    ∙ ap (λ (n : ℕ). filter test (range_with_len 0 count) ++ cond (test n) (n ∷ []) []) same
+filter_more test count = grind (arith, range_more, filter-append)
 
 -- whether an owner is this master, as options are compared
 pub owner_eq : (master : ℕ) (owner : Option ℕ) → is_owner master owner ≡ option_eq eqb owner (Some master)

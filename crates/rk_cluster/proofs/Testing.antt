@@ -1,20 +1,15 @@
 -- Tests of lanes, and of the worlds that they stand for.
-use Rattle.rk_cluster.proofs.Words.{◌≡◌, ◌≤◌, ◌<◌, ◌+◌, ℕ, zero, suc, Bool, true, false, ◌&&◌, List, [], ◌∷◌, All, length, take, slice_get}
-use Rattle.rk_cluster.proofs.Words.{slice_index_or, Option, None, Some, IfSome, refl, sym, ap, subst, ◌∙◌, list_all, take_all, All-head}
-use Rattle.rk_cluster.proofs.Words.{All-tail, list_all_at, list_all_more, NumberMap, Segments, World, LaneState, Running, world_with}
-use Rattle.rk_cluster.proofs.Words.{AreWorlds, IsWorld, HoldsIn, TellsOf}
+use Rattle.rk_cluster.proofs.Words.{arith, ◌≡◌, ◌≤◌, ◌<◌, ◌+◌, ℕ, zero, suc, Bool, true, false, ◌&&◌, List, [], ◌∷◌, All, length, take}
+use Rattle.rk_cluster.proofs.Words.{slice_get, slice_index_or, Option, None, Some, IfSome, refl, sym, ap, subst, ◌∙◌, list_all, take_all}
+use Rattle.rk_cluster.proofs.Words.{All-head, All-tail, list_all_at, list_all_more, NumberMap, Segments, World, LaneState, Running}
+use Rattle.rk_cluster.proofs.Words.{world_with, AreWorlds, IsWorld, HoldsIn, TellsOf}
 
 -- ---- lanes
 
 module _ {R : Type 0} (test : World → Bool) where
-  holds_by : (lane : LaneState R) (running : Option Running) → lane.running ≡ running → IfSome running (λ it. true ≡ test (world_with lane it [])) → HoldsIn test lane
-  holds_by lane (Some running) is told it runs =
-      let same : running ≡ it = cc (sym is ∙ runs) in ap (λ (r : Running). test (world_with lane r [])) (sym same) ∙ sym told
-  holds_by lane None is told it runs = let never : None ≡ Some it = sym is ∙ runs in absurd (cc never)
-
   -- what is told to hold does
   pub holds_there : (lane : LaneState R) (told : Bool) → TellsOf test lane told → told ≡ true → HoldsIn test lane
-  holds_there lane told known is = holds_by lane lane.running refl (subst (TellsOf test lane) is known)
+  holds_there lane told known is = grind (arith, world_with, lane.running)
 
 module _ {R : Type 0} (segments : R → Option Segments) (test : World → Bool)
     (blind : (lane : LaneState R) (running : Running) (stored : NumberMap Segments) → test (world_with lane running stored) ≡ test (world_with lane running [])) where
@@ -44,10 +39,7 @@ module _ {R : Type 0} (segments : R → Option Segments) (test : World → Bool)
       → AreWorlds segments lanes worlds → list_all test worlds ≡ false
   one_fails [] worlds place lane there told are = absurd (cc there)
   one_fails (first ∷ lanes) [] place lane there told are = absurd are
-  one_fails (first ∷ lanes) (w ∷ worlds) zero lane there told are =
-      let same : first ≡ lane = cc there in
-      let here = fails_there lane w told (subst (λ (it : LaneState R). IsWorld segments it w) same are.0) in
-      ap (λ (b : Bool). b && list_all test worlds) here
+  one_fails (first ∷ lanes) (w ∷ worlds) zero lane there told are = grind (arith, fails_there, are.0)
   one_fails (first ∷ lanes) (w ∷ worlds) (suc place) lane there told are =
       fails_behind (test w) (list_all test worlds) (one_fails lanes worlds place lane there told are.1)
 
@@ -60,9 +52,7 @@ module _ {X : Type 0} (test : Running → X → Bool) (xs : List X) (index : ℕ
 
   pub holds_more : (running : Option Running) (d : X) (told : Bool) → index < length xs → HoldsSoFar running → IfSome running (λ it. told ≡ test it (slice_index_or xs index d))
       → told ≡ true → IfSome running (λ it. list_all (test it) (take (index + 1) xs) ≡ true)
-  holds_more None d told within before known is = tt
-  holds_more (Some running) d told within before known is =
-      list_all_more (test running) xs index d within ∙ (λ i. before i && (sym known ∙ is) i)
+  holds_more running d told within before known is = grind (arith, list_all_more)
 
   -- one of which it does not hold settles it
   pub holds_not : (running : Option Running) (d : X) (told : Bool) → index < length xs → IfSome running (λ it. told ≡ test it (slice_index_or xs index d)) → told ≡ false

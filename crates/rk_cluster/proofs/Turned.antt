@@ -1,10 +1,10 @@
 -- The turns of the nodes of a lane, one after the other.
-use Rattle.rk_cluster.proofs.Words.{◌≡◌, ◌<◌, ◌+◌, ◌++◌, ℕ, List, [], ◌∷◌, All, length, map, slice_get, slice_index_or, Option, None, Some}
-use Rattle.rk_cluster.proofs.Words.{IfSome, refl, sym, ap, subst, ◌∙◌, append-nil, All-weaker, flat_map, NumberMap, Segments, Session, Asks}
-use Rattle.rk_cluster.proofs.Words.{Cluster, Occurrence, lane_at, World, live_masters, new_world, LaneState, Running, world_with, all_acted}
-use Rattle.rk_cluster.proofs.Words.{Acts, ActsBy, ActsOne, AreCutShort, Carries, CutShortBy, IsActedAs, CountsGoOn, asks_in, in_lane}
-use Rattle.rk_cluster.proofs.Words.{turn_makes, backup_counts, ClusterState, IsOf, IsWorld, AreLanes, CarriesSteps, EndsWorn, MayAllAct}
-use Rattle.rk_cluster.proofs.Words.{StepsEndWorn, occurrences, state_of, clients_in, live_in, turns_of, HasSession, all_ask, Deed}
+use Rattle.rk_cluster.proofs.Words.{arith, ◌≡◌, ◌<◌, ◌+◌, ◌++◌, ℕ, List, [], ◌∷◌, All, length, map, slice_get, slice_index_or, Option, None}
+use Rattle.rk_cluster.proofs.Words.{Some, IfSome, sym, ap, subst, ◌∙◌, append-nil, flat_map, NumberMap, Segments, Session, Asks, Cluster}
+use Rattle.rk_cluster.proofs.Words.{Occurrence, lane_at, World, live_masters, new_world, LaneState, Running, world_with, all_acted, Acts}
+use Rattle.rk_cluster.proofs.Words.{ActsBy, ActsOne, AreCutShort, Carries, CutShortBy, IsActedAs, CountsGoOn, asks_in, in_lane, turn_makes}
+use Rattle.rk_cluster.proofs.Words.{backup_counts, ClusterState, IsOf, IsWorld, AreLanes, CarriesSteps, EndsWorn, MayAllAct, StepsEndWorn}
+use Rattle.rk_cluster.proofs.Words.{occurrences, state_of, clients_in, live_in, turns_of, HasSession, all_ask, Deed}
 use Rattle.rk_types.specs.declared.node.Node.TheVariants as nodes
 use Rattle.rk_world.specs.declared.event.Event.TheVariants as events
 use Rattle.rk_cluster.proofs.Carrying.{none_acts}
@@ -32,30 +32,15 @@ module _ {R : Type 0} (segments : R → Option Segments) where
 
   pub asking_none : (faults : R → ℕ) (start : ClusterState R) (masters lane : ℕ) (clients : List ℕ) → AreLanes masters 0 start.lanes → MayAllAct masters start.sessions
       → All (HasSession start.sessions) clients → IsAsking faults start start masters lane clients 0
-  asking_none faults start masters lane clients are act has = record {
-    came = come_none segments (Asks lane) clients start;
-    lanes = are;
-    count = refl;
-    backups = refl;
-    counts = lanes_same faults start.lanes;
-    acts = act;
-    have = has;
-  }
+  asking_none faults start masters lane clients are act has = grind (arith, come_none, lanes_same)
 
   pub asking_one : (faults : R → ℕ) (start now next : ClusterState R) (masters lane : ℕ) (clients : List ℕ) (index d : ℕ) → index < length clients
       → ActsOne segments now next (Asks lane (slice_index_or clients index d)) [] None → AreLanes masters 0 next.lanes → length next.lanes ≡ length now.lanes
       → backup_counts next.lanes ≡ backup_counts now.lanes → CountsGoOn faults [] now next → MayAllAct masters next.sessions
       → ((other : ℕ) → HasSession now.sessions other → HasSession next.sessions other)
       → IsAsking faults start now masters lane clients index → IsAsking faults start next masters lane clients (index + 1)
-  asking_one faults start now next masters lane clients index d within one are same backed on act keeps before = record {
-    came = come_one segments (Asks lane) clients start now next index d within one before.came;
-    lanes = are;
-    count = same ∙ before.count;
-    backups = backed ∙ before.backups;
-    counts = lanes_then faults start.lanes now.lanes next.lanes before.counts on;
-    acts = act;
-    have = All-weaker (HasSession now.sessions) (HasSession next.sessions) keeps clients before.have;
-  }
+  asking_one faults start now next masters lane clients index d within one are same backed on act keeps before =
+      search (come_one, lanes_then, before.have)
 
   -- ---- clients, and the nodes after them
 

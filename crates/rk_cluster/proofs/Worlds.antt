@@ -41,9 +41,7 @@ there_read xs place x within read = there_within xs place x within ∙ ap Some (
 
 -- what is left of a list begins with the next element
 pub drop_next : {X : Type 0} (xs : List X) (place : ℕ) (d : X) → place < length xs → drop place xs ≡ slice_index_or xs place d ∷ drop (place + 1) xs
-drop_next xs place d within =
-    let next : suc place ≡ place + 1 = omega arith in
-    drop-cons xs place d within ∙ ap (λ (n : ℕ). slice_index_or xs place d ∷ drop n xs) next
+drop_next xs place d within = grind (arith, drop-cons, slice_index_or)
 
 -- ---- worlds
 
@@ -52,8 +50,7 @@ module _ {R : Type 0} (segments : R → Option Segments) where
       → AreWorlds segments lanes worlds → slice_get lanes place ≡ Some lane → IsWorld segments lane (slice_index_or worlds place d)
   world_at [] worlds place lane d are there = absurd (cc there)
   world_at (first ∷ lanes) [] place lane d are there = absurd are
-  world_at (first ∷ lanes) (w ∷ worlds) zero lane d are there =
-      let same : first ≡ lane = cc there in subst (λ (it : LaneState R). IsWorld segments it w) same are.0
+  world_at (first ∷ lanes) (w ∷ worlds) zero lane d are there = grind (arith, are.0)
   world_at (first ∷ lanes) (w ∷ worlds) (suc place) lane d are there = world_at lanes worlds place lane d are.1 there
 
   pub world_set : (lanes : List (LaneState R)) (worlds : List World) (place : ℕ) (lane : LaneState R) (w : World)
@@ -76,9 +73,7 @@ module _ {R : Type 0} (masters : ℕ) where
   pub lane_set : (from : ℕ) (lanes : List (LaneState R)) (place : ℕ) (old new : LaneState R) → slice_get lanes place ≡ Some old → IsSameLane old new
       → AreLanes masters from lanes → AreLanes masters from (slice_set lanes place new)
   lane_set from [] place old new there same are = tt
-  lane_set from (first ∷ lanes) zero old new there same are =
-      let is : first ≡ old = cc there in
-      (same.number ∙ ap (λ (it : LaneState R). it.number) (sym is) ∙ are.0, same.masters ∙ ap (λ (it : LaneState R). it.masters) (sym is) ∙ are.1, are.2)
+  lane_set from (first ∷ lanes) zero old new there same are = grind (arith, same.number, are.0, same.masters, are.1, are.2)
   lane_set from (first ∷ lanes) (suc place) old new there same are = (are.0, are.1, lane_set (from + 1) lanes place old new there same are.2)
 
   pub masters_at : (from : ℕ) (lanes : List (LaneState R)) (place : ℕ) (lane : LaneState R) → slice_get lanes place ≡ Some lane
@@ -91,7 +86,5 @@ module _ {R : Type 0} (masters : ℕ) where
 pub counts_set : {R : Type 0} (lanes : List (LaneState R)) (place : ℕ) (old new : LaneState R) → slice_get lanes place ≡ Some old → IsSameLane old new
     → backup_counts (slice_set lanes place new) ≡ backup_counts lanes
 counts_set [] place old new there same = refl
-counts_set {R = R} (first ∷ lanes) zero old new there same =
-    let is : first ≡ old = cc there in
-    ap (λ (count : ℕ). count ∷ backup_counts lanes) (same.backups ∙ ap (λ (it : LaneState R). length it.backups) (sym is))
+counts_set {R = R} (first ∷ lanes) zero old new there same = grind (arith, backup_counts, same.backups)
 counts_set (first ∷ lanes) (suc place) old new there same = ap (λ (counts : List ℕ). length first.backups ∷ counts) (counts_set lanes place old new there same)

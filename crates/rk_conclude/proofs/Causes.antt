@@ -6,12 +6,7 @@ use Rattle.rk_conclude.specs.Concluded.{HasSinkCause, MayEnd}
 use Rattle.rk_conclude.specs.Reports.{IsAudited}
 
 pub audited_may : (status : Status) → IsAudited status → MayEnd status
-audited_may statuses.Done audited = tt
-audited_may statuses.Audit audited = tt
-audited_may statuses.Usage audited = absurd audited
-audited_may statuses.ReadFault audited = absurd audited
-audited_may statuses.Refused audited = absurd audited
-audited_may status audited = tt
+audited_may status audited = grind arith
 
 pub audited_cause : (status : Status) (before now : ℕ) → IsAudited status → before ≤ now → now ≡ before → HasSinkCause status before now
 audited_cause status before now audited later kept = record { later = later; kept = λ other. kept; rose = λ fault. absurd (subst IsAudited fault audited) }

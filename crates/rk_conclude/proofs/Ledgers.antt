@@ -1,6 +1,6 @@
 -- What the ledgers of lanes in code have is what those of the cluster have that they stand for.
-use Rattle.rk_conclude.proofs.Words.{◌≡◌, ℕ, List, [], ◌∷◌, Option, map, refl, sym, ap, ◌∙◌, sum_by, Segments, Ledger, World, LaneState}
-use Rattle.rk_conclude.proofs.Words.{AreWorlds}
+use Rattle.rk_conclude.proofs.Words.{arith, ◌≡◌, ℕ, List, [], ◌∷◌, Option, map, refl, sym, ap, ◌∙◌, sum_by, Segments, Ledger, World}
+use Rattle.rk_conclude.proofs.Words.{LaneState, AreWorlds}
 use Rattle.std.proofs.Common.{◌+◌}
 use Rattle.std.proofs.lemmas.List.Sums.{sum_by-cons}
 
@@ -11,9 +11,7 @@ module _ {R : Type 0} (segments : R → Option Segments) where
   same_in_each look [] (w ∷ worlds) are = absurd are
   same_in_each look (lane ∷ lanes) [] are = absurd are
   same_in_each look (lane ∷ lanes) (w ∷ worlds) are =
-      let here : look w.ledger ≡ look lane.ledger = ap (λ (w : World). look w.ledger) are.0.is in
-      let rest = same_in_each look lanes worlds are.1 in
-      (λ i. here i ∷ rest i)
+      grind (arith, w.ledger, lane.ledger, are.0.is, are.1, (same_in_each look lanes worlds are.1))
 
   pub same_sum : (look : Ledger → ℕ) (lanes : List (LaneState R)) (worlds : List World) → AreWorlds segments lanes worlds
       → sum_by (λ (w : World). look w.ledger) worlds ≡ sum_by (λ (lane : LaneState R). look lane.ledger) lanes

@@ -1,8 +1,7 @@
 -- The master that owns the tablet of a drive in all lanes, as lanes in code tell it.
-use Rattle.rk_conclude.proofs.Words.{◌≡◌, ℕ, Bool, List, [], ◌∷◌, Option, Some, None, slice_get, refl, ap, subst, ◌∙◌, list_all, Segments}
+use Rattle.rk_conclude.proofs.Words.{arith, ◌≡◌, ℕ, Bool, List, [], ◌∷◌, Option, Some, None, slice_get, refl, ap, ◌∙◌, list_all, Segments}
 use Rattle.rk_conclude.proofs.Words.{World, LaneState, AreWorlds, LanesTell, is_owner, owner_at}
 use Rattle.std.proofs.Common.{cond}
-use Rattle.rk_cluster.specs.State.{IsWorld}
 use Rattle.rk_cluster.specs.Told.{LaneTells}
 use Rattle.rk_conclude.specs.Results.{one_owner, owner_in_all}
 
@@ -18,9 +17,7 @@ module _ {R : Type 0} (segments : R → Option Segments) where
       → LaneTells segments first owner_at owner → AreWorlds segments lanes worlds → one_owner worlds ≡ owner_in_all worlds owner
   by_first [] worlds first owner there tells are = absurd (cc there)
   by_first (lane ∷ lanes) [] first owner there tells are = absurd are
-  by_first (lane ∷ lanes) (w ∷ worlds) first owner there tells are =
-      let same : lane ≡ first = cc there in
-      ap (owner_in_all (w ∷ worlds)) (tells w (subst (λ (it : LaneState R). IsWorld segments it w) same are.0))
+  by_first (lane ∷ lanes) (w ∷ worlds) first owner there tells are = grind (arith, are.0)
 
   module _ (lanes : List (LaneState R)) where
     pub nobody : slice_get lanes 0 ≡ None → LanesTell segments lanes (λ cluster. one_owner cluster.lanes) None

@@ -1,6 +1,6 @@
 -- How a drive ends, by how its settling came out.
-use Rattle.rk_conclude.proofs.Words.{◌≡◌, ℕ, Bool, List, Option, None, Some, refl, Receipt, Status, Segments, Cluster, ClusterState, IsOf}
-use Rattle.rk_conclude.proofs.Words.{EndsSo, WritesReport, audit_status}
+use Rattle.rk_conclude.proofs.Words.{arith, ◌≡◌, ℕ, Bool, List, Option, None, Some, refl, Receipt, Status, Segments, Cluster, ClusterState}
+use Rattle.rk_conclude.proofs.Words.{IsOf, EndsSo, WritesReport, audit_status}
 use Rattle.rk_types.specs.declared.node.Said.{Said}
 use Rattle.rk_types.specs.declared.status.Status.TheVariants as statuses
 use Rattle.rk_settle.specs.Outcomes.{Ends, Fails, StopsBefore}
@@ -24,9 +24,7 @@ never_faulty (Some wrong) is = cc is
 
 module _ {R : Type 0} (segments : R → Option Segments) (faults : R → ℕ) (old new : ClusterState R) (start : Cluster) (is : IsOf segments old start) (had has : List Said) where
   stops_for : (error : SettleError) → StopsBefore segments faults old new settle had has error → StopsFor segments start new error
-  stops_for error stops =
-      let it = stops.stopped start is in
-      record { fates = stops.fates; settled = record { is = it.cluster; leads = it.leads }; stops = it.stops }
+  stops_for error stops = grind arith
 
   -- settling stopped, and nothing was written
   pub ends_stopped : (error : SettleError) (history : Bool) (was : Option (List ℕ)) → Fails segments faults old new settle had has error

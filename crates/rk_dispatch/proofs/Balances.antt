@@ -1,15 +1,15 @@
 -- Each step of a pass keeps the rule, and the pass with all parts knows what is in the queue.
-use Rattle.std.proofs.Common.{◌≡◌, ℕ, zero, suc, ◌+◌, ◌-◌, ◌<◌, ◌≤◌, List, [], ◌∷◌, ◌++◌, set, length, get_or, refl, sym, ap, ◌∙◌, subst, arith, cond, take}
+use Rattle.std.proofs.Common.{◌≡◌, ℕ, zero, suc, ◌+◌, ◌-◌, ◌<◌, ◌≤◌, List, [], ◌∷◌, ◌++◌, set, length, get_or, refl, sym, ap, ◌∙◌, arith, cond, take}
 use Rattle.std.specs.List.{All, sum_by}
 use Rattle.std.proofs.lemmas.List.{nil_from_length, take_all}
-use Rattle.std.proofs.lemmas.List.Elements.{All-cons, All-head, All-nil, All-push, All-set, All-tail}
+use Rattle.std.proofs.lemmas.List.Elements.{All-head, All-push, All-set, All-tail}
 use Rattle.std.proofs.lemmas.List.Sums.{get_or-le-sum_by, sum_by-append, sum_by-cons, sum_by-set, sum_by_push}
 use mathlib.Core.Option.{some, some-injective, some-ne-none}
 use lib.ListN.{get_elem?}
 use Rattle.crossbeam_queue.specs.Fifo.{Forks, Learns, Merges, Pops, Pushes}
 use Rattle.rk_types.specs.declared.node.Parcel.{Parcel}
 use Rattle.rk_dispatch.specs.declared.account.Account.{Account}
-use Rattle.rk_dispatch.specs.Balance.{AreSame, IsBalanced, IsIdle, IsLeft, PARTS, account, first_account, is_same, joined, new_account, spent, times, with_given, with_taken, without_part}
+use Rattle.rk_dispatch.specs.Balance.{AreSame, IsBalanced, IsIdle, IsLeft, first_account, is_same, joined, new_account, spent, with_given, with_taken, without_part}
 
 -- ---- sums over all accounts
 
@@ -86,11 +86,7 @@ busy a part without = absurd (omega (arith, part, without))
 
 -- the first account, of a queue that was just made
 pub begins : IsBalanced [] (first_account ∷ [])
-begins = record {
-  whole = refl;
-  balance = λ parcel. refl;
-  idle = All-cons IsIdle first_account [] (busy first_account (omega arith)) (All-nil IsIdle);
-}
+begins = grind (arith, busy)
 
 -- a parcel is given
 pub gives : (n place : ℕ) (a : Account) (parcel : Parcel) → 0 < a.parts

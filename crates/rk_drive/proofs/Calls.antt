@@ -1,11 +1,10 @@
 -- The receipts of sessions that made all calls of a workload.
-use Rattle.std.proofs.Common.{◌≡◌, ℕ, ◌+◌, List, [], ◌∷◌, ◌++◌, length, map, refl, sym, ap, ◌∙◌}
-use Rattle.std.specs.List.{All, flat_map, range_with_len}
+use Rattle.std.proofs.Common.{◌≡◌, ℕ, ◌+◌, List, [], ◌∷◌, length, map, refl, ap, ◌∙◌}
+use Rattle.std.specs.List.{All, range_with_len}
 use Rattle.std.proofs.lemmas.List.Elements.{All-head, All-tail}
-use Rattle.rk_types.specs.declared.call.Call.{Call}
 use Rattle.rk_types.specs.declared.history.Receipt.{Receipt}
 use Rattle.rk_model.specs.Ordered.{IsNumberedFrom}
-use Rattle.rk_workload.specs.Workload.{call_of, calls_of}
+use Rattle.rk_workload.specs.Workload.{call_of}
 
 -- receipts with rising seqs of calls that a client makes are of its calls in their order
 pub calls_from : (keys client seq : ℕ) (receipts : List Receipt) → IsNumberedFrom seq receipts → All (λ receipt. receipt.call.client ≡ client) receipts

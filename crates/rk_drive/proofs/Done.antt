@@ -1,6 +1,5 @@
 -- What a drive that is done comes to, by the laws of settled drives.
-use Rattle.std.proofs.Common.{◌≡◌, ℕ, List, Option, None, Some, map, refl, sym, ap, subst, ◌∙◌}
-use Rattle.std.specs.Prelude.{drop}
+use Rattle.std.proofs.Common.{◌≡◌, ℕ, List, Option, None, Some, map, refl, ap, subst, ◌∙◌}
 use Rattle.std.specs.Io.KnownBytes.{Appends}
 use Rattle.std.specs.List.{All}
 use Rattle.rk_types.specs.NumberMap.{NumberMap}
@@ -14,12 +13,11 @@ use Rattle.rk_settle.specs.Settle.{settle}
 use Rattle.rk_settle.proofs.AtRest.{settled_rests}
 use Rattle.rk_scripts.proofs.play.Quiet.{rests_quiet}
 use Rattle.rk_laws_gathered.specs.Sessions.{receipts_in}
-use Rattle.rk_laws_drives.specs.Ready.{AreReady, StaysReady}
+use Rattle.rk_laws_drives.specs.Ready.{StaysReady}
 use Rattle.rk_laws_drives.proofs.Histories.{all_stored, just_answers, once, one_history}
 use Rattle.rk_laws_drives.proofs.Settling.{settling_keeps}
-use Rattle.rk_conclude.specs.Concluded.{Concludes, settling}
+use Rattle.rk_conclude.specs.Concluded.{settling}
 use Rattle.rk_conclude.specs.Reports.{Audits, audit_status, drive_text}
-use Rattle.rk_workload.specs.Workload.{workload}
 use Rattle.rk_drive.specs.Driven.{IsDriven}
 use Rattle.rk_drive.specs.Outcomes.{EndsDone, IsConcluded, IsDone}
 use Rattle.rk_drive.specs.declared.plan.Plan.{Plan}

@@ -1,5 +1,5 @@
 -- A drive whose lanes and sessions were gathered ends as they are concluded.
-use Rattle.std.proofs.Common.{◌≡◌, ℕ, ◌*◌, List, Option, Some, sym, subst, take}
+use Rattle.std.proofs.Common.{arith, ◌≡◌, ℕ, ◌*◌, List, Option, Some, sym, subst, take}
 use Rattle.std.specs.Prelude.{drop}
 use Rattle.std.proofs.lemmas.List.Elements.{All-take}
 use Rattle.rk_types.specs.declared.hashing.TheConstants.{LANES}
@@ -34,9 +34,7 @@ module _ {R : Type 0} (segments : R → Option Segments) (plan : Plan) (old new 
       record {
         start = cluster;
         driven = driven segments (AreEmpty segments its) plan lanes sessions it told;
-        concludes =
-            subst (λ (rest : List R). Concludes segments cluster plan.history old new rest after status) others_are
-            (concludes cluster (stands segments (AreEmpty segments its) plan lanes sessions it told));
+        concludes = grind (arith, stands, plan.history);
       }
 
   pub done : AreEmpty segments before → status ≡ statuses.Done → EndsDone segments plan old new before after

@@ -1,10 +1,9 @@
 -- The sessions with which a drive begins, and how what is taken for granted of lanes is taken for granted of replicas.
-use Rattle.std.proofs.Common.{◌≡◌, ◌≤◌, ℕ, ◌+◌, ◌^◌, zero, suc, List, ◌∷◌, map, Option, Some, None, refl, ap, arith}
-use Rattle.std.specs.Prelude.{IfOk, IfSome, Result, Ok, Err}
+use Rattle.std.proofs.Common.{◌≡◌, ◌≤◌, ℕ, ◌+◌, ◌^◌, zero, suc, List, ◌∷◌, map, Option, refl, ap, arith}
+use Rattle.std.specs.Prelude.{IfOk, Result, Ok, Err}
 use Rattle.std.specs.List.{All, range_with_len}
-use Rattle.std.proofs.lemmas.List.Elements.{All-cons, All-nil, All-weaker}
+use Rattle.std.proofs.lemmas.List.Elements.{All-cons, All-nil}
 use Rattle.rk_types.specs.declared.call.Call.{Call}
-use Rattle.rk_types.specs.declared.history.Receipt.{Receipt}
 use Rattle.rk_outside.specs.Segments.{Segments}
 use Rattle.rk_world.specs.Client.{Session, new_session}
 use Rattle.rk_world.specs.Premises.{MayAct}
@@ -22,9 +21,7 @@ clients_from from (suc count) = ap (λ (rest : List ℕ). from ∷ rest) (client
 
 pub idle_from : (from count : ℕ) → All IsIdle (map new_session (range_with_len from count))
 idle_from from zero = All-nil IsIdle
-idle_from from (suc count) =
-    All-cons IsIdle (new_session from) (map new_session (range_with_len (from + 1) count)) (record { receipts = refl; last = refl; outstanding = refl })
-    (idle_from (from + 1) count)
+idle_from from (suc count) = grind (arith, (idle_from (from + 1) count))
 
 pub act_from : (masters from count : ℕ) → 1 ≤ from → from + count ≤ 2 ^ 32 → All (MayAct masters) (map new_session (range_with_len from count))
 act_from masters from zero least most = All-nil (MayAct masters)
@@ -34,31 +31,12 @@ act_from masters from (suc count) least most =
 
 -- calls that are such as clients make are such as they make more freely
 pub makes_weaker : (makes freer : Call → Type 0) → ((call : Call) → makes call → freer call) → (session : Session) → MakesOnly makes session → MakesOnly freer session
-makes_weaker makes freer gives session it = record {
-  answered = All-weaker (λ (receipt : Receipt). makes receipt.call) (λ (receipt : Receipt). freer receipt.call) (λ receipt. gives receipt.call) session.receipts it.answered;
-  outstanding = one session.outstanding it.outstanding;
-}
-  where
-    one : (call : Option Call) → IfSome call makes → IfSome call freer
-    one None made = tt
-    one (Some call) made = gives call made
+makes_weaker makes freer gives session it = grind arith
 
 -- what is said where this is taken for granted is said where that is from which it follows
 module _ {R : Type 0} (segments : R → Option Segments) (before later : Type 0) (plan : Plan) (gives : later → before) where
   pub granted : (lanes : List (LaneState R)) (sessions : List Session) → AreDriven segments before plan lanes sessions → AreDriven segments later plan lanes sessions
-  granted lanes sessions it = record {
-    numbers = it.numbers;
-    roster = it.roster;
-    runs = it.runs;
-    acts = it.acts;
-    clients = it.clients;
-    answered = it.answered;
-    asked = it.asked;
-    orderly = λ told. it.orderly (gives told);
-    made = λ told. it.made (gives told);
-    counted = λ told. it.counted (gives told);
-    sound = λ told. it.sound (gives told);
-  }
+  granted lanes sessions it = grind arith
 
   pub granted_ok : {E : Type 0} (result : Result (Gathered R) E) → IfOk result (λ gathered. AreDriven segments before plan gathered.lanes.items gathered.sessions.items)
       → IfOk result (λ gathered. AreDriven segments later plan gathered.lanes.items gathered.sessions.items)

@@ -1,5 +1,5 @@
 -- No count of faults falls from when lanes are made of replicas to when these come back.
-use Rattle.std.proofs.Common.{◌≡◌, ℕ, zero, suc, List, [], ◌∷◌, ◌++◌, length, slice_get, Option, Some}
+use Rattle.std.proofs.Common.{◌≡◌, ℕ, zero, suc, List, [], ◌∷◌, ◌++◌, length, slice_get, Some}
 use Rattle.std.specs.Global.{Vec}
 use Rattle.std.specs.Prelude.{IfOk, Result, Ok, Err}
 use Rattle.rk_lane.specs.LaneState.{LaneState}

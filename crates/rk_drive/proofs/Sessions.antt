@@ -1,13 +1,12 @@
 -- Sessions of clients whose calls are all answered, each under its client.
-use Rattle.std.proofs.Common.{◌≡◌, ℕ, ◌+◌, List, [], ◌∷◌, ◌++◌, length, map, None, Option, refl, sym, ap, subst, ◌∙◌, arith}
-use Rattle.std.specs.List.{All, flat_map, range_with_len, sum_by}
+use Rattle.std.proofs.Common.{◌≡◌, ℕ, ◌+◌, List, [], ◌∷◌, ◌++◌, length, map, refl, sym, ap, ◌∙◌, arith}
+use Rattle.std.specs.List.{All, flat_map, range_with_len}
 use Rattle.std.proofs.lemmas.List.{length-map, map-append}
 use Rattle.std.proofs.lemmas.List.Concat.{flat_map-cons}
 use Rattle.std.proofs.lemmas.List.Elements.{All-cons, All-head, All-nil, All-tail}
 use Rattle.std.proofs.lemmas.List.FromFn.{length-range_with_len}
 use Rattle.std.proofs.lemmas.List.Sums.{sum_by-cons}
-use Rattle.rk_types.specs.NumberMap.{EachIn, IsInOrder, NumberMap, numbers}
-use Rattle.rk_types.specs.declared.call.Call.{Call}
+use Rattle.rk_types.specs.NumberMap.{EachIn, IsInOrder, numbers}
 use Rattle.rk_types.specs.declared.history.Receipt.{Receipt}
 use Rattle.rk_world.specs.Client.{Session}
 use Rattle.rk_runs.specs.history.Agreement.{waiting}
@@ -17,7 +16,7 @@ use Rattle.rk_laws_gathered.specs.Gathered.{IsEnded, IsOrderly}
 use Rattle.rk_laws_gathered.specs.Sessions.{calls_in, receipts_in}
 use Rattle.rk_shared_lanes.specs.Passes.{MakesOnly}
 use Rattle.rk_shared_lanes.specs.Together.{AllOrderly, calls_of as calls_made}
-use Rattle.rk_workload.specs.Workload.{call_of, calls_of, workload}
+use Rattle.rk_workload.specs.Workload.{calls_of, workload}
 use Rattle.rk_drive.specs.Driven.{HasAnswers, IsOfWorkload}
 use Rattle.rk_drive.proofs.Calls.{calls_from}
 use Rattle.rk_drive.proofs.Entries.{entry_of, head_same, tail_same}
@@ -56,10 +55,7 @@ entries_called (session ∷ sessions) orderly =
 
 one_made : (calls keys from : ℕ) (session : Session) → session.client ≡ from → IsOrderly session.client session → HasAnswers calls session → MakesOnly (IsOfWorkload keys) session
     → map (λ receipt. receipt.call) session.receipts ≡ calls_of calls keys from
-one_made calls keys from session client orderly answered made =
-    calls_from keys session.client 1 session.receipts orderly.receipts.numbered orderly.receipts.calls made.answered
-    ∙ ap (λ (count : ℕ). map (call_of keys session.client) (range_with_len 1 count)) answered.count
-    ∙ ap (λ (c : ℕ). calls_of calls keys c) client
+one_made calls keys from session client orderly answered made = grind (arith, calls_from)
 
 all_made : (calls keys from : ℕ) (sessions : List Session) → map (λ session. session.client) sessions ≡ range_with_len from (length sessions)
     → AllOrderly sessions → All (HasAnswers calls) sessions → All (MakesOnly (IsOfWorkload keys)) sessions
@@ -84,7 +80,4 @@ count_is sessions count are = sym (length-map sessions (λ (session : Session). 
 pub entries_made : (clients calls keys : ℕ) (sessions : List Session) → map (λ session. session.client) sessions ≡ range_with_len 1 clients
     → AllOrderly sessions → All (HasAnswers calls) sessions → All (MakesOnly (IsOfWorkload keys)) sessions
     → map (λ receipt. receipt.call) (receipts_in (map entry_of sessions)) ≡ workload clients calls keys
-entries_made clients calls keys sessions are orderly answered made =
-    subst (λ (count : ℕ). map (λ (receipt : Receipt). receipt.call) (receipts_in (map entry_of sessions)) ≡ flat_map (calls_of calls keys) (range_with_len 1 count))
-    (count_is sessions clients are)
-    (all_made calls keys 1 sessions (are ∙ ap (range_with_len 1) (sym (count_is sessions clients are))) orderly answered made)
+entries_made clients calls keys sessions are orderly answered made = grind (arith, entry_of, count_is, all_made)

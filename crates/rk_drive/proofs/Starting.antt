@@ -1,5 +1,5 @@
 -- The lanes and sessions that a drive gathered make a cluster that is ready to settle.
-use Rattle.std.proofs.Common.{◌≡◌, ◌≤◌, ℕ, ◌+◌, List, length, map, Option, refl, sym, ap, subst, ◌∙◌, arith}
+use Rattle.std.proofs.Common.{◌≡◌, ◌≤◌, ℕ, List, length, map, Option, refl, sym, ap, subst, ◌∙◌, arith}
 use Rattle.std.specs.Prelude.{slice_index_or}
 use Rattle.std.specs.List.{All, range_with_len, sum_by}
 use Rattle.std.proofs.lemmas.List.{length-map}
@@ -22,7 +22,6 @@ use Rattle.rk_laws_drives.specs.Ready.{AreReady}
 use Rattle.rk_conclude.specs.Results.{by_client}
 use Rattle.rk_conclude.proofs.Ledgers.{same_sum}
 use Rattle.rk_shared_lanes.specs.Together.{asked_of, calls_of as calls_made}
-use Rattle.rk_workload.specs.Workload.{workload}
 use Rattle.rk_drive.specs.Driven.{AreDriven, IsDriven}
 use Rattle.rk_drive.specs.declared.plan.Plan.{Plan}
 use Rattle.rk_drive.specs.declared.start.TheConstants.{BACKUPS, MASTERS}

@@ -1,10 +1,10 @@
 -- Lanes that were gathered make a cluster of good worlds.
-use Rattle.std.proofs.Common.{◌≡◌, ◌<◌, ◌≤◌, ℕ, ◌+◌, zero, suc, List, [], ◌∷◌, length, map, true, Option, Some, None, refl, sym, ap, subst, ◌∙◌, arith, is_some}
+use Rattle.std.proofs.Common.{◌≡◌, ◌<◌, ℕ, ◌+◌, zero, suc, List, [], ◌∷◌, length, true, Option, Some, None, refl, subst, arith, is_some}
 use Rattle.std.specs.Prelude.{⊤, IfSome, slice_index_or}
 use Rattle.std.specs.List.{All, range_with_len}
 use Rattle.std.proofs.lemmas.List.Elements.{All-cons, All-head, All-nil, All-tail}
 use Rattle.rk_outside.specs.Segments.{Segments}
-use Rattle.rk_world.specs.World.{World, new_world}
+use Rattle.rk_world.specs.World.{World}
 use Rattle.rk_lane.specs.LaneState.{LaneState, Running, world_with}
 use Rattle.rk_cluster.specs.Masters.{HasBackups}
 use Rattle.rk_cluster.specs.State.{AreWorlds}
@@ -28,8 +28,7 @@ are_lanes masters backups place clients (lane ∷ lanes) are roster = (
 pub have_backups : {R : Type 0} (masters backups : ℕ) (clients : List ℕ) (lanes : List (LaneState R)) → All (IsOfRoster masters backups clients) lanes → All (HasBackups backups) lanes
 have_backups masters backups clients [] roster = All-nil _
 have_backups masters backups clients (lane ∷ lanes) roster =
-    All-cons (HasBackups backups) lane lanes (All-head (IsOfRoster masters backups clients) lane lanes roster).backups_are
-    (have_backups masters backups clients lanes (All-tail (IsOfRoster masters backups clients) lane lanes roster))
+    grind (arith, (have_backups masters backups clients lanes (All-tail (IsOfRoster masters backups clients) lane lanes roster)))
 
 -- good worlds of lanes with these numbers
 abbrev AreGood : ℕ → ℕ → List World → Type 0

@@ -1,28 +1,25 @@
 -- An entry that is read is spelled so, and a lawful entry that is spelled so is read, whatever follows it.
-use Rattle.std.proofs.Common.{◌≡◌, ℕ, ◌+◌, ◌-◌, ◌*◌, ◌%◌, ◌^◌, ◌<◌, ◌≤◌, Bool, true, false, cond, ltb, eqb, List, [], ◌++◌, length, Option, Some, None, Ok, refl, sym, ap, subst, ◌∙◌, append_assoc, arith, inl, inr, eq-eqb, length-append}
-use Rattle.std.specs.Prelude.{◌&&◌, not, ⊤, IfSome}
+use Rattle.std.proofs.Common.{◌≡◌, ℕ, ◌+◌, ◌-◌, ◌*◌, ◌^◌, ◌<◌, ◌≤◌, Bool, true, false, cond, ltb, eqb, List, [], ◌++◌, length, Option, Some, Ok, refl, sym, ap, subst, ◌∙◌, append_assoc, arith, eq-eqb, length-append}
+use Rattle.std.specs.Prelude.{◌&&◌, not, ⊤}
 use Rattle.std.specs.Option.{ok_or}
 use Rattle.std.specs.Int.{w8, w32, is_in_range}
 use Rattle.std.proofs.Math.Nat.{mul-mod_left}
 use Rattle.std.proofs.lemmas.Bool.{ltb-false, ltb-true, eqb-true}
 use Rattle.std.proofs.lemmas.Bool.Decides.{nat_tests}
 use Rattle.std.proofs.lemmas.List.{take_at}
-use Rattle.rk_types.specs.Text.{value_fault}
 use Rattle.rk_types.specs.declared.held.Held.{Held}
-use Rattle.rk_types.specs.declared.held.TheConstants.{LONGEST_SHORT_VALUE}
-use Rattle.rk_types.specs.declared.text.TheConstants.{LONGEST_KEY, LONGEST_VALUE}
 use Rattle.rk_entry.specs.declared.error.DecodeError.TheVariants.{Bad}
 use Rattle.rk_entry.specs.declared.error.TheConstants.{BAD_KIND, BAD_BODY_LENGTH, BAD_MARK}
 use Rattle.rk_entry.specs.declared.entry.Entry.{Entry}
 use Rattle.rk_entry.specs.declared.entry.Entry.TheVariants as entries
 use Rattle.rk_entry.specs.declared.kind.Kind.{Kind}
 use Rattle.rk_entry.specs.declared.kind.Kind.TheVariants as kinds
-use Rattle.rk_entry.specs.declared.kind.TheConstants.{TOMBSTONE_BYTES, OBJECT_BYTES, MARK_BYTES, REFUSED_BYTES, CARRIED_BYTES, END_BYTES, MOST_ENDS, JOINED_BYTES, SEGMENT_NUMBER_BYTES, LONGEST_BODY}
+use Rattle.rk_entry.specs.declared.kind.TheConstants.{TOMBSTONE_BYTES, LONGEST_BODY}
 use Rattle.rk_entry.specs.Steps.{◌>>=◌, unless}
 use Rattle.rk_entry.specs.Numbers.{number_bytes, read_number}
 use Rattle.rk_entry.specs.Kinds.{kind_number, kind_numbered, item_kind, kind_of, is_marked, is_list_length, is_body_length}
-use Rattle.rk_entry.specs.Spelling.{mark_of, mark_bytes, mark_count, held_bytes, fields_bytes, body_length, front_bytes, spelled}
-use Rattle.rk_entry.specs.Lawful.{IsLawfulHeld, IsLawfulEntry}
+use Rattle.rk_entry.specs.Spelling.{mark_of, mark_bytes, mark_count, fields_bytes, body_length, front_bytes, spelled}
+use Rattle.rk_entry.specs.Lawful.{IsLawfulEntry}
 use Rattle.rk_entry.specs.Lengths.{value_count, fields_count}
 use Rattle.rk_entry.specs.Reading.{read_kind, read_body_length, read_fields, read_mark, before, read_entry}
 use Rattle.rk_entry.proofs.Sizes.{body_count}
@@ -37,33 +34,7 @@ use Rattle.rk_entry.proofs.FieldsAgain.{tombstone_again, object_again, refused_a
 
 -- a number that is read as a kind is its number
 kind_is : (n : ℕ) (kind : Kind) → kind_numbered n ≡ Some kind → n ≡ kind_number kind
-kind_is n kind e =
-    let P : Kind → Type 0 = λ k. n ≡ kind_number k in
-    elim (chosen (eqb n 1) _ _ _ e) [
-      | inl h ↦ subst P (some_is kinds.Object kind h.1) (eqb-true n 1 h.0)
-      | inr h ↦ elim (chosen (eqb n 2) _ _ _ h.1) [
-        | inl h ↦ subst P (some_is kinds.Tombstone kind h.1) (eqb-true n 2 h.0)
-        | inr h ↦ elim (chosen (eqb n 3) _ _ _ h.1) [
-          | inl h ↦ subst P (some_is kinds.Refused kind h.1) (eqb-true n 3 h.0)
-          | inr h ↦ elim (chosen (eqb n 4) _ _ _ h.1) [
-            | inl h ↦ subst P (some_is kinds.Carried kind h.1) (eqb-true n 4 h.0)
-            | inr h ↦ elim (chosen (eqb n 5) _ _ _ h.1) [
-              | inl h ↦ subst P (some_is kinds.Joined kind h.1) (eqb-true n 5 h.0)
-              | inr h ↦ elim (chosen (eqb n 17) _ _ _ h.1) [
-                | inl h ↦ subst P (some_is kinds.LongObject kind h.1) (eqb-true n 17 h.0)
-                | inr h ↦ absurd (not_some kind h.1)
-              ]
-            ]
-          ]
-        ]
-      ]
-    ]
-  where
-    some_is : (x y : Kind) → Some x ≡ Some y → x ≡ y
-    some_is x y e = cc
-
-    not_some : (x : Kind) → None ≡ Some x → ⊥
-    not_some x e = cc
+kind_is n kind e = grind (arith, chosen, eqb, eqb-true)
 
 -- a kind that is read is spelled by its number
 kind_takes : (bytes : List ℕ) (x : Kind × List ℕ) → read_kind bytes ≡ Ok x → Takes bytes (number_bytes w8 (kind_number x.0)) x.1 ⊤
@@ -88,21 +59,11 @@ kind_shorter bytes x e =
 
 -- the number of a kind is a byte
 kind_small : (kind : Kind) → kind_number kind < 256
-kind_small kinds.Object = omega arith
-kind_small kinds.Tombstone = omega arith
-kind_small kinds.Refused = omega arith
-kind_small kinds.Carried = omega arith
-kind_small kinds.Joined = omega arith
-kind_small kinds.LongObject = omega arith
+kind_small kind = grind arith
 
 -- the number of a kind is read as the kind
 kind_numbered_of : (kind : Kind) → kind_numbered (kind_number kind) ≡ Some kind
-kind_numbered_of kinds.Object = refl
-kind_numbered_of kinds.Tombstone = refl
-kind_numbered_of kinds.Refused = refl
-kind_numbered_of kinds.Carried = refl
-kind_numbered_of kinds.Joined = refl
-kind_numbered_of kinds.LongObject = refl
+kind_numbered_of kind = grind arith
 
 -- a kind that is spelled is read
 kind_again : (kind : Kind) (rest : List ℕ) → read_kind (number_bytes w8 (kind_number kind) ++ rest) ≡ Ok (kind, rest)
@@ -122,15 +83,7 @@ at_most lo hi n e = grind (arith, nat_tests)
 
 -- no kind has a body above the longest
 body_within : (kind : Kind) (n : ℕ) → is_body_length kind n ≡ true → n ≤ LONGEST_BODY
-body_within kinds.Object n e = omega (arith, at_most (OBJECT_BYTES + 1) (OBJECT_BYTES + LONGEST_KEY + LONGEST_SHORT_VALUE) n e)
-body_within kinds.Tombstone n e = omega (arith, at_most (TOMBSTONE_BYTES + 1) (TOMBSTONE_BYTES + LONGEST_KEY) n e)
-body_within kinds.Refused n e = omega (arith, at_most (REFUSED_BYTES + 1) (REFUSED_BYTES + LONGEST_KEY) n e)
-body_within kinds.Carried n e =
-    omega (arith, at_most CARRIED_BYTES (CARRIED_BYTES + END_BYTES * MOST_ENDS) n (both_true (is_in_range CARRIED_BYTES (CARRIED_BYTES + END_BYTES * MOST_ENDS) n) (eqb ((n - CARRIED_BYTES) % END_BYTES) 0) e).0)
-body_within kinds.Joined n e =
-    at_most JOINED_BYTES LONGEST_BODY n (both_true (is_in_range JOINED_BYTES LONGEST_BODY n) (eqb ((n - JOINED_BYTES) % SEGMENT_NUMBER_BYTES) 0) e).0
-body_within kinds.LongObject n e =
-    omega (arith, at_most (OBJECT_BYTES + 1 + (LONGEST_SHORT_VALUE + 1) + MARK_BYTES) (OBJECT_BYTES + LONGEST_KEY + LONGEST_VALUE + MARK_BYTES) n e)
+body_within kind n e = grind (arith, at_most, both_true, eqb)
 
 -- what is not refused holds
 not_false : (b : Bool) → not b ≡ false → b ≡ true
@@ -166,8 +119,7 @@ mark_takes_if true front bytes rest e =
     subst (λ (r : List ℕ). Takes bytes (number_bytes w8 (mark_of front)) r ⊤) g.1
     (subst (λ (n : ℕ). Takes bytes (number_bytes w8 n) a.0.1 ⊤) mark
     (takes_weaker (λ (fits : a.0.0 < 256). tt) (number_takes w8 wide8 bytes a.0 a.1)))
-mark_takes_if false front bytes rest e =
-    subst (λ (r : List ℕ). Takes bytes [] r ⊤) (ok_is bytes rest e) (record { front = []; split = refl; spelled = λ fits. (refl, fits, tt) })
+mark_takes_if false front bytes rest e = grind (arith, ok_is)
 
 -- what is read at the end of an entry of this kind is its mark, where it has one
 mark_takes : (kind : Kind) (front bytes rest : List ℕ) → read_mark kind front bytes ≡ Ok rest → Takes bytes (mark_bytes kind front) rest ⊤
@@ -194,9 +146,7 @@ mark_again kinds.LongObject front rest =
 
 -- what stands before the rest
 pub before_is : (bytes front rest : List ℕ) → bytes ≡ front ++ rest → before rest bytes ≡ front
-before_is bytes front rest split =
-    let k : length (front ++ rest) - length rest ≡ length front = omega (arith, length-append front rest) in
-    rw (split, k) (take_at front rest (length front) refl)
+before_is bytes front rest split = grind (arith, length-append, take_at)
 
 -- the parts that were read are the spelling
 entry_text : (kind : Kind) (n : ℕ) (entry : Entry) (front : List ℕ) → IsOf kind n entry
@@ -263,76 +213,31 @@ body_of : (held : Held) (value : Option (List ℕ)) → held.value ≡ value →
 body_of held value is =
     body_count (entries.Held held) ∙ ap (λ (v : Option (List ℕ)). TOMBSTONE_BYTES + length held.key + value_count v + mark_count (item_kind v)) is
 
--- the fields of an item with a short or a long value that are spelled are read
-sized_again : (b : Bool) (body : ℕ) (held : Held) (value rest : List ℕ) → ltb LONGEST_SHORT_VALUE (length value) ≡ b → held.value ≡ Some value → IsLawfulHeld held → value_fault value ≡ None
-    → body ≡ TOMBSTONE_BYTES + length held.key + (4 + length value) + mark_count (cond b kinds.LongObject kinds.Object)
-    → read_fields (cond b kinds.LongObject kinds.Object) body (held_bytes held ++ rest) ≡ Ok (entries.Held held, rest)
-sized_again true body held value rest sized some h text body_is =
-    let within = text_within 0 LONGEST_VALUE value text in
-    let long : LONGEST_SHORT_VALUE < length value = ltb-true _ _ sized in
-    object_again true body held value rest some h text (omega (arith, long)) within.1 (omega (arith, within.1)) (omega (arith, body_is))
-sized_again false body held value rest sized some h text body_is =
-    let within = text_within 0 LONGEST_VALUE value text in
-    let short : length value ≤ LONGEST_SHORT_VALUE = ltb-false _ _ sized in
-    object_again false body held value rest some h text (omega arith) short (omega (arith, short)) (omega (arith, body_is))
-
--- the fields of an item that are spelled are read
-held_again : (held : Held) (value : Option (List ℕ)) (rest : List ℕ) → held.value ≡ value → IsLawfulHeld held
-    → read_fields (item_kind value) (body_length (entries.Held held)) (held_bytes held ++ rest) ≡ Ok (entries.Held held, rest)
-held_again held None rest is h = tombstone_again (body_length (entries.Held held)) held rest is h (omega (arith, body_of held None is))
-held_again held (Some value) rest is h =
-    let text : value_fault value ≡ None = subst (λ (o : Option (List ℕ)). IfSome o (λ v. value_fault v ≡ None)) is h.value in
-    sized_again (ltb LONGEST_SHORT_VALUE (length value)) (body_length (entries.Held held)) held value rest refl is h text (body_of held (Some value) is)
-
 -- the fields of a lawful entry that are spelled are read
 fields_again : (entry : Entry) (rest : List ℕ) → IsLawfulEntry entry → read_fields (kind_of entry) (body_length entry) (fields_bytes entry ++ rest) ≡ Ok (entry, rest)
-fields_again (entries.Held held) rest h = held_again held held.value rest refl h
-fields_again (entries.Refused refused) rest h = refused_again (body_length (entries.Refused refused)) refused rest h (omega (arith, body_count (entries.Refused refused)))
-fields_again (entries.Carried carried) rest h = carried_again (body_length (entries.Carried carried)) carried rest h (omega (arith, body_count (entries.Carried carried)))
-fields_again (entries.Joined joined) rest h = joined_again (body_length (entries.Joined joined)) joined rest h (omega (arith, body_count (entries.Joined joined)))
+fields_again entry rest h =
+    grind (
+      arith,
+      refused_again,
+      body_count,
+      carried_again,
+      joined_again,
+      tombstone_again,
+      body_of,
+      ltb,
+      text_within,
+      ltb-true,
+      object_again,
+      ltb-false,
+    )
 
 -- a list of so many members fits its count
 pub list_length : (first each most count n : ℕ) → 0 < each → n ≡ first + each * count → n ≤ most → is_list_length first each most n ≡ true
-list_length first each most count n some is within =
-    let range : is_in_range first most n ≡ true = is_in_range_of first most n (omega arith) within in
-    let members : n - first ≡ count * each = omega (arith, is) in
-    rw (range, members, mul-mod_left count each) refl
-
--- the body of an item with a short or a long value has a length that its kind allows
-sized_length : (b : Bool) (n key value : ℕ) → ltb LONGEST_SHORT_VALUE value ≡ b → 1 ≤ key → key ≤ LONGEST_KEY → value ≤ LONGEST_VALUE
-    → n ≡ TOMBSTONE_BYTES + key + (4 + value) + mark_count (cond b kinds.LongObject kinds.Object) → is_body_length (cond b kinds.LongObject kinds.Object) n ≡ true
-sized_length true n key value sized least most within is =
-    let long : LONGEST_SHORT_VALUE < value = ltb-true _ _ sized in
-    is_in_range_of (OBJECT_BYTES + 1 + (LONGEST_SHORT_VALUE + 1) + MARK_BYTES) (OBJECT_BYTES + LONGEST_KEY + LONGEST_VALUE + MARK_BYTES) n (omega (arith, is, long, least)) (omega (arith, is, within, most))
-sized_length false n key value sized least most within is =
-    let short : value ≤ LONGEST_SHORT_VALUE = ltb-false _ _ sized in
-    is_in_range_of (OBJECT_BYTES + 1) (OBJECT_BYTES + LONGEST_KEY + LONGEST_SHORT_VALUE) n (omega (arith, is, least)) (omega (arith, is, short, most))
-
--- the body of an item has a length that its kind allows
-held_length : (held : Held) (value : Option (List ℕ)) → held.value ≡ value → IsLawfulHeld held → is_body_length (item_kind value) (body_length (entries.Held held)) ≡ true
-held_length held None is h =
-    let key = text_within 1 LONGEST_KEY held.key h.key in
-    let body = body_of held None is in
-    is_in_range_of (TOMBSTONE_BYTES + 1) (TOMBSTONE_BYTES + LONGEST_KEY) (body_length (entries.Held held)) (omega (arith, body, key.0)) (omega (arith, body, key.1))
-held_length held (Some value) is h =
-    let key = text_within 1 LONGEST_KEY held.key h.key in
-    let text : value_fault value ≡ None = subst (λ (o : Option (List ℕ)). IfSome o (λ v. value_fault v ≡ None)) is h.value in
-    let within = text_within 0 LONGEST_VALUE value text in
-    sized_length (ltb LONGEST_SHORT_VALUE (length value)) (body_length (entries.Held held)) (length held.key) (length value) refl key.0 key.1 within.1 (body_of held (Some value) is)
+list_length first each most count n some is within = grind (arith, is_in_range_of, mul-mod_left)
 
 -- the body of a lawful entry has a length that its kind allows
 pub lawful_length : (entry : Entry) → IsLawfulEntry entry → is_body_length (kind_of entry) (body_length entry) ≡ true
-lawful_length (entries.Held held) h = held_length held held.value refl h
-lawful_length (entries.Refused refused) h =
-    let key = text_within 1 LONGEST_KEY refused.key h.key in
-    let body = body_count (entries.Refused refused) in
-    is_in_range_of (REFUSED_BYTES + 1) (REFUSED_BYTES + LONGEST_KEY) (body_length (entries.Refused refused)) (omega (arith, body, key.0)) (omega (arith, body, key.1))
-lawful_length (entries.Carried carried) h =
-    let body = body_count (entries.Carried carried) in
-    list_length CARRIED_BYTES END_BYTES (CARRIED_BYTES + END_BYTES * MOST_ENDS) (length carried.ends) (body_length (entries.Carried carried)) (omega arith) (omega (arith, body)) (omega (arith, body, h.few))
-lawful_length (entries.Joined joined) h =
-    let body = body_count (entries.Joined joined) in
-    list_length JOINED_BYTES SEGMENT_NUMBER_BYTES LONGEST_BODY (length joined.segments) (body_length (entries.Joined joined)) (omega arith) (omega (arith, body)) (omega (arith, body, h.few))
+lawful_length entry h = grind (arith, text_within, body_count, is_in_range_of, list_length, body_of, ltb, ltb-true, ltb-false)
 
 -- what stands before the mark, field by field
 front_parts : (entry : Entry) (rest : List ℕ) → front_bytes entry ++ rest ≡ number_bytes w8 (kind_number (kind_of entry)) ++ (number_bytes w32 (body_length entry) ++ (fields_bytes entry ++ rest))

@@ -1,6 +1,6 @@
 -- The fields of an entry that are read are spelled so.
-use Rattle.std.proofs.Common.{◌≡◌, ℕ, ◌+◌, ◌*◌, ◌^◌, ◌<◌, ◌≤◌, Bool, true, false, cond, ltb, eqb, List, [], ◌++◌, length, Option, Some, None, Ok, refl, sym, ap, subst, ◌∙◌, arith, inl, inr}
-use Rattle.std.specs.Prelude.{◌&&◌, not, IsTrue}
+use Rattle.std.proofs.Common.{◌≡◌, ℕ, ◌+◌, ◌*◌, ◌^◌, ◌<◌, ◌≤◌, Bool, true, false, cond, ltb, eqb, List, [], ◌++◌, length, Option, Some, None, Ok, refl, sym, ap, subst, ◌∙◌, arith}
+use Rattle.std.specs.Prelude.{IsTrue}
 use Rattle.std.specs.Option.{ok_or}
 use Rattle.std.specs.List.{AllByRecursion, IsDistinct}
 use Rattle.std.specs.Int.{w8, w16, w32, w64}
@@ -10,13 +10,11 @@ use Rattle.std.proofs.lemmas.List.{append-nil}
 use Rattle.rk_types.specs.Text.{key_fault, value_fault}
 use Rattle.rk_types.specs.declared.call.Ended.{Ended}
 use Rattle.rk_types.specs.declared.held.Held.{Held}
-use Rattle.rk_types.specs.declared.held.TheConstants.{LONGEST_SHORT_VALUE}
 use Rattle.rk_types.specs.declared.text.TheConstants.{LONGEST_KEY}
 use Rattle.rk_entry.specs.declared.error.DecodeError.{DecodeError}
 use Rattle.rk_entry.specs.declared.error.DecodeError.TheVariants.{Bad}
-use Rattle.rk_entry.specs.declared.error.TheConstants.{BAD_BODY_LENGTH, BAD_CHOICE}
+use Rattle.rk_entry.specs.declared.error.TheConstants.{BAD_CHOICE}
 use Rattle.rk_entry.specs.declared.head.Head.{Head}
-use Rattle.rk_entry.specs.declared.head.TheConstants.{MET_ANOTHER, MET_NONE}
 use Rattle.rk_entry.specs.declared.entry.Entry.{Entry}
 use Rattle.rk_entry.specs.declared.entry.Entry.TheVariants as entries
 use Rattle.rk_entry.specs.declared.entry.Refused.{Refused}
@@ -69,29 +67,7 @@ ok_or_ok (Some x) d y e = cc
 
 -- a number that is read as a reason is its number
 why_is : (found n : ℕ) (absent : Bool) → why_numbered found n ≡ Some absent → (n ≡ why_number absent) × (IsTrue absent → found ≡ 0)
-why_is found n absent e =
-    let P : Bool → Type 0 = λ b. (n ≡ why_number b) × (IsTrue b → found ≡ 0) in
-    elim (chosen (eqb n MET_ANOTHER) _ _ _ e) [
-      | inl h ↦ subst P (some_is false absent h.1) (eqb-true n MET_ANOTHER h.0, never found)
-      | inr h ↦ elim (chosen (eqb n MET_NONE && eqb found 0) _ _ _ h.1) [
-        | inl h ↦ let both = both_true (eqb n MET_NONE) (eqb found 0) h.0 in
-            subst P (some_is true absent h.1) (eqb-true n MET_NONE both.0, λ t. eqb-true found 0 both.1)
-        | inr h ↦ absurd (not_some absent h.1)
-      ]
-    ]
-  where
-    some_is : (x y : Bool) → Some x ≡ Some y → x ≡ y
-    some_is x y e = cc
-
-    not_some : (x : Bool) → None ≡ Some x → ⊥
-    not_some x e = cc
-
-    never : (n : ℕ) → IsTrue false → n ≡ 0
-    never n t = absurd cc
-
-    both_true : (a b : Bool) → (a && b) ≡ true → (a ≡ true) × (b ≡ true)
-    both_true true b e = (refl, e)
-    both_true false b e = absurd cc
+why_is found n absent e = grind (arith, chosen, eqb, eqb-true)
 
 -- a reason that is read is spelled by its number, and a removal found no version
 pub why_takes : (found : ℕ) (bytes : List ℕ) (x : Bool × List ℕ) → read_why found bytes ≡ Ok x → Takes bytes (number_bytes w8 (why_number x.0)) x.1 (IsTrue x.0 → found ≡ 0)
@@ -112,12 +88,7 @@ pub record IsOf (kind : Kind) (body : ℕ) (entry : Entry) : Type 0 where
 
 -- the last length or count of a body that was read on with
 pub known : {A : Type 0} (count body : ℕ) {read x : A} → where_body_is count body read ≡ Ok x → (body ≡ count) × (read ≡ x)
-known count body e =
-    let g = unless_ok (not (eqb body count)) BAD_BODY_LENGTH e in
-    (same body count g.0, g.1)
-  where
-    same : (m n : ℕ) → not (eqb m n) ≡ false → m ≡ n
-    same m n e = grind (arith, nat_tests)
+known count body e = grind (arith, unless_ok, eqb, nat_tests)
 
 -- the body of an item without a value has the bytes of its parts
 tombstone_body : (body key key_len : ℕ) → body ≡ TOMBSTONE_BYTES + key → key_len ≡ key → body ≡ TOMBSTONE_BYTES + key_len + 0 + 0
@@ -174,14 +145,7 @@ object_kind marked = cond marked kinds.LongObject kinds.Object
 
 -- an item with a value of these limits is of this kind
 object_kind_is : (marked : Bool) (value : List ℕ) → shortest_value marked ≤ length value → length value ≤ longest_value marked → item_kind (Some value) ≡ object_kind marked
-object_kind_is true value below above = rw (long_is value below) refl
-  where
-    long_is : (value : List ℕ) → LONGEST_SHORT_VALUE + 1 ≤ length value → ltb LONGEST_SHORT_VALUE (length value) ≡ true
-    long_is value below = grind (arith, nat_tests)
-object_kind_is false value below above = rw (short_is value above) refl
-  where
-    short_is : (value : List ℕ) → length value ≤ LONGEST_SHORT_VALUE → ltb LONGEST_SHORT_VALUE (length value) ≡ false
-    short_is value above = grind (arith, nat_tests)
+object_kind_is marked value below above = grind (arith, ltb, nat_tests)
 
 -- how many bytes the mark of an object takes
 object_mark : (marked : Bool) → mark_count (object_kind marked) ≡ cond marked MARK_BYTES 0

@@ -79,12 +79,7 @@ segments_done count i before bytes whole all so_far =
 -- a number above all of those before is not among them
 pub among_above : (greatest n : ℕ) (before : List ℕ) → AllByRecursion (λ m. m ≤ greatest) before → greatest < n → is_among n before ≡ false
 among_above greatest n [] all above = refl
-among_above greatest n (m ∷ before) all above =
-    let other : eqb m n ≡ false = differ m n greatest all.0 above in
-    rw other (among_above greatest n before all.1 above)
-  where
-    differ : (m n greatest : ℕ) → m ≤ greatest → greatest < n → eqb m n ≡ false
-    differ m n greatest below above = grind (arith, nat_tests)
+among_above greatest n (m ∷ before) all above = grind (arith, eqb, nat_tests, all.0, all.1, (among_above greatest n before all.1 above))
 
 -- the greatest of the numbers so far and one more is at least each of them
 pub greatest_push : (greatest n : ℕ) (before : List ℕ) → AllByRecursion (λ m. m ≤ greatest) before → AllByRecursion (λ m. m ≤ max greatest n) (before ++ n ∷ [])

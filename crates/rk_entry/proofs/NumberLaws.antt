@@ -26,35 +26,19 @@ one_back (b ∷ c ∷ bytes) len fits = absurd (omega (arith, len))
 
 -- the laws of one byte
 pub wide8 : IsWide w8
-wide8 = record {
-  back = one_back;
-  again = λ n lt. omega (arith, lt);
-  below = λ bytes fits. omega (arith, fits 0);
-}
+wide8 = grind (arith, one_back)
 
 -- the laws of two bytes
 pub wide16 : IsWide w16
-wide16 = record {
-  back = λ bytes len fits. be_bytes_2 bytes _ len fits refl;
-  again = λ n lt. from_be_bytes-to_be_bytes_2 n lt;
-  below = λ bytes fits. omega (arith, fits 0, fits 1);
-}
+wide16 = grind (arith, be_bytes_2, from_be_bytes-to_be_bytes_2)
 
 -- the laws of four bytes
 pub wide32 : IsWide w32
-wide32 = record {
-  back = λ bytes len fits. be_bytes_4 bytes _ len fits refl;
-  again = λ n lt. from_be_bytes-to_be_bytes_4 n lt;
-  below = λ bytes fits. omega (arith, fits 0, fits 1, fits 2, fits 3);
-}
+wide32 = grind (arith, be_bytes_4, from_be_bytes-to_be_bytes_4)
 
 -- the laws of eight bytes
 pub wide64 : IsWide w64
-wide64 = record {
-  back = λ bytes len fits. be_bytes_8 bytes _ len fits refl;
-  again = λ n lt. from_be_bytes-to_be_bytes_8 n lt;
-  below = λ bytes fits. omega (arith, fits 0, fits 1, fits 2, fits 3, fits 4, fits 5, fits 6, fits 7);
-}
+wide64 = grind (arith, be_bytes_8, from_be_bytes-to_be_bytes_8)
 
 -- where something was read there were bytes enough
 enough : {A : Type 0} (b : Bool) (x y : A) → cond b (Err Cut) (Ok x) ≡ Ok y → (b ≡ false) × (x ≡ y)

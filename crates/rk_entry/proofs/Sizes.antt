@@ -1,10 +1,9 @@
 -- How many bytes the spelling of an entry takes.
-use Rattle.std.proofs.Common.{◌≡◌, ℕ, ◌+◌, Bool, true, false, cond, ltb, List, ◌++◌, length, Option, Some, None, refl, sym, ap, ◌∙◌, arith, length-append, append_assoc, drop}
+use Rattle.std.proofs.Common.{◌≡◌, ℕ, ◌+◌, true, false, ltb, List, ◌++◌, length, Option, sym, ap, ◌∙◌, arith, length-append, append_assoc, drop}
 use Rattle.std.proofs.lemmas.List.{append-nil, drop_at}
 use Rattle.std.specs.Int.{w8, w32}
 use Rattle.rk_types.specs.Held.{spelled_of, spelled_value_of}
 use Rattle.rk_types.specs.declared.held.Held.{Held}
-use Rattle.rk_types.specs.declared.held.TheConstants.{LONGEST_SHORT_VALUE}
 use Rattle.rk_entry.specs.declared.kind.Kind.{Kind}
 use Rattle.rk_entry.specs.declared.kind.Kind.TheVariants as kinds
 use Rattle.rk_entry.specs.declared.kind.TheConstants.{HEAD_BYTES}
@@ -18,12 +17,7 @@ use Rattle.rk_entry.proofs.Counts.{length-number_bytes, length-fields_bytes}
 
 -- the mark takes as many bytes as are counted
 pub length_mark : (kind : Kind) (front : List ℕ) → length (mark_bytes kind front) ≡ mark_count kind
-length_mark kinds.Object front = refl
-length_mark kinds.Tombstone front = refl
-length_mark kinds.Refused front = refl
-length_mark kinds.Carried front = refl
-length_mark kinds.Joined front = refl
-length_mark kinds.LongObject front = length-number_bytes w8 (mark_of front)
+length_mark kind front = grind (arith, length-number_bytes)
 
 -- the body is the fields and the mark
 pub body_count : (entry : Entry) → body_length entry ≡ fields_count entry + mark_count (kind_of entry)
@@ -49,15 +43,9 @@ unfolding spelled
 spelled_count entry =
     omega (arith, length-append (front_bytes entry) (mark_bytes (kind_of entry) (front_bytes entry)), front_count entry, length_mark (kind_of entry) (front_bytes entry))
 
--- the mark of a short or a long value
-marked_value : (b : Bool) → mark_count (cond b kinds.LongObject kinds.Object) ≡ cond b 1 0
-marked_value true = refl
-marked_value false = refl
-
 -- the value and the mark of an item take what its length counts
 value_and_mark : (value : Option (List ℕ)) → value_count value + mark_count (item_kind value) ≡ spelled_value_of value
-value_and_mark None = refl
-value_and_mark (Some value) = ap (λ (n : ℕ). 4 + length value + n) (marked_value (ltb LONGEST_SHORT_VALUE (length value)))
+value_and_mark value = grind (arith, ltb)
 
 -- the length that an item tells is that of its spelling
 pub held_spelled : (held : Held) → spelled_of held ≡ length (spelled (entries.Held held))

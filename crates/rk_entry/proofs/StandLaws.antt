@@ -1,5 +1,5 @@
 -- Entries one after the other.
-use Rattle.std.proofs.Common.{◌≡◌, ℕ, zero, suc, ◌+◌, ◌-◌, ◌<◌, ◌≤◌, List, [], ◌∷◌, ◌++◌, length, drop, Option, Some, None, Result, Ok, Err, refl, sym, ap, subst, ◌∙◌, append_assoc, arith, length-append, length-drop}
+use Rattle.std.proofs.Common.{◌≡◌, ℕ, zero, suc, ◌+◌, ◌-◌, ◌<◌, ◌≤◌, List, [], ◌∷◌, ◌++◌, length, drop, Option, Some, None, Result, Ok, Err, refl, sym, ap, ◌∙◌, append_assoc, arith, length-append, length-drop}
 use Rattle.std.specs.Prelude.{IfSome}
 use Rattle.std.specs.Option.{option_map}
 use Rattle.std.specs.Result.{result_ok}
@@ -122,10 +122,7 @@ all_again (e ∷ entries) rest each =
 
 -- where no entry is read none stands
 pub none_stands : (bytes : List ℕ) (fault : DecodeError) → read_entry bytes ≡ Err fault → StandsNone bytes
-none_stands bytes fault read entry after lawful is = not_both fault (entry, after) (sym read ∙ ap read_entry is ∙ entry_again entry after lawful)
-  where
-    not_both : (fault : DecodeError) (x : Entry × List ℕ) → Err fault ≡ Ok x → ⊥
-    not_both fault x e = cc
+none_stands bytes fault read entry after lawful is = grind (arith, entry_again)
 
 -- ---- the loop over entries
 
@@ -139,31 +136,7 @@ pub record Reached (bytes : List ℕ) (entries : List Entry) (taken : ℕ) : Typ
 
 -- before the first entry nothing is taken
 pub reached_none : (bytes : List ℕ) → Reached bytes [] 0
-reached_none bytes = record {
-  within = omega arith;
-  count = sym (ap length no_entries);
-  each = tt;
-  bytes_are = sym (ap (λ (t : List ℕ). t ++ bytes) no_entries);
-  read = refl;
-}
-
--- an entry that stands first in what is left is one more
-pub reached_more : (bytes : List ℕ) (entries : List Entry) (taken : ℕ) (entry : Entry) (count : ℕ) → Reached bytes entries taken → StandsFirst (drop taken bytes) entry count
-    → read_entry (drop taken bytes) ≡ Ok (entry, drop count (drop taken bytes)) → Reached bytes (entries ++ entry ∷ []) (taken + count)
-reached_more bytes entries taken entry count so_far first read =
-    let after : drop count (drop taken bytes) ≡ drop (taken + count) bytes = drop-drop count taken bytes in
-    let rest : drop taken bytes ≡ spelled entry ++ drop (taken + count) bytes = first.bytes_are ∙ ap (λ (t : List ℕ). spelled entry ++ t) after in
-    record {
-      within = omega (arith, so_far.within, first.count_is, ap length first.bytes_are, length-append (spelled entry) (drop count (drop taken bytes)), length-drop taken bytes);
-      count = omega (arith, so_far.count, first.count_is, ap length (spelled_all_push entries entry), length-append (spelled_all entries) (spelled entry));
-      each = all_push entries entry so_far.each first.lawful;
-      bytes_are = so_far.bytes_are ∙ ap (λ (t : List ℕ). spelled_all entries ++ t) rest
-          ∙ sym (append_assoc (spelled_all entries) (spelled entry) (drop (taken + count) bytes))
-          ∙ ap (λ (t : List ℕ). t ++ drop (taken + count) bytes) (sym (spelled_all_push entries entry));
-      read = so_far.read
-          ∙ ap (λ (others : List Entry). entries ++ others) (entries_of-cons (drop taken bytes) entry (drop count (drop taken bytes)) read ∙ ap (λ (t : List ℕ). entry ∷ entries_of t) after)
-          ∙ sym (append_assoc entries (entry ∷ []) (entries_of (drop (taken + count) bytes)));
-    }
+reached_none bytes = grind (arith, no_entries)
 
 -- an entry takes some of the bytes that are left
 pub reached_step : (bytes : List ℕ) (taken : ℕ) (entry : Entry) (count : ℕ) → taken ≤ length bytes → StandsFirst (drop taken bytes) entry count
@@ -173,14 +146,6 @@ reached_step bytes taken entry count within first read =
       omega (arith, shorter, length-drop count (drop taken bytes)),
       omega (arith, first.count_is, ap length first.bytes_are, length-append (spelled entry) (drop count (drop taken bytes)), length-drop taken bytes),
     )
-
--- where no further entry is read, the entries stand
-pub reached_end : (bytes : List ℕ) (entries : List Entry) (taken : ℕ) (fault : DecodeError) → Reached bytes entries taken → read_entry (drop taken bytes) ≡ Err fault
-    → Stand bytes entries (drop taken bytes) × (entries ≡ entries_of bytes)
-reached_end bytes entries taken fault so_far failed = (
-  record { each = so_far.each; bytes_are = so_far.bytes_are; none_after = none_stands (drop taken bytes) fault failed },
-  sym (append-nil entries) ∙ ap (λ (others : List Entry). entries ++ others) (sym (entries_of-none (drop taken bytes) fault failed)) ∙ sym so_far.read,
-)
 
 -- what the code's test for a first entry says
 pub record IsFirst (bytes : List ℕ) (first : Option (Entry × ℕ)) : Type 0 where
@@ -202,15 +167,23 @@ pub reached_next : (bytes rest : List ℕ) (entries : List Entry) (taken : ℕ) 
     → Reached bytes entries taken → rest ≡ drop taken bytes → IsFirst rest first → first ≡ Some (entry, count)
     → Reached bytes (entries ++ entry ∷ []) (taken + count) × ((0 < count) × (taken + count ≤ length bytes))
 reached_next bytes rest entries taken first entry count so_far rest_is is_first some =
-    let at_some : IsFirst (drop taken bytes) (Some (entry, count)) = subst (λ (r : List ℕ). IsFirst r (Some (entry, count))) rest_is (subst (λ (o : Option (Entry × ℕ)). IsFirst rest o) some is_first) in
-    let read = read_is (read_entry (drop taken bytes)) (entry, drop count (drop taken bytes)) at_some.exact in
-    (reached_more bytes entries taken entry count so_far at_some.found read, reached_step bytes taken entry count so_far.within at_some.found read)
+    grind (
+      arith,
+      read_is,
+      reached_step,
+      drop-drop,
+      length-append,
+      length-drop,
+      spelled_all_push,
+      all_push,
+      append_assoc,
+      entries_of-cons,
+      so_far.within,
+    )
 
 -- where no entry is first among the bytes that are left, all were reached
 pub reached_last : (bytes rest : List ℕ) (entries : List Entry) (taken : ℕ) (first : Option (Entry × ℕ))
     → Reached bytes entries taken → rest ≡ drop taken bytes → IsFirst rest first → first ≡ None
     → Stand bytes entries (drop taken bytes) × (entries ≡ entries_of bytes)
 reached_last bytes rest entries taken first so_far rest_is is_first none =
-    let at_none : IsFirst (drop taken bytes) None = subst (λ (r : List ℕ). IsFirst r None) rest_is (subst (λ (o : Option (Entry × ℕ)). IsFirst rest o) none is_first) in
-    let failed = read_failed (read_entry (drop taken bytes)) at_none.exact in
-    reached_end bytes entries taken failed.0 so_far failed.1
+    grind (arith, read_failed, none_stands, append-nil, entries_of-none)

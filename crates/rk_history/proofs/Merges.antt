@@ -1,5 +1,5 @@
 -- The line that comes first of all journals begins their merged history, and what is left merges into the rest.
-use Rattle.std.proofs.Common.{◌≡◌, ◌≢◌, ℕ, ◌+◌, ◌<◌, ◌≤◌, zero, suc, Bool, true, false, cond, List, [], ◌∷◌, ◌++◌, length, set, get_or, refl, sym, ap, subst, ◌∙◌, ⊎_elim, inl, inr, arith, get_or-set_same, get_or-set_other}
+use Rattle.std.proofs.Common.{◌≡◌, ◌≢◌, ℕ, ◌+◌, ◌<◌, ◌≤◌, zero, suc, Bool, true, false, cond, List, [], ◌∷◌, ◌++◌, length, set, refl, sym, ap, subst, ◌∙◌, ⊎_elim, arith, get_or-set_same, get_or-set_other}
 use Rattle.std.proofs.lemmas.Bool.{cases_eq, cases_lt, eq-eqb, ne_eqb}
 use Rattle.std.proofs.lemmas.List.Elements.{All-nil, All-cons, All-append, All-filter, All-map, All-weaker}
 use Rattle.std.specs.List.{sum_by}
@@ -58,12 +58,7 @@ journal_past (journal ∷ journals) (suc lane) past = journal_past journals lane
 
 -- where no lane has a record left there is no history left
 pub merged_empty : (journals : List (List Placed)) → AreEmpty journals (length journals) → merged journals ≡ []
-merged_empty journals empty =
-    merged_none journals
-    (λ lane. elim (cases_lt lane (length journals)) [
-      | inl below ↦ empty lane below
-      | inr past ↦ journal_past journals lane past
-    ])
+merged_empty journals empty = grind (arith, merged_none, cases_lt, journal_past)
 
 module _ (rest : List (List Placed)) (lane : ℕ) (placed : Placed) (later : List Placed)
     (rising : AreRising rest) (within : lane < length rest) (here : journal_of rest lane ≡ placed ∷ later)
@@ -84,12 +79,7 @@ module _ (rest : List (List Placed)) (lane : ℕ) (placed : Placed) (later : Lis
 
   -- the stamps of what is left rise
   pub rising_after : AreRising after
-  rising_after other =
-      ⊎_elim
-      (λ (same : other ≡ lane).
-      subst (IsRisingAbove 0) (sym (ap (journal_of after) same ∙ own_after)) (rising_weaker 0 placed.stamp later (omega arith) above))
-      (λ (apart : other ≢ lane). subst (IsRisingAbove 0) (sym (other_after other apart)) (rising other))
-      (cases_eq other lane)
+  rising_after other = grind (arith, own_after, rising_weaker, above, other_after, cases_eq)
 
   -- it comes before a record of this lane
   abbrev Follows : ℕ → Placed → Type 0
@@ -108,23 +98,7 @@ module _ (rest : List (List Placed)) (lane : ℕ) (placed : Placed) (later : Lis
   -- it comes before all that is left
   follow_each : (other : ℕ) → All (Follows other) (journal_of after other)
   follow_each other =
-      ⊎_elim
-      (λ (same : other ≡ lane).
-      subst (All (Follows other)) (sym (ap (journal_of after) same ∙ own_after))
-      (All-weaker (λ (next : Placed). placed.stamp < next.stamp) (Follows other)
-      (λ next stamps. before_by_stamp (line_of lane placed) (line_of other next) stamps) later (each_above placed.stamp later above)))
-      (λ (apart : other ≢ lane).
-      subst (All (Follows other)) (sym (other_after other apart))
-      (follow_all other (journal_of rest other) (rising other)
-      (λ one behind there. least other one behind (there_within other one behind there) there apart)))
-      (cases_eq other lane)
-    where
-      there_within : (other : ℕ) (one : Placed) (behind : List Placed) → journal_of rest other ≡ one ∷ behind → other < length rest
-      there_within other one behind there =
-          elim (cases_lt other (length rest)) [
-            | inl below ↦ below
-            | inr past ↦ let none : [] ≡ one ∷ behind = sym (journal_past rest other past) ∙ there in absurd (cc none)
-          ]
+      grind (arith, own_after, before_by_stamp, each_above, above, other_after, follow_all, cases_eq, cases_lt, journal_past)
 
   comes_first : All (λ line. is_before (line_of lane placed) line ≡ true) (merged after)
   comes_first =
@@ -179,10 +153,4 @@ module _ (rest : List (List Placed)) (lane : ℕ) (placed : Placed) (later : Lis
 
   -- fewer records are left
   pub fewer_left : sum_by (λ journal. length journal) after < sum_by (λ journal. length journal) rest
-  fewer_left =
-      let moved = sum_by-set (λ (journal : List Placed). length journal) rest lane later [] within in
-      let first : length (get_or rest lane []) ≡ suc (length later) = ap (λ (journal : List Placed). length journal) here in
-      fewer _ _ _ _ moved first
-    where
-      fewer : (after before was now : ℕ) → after + was ≡ before + now → was ≡ suc now → after < before
-      fewer after before was now moved first = omega (arith, moved, first)
+  fewer_left = grind (arith, sum_by-set)

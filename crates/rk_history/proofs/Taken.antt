@@ -1,11 +1,11 @@
 -- What is left of lent journals once the record that comes first is taken.
-use Rattle.std.proofs.Common.{◌≡◌, ◌<◌, ℕ, List, [], ◌∷◌, ◌++◌, length, set, Bor, sym, ap, subst, ◌∙◌}
+use Rattle.std.proofs.Common.{arith, ◌≡◌, ◌<◌, List, [], ◌∷◌, ◌++◌, length, set, Bor}
 use Rattle.std.specs.List.{sum_by}
 use Rattle.std.proofs.lemmas.List.{length-map, map-set}
 use Rattle.rk_types.specs.declared.history.Placed.{Placed}
 use Rattle.rk_model.specs.Merged.{lines_of, merged}
 use Rattle.rk_history.specs.declared.merging.First.{First}
-use Rattle.rk_history.specs.First.{IsFirst, IsLeast, line_of}
+use Rattle.rk_history.specs.First.{IsFirst}
 use Rattle.rk_history.specs.Journals.{AreRising, journals_of}
 use Rattle.rk_history.proofs.Merges.{fewer_left, merged_first, rising_after}
 
@@ -21,27 +21,4 @@ pub record IsTaken (lent : List (Bor (List Placed))) (first : First) : Type 0 wh
 
 pub taken : (lent : List (Bor (List Placed))) (first : First) → AreRising (journals_of lent)
     → IsFirst (journals_of lent) (length lent) first → IsTaken lent first
-taken lent first rises is = record {
-  rising = subst AreRising (sym moved) (rising_after rest first.lane first.placed.now first.later.now rises within is.here least);
-  merges =
-      merged_first rest first.lane first.placed.now first.later.now rises within is.here least
-      ∙ ap (λ (journals : List (List Placed)). lines_of first.lane (first.placed.now ∷ []) ++ merged journals) (sym moved);
-  fewer =
-      subst (λ (journals : List (List Placed)). sum_by (λ journal. length journal) journals < sum_by (λ journal. length journal) rest) (sym moved)
-      (fewer_left rest first.lane first.placed.now first.later.now rises within is.here least);
-}
-  where
-    rest : List (List Placed)
-    rest = journals_of lent
-
-    many : length rest ≡ length lent
-    many = length-map lent (λ (journal : Bor (List Placed)). journal.now)
-
-    within : first.lane < length rest
-    within = subst (λ (n : ℕ). first.lane < n) (sym many) is.within
-
-    least : IsLeast rest (length rest) (line_of first.lane first.placed.now)
-    least = subst (λ (n : ℕ). IsLeast rest n (line_of first.lane first.placed.now)) (sym many) is.least
-
-    moved : without lent first ≡ set rest first.lane first.later.now
-    moved = map-set (λ (journal : Bor (List Placed)). journal.now) lent first.lane first.later
+taken lent first rises is = grind (arith, rising_after, merged_first, fewer_left, length-map, map-set)

@@ -20,7 +20,7 @@ pub use Rattle.rk_inv_base.proofs.roles.RoleTaken.{rows_apart, view_role_taken}
 pub use Rattle.rk_inv_base.proofs.roles.Steady.{rebuilding_behind}
 pub use Rattle.rk_inv_base.proofs.rows.Apart.{contains_cases, in_one_row, key_outside, no_meeting, one_met, one_precedes, same_number}
 pub use Rattle.rk_inv_base.proofs.rows.BeforeTurn.{IsEarly, at_most, counted_before, none_closes, none_marked, none_rebuilds}
-pub use Rattle.rk_inv_base.proofs.rows.Heirs.{neither_heir, not_begun, only_in_rebuild}
+pub use Rattle.rk_inv_base.proofs.rows.Heirs.{not_begun}
 pub use Rattle.rk_inv_base.proofs.rows.Members.{inside_heir, inside_member, is_inside}
 pub use Rattle.rk_inv_base.proofs.rows.Speakers.{none_hands, none_waits, quiet_role, speaker_is, speaker_of, speaks_serving}
 pub use Rattle.rk_inv_base.proofs.rows.TurnedRows.{all_turned, behind_first, covered_turned, found_any, known_turned, new_stands}

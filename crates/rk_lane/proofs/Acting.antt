@@ -1,8 +1,8 @@
 -- A session that may act still may after its turn, also where that is not told in the lane, and after an answer.
-use Rattle.rk_lane.proofs.Words.{◌≡◌, ◌==◌, ℕ, Bool, true, false, cond, not, [], length, filter, All, Option, None, Some, IfOk, Result, Ok}
-use Rattle.rk_lane.proofs.Words.{Err, ⊎_elim, sym, subst, ◌∙◌, All-nil, All-set, Call, Located, accept, ask, MOST_REQUESTS, Session}
-use Rattle.rk_lane.proofs.Words.{looking_up, range_of, session_turn, turn_by, turn_of, turn_to, MayAct, StepError, Seen, IsKept, world_of}
-use Rattle.rk_lane.proofs.Words.{IsVisited, Parts}
+use Rattle.rk_lane.proofs.Words.{arith, ◌≡◌, ◌==◌, ℕ, Bool, true, false, cond, not, [], length, filter, All, Option, None, Some, IfOk}
+use Rattle.rk_lane.proofs.Words.{Result, Ok, Err, ⊎_elim, sym, subst, ◌∙◌, All-nil, All-set, Call, Located, accept, ask, MOST_REQUESTS}
+use Rattle.rk_lane.proofs.Words.{Session, looking_up, range_of, session_turn, turn_by, turn_of, turn_to, MayAct, StepError, Seen, IsKept}
+use Rattle.rk_lane.proofs.Words.{world_of, IsVisited, Parts}
 use Rattle.std.proofs.Common.{OnErr}
 use Rattle.std.proofs.lemmas.List.Elements.{All-filter}
 use Rattle.rk_session.specs.Turns.{session_after}
@@ -32,8 +32,7 @@ module _ (count : ℕ) (session : Session) (may : MayAct count session) where
 
   acts_requesting : (call : Call) (tablet : ℕ) (owner : Option ℕ) → MayAct count (turn_to session call tablet owner).session
   acts_requesting call tablet None = acts_looking call
-  acts_requesting call tablet (Some master) =
-      record { client = may.client; call = may.call; own = may.own; seen = may.seen; cached = may.cached }
+  acts_requesting call tablet (Some master) = grind arith
 
   acts_by_range : (call : Call) (found : Option Located) → MayAct count (turn_by session call found).session
   acts_by_range call None = acts_looking call
@@ -88,5 +87,4 @@ pub acts_by_answer : (old new : Parts) (number : ℕ) (session later : Session) 
     → IfOk result (λ seen. IsVisited (λ w. accept w number session) old new later seen) → OnErr result (new ≡ old) → OnErr result (later ≡ session)
     → MayAct (length new.masters.items) later
 acts_by_answer old new number session later (Ok seen) kept may visited same stays = acts_after_answer old new number session later seen kept may visited
-acts_by_answer old new number session later (Err error) kept may visited same stays =
-    subst (λ (parts : Parts). MayAct (length parts.masters.items) later) (sym same) (subst (MayAct (length old.masters.items)) (sym stays) may)
+acts_by_answer old new number session later (Err error) kept may visited same stays = grind (arith, old.masters.items)

@@ -1,6 +1,6 @@
 -- A client's last request is sent once more.
-use Rattle.rk_lane.proofs.Words.{◌≡◌, ℕ, true, List, [], ◌∷◌, Option, Some, None, is_some, refl, sym, ap, ◌∙◌, option_or, Vec, NumberMap}
-use Rattle.rk_lane.proofs.Words.{get, Segments, Message, Gave, is_added, fault_of, where_true, happened, sent_again, with_sends, world_of}
+use Rattle.rk_lane.proofs.Words.{arith, ◌≡◌, ℕ, true, List, [], ◌∷◌, Some, None, is_some, sym, ap, ◌∙◌, option_or, Vec, NumberMap, get}
+use Rattle.rk_lane.proofs.Words.{Segments, Message, Gave, is_added, fault_of, where_true, happened, sent_again, with_sends, world_of}
 use Rattle.rk_lane.proofs.Words.{IsLastRequest, Parts}
 use Rattle.std.specs.Prelude.{not}
 use Rattle.rk_world.specs.declared.error.StepError.TheVariants as errors
@@ -13,11 +13,7 @@ pub record IsRequestOf (parts : Parts) (client : ℕ) (sends : List Message) : T
   pub is : sends ≡ request ∷ []
 
 pub request_of : (parts : Parts) (client : ℕ) (sends : Vec Message) → IsLastRequest (get parts.ledger.requests client) (Some sends) → IsRequestOf parts client sends.items
-request_of parts client sends last = go (get parts.ledger.requests client) refl last
-  where
-    go : (found : Option Message) → get parts.ledger.requests client ≡ found → IsLastRequest found (Some sends) → IsRequestOf parts client sends.items
-    go None there it = absurd it
-    go (Some request) there it = record { request = request; there = there; is = it }
+request_of parts client sends last = grind arith
 
 -- the event sends just this
 pub again_is : (parts : Parts) (client : ℕ) (sends : List Message) → IsRequestOf parts client sends → (stored : NumberMap Segments)

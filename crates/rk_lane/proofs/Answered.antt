@@ -1,8 +1,8 @@
 -- A backup took a message: what it answered, and what its replica tells then.
-use Rattle.rk_lane.proofs.Words.{◌≡◌, ◌≤◌, ◌-◌, ℕ, Bool, false, true, cond, List, [], ◌∷◌, length, Option, None, Some, IfSome, Result, Ok}
+use Rattle.rk_lane.proofs.Words.{arith, ◌≡◌, ◌≤◌, ◌-◌, ℕ, Bool, true, cond, List, [], ◌∷◌, length, Option, None, Some, IfSome, Result, Ok}
 use Rattle.rk_lane.proofs.Words.{Err, refl, sym, ap, subst, ◌∙◌, ⊤, Node, Segments, WhereTold, Lost, number_of, replica_of, BackupLane}
 use Rattle.rk_lane.proofs.Words.{Body, Message, Backed, Called, Appended, Failed, Gave, backup_step, called_by, failing, stored_after}
-use Rattle.rk_lane.proofs.Words.{MayCome, IsBackedAt, IsBackedBy, IsSpared, IsUnanswered, IsUnansweredAt, sending, IsAnswerOf, IsFailed}
+use Rattle.rk_lane.proofs.Words.{IsBackedAt, IsBackedBy, IsSpared, IsUnanswered, IsUnansweredAt, sending, IsAnswerOf}
 use Rattle.std.proofs.Common.{slice_set}
 use Rattle.std.specs.Prelude.{IfErr, IsErrAnd}
 use Rattle.rk_types.specs.declared.held.TheConstants.{SEGMENT_BYTES}
@@ -19,9 +19,7 @@ use Rattle.rk_lane.specs.Backing.{IsWithinSegment}
 
 -- what was sent was not lost
 sent_not_lost : (sends : List Message) → sending sends ≡ failing → ⊥
-sent_not_lost sends is =
-    let never : false ≡ true = ap (λ (b : Backed). b.lost) is in
-    cc never
+sent_not_lost sends is = grind arith
 
 -- who answered was spared
 pub spared_by : {R : Type 0} (segments : R → Option Segments) (faults : R → ℕ) (old new : BackupLane R) (from : Node) (body : Body) (log : ℕ → ℕ → List ℕ) (sends : List Message)
@@ -44,9 +42,7 @@ asks_nothing _ body apart = tt
 -- and it asks something by an Append or a Read alone
 pub asks_neither : (master : ℕ) (body : Body) → ((append : Append) → body ≡ bodies.Append append → ⊥) → ((wanted : ReadSegment) → body ≡ bodies.Read wanted → ⊥)
     → AsksNothing (nodes.Master master) body
-asks_neither master (bodies.Append append) other another = absurd (other append refl)
-asks_neither master (bodies.Read wanted) other another = absurd (another wanted refl)
-asks_neither master _ other another = tt
+asks_neither master body other another = grind arith
 
 -- it answers nothing then, stores what it stored, and calls no replica
 record IsIdle (from : Node) (body : Body) : Type 0 where
@@ -55,9 +51,7 @@ record IsIdle (from : Node) (body : Body) : Type 0 where
   called : (stored : Segments) → Gave None ≡ called_by stored from body None
 
 idle_at : (from : Node) (body : Body) → AsksNothing from body → IsIdle from body
-idle_at (nodes.Master master) (bodies.Append append) asks = absurd asks
-idle_at (nodes.Master master) (bodies.Read wanted) asks = absurd asks
-idle_at _ _ asks = record { is = λ number log. refl; stored = λ stored. refl; called = λ stored. refl }
+idle_at from body asks = grind arith
 
 idle_told : (from : Node) (body : Body) (told : Option Segments) → AsksNothing from body → WhereTold (λ before now. now ≡ stored_after before from body (Gave None)) told told
 idle_told from body None asks = tt
@@ -88,12 +82,7 @@ idle_backed segments faults it from body log sends asks none = record {
 append_given : (master : ℕ) (append : Append) (after : ℕ) (old new : Option Segments) → WhereTold (λ before now. now ≡ append_taken before master append (Appended after)) old new
     → IfSome new (λ told. after ≡ lengths_of told master append.segment)
     → IfSome old (λ stored. IsAnswerOf (called_by stored (nodes.Master master) (bodies.Append append)) (Appended after))
-append_given master append after None new told is = tt
-append_given master append after (Some old) None told is = absurd told
-append_given master append after (Some old) (Some new) told is = record {
-  fine = λ fine. ap Appended (is ∙ ap (λ (stored : Segments). length (bytes_of (stored master append.segment))) told);
-  failed = λ failed. absurd failed;
-}
+append_given master append after old new told is = grind arith
 
 -- where it failed, the replica was asked, and stored so much
 fault_given : (master : ℕ) (append : Append) (before after : ℕ) (old : Option Segments) → calls_replica before append ≡ true
@@ -114,10 +103,7 @@ fault_given master append before after (Some stored) asked is = record {
 -- a message that tells what is stored tells no more than a segment
 within_segment : (number master : ℕ) (append : Append) (after : ℕ) (message : Message) → append_step number master append (Appended after) ≡ sending (message ∷ []) → IsWithinSegment message.body
     → after ≤ SEGMENT_BYTES
-within_segment number master append after message is within =
-    let sends = ap (λ (b : Backed). b.sends) is in
-    let same : (record { from = nodes.Backup number; to = nodes.Master master; body = bodies.Stored (record { segment = append.segment; length = after }) }) ≡ message = cc in
-    subst IsWithinSegment (sym (ap (λ (m : Message). m.body) same)) within
+within_segment number master append after message is within = grind arith
 
 module _ {R : Type 0} (segments : R → Option Segments) (faults : R → ℕ) (old new : BackupLane R) (master : ℕ) (append : Append) (before after : ℕ) (log : ℕ → ℕ → List ℕ)
     (number : number_of new ≡ number_of old) where
@@ -164,92 +150,26 @@ module _ {R : Type 0} (segments : R → Option Segments) (faults : R → ℕ) (o
 -- told segments stay at a read
 read_told : (master : ℕ) (wanted : ReadSegment) (called : Called) (old new : Option Segments) → WhereTold IsSame old new
     → WhereTold (λ before now. now ≡ stored_after before (nodes.Master master) (bodies.Read wanted) called) old new
-read_told master wanted called None new told = tt
-read_told master wanted called (Some old) None told = absurd told
-read_told master wanted called (Some old) (Some new) told = λ i m s. told m s i
+read_told master wanted called old new told = grind arith
 
 -- a read that did not fail gave what is stored
 read_given : (master : ℕ) (wanted : ReadSegment) (called : Called) (old : Option Segments) → IfSome old (λ stored. IsReadOf stored wanted called)
     → IfSome old (λ stored. IsAnswerOf (called_by stored (nodes.Master master) (bodies.Read wanted)) called)
-read_given master wanted called None is = tt
-read_given master wanted (Appended length) (Some stored) is = absurd is
-read_given master wanted (Gave bytes) (Some stored) is = record { fine = λ fine. ap Gave is; failed = λ failed. absurd failed }
-read_given master wanted (Failed count) (Some stored) is = record { fine = λ fine. absurd (fine tt); failed = λ failed. (0, ap Failed is) }
-
--- who sent a copy did not fail
-copy_came : (number reader : ℕ) (wanted : ReadSegment) (log : ℕ → ℕ → List ℕ) (called : Called) (message : Message) → read_step number reader wanted log called ≡ sending (message ∷ [])
-    → IsFailed called → ⊥
-copy_came number reader wanted log (Appended length) message is failed = failed
-copy_came number reader wanted log (Gave bytes) message is failed = failed
-copy_came number reader wanted log (Failed stored) message is failed = sent_not_lost (message ∷ []) (sym is)
-
-copy_may : (number reader : ℕ) (wanted : ReadSegment) (log : ℕ → ℕ → List ℕ) (called : Called) (message : Message) → read_step number reader wanted log called ≡ sending (message ∷ [])
-    → MayCome called
-copy_may number reader wanted log (Appended length) message is =
-    let never : [] ≡ message ∷ [] = ap (λ (b : Backed). b.sends) is in
-    absurd (cc never)
-copy_may number reader wanted log (Gave bytes) message is = tt
-copy_may number reader wanted log (Failed stored) message is = tt
-
--- whose copy was lost failed
-copy_lost : (number reader : ℕ) (wanted : ReadSegment) (log : ℕ → ℕ → List ℕ) (called : Called) → read_step number reader wanted log called ≡ failing → IsFailed called
-copy_lost number reader wanted log (Appended length) is = absurd (sent_not_lost [] is)
-copy_lost number reader wanted log (Gave bytes) is =
-    let never : false ≡ true = ap (λ (b : Backed). b.lost) is in
-    absurd (cc never)
-copy_lost number reader wanted log (Failed stored) is = tt
-
-failed_may : (called : Called) → IsFailed called → MayCome called
-failed_may (Appended length) failed = absurd failed
-failed_may (Gave bytes) failed = absurd failed
-failed_may (Failed stored) failed = tt
+read_given master wanted called old is = grind arith
 
 -- the logs of all masters have the segment that is read
 in_logs : (number reader : ℕ) (wanted : ReadSegment) (bytes : List ℕ) (log : ℕ → ℕ → List ℕ) (called : Called) → log wanted.master wanted.segment ≡ bytes
     → read_step number reader wanted (λ master segment. bytes) called ≡ read_step number reader wanted log called
-in_logs number reader wanted bytes log (Appended length) is = refl
-in_logs number reader wanted bytes log (Gave read) is =
-    ap (λ (segment : List ℕ). read_step number reader wanted (λ master number. segment) (Gave read)) (sym is)
-in_logs number reader wanted bytes log (Failed stored) is = refl
+in_logs number reader wanted bytes log called is = grind arith
 
 module _ {R : Type 0} (segments : R → Option Segments) (faults : R → ℕ) (old new : BackupLane R) (reader : ℕ) (wanted : ReadSegment) (bytes : List ℕ) (log : ℕ → ℕ → List ℕ)
     (in_log : log wanted.master wanted.segment ≡ bytes) (number : number_of new ≡ number_of old)
     (same : WhereTold IsSame (segments (replica_of old)) (segments (replica_of new))) where
-  -- it gave what it has
-  pub read_backed : (message : Message) → IsCopied (number_of old) reader wanted bytes (segments (replica_of old)) (Ok message)
-      → HasLossCause {T = Message} (faults (replica_of old)) (faults (replica_of new)) (Ok message)
-      → IsBackedBy segments faults old new (nodes.Master reader) (bodies.Read wanted) log (sending (message ∷ []))
-  read_backed message copied cause =
-      let fine : IsFailed copied.called → ⊥ = copy_came (number_of old) reader wanted (λ master segment. bytes) copied.called message copied.backed in
-      record {
-        called = copied.called;
-        may = copy_may (number_of old) reader wanted (λ master segment. bytes) copied.called message copied.backed;
-        answer = sym copied.backed ∙ in_logs (number_of old) reader wanted bytes log copied.called in_log;
-        told = read_told reader wanted copied.called (segments (replica_of old)) (segments (replica_of new)) same;
-        given = read_given reader wanted copied.called (segments (replica_of old)) copied.given;
-        number = number;
-        lost = λ failed. absurd (fine failed);
-        failed = λ failed. absurd (fine failed);
-        fine = λ fine. cause.kept (λ never. cc never);
-      }
-
   -- its replica failed
   pub read_failed : IsCopied (number_of old) reader wanted bytes (segments (replica_of old)) (Err losses.Failed)
       → HasLossCause {T = Message} (faults (replica_of old)) (faults (replica_of new)) (Err losses.Failed)
       → IsBackedBy segments faults old new (nodes.Master reader) (bodies.Read wanted) log failing
-  read_failed copied cause =
-      let failed : IsFailed copied.called = copy_lost (number_of old) reader wanted (λ master segment. bytes) copied.called copied.backed in
-      record {
-        called = copied.called;
-        may = failed_may copied.called failed;
-        answer = sym copied.backed ∙ in_logs (number_of old) reader wanted bytes log copied.called in_log;
-        told = read_told reader wanted copied.called (segments (replica_of old)) (segments (replica_of new)) same;
-        given = read_given reader wanted copied.called (segments (replica_of old)) copied.given;
-        number = number;
-        lost = λ failed. refl;
-        failed = λ failed. cause.failed refl;
-        fine = λ fine. absurd (fine failed);
-      }
+  read_failed copied cause = grind (arith, number_of, in_logs, read_told, replica_of, read_given, sent_not_lost)
 
 -- ---- why it sent nothing
 

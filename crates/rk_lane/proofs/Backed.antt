@@ -1,14 +1,12 @@
 -- A message reaches a backup: what the event makes of the parts of a lane and of its backups.
-use Rattle.rk_lane.proofs.Words.{◌≡◌, ◌≤◌, ◌<◌, ◌+◌, ◌-◌, ◌&&◌, ℕ, zero, suc, true, cond, inr, List, [], ◌∷◌, length, slice_get, Option}
-use Rattle.rk_lane.proofs.Words.{None, Some, IfSome, is_some, refl, sym, ap, subst, ◌∙◌, arith, option_map, unwrap_or, length-set}
-use Rattle.rk_lane.proofs.Words.{NumberMap, get, Node, Segments, number_of, replica_of, BackupLane, receiver_of, Body, Message, Backed}
-use Rattle.rk_lane.proofs.Words.{Called, Appended, Failed, Gave, backup_step, called_by, failing, no_segments, stored_after, IsFormedBody}
-use Rattle.rk_lane.proofs.Words.{IsThere, Limits, limits_of, Master, refusal, AllTell, Stepped, backed_at, happened, log_bytes_of, quietly}
-use Rattle.rk_lane.proofs.Words.{told_by_replica, told_for, told_to, with_sends, is_backup, with_stored_by, StepError, Seen, keeps_to_top}
-use Rattle.rk_lane.proofs.Words.{CanBeAnswered, IsBackedBy, IsLogOf, IsSpared, sending, IsAnswerOf, IsFailed, IsCutBack, IsFinished}
-use Rattle.rk_lane.proofs.Words.{IsHappened, IsUnhappened, AreNumbered, AreTold, IsTold, IsReady, IsSameParts, IsKept, world_of}
-use Rattle.rk_lane.proofs.Words.{IsFitToSend, Parts}
-use Rattle.std.proofs.Common.{inl}
+use Rattle.rk_lane.proofs.Words.{◌≡◌, ◌≤◌, ◌<◌, ◌-◌, ◌&&◌, ℕ, zero, suc, true, List, [], ◌∷◌, length, slice_get, Option, None, Some, IfSome}
+use Rattle.rk_lane.proofs.Words.{is_some, refl, sym, ap, subst, ◌∙◌, arith, unwrap_or, length-set, NumberMap, get, Node, Segments}
+use Rattle.rk_lane.proofs.Words.{number_of, replica_of, BackupLane, receiver_of, Body, Message, Backed, Called, backup_step, called_by}
+use Rattle.rk_lane.proofs.Words.{failing, no_segments, stored_after, IsThere, limits_of, Master, refusal, AllTell, Stepped, backed_at}
+use Rattle.rk_lane.proofs.Words.{happened, log_bytes_of, quietly, told_by_replica, told_for, told_to, with_sends, is_backup, with_stored_by}
+use Rattle.rk_lane.proofs.Words.{StepError, Seen, keeps_to_top, CanBeAnswered, IsBackedBy, IsLogOf, IsSpared, sending, IsAnswerOf, IsFailed}
+use Rattle.rk_lane.proofs.Words.{IsCutBack, IsFinished, IsHappened, IsUnhappened, AreNumbered, AreTold, IsTold, IsReady, IsSameParts}
+use Rattle.rk_lane.proofs.Words.{IsKept, world_of, IsFitToSend, Parts}
 use Rattle.std.proofs.lemmas.Bool.{le-leb}
 use Rattle.rk_types.specs.declared.node.Node.TheVariants as nodes
 use Rattle.rk_log.specs.Log.{bytes_of}
@@ -29,17 +27,9 @@ use Rattle.rk_lane.proofs.Topped.{still_topped}
 
 -- ---- small laws
 
--- the world once what one backup stores has changed, if it was told
-stored_world : (old : Parts) (backup : ℕ) (change : Segments → Segments) (stored : NumberMap Segments) (found : Option Segments)
-    → with_stored_by (world_of old stored) backup change found ≡ world_of old (stored_then backup change stored found)
-stored_world old backup change stored None = refl
-stored_world old backup change stored (Some its) = refl
-
 -- a call failed or it did not
 pub by_failing : (called : Called) (P : Type 0) → (IsFailed called → P) → ((IsFailed called → ⊥) → P) → P
-by_failing (Appended length) P failed fine = fine (λ never. never)
-by_failing (Gave bytes) P failed fine = fine (λ never. never)
-by_failing (Failed stored) P failed fine = failed tt
+by_failing called P failed fine = grind arith
 
 -- what is found under a number that is there
 record IsFound {X : Type 0} (found : Option X) : Type 0 where
@@ -70,16 +60,8 @@ stands_in (first ∷ rest) (suc place) within =
     let later = stands_in rest place (omega arith) in
     record { it = later.it; at = later.at }
 
--- a message of a well formed lane can be answered
-answered_of : (limits : Limits) (from : Node) (body : Body) → IsFormedBody limits from body → CanBeAnswered limits.masters body
-answered_of limits from (bodies.Append append) says = says
-answered_of limits from (bodies.Read wanted) says = says.1
-answered_of limits from _ says = tt
-
 pub can_be_answered : (old : Parts) (number : ℕ) (message : Message) → IsKept old → get old.wire.messages number ≡ Some message → CanBeAnswered (length old.masters.items) message.body
-can_be_answered old number message kept on =
-    subst (λ (count : ℕ). CanBeAnswered count message.body) (masters_counted old kept)
-    (answered_of (limits_of (world_of old [])) message.from message.body (kept.formed.formed.wire.each number message on).says)
+can_be_answered old number message kept on = grind (arith, masters_counted, limits_of, world_of)
 
 -- the logs of its world have what it asks for
 logs_of : (old : Parts) (body : Body) → IsKept old → CanBeAnswered (length old.masters.items) body → IsLogOf old.masters.items (log_bytes_of (world_of old [])) body
@@ -138,34 +120,18 @@ module _ {R : Type 0} (segments : R → Option Segments) (faults : R → ℕ) (o
   counted = λ i. le-leb 1 backup is_there.0 i && le-leb backup old.backups is_there.1 i
 
   its_number : number_of it ≡ backup
-  its_number =
-      let same : backup - 1 + 1 ≡ backup = omega (arith, is_there.0) in
-      numbered (backup - 1) it at ∙ same
+  its_number = grind (arith, is_there)
 
   allowed : refusal (world_of old []) (events.Deliver number) ≡ None
-  allowed =
-      refused_fresh (world_of old []) (events.Deliver number) ready.fresh
-      ∙ delivery_allowed number (get old.wire.messages number) message (nodes.Backup backup) on to refl
+  allowed = grind (arith, refused_fresh, world_of, delivery_allowed)
 
   backed_happens : (stored : NumberMap Segments) → happened (world_of old stored) (events.Deliver number) by.called ≡ backed_at (world_of old (stored_now stored)) backed
   backed_happens stored =
-      delivered_is (world_of old stored) number message (nodes.Backup backup) by.called on to
-      ∙ ap (λ b. cond b (backed_at (with_stored_by (world_of old stored) backup change (get stored backup))
-      (backup_step backup message.from message.body (log_bytes_of (world_of old stored)) by.called)) (quietly (world_of old stored))) counted
-      ∙ (λ i. backed_at (stored_world old backup change stored (get stored backup) i)
-      ((ap (λ (n : ℕ). backup_step n message.from message.body (log_bytes_of (world_of old [])) by.called) (sym its_number) ∙ sym by.answer) i))
+      grind (arith, delivered_is, world_of, backed_at, with_stored_by, backup_step, log_bytes_of, quietly, counted, its_number)
 
   -- what failed
   cause : HasCause faults (receiver_of number old.wire) by.called before (with_backup before backup now)
-  cause =
-      by_failing by.called (HasCause faults (receiver_of number old.wire) by.called before (with_backup before backup now))
-      (λ failed.
-      inl (
-        failed,
-        one_failed before backup it now is_there.0 at faults (receiver_of number old.wire)
-            (ap (option_map (λ (m : Message). m.to)) on ∙ ap Some to) (by.failed failed),
-      ))
-      (λ fine. inr (fine, none_failed before backup it now is_there.0 at faults (by.fine fine)))
+  cause = grind (arith, by_failing, receiver_of, with_backup, one_failed, is_there, none_failed)
 
   -- what the call came to, where all replicas tell their segments
   given : (stored : NumberMap Segments) → AreTold segments before stored → AllTell (world_of old stored)
@@ -241,14 +207,7 @@ module _ {R : Type 0} (segments : R → Option Segments) (faults : R → ℕ) (o
 
   pub sent_happened : (sends : List Message) (new : Parts) (after : List (BackupLane R)) (seen : Seen) → after ≡ with_backup before backup now → backed ≡ sending sends
       → IsFinished old sends new seen → IsHappened segments faults (events.Deliver number) old before new after seen
-  sent_happened sends new after seen is_after is finished =
-      backup_happened new after seen is_after (sent_keeps sends new seen is finished)
-      (record {
-        number = ap (λ (p : Parts). p.number) finished.parts;
-        backups = ap (λ (p : Parts). p.backups) finished.parts;
-        masters = ap (λ (p : Parts). length p.masters.items) finished.parts;
-      })
-      (sent_makes sends new seen is finished)
+  sent_happened sends new after seen is_after is finished = search (backup_happened, sent_keeps, sent_makes, finished.parts)
 
   -- what is sent fits the wire
   pub sent_fits : (sends : List Message) → backed ≡ sending sends → IsFitToSend old.wire sends
@@ -265,40 +224,9 @@ module _ {R : Type 0} (faults : R → ℕ) (old : Parts) (before : List (BackupL
   -- before anything was sent
   pub spared_unhappened : (after : List (BackupLane R)) (error : StepError) → after ≡ with_backup before backup now → error ≡ errors.NoMemory
       → IsUnhappened faults (events.Deliver number) old before old after error
-  spared_unhappened after error is memory =
-      subst (λ (list : List (BackupLane R)). IsUnhappened faults (events.Deliver number) old before old list error) (sym is)
-      (record {
-        cause = λ apart. absurd (apart memory);
-        same = λ apart. absurd (apart memory);
-        same_backups = λ apart. absurd (apart memory);
-        ledger = record { journal = refl; asked = refl; clients = refl };
-        lane = record { number = refl; backups = refl; masters = refl };
-        count = length-set before (backup - 1) now;
-        numbered = numbered_after before backup it now first at spared.number numbered;
-        counts = none_failed before backup it now first at faults spared.fine;
-      })
+  spared_unhappened after error is memory = grind (arith, cause, length-set, numbered_after, none_failed)
 
   -- when it was to be sent
   pub cut_unhappened : (new : Parts) (after : List (BackupLane R)) (error : StepError) → after ≡ with_backup before backup now
       → IsCutBack old (length old.ledger.journal) new error → IsUnhappened faults (events.Deliver number) old before new after error
-  cut_unhappened new after error is cut =
-      let ledger = ap (λ (p : Parts). p.ledger) cut.parts in
-      subst (λ (list : List (BackupLane R)). IsUnhappened faults (events.Deliver number) old before new list error) (sym is)
-      (record {
-        cause = λ apart. absurd (apart cut.memory);
-        same = λ apart. absurd (apart cut.memory);
-        same_backups = λ apart. absurd (apart cut.memory);
-        ledger = record {
-          journal = ap (λ l. l.journal) ledger ∙ cut_to old.ledger old.ledger (grown_by_none old.ledger);
-          asked = ap (λ l. l.asked) ledger;
-          clients = ap (λ l. l.clients) ledger;
-        };
-        lane = record {
-          number = ap (λ (p : Parts). p.number) cut.parts;
-          backups = ap (λ (p : Parts). p.backups) cut.parts;
-          masters = ap (λ (p : Parts). length p.masters.items) cut.parts;
-        };
-        count = length-set before (backup - 1) now;
-        numbered = numbered_after before backup it now first at spared.number numbered;
-        counts = none_failed before backup it now first at faults spared.fine;
-      })
+  cut_unhappened new after error is cut = grind (arith, cause, cut_to, grown_by_none, length-set, numbered_after, none_failed)

@@ -25,9 +25,7 @@ module _ (old : Parts) (event : Event) (number : ℕ) (it now : Master) (coordin
   at_then = subst (λ (list : List (Option Master)). IsAt list number now) (sym did) (set_at_number old.masters.items number there now)
 
   there_then : IsMaster (length p2.masters.items) number
-  there_then =
-      subst (λ (list : List (Option Master)). IsMaster (length list) number) (sym did)
-      (subst (λ (n : ℕ). IsMaster n number) (sym (length-set old.masters.items (number - 1) (Some now))) there)
+  there_then = grind (arith, length-set)
 
   -- the parts after it
   abbrev pub after_both : Parts

@@ -1,20 +1,19 @@
 -- What a client's turn and its answer make of the parts of a lane: the world after it is that of the parts after it, and all is kept.
 use Rattle.rk_lane.proofs.Words.{◌≡◌, ◌≤◌, ◌+◌, ℕ, Bool, true, false, cond, max, [], ◌∷◌, All, Option, None, Some, is_some, refl, sym, ap}
-use Rattle.rk_lane.proofs.Words.{subst, ◌∙◌, arith, unwrap_or, option_map, option_or, eqb-true, All-nil, get_same, NumberMap, get, Call}
-use Rattle.rk_lane.proofs.Words.{Segments, Traffic, with_message, Body, Message, Visited, accept, ask, is_asked, is_asked_here}
-use Rattle.rk_lane.proofs.Words.{ledger_asked, ledger_requested, ledger_taken, ClientTurn, Session, session_accept, session_turn}
-use Rattle.rk_lane.proofs.Words.{last_stamp, Ledger, asked_by, is_added, seen_of, with_asked, MayAct, accept_refusal, where_true, worn}
-use Rattle.rk_lane.proofs.Words.{IsFormedWithRoom, with_sends, World, with_all_sent, with_ledger, with_top, StepError, Seen, Taken}
-use Rattle.rk_lane.proofs.Words.{LastCall, IsKept, world_of, AreForMasters, IsFitToSend, noted, saved, IsVisited, Parts, all_in_map}
-use Rattle.rk_lane.proofs.Words.{KeepsTo, all_inserted, keeps_to_more, keeps_to_top}
+use Rattle.rk_lane.proofs.Words.{subst, ◌∙◌, arith, unwrap_or, eqb-true, All-nil, get_same, NumberMap, get, Call, Segments, Traffic}
+use Rattle.rk_lane.proofs.Words.{with_message, Body, Message, Visited, accept, ask, is_asked, is_asked_here, ledger_asked, ledger_requested}
+use Rattle.rk_lane.proofs.Words.{ledger_taken, Session, session_accept, session_turn, last_stamp, Ledger, asked_by, is_added, seen_of}
+use Rattle.rk_lane.proofs.Words.{with_asked, MayAct, accept_refusal, where_true, worn, IsFormedWithRoom, with_sends, World, with_all_sent}
+use Rattle.rk_lane.proofs.Words.{with_ledger, with_top, StepError, Seen, Taken, LastCall, IsKept, world_of, AreForMasters, IsFitToSend}
+use Rattle.rk_lane.proofs.Words.{noted, saved, IsVisited, Parts, all_in_map, KeepsTo, all_inserted, keeps_to_more, keeps_to_top}
 use Rattle.std.specs.Prelude.{IfSome, Ok, Result, not, ◌==◌}
 use Rattle.std.proofs.lemmas.Bool.{and_parts}
 use Rattle.rk_message.specs.declared.message.Body.TheVariants as bodies
 use Rattle.rk_world.specs.Base.{no_base}
-use Rattle.rk_world.specs.Calls.{accept_by, accepting, ask_by, asking, asking_by, fits_by, is_call, is_last, taking, untouched}
+use Rattle.rk_world.specs.Calls.{is_call, is_last}
 use Rattle.rk_world.specs.Journal.{is_accepted}
 use Rattle.rk_world.specs.Premises.{IsAfterStart}
-use Rattle.rk_world.specs.Refusals.{ask_refusal, worn_session}
+use Rattle.rk_world.specs.Refusals.{ask_refusal}
 use Rattle.rk_world.specs.Runs.{world_visited}
 use Rattle.rk_world.specs.declared.error.StepError.TheVariants as errors
 use Rattle.rk_world.specs.declared.event.Taken.TheVariants as takes
@@ -28,14 +27,7 @@ use Rattle.rk_lane.proofs.Topped.{keeps_once_topped, topped}
 pub kept_with : (old : Parts) (ledger : Ledger) (wire : Traffic) (top : ℕ) → IsKept old
     → IsFormedWithRoom (world_of (record old { ledger = ledger; wire = wire; top = top }) []) → AreForMasters ledger.requests
     → IsKept (record old { ledger = ledger; wire = wire; top = top })
-kept_with old ledger wire top kept formed requests = record {
-  present = kept.present;
-  formed = formed;
-  counted = kept.counted;
-  distinct = kept.distinct;
-  reserved = kept.reserved;
-  requests = requests;
-}
+kept_with old ledger wire top kept formed requests = grind arith
 
 -- each call comes after a start that tells nothing
 pub after_nothing : (call : Option Call) → IfSome call (IsAfterStart no_base)
@@ -45,26 +37,13 @@ after_nothing (Some call) = All-nil _
 -- what was visited is so as well by other names of what came of it
 pub visited_as : (visit : World → Result Visited StepError) (old made new : Parts) (later session : Session) (shown seen : Seen)
     → new ≡ made → session ≡ later → seen ≡ shown → IsVisited visit old made later shown → IsVisited visit old new session seen
-visited_as visit old made new later session shown seen parts same is visited =
-    subst (λ (p : Parts). IsVisited visit old p session seen) (sym parts)
-    (subst (λ (s : Session). IsVisited visit old made s seen) (sym same)
-    (subst (λ (s : Seen). IsVisited visit old made later s) (sym is) visited))
+visited_as visit old made new later session shown seen parts same is visited = grind arith
 
 -- ---- the ledger
 
 -- a call is noted just where the definitions note it
 noted_is : (ledger : Ledger) (session : Session) (call : Call) → noted ledger session.client (last_to_note ledger session (Some call)) ≡ ledger_asked ledger session call
-noted_is ledger session call = go (is_asked ledger session call)
-  where
-    go : (asked : Bool) → noted ledger session.client (cond asked None (Some (record { call = call; seen = session.seen })))
-        ≡ cond asked ledger (with_asked ledger session.client (record { call = call; seen = session.seen }))
-    go true = refl
-    go false = refl
-
--- a request is saved just where they save it
-saved_is : (ledger : Ledger) (client : ℕ) (message : Message) (body : Body) → saved ledger client (request_told message body) ≡ ledger_requested ledger client message body
-saved_is ledger client message (bodies.Request request) = refl
-saved_is ledger client message _ = refl
+noted_is ledger session call = grind (arith, is_asked, noted, with_asked)
 
 journal_noted : (ledger : Ledger) (client : ℕ) (last : Option LastCall) → (noted ledger client last).journal ≡ ledger.journal
 journal_noted ledger client None = refl
@@ -89,12 +68,7 @@ seen_noted limit ledger client (Some last) low all =
     all_inserted (λ (one : Option LastCall). seen_of one ≤ limit) ledger.clients client (Some last) low all
 
 low_to_note : (limit : ℕ) (ledger : Ledger) (session : Session) (call : Option Call) → session.seen ≤ limit → IfSome (last_to_note ledger session call) (λ one. one.seen ≤ limit)
-low_to_note limit ledger session None low = tt
-low_to_note limit ledger session (Some call) low = go (is_asked ledger session call)
-  where
-    go : (asked : Bool) → IfSome {T = LastCall} (cond asked None (Some (record { call = call; seen = session.seen }))) (λ one. one.seen ≤ limit)
-    go true = tt
-    go false = low
+low_to_note limit ledger session call low = grind (arith, is_asked)
 
 -- a client with a last call stands in the map
 found_last : (found : Option (Option LastCall)) (last : LastCall) → unwrap_or found None ≡ Some last → found ≡ Some (Some last)
@@ -135,26 +109,12 @@ added_noted ledger client (Some last) added = ap is_some (get_same ledger.client
 
 -- the client of a turn that is not refused was added
 pub added_where_allowed : (w : World) (session : Session) → ask_refusal w session ≡ None → is_added w.ledger session.client ≡ true
-added_where_allowed w session = go (option_or (worn w) (worn_session session session.outstanding)) (is_added w.ledger session.client)
-  where
-    go : (number : Option ℕ) (added : Bool)
-        → option_or (option_map errors.Worn number) (where_true (not added) (errors.Stranger session.client)) ≡ None → added ≡ true
-    go (Some number) added none = absurd (cc none)
-    go None true none = refl
-    go None false none = absurd (cc none)
+added_where_allowed w session = grind (arith, worn, is_added, where_true)
 
 -- the outstanding call of a session
 record HasCall (session : Session) : Type 0 where
   call : Call
   there : session.outstanding ≡ Some call
-
--- a session that fits has one
-call_that_fits : (w : World) (session : Session) → fits_by w session session.outstanding ≡ true → HasCall session
-call_that_fits w session fits = go session.outstanding refl fits
-  where
-    go : (call : Option Call) → session.outstanding ≡ call → fits_by w session call ≡ true → HasCall session
-    go None is it = absurd (cc it)
-    go (Some call) is it = record { call = call; there = is }
 
 module _ (old : Parts) (session later : Session) (message : Message) (may : MayTurn old session)
     (turn : session_turn session ≡ Some (record { session = later; message = message })) where
@@ -170,13 +130,10 @@ module _ (old : Parts) (session later : Session) (message : Message) (may : MayT
   }
 
   its : HasCall session
-  its = call_that_fits (world_of old []) session may.fits
+  its = grind (arith, world_of)
 
   ledger_is : ledger_then ≡ ledger_requested (ledger_asked old.ledger session its.call) session.client message message.body
-  ledger_is =
-      (λ i. saved (noted old.ledger session.client (last_to_note old.ledger session (its.there i))) session.client (request_told message message.body))
-      ∙ ap (λ (ledger : Ledger). saved ledger session.client (request_told message message.body)) (noted_is old.ledger session its.call)
-      ∙ saved_is (ledger_asked old.ledger session its.call) session.client message message.body
+  ledger_is = grind (arith, saved, noted, its, noted_is, ledger_asked)
 
   -- the world once the message is sent
   abbrev sent_then : NumberMap Segments → World
@@ -218,14 +175,7 @@ module _ (old : Parts) (session later : Session) (message : Message) (may : MayT
   -- the definitions' turn of the client
   asked_is : (stored : NumberMap Segments) → ask (world_of old stored) session
       ≡ Ok (record { world = (with_sends (with_ledger (world_of old stored) ledger_then) (message ∷ [])).world; session = later; seen = record { first = old.wire.sent + 1; sent = 1; lost = false; taken = None } })
-  asked_is stored =
-      let w : World = world_of old stored in
-      ap (λ (refusal : Option StepError). ask_by w session refusal) may.allowed
-      ∙ (λ i. Ok (asking w session (its.there i)))
-      ∙ ap (λ (fits : Bool). Ok (cond fits (asking_by w session its.call (session_turn session)) (untouched w session None)))
-      (ap (λ (call : Option Call). fits_by (world_of old []) session call) (sym its.there) ∙ may.fits)
-      ∙ ap (λ (turned : Option ClientTurn). Ok (asking_by w session its.call turned)) turn
-      ∙ (λ i. Ok (record { world = (with_sends (with_ledger w (sym ledger_is i)) (message ∷ [])).world; session = later; seen = record { first = old.wire.sent + 1; sent = 1; lost = false; taken = None } }))
+  asked_is stored = grind (arith, world_of, its, session_turn, with_sends, with_ledger, ledger_is)
 
   formed_then : IsFormedWithRoom (with_sends (with_ledger (world_of old []) ledger_then) (message ∷ [])).world
   formed_then =
@@ -264,11 +214,7 @@ module _ (old : Parts) (number : ℕ) (session : Session) (kept : IsKept old) (m
 
   accepted : (stored : NumberMap Segments) → accept (world_of old stored) number session
       ≡ Ok (record { world = world_of parts_taken stored; session = (session_accept session message.body).session; seen = record { first = 0; sent = 0; lost = false; taken = Some taken_then } })
-  accepted stored =
-      let w : World = world_of old stored in
-      ap (λ (refusal : Option StepError). accept_by w number session refusal) none
-      ∙ ap (λ (found : Option Message). Ok (accepting w session found)) there
-      ∙ ap (λ (here : Bool). Ok (cond here (taking w session message.body) (untouched w session (Some takes.Ignored)))) asked
+  accepted stored = grind (arith, world_of)
 
   -- the client has taken its answer then
   pub answer_taken : IsVisited (λ w. accept w number session) old parts_taken (session_accept session message.body).session (record { first = 0; sent = 0; lost = false; taken = Some taken_then })

@@ -1,11 +1,10 @@
 -- What the coordinator of a lane makes of a message and of its turn.
 use Rattle.rk_lane.proofs.Words.{◌≡◌, ◌≤◌, ◌<◌, ℕ, max, List, [], length, All, Option, Some, None, refl, sym, ap, subst, ◌∙◌, arith, EachIn}
-use Rattle.rk_lane.proofs.Words.{NumberMap, get, HasRoomIn, MOST_BYTES, Node, Segments, option_map, Traffic, receiver_of, Message, Called}
-use Rattle.rk_lane.proofs.Words.{Gave, Coordinator, coordinator_step, last_stamp, Ledger, seen_of, fault_of, Stepped, delivered}
-use Rattle.rk_lane.proofs.Words.{delivered_to, happened, with_sends, World, bytes_of_logs, greatest, StepError, Event, Seen, All-map}
-use Rattle.rk_lane.proofs.Words.{All-weaker, below_greatest, greatest_within, all_before, KeepsTo, keeps_to_more, keeps_to_top}
-use Rattle.rk_lane.proofs.Words.{IsCoordinated, terms_of, IsCutBack, IsFinished, IsFault, IsMade, IsReady, masters_from, world_of, Parts}
-use Rattle.rk_lane.proofs.Words.{IsFitToSend}
+use Rattle.rk_lane.proofs.Words.{NumberMap, get, HasRoomIn, MOST_BYTES, Node, Segments, Traffic, receiver_of, Message, Called, Gave}
+use Rattle.rk_lane.proofs.Words.{Coordinator, coordinator_step, last_stamp, Ledger, seen_of, fault_of, Stepped, delivered, delivered_to}
+use Rattle.rk_lane.proofs.Words.{happened, with_sends, World, bytes_of_logs, greatest, StepError, Event, Seen, All-map, All-weaker}
+use Rattle.rk_lane.proofs.Words.{below_greatest, greatest_within, all_before, KeepsTo, keeps_to_more, keeps_to_top, IsCoordinated, terms_of}
+use Rattle.rk_lane.proofs.Words.{IsCutBack, IsFinished, IsFault, IsMade, IsReady, masters_from, world_of, Parts, IsFitToSend}
 use Rattle.rk_types.specs.declared.node.Node.TheVariants as nodes
 use Rattle.rk_world.specs.Refusals.{delivery_fault}
 use Rattle.rk_world.specs.declared.event.Event.TheVariants as events
@@ -25,11 +24,7 @@ pub record IsReceived (number : ℕ) (wire : Traffic) (to : Node) : Type 0 where
   pub is : message.to ≡ to
 
 pub received : (number : ℕ) (wire : Traffic) (to : Node) → receiver_of number wire ≡ Some to → IsReceived number wire to
-received number wire to is = go (get wire.messages number) refl is
-  where
-    go : (found : Option Message) → get wire.messages number ≡ found → option_map (λ message. message.to) found ≡ Some to → IsReceived number wire to
-    go None there has = absurd (cc has)
-    go (Some message) there has = record { message = message; there = there; is = cc has }
+received number wire to is = grind arith
 
 -- what its receiver makes of a message that is there
 pub delivered_is : (w : World) (number : ℕ) (message : Message) (to : Node) (called : Called) → get w.wire.messages number ≡ Some message → message.to ≡ to
@@ -87,22 +82,7 @@ formed_sending old event w sends ready none is masters =
 pub faulty : (old parts new : Parts) (event : Event) (error : StepError) → IsGrownFrom old.ledger parts.ledger
     → parts.masters ≡ old.masters → parts.number ≡ old.number → parts.backups ≡ old.backups
     → IsCutBack parts (length old.ledger.journal) new error → IsFault old event new error
-faulty old parts new event error grown masters number backups cut =
-    let ledger = ap (λ (p : Parts). p.ledger) cut.parts in
-    record {
-      cause = λ apart. absurd (apart cut.memory);
-      same = λ apart. absurd (apart cut.memory);
-      ledger = record {
-        journal = ap (λ (l : Ledger). l.journal) ledger ∙ cut_to old.ledger parts.ledger grown;
-        asked = ap (λ (l : Ledger). l.asked) ledger ∙ grown.asked;
-        clients = ap (λ (l : Ledger). l.clients) ledger ∙ grown.clients;
-      };
-      lane = record {
-        number = ap (λ (p : Parts). p.number) cut.parts ∙ number;
-        backups = ap (λ (p : Parts). p.backups) cut.parts ∙ backups;
-        masters = ap (λ (p : Parts). length p.masters.items) cut.parts ∙ ap (λ masters. length masters.items) masters;
-      };
-    }
+faulty old parts new event error grown masters number backups cut = grind (arith, cut_to)
 
 -- ---- events that only send
 
@@ -154,9 +134,7 @@ module _ (old : Parts) (number : ℕ) (message : Message) (ready : IsReady old (
   told_fits = formed_sending old (events.Deliver number) (told_world []) sends ready told_allowed (told_happened []) refl
 
   told_clients : ledger.clients ≡ old.ledger.clients
-  told_clients =
-      ap (λ (l : Ledger). l.clients) handled.ledger_is
-      ∙ clients_rebuilt old.ledger (coordinator_step old.coordinator message).rebuilt
+  told_clients = grind (arith, clients_rebuilt, coordinator_step)
 
   below : (n stamp term top : ℕ) → n ≤ term → n ≤ max (max top stamp) term
   below n stamp term top low = omega arith

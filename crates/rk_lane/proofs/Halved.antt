@@ -1,9 +1,9 @@
 -- A tablet is split: who owns it, and what the event makes.
-use Rattle.rk_lane.proofs.Words.{◌≡◌, ◌≤◌, ◌<◌, ◌+◌, ◌^◌, ℕ, max, Bool, true, false, cond, List, [], length, All, Option, None, Some, refl}
-use Rattle.rk_lane.proofs.Words.{sym, ap, subst, ◌∙◌, arith, option_map, All-head, NumberMap, Segments, row_of, Phase, Owned, Row, Gave}
-use Rattle.rk_lane.proofs.Words.{limits_of, Master, IsMaster, fault_of, owner_split, row_split, rows_split, with_split, happened, quietly}
-use Rattle.rk_lane.proofs.Words.{greatest, has_crashed, master_at, with_coordinator, with_master, Seen, keeps_to_top, terms_of, IsMade}
-use Rattle.rk_lane.proofs.Words.{IsReady, IsAt, owner_in, IsKept, world_of, Parts, Owner}
+use Rattle.rk_lane.proofs.Words.{◌≡◌, ◌≤◌, ◌<◌, ◌+◌, ◌^◌, ℕ, max, Bool, true, false, cond, List, [], length, All, None, Some, sym, ap}
+use Rattle.rk_lane.proofs.Words.{subst, ◌∙◌, arith, option_map, All-head, NumberMap, Segments, row_of, Phase, Owned, Row, Gave, limits_of}
+use Rattle.rk_lane.proofs.Words.{Master, IsMaster, fault_of, owner_split, row_split, rows_split, with_split, happened, quietly, greatest}
+use Rattle.rk_lane.proofs.Words.{has_crashed, master_at, with_coordinator, with_master, Seen, keeps_to_top, terms_of, IsMade, IsReady, IsAt}
+use Rattle.rk_lane.proofs.Words.{owner_in, IsKept, world_of, Parts, Owner}
 use Rattle.rk_tablet_map.proofs.Lawful.{number_of}
 use Rattle.rk_tablet_map.specs.Phase.{member}
 use Rattle.rk_world.specs.Formed.{IsFormedRow, named_in}
@@ -41,11 +41,7 @@ owned_by rows tablet owner row _ found phase is = absurd (cc is)
 
 -- who is found to own a tablet does
 pub owned : (rows : List Row) (tablet : ℕ) (owner : Owner) → owner_in (row_of rows tablet) ≡ Some owner → IsOwned rows tablet owner
-owned rows tablet owner is = go (row_of rows tablet) refl is
-  where
-    go : (found : Option Row) → row_of rows tablet ≡ found → owner_in found ≡ Some owner → IsOwned rows tablet owner
-    go None found is = absurd (cc is)
-    go (Some row) found is = owned_by rows tablet owner row row.phase found refl is
+owned rows tablet owner is = grind (arith, row_of, owner_in, owned_by)
 
 module _ (parts : Parts) (tablet : ℕ) (owner : Owner) (kept : IsKept parts) (own : IsOwned parts.coordinator.rows tablet owner) where
   -- the owner is one of the masters
@@ -62,15 +58,6 @@ module _ (parts : Parts) (tablet : ℕ) (owner : Owner) (kept : IsKept parts) (o
       let low = all_found (λ (row : Row). row.term ≤ parts.top) own.row tablet parts.coordinator.rows own.found (keeps_to_top (world_of parts []) kept.formed.formed).terms in
       omega (arith, low, own.term, kept.formed.room.number)
 
-  -- what a split makes, by the owner
-  pub split_happens : (at new : ℕ) (stored : NumberMap Segments) → happened (world_of parts stored) (events.Split tablet at new) (Gave None)
-      ≡ quietly (with_coordinator (owner_split (world_of parts stored) tablet (Owned owner.master own.from) at new (owner.term + 1)) (rows_split parts.coordinator tablet at new))
-  split_happens at new stored =
-      ap (λ (found : Option Row). quietly (with_coordinator (row_split (world_of parts stored) found at new) (rows_split parts.coordinator tablet at new))) own.found
-      ∙ (λ i. quietly (with_coordinator
-      (owner_split (world_of parts stored) (number_of parts.coordinator.rows tablet own.row own.found i) (own.phase i) at new (own.term i + 1))
-      (rows_split parts.coordinator tablet at new)))
-
   -- and by whether it has crashed
   by_crash : (at new : ℕ) (stored : NumberMap Segments) (crashed : Bool) → has_crashed (world_of parts []) owner.master ≡ crashed
       → happened (world_of parts stored) (events.Split tablet at new) (Gave None)
@@ -78,10 +65,7 @@ module _ (parts : Parts) (tablet : ℕ) (owner : Owner) (kept : IsKept parts) (o
       (with_master (world_of parts stored) owner.master (with_split (master_at (world_of parts stored) owner.master) tablet at new (owner.term + 1))))
       (rows_split parts.coordinator tablet at new))
   by_crash at new stored crashed is =
-      split_happens at new stored
-      ∙ ap (λ (b : Bool). quietly (with_coordinator (cond b (world_of parts stored)
-      (with_master (world_of parts stored) owner.master (with_split (master_at (world_of parts stored) owner.master) tablet at new (owner.term + 1))))
-      (rows_split parts.coordinator tablet at new))) is
+      grind (arith, quietly, with_coordinator, world_of, with_master, with_split, master_at, rows_split, row_split, owner_split, number_of)
 
   -- a master that has crashed splits nothing
   pub split_crashed : (at new : ℕ) → has_crashed (world_of parts []) owner.master ≡ true → (stored : NumberMap Segments)

@@ -1,5 +1,6 @@
 -- A turn of a master that sends nothing: the master is as it was, and so is the lane.
-use Rattle.std.proofs.Common.{◌≡◌, ◌-◌, ℕ, Bool, true, false, cond, List, [], ◌∷◌, ◌++◌, length, set, Option, Some, None, refl, ap, subst, ◌∙◌, append-nil}
+use Rattle.rk_lane.proofs.Words.{arith}
+use Rattle.std.proofs.Common.{◌≡◌, ◌-◌, ℕ, false, List, [], ◌∷◌, ◌++◌, length, set, Option, Some, None, refl, ap, subst, ◌∙◌, append-nil}
 use Rattle.std.proofs.lemmas.List.{set-get_or}
 use Rattle.std.proofs.lemmas.Option.{get_or_from_slice_get}
 use Rattle.rk_types.specs.NumberMap.{NumberMap}
@@ -9,16 +10,15 @@ use Rattle.rk_transfer.specs.declared.role.Role.TheVariants as roles
 use Rattle.rk_message.specs.declared.message.Message.{Message}
 use Rattle.rk_world.specs.Backup.{Gave}
 use Rattle.rk_world.specs.Master.{Master}
-use Rattle.rk_world.specs.MasterTurn.{appends, duties, master_turn, pull_of, reading_duty, tablet_duty, want_of, with_outstanding}
+use Rattle.rk_world.specs.MasterTurn.{duties, master_turn, tablet_duty}
 use Rattle.rk_world.specs.Premises.{IsMaster}
 use Rattle.rk_world.specs.Step.{quietly, worked_at}
 use Rattle.rk_world.specs.Tablet.{Tablet}
 use Rattle.rk_world.specs.World.{has_crashed, with_ledger, with_master}
-use Rattle.rk_world.specs.Worked.{Worked, changed, sending, then_works}
+use Rattle.rk_world.specs.Worked.{Worked, changed, then_works}
 use Rattle.rk_world.specs.declared.error.StepError.TheVariants as errors
 use Rattle.rk_world.specs.declared.event.Event.TheVariants as events
 use Rattle.rk_world.specs.declared.event.Seen.{Seen}
-use Rattle.rk_world.specs.declared.work.Reading.{Reading}
 use Rattle.rk_lane.specs.Made.{IsMade, IsReady}
 use Rattle.rk_lane.specs.Masters.{IsAt}
 use Rattle.rk_lane.specs.Parts.{masters_from, world_of}
@@ -33,26 +33,9 @@ neither_sends : (first more : List Message) → first ++ more ≡ [] → (first 
 neither_sends [] more none = (refl, none)
 neither_sends (one ∷ first) more none = absurd (cc none)
 
--- a duty with or without a message is none where it sends nothing
-either_nothing : (sends : Bool) (master : Master) (message : Message) → (cond sends (sending master message) (changed master)).sends ≡ []
-    → cond sends (sending master message) (changed master) ≡ changed master
-either_nothing true master message none = absurd (cc none)
-either_nothing false master message none = refl
-
-reads_nothing : (master : Master) (number : ℕ) (tablet : Tablet) (reading : Option Reading) → (reading_duty master number tablet reading).sends ≡ []
-    → reading_duty master number tablet reading ≡ changed master
-reads_nothing master number tablet None none = refl
-reads_nothing master number tablet (Some reading) none = absurd (cc none)
-
 duty_nothing : (master : Master) (number : ℕ) (tablet : Tablet) (role : Role) → (tablet_duty master number tablet role).sends ≡ []
     → tablet_duty master number tablet role ≡ changed master
-duty_nothing master number tablet roles.Receiving none =
-    let now = with_outstanding tablet in
-    absurd (cc ((neither_sends (want_of master number now now.pulling.hashes.outstanding) (pull_of master number now ∷ []) none).1))
-duty_nothing master number tablet (roles.Joining (Some entry)) none = either_nothing _ master _ none
-duty_nothing master number tablet (roles.Rebuilding from (Some entry)) none = either_nothing _ master _ none
-duty_nothing master number tablet (roles.Rebuilding from None) none = reads_nothing master number tablet _ none
-duty_nothing master number tablet _ none = refl
+duty_nothing master number tablet role none = grind (arith, neither_sends)
 
 duties_nothing : (tablets : NumberMap Tablet) (master : Master) → (duties master tablets).sends ≡ [] → duties master tablets ≡ changed master
 duties_nothing [] master none = refl
@@ -67,10 +50,7 @@ duties_nothing ((number, tablet) ∷ others) master none =
 
 -- a master that sends nothing on its turn is as it was, and nothing else comes of it
 turn_nothing : (master : Master) → (master_turn master).sends ≡ [] → master_turn master ≡ changed master
-turn_nothing master none =
-    let parts = neither_sends (appends master) (duties master master.tablets).sends none in
-    let rest : duties master master.tablets ≡ changed master = duties_nothing master.tablets master parts.1 in
-    λ i. record { master = (rest i).master; sends = parts.0 i ++ (rest i).sends; served = (rest i).served; marked = (rest i).marked }
+turn_nothing master none = grind (arith, neither_sends, duties_nothing)
 
 -- ---- the lane is as it was
 

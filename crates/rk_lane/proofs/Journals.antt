@@ -1,10 +1,9 @@
 -- Journals that grow: what was there before stands at their front.
-use Rattle.rk_lane.proofs.Words.{◌≡◌, ℕ, List, ◌∷◌, [], ◌++◌, length, take, Option, Some, None, refl, sym, ap, ◌∙◌, append_assoc}
-use Rattle.rk_lane.proofs.Words.{append-nil, arith, Call, Ended, Placed, Rebuilt, outcome_of, Ledger, asked_by, seen_of, with_all_served}
-use Rattle.rk_lane.proofs.Words.{with_end, with_ends, with_rebuilt, with_record, with_served, Served}
+use Rattle.rk_lane.proofs.Words.{◌≡◌, ℕ, List, [], ◌++◌, length, take, Option, Some, None, refl, sym, append_assoc, append-nil, arith, Call}
+use Rattle.rk_lane.proofs.Words.{Ended, Placed, Rebuilt, outcome_of, Ledger, asked_by, seen_of, with_all_served, with_end, with_ends}
+use Rattle.rk_lane.proofs.Words.{with_rebuilt, with_record, with_served, Served}
 use Rattle.std.proofs.lemmas.List.{take-append-le, take_all}
 use Rattle.rk_types.specs.declared.call.Outcome.{Outcome}
-use Rattle.rk_world.specs.Journal.{next_record}
 use Rattle.rk_inv_wellformed.proofs.lanes.Ledgers.{ended_is, kept_by_fold, served_is}
 
 -- a ledger has another one's journal at the front of its own, and its clients and calls
@@ -19,14 +18,7 @@ pub grown_by_none : (before : Ledger) → IsGrownFrom before before
 grown_by_none before = record { later = []; journal = sym (append-nil before.journal); asked = refl; clients = refl }
 
 grown_by_record : (before ledger : Ledger) (call : Call) (outcome : Outcome) (seen : ℕ) → IsGrownFrom before ledger → IsGrownFrom before (with_record ledger call outcome seen)
-grown_by_record before ledger call outcome seen grown = record {
-  later = grown.later ++ next_record ledger.journal call outcome seen ∷ [];
-  journal =
-      ap (λ (list : List Placed). list ++ next_record ledger.journal call outcome seen ∷ []) grown.journal
-      ∙ append_assoc before.journal grown.later (next_record ledger.journal call outcome seen ∷ []);
-  asked = grown.asked;
-  clients = grown.clients;
-}
+grown_by_record before ledger call outcome seen grown = grind (arith, append_assoc)
 
 -- it grows when calls are served
 pub grown_by_served : (seen : ℕ) (before : Ledger) (served : List Served) → IsGrownFrom before (with_all_served seen before served)
@@ -54,6 +46,4 @@ grown_by_rebuilt before (Some rebuilt) =
 
 -- as it was once it is cut back
 pub cut_to : (before ledger : Ledger) → IsGrownFrom before ledger → take (length before.journal) ledger.journal ≡ before.journal
-cut_to before ledger grown =
-    ap (take (length before.journal)) grown.journal ∙ take-append-le (length before.journal) before.journal grown.later (omega arith)
-    ∙ take_all (length before.journal) before.journal (omega arith)
+cut_to before ledger grown = grind (arith, take-append-le, take_all)

@@ -40,29 +40,14 @@ pub record IsNumbering {R : Type 0} (all left : List R) (made : List (BackupLane
   pub number_is : number ≡ length made + 1
 
 pub none_numbered : {R : Type 0} (all : List R) (made : List (BackupLane R)) (room : ℕ) → made ≡ [] → length all ≤ room → IsNumbering all all made room 1
-none_numbered {R} all made room none fits =
-    subst (λ (list : List (BackupLane R)). IsNumbering all all list room 1) (sym none)
-    (record { numbered = λ place backup there. absurd (cc there); parts = refl; fits = omega arith; number_is = omega arith })
+none_numbered {R} all made room none fits = grind arith
 
 -- one more is made
 pub one_numbered : {R : Type 0} (all left rest : List R) (made now : List (BackupLane R)) (backup : BackupLane R) (replica : R) (room number next : ℕ)
     → left ≡ replica ∷ rest → now ≡ made ++ backup ∷ [] → number_of backup ≡ number → replica_of backup ≡ replica → next ≡ number + 1
     → IsNumbering all left made room number → IsNumbering all rest now room next
 one_numbered {R} all left rest made now backup replica room number next left_is now_is numbered_as of more before =
-    subst (λ (list : List (BackupLane R)). IsNumbering all rest list room next) (sym now_is)
-    (record {
-      numbered = numbered_push made backup before.numbered (numbered_as ∙ before.number_is);
-      parts =
-          ap (λ (list : List R). list ++ rest) (map-append replica_of made (backup ∷ []))
-          ∙ append_assoc (replicas_of made) (replica_of backup ∷ []) rest
-          ∙ (λ i. replicas_of made ++ of i ∷ rest)
-          ∙ ap (λ (list : List R). replicas_of made ++ list) (sym left_is)
-          ∙ before.parts;
-      fits =
-          let longer : length left ≡ suc (length rest) = ap (λ (list : List R). length list) left_is in
-          omega (arith, longer, before.fits, length-append made (backup ∷ []));
-      number_is = omega (arith, more, before.number_is, length-append made (backup ∷ []));
-    })
+    grind (arith, numbered_push, map-append, replica_of, append_assoc, length-append)
 
 pub all_numbered : {R : Type 0} (all : List R) (made : List (BackupLane R)) (room number : ℕ) → IsNumbering all [] made room number → replicas_of made ≡ all
 all_numbered all made room number it = sym (append-nil (replicas_of made)) ∙ it.parts
@@ -80,18 +65,7 @@ none_given {R} all given room none fits =
 
 pub one_given : {R : Type 0} (all left rest : List (BackupLane R)) (given now : List R) (backup : BackupLane R) (replica : R) (room : ℕ)
     → left ≡ backup ∷ rest → now ≡ given ++ replica ∷ [] → replica ≡ replica_of backup → IsGivingBack all left given room → IsGivingBack all rest now room
-one_given {R} all left rest given now backup replica room left_is now_is of before =
-    subst (λ (list : List R). IsGivingBack all rest list room) (sym now_is)
-    (record {
-      parts =
-          append_assoc given (replica ∷ []) (replicas_of rest)
-          ∙ (λ i. given ++ of i ∷ replicas_of rest)
-          ∙ ap (λ (list : List (BackupLane R)). given ++ replicas_of list) (sym left_is)
-          ∙ before.parts;
-      fits =
-          let longer : length left ≡ suc (length rest) = ap (λ (list : List (BackupLane R)). length list) left_is in
-          omega (arith, longer, before.fits, length-append given (replica ∷ []));
-    })
+one_given {R} all left rest given now backup replica room left_is now_is of before = grind (arith, append_assoc, length-append)
 
 pub all_given_back : {R : Type 0} (all : List (BackupLane R)) (given : List R) (room : ℕ) → IsGivingBack all [] given room → given ≡ replicas_of all
 all_given_back all given room it = sym (append-nil given) ∙ it.parts

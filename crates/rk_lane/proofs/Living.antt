@@ -1,6 +1,5 @@
 -- Masters that live beside another one.
-use Rattle.rk_lane.proofs.Words.{◌≡◌, ◌+◌, ◌==◌, ◌&&◌, ◌||◌, ℕ, suc, Bool, false, [], not, ap, ◌∙◌, list_any, range_with_len, world_of}
-use Rattle.rk_lane.proofs.Words.{Parts}
+use Rattle.rk_lane.proofs.Words.{arith, ◌≡◌, ◌+◌, ◌==◌, ◌&&◌, ℕ, suc, Bool, false, [], not, list_any, range_with_len, world_of, Parts}
 use Rattle.rk_world.specs.World.{lives}
 
 -- whether a master lives and is another one than this
@@ -9,6 +8,4 @@ is_beside parts master other = lives (world_of parts []) other && not (other == 
 
 -- where the first of some numbers does not pass a test, one of the others does or none
 pub any_next : (p : ℕ → Bool) (first count rest : ℕ) → count ≡ suc rest → p first ≡ false → list_any p (range_with_len first count) ≡ list_any p (range_with_len (first + 1) rest)
-any_next p first count rest more fails =
-    ap (λ (n : ℕ). list_any p (range_with_len first n)) more
-    ∙ ap (λ (b : Bool). b || list_any p (range_with_len (first + 1) rest)) fails
+any_next p first count rest more fails = grind arith

@@ -2,13 +2,13 @@
 use Rattle.rk_lane.proofs.Words.{◌≡◌, ◌≤◌, ◌<◌, ◌+◌, ◌-◌, ◌^◌, ℕ, zero, suc, Bool, true, false, cond, max, min, List, [], ◌∷◌, length, map}
 use Rattle.rk_lane.proofs.Words.{set, slice_get, All, Option, Some, None, IsSome, refl, sym, ap, subst, ◌∙◌, arith, unwrap_or, IsDistinct}
 use Rattle.rk_lane.proofs.Words.{sum_by, length-set, All-head, All-set, All-tail, All-weaker, sum-map, each_insert, EachIn, NumberMap, get}
-use Rattle.rk_lane.proofs.Words.{insert, Segments, Message, Gave, last_stamp, Ledger, seen_of, Master, log_bytes, new_master, IsMaster}
-use Rattle.rk_lane.proofs.Words.{fault_of, filled, HasRoomIn, MOST_BYTES, master_step, master_turn, Stepped, happened, losing, seen_in}
-use Rattle.rk_lane.proofs.Words.{with_sends, worked_at, Worked, World, bytes_of_logs, counters_of, greatest, has_crashed, master_at}
-use Rattle.rk_lane.proofs.Words.{StepError, Event, Seen, IsThere, limits_of, Work, all_in_map, below_greatest, greatest_within, size_found}
-use Rattle.rk_lane.proofs.Words.{sum_inserted, numbered_order, KeepsTo, all_inserted, keeps_to_more, keeps_to_top, IsFinished, IsFault}
-use Rattle.rk_lane.proofs.Words.{IsMade, IsReady, IsAt, IsKept, masters_from, world_of, IsFitToSend, IsSettled, IsUnsettled, IsWeighed}
-use Rattle.rk_lane.proofs.Words.{ledger_worked, sends_worked, Parts}
+use Rattle.rk_lane.proofs.Words.{insert, Segments, Message, Gave, last_stamp, seen_of, Master, log_bytes, new_master, IsMaster, fault_of}
+use Rattle.rk_lane.proofs.Words.{filled, HasRoomIn, MOST_BYTES, master_step, master_turn, Stepped, happened, losing, seen_in, with_sends}
+use Rattle.rk_lane.proofs.Words.{worked_at, Worked, World, bytes_of_logs, counters_of, greatest, has_crashed, master_at, StepError, Event}
+use Rattle.rk_lane.proofs.Words.{Seen, limits_of, Work, all_in_map, below_greatest, greatest_within, size_found, sum_inserted}
+use Rattle.rk_lane.proofs.Words.{numbered_order, KeepsTo, all_inserted, keeps_to_more, keeps_to_top, IsFinished, IsFault, IsMade, IsReady}
+use Rattle.rk_lane.proofs.Words.{IsAt, IsKept, masters_from, world_of, IsFitToSend, IsSettled, IsUnsettled, IsWeighed, ledger_worked}
+use Rattle.rk_lane.proofs.Words.{sends_worked, Parts}
 use Rattle.std.specs.Prelude.{eqb, vec_capacity}
 use Rattle.rk_types.specs.declared.node.Node.TheVariants as nodes
 use Rattle.rk_world.specs.declared.event.Event.TheVariants as events
@@ -38,21 +38,14 @@ set_there (first ∷ rest) (suc place) x within = set_there rest place x (omega 
 
 module _ (masters : List (Option Master)) (number : ℕ) (there : IsMaster (length masters) number) where
   next : 1 + (number - 1) ≡ number
-  next =
-      let low = there.first in
-      omega arith
+  next = grind arith
 
   within : number - 1 < length masters
-  within =
-      let low = there.first in
-      let high = there.last in
-      omega arith
+  within = grind arith
 
   -- the map of masters with another one under a number
   pub inserted : (it : Master) → insert (masters_from 1 masters) number it ≡ masters_from 1 (set masters (number - 1) (Some it))
-  inserted it =
-      subst (λ (n : ℕ). insert (masters_from 1 masters) n it ≡ masters_from 1 (set masters (number - 1) (Some it))) next
-      (insert_from 1 (number - 1) masters it within)
+  inserted it = grind (arith, insert, masters_from, next, insert_from, within)
 
   -- what is found under the number of a master
   pub found_at : (it : Master) → IsAt masters number it → get (masters_from 1 masters) number ≡ Some it
@@ -120,9 +113,7 @@ step_is parts number message master it there at on to lives stored =
 -- the master to which a message is addressed is there
 pub addressed : (parts : Parts) (number : ℕ) (message : Message) (master : ℕ) → IsKept parts → get parts.wire.messages number ≡ Some message
     → message.to ≡ nodes.Master master → IsMaster (length parts.masters.items) master
-addressed parts number message master kept on to =
-    subst (λ (n : ℕ). IsMaster n master) (masters_counted parts kept)
-    (subst (IsThere (limits_of (world_of parts []))) to (kept.formed.formed.wire.each number message on).to)
+addressed parts number message master kept on to = grind (arith, masters_counted, limits_of, world_of)
 
 -- it can take the message
 pub can_take : (parts : Parts) (number : ℕ) (message : Message) (master : ℕ) (it : Master) → IsReady parts (events.Deliver number)
@@ -359,21 +350,4 @@ module _ (old : Parts) (event : Event) (number : ℕ) (it : Master) (worked : Wo
 
   -- where there is no memory for it, what a spent lane keeps is as it was
   pub work_faulty : (new : Parts) (error : StepError) → IsUnsettled p2 new error → IsFault old event new error
-  work_faulty new error lost =
-      let ledger = ap (λ (p : Parts). p.ledger) p2_is in
-      record {
-        cause = λ apart. absurd (apart lost.memory);
-        same = λ apart. absurd (apart lost.memory);
-        ledger = record {
-          journal = lost.ledger.journal ∙ ap (λ (l : Ledger). l.journal) ledger;
-          asked = lost.ledger.asked ∙ ap (λ (l : Ledger). l.asked) ledger;
-          clients = lost.ledger.clients ∙ ap (λ (l : Ledger). l.clients) ledger;
-        };
-        lane = record {
-          number = lost.lane.number ∙ ap (λ (p : Parts). p.number) p2_is;
-          backups = lost.lane.backups ∙ ap (λ (p : Parts). p.backups) p2_is;
-          masters =
-              lost.lane.masters ∙ ap (λ (list : List (Option Master)). length list) did.masters
-              ∙ length-set old.masters.items (number - 1) (Some worked.master);
-        };
-      }
+  work_faulty new error lost = grind (arith, length-set)

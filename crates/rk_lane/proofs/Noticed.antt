@@ -26,10 +26,7 @@ first_kept false x rest = refl
 -- of the numbers from one on, those that pass a test: the first one, where it does, and those of the rest
 pub filter_next : (p : ℕ → Bool) (first count rest : ℕ) (items : List ℕ) → count ≡ suc rest
     → (items ++ cond (p first) (first ∷ []) []) ++ filter p (range_with_len (first + 1) rest) ≡ items ++ filter p (range_with_len first count)
-filter_next p first count rest items more =
-    let later : List ℕ = filter p (range_with_len (first + 1) rest) in
-    append_assoc items (cond (p first) (first ∷ []) []) later
-    ∙ ap (λ (list : List ℕ). items ++ list) (first_kept (p first) first later ∙ ap (λ (n : ℕ). filter p (range_with_len first n)) (sym more))
+filter_next p first count rest items more = grind (arith, append_assoc, first_kept)
 
 and_step : {X : Type 0} (b : Bool) (q : X → Bool) (x : X) (kept rest : List X) → kept ≡ filter q rest → cond (b && q x) (x ∷ kept) kept ≡ filter q (cond b (x ∷ rest) rest)
 and_step {X} true q x kept rest is = ap (λ (list : List X). cond (q x) (x ∷ list) list) is
@@ -45,32 +42,17 @@ filter_and p q (x ∷ rest) = and_step (p x) q x (filter (λ y. p y && q y) rest
 -- those that have crashed and were not noticed, among the numbers of all masters
 pub unnoticed_is : (parts : Parts) → IsKept parts → filter (is_unnoticed parts) (range_with_len 1 parts.coordinator.masters) ≡ unnoticed parts
 unnoticed_is parts kept =
-    filter_and (has_crashed (world_of parts [])) (λ master. not (is_noticed parts.coordinator master)) (range_with_len 1 parts.coordinator.masters)
-    ∙ ap (λ (list : List ℕ). filter (λ master. not (is_noticed parts.coordinator master)) (filter (has_crashed (world_of parts [])) list)) (sym kept.formed.formed.masters_are)
+    search (filter_and, has_crashed, world_of, parts.coordinator, parts.coordinator.masters, kept.formed.formed.masters_are)
 
 -- the three groups, one after the other
 pub groups_are : (rows : List Row) (dead : ℕ) (masters a b c : List ℕ) → a ≡ [] ++ filter (is_of rows dead groups.Unnamed) masters
     → b ≡ a ++ filter (is_of rows dead groups.Named) masters → c ≡ b ++ filter (is_of rows dead groups.Last) masters
     → c ≡ notice_order rows dead masters
-groups_are rows dead masters a b c first second third =
-    let one : List ℕ = filter (is_of rows dead groups.Unnamed) masters in
-    let two : List ℕ = filter (is_of rows dead groups.Named) masters in
-    let three : List ℕ = filter (is_of rows dead groups.Last) masters in
-    third
-    ∙ ap (λ (list : List ℕ). list ++ three) (second ∙ ap (λ (list : List ℕ). list ++ two) first)
-    ∙ append_assoc one two three
-
-three_lengths : (a b c : List ℕ) (most : ℕ) → length a ≤ most → length b ≤ most → length c ≤ most → length (a ++ (b ++ c)) ≤ 3 * most
-three_lengths a b c most one two three = omega (arith, one, two, three, length-append a (b ++ c), length-append b c)
+groups_are rows dead masters a b c first second third = grind (arith, is_of, append_assoc)
 
 -- they are no more than three times those that have crashed
 pub order_is_short : (rows : List Row) (dead : ℕ) (masters : List ℕ) → length (notice_order rows dead masters) ≤ 3 * length masters
-order_is_short rows dead masters =
-    three_lengths (filter (is_of rows dead groups.Unnamed) masters) (filter (is_of rows dead groups.Named) masters) (filter (is_of rows dead groups.Last) masters)
-    (length masters)
-    (length-filter_le (is_of rows dead groups.Unnamed) masters)
-    (length-filter_le (is_of rows dead groups.Named) masters)
-    (length-filter_le (is_of rows dead groups.Last) masters)
+order_is_short rows dead masters = grind (arith, is_of, length-filter_le, length-append)
 
 -- ---- terms
 
@@ -88,9 +70,7 @@ one_rises coordinator dead count may =
 
 -- so many notices raise each by so much at most
 all_rise : (list : List ℕ) (coordinator : Coordinator) (count : ℕ) → MayRiseBy (length list + count) coordinator → MayRiseBy count (fold notice_one coordinator list)
-all_rise [] coordinator count may =
-    let same : length {A = ℕ} [] + count ≡ count = omega arith in
-    subst (λ (n : ℕ). MayRiseBy n coordinator) same may
+all_rise [] coordinator count may = grind arith
 all_rise (dead ∷ more) coordinator count may =
     let same : length (dead ∷ more) + count ≡ suc (length more + count) = omega arith in
     all_rise more (notice_one coordinator dead) count

@@ -2,7 +2,7 @@
 use Rattle.rk_lane.proofs.Words.{◌≡◌, ◌<◌, ℕ, zero, suc, ◌+◌, Bool, cond, eqb, List, [], ◌∷◌, length, set, Option, Some, refl, sym, ap}
 use Rattle.rk_lane.proofs.Words.{subst, ◌∙◌, arith, slice_get, unwrap_or, unsigned_tied, range_with_len, eq-eqb, ne_eqb, NumberMap, get}
 use Rattle.rk_lane.proofs.Words.{insert, numbers, Master, new_master, masters_from}
-use Rattle.std.proofs.Common.{Equal, Greater}
+use Rattle.std.proofs.Common.{Greater}
 use Rattle.std.specs.Cmp.{nat_cmp_is}
 use Rattle.std.specs.FinMap.Entries.{by_order}
 use Rattle.std.specs.Ordering.{nat_cmp}
@@ -27,25 +27,15 @@ found_head number master later q =
 pub found_from : (number place : ℕ) (masters : List (Option Master)) (master : Option Master) → slice_get masters place ≡ Some master
     → get (masters_from number masters) (number + place) ≡ Some (master_of (number + place) master)
 found_from number place [] master there = absurd (cc there)
-found_from number zero (first ∷ later) master there =
-    let is : first ≡ master = cc there in
-    found_head number first later (number + zero)
-    ∙ cond-true (eqb (number + zero) number) (Some (master_of number first)) (get (masters_from (number + 1) later) (number + zero)) (eq-eqb (number + zero) number (omega arith))
-    ∙ ap (λ (it : Option Master). Some (master_of number it)) is
-    ∙ ap (λ (q : ℕ). Some (master_of q master)) (omega arith)
+found_from number zero (first ∷ later) master there = grind (arith, found_head, cond-true, eqb, masters_from, eq-eqb)
 found_from number (suc place) (first ∷ later) master there =
-    let next : number + suc place ≡ number + 1 + place = omega arith in
-    found_head number first later (number + suc place)
-    ∙ cond-false (eqb (number + suc place) number) (Some (master_of number first)) (get (masters_from (number + 1) later) (number + suc place)) (ne_eqb (number + suc place) number (λ same. absurd (omega arith)))
-    ∙ subst (λ (q : ℕ). get (masters_from (number + 1) later) q ≡ Some (master_of q master)) (sym next) (found_from (number + 1) place later master there)
+    grind (arith, found_head, cond-false, eqb, masters_from, ne_eqb, (found_from (number + 1) place later master there))
 
 -- what stands under the number of a place is put there
 pub insert_from : (number place : ℕ) (masters : List (Option Master)) (master : Master) → place < length masters
     → insert (masters_from number masters) (number + place) master ≡ masters_from number (set masters place (Some master))
 insert_from number place [] master within = absurd (omega arith)
-insert_from number zero (first ∷ later) master within =
-    let tied : Equal ≡ nat_cmp (number + zero) number = nat_cmp_is (number + zero) number Equal (omega arith) in
-    ap (λ o. by_order o ((number + zero, master) ∷ masters_from number (first ∷ later)) ((number, master) ∷ masters_from (number + 1) later) ((number, master_of number first) ∷ insert (masters_from (number + 1) later) (number + zero) master)) (sym tied)
+insert_from number zero (first ∷ later) master within = grind (arith, masters_from, insert)
 insert_from number (suc place) (first ∷ later) master within =
     let above : Greater ≡ nat_cmp (number + suc place) number = nat_cmp_is (number + suc place) number Greater (omega arith) in
     let next : number + suc place ≡ number + 1 + place = omega arith in

@@ -14,8 +14,7 @@ use Rattle.rk_world.specs.declared.event.Event.TheVariants as events
 use Rattle.rk_lane.proofs.Crashes.{crash_fits, distinct_push}
 use Rattle.rk_lane.proofs.Numbering.{numbers_from}
 use Rattle.rk_lane.proofs.Refusing.{refused_fresh}
-use Rattle.rk_lane.proofs.Keeping.{formed_then}
-use Rattle.rk_lane.proofs.Keeping.{kept_still}
+use Rattle.rk_lane.proofs.Keeping.{formed_then, kept_still}
 use Rattle.rk_lane.proofs.Topped.{still_topped}
 
 -- what is seen where nothing was sent and nothing lost

@@ -1,13 +1,13 @@
 -- The last requests of clients: no event changes them, and what a client sends is for a master.
-use Rattle.rk_lane.proofs.Words.{◌≡◌, ℕ, ◌+◌, ◌==◌, ◌&&◌, not, Bool, true, false, List, [], ◌∷◌, Option, Some, None, IfSome, if◌then◌else◌}
-use Rattle.rk_lane.proofs.Words.{refl, sym, ap, subst, ◌∙◌, ⊤, get, each_insert, Call, Ended, Node, Segments, row_of, Phase, Owned, Row}
-use Rattle.rk_lane.proofs.Words.{Located, Body, Message, Rebuilt, Backed, Called, backup_step, stored_after, is_asked, ledger_asked}
-use Rattle.rk_lane.proofs.Words.{ledger_requested, ledger_taken, ClientTurn, MOST_REQUESTS, Session, looking_up, range_of, session_turn}
-use Rattle.rk_lane.proofs.Words.{turn_by, turn_of, turn_to, coordinator_step, Ledger, asked_by, is_added, with_client, with_end, with_ends}
-use Rattle.rk_lane.proofs.Words.{with_all_served, with_rebuilt, with_served, master_step, master_turn, backed_at, delivered, delivered_to}
-use Rattle.rk_lane.proofs.Words.{happened, log_bytes_of, losing, quietly, seen_in, sent_again, with_sends, worked_at, Stepped, World}
-use Rattle.rk_lane.proofs.Words.{has_crashed, is_backup, master_at, with_ledger, with_master, with_stored_by, owner_split, row_split}
-use Rattle.rk_lane.proofs.Words.{with_split, Master, Worked, Event, Seen, Taken, LastCall, Served, world_of, AreForMasters, Parts}
+use Rattle.rk_lane.proofs.Words.{arith, ◌≡◌, ℕ, ◌+◌, Bool, List, [], ◌∷◌, Option, Some, None, IfSome, if◌then◌else◌, refl, sym, subst, ◌∙◌}
+use Rattle.rk_lane.proofs.Words.{⊤, get, each_insert, Call, Ended, Node, Segments, row_of, Phase, Row, Located, Body, Message, Rebuilt}
+use Rattle.rk_lane.proofs.Words.{Backed, Called, backup_step, stored_after, is_asked, ledger_asked, ledger_requested, ledger_taken}
+use Rattle.rk_lane.proofs.Words.{ClientTurn, Session, range_of, session_turn, turn_by, turn_of, coordinator_step, Ledger, asked_by}
+use Rattle.rk_lane.proofs.Words.{is_added, with_client, with_end, with_ends, with_all_served, with_rebuilt, with_served, master_step}
+use Rattle.rk_lane.proofs.Words.{master_turn, backed_at, delivered, delivered_to, happened, log_bytes_of, losing, quietly, seen_in}
+use Rattle.rk_lane.proofs.Words.{with_sends, worked_at, Stepped, World, has_crashed, is_backup, master_at, with_ledger, with_stored_by}
+use Rattle.rk_lane.proofs.Words.{owner_split, row_split, with_split, Master, Worked, Event, Seen, Taken, LastCall, Served, world_of}
+use Rattle.rk_lane.proofs.Words.{AreForMasters, Parts}
 use Rattle.rk_types.specs.declared.node.Node.TheVariants as nodes
 use Rattle.rk_model.specs.Merged.{is_mutation}
 use Rattle.rk_message.specs.declared.message.Body.TheVariants as bodies
@@ -31,9 +31,7 @@ all_served_keep seen ledger [] = refl
 all_served_keep seen ledger (one ∷ served) = all_served_keep seen (with_served seen ledger one) served ∙ served_keeps seen ledger one
 
 end_keeps : (ledger : Ledger) (end : Ended) (asked : Option LastCall) → KeepsRequests ledger (with_end_of ledger end asked)
-end_keeps ledger end None = refl
-end_keeps ledger end (Some asked) =
-    either_way (KeepsRequests ledger) (asked.call.seq == end.seq && not (has_record ledger.journal end.client end.seq)) refl refl
+end_keeps ledger end asked = grind (arith, either_way)
 
 ends_keep : (ledger : Ledger) (ends : List Ended) → KeepsRequests ledger (with_ends ledger ends)
 ends_keep ledger [] = refl
@@ -67,11 +65,8 @@ backup_keeps : (w : World) (backup : ℕ) (sender : Node) (body : Body) (called 
     → Keeps w (if there
     then backed_at (with_stored_by w backup (λ segments. stored_after segments sender body called) (get w.backups backup)) (backup_step backup sender body (log_bytes_of w) called)
     else quietly w).world
-backup_keeps w backup sender body called true =
-    let now = with_stored_by w backup (λ segments. stored_after segments sender body called) (get w.backups backup) in
-    let backed = backup_step backup sender body (log_bytes_of w) called in
-    backed_keeps now backed backed.lost ∙ stored_keeps w backup (λ segments. stored_after segments sender body called) (get w.backups backup)
-backup_keeps w backup sender body called false = refl
+backup_keeps w backup sender body called there =
+    grind (arith, with_stored_by, stored_after, backup_step, log_bytes_of, backed_keeps, stored_keeps)
 
 delivery_keeps : (w : World) (message : Message) (to : Node) (called : Called) → Keeps w (delivered_to w message to called).world
 delivery_keeps w message (nodes.Client client) called = refl
@@ -90,35 +85,18 @@ turn_keeps w _ = refl
 added_keeps : (w : World) (client : ℕ) (added : Bool) → Keeps w (if added then w else with_ledger w (with_client w.ledger client))
 added_keeps w client added = either_way (Keeps w) added refl refl
 
-again_keeps : (w : World) (request : Option Message) → Keeps w (sent_again w request).world
-again_keeps w None = refl
-again_keeps w (Some message) = refl
-
-crashed_keeps : (w : World) (master : ℕ) (split : Master) (crashed : Bool) → Keeps w (if crashed then w else with_master w master split)
-crashed_keeps w master split crashed = either_way (Keeps w) crashed refl refl
-
 owner_keeps : (w : World) (tablet : ℕ) (phase : Phase) (at new term : ℕ) → Keeps w (owner_split w tablet phase at new term)
-owner_keeps w tablet (Owned master from) at new term = crashed_keeps w master (with_split (master_at w master) tablet at new term) (has_crashed w master)
-owner_keeps w tablet _ at new term = refl
+owner_keeps w tablet phase at new term = grind (arith, with_split, master_at, has_crashed, either_way)
 
 split_keeps : (w : World) (row : Option Row) (at new : ℕ) → Keeps w (row_split w row at new)
 split_keeps w None at new = refl
 split_keeps w (Some row) at new = owner_keeps w row.tablet row.phase at new (row.term + 1)
 
--- no event changes the last request of a client
-pub requests_kept : (w : World) (event : Event) (called : Called) → (happened w event called).world.ledger.requests ≡ w.ledger.requests
-requests_kept w (events.AddClient client) called = added_keeps w client (is_added w.ledger client)
-requests_kept w (events.Deliver number) called = found_keeps w (get w.wire.messages number) called
-requests_kept w (events.Turn node) called = turn_keeps w node
-requests_kept w (events.Again client) called = again_keeps w (get w.ledger.requests client)
-requests_kept w (events.Split tablet at new) called = split_keeps w (row_of w.coordinator.rows tablet) at new
-requests_kept w _ called = refl
-
 -- so they are for masters after an event
 pub still_for_masters : (old new : Parts) (event : Event) (called : Called) (seen : Seen)
     → happened (world_of old []) event called ≡ record { world = world_of new []; seen = seen } → AreForMasters old.ledger.requests → AreForMasters new.ledger.requests
 still_for_masters old new event called seen is requests =
-    subst AreForMasters (sym (requests_kept (world_of old []) event called) ∙ ap (λ (stepped : Stepped). stepped.world.ledger.requests) is) requests
+    grind (arith, world_of, added_keeps, is_added, found_keeps, turn_keeps, split_keeps, row_of)
 
 -- ---- what a client sends
 
@@ -127,20 +105,8 @@ abbrev pub IsForMaster : Message → Body → Type 0
 IsForMaster message (bodies.Request request) = IsOfMaster message.to
 IsForMaster message body = ⊤
 
-to_owner : (session : Session) (call : Call) (tablet : ℕ) (owner : Option ℕ)
-    → IsForMaster (turn_to session call tablet owner).message (turn_to session call tablet owner).message.body
-to_owner session call tablet (Some master) = tt
-to_owner session call tablet None = tt
-
-by_requests : (session : Session) (call : Call) (located : Located) (most : Bool)
-    → IsForMaster (if most then looking_up session call else turn_to session call located.tablet located.owner).message
-    (if most then looking_up session call else turn_to session call located.tablet located.owner).message.body
-by_requests session call located true = tt
-by_requests session call located false = to_owner session call located.tablet located.owner
-
 by_range : (session : Session) (call : Call) (located : Option Located) → IsForMaster (turn_by session call located).message (turn_by session call located).message.body
-by_range session call None = tt
-by_range session call (Some located) = by_requests session call located (session.requests == MOST_REQUESTS)
+by_range session call located = grind arith
 
 by_call : (session : Session) (call : Option Call) → IfSome (turn_of session call) (λ turned. IsForMaster turned.message turned.message.body)
 by_call session None = tt

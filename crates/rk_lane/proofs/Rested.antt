@@ -1,6 +1,6 @@
 -- Lanes that rest: what is found of each master and of the coordinator says that no turn leaves anything.
 use Rattle.std.proofs.Common.{◌≡◌, ◌<◌, ◌+◌, ℕ, Bool, true, false, not, cond, [], ◌∷◌, List, filter, length, All, Option, None, Some, refl, sym, ap, subst, ◌∙◌, arith}
-use Rattle.std.specs.Prelude.{nat_le, is_some, unwrap_or, Ok}
+use Rattle.std.specs.Prelude.{is_some, unwrap_or}
 use Rattle.std.proofs.lemmas.Bool.{leb-false, leb-true}
 use Rattle.std.proofs.lemmas.List.Elements.{All-cons, All-nil}
 use Rattle.rk_types.specs.NumberMap.{NumberMap, numbers}
@@ -12,7 +12,7 @@ use Rattle.rk_world.specs.CoordinatorStep.{coordinator_turn}
 use Rattle.rk_world.specs.Master.{Master, new_master}
 use Rattle.rk_world.specs.Premises.{IsMaster}
 use Rattle.rk_world.specs.Refusals.{worn}
-use Rattle.rk_world.specs.Step.{stepped_by, with_sends}
+use Rattle.rk_world.specs.Step.{with_sends}
 use Rattle.rk_world.specs.World.{has_crashed}
 use Rattle.rk_world.specs.declared.event.Event.TheVariants as events
 use Rattle.rk_lane.specs.Made.{IsMade, IsReady}
@@ -27,12 +27,7 @@ use Rattle.rk_lane.proofs.Refusing.{refused_fresh}
 -- what holds of the first masters and of the next one holds of one more
 pub one_more : (P : ℕ → Type 0) (count : ℕ) → ((master : ℕ) → IsMaster count master → P master) → P (count + 1)
     → (master : ℕ) → IsMaster (count + 1) master → P master
-one_more P count before here master there = by (nat_le master count) refl
-  where
-    by : (low : Bool) → nat_le master count ≡ low → P master
-    by true is = before master (record { first = there.first; last = leb-true master count is })
-    by false is =
-        let same : count + 1 ≡ master = omega (arith, there.last, leb-false master count is) in subst P same here
+one_more P count before here master there = grind (arith, leb-true, leb-false)
 
 -- what is none
 pub none_is : (it : Option ℕ) → is_some it ≡ false → it ≡ None
@@ -42,12 +37,7 @@ none_is (Some number) none = absurd (cc none)
 -- a turn of which nothing comes is an idle one
 idle_by : (parts : Parts) (node : Node) (stored : NumberMap Segments) → IsReady parts (events.Turn node) → IsMade parts (events.Turn node) (Gave None) parts quiet_seen
     → IsIdle (world_of parts stored) node
-idle_by parts node stored ready made = record {
-  may = ready.may.may;
-  leaves =
-      ap (stepped_by (world_of parts stored) (events.Turn node) (Gave None)) (refused_fresh (world_of parts []) (events.Turn node) ready.fresh ∙ made.allowed)
-      ∙ ap Ok (made.made stored);
-}
+idle_by parts node stored ready made = grind (arith, refused_fresh)
 
 -- masters under numbers from this one on, each of which has a property unless it has crashed: so all have that are left without the crashed ones
 live_each : (P : ℕ → Type 0) (crashed : ℕ → Bool) (first : ℕ) (masters : List (Option Master)) → ((place : ℕ) → place < length masters → crashed (first + place) ≡ false → P (first + place))

@@ -1,32 +1,14 @@
 -- What a lane that is well formed after an event has sent in it can be put on the wire.
 use Rattle.rk_lane.proofs.Words.{◌≡◌, ◌≤◌, ◌+◌, ℕ, List, [], ◌∷◌, fold, All, Some, refl, ◌∙◌, arith, All-cons, All-nil, get_other, get_same}
-use Rattle.rk_lane.proofs.Words.{get, Node, MOST_BACKUPS, Traffic, with_message, Message, IsThere, Limits, limits_of, MOST_MASTERS}
-use Rattle.rk_lane.proofs.Words.{IsFormedWithRoom, with_sends, World, keeps_to_top, IsFitToSend, IsSendable}
+use Rattle.rk_lane.proofs.Words.{get, Node, MOST_BACKUPS, Traffic, with_message, Message, Limits, limits_of, MOST_MASTERS, IsFormedWithRoom}
+use Rattle.rk_lane.proofs.Words.{with_sends, World, keeps_to_top, IsFitToSend, IsSendable}
 use Rattle.rk_types.specs.declared.node.Node.TheVariants as nodes
-use Rattle.rk_message.specs.Fields.{IsLawfulNode}
 use Rattle.rk_world.specs.Formed.{IsFormedWire}
 use Rattle.rk_world.specs.Limits.{IsFormedMessage}
 use Rattle.rk_inv_wellformed.proofs.room.Rises.{sent_all}
 
--- a node that is there can be spelled
-lawful_node : (limits : Limits) (node : Node) → limits.masters ≤ MOST_MASTERS → limits.backups ≤ MOST_BACKUPS → IsThere limits node → IsLawfulNode node
-lawful_node limits (nodes.Client client) masters backups there =
-    let fits = there.fits in
-    record { least_is = omega arith; fits = fits }
-lawful_node limits nodes.Coordinator masters backups there = there
-lawful_node limits (nodes.Master master) masters backups there =
-    let high = there.last in
-    record { least_is = omega arith; fits = omega arith }
-lawful_node limits (nodes.Backup backup) masters backups there =
-    let high = there.1 in
-    record { least_is = omega arith; fits = omega arith }
-
 sendable : (limits : Limits) (message : Message) → limits.masters ≤ MOST_MASTERS → limits.backups ≤ MOST_BACKUPS → IsFormedMessage limits message → IsSendable message
-sendable limits message masters backups formed = record {
-  from = lawful_node limits message.from masters backups formed.from;
-  to = lawful_node limits message.to masters backups formed.to;
-  body = formed.lawful;
-}
+sendable limits message masters backups formed = grind arith
 
 -- the wire after messages
 abbrev wire_after : Traffic → List Message → Traffic

@@ -1,6 +1,6 @@
 -- How messages are sent one after the other.
-use Rattle.rk_lane.proofs.Words.{◌≡◌, ◌≤◌, ◌<◌, ◌+◌, ◌==◌, ◌^◌, ℕ, suc, if◌then◌else◌, List, [], ◌∷◌, ◌++◌, length, fold, All, refl, sym}
-use Rattle.rk_lane.proofs.Words.{ap, subst, ◌∙◌, append_assoc, append-nil, arith, length-append, All-tail, Traffic, with_message, Message}
+use Rattle.rk_lane.proofs.Words.{◌≡◌, ◌≤◌, ◌<◌, ◌+◌, ◌==◌, ◌^◌, ℕ, suc, if◌then◌else◌, List, [], ◌∷◌, ◌++◌, length, fold, All, sym, ap}
+use Rattle.rk_lane.proofs.Words.{subst, ◌∙◌, append_assoc, append-nil, arith, length-append, All-tail, Traffic, with_message, Message}
 use Rattle.rk_lane.proofs.Words.{IsSendable, Sent}
 use Rattle.std.proofs.lemmas.List.Sums.{fold-append}
 use Rattle.std.proofs.lemmas.Bool.Decides.{nat_tests}
@@ -19,29 +19,13 @@ pub record IsSending (old : Traffic) (sends left : List Message) (wire : Traffic
 -- none is sent
 pub none_sent : (old : Traffic) (sends : List Message) (sent : Sent) → sent ≡ record { first = 0; count = 0; last = 0 } → All IsSendable sends
     → old.sent + length sends < 2 ^ 60 → IsSending old sends sends old sent
-none_sent old sends sent is lawful room =
-    let count = ap (λ (s : Sent). s.count) is in
-    let last = ap (λ (s : Sent). s.last) is in
-    record {
-      done = [];
-      parts = refl;
-      is = record { wire = refl; first = ap (λ (s : Sent). s.first) is; count = count; reached = omega arith; given = omega arith };
-      within = omega arith;
-      lawful = lawful;
-      room = room;
-    }
-
-not_none : (count k first number : ℕ) → count ≡ suc k → (if count == 0 then number else first) ≡ first
-not_none count k first number some = grind (arith, nat_tests)
+none_sent old sends sent is lawful room = grind arith
 
 -- the number of the first one stays, where one was sent
 first_stays : (old wire : Traffic) (done : List Message) (message : Message) (count first number : ℕ) → wire ≡ fold (λ now m. with_message m now) old done
     → count ≡ length done → first ≡ first_number old done → number ≡ wire.sent + 1
     → (if count == 0 then number else first) ≡ first_number old (done ++ message ∷ [])
-first_stays old wire [] message count first number wire_is none is next =
-    ap (λ (n : ℕ). if n == 0 then number else first) none ∙ next ∙ ap (λ (w : Traffic). w.sent + 1) wire_is
-first_stays old wire (one ∷ done) message count first number wire_is some is next =
-    not_none count (length done) first number some ∙ is
+first_stays old wire done message count first number wire_is none is next = grind (arith, nat_tests)
 
 -- one more is sent
 pub one_sent : (old : Traffic) (sends left rest : List Message) (message : Message) (wire now : Traffic) (sent more : Sent) (number : ℕ)

@@ -1,23 +1,18 @@
 -- An event of the parts of a lane and of its backups is one of the lane.
-use Rattle.rk_lane.proofs.Words.{◌≡◌, ◌≤◌, ℕ, Bool, true, false, cond, [], length, vec_capacity, Option, None, Some, IfOk, IfSome, Result}
-use Rattle.rk_lane.proofs.Words.{Ok, Err, refl, sym, ap, subst, ◌∙◌, Vec, NumberMap, option_map, option_or, Segments, BackupLane, IsMaster}
-use Rattle.rk_lane.proofs.Words.{comes_anyway, fault_of, refusal, worn, AllTell, HasRoom, Stepped, happened, stepped_by, told_by_replica}
-use Rattle.rk_lane.proofs.Words.{World, new_world, StepError, Event, Seen, IsAnswerOf, IsStepOf, MayComeTo, MayStep, IsHappened}
-use Rattle.rk_lane.proofs.Words.{IsUnhappened, AreNumbered, lane_of, IsSameLane, world_with, IsSameParts, IsKept, running_of, world_of}
-use Rattle.rk_lane.proofs.Words.{Inside, Parts}
-use Rattle.std.proofs.Common.{◌≢◌, IfErr, IsSomeAnd}
-use Rattle.std.specs.Int.{w32}
+use Rattle.rk_lane.proofs.Words.{arith, ◌≡◌, ℕ, Bool, false, cond, [], length, vec_capacity, Option, None, Some, IfOk, IfSome, Result, Ok}
+use Rattle.rk_lane.proofs.Words.{Err, refl, sym, ap, subst, ◌∙◌, Vec, NumberMap, option_map, option_or, Segments, BackupLane, comes_anyway}
+use Rattle.rk_lane.proofs.Words.{fault_of, refusal, worn, AllTell, HasRoom, Stepped, happened, stepped_by, told_by_replica, World}
+use Rattle.rk_lane.proofs.Words.{new_world, StepError, Event, Seen, IsAnswerOf, IsStepOf, MayComeTo, MayStep, IsHappened, IsUnhappened}
+use Rattle.rk_lane.proofs.Words.{lane_of, IsSameLane, world_with, IsSameParts, running_of, world_of, Inside, Parts}
+use Rattle.std.proofs.Common.{IfErr}
 use Rattle.rk_types.specs.declared.node.Node.TheVariants as nodes
-use Rattle.rk_entry.specs.Ends.{IsLawfulRange}
-use Rattle.rk_entry.specs.Numbers.{IsNumber}
-use Rattle.rk_world.specs.Premises.{MayHappen, MayTurn}
+use Rattle.rk_world.specs.Premises.{MayHappen}
 use Rattle.rk_world.specs.Runs.{IsCalmEvent}
 use Rattle.rk_world.specs.declared.error.StepError.TheVariants as errors
 use Rattle.rk_world.specs.declared.event.Event.TheVariants as events
-use Rattle.rk_lane.specs.Events.{IsRefused}
 use Rattle.rk_lane.specs.Happened.{IsToldAfter}
 use Rattle.rk_lane.specs.Lane.{IsLane}
-use Rattle.rk_lane.specs.Spent.{is_no_memory, is_out_of_memory}
+use Rattle.rk_lane.specs.Spent.{is_out_of_memory}
 use Rattle.rk_lane.proofs.Quiet.{masters_counted}
 
 -- ---- causes
@@ -40,12 +35,7 @@ module _ (w : World) (count : ℕ) (stored : NumberMap Segments) where
 
 -- what an event may name depends on how many masters there are
 pub may_happen_same : (w other : World) (event : Event) → w.coordinator.masters ≡ other.coordinator.masters → MayHappen w event → MayHappen other event
-may_happen_same w other (events.AddTablet tablet range master) same may = subst (λ (count : ℕ). IsNumber w32 1 tablet × IsLawfulRange range × IsMaster count master) same may
-may_happen_same w other (events.Turn node) same may = subst (λ (count : ℕ). MayTurn count node) same may
-may_happen_same w other (events.Migrate tablet to) same may = subst (λ (count : ℕ). IsMaster count to) same may
-may_happen_same w other (events.Crash master) same may = subst (λ (count : ℕ). IsMaster count master) same may
-may_happen_same w other (events.Notice master) same may = subst (λ (count : ℕ). IsMaster count master) same may
-may_happen_same w other _ same may = may
+may_happen_same w other event same may = grind arith
 
 -- whether a crash is calm depends on no backup
 pub calm_same : (w : World) (count : ℕ) (stored : NumberMap Segments) (event : Event) → IsCalmEvent (record w { backup_count = count; backups = stored }) event → IsCalmEvent w event
@@ -111,65 +101,15 @@ module _ {R : Type 0} (segments : R → Option Segments) (faults : R → ℕ) (l
         };
   }
 
-  -- it refused it
-  pub refusal_of_lane : (error : StepError) (spent : Bool) → spent ≡ is_no_memory error → IsUnhappened faults event lane.parts lane.backups.items new backups.items error
-      → IsRefused faults event (lane_of lane) (lane_of (lane_then spent)) error
-  refusal_of_lane error spent is unhappened = record {
-    cause = λ apart.
-        by_running (λ running. refusal (world_with (lane_of lane) running []) event ≡ Some error) lane.spent (running_of lane.parts) live
-        (refusal_same (world_of lane.parts []) (length lane.backups.items) [] event ∙ unhappened.cause apart);
-    same = λ apart.
-        λ i. record {
-          number = (unhappened.same apart i).number;
-          masters = length (unhappened.same apart i).masters.items;
-          ledger = (unhappened.same apart i).ledger;
-          running = cond ((is ∙ other_memory error apart ∙ sym live) i) None (Some (running_of (unhappened.same apart i)));
-          backups = unhappened.same_backups apart i;
-        };
-    spent = λ memory.
-        ap (λ (b : Bool). cond b None (Some (running_of new))) (is ∙ ap is_no_memory memory);
-    journal = unhappened.ledger.journal;
-    asked = unhappened.ledger.asked;
-    clients = unhappened.ledger.clients;
-    counts = unhappened.counts;
-  }
-    where
-      by_running : {X : Type 0} (P : X → Type 0) (spent : Bool) (x : X) → spent ≡ false → P x → IsSomeAnd (cond spent None (Some x)) P
-      by_running P true x is holds = absurd (cc is)
-      by_running P false x is holds = holds
-
-      other_memory : (error : StepError) → error ≢ errors.NoMemory → is_no_memory error ≡ false
-      other_memory errors.NoMemory apart = absurd (apart refl)
-      other_memory _ apart = refl
-
   -- it is one lane still
   pub same_lane : (spent : Bool) → IsSameParts lane.parts new → length backups.items ≡ length lane.backups.items → IsSameLane (lane_of lane) (lane_of (lane_then spent))
   same_lane spent same count = record { number = same.number; masters = same.masters; backups = count }
-
-  -- what is kept of it
-  pub lane_kept : (spent : Bool) → IsSameParts lane.parts new → length backups.items ≡ length lane.backups.items → AreNumbered backups.items → (spent ≡ false → IsKept new)
-      → IsLane (lane_then spent)
-  lane_kept spent same count numbered kept = record {
-    count = count ∙ is_lane.count ∙ sym same.backups;
-    numbered = numbered;
-    free = is_lane.free;
-    room = subst (λ (n : ℕ). n ≤ vec_capacity lane.replicas) (sym count) is_lane.room;
-    kept = kept;
-  }
 
   -- by what came of it: what is kept of the lane, and what it took
   pub lane_after : (answer : Result Seen StepError) (spent : Bool) → spent ≡ is_out_of_memory answer
       → IfOk answer (IsHappened segments faults event lane.parts lane.backups.items new backups.items)
       → IfErr answer (IsUnhappened faults event lane.parts lane.backups.items new backups.items) → IsLane (lane_then spent)
-  lane_after (Ok seen) spent is took refused = lane_kept spent took.lane took.count took.numbered (λ lives. took.kept)
-  lane_after (Err error) spent is took refused =
-      lane_kept spent refused.lane refused.count refused.numbered
-      (λ lives.
-      subst IsKept
-      (sym (refused.same (λ memory.
-      let never : true ≡ false = ap is_no_memory (sym memory) ∙ sym is ∙ lives in
-      cc never)))
-      (is_lane.kept live))
+  lane_after answer spent is took refused = grind (arith, vec_capacity)
 
   pub step_after : (answer : Result Seen StepError) (spent : Bool) → spent ≡ is_out_of_memory answer → MayStep (world_of lane.parts []) event
       → IfOk answer (IsHappened segments faults event lane.parts lane.backups.items new backups.items)

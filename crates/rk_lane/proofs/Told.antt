@@ -47,9 +47,7 @@ stored_then number change stored (Some its) = insert stored number (change its)
 -- told segments that changed stay told
 pub told_change : (change : Segments → Segments) (old new : Option Segments) (segments : Segments) → WhereTold (λ a b. b ≡ change a) old new → old ≡ Some segments
     → new ≡ Some (change segments)
-told_change change None new segments told is = absurd (cc is)
-told_change change (Some a) None segments told is = absurd told
-told_change change (Some a) (Some b) segments told is = let same : a ≡ segments = cc is in ap Some (told ∙ ap change same)
+told_change change old new segments told is = grind arith
 
 module _ {R : Type 0} (before : List (BackupLane R)) (number : ℕ) (old new : BackupLane R)
     (first : 1 ≤ number) (there : slice_get before (number - 1) ≡ Some old) where
@@ -58,14 +56,7 @@ module _ {R : Type 0} (before : List (BackupLane R)) (number : ℕ) (old new : B
 
   -- they stay numbered
   pub numbered_after : number_of new ≡ number_of old → AreNumbered before → AreNumbered after
-  numbered_after same numbered place backup at =
-      ⊎_elim
-      (λ (is : place ≡ number - 1).
-      let it : Some new ≡ Some backup = sym (set_here before (number - 1) old new there) ∙ ap (slice_get after) (sym is) ∙ at in
-      let same_backup : new ≡ backup = cc it in
-      ap number_of (sym same_backup) ∙ same ∙ numbered place old (ap (slice_get before) is ∙ there))
-      (λ (apart : place ≡ number - 1 → ⊥). numbered place backup (sym (set_other before (number - 1) place new apart) ∙ at))
-      (cases_eq place (number - 1))
+  numbered_after same numbered place backup at = grind (arith, set_here, number_of, set_other, cases_eq)
 
   -- ---- faults
 

@@ -1,6 +1,6 @@
 -- The answers that recorded receipts report are among those of the accepted records.
-use Rattle.std.proofs.Common.{◌≡◌, ℕ, zero, suc, ◌+◌, Bool, true, false, cond, List, [], ◌∷◌, ◌++◌, Some, length, length-append, refl}
-use Rattle.std.proofs.Common.{sym, ap, ◌∙◌, subst, arith, Contains, filter, map, slice_get}
+use Rattle.std.proofs.Common.{◌≡◌, ℕ, zero, suc, ◌+◌, true, List, [], ◌∷◌, ◌++◌, Some, length, length-append, refl, sym, subst, arith}
+use Rattle.std.proofs.Common.{Contains, filter, map, slice_get}
 use Rattle.rk_inv_base.proofs.Words.{length-map, Contains-append_left, Contains-append_right, sum_by-cons, Placed, Receipt, journal_of}
 use Rattle.rk_inv_base.proofs.Words.{Answered}
 use Rattle.std.specs.List.{count_by}
@@ -17,26 +17,14 @@ accepted_of journal = count_by (λ placed. placed.accepted) journal
 pub length_answers : (lane : ℕ) (journals : List (List Placed)) → length (answers_from lane journals) ≡ accepted_in journals
 length_answers lane [] = refl
 length_answers lane (journal ∷ journals) =
-    let own : List Placed = filter (λ placed. placed.accepted) journal in
-    let joined = length-append (map (answer_in lane) own) (answers_from (lane + 1) journals) in
-    let mapped = length-map own (answer_in lane) in
-    let kept = length-filter (λ (placed : Placed). placed.accepted) journal in
-    let rest = length_answers (lane + 1) journals in
-    let split = sum_by-cons accepted_of journal journals in
-    omega (arith, joined, mapped, kept, rest, split)
+    search (length-append, length-map, length-filter, sum_by-cons, (length_answers (lane + 1) journals))
 
 -- an accepted record of a journal
 accepted_stands : (lane : ℕ) (journal : List Placed) (place : ℕ) (placed : Placed) → slice_get journal place ≡ Some placed
     → placed.accepted ≡ true
     → Contains (map (answer_in lane) (filter (λ placed. placed.accepted) journal)) (answer_in lane placed)
 accepted_stands lane [] place placed at accepted = absurd (cc at)
-accepted_stands lane (first ∷ rest) zero placed at accepted =
-    let is : first ≡ placed = cc at in
-    let flag : first.accepted ≡ true = ap (λ (p : Placed). p.accepted) is ∙ accepted in
-    let others : List Placed = filter (λ placed. placed.accepted) rest in
-    subst (λ (b : Bool). Contains (map (answer_in lane) (cond b (first ∷ others) others)) (answer_in lane placed)) (sym flag)
-    (subst (λ (p : Placed). Contains (answer_in lane first ∷ map (answer_in lane) others) (answer_in lane p)) is
-    (first_in (answer_in lane first) (map (answer_in lane) others)))
+accepted_stands lane (first ∷ rest) zero placed at accepted = grind (arith, first_in, first.accepted, placed.accepted)
 accepted_stands lane (first ∷ rest) (suc place) placed at accepted =
     let later = accepted_stands lane rest place placed at accepted in
     let others : List Placed = filter (λ placed. placed.accepted) rest in

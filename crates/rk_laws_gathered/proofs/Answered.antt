@@ -33,10 +33,7 @@ module _ (masters : ℕ) (cluster : Cluster) (gathered : AreGathered masters clu
       omega (arith, last, none))
 
   few : accepted_in journals ≤ length receipts
-  few =
-      let room = lanes_room cluster.lanes counted.lanes in
-      let calls = counted.calls in
-      omega (arith, room, calls, made)
+  few = grind (arith, lanes_room, made)
 
   -- there are as many accepted records as receipts
   same : accepted_in journals ≡ length receipts
@@ -51,10 +48,7 @@ module _ (masters : ℕ) (cluster : Cluster) (gathered : AreGathered masters clu
       omega (arith, long, many, answers)
 
   none_open : (w : World) → Contains cluster.lanes w → (client : ℕ) → HasOpenCall w.ledger client → ⊥
-  none_open w stands client opened =
-      let room = open_lanes_room cluster.lanes counted.lanes w stands client opened in
-      let calls = counted.calls in
-      omega (arith, room, calls, made, same)
+  none_open w stands client opened = grind (arith, open_lanes_room, made, same)
 
   sound_at : (lane : ℕ) → lane < length cluster.lanes → IsSound (get_or cluster.lanes lane (new_world 0 0 0))
   sound_at lane inside =

@@ -1,6 +1,6 @@
 -- Where lanes have counted their calls, and were asked at most as many as sessions made that ended, each call was answered.
-use Rattle.std.proofs.Common.{◌≡◌, ℕ, zero, suc, ◌+◌, ◌<◌, ◌≤◌, Bool, true, false, List, [], ◌∷◌, Option, Some, None, get_or, refl, sym}
-use Rattle.std.proofs.Common.{ap, ◌∙◌, subst, ⊎_elim, arith, Contains, IfSome, map, not, All, sum_by}
+use Rattle.std.proofs.Common.{◌≡◌, ℕ, ◌+◌, ◌≤◌, Bool, true, false, List, [], ◌∷◌, Option, Some, None, refl, sym, ap, ◌∙◌, subst, ⊎_elim}
+use Rattle.std.proofs.Common.{arith, Contains, IfSome, map, not, All, sum_by}
 use Rattle.rk_inv_base.proofs.Words.{All-cons, All-contains, All-head, All-nil, All-tail, sum_by-cons, Placed, Ledger, asked_by, is_accepted, World}
 use Rattle.rk_inv_base.proofs.Words.{LastCall, IsAccepted, IsLastCall, WasAsked, IsSound}
 use Rattle.std.specs.List.{count_by}
@@ -87,10 +87,7 @@ last_accepted w sound client none = by_last (asked_by w.ledger client) refl
         record {
           placed = it.placed;
           stands = it.stands;
-          call_is =
-              ⊎_elim (λ (same : last.call ≡ it.placed.call). sym same)
-              (λ (earlier : (it.placed.call.seq < last.call.seq) × IsAccepted w.ledger.journal it.placed.call). absurd
-              (omega (arith, earlier.0, it.seq_is))) was;
+          call_is = grind (arith, w.ledger.journal);
           accepted = it.accepted;
         }
 

@@ -1,9 +1,9 @@
 -- A lane that has counted its calls goes on doing so, at each event and at each client's turn and answer.
-use Rattle.std.proofs.Common.{◌≡◌, ℕ, Bool, true, false, cond, Option, Some, None, refl, sym, ap, ◌∙◌, subst, not}
+use Rattle.std.proofs.Common.{◌≡◌, ℕ, true, Option, Some, None, refl, sym, ap, ◌∙◌, subst, not}
 use Rattle.rk_inv_base.proofs.Words.{and_parts, get, Call, Outcome, Reply, Body, Message, Called, accept, accept_by, accepting, ask}
 use Rattle.rk_inv_base.proofs.Words.{is_asked, is_last, ledger_asked, ledger_requested, ledger_taken, Session, is_accepted, Ledger}
-use Rattle.rk_inv_base.proofs.Words.{asked_by, with_asked, MayAct, accept_refusal, world_visited, happened, World, StepError, Event}
-use Rattle.rk_inv_base.proofs.Words.{LastCall, IsRecordAt, IsSound}
+use Rattle.rk_inv_base.proofs.Words.{asked_by, MayAct, accept_refusal, world_visited, happened, World, StepError, Event, LastCall}
+use Rattle.rk_inv_base.proofs.Words.{IsRecordAt, IsSound}
 use Rattle.rk_world.specs.declared.event.Taken.{Taken}
 use Rattle.rk_world.specs.Refusals.{is_for}
 use Rattle.rk_inv_events.proofs.events.Clients.{is_last_there}

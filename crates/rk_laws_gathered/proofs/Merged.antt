@@ -1,6 +1,5 @@
 -- Where each record of a mutation is accepted, the merged history has the accepted records and nothing else.
-use Rattle.std.proofs.Common.{◌≡◌, ℕ, suc, ◌+◌, Bool, true, false, ◌||◌, cond, List, [], ◌∷◌, ◌++◌, refl, sym, ap, ◌∙◌, subst, filter}
-use Rattle.std.proofs.Common.{map, All}
+use Rattle.std.proofs.Common.{arith, ◌≡◌, ℕ, suc, ◌+◌, Bool, true, ◌||◌, cond, List, [], ◌∷◌, ◌++◌, refl, ap, ◌∙◌, subst, filter, map, All}
 use Rattle.rk_inv_base.proofs.Words.{map-append, All-head, All-tail, Placed, Line, is_mutation, Answered}
 use Rattle.std.specs.Prelude.{IsPermutation}
 use Rattle.std.proofs.lemmas.List.Sorted.{IsPermutation-cons, IsPermutation-map, IsPermutation-middle, IsPermutation-refl}
@@ -30,9 +29,7 @@ ordered_among (line ∷ lines) =
 
 -- a record that is kept is accepted, if each record of a mutation is
 kept_is_accepted : (accepted mutation : Bool) → (mutation ≡ true → accepted ≡ true) → (accepted || mutation) ≡ accepted
-kept_is_accepted true mutation is = refl
-kept_is_accepted false true is = sym (is refl)
-kept_is_accepted false false is = refl
+kept_is_accepted accepted mutation is = grind arith
 
 kept_are_accepted : (journal : List Placed) → All (λ placed. is_mutation placed.call.op ≡ true → placed.accepted ≡ true) journal
     → filter is_kept journal ≡ filter (λ placed. placed.accepted) journal

@@ -1,11 +1,10 @@
 -- A ledger that has counted its calls goes on doing so: when records are added that are not accepted, when a client asks, and when it takes
 -- the answer to its open call.
 use Rattle.std.proofs.Common.{◌≡◌, ◌≢◌, ℕ, zero, suc, ◌+◌, ◌≤◌, Bool, true, false, ◌&&◌, ◌||◌, cond, List, [], ◌∷◌, ◌++◌, Option, Some}
-use Rattle.std.proofs.Common.{None, length, refl, sym, ap, ◌∙◌, subst, ⊎_elim, arith, Contains, not, slice_get, unwrap_or, All, AllPairs}
-use Rattle.std.proofs.Common.{eq-eqb}
-use Rattle.rk_inv_base.proofs.Words.{list_any, and_from, cases_eq, false≢true, All-contains, All-cons, All-contains_itself, All-head}
-use Rattle.rk_inv_base.proofs.Words.{All-nil, All-weaker, list_any-append, sum_by-cons, get_other, Placed, accepted_at, as_accepted}
-use Rattle.rk_inv_base.proofs.Words.{is_accepted, is_of_call, Ledger, asked_by, with_asked, LastCall}
+use Rattle.std.proofs.Common.{None, length, refl, sym, ap, ◌∙◌, subst, ⊎_elim, arith, Contains, slice_get, unwrap_or, All, AllPairs, eq-eqb}
+use Rattle.rk_inv_base.proofs.Words.{list_any, and_from, cases_eq, false≢true, All-contains, All-cons, All-contains_itself, All-weaker}
+use Rattle.rk_inv_base.proofs.Words.{list_any-append, sum_by-cons, get_other, Placed, accepted_at, as_accepted, is_accepted, is_of_call}
+use Rattle.rk_inv_base.proofs.Words.{Ledger, asked_by, with_asked, LastCall}
 use Rattle.std.specs.List.{count_by}
 use Rattle.std.proofs.lemmas.List.Kept.{AllPairs-cons}
 use Rattle.rk_world.specs.Ledger.{new_ledger, with_accepted}
@@ -19,29 +18,12 @@ use Rattle.rk_laws_gathered.proofs.Pigeonhole.{first_in, in_cases, later_in}
 open_before : (before after : List Placed) (last : Option LastCall)
     → ((client seq : ℕ) → is_accepted before client seq ≡ true → is_accepted after client seq ≡ true) → is_open after last ≡ true
     → is_open before last ≡ true
-open_before before after None stay is = is
-open_before before after (Some last) stay is =
-    by_test (is_accepted before last.call.client last.call.seq) (is_accepted after last.call.client last.call.seq)
-    (stay last.call.client last.call.seq) is
-  where
-    by_test : (was now : Bool) → (was ≡ true → now ≡ true) → not now ≡ true → not was ≡ true
-    by_test false now stay is = refl
-    by_test true now stay is = absurd (false≢true (sym (ap not (stay refl)) ∙ is))
-
--- a ledger with at most these accepted records and open calls, and at least these asked calls
-counted_still : (before after : Ledger) → accepted_count after ≤ accepted_count before → before.asked ≤ after.asked
-    → ((client : ℕ) → HasOpenCall after client → HasOpenCall before client)
-    → HasCountedCalls before → HasCountedCalls after
-counted_still before after fewer more stay counted clients apart opened =
-    let was = counted clients apart (All-weaker (HasOpenCall after) (HasOpenCall before) stay clients opened) in
-    omega (arith, was, fewer, more)
+open_before before after last stay is = grind (arith, is_accepted, false≢true)
 
 -- ---- a new lane
 
 pub new_counted : HasCountedCalls new_ledger
-new_counted [] apart opened = omega arith
-new_counted (client ∷ clients) apart opened =
-    let first = All-head (HasOpenCall new_ledger) client clients opened in absurd (false≢true first)
+new_counted holds apart opened = grind (arith, false≢true)
 
 -- ---- more records
 
@@ -50,18 +32,7 @@ pub grown_counted : (before after : Ledger) (more : List Placed) → after.journ
     → ((client : ℕ) → asked_by after client ≡ asked_by before client)
     → accepted_count after ≡ accepted_count before → after.asked ≡ before.asked → HasCountedCalls before → HasCountedCalls after
 grown_counted before after more journal_is clients accepted asked counted =
-    counted_still before after (omega (arith, accepted)) (omega (arith, asked)) opened counted
-  where
-    stay : (client seq : ℕ) → is_accepted before.journal client seq ≡ true → is_accepted after.journal client seq ≡ true
-    stay client seq is =
-        let test : Placed → Bool = λ placed. placed.accepted && is_of_call client seq placed in
-        ap (λ (journal : List Placed). is_accepted journal client seq) journal_is ∙ list_any-append test before.journal more
-        ∙ ap (λ (b : Bool). b || list_any test more) is
-
-    opened : (client : ℕ) → HasOpenCall after client → HasOpenCall before client
-    opened client is =
-        open_before before.journal after.journal (asked_by before client) stay
-        (subst (λ (last : Option LastCall). is_open after.journal last ≡ true) (clients client) is)
+    grind (arith, is_accepted, is_of_call, list_any-append, open_before, asked_by)
 
 -- ---- a call is asked
 
@@ -74,13 +45,7 @@ record AreOthers (one : ℕ) (all : List ℕ) : Type 0 where
   pub few : length all ≤ length list + 1
 
 others : (one : ℕ) (all : List ℕ) → AllPairs (λ a b. a ≢ b) all → AreOthers one all
-others one [] apart = record {
-  list = [];
-  apart = pairs_none (λ a b. a ≢ b);
-  among = λ n stands. stands;
-  other = All-nil (λ n. n ≢ one);
-  few = omega arith;
-}
+others one [] apart = grind (arith, pairs_none)
 others one (first ∷ rest) apart =
     let R : ℕ → ℕ → Type 0 = λ a b. a ≢ b in
     let before : All (λ n. first ≢ n) rest = pairs_head R first rest apart in
@@ -134,15 +99,7 @@ still_found : (client seq : ℕ) (journal : List Placed) (place : ℕ) (placed :
     → is_accepted journal client seq ≡ true
     → is_accepted (accepted_at journal place (Some placed)) client seq ≡ true
 still_found client seq [] place placed at is = is
-still_found client seq (first ∷ rest) zero placed at is =
-    let same : first ≡ placed = cc at in
-    by_tests first.accepted (is_of_call client seq first) (is_of_call client seq placed) (list_any (test_of client seq) rest)
-    (ap (is_of_call client seq) same) is
-  where
-    by_tests : (accepted of of_placed later : Bool) → of ≡ of_placed → ((accepted && of) || later) ≡ true → (of_placed || later) ≡ true
-    by_tests true of of_placed later same is = ap (λ (b : Bool). b || later) (sym same) ∙ is
-    by_tests false of true later same is = refl
-    by_tests false of false later same is = is
+still_found client seq (first ∷ rest) zero placed at is = grind (arith, is_of_call, first.accepted)
 still_found client seq (first ∷ rest) (suc place) placed at is =
     later (test_of client seq first) (list_any (test_of client seq) rest) (is_accepted (accepted_at rest place (Some placed)) client seq)
     (still_found client seq rest place placed at) is
@@ -158,12 +115,7 @@ now_found : (client seq : ℕ) (journal : List Placed) (place : ℕ) (placed : P
 now_found client seq [] place placed at of = absurd (cc at)
 now_found client seq (first ∷ rest) zero placed at of = ap (λ (b : Bool). b || list_any (test_of client seq) rest) of
 now_found client seq (first ∷ rest) (suc place) placed at of =
-    right (test_of client seq first) (is_accepted (accepted_at rest place (Some placed)) client seq)
-    (now_found client seq rest place placed at of)
-  where
-    right : (a b : Bool) → b ≡ true → (a || b) ≡ true
-    right true b is = refl
-    right false b is = is
+    grind (arith, is_accepted, accepted_at, (now_found client seq rest place placed at of))
 
 abbrev weight : Placed → ℕ
 weight placed = cond {A = ℕ} placed.accepted 1 0
@@ -191,10 +143,7 @@ module _ (ledger : Ledger) (client place : ℕ) (placed : Placed) (last : LastCa
   after = record ledger { journal = now }
 
   closed : is_open now (asked_by ledger client) ≡ false
-  closed =
-      let of : is_of_call last.call.client last.call.seq placed ≡ true =
-      and_from _ _ (eq-eqb placed.call.client last.call.client client_is) (eq-eqb placed.call.seq last.call.seq seq_is) in
-      ap (is_open now) asked ∙ ap not (now_found last.call.client last.call.seq ledger.journal place placed at of)
+  closed = grind (arith, is_of_call, and_from, eq-eqb, now_found)
 
   open_still : (n : ℕ) → HasOpenCall after n → HasOpenCall ledger n
   open_still n is =
@@ -215,6 +164,4 @@ module _ (ledger : Ledger) (client place : ℕ) (placed : Placed) (last : LastCa
       omega (arith, was, few)
 
   pub accepted_counted : HasCountedCalls ledger → HasCountedCalls (with_accepted ledger place)
-  accepted_counted counted =
-      subst (λ (found : Option Placed). HasCountedCalls (record ledger { journal = accepted_at ledger.journal place found })) (sym at)
-      (counted_now counted)
+  accepted_counted counted = grind (arith, accepted_at, counted_now)

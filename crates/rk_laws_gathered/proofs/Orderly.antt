@@ -1,97 +1,44 @@
 -- A session stays orderly when its client asks a call, takes its turn, and takes an answer with a stamp above all that it has seen.
-use Rattle.std.proofs.Common.{◌≡◌, ◌==◌, ℕ, ◌+◌, ◌<◌, ◌≤◌, Bool, true, false, cond, List, [], ◌∷◌, Option, Some, None, length}
-use Rattle.std.proofs.Common.{length-append, refl, sym, ap, ◌∙◌, subst, arith, IfSome, max, option_map, All}
-use Rattle.rk_inv_base.proofs.Words.{All-contains, All-nil, All-push, All-weaker, get, Call, Op, Outcome, Placed, Receipt, Located, Reply}
-use Rattle.rk_inv_base.proofs.Words.{Message, accepting, asking, asking_by, fits_with, is_asked, untouched, ClientTurn, Session}
-use Rattle.rk_inv_base.proofs.Words.{call_lane, new_session, session_turn, turn_of, asked_by, MayAct, World, LastCall, MayAccept}
-use Rattle.rk_inv_base.proofs.Words.{IsRecordAt, IsAfterSeen, view, IsSound}
-use Rattle.rk_world.specs.Client.{MOST_REQUESTS, busy, done, looking_up, range_of, receipt_of, session_calling, turn_by, turn_to}
-use Rattle.rk_world.specs.Client.{with_next_call, with_range, without_range}
+use Rattle.std.proofs.Common.{◌≡◌, ℕ, ◌<◌, ◌≤◌, true, List, [], ◌∷◌, Option, Some, None, length-append, sym, ap, ◌∙◌, subst, arith, IfSome}
+use Rattle.std.proofs.Common.{max, All}
+use Rattle.rk_inv_base.proofs.Words.{All-contains, All-push, All-weaker, get, Call, Op, Outcome, Placed, Receipt, Reply, Message, accepting}
+use Rattle.rk_inv_base.proofs.Words.{asking, asking_by, fits_with, is_asked, ClientTurn, Session, call_lane, new_session, session_turn}
+use Rattle.rk_inv_base.proofs.Words.{turn_of, asked_by, MayAct, World, LastCall, MayAccept, IsRecordAt, IsAfterSeen, view, IsSound}
+use Rattle.rk_world.specs.Client.{busy, done, receipt_of, session_calling, with_next_call, with_range, without_range}
 use Rattle.rk_world.specs.Refusals.{is_for}
 use Rattle.rk_inv_base.proofs.calls.Accepted.{stands_there}
 use Rattle.rk_inv_events.proofs.events.Clients.{is_last_there, may_accept}
-use Rattle.rk_runs.specs.history.Agreement.{AreRisingAbove, waiting}
+use Rattle.rk_runs.specs.history.Agreement.{waiting}
 use Rattle.rk_runs.proofs.history.Receipts.{numbered_push, rising_push}
 use Rattle.rk_runs.proofs.history.Taking.{accepting_taken}
-use Rattle.rk_world.specs.Calls.{Visited}
 use Rattle.rk_inv_wellformed.proofs.maps.Lists.{either_way}
-use Rattle.rk_laws_gathered.specs.Answers.{AreOwn}
 use Rattle.rk_laws_gathered.specs.Gathered.{IsOrderly}
 
 pub new_orderly : (client : ℕ) → IsOrderly client (new_session client)
-new_orderly client = record {
-  client_is = refl;
-  receipts = record { numbered = tt; calls = All-nil _ };
-  last = refl;
-  outstanding = tt;
-  rising = tt;
-  seen = All-nil _;
-}
+new_orderly client = grind arith
 
 module _ (client : ℕ) (session : Session) (orderly : IsOrderly client session) where
   -- ---- a call
 
   -- a session that has no call outstanding asks its next one
   pub next_orderly : (table : ℕ) (key : List ℕ) (op : Op) → session.outstanding ≡ None → IsOrderly client (with_next_call session table key op)
-  next_orderly table key op none =
-      let last = orderly.last in
-      let is = ap waiting none in
-      record {
-        client_is = orderly.client_is;
-        receipts = orderly.receipts;
-        last = omega (arith, last, is);
-        outstanding = (orderly.client_is, refl);
-        rising = orderly.rising;
-        seen = orderly.seen;
-      }
+  next_orderly table key op none = grind arith
 
   pub calling_orderly : (table : ℕ) (key : List ℕ) (op : Op) → IsOrderly client (session_calling session table key op (busy session))
-  calling_orderly table key op = by_out session.outstanding refl
-    where
-      by_out : (out : Option Call) → session.outstanding ≡ out
-          → IsOrderly client (session_calling session table key op (option_map (λ (call : Call). call.seq) out))
-      by_out None is = next_orderly table key op is
-      by_out (Some call) is = orderly
+  calling_orderly table key op = grind (arith, next_orderly)
 
   -- ---- a turn
 
   -- what is kept of a session whose ranges or requests change
   pub ranged : (now : Session) → IsOrderly client (record session { requests = now.requests; ranges = now.ranges; request = now.request })
-  ranged now = record {
-    client_is = orderly.client_is;
-    receipts = orderly.receipts;
-    last = orderly.last;
-    outstanding = orderly.outstanding;
-    rising = orderly.rising;
-    seen = orderly.seen;
-  }
-
-  turned_orderly : (call : Call) (found : Option Located) → IsOrderly client (turn_by session call found).session
-  turned_orderly call None = ranged (looking_up session call).session
-  turned_orderly call (Some located) =
-      either_way (λ (turned : ClientTurn). IsOrderly client turned.session) (session.requests == MOST_REQUESTS) looked_up (by_owner located.owner)
-    where
-      looked_up : IsOrderly client (looking_up session call).session
-      looked_up = ranged (looking_up session call).session
-
-      by_owner : (owner : Option ℕ) → IsOrderly client (turn_to session call located.tablet owner).session
-      by_owner None = looked_up
-      by_owner (Some master) = ranged (turn_to session call located.tablet (Some master)).session
+  ranged now = grind arith
 
   pub turn_orderly : (out : Option Call) (turned : ClientTurn) → turn_of session out ≡ Some turned → IsOrderly client turned.session
-  turn_orderly None turned is = absurd (cc is)
-  turn_orderly (Some call) turned is =
-      let same : turn_by session call (range_of session call) ≡ turned = cc is in
-      subst (λ (turned : ClientTurn). IsOrderly client turned.session) same (turned_orderly call (range_of session call))
+  turn_orderly out turned is = grind (arith, ranged, either_way)
 
   pub asking_orderly : (w : World) (out : Option Call) → IsOrderly client (asking w session out).session
   asking_orderly w None = orderly
-  asking_orderly w (Some call) =
-      either_way (λ (visited : Visited). IsOrderly client visited.session) (fits_with w session call) (by_turn (session_turn session) refl) orderly
-    where
-      by_turn : (turn : Option ClientTurn) → session_turn session ≡ turn → IsOrderly client (asking_by w session call turn).session
-      by_turn None is = orderly
-      by_turn (Some turned) is = turn_orderly session.outstanding turned is
+  asking_orderly w (Some call) = grind (arith, either_way, fits_with, session_turn, asking_by, turn_orderly)
 
   -- ---- an answer
 

@@ -1,11 +1,10 @@
 -- The receipts of sessions that ended: whose they are, and that no two are of one call.
 use Rattle.std.proofs.Common.{◌≡◌, ℕ, ◌+◌, ◌<◌, ◌≤◌, T, true, false, cond, List, [], ◌∷◌, Some, length, length-append, refl, sym, subst}
 use Rattle.std.proofs.Common.{⊎_elim, arith, Contains, All, is_lt, nat_cmp}
-use Rattle.rk_inv_base.proofs.Words.{eq_by_cmp, All-append, All-cons, All-contains, All-head, All-nil, All-tail, All-weaker}
-use Rattle.rk_inv_base.proofs.Words.{Contains-append_cases, Contains-append_left, Contains-append_right, sum_by-cons, EachIn, IsInOrder}
-use Rattle.rk_inv_base.proofs.Words.{NumberMap, get, Receipt, Session}
+use Rattle.rk_inv_base.proofs.Words.{eq_by_cmp, All-append, All-contains, All-head, All-nil, All-tail, All-weaker, Contains-append_cases}
+use Rattle.rk_inv_base.proofs.Words.{Contains-append_left, Contains-append_right, sum_by-cons, EachIn, IsInOrder, NumberMap, get, Receipt}
+use Rattle.rk_inv_base.proofs.Words.{Session}
 use Rattle.std.specs.FinMap.Entries.{below_all}
-use Rattle.std.proofs.lemmas.List.Kept.{AllPairs-cons}
 use Rattle.rk_model.specs.Ordered.{IsNumberedFrom}
 use Rattle.rk_inv_wellformed.proofs.maps.Maps.{All_pairs, first, get_first, get_later, is_below, order_tail, second}
 use Rattle.rk_laws_gathered.specs.Answers.{AreOfDistinctCalls, AreOwn, IsSameCall}
@@ -20,21 +19,11 @@ Apart a b = IsSameCall a.call b.call → ⊥
 -- later receipts have later seqs
 later_seqs : (seq : ℕ) (receipts : List Receipt) → IsNumberedFrom seq receipts → All (λ receipt. seq ≤ receipt.call.seq) receipts
 later_seqs seq [] numbered = All-nil (λ receipt. seq ≤ receipt.call.seq)
-later_seqs seq (receipt ∷ receipts) numbered =
-    let is = numbered.0 in
-    All-cons (λ (r : Receipt). seq ≤ r.call.seq) receipt receipts (omega (arith, is))
-    (All-weaker (λ (r : Receipt). seq + 1 ≤ r.call.seq) (λ (r : Receipt). seq ≤ r.call.seq) (λ r later. omega (arith, later)) receipts
-    (later_seqs (seq + 1) receipts numbered.1))
+later_seqs seq (receipt ∷ receipts) numbered = grind (arith, numbered.0, numbered.1, (later_seqs (seq + 1) receipts numbered.1))
 
 own_apart : (seq : ℕ) (receipts : List Receipt) → IsNumberedFrom seq receipts → AreOfDistinctCalls receipts
 own_apart seq [] numbered = pairs_none Apart
-own_apart seq (receipt ∷ receipts) numbered =
-    let is = numbered.0 in
-    AllPairs-cons Apart receipt receipts
-    (All-weaker (λ (r : Receipt). seq + 1 ≤ r.call.seq) (Apart receipt)
-    (λ r later same. let one = same.1 in omega (arith, later, is, one)) receipts
-    (later_seqs (seq + 1) receipts numbered.1))
-    (own_apart (seq + 1) receipts numbered.1)
+own_apart seq (receipt ∷ receipts) numbered = grind (arith, later_seqs, numbered.0, numbered.1, (own_apart (seq + 1) receipts numbered.1))
 
 -- ---- all receipts
 
@@ -45,9 +34,16 @@ HasOwn client session = AreOwn client session.receipts
 greater : (n : ℕ) (sessions : NumberMap Session) → T (below_all nat_cmp n sessions) → All (λ entry. n < entry.0) sessions
 greater n [] below = All-nil (λ entry. n < entry.0)
 greater n (entry ∷ later) below =
-    All-cons (λ (e : ℕ × Session). n < e.0) entry later
-    (is_below n entry.0 (first (is_lt (nat_cmp n entry.0)) (below_all nat_cmp n later) below))
-    (greater n later (second (is_lt (nat_cmp n entry.0)) (below_all nat_cmp n later) below))
+    grind (
+      arith,
+      is_below,
+      first,
+      is_lt,
+      nat_cmp,
+      second,
+      entry.0,
+      (greater n later (second (is_lt (nat_cmp n entry.0)) (below_all nat_cmp n later) below)),
+    )
 
 -- a receipt of one client is of no call of clients with greater numbers
 beside : (client : ℕ) (receipt : Receipt) → receipt.call.client ≡ client → (sessions : NumberMap Session)

@@ -1,20 +1,18 @@
 -- What an answer counts: an answer to its call accepts one record more, which was not accepted before, and gives the client one receipt more.
-use Rattle.std.proofs.Common.{◌≡◌, ◌==◌, ℕ, zero, suc, ◌+◌, ◌<◌, Bool, true, false, cond, List, [], ◌∷◌, Option, Some, None}
-use Rattle.std.proofs.Common.{length-append, refl, sym, ap, subst, ◌∙◌, arith, Contains, IfSome, slice_get}
-use Rattle.rk_inv_base.proofs.Words.{All-contains, sum_by-cons, get, Answer, Call, Outcome, Placed, Located, Reply, Body, Message}
-use Rattle.rk_inv_base.proofs.Words.{Visited, accepting, is_asked, is_asked_here, ledger_taken, taking, untouched, Session, call_lane}
-use Rattle.rk_inv_base.proofs.Words.{accepted_at, as_accepted, Ledger, asked_by, MayAct, World, LastCall, IsAccepted, MayAccept}
-use Rattle.rk_inv_base.proofs.Words.{IsRecordAt, IsAfterSeen, view, IsSound}
+use Rattle.std.proofs.Common.{◌≡◌, ℕ, zero, suc, ◌+◌, ◌<◌, Bool, true, false, cond, List, [], ◌∷◌, Option, Some, None, length-append, refl}
+use Rattle.std.proofs.Common.{sym, ap, subst, ◌∙◌, arith, Contains, IfSome, slice_get}
+use Rattle.rk_inv_base.proofs.Words.{All-contains, sum_by-cons, get, Call, Outcome, Placed, Reply, Body, Message, Visited, accepting}
+use Rattle.rk_inv_base.proofs.Words.{is_asked, is_asked_here, ledger_taken, taking, untouched, Session, accepted_at, as_accepted, asked_by}
+use Rattle.rk_inv_base.proofs.Words.{MayAct, World, LastCall, IsAccepted, MayAccept, IsRecordAt, IsAfterSeen, view, IsSound}
 use Rattle.std.specs.List.{count_by}
-use Rattle.rk_world.specs.Client.{accepted_by, accepted_of, answer_accepted, done, has_call, ignoring, receipt_of, session_accept}
-use Rattle.rk_world.specs.Client.{with_range}
+use Rattle.rk_world.specs.Client.{accepted_by, accepted_of, done, receipt_of}
 use Rattle.rk_world.specs.Ledger.{with_accepted}
 use Rattle.rk_world.specs.Refusals.{is_for}
 use Rattle.rk_world.specs.declared.event.Taken.{Taken}
 use Rattle.rk_inv_events.proofs.events.Clients.{is_last_there, may_accept}
 use Rattle.rk_inv_base.proofs.calls.Accepted.{stands_there}
 use Rattle.rk_runs.proofs.history.Taking.{accepting_taken}
-use Rattle.rk_laws_lanes.specs.Counts.{HasReceipts, HasSameClients, IsCounted, IsOneMore, accepted_count}
+use Rattle.rk_laws_lanes.specs.Counts.{HasReceipts, HasSameClients, IsCounted, IsOneMore}
 use Rattle.rk_laws_lanes.specs.GoodLane.{IsGoodLane}
 
 -- ---- journals
@@ -40,11 +38,7 @@ one_more (first ∷ rest) (suc place) placed at none_yet =
 
 -- the record of a call of which none is accepted
 is_open : (journal : List Placed) (placed : Placed) → Contains journal placed → (IsAccepted journal placed.call → ⊥) → placed.accepted ≡ false
-is_open journal placed stands none = by_flag placed.accepted refl
-  where
-    by_flag : (flag : Bool) → placed.accepted ≡ flag → placed.accepted ≡ false
-    by_flag false is = is
-    by_flag true is = absurd (none (record { placed = placed; stands = stands; call_is = refl; accepted = is }))
+is_open journal placed stands none = grind arith
 
 -- ---- what a session makes of a message
 
@@ -75,8 +69,7 @@ module _ (w : World) (number : ℕ) (session : Session) (call : Call) (sound : I
       let above : session.seen < at.placed.stamp = subst After asked_last after its_own in
       let stamp = at.stamp_is in
       record {
-        accepted =
-            ap (λ (found : Option Placed). count_by (λ placed. placed.accepted) (accepted_at w.ledger.journal reply.place found)) at.stands ∙ counted;
+        accepted = grind (arith, count_by, accepted_at, w.ledger.journal, reply.place, at.stands);
         receipt = receipt_of call reply outcome;
         receipts = refl;
         later = omega (arith, above, stamp);
@@ -86,67 +79,27 @@ module _ (w : World) (number : ℕ) (session : Session) (call : Call) (sound : I
 
 module _ (masters lane : ℕ) (w : World) (number : ℕ) (session : Session) (message : Message) (good : IsGoodLane masters lane w) (may : MayAct masters session) (on : get w.wire.messages number ≡ Some message) (to : is_for session.client message.to ≡ true) where
   pub answer_counted : let visited = accepting w session (Some message) in IsCounted w.ledger visited.world.ledger session visited.session visited.seen.taken
-  answer_counted =
-      accepting_taken w number session message good.sound (rw good.masters_are may) on to
-      (λ visited. IsCounted w.ledger visited.world.ledger session visited.session visited.seen.taken) refl
-      (λ call out asked own. record {
-        ignores = λ body. ignored body;
-        ends = answered w number session call good.sound asked own;
-        moves = λ reply tablet. refl;
-        waits = λ reply key. refl;
-        locates = λ located. refl;
-      })
-    where
-      ignored : (body : Body) → accepted_count (ledger_taken w.ledger body Taken.Ignored) ≡ accepted_count w.ledger
-      ignored (Body.Reply reply) = refl
-      ignored _ = refl
+  answer_counted = grind (arith, accepting_taken, answered, ledger_taken)
 
 -- ---- what a client takes of any message
 
 module _ (session : Session) (call : Call) where
-  receipts_by_answer : (reply : Reply) (answer : Answer) → let accepted = answer_accepted session call reply answer in HasReceipts session accepted.session (Some accepted.taken)
-  receipts_by_answer reply (Answer.Done outcome) = (length-append session.receipts (receipt_of call reply outcome ∷ []), refl)
-  receipts_by_answer reply (Answer.Moved tablet) = (refl, refl)
-  receipts_by_answer reply (Answer.NotYet key) = (refl, refl)
-
-  receipts_by_seq : (reply : Reply) (test : Bool)
-      → let accepted = cond test (answer_accepted session call reply reply.answer) (ignoring session) in HasReceipts session accepted.session (Some accepted.taken)
-  receipts_by_seq reply true = receipts_by_answer reply reply.answer
-  receipts_by_seq reply false = (refl, refl)
-
-  receipts_by_range : (located : Located) (test : Bool)
-      → let accepted = cond test (record { session = with_range session (call_lane call) located; taken = Taken.Located }) (ignoring session) in
-      HasReceipts session accepted.session (Some accepted.taken)
-  receipts_by_range located true = (refl, refl)
-  receipts_by_range located false = (refl, refl)
-
   receipts_by : (body : Body) → let accepted = accepted_by session call body in HasReceipts session accepted.session (Some accepted.taken)
-  receipts_by (Body.Reply reply) = receipts_by_seq reply (reply.seq == call.seq)
-  receipts_by (Body.Located located) = receipts_by_range located (has_call call located)
-  receipts_by body = (refl, refl)
+  receipts_by body = grind (arith, length-append)
 
 receipts_of : (session : Session) (out : Option Call) (body : Body) → let accepted = accepted_of session out body in HasReceipts session accepted.session (Some accepted.taken)
 receipts_of session None body = (refl, refl)
 receipts_of session (Some call) body = receipts_by session call body
-
-taken_same : (ledger : Ledger) (body : Body) (taken : Taken) → ((ledger_taken ledger body taken).asked ≡ ledger.asked) × HasSameClients ledger (ledger_taken ledger body taken)
-taken_same ledger (Body.Reply reply) Taken.Done = (refl, λ client. refl)
-taken_same ledger body taken = (refl, λ client. refl)
 
 module _ (w : World) (session : Session) (message : Message) where
   abbrev tried : Bool → Visited
   tried here = cond here (taking w session message.body) (untouched w session (Some Taken.Ignored))
 
   pub answer_receipts : let visited = accepting w session (Some message) in HasReceipts session visited.session visited.seen.taken
-  answer_receipts = by_test (is_asked_here w session)
-    where
-      by_test : (here : Bool) → HasReceipts session (tried here).session (tried here).seen.taken
-      by_test true = receipts_of session session.outstanding message.body
-      by_test false = (refl, refl)
+  answer_receipts = grind (arith, is_asked_here, receipts_of)
 
   same : (here : Bool) → ((tried here).world.ledger.asked ≡ w.ledger.asked) × HasSameClients w.ledger (tried here).world.ledger
-  same true = taken_same w.ledger message.body (session_accept session message.body).taken
-  same false = (refl, λ client. refl)
+  same here = grind arith
 
   pub answer_asked : (accepting w session (Some message)).world.ledger.asked ≡ w.ledger.asked
   answer_asked = (same (is_asked_here w session)).0

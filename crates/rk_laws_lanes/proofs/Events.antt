@@ -1,5 +1,5 @@
 -- A new lane is good, and a good lane stays good at each event.
-use Rattle.std.proofs.Common.{◌≡◌, ℕ, ◌≤◌, None, refl}
+use Rattle.std.proofs.Common.{◌≡◌, ℕ, ◌≤◌, None}
 use Rattle.rk_inv_base.proofs.Words.{MOST_BACKUPS, Called, MOST_MASTERS, MayHappen, refusal, happened, World, new_world, Event}
 use Rattle.rk_world.specs.Premises.{MayCome}
 use Rattle.rk_world.specs.Replicas.{IsTold}
@@ -15,17 +15,8 @@ use Rattle.rk_laws_lanes.specs.GoodLane.{IsGoodLane}
 use Rattle.rk_laws_lanes.proofs.OfRuns.{by_itself, in_runs}
 
 pub good_new : (masters backups number : ℕ) → masters ≤ MOST_MASTERS → 1 ≤ backups → backups ≤ MOST_BACKUPS → IsGoodLane masters number (new_world number masters backups)
-good_new masters backups number few backed few_backups = record {
-  sound = empty_is_sound number masters backups backed;
-  formed = new_is_well_formed number masters backups few backed few_backups;
-  room = new_has_room number masters backups;
-  kept = kept_new number masters backups;
-  steady = record { tell = tell_new number masters backups; sealed = sealed_new number masters backups };
-  told = all_new number masters backups;
-  number_is = refl;
-  masters_are = refl;
-  base_is = refl;
-}
+good_new masters backups number few backed few_backups =
+    search (empty_is_sound, new_is_well_formed, new_has_room, kept_new, tell_new, sealed_new, all_new)
 
 -- an event that may happen in a good lane, and is not refused
 pub good_event : (masters number : ℕ) (w : World) (event : Event) (called : Called) → IsGoodLane masters number w → MayHappen w event

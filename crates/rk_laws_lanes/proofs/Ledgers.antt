@@ -19,9 +19,7 @@ record Stays (before after : Ledger) : Type 0 where
 
 module _ (start : Ledger) where
   served_stays : (seen : ℕ) (now : Ledger) (served : Served) → Stays start now → Stays start (with_served seen now served)
-  served_stays seen now served stays =
-      served_is (Stays start) seen now served stays (record { asked = stays.asked; clients = stays.clients })
-      (record { asked = stays.asked; clients = stays.clients })
+  served_stays seen now served stays = grind (arith, served_is)
 
   all_served : (seen : ℕ) (served : List Served) → Stays start (with_all_served seen start served)
   all_served seen served =

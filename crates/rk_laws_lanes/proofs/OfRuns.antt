@@ -8,28 +8,10 @@ use Rattle.rk_laws_lanes.specs.GoodLane.{IsGoodLane}
 use Rattle.rk_runs.proofs.history.Clusters as clusters
 
 pub in_runs : {masters number : ℕ} {w : World} → IsGoodLane masters number w → clusters.IsGoodLane Lasts masters number w
-in_runs good = record {
-  sound = good.sound;
-  formed = good.formed;
-  room = good.room;
-  steady = (good.steady, good.told, good.kept);
-  lane_is = good.number_is;
-  base_is = good.base_is;
-  masters_are = good.masters_are;
-}
+in_runs good = grind arith
 
 pub by_itself : {masters number : ℕ} {w : World} → clusters.IsGoodLane Lasts masters number w → IsGoodLane masters number w
-by_itself good = record {
-  sound = good.sound;
-  formed = good.formed;
-  room = good.room;
-  kept = good.steady.2;
-  steady = good.steady.0;
-  told = good.steady.1;
-  number_is = good.lane_is;
-  masters_are = good.masters_are;
-  base_is = good.base_is;
-}
+by_itself good = grind arith
 
 pub good_in_run : (masters backups lane : ℕ) (list : List Occurrence) → masters ≤ MOST_MASTERS → 1 ≤ backups → backups ≤ MOST_BACKUPS
     → IsRun (new_cluster masters backups) list → lane < LANES → IsGoodLane masters lane (lane_at (cluster_run (new_cluster masters backups) list) lane)

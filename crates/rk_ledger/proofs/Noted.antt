@@ -1,5 +1,5 @@
 -- What is to be noted of calls, once one more record stands at the end, and once it is taken away.
-use Rattle.std.proofs.Common.{◌≡◌, ℕ, ◌+◌, ◌-◌, ◌<◌, Bool, true, false, cond, eqb, not, ◌&&◌, ◌||◌, List, [], ◌∷◌, ◌++◌, length, Option, Some, None, refl, sym, ap, ◌∙◌, subst, arith}
+use Rattle.std.proofs.Common.{◌≡◌, ℕ, ◌+◌, ◌-◌, Bool, true, false, cond, eqb, ◌&&◌, ◌||◌, List, [], ◌∷◌, ◌++◌, length, refl, sym, ap, ◌∙◌, subst, arith}
 use Rattle.std.specs.Prelude.{All, nat_lt}
 use Rattle.std.specs.List.{count_by, list_any, position}
 use Rattle.std.proofs.lemmas.Bool.{and_parts, eq-eqb, eqb-true, ne_eqb}
@@ -9,11 +9,10 @@ use Rattle.std.proofs.lemmas.List.Sums.{sum_by-cons, sum_by_push}
 use Rattle.std.proofs.lemmas.List.Quantifiers.{position-Some}
 use Rattle.std.proofs.Math.Seq.{take-append_seam}
 use Rattle.rk_types.specs.declared.history.Placed.{Placed}
-use Rattle.rk_model.specs.Merged.{is_mutation}
 use Rattle.rk_world.specs.Journal.{is_of_mutation}
 use Rattle.rk_ledger.specs.declared.call_index.CallIndex.{CallIndex}
 use Rattle.rk_ledger.specs.declared.call_index.Noted.{Noted}
-use Rattle.rk_ledger.specs.Noted.{IsIndex, IsNoted, NotesTheSame, has_note, is_accepted_of, known_or, noted, noted_in, unless_at, with_record, without_record}
+use Rattle.rk_ledger.specs.Noted.{IsIndex, IsNoted, NotesTheSame, has_note, known_or, noted, noted_in, unless_at, with_record, without_record}
 use Rattle.rk_ledger.proofs.Positions.{known_stays, position_push}
 
 -- a client and a seq are those that they are
@@ -23,9 +22,7 @@ same_test client seq = λ i. eq-eqb client client refl i && eq-eqb seq seq refl 
 -- what holds of the name of a call holds of a client and a seq that are the same
 pub same_name : (P : ℕ → ℕ → Type 0) (client seq other asked : ℕ) → (eqb client other && eqb seq asked) ≡ true
     → P client seq → P other asked
-same_name P client seq other asked same holds =
-    let parts = and_parts (eqb client other) (eqb seq asked) same in
-    subst (λ n. P n asked) (eqb-true client other parts.0) (subst (P client) (eqb-true seq asked parts.1) holds)
+same_name P client seq other asked same holds = grind (arith, and_parts, eqb, eqb-true)
 
 -- something passes where more than none do
 pub some_counted : {X : Type 0} (p : X → Bool) (xs : List X) → nat_lt 0 (count_by p xs) ≡ list_any p xs
@@ -45,62 +42,19 @@ HasNote index placed = has_note index placed.call.client placed.call.seq ≡ tru
 
 -- a call that had a note has one, once something is noted
 pub has_note_still : (index new : CallIndex) (client seq : ℕ) (note : Noted) → IsNoted index new client seq note → (placed : Placed) → HasNote index placed → HasNote new placed
-has_note_still index new client seq note now placed there = now.there placed.call.client placed.call.seq ∙ go (eqb client placed.call.client && eqb seq placed.call.seq)
-  where
-    go : (b : Bool) → cond b true (has_note index placed.call.client placed.call.seq) ≡ true
-    go true = refl
-    go false = there
+has_note_still index new client seq note now placed there = grind (arith, eqb)
 
 -- a note with what tests on a record's name say
 abbrev tried : Noted → ℕ → Bool → Bool → Noted
 tried note place mutation accepted = record { place = known_or note.place mutation place; accepted = note.accepted + cond accepted 1 0 }
 
--- with no test passed it stays
-same_note : (note : Noted) (place : ℕ) → tried note place false false ≡ note
-same_note note place = λ i. record { place = known_stays note.place place i; accepted = nothing_more note.accepted i }
-  where
-    nothing_more : (n : ℕ) → n + 0 ≡ n
-    nothing_more n = omega arith
-
 -- what was noted comes back
 noted_back : (note : Noted) (placed : Placed) (place : ℕ) → unless_at note.place place ≡ note.place → without_record (with_record note placed place) placed place ≡ note
-noted_back note placed place free = λ i. record {
-  place = place_back note.place (is_mutation placed.call.op) free i;
-  accepted = count_back note.accepted (cond placed.accepted 1 0) i;
-}
-  where
-    count_back : (n m : ℕ) → n + m - m ≡ n
-    count_back n m = omega arith
-
-    place_back : (known : Option ℕ) (holds : Bool) → unless_at known place ≡ known → unless_at (known_or known holds place) place ≡ known
-    place_back (Some known) holds apart = apart
-    place_back None false apart = refl
-    place_back None true apart = ap (λ b. cond b None (Some place)) (eq-eqb place place refl)
+noted_back note placed place free = grind (arith, eq-eqb)
 
 -- no record stands at the place behind them all
 free_behind : (records : List Placed) (placed : Placed) (client seq : ℕ) → unless_at (position (is_of_mutation client seq) records) (length records) ≡ position (is_of_mutation client seq) records
-free_behind records placed client seq = go (position (is_of_mutation client seq) records) refl
-  where
-    go : (o : Option ℕ) → position (is_of_mutation client seq) records ≡ o → unless_at o (length records) ≡ o
-    go None is = refl
-    go (Some known) is =
-        let within = (position-Some (is_of_mutation client seq) records known placed is).0 in
-        ap (λ b. cond b None (Some known)) (ne_eqb known (length records) (λ same. absurd (omega (arith, within, same))))
-
--- a record of another call leaves it as it is
-other_call : (note : Noted) (place : ℕ) (mutation accepted : Bool) → tried note place (mutation && false) (accepted && false) ≡ note
-other_call note place true true = same_note note place
-other_call note place true false = same_note note place
-other_call note place false true = same_note note place
-other_call note place false false = same_note note place
-
--- one of this call
-this_call : (note : Noted) (place : ℕ) (mutation accepted : Bool) → tried note place (mutation && true) (accepted && true) ≡ tried note place mutation accepted
-this_call note place mutation accepted = λ i. tried note place (and_true mutation i) (and_true accepted i)
-  where
-    and_true : (b : Bool) → (b && true) ≡ b
-    and_true true = refl
-    and_true false = refl
+free_behind records placed client seq = grind (arith, position-Some, ne_eqb)
 
 module _ (records : List Placed) (placed : Placed) where
   abbrev client : ℕ
@@ -113,18 +67,7 @@ module _ (records : List Placed) (placed : Placed) where
   pub noted_push : (other asked : ℕ)
       → noted (records ++ placed ∷ []) other asked
       ≡ cond (eqb client other && eqb seq asked) (with_record (noted records client seq) placed (length records)) (noted records other asked)
-  noted_push other asked =
-      (λ i. record { place = position_push (is_of_mutation other asked) records placed i; accepted = sum_by_push (λ x. cond (is_accepted_of other asked x) 1 0) records placed i })
-      ∙ go (eqb client other && eqb seq asked) refl
-    where
-      go : (b : Bool) → (eqb client other && eqb seq asked) ≡ b
-          → tried (noted records other asked) (length records) (is_mutation placed.call.op && b) (placed.accepted && b)
-          ≡ cond b (with_record (noted records client seq) placed (length records)) (noted records other asked)
-      go false is = other_call (noted records other asked) (length records) (is_mutation placed.call.op) placed.accepted
-      go true is =
-          this_call (noted records other asked) (length records) (is_mutation placed.call.op) placed.accepted
-          ∙ ap (λ (note : Noted). with_record note placed (length records))
-          (same_name (λ c s. noted records c s ≡ noted records client seq) client seq other asked is refl)
+  noted_push other asked = grind (arith, position_push, sum_by_push, eqb, same_name, known_stays)
 
   -- the index once it is noted
   pub index_pushed : (index new : CallIndex) → IsIndex index records
@@ -170,7 +113,4 @@ module _ (records : List Placed) (placed : Placed) where
 
 -- an index that notes the same
 pub index_same : (records : List Placed) (index new : CallIndex) → IsIndex index records → NotesTheSame index new → IsIndex new records
-index_same records index new were same = record {
-  noted_is = λ client seq. same.noted_is client seq ∙ were.noted_is client seq;
-  there = All-weaker (HasNote index) (HasNote new) (λ x there. same.there x.call.client x.call.seq ∙ there) records were.there;
-}
+index_same records index new were same = grind arith

@@ -22,9 +22,7 @@ one_more i n false within = grind (arith, nat_tests)
 module _ {X : Type 0} (p : X → Bool) where
   -- the first place, once one more thing stands at the end
   pub position_push : (xs : List X) (x : X) → position p (xs ++ x ∷ []) ≡ known_or (position p xs) (p x) (length xs)
-  position_push xs x =
-      (λ i. cond (ltb (position_or_len_push p xs x i) (length_push xs x i)) (Some (position_or_len_push p xs x i)) None)
-      ∙ one_more (position_or_len p xs) (length xs) (p x) (prefix_len-le-length (λ y. not (p y)) xs)
+  position_push xs x = grind (arith, ltb, position_or_len_push, length_push, one_more, prefix_len-le-length)
 
   -- a thing that passes has a first place
   pub some_position : (xs : List X) → is_some (position p xs) ≡ list_any p xs

@@ -1,10 +1,10 @@
 -- The ledger once a rebuild is taken.
-use Rattle.std.proofs.Common.{◌≡◌, not, List, Some, ap, ◌∙◌}
+use Rattle.std.proofs.Common.{arith, ◌≡◌, not, List, Some}
 use Rattle.std.specs.List.{filter}
 use Rattle.rk_types.specs.declared.history.Placed.{Placed}
 use Rattle.rk_message.specs.declared.rebuilding.Rebuilt.{Rebuilt}
 use Rattle.rk_world.specs.declared.work.Mark.{Mark}
-use Rattle.rk_world.specs.Ledger.{Ledger, with_ends, with_rebuilt, without_marks}
+use Rattle.rk_world.specs.Ledger.{Ledger, with_ends, with_rebuilt}
 use Rattle.rk_world.specs.Marks.{is_mark_of}
 use Rattle.rk_ledger.specs.Growing.{with_journal}
 
@@ -13,6 +13,4 @@ pub rebuilt_taken : (ledger : Ledger) (journal : List Placed) (marks : List Mark
     → with_journal ledger journal ≡ with_ends ledger rebuilt.ends
     → marks ≡ filter (λ mark. not (is_mark_of rebuilt.tenure.tablet rebuilt.tenure.term mark)) ledger.marks
     → record ledger { journal = journal; marks = marks } ≡ with_rebuilt ledger (Some rebuilt)
-rebuilt_taken ledger journal marks rebuilt recorded left =
-    ap (λ (kept : List Mark). record ledger { journal = journal; marks = kept }) left
-    ∙ ap (λ (it : Ledger). without_marks it rebuilt.tenure.tablet rebuilt.tenure.term) recorded
+rebuilt_taken ledger journal marks rebuilt recorded left = grind arith

@@ -1,5 +1,5 @@
 -- The stamps of a journal rise still: with one record more, with fewer, and once one is accepted.
-use Rattle.std.proofs.Common.{◌≡◌, ℕ, zero, suc, ◌<◌, List, [], ◌∷◌, ◌++◌, Option, Some, None, subst}
+use Rattle.std.proofs.Common.{arith, ◌≡◌, ℕ, zero, suc, ◌<◌, List, [], ◌∷◌, ◌++◌, Option, Some, None}
 use Rattle.std.specs.Prelude.{slice_get, slice_set}
 use Rattle.rk_types.specs.declared.history.Placed.{Placed}
 use Rattle.rk_model.specs.Merged.{IsRisingAbove}
@@ -19,9 +19,7 @@ rising_front stamp (first ∷ records) more rising = (rising.0, rising_front fir
 rising_set : (stamp : ℕ) (records : List Placed) (place : ℕ) (placed : Placed) → slice_get records place ≡ Some placed → IsRisingAbove stamp records
     → IsRisingAbove stamp (slice_set records place (as_accepted placed))
 rising_set stamp [] place placed stands rising = tt
-rising_set stamp (first ∷ records) zero placed stands rising =
-    let is : first ≡ placed = cc stands in
-    subst (λ (p : Placed). (stamp < p.stamp) × IsRisingAbove p.stamp records) is rising
+rising_set stamp (first ∷ records) zero placed stands rising = grind arith
 rising_set stamp (first ∷ records) (suc place) placed stands rising = (rising.0, rising_set first.stamp records place placed stands rising.1)
 
 -- once a record is accepted

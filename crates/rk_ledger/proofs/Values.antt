@@ -1,5 +1,5 @@
 -- The bytes of the values of a journal: with one record more, with one fewer, and once one is accepted.
-use Rattle.std.proofs.Common.{◌≡◌, ℕ, zero, suc, ◌+◌, List, [], ◌∷◌, ◌++◌, Option, Some, None, refl, sym, ap, ◌∙◌}
+use Rattle.std.proofs.Common.{arith, ◌≡◌, ℕ, zero, suc, ◌+◌, List, [], ◌∷◌, ◌++◌, Option, Some, None, refl}
 use Rattle.std.specs.Prelude.{slice_get, slice_set}
 use Rattle.std.proofs.lemmas.List.Sums.{sum_by-cons, sum_by_push}
 use Rattle.rk_types.specs.declared.history.Placed.{Placed}
@@ -13,15 +13,8 @@ bytes_push = sum_by_push record_bytes
 bytes_set : (records : List Placed) (place : ℕ) (placed : Placed) → slice_get records place ≡ Some placed
     → value_bytes (slice_set records place (as_accepted placed)) ≡ value_bytes records
 bytes_set [] place placed stands = refl
-bytes_set (first ∷ records) zero placed stands =
-    let is : first ≡ placed = cc stands in
-    sum_by-cons record_bytes (as_accepted placed) records
-    ∙ ap (λ (p : Placed). record_bytes p + value_bytes records) (sym is)
-    ∙ sym (sum_by-cons record_bytes first records)
-bytes_set (first ∷ records) (suc place) placed stands =
-    sum_by-cons record_bytes first (slice_set records place (as_accepted placed))
-    ∙ ap (λ (n : ℕ). record_bytes first + n) (bytes_set records place placed stands)
-    ∙ sym (sum_by-cons record_bytes first records)
+bytes_set (first ∷ records) zero placed stands = grind (arith, sum_by-cons)
+bytes_set (first ∷ records) (suc place) placed stands = search (sum_by-cons, (bytes_set records place placed stands))
 
 -- they stay once a record is accepted
 pub bytes_accepted : (records : List Placed) (place : ℕ) (found : Option Placed) → slice_get records place ≡ found

@@ -1,23 +1,18 @@
 -- Items by key rise and keep those of one key in their order, and no other list of these items does.
-use Rattle.std.proofs.Common.{◌≡◌, ℕ, zero, ◌+◌, ◌<◌, ◌≤◌, Bool, true, false, cond, List, [], ◌∷◌, length, get_or, refl, sym, ap, ◌∙◌, subst, suc, arith, rules}
+use Rattle.std.proofs.Common.{◌≡◌, ℕ, zero, ◌+◌, ◌<◌, ◌≤◌, Bool, true, false, cond, List, [], ◌∷◌, length, get_or, refl, sym, ap, ◌∙◌, subst, suc, arith}
 use Rattle.std.specs.Prelude.{◌&&◌, not, filter}
-use Rattle.std.specs.Cmp.{IsStrictWeakOrder, IsTotalOrder}
-use Rattle.std.specs.Cmp.Lexicographic.{slice_cmp}
+use Rattle.std.specs.Cmp.{IsStrictWeakOrder}
 use Rattle.std.specs.Cmp.Rules.{comparing}
 use Rattle.std.specs.List.{AllByRecursion}
 use Rattle.std.specs.List.Sorted.{IsPermutation, IsSortedBy, IsStableBy, ties}
-use Rattle.std.specs.Ordering.{nat_cmp}
 use Rattle.std.proofs.lemmas.Bool.{false≢true}
 use Rattle.std.proofs.lemmas.List.Sorted.{IsPermutation-append_comm, IsPermutation-append_left, IsPermutation-cons, IsPermutation-refl, IsPermutation-trans, ranks_by, sorted_far}
 use Rattle.rk_types.specs.declared.held.Held.{Held}
 use Rattle.rk_lines.specs.Records.{AreByKey, by_key, is_before, put_by_key}
 
-key_total : IsTotalOrder (slice_cmp nat_cmp)
-key_total = search (comparing, rules)
-
 -- keys can be compared
 pub key_order : IsStrictWeakOrder is_before
-key_order = ranks_by key_total (λ (item : Held). item.key)
+key_order = grind (arith, ranks_by, comparing)
 
 -- whether items have one key
 abbrev ties_with : Held → Held → Bool
@@ -49,11 +44,7 @@ rises_from_sorted items sorted = rises_from_far items (sorted_far is_before key_
 
 -- a key does not come before itself
 not_before_itself : (item : Held) → is_before item item ≡ false
-not_before_itself item = go (is_before item item) refl
-  where
-    go : (b : Bool) → is_before item item ≡ b → is_before item item ≡ false
-    go true is = key_order.one_way item item is
-    go false is = is
+not_before_itself item = grind (arith, key_order)
 
 -- two tests that fail make a tie
 tie_from : (a b : Held) → is_before a b ≡ false → is_before b a ≡ false → ties_with a b ≡ true
@@ -62,24 +53,14 @@ tie_from a b ab ba = λ i. not (ab i) && not (ba i)
 ties_with_itself : (item : Held) → ties_with item item ≡ true
 ties_with_itself item = tie_from item item (not_before_itself item) (not_before_itself item)
 
--- and a tie makes both fail
-both_fail : (p q : Bool) → (not p && not q) ≡ true → (p ≡ false) × (q ≡ false)
-both_fail true q tie = absurd (false≢true tie)
-both_fail false true tie = absurd (false≢true tie)
-both_fail false false tie = (refl, refl)
-
 tie_parts : (a b : Held) → ties_with a b ≡ true → (is_before a b ≡ false) × (is_before b a ≡ false)
-tie_parts a b = both_fail (is_before a b) (is_before b a)
+tie_parts a b = grind (arith, false≢true)
 
 module _ (test : Held → Bool) where
   -- what a test leaves of items that come not before one comes not before it
   not_before_kept : (item : Held) (items : List Held) → AreNotBefore item items → AreNotBefore item (filter test items)
   not_before_kept item [] all = tt
-  not_before_kept item (other ∷ items) all = go (test other) (not_before_kept item items all.1)
-    where
-      go : (b : Bool) → AreNotBefore item (filter test items) → AreNotBefore item (cond b (other ∷ filter test items) (filter test items))
-      go true kept = (all.0, kept)
-      go false kept = kept
+  not_before_kept item (other ∷ items) all = grind (arith, all.1, all.0, (not_before_kept item items all.1))
 
 -- the first of items that rise does not come after one that a test leaves first of others, of which it leaves the same
 not_after_first :
@@ -92,10 +73,7 @@ not_after_first x y xs ys rises same =
 
 -- where tests that both hold leave the same, they leave the same behind the first item
 same_behind : (b : Bool) (x y : Held) (xs ys : List Held) → x ≡ y → cond b (x ∷ xs) xs ≡ cond b (y ∷ ys) ys → xs ≡ ys
-same_behind true x y xs ys first same =
-    let rest : xs ≡ ys = cc in
-    rest
-same_behind false x y xs ys first same = same
+same_behind b x y xs ys first same = grind arith
 
 -- items that rise are known by what each key leaves of them
 one_list : (xs ys : List Held) → Rises xs → Rises ys → ((z : Held) → filter (ties_with z) xs ≡ filter (ties_with z) ys) → xs ≡ ys
@@ -131,25 +109,17 @@ one_list (x ∷ xs) (y ∷ ys) x_rises y_rises same =
 -- an item at its place comes not before what comes not before it
 not_before_put : (first item : Held) (items : List Held) → is_before item first ≡ false → AreNotBefore first items → AreNotBefore first (put_by_key item items)
 not_before_put first item [] its all = (its, tt)
-not_before_put first item (other ∷ items) its all = go (is_before other item) (not_before_put first item items its all.1)
-  where
-    go : (b : Bool) → AreNotBefore first (put_by_key item items) → AreNotBefore first (cond b (other ∷ put_by_key item items) (item ∷ other ∷ items))
-    go true rest = (all.0, rest)
-    go false rest = (its, all)
+not_before_put first item (other ∷ items) its all = grind (arith, all.1, all.0, (not_before_put first item items its all.1))
 
 -- what comes not before one that an item is not behind comes not before that item
 not_before_chain : (item first : Held) (items : List Held) → is_before first item ≡ false → AreNotBefore first items → AreNotBefore item items
 not_before_chain item first [] its all = tt
-not_before_chain item first (other ∷ items) its all =
-    (key_order.chain other first item all.0 its, not_before_chain item first items its all.1)
+not_before_chain item first (other ∷ items) its all = grind (arith, key_order, all.0, all.1, (not_before_chain item first items its all.1))
 
 rises_put : (item : Held) (items : List Held) → Rises items → Rises (put_by_key item items)
 rises_put item [] rises = (tt, tt)
-rises_put item (first ∷ items) rises = go (is_before first item) refl (rises_put item items rises.1)
-  where
-    go : (b : Bool) → is_before first item ≡ b → Rises (put_by_key item items) → Rises (cond b (first ∷ put_by_key item items) (item ∷ first ∷ items))
-    go true is rest = (not_before_put first item items (key_order.one_way first item is) rises.0, rest)
-    go false is rest = ((is, not_before_chain item first items is rises.0), rises)
+rises_put item (first ∷ items) rises =
+    grind (arith, not_before_put, key_order, not_before_chain, rises.1, rises.0, (rises_put item items rises.1))
 
 -- items by key rise
 pub rises_by_key : (items : List Held) → Rises (by_key items)
@@ -158,45 +128,21 @@ rises_by_key (item ∷ items) = rises_put item (by_key items) (rises_by_key item
 
 -- an item that is passed over has another key
 not_both : (z item first : Held) → is_before first item ≡ true → ties_with z item ≡ true → ties_with z first ≡ true → ⊥
-not_both z item first before with_item with_first =
-    let apart : is_before first item ≡ false =
-    key_order.chain first z item (tie_parts z first with_first).1 (tie_parts z item with_item).0 in
-    false≢true (sym apart ∙ before)
+not_both z item first before with_item with_first = grind (arith, key_order, tie_parts, false≢true)
 
 -- what a key leaves of items with one more at its place is what it leaves with that one in front
 kept_put : (z item : Held) (items : List Held) → filter (ties_with z) (put_by_key item items) ≡ filter (ties_with z) (item ∷ items)
 kept_put z item [] = refl
-kept_put z item (first ∷ items) = go (is_before first item) refl (kept_put z item items)
-  where
-    kept : List Held
-    kept = filter (ties_with z) items
-
-    swapped : (a b : Bool) → ties_with z item ≡ a → ties_with z first ≡ b → is_before first item ≡ true
-        → cond b (first ∷ cond a (item ∷ kept) kept) (cond a (item ∷ kept) kept) ≡ cond a (item ∷ cond b (first ∷ kept) kept) (cond b (first ∷ kept) kept)
-    swapped true true with_item with_first is = absurd (not_both z item first is with_item with_first)
-    swapped true false with_item with_first is = refl
-    swapped false true with_item with_first is = refl
-    swapped false false with_item with_first is = refl
-
-    go : (b : Bool) → is_before first item ≡ b
-        → filter (ties_with z) (put_by_key item items) ≡ filter (ties_with z) (item ∷ items)
-        → filter (ties_with z) (cond b (first ∷ put_by_key item items) (item ∷ first ∷ items)) ≡ filter (ties_with z) (item ∷ first ∷ items)
-    go true is rest =
-        ap (λ l. cond (ties_with z first) (first ∷ l) l) rest
-        ∙ swapped (ties_with z item) (ties_with z first) refl refl is
-    go false is rest = refl
+kept_put z item (first ∷ items) = grind (arith, not_both, (kept_put z item items))
 
 -- items by key keep those of one key in their order
 pub kept_by_key : (z : Held) (items : List Held) → filter (ties_with z) (by_key items) ≡ filter (ties_with z) items
 kept_by_key z [] = refl
-kept_by_key z (item ∷ items) =
-    kept_put z item (by_key items) ∙ ap (λ l. cond (ties_with z item) (item ∷ l) l) (kept_by_key z items)
+kept_by_key z (item ∷ items) = grind (arith, kept_put, (kept_by_key z items))
 
 -- a stable sort gives the items by key
 pub by_key_alone : (items sorted : List Held) → IsSortedBy is_before sorted → IsStableBy is_before items sorted → sorted ≡ by_key items
-by_key_alone items sorted rises stable =
-    one_list sorted (by_key items) (rises_from_sorted sorted rises) (rises_by_key items)
-    (λ z. stable z ∙ sym (kept_by_key z items))
+by_key_alone items sorted rises stable = grind (arith, one_list, rises_from_sorted, rises_by_key, kept_by_key)
 
 -- items that rise do so from each to the next
 next_rises : (items : List Held) → Rises items → (k : ℕ) (d : Held) → suc k < length items → is_before (get_or items (suc k) d) (get_or items k d) ≡ false
@@ -237,8 +183,4 @@ same_by_key (item ∷ items) =
 
 -- items by key are just what pins them
 pub by_key_are : (items : List Held) → AreByKey items (by_key items)
-by_key_are items = record {
-  rises = sorted_from_rises (by_key items) (rises_by_key items);
-  same = same_by_key items;
-  stable = λ z. kept_by_key z items;
-}
+by_key_are items = grind (arith, sorted_from_rises, rises_by_key, same_by_key, kept_by_key)

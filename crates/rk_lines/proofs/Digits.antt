@@ -1,20 +1,16 @@
 -- Numbers in decimal digits, alone and in pairs, are told apart.
-use Rattle.std.proofs.Common.{◌≡◌, ◌≢◌, ℕ, ◌<◌, ◌^◌, List, [], ◌∷◌, ◌++◌, refl, sym, ap, ◌∙◌, arith}
+use Rattle.std.proofs.Common.{◌≡◌, ◌≢◌, ℕ, ◌<◌, ◌^◌, List, [], ◌∷◌, ◌++◌, sym, ◌∙◌, arith}
 use Rattle.std.specs.Prelude.{◌==◌, ◌&&◌, codes, decimal, bytes_eq}
 use Rattle.std.specs.Char.{digit_value}
 use Rattle.std.specs.Str.Parse.{AllDigits}
-use Rattle.std.proofs.lemmas.Bool.Decides.{Decides-and, Decides-eqb, nat_tests, same_from_decides}
+use Rattle.std.proofs.lemmas.Bool.Decides.{nat_tests, same_from_decides}
 use Rattle.std.proofs.lemmas.List.{append_assoc}
 use Rattle.std.proofs.lemmas.Fmt.{decimal_injective, decimal_is_IsNumeral}
 use Rattle.std.proofs.lemmas.Slice.Eq.{bytes_eq-Decides}
 
 -- equal digits are those of equal numbers
 pub same_digits : (m n : ℕ) → m < 2 ^ 64 → n < 2 ^ 64 → (m == n) ≡ bytes_eq (decimal m) (decimal n)
-same_digits m n m_fits n_fits =
-    let digits = bytes_eq-Decides (decimal m) (decimal n) in
-    let numbers = Decides-eqb m n in
-    same_from_decides {P = m ≡ n} (m == n) (bytes_eq (decimal m) (decimal n)) numbers
-    (λ same. decimal_injective m n m_fits n_fits (digits.0 same), λ same. digits.1 (ap decimal same))
+same_digits m n m_fits n_fits = grind (arith, bytes_eq-Decides, same_from_decides, decimal_injective)
 
 -- a digit is no blank
 digit_no_blank : (byte : ℕ) → digit_value byte < 10 → byte ≢ 32
@@ -22,15 +18,9 @@ digit_no_blank byte digit = λ same. grind (arith, nat_tests)
 
 -- texts that digits begin, and a blank ends them: equal ones have equal digits, and the same behind the blank
 parted : (xs ys more rest : List ℕ) → AllDigits 10 xs → AllDigits 10 ys → xs ++ 32 ∷ more ≡ ys ++ 32 ∷ rest → (xs ≡ ys) × (more ≡ rest)
-parted [] [] more rest x_digits y_digits same =
-    let tail : more ≡ rest = cc in
-    (refl, tail)
-parted [] (y ∷ ys) more rest x_digits y_digits same =
-    let head : y ≡ 32 = cc in
-    absurd (digit_no_blank y y_digits.0 head)
-parted (x ∷ xs) [] more rest x_digits y_digits same =
-    let head : x ≡ 32 = cc in
-    absurd (digit_no_blank x x_digits.0 head)
+parted [] [] more rest x_digits y_digits same = grind arith
+parted [] (y ∷ ys) more rest x_digits y_digits same = grind (arith, digit_no_blank, y_digits.0)
+parted (x ∷ xs) [] more rest x_digits y_digits same = grind (arith, digit_no_blank, x_digits.0)
 parted (x ∷ xs) (y ∷ ys) more rest x_digits y_digits same =
     let head : x ≡ y = cc in
     let tail : xs ++ 32 ∷ more ≡ ys ++ 32 ∷ rest = cc in
@@ -52,10 +42,4 @@ pairs_apart m n p q m_fits n_fits p_fits q_fits same =
 
 pub same_pairs : (m n p q : ℕ) → m < 2 ^ 64 → n < 2 ^ 64 → p < 2 ^ 64 → q < 2 ^ 64
     → ((m == p) && (n == q)) ≡ bytes_eq (decimal m ++ codes " " ++ decimal n) (decimal p ++ codes " " ++ decimal q)
-same_pairs m n p q m_fits n_fits p_fits q_fits =
-    let digits = bytes_eq-Decides (pair_text m n) (pair_text p q) in
-    same_from_decides {P = (m ≡ p) × (n ≡ q)} ((m == p) && (n == q)) (bytes_eq (pair_text m n) (pair_text p q))
-    (Decides-and (m == p) (n == q) (Decides-eqb m p) (Decides-eqb n q)) (
-      λ same. pairs_apart m n p q m_fits n_fits p_fits q_fits (digits.0 same),
-      λ same. digits.1 (λ i. pair_text (same.0 i) (same.1 i)),
-    )
+same_pairs m n p q m_fits n_fits p_fits q_fits = grind (arith, bytes_eq-Decides, same_from_decides, pairs_apart)

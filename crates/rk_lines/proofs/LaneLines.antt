@@ -7,9 +7,7 @@ use Rattle.rk_lines.specs.Tablets.{lane_line, lane_lines}
 
 lane_lines-append : (tablet lane : ℕ) (phases : List Phase) (last : Phase)
     → lane_lines tablet lane (phases ++ last ∷ []) ≡ lane_lines tablet lane phases ++ lane_line tablet (lane + length phases) last
-lane_lines-append tablet lane [] last =
-    let here : lane ≡ lane + 0 = omega arith in
-    append-nil (lane_line tablet lane last) ∙ ap (λ n. lane_line tablet n last) here
+lane_lines-append tablet lane [] last = grind (arith, append-nil)
 lane_lines-append tablet lane (phase ∷ phases) last =
     let place : (lane + 1) + length phases ≡ lane + length (phase ∷ phases) = omega arith in
     ap (λ rest. lane_line tablet lane phase ++ rest) (lane_lines-append tablet (lane + 1) phases last)

@@ -1,7 +1,6 @@
 -- The entries from a place on are those that segments spell from there on.
-use Rattle.std.proofs.Common.{◌≡◌, ℕ, zero, suc, ◌+◌, ◌-◌, ◌<◌, ◌≤◌, Bool, true, false, cond, leb, ltb, List, [], ◌∷◌, ◌++◌, length, get_or, set, take, drop, map, refl, sym, ap, subst, ◌∙◌, arith, append_assoc, length-append}
-use Rattle.std.specs.Prelude.{◌&&◌}
-use Rattle.std.specs.List.{AllByRecursion, flat_map}
+use Rattle.std.proofs.Common.{◌≡◌, ℕ, zero, suc, ◌+◌, ◌-◌, ◌<◌, ◌≤◌, Bool, true, false, cond, leb, List, [], ◌∷◌, ◌++◌, length, get_or, set, take, drop, refl, sym, ap, ◌∙◌, arith, append_assoc, length-append}
+use Rattle.std.specs.List.{AllByRecursion}
 use Rattle.std.proofs.Math.Seq.{drop-append_seam, set-append_seam}
 use Rattle.std.proofs.lemmas.Bool.{cond-true, cond-false, lt-ltb}
 use Rattle.std.proofs.lemmas.List.{append-nil, get_or_default, get_or_push, length-map, take-append-drop}
@@ -31,10 +30,7 @@ last_is front last = get_or_push front last [] (length (front ++ last ∷ []) - 
 
 -- it has room by its own length
 room_is : (front : List (List ℕ)) (last bytes : List ℕ) → has_room (front ++ last ∷ []) bytes ≡ leb (length last + length bytes) SEGMENT_BYTES
-room_is front last bytes =
-    ap (λ (some : Bool). some && leb (length (last_of (front ++ last ∷ [])) + length bytes) SEGMENT_BYTES)
-    (lt-ltb 0 (length (front ++ last ∷ [])) (omega (arith, length-append front (last ∷ []))))
-    ∙ ap (λ (l : List ℕ). leb (length l + length bytes) SEGMENT_BYTES) (last_is front last)
+room_is front last bytes = grind (arith, leb, lt-ltb, length-append, last_is)
 
 -- bytes in it
 in_last_is : (front : List (List ℕ)) (last bytes : List ℕ) → in_last (front ++ last ∷ []) bytes ≡ front ++ (last ++ bytes) ∷ []
@@ -46,18 +42,17 @@ in_last_is front last bytes =
 with_front : (front : List (List ℕ)) (last : List ℕ) (entries : List Entry) → cut_after (front ++ last ∷ []) entries ≡ front ++ behind last entries
 with_front front last [] = refl
 with_front front last (x ∷ entries) =
-    by_room (leb (length last + length (spelled x)) SEGMENT_BYTES) (room_is front last (spelled x))
-    (with_front front (last ++ spelled x) entries) (with_front (front ++ last ∷ []) (spelled x) entries)
-  where
-    by_room : (room : Bool) → has_room (front ++ last ∷ []) (spelled x) ≡ room
-        → cut_after (front ++ (last ++ spelled x) ∷ []) entries ≡ front ++ behind (last ++ spelled x) entries
-        → cut_after ((front ++ last ∷ []) ++ spelled x ∷ []) entries ≡ (front ++ last ∷ []) ++ behind (spelled x) entries
-        → cut_after (with_bytes (front ++ last ∷ []) (spelled x)) entries ≡ front ++ cond room (behind (last ++ spelled x) entries) (last ∷ behind (spelled x) entries)
-    by_room true is fitting next =
-        ap (λ (s : List (List ℕ)). cut_after s entries) (cond-true (has_room (front ++ last ∷ []) (spelled x)) _ _ is ∙ in_last_is front last (spelled x)) ∙ fitting
-    by_room false is fitting next =
-        ap (λ (s : List (List ℕ)). cut_after s entries) (cond-false (has_room (front ++ last ∷ []) (spelled x)) _ _ is)
-        ∙ next ∙ append_assoc front (last ∷ []) (behind (spelled x) entries)
+    grind (
+      arith,
+      leb,
+      room_is,
+      cond-true,
+      in_last_is,
+      cond-false,
+      append_assoc,
+      (with_front front (last ++ spelled x) entries),
+      (with_front (front ++ last ∷ []) (spelled x) entries),
+    )
 
 -- segments end with their last one
 ends_with : (x : List ℕ) (more : List (List ℕ)) → x ∷ more ≡ take (length more) (x ∷ more) ++ get_or (x ∷ more) (length more) [] ∷ []
@@ -78,8 +73,7 @@ from_front (x ∷ segments) = refl
 -- what is read behind bytes that the last segment begins with: the entries that stand there, and all that follow
 read_behind_is : (front : List ℕ) (own more : List Entry) → AllByRecursion IsLawfulEntry own → AllByRecursion IsLawfulEntry more
     → spelled_behind (length front) (behind (front ++ spelled_all own) more) ≡ own ++ more
-read_behind_is front own [] lawful rest =
-    append-nil _ ∙ ap entries_of (drop-append_seam front (spelled_all own)) ∙ read_again own lawful ∙ sym (append-nil own)
+read_behind_is front own [] lawful rest = grind (arith, append-nil, drop-append_seam, read_again)
 read_behind_is front own (x ∷ more) lawful rest =
     by_room (leb (length (front ++ spelled_all own) + length (spelled x)) SEGMENT_BYTES)
     (read_behind_is front (own ++ x ∷ []) more (lawful_push own x lawful rest.0) rest.1) (read_behind_is [] (x ∷ []) more (rest.0, tt) rest.1)
@@ -107,9 +101,7 @@ ends_at segments (x ∷ entries) (suc place) d h = ends_at (with_bytes segments 
 
 -- entries leave some segments
 some_cut : (entries : List Entry) (place : ℕ) → place < length entries → 0 < length (cut (take (suc place) entries))
-some_cut [] place h = absurd (omega arith)
-some_cut (x ∷ entries) place h =
-    omega (arith, (some_segments [] (spelled x)).1, segments_grow (with_bytes [] (spelled x)) (take place entries))
+some_cut entries place h = grind (arith, some_segments, segments_grow)
 
 lawful_behind : (place : ℕ) (entries : List Entry) → AllByRecursion IsLawfulEntry entries → AllByRecursion IsLawfulEntry (drop place entries)
 lawful_behind zero entries lawful = lawful
@@ -145,28 +137,11 @@ entries_behind entries (suc place) le lawful =
 -- where the entry before a place ends, where there is one
 pub start_is : (parts : Parts) (log : Log) (place : ℕ) (end : EntryEnd) → IsConsistent parts → log_of parts ≡ log → place ≤ length log.entries → 0 < place
     → end ≡ get_or parts.ends (place - 1) end → end ≡ start_of log.entries place
-start_is parts log zero end consistent is le some there = absurd (omega arith)
-start_is parts log (suc place) end consistent is le some there =
-    let before : suc place - 1 ≡ place = omega arith in
-    there ∙ ap (λ (n : ℕ). get_or parts.ends n end) before
-    ∙ get_or_default parts.ends place end (record { segment = 1; offset = 0 })
-    (omega (arith, ap length consistent.places_are, length-ends [] parts.entries, ap (λ (l : Log). length l.entries) is))
-    ∙ ap (λ (e : List EntryEnd). get_or e place (record { segment = 1; offset = 0 })) consistent.places_are
-    ∙ ap (λ (l : Log). get_or (ends l.entries) place (record { segment = 1; offset = 0 })) is
-
--- it ends in one of the main segments, and else the first one begins there
-start_within : (parts : Parts) (place : ℕ) → IsConsistent parts → place ≤ length parts.entries
-    → (1 ≤ (start_of parts.entries place).segment) × ((start_of parts.entries place).segment - 1 ≤ length parts.main)
-start_within parts zero consistent le = (omega arith, omega arith)
-start_within parts (suc place) consistent le =
-    let at = ends_within [] parts.entries place (record { segment = 1; offset = 0 }) (omega (arith, length-ends [] parts.entries)) in
-    (at.0, omega (arith, at.1, ap length consistent.cut_is, length-map parts.main (λ (c : Copied). c.segment.bytes)))
+start_is parts log place end consistent is le some there = grind (arith, get_or_default, length-ends)
 
 pub start_in : (parts : Parts) (log : Log) (place : ℕ) → IsConsistent parts → log_of parts ≡ log → place ≤ length log.entries
     → (1 ≤ (start_of log.entries place).segment) × ((start_of log.entries place).segment - 1 ≤ length parts.main)
-start_in parts log place consistent is le =
-    subst (λ (l : Log). (1 ≤ (start_of l.entries place).segment) × ((start_of l.entries place).segment - 1 ≤ length parts.main)) is
-    (start_within parts place consistent (omega (arith, le, ap (λ (l : Log). length l.entries) is)))
+start_in parts log place consistent is le = grind (arith, ends_within, length-ends, length-map)
 
 bytes_behind : (count : ℕ) (segments : List Copied) → bytes_in (drop count segments) ≡ drop count (bytes_in segments)
 bytes_behind zero segments = refl
@@ -177,9 +152,4 @@ bytes_behind (suc count) (x ∷ segments) = bytes_behind count segments
 pub entries_read : (parts : Parts) (log : Log) (place : ℕ) (start : EntryEnd) (segments : List Copied)
     → IsConsistent parts → log_of parts ≡ log → place ≤ length log.entries → start ≡ start_of log.entries place → segments ≡ drop (start.segment - 1) parts.main
     → spelled_behind start.offset (bytes_in segments) ≡ drop place log.entries
-entries_read parts log place start segments consistent is le from are =
-    ap (λ (s : List Copied). spelled_behind start.offset (bytes_in s)) are
-    ∙ ap (spelled_behind start.offset) (bytes_behind (start.segment - 1) parts.main ∙ ap (drop (start.segment - 1)) consistent.cut_is)
-    ∙ ap (λ (e : EntryEnd). spelled_behind e.offset (drop (e.segment - 1) (cut parts.entries))) (from ∙ ap (λ (l : Log). start_of l.entries place) (sym is))
-    ∙ entries_behind parts.entries place (omega (arith, le, ap (λ (l : Log). length l.entries) is)) consistent.lawful
-    ∙ ap (λ (l : Log). drop place l.entries) is
+entries_read parts log place start segments consistent is le from are = grind (arith, bytes_behind, entries_behind)

@@ -24,10 +24,7 @@ use Rattle.rk_log.proofs.Grown.{Grew, grew, known_push, Rose, Raised, rose_in, k
 
 -- each entry ends in one of the main segments
 pub places_within : (parts : Parts) → IsConsistent parts → AreWithin (length parts.main) parts.ends
-places_within parts consistent =
-    subst (AreWithin (length parts.main)) (sym consistent.places_are) (λ k d h.
-    let e = ends_within [] parts.entries k d h in
-    (e.0, omega (arith, e.1, ap length consistent.cut_is, length-map parts.main (λ (c : Copied). c.segment.bytes))))
+places_within parts consistent = grind (arith, ends_within, length-map)
 
 -- no more are committed than there are
 pub count_within : (parts : Parts) → IsConsistent parts → parts.committed ≤ length parts.ends
@@ -153,37 +150,17 @@ consistent_side parts side consistent unknown few =
 
 -- the furthest cursor is one
 pub cursor_is : (backup : ℕ) (main sides : List Copied) → IsCursor backup main sides (cursor_at backup main sides)
-cursor_is backup main sides = record {
-  main_whole = λ k d h. prefix_len_passes (is_whole_at backup) main k d (omega arith);
-  main_last = omega arith;
-  sides_whole = λ k d h. prefix_len_passes (is_whole_at backup) sides k d h;
-  sides_within = prefix_len-le-length (is_whole_at backup) sides;
-}
+cursor_is backup main sides = grind (arith, prefix_len_passes, prefix_len-le-length)
 
 -- a segment that is whole stays so
 whole_rose : (segments segments' : List Copied) (backup k : ℕ) (d : Copied) → bytes_in segments' ≡ bytes_in segments → Rose (lengths_in segments) (lengths_in segments') → k < length segments
     → is_whole_at backup (get_or segments k d) ≡ true → is_whole_at backup (get_or segments' k d) ≡ true
-whole_rose segments segments' backup k d same rose h whole =
-    let counts : length (bytes_in segments') ≡ length (bytes_in segments) = ap length same in
-    let count : length segments' ≡ length segments = omega (arith, length-map segments' (λ (c : Copied). c.segment.bytes), length-map segments (λ (c : Copied). c.segment.bytes)) in
-    let old : leb (length (get_or (bytes_in segments) k [])) (get_or (get_or (lengths_in segments) k []) backup 0) ≡ true = sym (whole_by segments k d backup h) ∙ whole in
-    let reached : length (get_or (bytes_in segments) k []) ≤ get_or (get_or (lengths_in segments) k []) backup 0 = leb-true _ _ old in
-    whole_by segments' k d backup (omega arith)
-    ∙ le-leb _ _ (omega (arith, ap (λ (b : List (List ℕ)). length (get_or b k [])) same, rose.more k backup))
+whole_rose segments segments' backup k d same rose h whole = grind (arith, length-map, leb, whole_by, leb-true, le-leb)
 
 pub cursor_raised : (main main' sides sides' : List Copied) (number teller size backup : ℕ) (cursor : Cursor)
     → Raised FIRST_SEGMENT number teller size main main' → Raised FIRST_SIDE_SEGMENT number teller size sides sides' → IsCursor backup main sides cursor → IsCursor backup main' sides' cursor
 cursor_raised main main' sides sides' number teller size backup cursor raised raised_sides old =
-    let rose_main = rose_in FIRST_SEGMENT number teller size main main' raised in
-    let rose_sides = rose_in FIRST_SIDE_SEGMENT number teller size sides sides' raised_sides in
-    let counts : length (bytes_in main') ≡ length (bytes_in main) = ap length raised.bytes in
-    let counts_sides : length (bytes_in sides') ≡ length (bytes_in sides) = ap length raised_sides.bytes in
-    record {
-      main_whole = λ k d h. whole_rose main main' backup k d raised.bytes rose_main (omega (arith, old.main_last)) (old.main_whole k d h);
-      main_last = omega (arith, old.main_last, length-map main' (λ (c : Copied). c.segment.bytes), length-map main (λ (c : Copied). c.segment.bytes));
-      sides_whole = λ k d h. whole_rose sides sides' backup k d raised_sides.bytes rose_sides (omega (arith, old.sides_within)) (old.sides_whole k d h);
-      sides_within = omega (arith, old.sides_within, length-map sides' (λ (c : Copied). c.segment.bytes), length-map sides (λ (c : Copied). c.segment.bytes));
-    }
+    grind (arith, rose_in, whole_rose, length-map)
 
 pub consistent_told : (parts : Parts) (main' sides' : List Copied) (number backup size : ℕ) (cursor : Cursor)
     → IsConsistent parts → backup < length parts.cursors

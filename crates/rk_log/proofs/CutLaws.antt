@@ -32,12 +32,7 @@ module _ {X : Type 0} (f : List ℕ → List X) where
   -- bytes that make `more` of what they follow
   flat_with : (segments : List (List ℕ)) (bytes : List ℕ) (more : List X) → (0 < length segments → f (last_of segments ++ bytes) ≡ f (last_of segments) ++ more) → f bytes ≡ more
       → flat_map f (with_bytes segments bytes) ≡ flat_map f segments ++ more
-  flat_with segments bytes more behind alone =
-      cond_both (has_room segments bytes) (in_last segments bytes) (segments ++ bytes ∷ []) (λ s. flat_map f s ≡ flat_map f segments ++ more)
-      (λ e.
-      let some : 0 < length segments = room_some segments bytes e in
-      flat_last segments (length segments - 1) (last_of segments ++ bytes) more (omega arith) (behind some))
-      (λ e. flat_push segments bytes ∙ ap (λ (l : List X). flat_map f segments ++ l) alone)
+  flat_with segments bytes more behind alone = grind (arith, cond_both, room_some, flat_last, flat_push)
 
 -- ---- the bytes of all segments
 
@@ -58,10 +53,7 @@ spelled_none = refl
 whole_after : (segments : List (List ℕ)) (entries : List Entry) → flat_map (λ (s : List ℕ). s) (cut_after segments entries) ≡ flat_map (λ (s : List ℕ). s) segments ++ spelled_all entries
 whole_after segments [] = sym (append-nil (flat_map (λ (s : List ℕ). s) segments)) ∙ ap (λ (l : List ℕ). flat_map (λ (s : List ℕ). s) segments ++ l) (sym spelled_none)
 whole_after segments (x ∷ entries) =
-    whole_after (with_bytes segments (spelled x)) entries
-    ∙ ap (λ (l : List ℕ). l ++ spelled_all entries) (flat_with (λ (s : List ℕ). s) segments (spelled x) (spelled x) (λ some. refl) refl)
-    ∙ append_assoc (flat_map (λ (s : List ℕ). s) segments) (spelled x) (spelled_all entries)
-    ∙ ap (λ (l : List ℕ). flat_map (λ (s : List ℕ). s) segments ++ l) (sym (spelled_first x entries))
+    grind (arith, flat_with, append_assoc, spelled_first, (whole_after (with_bytes segments (spelled x)) entries))
 
 pub cut_whole : (entries : List Entry) → concat (cut entries) ≡ spelled_all entries
 cut_whole entries = joined (cut entries) ∙ whole_after [] entries
@@ -83,10 +75,7 @@ spelled_one entry = spelled_first entry [] ∙ ap (λ (l : List ℕ). spelled en
 
 pub spelled_push : (entries : List Entry) (entry : Entry) → spelled_all (entries ++ entry ∷ []) ≡ spelled_all entries ++ spelled entry
 spelled_push [] entry = spelled_one entry ∙ ap (λ (l : List ℕ). l ++ spelled entry) (sym spelled_none)
-spelled_push (x ∷ entries) entry =
-    spelled_first x (entries ++ entry ∷ []) ∙ ap (λ (l : List ℕ). spelled x ++ l) (spelled_push entries entry)
-    ∙ sym (append_assoc (spelled x) (spelled_all entries) (spelled entry))
-    ∙ ap (λ (l : List ℕ). l ++ spelled entry) (sym (spelled_first x entries))
+spelled_push (x ∷ entries) entry = grind (arith, spelled_first, append_assoc, (spelled_push entries entry))
 
 pub lawful_push : (entries : List Entry) (entry : Entry) → AllByRecursion IsLawfulEntry entries → IsLawfulEntry entry → AllByRecursion IsLawfulEntry (entries ++ entry ∷ [])
 lawful_push [] entry each last = (last, tt)
@@ -103,11 +92,7 @@ read_again entries lawful =
     ap entries_of (sym (append-nil (spelled_all entries))) ∙ all_again entries [] lawful ∙ ap (λ (l : List Entry). entries ++ l) read_none ∙ append-nil entries
 
 spelled_more : (bytes : List ℕ) (entry : Entry) → IsLawfulEntry entry → Spelled bytes → Spelled (bytes ++ spelled entry)
-spelled_more bytes entry lawful s = record {
-  entries = s.entries ++ entry ∷ [];
-  lawful = lawful_push s.entries entry s.lawful lawful;
-  bytes_are = ap (λ (l : List ℕ). l ++ spelled entry) s.bytes_are ∙ sym (spelled_push s.entries entry);
-}
+spelled_more bytes entry lawful s = grind (arith, lawful_push, spelled_push)
 
 spelled_alone : (entry : Entry) → IsLawfulEntry entry → Spelled (spelled entry)
 spelled_alone entry lawful = record { entries = entry ∷ []; lawful = (lawful, tt); bytes_are = sym (spelled_one entry) }

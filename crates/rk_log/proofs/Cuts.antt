@@ -27,8 +27,7 @@ cut_push segments (x ∷ entries) entry = cut_push (with_bytes segments (spelled
 -- it ends where the last segment then does
 pub ends_push : (segments : List (List ℕ)) (entries : List Entry) (entry : Entry) → ends_after segments (entries ++ entry ∷ []) ≡ ends_after segments entries ++ end_of (with_bytes (cut_after segments entries) (spelled entry)) ∷ []
 ends_push segments [] entry = refl
-ends_push segments (x ∷ entries) entry =
-    ap (λ (more : List EntryEnd). end_of (with_bytes segments (spelled x)) ∷ more) (ends_push (with_bytes segments (spelled x)) entries entry)
+ends_push segments (x ∷ entries) entry = grind (arith, (ends_push (with_bytes segments (spelled x)) entries entry))
 
 -- each entry has an end
 pub length-ends : (segments : List (List ℕ)) (entries : List Entry) → length (ends_after segments entries) ≡ length entries
@@ -41,15 +40,7 @@ room_some segments bytes e = ltb-true 0 (length segments) (and_parts (ltb 0 (len
 
 -- bytes leave no fewer segments, and some
 pub some_segments : (segments : List (List ℕ)) (bytes : List ℕ) → (length segments ≤ length (with_bytes segments bytes)) × (1 ≤ length (with_bytes segments bytes))
-some_segments segments bytes =
-    cond_both (has_room segments bytes) (in_last segments bytes) (segments ++ bytes ∷ []) (λ s. (length segments ≤ length s) × (1 ≤ length s))
-    (λ e.
-    let some : 0 < length segments = room_some segments bytes e in
-    let same : length (in_last segments bytes) ≡ length segments = length-set segments (length segments - 1) (last_of segments ++ bytes) in
-    (omega arith, omega arith))
-    (λ e.
-    let more : length (segments ++ bytes ∷ []) ≡ length segments + 1 = length-append segments (bytes ∷ []) in
-    (omega arith, omega arith))
+some_segments segments bytes = grind (arith, cond_both, room_some, length-set, length-append)
 
 -- entries leave no fewer segments
 pub segments_grow : (segments : List (List ℕ)) (entries : List Entry) → length segments ≤ length (cut_after segments entries)

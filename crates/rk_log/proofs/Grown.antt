@@ -1,5 +1,5 @@
 -- Segments after bytes were put behind them, and known lengths after a backup told one.
-use Rattle.std.proofs.Common.{◌≡◌, ℕ, zero, suc, ◌+◌, ◌-◌, ◌<◌, ◌≤◌, max, true, false, cond, List, [], ◌∷◌, ◌++◌, length, get_or, set, replicate, Option, None, refl, sym, ap, subst, ◌∙◌, ⊎_elim, arith, length-set, length-append, get_or-set_same, get_or-set_other}
+use Rattle.std.proofs.Common.{◌≡◌, ℕ, zero, suc, ◌+◌, ◌-◌, ◌<◌, ◌≤◌, true, false, cond, List, [], ◌∷◌, ◌++◌, length, get_or, set, replicate, Option, None, refl, sym, ap, subst, ◌∙◌, ⊎_elim, arith, length-set, length-append, get_or-set_same, get_or-set_other}
 use Rattle.std.specs.Prelude.{slice_get}
 use Rattle.std.specs.Option.{option_map_or, option_or}
 use Rattle.std.specs.Global.{Vec}
@@ -8,9 +8,9 @@ use Rattle.std.proofs.lemmas.Bool.{cases_lt, cases_eq, cases_Bool, cond-true, co
 use Rattle.std.proofs.lemmas.List.{length-map, get_or_append_left, get_or_push, with_items_is}
 use Rattle.rk_entry.specs.declared.lists.TheConstants.{FIRST_SIDE_SEGMENT}
 use Rattle.rk_log.specs.declared.copied.Copied.{Copied}
-use Rattle.rk_log.specs.declared.copied.TheConstants.{FIRST_SEGMENT, MOST_BACKUPS}
+use Rattle.rk_log.specs.declared.copied.TheConstants.{FIRST_SEGMENT}
 use Rattle.rk_log.specs.Cut.{last_of, has_room, in_last, with_bytes}
-use Rattle.rk_log.specs.Parts.{bytes_in, lengths_in, none_known, copied_of, bytes_among, with_told_length, with_length, IsKnown, AreKnown}
+use Rattle.rk_log.specs.Parts.{bytes_in, lengths_in, none_known, copied_of, bytes_among, with_told_length, with_length, AreKnown}
 use Rattle.rk_log.proofs.Lookups.{copied_at, copied_past, with_length_before, with_length_at}
 
 -- nothing is known at any backup
@@ -21,27 +21,7 @@ zeros_at (suc n) (suc k) = zeros_at n k
 
 -- one more segment of which nothing is known
 pub known_push : (bytes lengths : List (List ℕ)) (more : List ℕ) → length bytes ≡ length lengths → AreKnown bytes lengths → AreKnown (bytes ++ more ∷ []) (lengths ++ none_known ∷ [])
-known_push bytes lengths more same known k h =
-    ⊎_elim
-    (λ (before : k < length lengths).
-    let old = known k before in
-    record {
-      each = ap length (get_or_append_left lengths (none_known ∷ []) [] k before) ∙ old.each;
-      within = λ backup.
-          omega (
-            arith,
-            ap (λ (l : List ℕ). get_or l backup 0) (get_or_append_left lengths (none_known ∷ []) [] k before),
-            ap length (get_or_append_left bytes (more ∷ []) [] k (omega arith)),
-            old.within backup,
-          );
-    })
-    (λ (last : length lengths ≤ k).
-    let at : length lengths ≡ k = omega (arith, length-append lengths (none_known ∷ [])) in
-    record {
-      each = ap length (get_or_push lengths none_known [] k at);
-      within = λ backup. omega (arith, ap (λ (l : List ℕ). get_or l backup 0) (get_or_push lengths none_known [] k at) ∙ zeros_at MOST_BACKUPS backup);
-    })
-    (cases_lt k (length lengths))
+known_push bytes lengths more same known k h = grind (arith, get_or_append_left, length-append, get_or_push, zeros_at, cases_lt)
 
 -- ---- bytes behind segments
 
@@ -58,70 +38,11 @@ pub record Grew (bytes lengths bytes' lengths' : List (List ℕ)) : Type 0 where
 
 -- in the last segment
 grew_last : (bytes lengths : List (List ℕ)) (more : List ℕ) → length bytes ≡ length lengths → AreKnown bytes lengths → 0 < length more → 0 < length bytes → Grew bytes lengths (in_last bytes more) lengths
-grew_last bytes lengths more same known some filled =
-    let count : length (in_last bytes more) ≡ length bytes = length-set bytes (length bytes - 1) (last_of bytes ++ more) in
-    let place : length (in_last bytes more) - 1 ≡ length bytes - 1 = omega arith in
-    let at : get_or (in_last bytes more) (length bytes - 1) [] ≡ last_of bytes ++ more = get_or-set_same bytes (length bytes - 1) (last_of bytes ++ more) [] (omega arith) in
-    record {
-      same_count = count ∙ same;
-      longer = omega arith;
-      at_most = omega arith;
-      some = omega arith;
-      before = λ k h. get_or-set_other bytes (length bytes - 1) k (last_of bytes ++ more) [] (λ e. omega arith);
-      lengths_stay = λ k h. refl;
-      known = λ k h.
-          ⊎_elim
-          (λ (last : k ≡ length bytes - 1).
-          record {
-            each = (known k h).each;
-            within = λ backup.
-                omega (
-                  arith,
-                  (known k h).within backup,
-                  ap (λ (n : ℕ). length (get_or bytes n [])) last,
-                  ap (λ (n : ℕ). length (get_or (in_last bytes more) n [])) last,
-                  ap length at,
-                  length-append (last_of bytes) more,
-                );
-          })
-          (λ (other : k ≡ length bytes - 1 → ⊥).
-          record {
-            each = (known k h).each;
-            within = λ backup.
-                omega (arith, (known k h).within backup, ap length (get_or-set_other bytes (length bytes - 1) k (last_of bytes ++ more) [] other));
-          })
-          (cases_eq k (length bytes - 1));
-      unheld =
-          omega (
-            arith,
-            ap (λ (n : ℕ). get_or (get_or lengths n []) 0 0) place,
-            (known (length bytes - 1) (omega arith)).within 0,
-            ap (λ (n : ℕ). length (get_or (in_last bytes more) n [])) place,
-            ap length at,
-            length-append (last_of bytes) more,
-          );
-    }
+grew_last bytes lengths more same known some filled = grind (arith, length-set, get_or-set_same, get_or-set_other, length-append, cases_eq)
 
 -- in one more
 grew_more : (bytes lengths : List (List ℕ)) (more : List ℕ) → length bytes ≡ length lengths → AreKnown bytes lengths → 0 < length more → Grew bytes lengths (bytes ++ more ∷ []) (lengths ++ none_known ∷ [])
-grew_more bytes lengths more same known some =
-    let count : length (bytes ++ more ∷ []) ≡ length bytes + 1 = length-append bytes (more ∷ []) in
-    let counts : length (lengths ++ none_known ∷ []) ≡ length lengths + 1 = length-append lengths (none_known ∷ []) in
-    record {
-      same_count = omega arith;
-      longer = omega arith;
-      at_most = omega arith;
-      some = omega arith;
-      before = λ k h. get_or_append_left bytes (more ∷ []) [] k (omega arith);
-      lengths_stay = λ k h. get_or_append_left lengths (none_known ∷ []) [] k h;
-      known = known_push bytes lengths more same known;
-      unheld =
-          omega (
-            arith,
-            ap (λ (l : List ℕ). get_or l 0 0) (get_or_push lengths none_known [] (length (bytes ++ more ∷ []) - 1) (omega arith)) ∙ zeros_at MOST_BACKUPS 0,
-            ap length (get_or_push bytes more [] (length (bytes ++ more ∷ []) - 1) (omega arith)),
-          );
-    }
+grew_more bytes lengths more same known some = grind (arith, length-append, get_or_append_left, known_push, get_or_push, zeros_at)
 
 -- in the last segment where they fit, and else in one more
 pub grew : (bytes lengths : List (List ℕ)) (more : List ℕ) (bytes' lengths' : List (List ℕ)) → length bytes ≡ length lengths → AreKnown bytes lengths → 0 < length more
@@ -169,27 +90,8 @@ rose_not lists = record { same = refl; each = λ k. refl; more = λ k x. omega a
 
 rose_at : (lists : List (List ℕ)) (at backup size : ℕ) → Rose lists (set lists at (with_told_length backup size (get_or lists at [])))
 rose_at [] at backup size = rose_not []
-rose_at (l ∷ lists) zero backup size = record { same = refl; each = each; more = more }
-  where
-    each : (k : ℕ) → length (get_or (with_told_length backup size l ∷ lists) k []) ≡ length (get_or (l ∷ lists) k [])
-    each zero = length-set l backup (max (get_or l backup 0) size)
-    each (suc k) = refl
-
-    more : (k x : ℕ) → get_or (get_or (l ∷ lists) k []) x 0 ≤ get_or (get_or (with_told_length backup size l ∷ lists) k []) x 0
-    more zero x = told_rises l backup size x
-    more (suc k) x = omega arith
-rose_at (l ∷ lists) (suc at) backup size = next (rose_at lists at backup size)
-  where
-    next : Rose lists (set lists at (with_told_length backup size (get_or lists at []))) → Rose (l ∷ lists) (l ∷ set lists at (with_told_length backup size (get_or lists at [])))
-    next r = record { same = ap suc r.same; each = each; more = more }
-      where
-        each : (k : ℕ) → length (get_or (l ∷ set lists at (with_told_length backup size (get_or lists at []))) k []) ≡ length (get_or (l ∷ lists) k [])
-        each zero = refl
-        each (suc k) = r.each k
-
-        more : (k x : ℕ) → get_or (get_or (l ∷ lists) k []) x 0 ≤ get_or (get_or (l ∷ set lists at (with_told_length backup size (get_or lists at []))) k []) x 0
-        more zero x = omega arith
-        more (suc k) x = r.more k x
+rose_at (l ∷ lists) zero backup size = grind (arith, length-set, told_rises)
+rose_at (l ∷ lists) (suc at) backup size = grind (arith, (rose_at lists at backup size))
 
 -- what a backup tells lowers no length
 pub rose : (first number backup size : ℕ) (lists : List (List ℕ)) → Rose lists (with_length first number backup size lists)
@@ -208,12 +110,7 @@ pub record Raised (first number backup size : ℕ) (segments segments' : List Co
 pub raised : (first number backup size : ℕ) (segments : Vec Copied) (lent told : List Copied) → lent ≡ segments.items → length told ≡ segments.len
     → bytes_in told ≡ bytes_in lent → lengths_in told ≡ with_length first number backup size (lengths_in lent)
     → Raised first number backup size segments.items (with_items segments told).items
-raised first number backup size segments lent told value count bytes lengths =
-    let written : (with_items segments told).items ≡ told = with_items_is segments told count in
-    record {
-      bytes = ap bytes_in written ∙ bytes ∙ ap bytes_in value;
-      lengths = ap lengths_in written ∙ lengths ∙ ap (λ (s : List Copied). with_length first number backup size (lengths_in s)) value;
-    }
+raised first number backup size segments lent told value count bytes lengths = grind (arith, with_items_is)
 
 -- then there are as many
 pub raised_count : (first number backup size : ℕ) (segments segments' : List Copied) → Raised first number backup size segments segments' → length segments' ≡ length segments
@@ -229,30 +126,7 @@ rose_in first number backup size segments segments' raised =
 pub known_told_lists : (first number backup size : ℕ) (bytes lengths : List (List ℕ)) → AreKnown bytes lengths → ((k : ℕ) → first + k ≡ number → k < length lengths → size ≤ length (get_or bytes k []))
     → AreKnown bytes (with_length first number backup size lengths)
 known_told_lists first number backup size bytes lengths known le =
-    ⊎_elim
-    (λ (h : number < first). subst (AreKnown bytes) (sym (with_length_before first number backup size lengths h)) known)
-    (λ (h : first ≤ number).
-    subst (AreKnown bytes) (sym (with_length_at first number backup size (number - first) lengths (omega arith)))
-    (at_place (number - first) (le (number - first) (omega arith))))
-    (cases_lt number first)
-  where
-    at_place : (at : ℕ) → (at < length lengths → size ≤ length (get_or bytes at [])) → AreKnown bytes (set lengths at (with_told_length backup size (get_or lengths at [])))
-    at_place at le k h =
-        let l : k < length lengths = omega (arith, length-set lengths at (with_told_length backup size (get_or lengths at []))) in
-        ⊎_elim
-        (λ (same : k ≡ at).
-        let is : get_or (set lengths at (with_told_length backup size (get_or lengths at []))) k [] ≡ with_told_length backup size (get_or lengths k []) =
-        ap (λ (n : ℕ). get_or (set lengths n (with_told_length backup size (get_or lengths n []))) k []) (sym same)
-        ∙ get_or-set_same lengths k (with_told_length backup size (get_or lengths k [])) [] l in
-        let enough : size ≤ length (get_or bytes k []) = omega (arith, le (omega arith), ap (λ (n : ℕ). length (get_or bytes n [])) same) in
-        record {
-          each = ap length is ∙ length-set (get_or lengths k []) backup (max (get_or (get_or lengths k []) backup 0) size) ∙ (known k l).each;
-          within = λ x. omega (arith, ap (λ (m : List ℕ). get_or m x 0) is, told_within (get_or lengths k []) backup size (length (get_or bytes k [])) (known k l).within enough x);
-        })
-        (λ (other : k ≡ at → ⊥).
-        let is : get_or (set lengths at (with_told_length backup size (get_or lengths at []))) k [] ≡ get_or lengths k [] = get_or-set_other lengths at k (with_told_length backup size (get_or lengths at [])) [] other in
-        subst (λ (m : List ℕ). IsKnown (get_or bytes k []) m) (sym is) (known k l))
-        (cases_eq k at)
+    grind (arith, with_length_before, with_length_at, cases_lt, length-set, get_or-set_same, told_within, get_or-set_other, cases_eq)
 
 -- ---- the bytes of a segment by its place
 

@@ -17,33 +17,9 @@ greater_less o l h = cond-true (ltb (unwrap_or o 0) l) (Some l) o (lt-ltb _ _ h)
 greater_more : (o : Option ℕ) (l : ℕ) → l ≤ unwrap_or o 0 → greater_of o l ≡ o
 greater_more o l h = cond-false (ltb (unwrap_or o 0) l) (Some l) o (le-ltb _ _ h)
 
-greater_of_some : (x y : ℕ) → greater_of (Some x) y ≡ Some (max x y)
-greater_of_some x y =
-    ⊎_elim
-    (λ (h : x < y). let m : y ≡ max x y = omega arith in greater_less (Some x) y h ∙ ap (λ (n : ℕ). Some n) m)
-    (λ (h : y ≤ x). let m : x ≡ max x y = omega arith in greater_more (Some x) y h ∙ ap (λ (n : ℕ). Some n) m)
-    (cases_lt x y)
-
 -- two numbers after another are the greater of them
 greater_twice : (o : Option ℕ) (x y : ℕ) → greater_of (greater_of o x) y ≡ greater_of o (max x y)
-greater_twice o x y =
-    ⊎_elim
-    (λ (h : unwrap_or o 0 < x).
-    ap (λ (p : Option ℕ). greater_of p y) (greater_less o x h) ∙ greater_of_some x y ∙ sym (greater_less o (max x y) (omega arith)))
-    (λ (h : x ≤ unwrap_or o 0).
-    ap (λ (p : Option ℕ). greater_of p y) (greater_more o x h)
-    ∙ ⊎_elim
-    (λ (g : unwrap_or o 0 < y). let m : y ≡ max x y = omega arith in ap (greater_of o) m)
-    (λ (g : y ≤ unwrap_or o 0). greater_more o y g ∙ sym (greater_more o (max x y) (omega arith)))
-    (cases_lt (unwrap_or o 0) y))
-    (cases_lt (unwrap_or o 0) x)
-
-greater_length : (o : Option ℕ) (l : ℕ) → unwrap_or (greater_of o l) 0 ≡ max (unwrap_or o 0) l
-greater_length o l =
-    ⊎_elim
-    (λ (h : unwrap_or o 0 < l). let m : l ≡ max (unwrap_or o 0) l = omega arith in ap (λ (p : Option ℕ). unwrap_or p 0) (greater_less o l h) ∙ m)
-    (λ (h : l ≤ unwrap_or o 0). let m : unwrap_or o 0 ≡ max (unwrap_or o 0) l = omega arith in ap (λ (p : Option ℕ). unwrap_or p 0) (greater_more o l h) ∙ m)
-    (cases_lt (unwrap_or o 0) l)
+greater_twice o x y = grind (arith, greater_less, greater_more, cases_lt)
 
 -- what is known of a segment once a length was told
 pub get_told : (known : Known) (segment length q : ℕ) → get (told known segment length) q ≡ cond (eqb q segment) (greater_of (get known q) length) (get known q)
@@ -74,15 +50,11 @@ get_told known segment length q =
 
 -- and the numbers stay in order
 pub told_in_order : (known : Known) (segment length : ℕ) → IsInOrder known → IsInOrder (told known segment length)
-told_in_order known segment length order =
-    cond_both (ltb (known_length known segment) length) (insert known segment length) known IsInOrder
-    (λ e. in_order_insert known segment length order) (λ e. order)
+told_in_order known segment length order = grind (arith, cond_both, ltb, in_order_insert)
 
 -- the length that is known of the segment that was told of is the greater
 pub told_length : (known : Known) (segment length q : ℕ) → q ≡ segment → known_length (told known segment length) q ≡ max (known_length known q) length
-told_length known segment length q same =
-    ap (λ (o : Option ℕ). unwrap_or o 0) (get_told known segment length q ∙ cond-true _ _ _ (eq-eqb q segment same))
-    ∙ greater_length (get known q) length
+told_length known segment length q same = grind (arith, get_told, cond-true, eq-eqb, greater_less, greater_more, cases_lt)
 
 -- and of every other it stays
 pub told_other : (known : Known) (segment length q : ℕ) → (q ≡ segment → ⊥) → known_length (told known segment length) q ≡ known_length known q
@@ -91,11 +63,7 @@ told_other known segment length q other =
 
 -- so no known length falls
 pub told_more : (known : Known) (segment length q : ℕ) → known_length known q ≤ known_length (told known segment length) q
-told_more known segment length q =
-    ⊎_elim
-    (λ (same : q ≡ segment). omega (arith, told_length known segment length q same))
-    (λ (other : q ≡ segment → ⊥). omega (arith, told_other known segment length q other))
-    (cases_eq q segment)
+told_more known segment length q = grind (arith, told_length, told_other, cases_eq)
 
 -- no bytes tell nothing
 pub told_none : (known : Known) (segment : ℕ) → told known segment 0 ≡ known
@@ -103,17 +71,7 @@ told_none known segment = cond-false (ltb (known_length known segment) 0) (inser
 
 -- two lengths of one segment tell the greater
 pub told_twice : (known : Known) (segment x y : ℕ) → IsInOrder known → told (told known segment x) segment y ≡ told known segment (max x y)
-told_twice known segment x y order =
-    same_map (told (told known segment x) segment y) (told known segment (max x y))
-    (told_in_order (told known segment x) segment y (told_in_order known segment x order)) (told_in_order known segment (max x y) order) (λ q.
-    get_told (told known segment x) segment y q
-    ∙ ap (λ (o : Option ℕ). cond (eqb q segment) (greater_of o y) o) (get_told known segment x q)
-    ∙ both (eqb q segment) (get known q)
-    ∙ sym (get_told known segment (max x y) q))
-  where
-    both : (b : Bool) (o : Option ℕ) → cond b (greater_of (cond b (greater_of o x) o) y) (cond b (greater_of o x) o) ≡ cond b (greater_of o (max x y)) o
-    both true o = greater_twice o x y
-    both false o = refl
+told_twice known segment x y order = grind (arith, same_map, told_in_order, get_told, eqb, greater_twice)
 
 -- the order of what is told does not matter
 pub told_comm : (known : Known) (a x b y : ℕ) → IsInOrder known → told (told known a x) b y ≡ told (told known b y) a x
@@ -142,8 +100,7 @@ told_comm known a x b y order =
 -- its numbers are in order
 pub known_in_order : (backup first : ℕ) (lists : List (List ℕ)) (others : Known) → IsInOrder others → IsInOrder (known_from backup first lists others)
 known_in_order backup first [] others order = order
-known_in_order backup first (l ∷ lists) others order =
-    told_in_order (known_from backup (suc first) lists others) first (get_or l backup 0) (known_in_order backup (suc first) lists others order)
+known_in_order backup first (l ∷ lists) others order = grind (arith, told_in_order, (known_in_order backup (suc first) lists others order))
 
 -- nothing of those before them
 pub known_before : (backup first : ℕ) (lists : List (List ℕ)) (others : Known) (q : ℕ) → q < first → known_length (known_from backup first lists others) q ≡ known_length others q
@@ -161,9 +118,7 @@ known_behind backup first (l ∷ lists) others q h =
 pub known_within : (backup first : ℕ) (lists : List (List ℕ)) (others : Known) (k q : ℕ) → first + k ≡ q → k < length lists → known_length others q ≡ 0
     → known_length (known_from backup first lists others) q ≡ get_or (get_or lists k []) backup 0
 known_within backup first [] others k q e h none = absurd (omega arith)
-known_within backup first (l ∷ lists) others zero q e h none =
-    let rest = known_before backup (suc first) lists others q (omega arith) in
-    omega (arith, told_length (known_from backup (suc first) lists others) first (get_or l backup 0) q (omega arith), rest, none)
+known_within backup first (l ∷ lists) others zero q e h none = grind (arith, known_before, told_length)
 known_within backup first (l ∷ lists) others (suc k) q e h none =
     told_other (known_from backup (suc first) lists others) first (get_or l backup 0) q (λ same. omega arith)
     ∙ known_within backup (suc first) lists others k q (omega arith) (omega arith) none
@@ -173,8 +128,7 @@ pub known_from_told : (backup first : ℕ) (lists : List (List ℕ)) (others : K
     → known_from backup first lists (told others q length) ≡ told (known_from backup first lists others) q length
 known_from_told backup first [] others q length order = refl
 known_from_told backup first (l ∷ lists) others q length order =
-    ap (λ (known : Known). told known first (get_or l backup 0)) (known_from_told backup (suc first) lists others q length order)
-    ∙ told_comm (known_from backup (suc first) lists others) q length first (get_or l backup 0) (known_in_order backup (suc first) lists others order)
+    grind (arith, told_comm, known_in_order, (known_from_told backup (suc first) lists others q length order))
 
 -- one more segment of which nothing is known
 pub known_from_push : (backup first : ℕ) (lists : List (List ℕ)) (l : List ℕ) (others : Known) → get_or l backup 0 ≡ 0 → known_from backup first (lists ++ l ∷ []) others ≡ known_from backup first lists others
@@ -186,11 +140,7 @@ pub known_from_set : (backup first : ℕ) (lists : List (List ℕ)) (others : Kn
     → backup < length (get_or lists k []) → IsInOrder others
     → known_from backup first (set lists k (with_told_length backup size (get_or lists k []))) others ≡ told (known_from backup first lists others) q size
 known_from_set backup first [] others k q size e h w order = absurd (omega arith)
-known_from_set backup first (l ∷ lists) others zero q size e h w order =
-    let at : first ≡ q = omega arith in
-    ap (told (known_from backup (suc first) lists others) first) (get_or-set_same l backup (max (get_or l backup 0) size) 0 w)
-    ∙ sym (told_twice (known_from backup (suc first) lists others) first (get_or l backup 0) size (known_in_order backup (suc first) lists others order))
-    ∙ ap (λ (n : ℕ). told (told (known_from backup (suc first) lists others) first (get_or l backup 0)) n size) at
+known_from_set backup first (l ∷ lists) others zero q size e h w order = grind (arith, get_or-set_same, told_twice, known_in_order)
 known_from_set backup first (l ∷ lists) others (suc k) q size e h w order =
     ap (λ (known : Known). told known first (get_or l backup 0)) (known_from_set backup (suc first) lists others k q size (omega arith) (omega arith) w order)
     ∙ told_comm (known_from backup (suc first) lists others) q size first (get_or l backup 0) (known_in_order backup (suc first) lists others order)
@@ -199,7 +149,6 @@ known_from_set backup first (l ∷ lists) others (suc k) q size e h w order =
 pub known_from_other : (backup teller first : ℕ) (lists : List (List ℕ)) (others : Known) (k size : ℕ) → (backup ≡ teller → ⊥)
     → known_from backup first (set lists k (with_told_length teller size (get_or lists k []))) others ≡ known_from backup first lists others
 known_from_other backup teller first [] others k size other = refl
-known_from_other backup teller first (l ∷ lists) others zero size other =
-    ap (told (known_from backup (suc first) lists others) first) (get_or-set_other l teller backup (max (get_or l teller 0) size) 0 other)
+known_from_other backup teller first (l ∷ lists) others zero size other = grind (arith, get_or-set_other)
 known_from_other backup teller first (l ∷ lists) others (suc k) size other =
     ap (λ (known : Known). told known first (get_or l backup 0)) (known_from_other backup teller (suc first) lists others k size other)

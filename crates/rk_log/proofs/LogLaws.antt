@@ -1,16 +1,14 @@
 -- The laws of what is committed and known.
 use Rattle.std.proofs.Common.{◌≡◌, ℕ, ◌+◌, ◌-◌, ◌<◌, ◌≤◌, max, true, [], length, get_or, Option, Some, None, refl, sym, ap, subst, ◌∙◌, ⊎_elim, arith, get_or-set_same, get_or-set_other}
 use Rattle.std.specs.Prelude.{slice_get, IfSome}
-use Rattle.std.specs.List.{list_all, prefix_len}
 use Rattle.rk_log.specs.Known.{nothing}
 use Rattle.std.proofs.lemmas.Bool.{le-leb, leb-true, cases_lt}
 use Rattle.std.proofs.lemmas.List.{set_past, get_or_default}
 use Rattle.std.proofs.lemmas.List.Sums.{prefix_len_passes}
 use Rattle.std.proofs.lemmas.Option.{slice_get-get_or, get_or_from_slice_get}
 use Rattle.rk_entry.specs.declared.entry.Entry.{Entry}
-use Rattle.rk_entry.specs.Spelling.{spelled}
 use Rattle.rk_log.specs.declared.ends.EntryEnd.{EntryEnd}
-use Rattle.rk_log.specs.Cut.{cut_after, ends, end_of, with_bytes}
+use Rattle.rk_log.specs.Cut.{ends}
 use Rattle.rk_log.specs.Known.{Known, known_length, told, reaches}
 use Rattle.rk_log.specs.Log.{Log, IsBackup, HoldsEntry, is_held, committed, known_of, with_entry, with_told}
 use Rattle.rk_log.proofs.Prefixes.{pass_then, prefix_len_weaker, prefix_len_push_le, list_all_each, list_all_from, list_all-set}
@@ -49,28 +47,12 @@ committed_greatest log count le holds =
 
 -- one more entry
 pub committed_entry : (log : Log) (entry : Entry) → committed log ≤ committed (with_entry log entry)
-committed_entry log entry =
-    omega (
-      arith,
-      prefix_len_push_le (is_held log.known) (ends log.entries) (end_of (with_bytes (cut_after [] log.entries) (spelled entry))),
-      ap (prefix_len (is_held log.known)) (ends_push [] log.entries entry),
-    )
+committed_entry log entry = grind (arith, prefix_len_push_le, ends_push)
 
 -- a told length
 pub committed_told : (log : Log) (backup segment size : ℕ) → committed log ≤ committed (with_told log backup segment size)
 committed_told log backup segment size =
-    prefix_len_weaker (is_held log.known) (is_held (with_told log backup segment size).known) (ends log.entries) (λ end held.
-    ⊎_elim
-    (λ (h : backup - 1 < length log.known).
-    list_all-set (λ (known : Known). reaches known end) log.known (backup - 1) (told (known_of log backup) segment size) held
-    (le-leb _ _ (omega (
-      arith,
-      leb-true _ _ (list_all_each (λ (known : Known). reaches known end) log.known (backup - 1) nothing held h),
-      told_more (known_of log backup) segment size end.segment,
-    ))))
-    (λ (h : length log.known ≤ backup - 1).
-    ap (list_all (λ (known : Known). reaches known end)) (set_past log.known (backup - 1) (told (known_of log backup) segment size) h) ∙ held)
-    (cases_lt (backup - 1) (length log.known)))
+    grind (arith, prefix_len_weaker, list_all-set, le-leb, leb-true, list_all_each, told_more, set_past, cases_lt)
 
 -- what the teller is known to hold
 teller_now : (log : Log) (backup segment size : ℕ) → IsBackup log backup → known_of (with_told log backup segment size) backup ≡ told (known_of log backup) segment size

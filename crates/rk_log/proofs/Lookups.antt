@@ -1,8 +1,8 @@
 -- What contracts see of a log, by the parts that stand for it.
-use Rattle.std.proofs.Common.{◌≡◌, ℕ, zero, suc, ◌+◌, ◌-◌, ◌<◌, ◌≤◌, Bool, true, false, cond, not, leb, ltb, eqb, List, [], ◌∷◌, ◌++◌, ◌⊎◌, length, get_or, set, take, drop, Option, Some, None, refl, sym, ap, ◌∙◌, ⊎_elim, inl, inr, arith, length-set, get_or-set_same, get_or-set_other}
+use Rattle.std.proofs.Common.{◌≡◌, ℕ, zero, suc, ◌+◌, ◌-◌, ◌<◌, ◌≤◌, Bool, true, false, cond, not, leb, ltb, eqb, List, [], ◌∷◌, ◌++◌, ◌⊎◌, length, get_or, set, take, drop, Option, Some, None, refl, ap, ◌∙◌, ⊎_elim, inl, inr, arith, length-set, get_or-set_same, get_or-set_other}
 use Rattle.std.specs.Prelude.{slice_get}
-use Rattle.std.specs.List.{find, list_all, prefix_len, range_with_len}
-use Rattle.std.specs.Option.{option_map, option_map_or, option_or}
+use Rattle.std.specs.List.{find, list_all, prefix_len}
+use Rattle.std.specs.Option.{option_map, option_map_or}
 use Rattle.rk_log.specs.Known.{nothing}
 use Rattle.std.proofs.lemmas.Bool.{lt-ltb, le-ltb, eq-eqb, ne_eqb, cases_lt, cases_eq, cond-true, cond-false}
 use Rattle.std.proofs.lemmas.List.{set_past, same_lists}
@@ -29,9 +29,7 @@ copied_before first number segments h = cond-true (ltb number first) None (slice
 
 -- from the first on numbers are places
 pub copied_at : (first number : ℕ) (segments : List Copied) (k : ℕ) → first + k ≡ number → copied_of first number segments ≡ slice_get segments k
-copied_at first number segments k e =
-    let place : number - first ≡ k = omega arith in
-    cond-false (ltb number first) None (slice_get segments (number - first)) (le-ltb number first (omega arith)) ∙ ap (slice_get segments) place
+copied_at first number segments k e = grind (arith, cond-false, ltb, le-ltb)
 
 -- and none has one behind the last
 pub copied_past : (first number : ℕ) (segments : List Copied) → first + length segments ≤ number → copied_of first number segments ≡ None
@@ -43,45 +41,26 @@ shown number copied = record { number = number; bytes = copied.segment.bytes }
 
 -- the segment of a number is found by its place
 pub find_numbered : (number first : ℕ) (segments : List Copied) → segment_of number (numbered first (bytes_in segments)) ≡ option_map (shown number) (copied_of first number segments)
-find_numbered number first [] =
-    ⊎_elim
-    (λ (h : number < first). ap (option_map (shown number)) (sym (copied_before first number [] h)))
-    (λ (h : first ≤ number). ap (option_map (shown number)) (sym (copied_past first number [] (omega arith))))
-    (cases_lt number first)
+find_numbered number first [] = grind (arith, copied_before, copied_past, cases_lt)
 find_numbered number first (c ∷ segments) =
-    ⊎_elim
-    (λ (same : first ≡ number).
-    cond-true (eqb first number) (Some (shown first c)) (segment_of number (numbered (suc first) (bytes_in segments))) (eq-eqb first number same)
-    ∙ ap (λ (n : ℕ). Some (shown n c)) same
-    ∙ ap (option_map (shown number)) (sym (copied_at first number (c ∷ segments) zero (omega arith))))
-    (λ (other : first ≡ number → ⊥).
-    cond-false (eqb first number) (Some (shown first c)) (segment_of number (numbered (suc first) (bytes_in segments))) (ne_eqb first number other)
-    ∙ find_numbered number (suc first) segments
-    ∙ ap (option_map (shown number))
-    (⊎_elim
-    (λ (h : number < first). copied_before (suc first) number segments (omega arith) ∙ sym (copied_before first number (c ∷ segments) h))
-    (λ (h : first ≤ number).
-    let above : first < number = above_of first number h other in
-    copied_at (suc first) number segments (number - suc first) (omega arith) ∙ sym (copied_at first number (c ∷ segments) (suc (number - suc first)) (omega arith)))
-    (cases_lt number first)))
-    (cases_eq first number)
-  where
-    above_of : (a b : ℕ) → a ≤ b → (a ≡ b → ⊥) → a < b
-    above_of a b h other = ⊎_elim (λ (l : a < b). l) (λ (l : b ≤ a). absurd (other (omega arith))) (cases_lt a b)
+    grind (
+      arith,
+      cond-true,
+      eqb,
+      eq-eqb,
+      copied_at,
+      cond-false,
+      ne_eqb,
+      copied_before,
+      cases_lt,
+      cases_eq,
+      (find_numbered number (suc first) segments),
+    )
 
 -- the bytes of a segment among main and side segments
 pub bytes_are : (number : ℕ) (main sides : List Copied)
     → option_map_or (λ (segment : NumberedBytes). segment.bytes) (segment_of number (numbered FIRST_SEGMENT (bytes_in main) ++ numbered FIRST_SIDE_SEGMENT (bytes_in sides))) [] ≡ bytes_among number main sides
-bytes_are number main sides =
-    ap (λ (o : Option NumberedBytes). option_map_or (λ (segment : NumberedBytes). segment.bytes) o [])
-    (find-append (λ (segment : NumberedBytes). eqb segment.number number) (numbered FIRST_SEGMENT (bytes_in main)) (numbered FIRST_SIDE_SEGMENT (bytes_in sides))
-    ∙ (λ i. option_or (find_numbered number FIRST_SEGMENT main i) (find_numbered number FIRST_SIDE_SEGMENT sides i)))
-    ∙ either (copied_of FIRST_SEGMENT number main) (copied_of FIRST_SIDE_SEGMENT number sides)
-  where
-    either : (a b : Option Copied) → option_map_or (λ (segment : NumberedBytes). segment.bytes) (option_or (option_map (shown number) a) (option_map (shown number) b)) [] ≡ option_map_or (λ (copied : Copied). copied.segment.bytes) (option_or a b) []
-    either (Some c) b = refl
-    either None (Some c) = refl
-    either None None = refl
+bytes_are number main sides = grind (arith, find-append, eqb, find_numbered)
 
 -- ---- what is missing
 
@@ -117,15 +96,11 @@ nothing_known q = refl
 
 -- of a main segment
 pub main_length : (main sides : List (List ℕ)) (backup k q : ℕ) → FIRST_SEGMENT + k ≡ q → k < length main → length main < FIRST_SIDE_SEGMENT → known_length (known_at main sides backup) q ≡ get_or (get_or main k []) backup 0
-main_length main sides backup k q e h few =
-    known_within backup FIRST_SEGMENT main (known_from backup FIRST_SIDE_SEGMENT sides nothing) k q e h
-    (known_before backup FIRST_SIDE_SEGMENT sides nothing q (omega arith) ∙ nothing_known q)
+main_length main sides backup k q e h few = grind (arith, known_within, known_before, nothing_known)
 
 -- of a side segment
 pub side_length : (main sides : List (List ℕ)) (backup k q : ℕ) → FIRST_SIDE_SEGMENT + k ≡ q → k < length sides → length main < FIRST_SIDE_SEGMENT → known_length (known_at main sides backup) q ≡ get_or (get_or sides k []) backup 0
-side_length main sides backup k q e h few =
-    known_behind backup FIRST_SEGMENT main (known_from backup FIRST_SIDE_SEGMENT sides nothing) q (omega arith)
-    ∙ known_within backup FIRST_SIDE_SEGMENT sides nothing k q e h (nothing_known q)
+side_length main sides backup k q e h few = grind (arith, known_behind, known_within, nothing_known)
 
 -- what one of the backups holds
 pub known_of_backup : (backups : ℕ) (main sides : List (List ℕ)) (k : ℕ) (d : Known) → k < backups → get_or (known_by backups main sides) k d ≡ known_at main sides k
@@ -139,10 +114,7 @@ length-known_by backups main sides = length-map-range_with_len (known_at main si
 pub all_reach : (backups : ℕ) (main sides : List (List ℕ)) (number offset : ℕ) (lengths : List ℕ) → backups ≤ length lengths
     → ((backup : ℕ) → known_length (known_at main sides backup) number ≡ get_or lengths backup 0)
     → list_all (λ (known : Known). leb offset (known_length known number)) (known_by backups main sides) ≡ list_all (leb offset) (take backups lengths)
-all_reach backups main sides number offset lengths le is =
-    list_all-map (λ (known : Known). leb offset (known_length known number)) (known_at main sides) (range_with_len 0 backups)
-    ∙ ap (λ (p : ℕ → Bool). list_all p (range_with_len 0 backups)) (λ i backup. leb offset (is backup i))
-    ∙ list_all_front (leb offset) lengths backups le
+all_reach backups main sides number offset lengths le is = grind (arith, list_all-map, leb, list_all_front)
 
 -- an entry is held by all
 pub held_is : (backups : ℕ) (main sides : List (List ℕ)) (end : EntryEnd) → 1 ≤ end.segment → end.segment ≤ length main → length main < FIRST_SIDE_SEGMENT
@@ -167,34 +139,16 @@ pub with_length_before : (first number backup size : ℕ) (lists : List (List �
 with_length_before first number backup size lists h = cond-true (ltb number first) lists _ (lt-ltb number first h)
 
 pub with_length_past : (first number backup size : ℕ) (lists : List (List ℕ)) → first + length lists ≤ number → with_length first number backup size lists ≡ lists
-with_length_past first number backup size lists h =
-    cond-false (ltb number first) lists _ (le-ltb number first (omega arith))
-    ∙ set_past lists (number - first) (with_told_length backup size (get_or lists (number - first) [])) (omega arith)
+with_length_past first number backup size lists h = grind (arith, cond-false, ltb, le-ltb, set_past)
 
 -- of one that is there its length
 pub with_length_at : (first number backup size k : ℕ) (lists : List (List ℕ)) → first + k ≡ number → with_length first number backup size lists ≡ set lists k (with_told_length backup size (get_or lists k []))
-with_length_at first number backup size k lists e =
-    let place : number - first ≡ k = omega arith in
-    cond-false (ltb number first) lists _ (le-ltb number first (omega arith))
-    ∙ ap (λ (n : ℕ). set lists n (with_told_length backup size (get_or lists n []))) place
+with_length_at first number backup size k lists e = grind (arith, cond-false, ltb, le-ltb)
 
 -- what it tells of these segments
 pub known_from_with_length : (first number backup size : ℕ) (lists : List (List ℕ)) (others : Known) (k : ℕ) → first + k ≡ number → k < length lists → backup < length (get_or lists k []) → IsInOrder others
     → known_from backup first (with_length first number backup size lists) others ≡ told (known_from backup first lists others) number size
-known_from_with_length first number backup size lists others k e h w order =
-    ap (λ (l : List (List ℕ)). known_from backup first l others) (with_length_at first number backup size k lists e)
-    ∙ known_from_set backup first lists others k number size e h w order
-
--- what it tells changes nothing at another backup
-pub known_from_teller : (first number backup teller size : ℕ) (lists : List (List ℕ)) (others : Known) → (backup ≡ teller → ⊥)
-    → known_from backup first (with_length first number teller size lists) others ≡ known_from backup first lists others
-known_from_teller first number backup teller size lists others other =
-    ⊎_elim
-    (λ (h : number < first). ap (λ (l : List (List ℕ)). known_from backup first l others) (with_length_before first number teller size lists h))
-    (λ (h : first ≤ number).
-    ap (λ (l : List (List ℕ)). known_from backup first l others) (with_length_at first number teller size (number - first) lists (omega arith))
-    ∙ known_from_other backup teller first lists others (number - first) size other)
-    (cases_lt number first)
+known_from_with_length first number backup size lists others k e h w order = grind (arith, with_length_at, known_from_set)
 
 -- where a segment stands: among the main ones, among the side ones, or nowhere
 pub data Place (main sides number : ℕ) : Type 0 where
@@ -223,28 +177,7 @@ place_of main sides number few =
 
 -- lengths of segments that are not among these stay
 with_length_apart : (first number backup size : ℕ) (lists : List (List ℕ)) → (number < first) ⊎ (first + length lists ≤ number) → with_length first number backup size lists ≡ lists
-with_length_apart first number backup size lists apart =
-    ⊎_elim
-    (λ (h : number < first). with_length_before first number backup size lists h)
-    (λ (h : first + length lists ≤ number). with_length_past first number backup size lists h)
-    apart
-
--- what the teller is then known to hold
-told_at : (main sides : List (List ℕ)) (number backup size : ℕ) → length main < FIRST_SIDE_SEGMENT
-    → ((k : ℕ) → k < length main → backup < length (get_or main k [])) → ((k : ℕ) → k < length sides → backup < length (get_or sides k []))
-    → Place (length main) (length sides) number → ((number < FIRST_SEGMENT) ⊎ (FIRST_SEGMENT + length main ≤ number) → (number < FIRST_SIDE_SEGMENT) ⊎ (FIRST_SIDE_SEGMENT + length sides ≤ number) → size ≡ 0)
-    → known_at (with_length FIRST_SEGMENT number backup size main) (with_length FIRST_SIDE_SEGMENT number backup size sides) backup ≡ told (known_at main sides backup) number size
-told_at main sides number backup size few wide_main wide_sides (among_main k e h) none =
-    ap (λ (s : List (List ℕ)). known_at (with_length FIRST_SEGMENT number backup size main) s backup) (with_length_before FIRST_SIDE_SEGMENT number backup size sides (omega arith))
-    ∙ known_from_with_length FIRST_SEGMENT number backup size main (known_from backup FIRST_SIDE_SEGMENT sides nothing) k e h (wide_main k h) (known_in_order backup FIRST_SIDE_SEGMENT sides nothing tt)
-told_at main sides number backup size few wide_main wide_sides (among_sides k e h) none =
-    ap (λ (m : List (List ℕ)). known_at m (with_length FIRST_SIDE_SEGMENT number backup size sides) backup) (with_length_past FIRST_SEGMENT number backup size main (omega arith))
-    ∙ ap (known_from backup FIRST_SEGMENT main) (known_from_with_length FIRST_SIDE_SEGMENT number backup size sides nothing k e h (wide_sides k h) tt)
-    ∙ known_from_told backup FIRST_SEGMENT main (known_from backup FIRST_SIDE_SEGMENT sides nothing) number size (known_in_order backup FIRST_SIDE_SEGMENT sides nothing tt)
-told_at main sides number backup size few wide_main wide_sides (nowhere a b) none =
-    (λ i. known_at (with_length_apart FIRST_SEGMENT number backup size main a i) (with_length_apart FIRST_SIDE_SEGMENT number backup size sides b i) backup)
-    ∙ sym (told_none (known_at main sides backup) number)
-    ∙ ap (told (known_at main sides backup) number) (sym (none a b))
+with_length_apart first number backup size lists apart = grind (arith, with_length_before, with_length_past)
 
 -- what all backups are then known to hold
 pub known_told : (backups : ℕ) (main sides : List (List ℕ)) (number backup size : ℕ) → backup < backups → length main < FIRST_SIDE_SEGMENT
@@ -253,22 +186,24 @@ pub known_told : (backups : ℕ) (main sides : List (List ℕ)) (number backup s
     → known_by backups (with_length FIRST_SEGMENT number backup size main) (with_length FIRST_SIDE_SEGMENT number backup size sides)
     ≡ set (known_by backups main sides) backup (told (get_or (known_by backups main sides) backup nothing) number size)
 known_told backups main sides number backup size within few wide_main wide_sides none =
-    let now : Known = told (get_or (known_by backups main sides) backup nothing) number size in
-    same_lists _ _
-    (length-known_by backups (with_length FIRST_SEGMENT number backup size main) (with_length FIRST_SIDE_SEGMENT number backup size sides)
-    ∙ sym (length-set (known_by backups main sides) backup now ∙ length-known_by backups main sides))
-    (λ k d h.
-    let below : k < backups = omega (arith, length-known_by backups (with_length FIRST_SEGMENT number backup size main) (with_length FIRST_SIDE_SEGMENT number backup size sides)) in
-    known_of_backup backups (with_length FIRST_SEGMENT number backup size main) (with_length FIRST_SIDE_SEGMENT number backup size sides) k d below
-    ∙ ⊎_elim
-    (λ (same : k ≡ backup).
-    ap (known_at (with_length FIRST_SEGMENT number backup size main) (with_length FIRST_SIDE_SEGMENT number backup size sides)) same
-    ∙ told_at main sides number backup size few wide_main wide_sides (place_of (length main) (length sides) number few) none
-    ∙ ap (λ (m : Known). told m number size) (sym (known_of_backup backups main sides backup nothing within))
-    ∙ sym (ap (λ (n : ℕ). get_or (set (known_by backups main sides) backup now) n d) same
-    ∙ get_or-set_same (known_by backups main sides) backup now d (omega (arith, length-known_by backups main sides))))
-    (λ (other : k ≡ backup → ⊥).
-    ap (λ (m : Known). known_from k FIRST_SEGMENT (with_length FIRST_SEGMENT number backup size main) m) (known_from_teller FIRST_SIDE_SEGMENT number k backup size sides nothing other)
-    ∙ known_from_teller FIRST_SEGMENT number k backup size main (known_from k FIRST_SIDE_SEGMENT sides nothing) other
-    ∙ sym (get_or-set_other (known_by backups main sides) backup k now d other ∙ known_of_backup backups main sides k d below))
-    (cases_eq k backup))
+    grind (
+      arith,
+      same_lists,
+      length-known_by,
+      length-set,
+      known_of_backup,
+      place_of,
+      get_or-set_same,
+      get_or-set_other,
+      cases_eq,
+      with_length_before,
+      known_from_with_length,
+      known_in_order,
+      with_length_past,
+      known_from_told,
+      with_length_apart,
+      told_none,
+      with_length_at,
+      known_from_other,
+      cases_lt,
+    )

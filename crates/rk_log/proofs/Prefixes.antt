@@ -1,5 +1,5 @@
 -- The longest front of a list that passes a test, and lists that pass one.
-use Rattle.std.proofs.Common.{◌≡◌, ℕ, zero, suc, ◌+◌, ◌<◌, ◌≤◌, Bool, true, false, cond, ◌&&◌, leb, List, [], ◌∷◌, ◌++◌, length, get_or, set, take, drop, refl, sym, ap, ◌∙◌, arith, length-take-le, get_or-take}
+use Rattle.std.proofs.Common.{◌≡◌, ℕ, zero, suc, ◌+◌, ◌<◌, ◌≤◌, Bool, true, false, cond, leb, List, [], ◌∷◌, ◌++◌, length, get_or, set, take, drop, refl, sym, ap, ◌∙◌, arith, length-take-le, get_or-take}
 use Rattle.std.proofs.lemmas.Bool.{and_parts, and_from, le-leb, leb-true, lt-leb}
 use Rattle.std.proofs.lemmas.List.Folds.{list_all-map}
 use Rattle.std.proofs.lemmas.List.FromFn.{fill_by_all}
@@ -25,11 +25,7 @@ prefix_len_same p q (x ∷ xs) h =
 -- a test that passes wherever another does counts at least the same front
 pub prefix_len_weaker : {X : Type 0} (p q : X → Bool) (xs : List X) → ((x : X) → p x ≡ true → q x ≡ true) → prefix_len p xs ≤ prefix_len q xs
 prefix_len_weaker p q [] h = omega arith
-prefix_len_weaker p q (x ∷ xs) h = step (p x) (q x) (h x) (prefix_len p xs) (prefix_len q xs) (prefix_len_weaker p q xs h)
-  where
-    step : (a b : Bool) → (a ≡ true → b ≡ true) → (m n : ℕ) → m ≤ n → cond a (1 + m) 0 ≤ cond b (1 + n) 0
-    step true b h m n le = rw (h refl) (omega arith)
-    step false b h m n le = omega arith
+prefix_len_weaker p q (x ∷ xs) h = grind (arith, (prefix_len_weaker p q xs h))
 
 -- an element more that fails changes nothing
 pub prefix_len_push_no : {X : Type 0} (p : X → Bool) (xs : List X) (y : X) → p y ≡ false → prefix_len p (xs ++ y ∷ []) ≡ prefix_len p xs
@@ -39,11 +35,7 @@ prefix_len_push_no p (x ∷ xs) y e = ap (λ (n : ℕ). cond (p x) (1 + n) 0) (p
 -- and any element more lowers nothing
 pub prefix_len_push_le : {X : Type 0} (p : X → Bool) (xs : List X) (y : X) → prefix_len p xs ≤ prefix_len p (xs ++ y ∷ [])
 prefix_len_push_le p [] y = omega arith
-prefix_len_push_le p (x ∷ xs) y = step (p x) (prefix_len p xs) (prefix_len p (xs ++ y ∷ [])) (prefix_len_push_le p xs y)
-  where
-    step : (a : Bool) (m n : ℕ) → m ≤ n → cond a (1 + m) 0 ≤ cond a (1 + n) 0
-    step true m n le = omega arith
-    step false m n le = omega arith
+prefix_len_push_le p (x ∷ xs) y = grind (arith, (prefix_len_push_le p xs y))
 
 -- the elements at the first places are those of the front
 pub list_all_front : (p : ℕ → Bool) (xs : List ℕ) (n : ℕ) → n ≤ length xs → list_all (λ k. p (get_or xs k 0)) (range_with_len 0 n) ≡ list_all p (take n xs)
@@ -65,9 +57,7 @@ list_all_greater bound (suc n) (x ∷ xs) (y ∷ ys) same le h =
 
 -- where the first number is too small, not all pass a bound
 pub list_all_small : (bound n : ℕ) (xs : List ℕ) → 1 ≤ n → 1 ≤ length xs → get_or xs 0 0 < bound → list_all (leb bound) (take n xs) ≡ false
-list_all_small bound zero xs n some small = absurd (omega arith)
-list_all_small bound (suc n) [] m some small = absurd (omega arith)
-list_all_small bound (suc n) (x ∷ xs) m some small = ap (λ (b : Bool). b && list_all (leb bound) (take n xs)) (lt-leb bound x small)
+list_all_small bound holds xs n some small = grind (arith, leb, lt-leb)
 
 -- each element of a list that passes does
 pub list_all_each : {X : Type 0} (p : X → Bool) (xs : List X) (k : ℕ) (d : X) → list_all p xs ≡ true → k < length xs → p (get_or xs k d) ≡ true

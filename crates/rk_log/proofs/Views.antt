@@ -1,5 +1,5 @@
 -- What is told of a log, by the parts that stand for it.
-use Rattle.std.proofs.Common.{◌≡◌, ℕ, zero, suc, ◌+◌, ◌-◌, ◌<◌, ◌≤◌, Bool, true, false, not, leb, List, [], ◌∷◌, ◌++◌, length, get_or, set, take, drop, map, replicate, Option, Some, None, Result, Ok, Err, refl, sym, ap, subst, ◌∙◌, ⊎_elim, arith}
+use Rattle.std.proofs.Common.{◌≡◌, ℕ, zero, suc, ◌+◌, ◌-◌, ◌<◌, ◌≤◌, Bool, false, not, leb, List, [], ◌∷◌, ◌++◌, length, get_or, set, take, drop, map, replicate, Option, Some, None, Result, refl, sym, ap, subst, ◌∙◌, ⊎_elim, arith}
 use Rattle.std.specs.Prelude.{slice_get, OnOk, is_ok}
 use Rattle.std.specs.Bool.{OnTrue}
 use Rattle.std.specs.List.{find, list_all, prefix_len, range_with_len}
@@ -16,7 +16,7 @@ use Rattle.rk_log.specs.declared.copied.TheConstants.{FIRST_SEGMENT}
 use Rattle.rk_log.specs.declared.cursor.Cursor.{Cursor}
 use Rattle.rk_log.specs.Cut.{in_last}
 use Rattle.rk_log.specs.Known.{Known, known_length, is_whole}
-use Rattle.rk_log.specs.Log.{Log, numbered, segment_of, segments, bytes_of, IsBackup, is_held, committed, missing, pending, is_side_stored}
+use Rattle.rk_log.specs.Log.{Log, numbered, segments, bytes_of, IsBackup, is_held, committed, missing, pending, is_side_stored}
 use Rattle.rk_log.specs.Parts.{Parts, bytes_in, lengths_in, copied_of, bytes_among, known_at, known_by, log_of, is_whole_at, AreWithin, lacking_at, IsCursor, IsConsistent}
 use Rattle.rk_log.proofs.Prefixes.{pass_then}
 use Rattle.rk_log.proofs.Cuts.{length-ends}
@@ -25,18 +25,12 @@ use Rattle.rk_log.proofs.Consistency.{places_within, count_within}
 
 -- what follows where a call succeeds
 pub on_true : {A E : Type 0} (b : Bool) (r : Result A E) (P Q : Type 0) → b ≡ is_ok r → OnOk r P → (P → Q) → OnTrue b Q
-on_true true (Ok x) P Q e p f = f p
-on_true false (Ok x) P Q e p f = tt
-on_true true (Err y) P Q e p f = absurd (cc)
-on_true false (Err y) P Q e p f = tt
+on_true b r P Q e p f = grind arith
 
 -- bytes in the last segment
 pub put_last_bytes : (main : List Copied) (y d : Copied) (more : List ℕ) → 0 < length main → y.segment.bytes ≡ (get_or main (length main - 1) d).segment.bytes ++ more
     → bytes_in (set main (length main - 1) y) ≡ in_last (bytes_in main) more
-put_last_bytes main y d more some is =
-    map-set (λ (c : Copied). c.segment.bytes) main (length main - 1) y
-    ∙ ap (set (bytes_in main) (length main - 1)) (is ∙ ap (λ (l : List ℕ). l ++ more) (sym (get_or-map (λ (c : Copied). c.segment.bytes) main (length main - 1) d [] (omega arith))))
-    ∙ ap (λ (n : ℕ). set (bytes_in main) (n - 1) (get_or (bytes_in main) (n - 1) [] ++ more)) (sym (length-map main (λ (c : Copied). c.segment.bytes)))
+put_last_bytes main y d more some is = grind (arith, map-set, get_or-map, length-map)
 
 -- nothing is known of no segments
 pub nothing_by : (backups : ℕ) → known_by backups [] [] ≡ replicate backups nothing
@@ -48,16 +42,12 @@ nothing_by backups = every backups 0
 
 -- a backup has a place
 pub backup_at : (parts : Parts) (log : Log) (backup : ℕ) → log_of parts ≡ log → IsBackup log backup → backup - 1 < length parts.cursors
-backup_at parts log backup is numbered =
-    let own : IsBackup (log_of parts) backup = subst (λ (l : Log). IsBackup l backup) (sym is) numbered in
-    omega (arith, own.first, own.last, length-known_by (length parts.cursors) (lengths_in parts.main) (lengths_in parts.sides))
+backup_at parts log backup is numbered = grind (arith, length-known_by)
 
 -- the bytes of a segment
 pub bytes_of_is : (parts : Parts) (number : ℕ) → IsConsistent parts
     → bytes_of (log_of parts) number ≡ bytes_among number parts.main parts.sides
-bytes_of_is parts number consistent =
-    ap (λ (s : List (List ℕ)). option_map_or (λ (segment : NumberedBytes). segment.bytes) (segment_of number (numbered FIRST_SEGMENT s ++ numbered FIRST_SIDE_SEGMENT (bytes_in parts.sides))) []) (sym consistent.cut_is)
-    ∙ bytes_are number parts.main parts.sides
+bytes_of_is parts number consistent = grind (arith, bytes_are)
 
 -- how many entries are committed
 pub committed_of_is : (parts : Parts) → IsConsistent parts
@@ -98,14 +88,7 @@ pending_among : (known : Known) (backup : ℕ) (main sides : List Copied)
     → ((k q : ℕ) → FIRST_SIDE_SEGMENT + k ≡ q → k < length sides → known_length known q ≡ get_or (get_or (lengths_in sides) k []) backup 0)
     → option_map (missing known) (find (lacks known) (numbered FIRST_SEGMENT (bytes_in main) ++ numbered FIRST_SIDE_SEGMENT (bytes_in sides)))
     ≡ option_or (lacking_at backup FIRST_SEGMENT main (prefix_len (is_whole_at backup) main)) (lacking_at backup FIRST_SIDE_SEGMENT sides (prefix_len (is_whole_at backup) sides))
-pending_among known backup main sides of_main of_sides =
-    ap (option_map (missing known)) (find-append (lacks known) (numbered FIRST_SEGMENT (bytes_in main)) (numbered FIRST_SIDE_SEGMENT (bytes_in sides)))
-    ∙ either (find (lacks known) (numbered FIRST_SEGMENT (bytes_in main))) (find (lacks known) (numbered FIRST_SIDE_SEGMENT (bytes_in sides)))
-    ∙ (λ i. option_or (lacking_is known backup FIRST_SEGMENT main of_main i) (lacking_is known backup FIRST_SIDE_SEGMENT sides of_sides i))
-  where
-    either : (a b : Option NumberedBytes) → option_map (missing known) (option_or a b) ≡ option_or (option_map (missing known) a) (option_map (missing known) b)
-    either (Some x) b = refl
-    either None b = refl
+pending_among known backup main sides of_main of_sides = grind (arith, find-append, lacking_is)
 
 -- what the parts tell of one backup
 abbrev own_known : Parts → ℕ → Known

@@ -25,15 +25,8 @@ sent_next master sends more before count within sent =
 
 -- none is behind all of them
 pub all_sent : (master : Master) (sends : List Message) (before count : ℕ) → count ≤ before → sends ≡ sends ++ sent_behind master before count
-all_sent master sends before count done =
-    sym (ap (λ (n : ℕ). sends ++ flat_map (sent_to master) (range_with_len (before + 1) n)) none ∙ append-nil sends)
-  where
-    none : count - before ≡ 0
-    none = omega (arith, done)
+all_sent master sends before count done = grind (arith, append-nil)
 
 -- and all are behind none
 pub all_behind : (master : Master) (count : ℕ) → length master.log.known ≡ count → sent_behind master 0 count ≡ appends master
-all_behind master count is = ap (λ (n : ℕ). flat_map (sent_to master) (range_with_len 1 n)) (from_none ∙ sym is)
-  where
-    from_none : count - 0 ≡ count
-    from_none = omega arith
+all_behind master count is = grind arith

@@ -1,16 +1,11 @@
 -- What closes the roles of tablets can be spelled, also after one of them changed.
-use Rattle.rk_master.proofs.Words.{◌≡◌, ℕ, zero, suc, ◌<◌, Bool, true, false, cond, eqb, not, ◌&&◌, List, [], ◌∷◌, length, get_or, set}
-use Rattle.rk_master.proofs.Words.{Some, None, refl, sym, subst, arith, w64, nat_cmp, Ordering, Less, Equal, Greater, by_order, NumberMap}
-use Rattle.rk_master.proofs.Words.{insert, Call, Range, IsLawfulRange, IsNumber, Role, noting, Tablet, AreTablets, given_up_but, can_close}
-use Rattle.rk_master.proofs.Words.{IsClosable, AreClosable, tablet_of, tablets_of, TabletLane, Row}
+use Rattle.rk_master.proofs.Words.{◌≡◌, ℕ, zero, suc, ◌<◌, eqb, List, [], ◌∷◌, length, get_or, set, None, sym, subst, arith, w64, nat_cmp}
+use Rattle.rk_master.proofs.Words.{Ordering, Less, Equal, Greater, by_order, NumberMap, insert, Call, Range, IsLawfulRange, IsNumber, Role}
+use Rattle.rk_master.proofs.Words.{noting, Tablet, AreTablets, given_up_but, can_close, IsClosable, AreClosable, tablet_of, tablets_of}
+use Rattle.rk_master.proofs.Words.{TabletLane, Row}
 use Rattle.rk_types.specs.declared.call.Ended.{Ended}
-use Rattle.rk_types.specs.Range.{meets}
-use Rattle.rk_done.specs.Completions.{noted}
 use Rattle.rk_entry.specs.declared.entry.Joined.{Joined}
 use Rattle.rk_transfer.specs.declared.role.Role.TheVariants as roles
-use Rattle.rk_world.specs.Handovers.{given_up}
-use Rattle.rk_world.specs.Ranges.{has_key}
-use Rattle.rk_world.specs.RoleTests.{is_absent}
 use Rattle.rk_master.proofs.Places.{at_itself, order_there}
 
 -- what the entry that closes the role of a tablet tells
@@ -27,18 +22,7 @@ closable_as tablet is can = subst (λ (r : Role). can_close r (closing_joined ta
 
 -- and in any other role than that of a target
 pub closable_else : (tablet : Tablet) → (tablet.handover.role ≡ roles.Receiving → ⊥) → (tablet.handover.role ≡ roles.Joining None → ⊥) → IsClosable tablet
-closable_else tablet not_receiving not_joining = go tablet.handover.role refl
-  where
-    go : (role : Role) → tablet.handover.role ≡ role → can_close role (closing_joined tablet)
-    go roles.Absent is = tt
-    go roles.Serving is = tt
-    go roles.Closing is = tt
-    go roles.Frozen is = tt
-    go (roles.Wanting from) is = tt
-    go roles.Receiving is = absurd (not_receiving is)
-    go (roles.Joining None) is = absurd (not_joining is)
-    go (roles.Joining (Some place)) is = tt
-    go (roles.Rebuilding from entry) is = tt
+closable_else tablet not_receiving not_joining = grind (arith, can_close)
 
 -- it can at each place
 pub closable_at : (rows : List Row) (i : ℕ) (d : Row) → i < length rows → AreClosable (tablets_of rows) → IsClosable (tablet_of (get_or rows i d).1)
@@ -65,20 +49,11 @@ closable_insert (entry ∷ tablets) number tablet lawful new = go (nat_cmp numbe
 
 -- an end that is noted leaves it as it is
 pub noted_closable : (call : Call) (end : Ended) (tablet : Tablet) → IsClosable tablet → IsClosable (noting call end tablet)
-noted_closable call end tablet lawful =
-    go (not (is_absent tablet.handover.role) && has_key tablet.handover.range call.table call.key)
-  where
-    go : (b : Bool) → IsClosable (cond b (record tablet { completions = noted tablet.completions end }) tablet)
-    go true = lawful
-    go false = lawful
+noted_closable call end tablet lawful = grind arith
 
 -- and so does a tablet that is given up
 pub given_up_closable : (kept : ℕ) (range : Range) (number : ℕ) (tablet : Tablet) → IsClosable tablet → IsClosable (given_up_but kept range number tablet)
-given_up_closable kept range number tablet lawful = go (not (eqb number kept) && meets tablet.handover.range range)
-  where
-    go : (b : Bool) → IsClosable (cond b (given_up tablet) tablet)
-    go true = tt
-    go false = lawful
+given_up_closable kept range number tablet lawful = grind (arith, eqb)
 
 -- ---- the tablets of a master
 

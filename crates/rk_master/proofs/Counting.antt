@@ -1,10 +1,10 @@
 -- How many calls there are of each client and seq, after a change of the calls and of the counts that are kept of them.
-use Rattle.std.proofs.Common.{◌≡◌, ℕ, ◌+◌, ◌-◌, Bool, true, false, cond, eqb, ltb, T, ◌&&◌, ◌||◌, not, [], ◌∷◌, Option, Some, None, refl, sym, ap, ◌∙◌, subst, ◌⊎◌, inl, inr, ⊎_elim, arith, unwrap_or}
+use Rattle.std.proofs.Common.{◌≡◌, ℕ, ◌+◌, ◌-◌, Bool, true, false, cond, eqb, ltb, T, ◌&&◌, not, [], ◌∷◌, Option, Some, None, refl, sym, ap, ◌∙◌, subst, ◌⊎◌, inl, inr, ⊎_elim, arith, unwrap_or}
 use Rattle.std.specs.declared.cmp.Ordering.{Ordering}
 use Rattle.std.specs.declared.cmp.Ordering.TheVariants.{Less, Equal, Greater}
 use Rattle.std.specs.Ordering.{nat_cmp, is_eq, is_lt, eq_by_cmp}
-use Rattle.std.specs.Cmp.{nat_cmp_total, unsigned_tied, tied_then}
-use Rattle.std.specs.BTreeMap.{BTreeMap, get as found_in, Updates}
+use Rattle.std.specs.Cmp.{nat_cmp_total}
+use Rattle.std.specs.BTreeMap.{BTreeMap, Updates}
 use Rattle.std.specs.FinMap.Entries.{below_all, by_order}
 use Rattle.std.proofs.lemmas.Bool.{and_parts, eqb-true}
 use Rattle.rk_types.specs.declared.call.Call.{Call}
@@ -17,71 +17,39 @@ use Rattle.rk_master.specs.Counts.{name_cmp, one_at, weight, name_of, counted_in
 
 -- two names are one where their clients are, and their seqs
 same_name : (a b : ℕ × ℕ) → is_eq (name_cmp a b) ≡ (eqb a.0 b.0 && eqb a.1 b.1)
-same_name a b =
-    sym (tied_then (nat_cmp a.0 b.0) (nat_cmp a.1 b.1))
-    ∙ ap (λ t. t && is_eq (nat_cmp a.1 b.1)) (unsigned_tied a.0 b.0)
-    ∙ ap (λ t. eqb a.0 b.0 && t) (unsigned_tied a.1 b.1)
+same_name a b = grind (arith, eqb)
 
 -- what is counted once a count was changed
 counted_after : (old new : BTreeMap (ℕ × ℕ) ℕ) (client seq : ℕ) (count : Option ℕ) → Updates name_cmp old new (client, seq) count
     → (other asked : ℕ) → counted_in new other asked ≡ cond (eqb client other && eqb seq asked) (unwrap_or count 0) (counted_in old other asked)
-counted_after old new client seq count updates other asked =
-    ap (λ (found : Option ℕ). unwrap_or found 0)
-    (updates.0 (other, asked) ∙ ap (λ (b : Bool). cond b count (found_in name_cmp old (other, asked))) (same_name (client, seq) (other, asked)))
-    ∙ moved (eqb client other && eqb seq asked)
-  where
-    moved : (b : Bool) → unwrap_or (cond b count (found_in name_cmp old (other, asked))) 0 ≡ cond b (unwrap_or count 0) (counted_in old other asked)
-    moved true = refl
-    moved false = refl
+counted_after old new client seq count updates other asked = grind (arith, same_name, eqb)
 
 -- what a client and a seq have, those that are the same have
 same_counted : (old : BTreeMap (ℕ × ℕ) ℕ) (client seq other asked : ℕ) → (eqb client other && eqb seq asked) ≡ true → counted_in old other asked ≡ counted_in old client seq
-same_counted old client seq other asked same =
-    let parts = and_parts (eqb client other) (eqb seq asked) same in
-    λ i. counted_in old (sym (eqb-true client other parts.0) i) (sym (eqb-true seq asked parts.1) i)
+same_counted old client seq other asked same = grind (arith, and_parts, eqb, eqb-true)
 
 -- one more is counted
 pub one_more : (old new : BTreeMap (ℕ × ℕ) ℕ) (client seq count : ℕ) → Updates name_cmp old new (client, seq) (Some count) → count ≡ counted_in old client seq + 1
     → (other asked : ℕ) → counted_in new other asked ≡ counted_in old other asked + one_at client seq other asked
-one_more old new client seq count updates more other asked =
-    counted_after old new client seq (Some count) updates other asked
-    ∙ go (eqb client other && eqb seq asked) refl
-  where
-    go : (b : Bool) → (eqb client other && eqb seq asked) ≡ b → cond b count (counted_in old other asked) ≡ counted_in old other asked + cond b 1 0
-    go true same = more ∙ ap (λ n. n + 1) (sym (same_counted old client seq other asked same))
-    go false other_one = omega arith
+one_more old new client seq count updates more other asked = grind (arith, counted_after, eqb, same_counted)
 
 -- one less is counted
 pub one_less : (old new : BTreeMap (ℕ × ℕ) ℕ) (client seq : ℕ) (count : Option ℕ) → Updates name_cmp old new (client, seq) count → unwrap_or count 0 ≡ counted_in old client seq - 1
     → (other asked : ℕ) → counted_in new other asked ≡ counted_in old other asked - one_at client seq other asked
-one_less old new client seq count updates less other asked =
-    counted_after old new client seq count updates other asked
-    ∙ go (eqb client other && eqb seq asked) refl
-  where
-    go : (b : Bool) → (eqb client other && eqb seq asked) ≡ b → cond b (unwrap_or count 0) (counted_in old other asked) ≡ counted_in old other asked - cond b 1 0
-    go true same = less ∙ ap (λ n. n - 1) (sym (same_counted old client seq other asked same))
-    go false other_one = omega arith
+one_less old new client seq count updates less other asked = grind (arith, counted_after, eqb, same_counted)
 
 -- ---- the calls
 
 -- a call is among them where there are more than none
 pub some_counted : (calls : NumberMap Call) (client seq : ℕ) → ltb 0 (many calls client seq) ≡ has_call calls client seq
 some_counted [] client seq = refl
-some_counted (entry ∷ calls) client seq = go (eqb entry.1.client client && eqb entry.1.seq seq) (some_counted calls client seq)
-  where
-    go : (b : Bool) → ltb 0 (many calls client seq) ≡ has_call calls client seq → ltb 0 (cond b 1 0 + many calls client seq) ≡ (b || has_call calls client seq)
-    go true rest = grind arith
-    go false rest = ap (ltb 0) (omega arith) ∙ rest
+some_counted (entry ∷ calls) client seq = grind (arith, eqb, ltb, entry.1.client, entry.1.seq, (some_counted calls client seq))
 
 less : (o : Ordering) → T (is_lt o) → o ≡ Less
-less Less p = refl
-less Equal p = absurd p
-less Greater p = absurd p
+less o p = grind arith
 
 equal : (o : Ordering) → is_eq o ≡ true → o ≡ Equal
-equal Less p = cc p
-equal Equal p = refl
-equal Greater p = cc p
+equal o p = grind arith
 
 first : (a b : Bool) → T (a && b) → T a
 first true b p = tt
@@ -147,23 +115,11 @@ pub counted_inserted : (old added new : CallCounts) (calls : NumberMap Call) (pl
     → ((client seq : ℕ) → counted added client seq ≡ counted old client seq + one_at call.client call.seq client seq)
     → ((client seq : ℕ) → counted new client seq ≡ counted added client seq - weight before client seq)
     → IsCounted new (insert calls place call)
-counted_inserted old added new calls place call before were was one_up one_down = record {
-  order = in_order_insert calls place call were.order;
-  counts_are = λ client seq.
-      let there = many_inserted calls place call were.order client seq in
-      let told : weight before client seq ≡ weight (name_of (get calls place)) client seq = ap (λ (o : Option (ℕ × ℕ)). weight o client seq) was in
-      omega (arith, there, told, one_up client seq, one_down client seq, were.counts_are client seq);
-}
+counted_inserted old added new calls place call before were was one_up one_down = grind (arith, in_order_insert, many_inserted)
 
 -- a call was taken out: its count is one less
 pub counted_removed : (old new : CallCounts) (calls : NumberMap Call) (place : ℕ) (call : Call)
     → IsCounted old calls → get calls place ≡ Some call
     → ((client seq : ℕ) → counted new client seq ≡ counted old client seq - one_at call.client call.seq client seq)
     → IsCounted new (remove calls place)
-counted_removed old new calls place call were was one_down = record {
-  order = in_order_remove calls place were.order;
-  counts_are = λ client seq.
-      let there = many_removed calls place were.order client seq in
-      let told : weight (name_of (get calls place)) client seq ≡ one_at call.client call.seq client seq = ap (λ (o : Option Call). weight (name_of o) client seq) was in
-      omega (arith, there, told, one_down client seq, were.counts_are client seq);
-}
+counted_removed old new calls place call were was one_down = grind (arith, in_order_remove, many_removed)

@@ -1,20 +1,17 @@
 -- What a master chooses for a lawful call can be carried out.
-use Rattle.rk_master.proofs.Words.{◌≡◌, ℕ, Bool, true, false, cond, eqb, ◌&&◌, not, List, [], ◌∷◌, Option, Some, None, is_some, refl, sym}
-use Rattle.rk_master.proofs.Words.{ap, ◌∙◌, IsSome, find, nat_cmp, is_eq, unsigned_tied, false≢true, eq-eqb, NumberMap, get, Call, Held}
-use Rattle.rk_master.proofs.Words.{Tablet, Master, serves_key, choice_of, fresh_choice, IsFit}
+use Rattle.rk_master.proofs.Words.{arith, ◌≡◌, ℕ, Bool, true, false, cond, eqb, List, [], ◌∷◌, Option, Some, None, refl, sym, ap, ◌∙◌}
+use Rattle.rk_master.proofs.Words.{IsSome, find, nat_cmp, is_eq, unsigned_tied, false≢true, eq-eqb, NumberMap, get, Call, Held, Tablet}
+use Rattle.rk_master.proofs.Words.{Master, serves_key, choice_of, fresh_choice, IsFit}
 use Rattle.rk_types.specs.declared.call.Op.{Op}
 use Rattle.rk_types.specs.declared.call.Op.TheVariants as ops
 use Rattle.rk_done.specs.Completions.{look}
 use Rattle.rk_done.specs.declared.completion.Look.{Look}
 use Rattle.rk_done.specs.declared.completion.Look.TheVariants as looks
 use Rattle.rk_model.specs.Merged.{is_mutation}
-use Rattle.rk_overlay.specs.Live.{record_of}
 use Rattle.rk_message.specs.Calls.{IsLawfulOp}
-use Rattle.rk_world.specs.declared.choice.Choice.TheVariants.{Ignores, Wants, Writes, Refuses}
 use Rattle.rk_world.specs.Premises.{IsLawfulCall}
-use Rattle.rk_world.specs.Master.{is_staged, serving}
-use Rattle.rk_world.specs.Requests.{choice_at, mutation_choice, operation, is_known, needs_state, state_of, version_of}
-use Rattle.rk_types.specs.Hashing.{hash_of}
+use Rattle.rk_world.specs.Master.{serving}
+use Rattle.rk_world.specs.Requests.{choice_at, mutation_choice, operation, state_of}
 
 -- the tablet that serves a key is there
 found_there : (tablets : NumberMap Tablet) (table : ℕ) (key : List ℕ) (number : ℕ) (tablet : Tablet)
@@ -37,38 +34,17 @@ found_there (entry ∷ tablets) table key number tablet found =
 -- what an operation does at a tablet that is there
 operation_fits : (tablets : NumberMap Tablet) (number : ℕ) (op : Op) (live : Option (ℕ × List ℕ)) → IsSome (get tablets number) → IsLawfulOp op
     → IsFit tablets (operation number op live)
-operation_fits tablets number ops.Get live there lawful = tt
-operation_fits tablets number (ops.Put value) live there lawful = (there, lawful)
-operation_fits tablets number (ops.CondPut expected value) live there lawful = go (eqb expected (version_of live))
-  where
-    go : (b : Bool) → IsFit tablets (cond b (Writes number (Some value)) (Refuses (version_of live) false))
-    go true = (there, lawful.1)
-    go false = λ removal. absurd (false≢true removal)
-operation_fits tablets number ops.Delete live there lawful = go (is_some live)
-  where
-    go : (b : Bool) → IsFit tablets (cond b (Writes number None) (Refuses 0 true))
-    go true = (there, tt)
-    go false = λ removal. refl
+operation_fits tablets number op live there lawful = grind (arith, eqb, false≢true)
 
 -- what is done with a call that has not ended and is not staged
 fresh_fits : (tablets : NumberMap Tablet) (number : ℕ) (tablet : Tablet) (call : Call) (state : Option Held) → IsSome (get tablets number) → IsLawfulOp call.op
     → IsFit tablets (fresh_choice number tablet call state)
-fresh_fits tablets number tablet call state there lawful = go (needs_state call.op && not (is_known tablet (hash_of call.key) state))
-  where
-    go : (b : Bool) → IsFit tablets (cond b (Wants number) (operation number call.op (record_of state)))
-    go true = there
-    go false = operation_fits tablets number call.op (record_of state) there lawful
+fresh_fits tablets number tablet call state there lawful = grind (arith, operation_fits)
 
 -- what is done with a mutation
 mutation_fits : (master : Master) (number : ℕ) (tablet : Tablet) (call : Call) (known : Look) → IsSome (get master.tablets number) → IsLawfulOp call.op
     → IsFit master.tablets (mutation_choice master number tablet call known)
-mutation_fits master number tablet call looks.New there lawful = go (is_staged master call.client call.seq)
-  where
-    go : (b : Bool) → IsFit master.tablets (cond b Ignores (fresh_choice number tablet call (state_of master call)))
-    go true = tt
-    go false = fresh_fits master.tablets number tablet call (state_of master call) there lawful
-mutation_fits master number tablet call (looks.Same end) there lawful = tt
-mutation_fits master number tablet call (looks.Old seq) there lawful = tt
+mutation_fits master number tablet call known there lawful = grind (arith, fresh_choice, fresh_fits)
 
 -- what a master does with a lawful call
 pub choice_fits : (master : Master) (call : Call) → IsLawfulCall call → IsFit master.tablets (choice_of master call)

@@ -1,27 +1,23 @@
 -- What was waited for goes on, at one tablet after the other.
-use Rattle.rk_master.proofs.Words.{◌≡◌, ℕ, ◌+◌, true, false, List, length, drop, slice_get, Option, Some, None, is_some, refl, sym, ap, ◌∙◌}
+use Rattle.rk_master.proofs.Words.{arith, ◌≡◌, ℕ, ◌+◌, true, false, List, length, drop, slice_get, Option, Some, None, is_some, refl, sym}
 use Rattle.rk_master.proofs.Words.{append-nil, cond-true, cond-false, false≢true, joined, Handover, Role, Tablet, with_handover, Master}
 use Rattle.rk_master.proofs.Words.{with_tablet, Worked, changed, all_going_on, Work, marks_of, tablet_of, tablets_of, worked_of, Row}
 use Rattle.rk_transfer.specs.declared.role.Role.TheVariants as roles
 use Rattle.rk_world.specs.Master.{is_settled}
 use Rattle.rk_world.specs.Worked.{then_works}
-use Rattle.rk_world.specs.Waiting.{freezing, tablet_frozen, closing_entry, closing_appended, is_sealed_stored, going_on_in}
+use Rattle.rk_world.specs.Waiting.{freezing, closing_entry, closing_appended, is_sealed_stored, going_on_in}
 use Rattle.rk_master.proofs.Keeping.{from_place}
 
 -- a tablet of which nothing is staged freezes
 pub frozen_so : (master : Master) (number : ℕ) (tablet : Tablet) (handover : Handover) (moved : Option Handover) → moved ≡ Some handover
     → is_settled master tablet.handover.range ≡ true → freezing master number tablet moved ≡ with_tablet master number (with_handover tablet handover)
-frozen_so master number tablet handover moved is settled =
-    ap (freezing master number tablet) is
-    ∙ cond-true (is_settled master tablet.handover.range) (tablet_frozen master number tablet handover) master settled
+frozen_so master number tablet handover moved is settled = grind (arith, cond-true)
 
 -- a target whose side segments are stored appends its closing entry
 pub closed_so : (master : Master) (number : ℕ) (tablet : Tablet) (handover : Handover) → is_sealed_stored master tablet ≡ true
     → joined tablet.handover tablet.handover.term (Some (length master.log.entries)) ≡ Some handover
     → going_on_in master number tablet (roles.Joining None) ≡ closing_appended master number tablet handover
-closed_so master number tablet handover stored is =
-    cond-true (is_sealed_stored master tablet) (closing_entry master number tablet (joined tablet.handover tablet.handover.term (Some (length master.log.entries)))) master stored
-    ∙ ap (closing_entry master number tablet) is
+closed_so master number tablet handover stored is = grind (arith, cond-true, joined)
 
 -- and one whose side segments are not waits
 pub still_waits : (master : Master) (number : ℕ) (tablet : Tablet) → is_sealed_stored master tablet ≡ false → going_on_in master number tablet (roles.Joining None) ≡ master
@@ -31,19 +27,7 @@ still_waits master number tablet not_stored =
 -- nothing is waited for in another role
 pub waits_not : (master : Master) (number : ℕ) (tablet : Tablet) (role : Role) → (role ≡ roles.Closing → ⊥) → ((entry : Option ℕ) → role ≡ roles.Joining entry → ⊥)
     → master ≡ going_on_in master number tablet role
-waits_not master number tablet roles.Absent not_closing not_joining = refl
-waits_not master number tablet roles.Serving not_closing not_joining = refl
-waits_not master number tablet roles.Closing not_closing not_joining = absurd (not_closing refl)
-waits_not master number tablet roles.Frozen not_closing not_joining = refl
-waits_not master number tablet (roles.Wanting from) not_closing not_joining = refl
-waits_not master number tablet roles.Receiving not_closing not_joining = refl
-waits_not master number tablet (roles.Joining entry) not_closing not_joining = absurd (not_joining entry refl)
-waits_not master number tablet (roles.Rebuilding from entry) not_closing not_joining = refl
-
--- or by a target that has its closing entry
-pub has_closed : (master : Master) (number : ℕ) (tablet : Tablet) (entry : Option ℕ) → is_some entry ≡ true → master ≡ going_on_in master number tablet (roles.Joining entry)
-has_closed master number tablet None has = absurd (false≢true has)
-has_closed master number tablet (Some place) has = refl
+waits_not master number tablet role not_closing not_joining = grind arith
 
 -- what is not there
 pub not_there : (entry : Option ℕ) → is_some entry ≡ false → entry ≡ None
@@ -56,18 +40,9 @@ not_there (Some place) none = absurd (false≢true (sym none))
 pub gone_on : (master after : Master) (rows : List Row) (at : ℕ) (row : Row) → slice_get rows at ≡ Some row
     → after ≡ going_on_in master row.0 (tablet_of row.1) row.1.handover.role
     → all_going_on after (tablets_of (drop (at + 1) rows)) ≡ all_going_on master (tablets_of (drop at rows))
-gone_on master after rows at row there is =
-    ap (λ (m : Master). all_going_on m (tablets_of (drop (at + 1) rows))) is
-    ∙ ap (λ (xs : List Row). all_going_on master (tablets_of xs)) (sym (from_place rows at row there))
+gone_on master after rows at row there is = grind (arith, all_going_on, tablets_of, from_place)
 
 -- what was waited for went on behind other work
 pub went_on : (work : Work) (master after : Master) (worked : Worked) → worked_of master work ≡ worked → after ≡ all_going_on master master.tablets
     → worked_of after work ≡ then_works worked (λ now. changed (all_going_on now now.tablets))
-went_on work master after worked made is =
-    (λ i. record {
-      master = is i;
-      sends = sym (append-nil work.sends.items) i;
-      served = sym (append-nil work.served.items) i;
-      marked = sym (append-nil (marks_of work.marked)) i;
-    })
-    ∙ ap (λ (w : Worked). then_works w (λ now. changed (all_going_on now now.tablets))) made
+went_on work master after worked made is = grind (arith, append-nil, marks_of, changed, all_going_on)

@@ -2,10 +2,10 @@
 use Rattle.rk_master.proofs.Words.{◌≡◌, ℕ, ◌<◌, Bool, true, false, cond, not, ◌&&◌, eqb, ltb, map, subst, List, [], ◌∷◌, length, get_or}
 use Rattle.rk_master.proofs.Words.{set, slice_get, Option, Some, None, is_some, unwrap_or, refl, sym, ap, ◌∙◌, arith, w64, list_all}
 use Rattle.rk_master.proofs.Words.{nat_cmp, is_eq, cond-true, cond-false, eq-eqb, false≢true, slice_get-get_or, NumberMap, IsInOrder, get}
-use Rattle.rk_master.proofs.Words.{insert, get_same, Held, Range, Handover, Role, IsLawfulRange, IsLawfulEntry, IsNumber, Log, with_entry}
-use Rattle.rk_master.proofs.Words.{completions_from, Message, is_above, Master, tablet_at, Tablet, no_tablet, pulling_from, with_handover}
-use Rattle.rk_master.proofs.Words.{without_merged, Worked, changed, TabletLane, Work, IsClosable, changing, given_up_but, marks_of}
-use Rattle.rk_master.proofs.Words.{tablet_in, tablet_of, tablets_of, worked_of, IsAt, IsBetween, Row, items_of_sides}
+use Rattle.rk_master.proofs.Words.{insert, get_same, Held, Range, Handover, Role, IsLawfulEntry, Log, with_entry, completions_from, Message}
+use Rattle.rk_master.proofs.Words.{is_above, Master, tablet_at, Tablet, no_tablet, pulling_from, with_handover, without_merged, Worked}
+use Rattle.rk_master.proofs.Words.{changed, TabletLane, Work, IsClosable, changing, given_up_but, marks_of, tablet_in, tablet_of}
+use Rattle.rk_master.proofs.Words.{tablets_of, worked_of, IsAt, IsBetween, Row, items_of_sides}
 use Rattle.std.specs.Prelude.{IfSome}
 use Rattle.std.proofs.lemmas.Bool.{lt-ltb}
 use Rattle.std.proofs.lemmas.List.{get_or-set_same, set-get_or}
@@ -13,12 +13,12 @@ use Rattle.std.proofs.Math.ListN.{length-set}
 use Rattle.rk_types.proofs.NumberMaps.{same_number}
 use Rattle.rk_types.specs.Range.{meets}
 use Rattle.rk_table.specs.Items.{without}
-use Rattle.rk_transfer.specs.Handover.{closed, frozen, granted, role_granted, owned, prepared, released, in_role, role_closed, role_owned, role_released}
+use Rattle.rk_transfer.specs.Handover.{closed, frozen, granted, owned, prepared, released, in_role}
 use Rattle.rk_transfer.specs.declared.role.Role.TheVariants as roles
 use Rattle.rk_message.specs.declared.handover.Grant.{Grant}
 use Rattle.rk_message.specs.declared.handover.Prepare.{Prepare}
 use Rattle.rk_message.specs.declared.handover.Tenure.{Tenure}
-use Rattle.rk_world.specs.Handovers.{carried_entry, close_taken, closing, given_up, grant_taken, granting, is_greater, own_taken, owning, prepare_taken, preparing, ready, ready_again, release_taken, releasing, tablet_prepared, transfer, transferring, with_move, with_others_given_up}
+use Rattle.rk_world.specs.Handovers.{carried_entry, close_taken, closing, given_up, grant_taken, granting, own_taken, owning, prepare_taken, ready, ready_again, release_taken, releasing, tablet_prepared, transfer, transferring, with_move}
 use Rattle.rk_world.specs.Master.{without_items}
 use Rattle.rk_world.specs.RoleTests.{is_frozen_at}
 use Rattle.rk_world.specs.Waiting.{freezing}
@@ -51,63 +51,15 @@ role_is handover after role is =
 
 -- the role after a close
 pub closed_role : (handover after : Handover) (term : ℕ) → closed handover term ≡ Some after → after.role ≡ roles.Closing
-closed_role handover after term is = go (ltb handover.term term) is
-  where
-    by_role : (role : Role) → in_role (record handover { term = term }) (role_closed role) ≡ Some after → after.role ≡ roles.Closing
-    by_role roles.Absent e = cc e
-    by_role roles.Serving e = role_is (record handover { term = term }) after roles.Closing e
-    by_role roles.Closing e = cc e
-    by_role roles.Frozen e = cc e
-    by_role (roles.Wanting from) e = cc e
-    by_role roles.Receiving e = cc e
-    by_role (roles.Joining entry) e = role_is (record handover { term = term }) after roles.Closing e
-    by_role (roles.Rebuilding from entry) e = role_is (record handover { term = term }) after roles.Closing e
-
-    go : (b : Bool) → cond b (in_role (record handover { term = term }) (role_closed handover.role)) None ≡ Some after → after.role ≡ roles.Closing
-    go true e = by_role handover.role e
-    go false e = cc e
+closed_role handover after term is = grind (arith, ltb, role_is)
 
 -- after an own
 pub owned_role : (handover after : Handover) (term applied : ℕ) → owned handover term applied ≡ Some after → after.role ≡ roles.Serving
-owned_role handover after term applied is = go (eqb handover.term term) is
-  where
-    by_test : (b : Bool) → in_role handover (cond b (Some roles.Serving) None) ≡ Some after → after.role ≡ roles.Serving
-    by_test true e = role_is handover after roles.Serving e
-    by_test false e = cc e
-
-    by_role : (role : Role) → in_role handover (role_owned applied role) ≡ Some after → after.role ≡ roles.Serving
-    by_role roles.Absent e = cc e
-    by_role roles.Serving e = cc e
-    by_role roles.Closing e = cc e
-    by_role roles.Frozen e = cc e
-    by_role (roles.Wanting from) e = cc e
-    by_role roles.Receiving e = cc e
-    by_role (roles.Joining None) e = cc e
-    by_role (roles.Joining (Some entry)) e = by_test (ltb entry applied) e
-    by_role (roles.Rebuilding from None) e = cc e
-    by_role (roles.Rebuilding from (Some entry)) e = by_test (ltb entry applied) e
-
-    go : (b : Bool) → cond b (in_role handover (role_owned applied handover.role)) None ≡ Some after → after.role ≡ roles.Serving
-    go true e = by_role handover.role e
-    go false e = cc e
+owned_role handover after term applied is = grind (arith, eqb, role_is, ltb)
 
 -- and after a release
 pub released_role : (handover after : Handover) (term : ℕ) → released handover term ≡ Some after → after.role ≡ roles.Absent
-released_role handover after term is = go (eqb handover.term term) is
-  where
-    by_role : (role : Role) → in_role handover (role_released role) ≡ Some after → after.role ≡ roles.Absent
-    by_role roles.Absent e = cc e
-    by_role roles.Serving e = cc e
-    by_role roles.Closing e = cc e
-    by_role roles.Frozen e = role_is handover after roles.Absent e
-    by_role (roles.Wanting from) e = cc e
-    by_role roles.Receiving e = cc e
-    by_role (roles.Joining entry) e = cc e
-    by_role (roles.Rebuilding from entry) e = cc e
-
-    go : (b : Bool) → cond b (in_role handover (role_released handover.role)) None ≡ Some after → after.role ≡ roles.Absent
-    go true e = by_role handover.role e
-    go false e = cc e
+released_role handover after term is = grind (arith, eqb, role_is)
 
 -- ---- the tablet at a place
 
@@ -121,10 +73,7 @@ with_rows master rows = record master { tablets = tablets_of rows }
 
 -- the tablet of a number stands where it stood, after it was changed there
 pub at_set : (rows : List Row) (number i : ℕ) (read : Row) (lane : TabletLane) → IsAt number rows i → read ≡ get_or rows i read → IsAt number (set rows i (read.0, lane)) i
-at_set rows number i read lane at is = record {
-  within = omega (arith, length-set rows i (read.0, lane), at.within);
-  same = λ d. ap (λ (r : Row). r.0) (get_or-set_same rows i (read.0, lane) d at.within ∙ ap (λ (r : Row). (r.0, lane)) is) ∙ at.same read;
-}
+at_set rows number i read lane at is = grind (arith, length-set, get_or-set_same)
 
 -- what is read at its place is what the master has of it
 pub tablet_read : (rows : List Row) (number i : ℕ) (read : Row) → IsInOrder rows → IsAt number rows i → read ≡ get_or rows i read → tablet_in rows number ≡ tablet_of read.1
@@ -159,8 +108,7 @@ pub move_made : (master : Master) (rows : List Row) (number i : ℕ) (read : Row
     → tablet_of lane ≡ without_merged (tablet_of (moved_lane read.1 handover))
     → with_rows master (set rows i (read.0, lane)) ≡ with_move (with_rows master rows) number (Some handover)
 move_made master rows number i read handover lane order at is lane_is =
-    ap (λ (tablets : NumberMap Tablet). record master { tablets = tablets }) (changed_read rows number i read lane order at is ∙ ap (insert (tablets_of rows) number) lane_is)
-    ∙ ap (λ (tablet : Tablet). record master { tablets = insert (tablets_of rows) number (without_merged (with_handover tablet handover)) }) (sym (tablet_read rows number i read order at is))
+    grind (arith, changed_read, insert, tablets_of, without_merged, with_handover, tablet_read)
 
 -- ---- a Close
 
@@ -210,10 +158,7 @@ pub own_made : (master : Master) (rows : List Row) (i : ℕ) (read : Row) (hando
     → tablet_of lane ≡ record (without_merged (tablet_of (moved_lane read.1 handover))) { pulling = pulling_from 0 }
     → changed (with_rows master (set rows i (read.0, lane))) ≡ own_taken (with_rows master rows) tenure
 own_made master rows i read handover lane tenure order at is moved lane_is =
-    let tablet = tablet_read rows tenure.tablet i read order at is in
-    ap (λ (tablets : NumberMap Tablet). changed (record master { tablets = tablets })) (changed_read rows tenure.tablet i read lane order at is ∙ ap (insert (tablets_of rows) tenure.tablet) lane_is)
-    ∙ ap (λ (t : Tablet). changed (record master { tablets = insert (tablets_of rows) tenure.tablet (record (without_merged t) { handover = handover; pulling = pulling_from 0 }) })) (sym tablet)
-    ∙ sym (ap (owning (with_rows master rows) tenure.tablet) (ap (λ (t : Tablet). owned t.handover tenure.term master.applied) tablet ∙ moved))
+    grind (arith, tablet_read, changed, changed_read, insert, tablets_of, without_merged, pulling_from)
 
 -- ---- a Release
 
@@ -241,24 +186,12 @@ pub begins : (handover : Handover) (term : ℕ) (range : Range) (from : ℕ) →
 begins handover term range from greater =
     ap (λ (b : Bool). is_some (cond b (Some (record handover { role = roles.Wanting from; term = term; range = range })) None)) (lt-ltb handover.term term greater)
 
--- and the role is Wanting then
-pub prepared_role : (handover after : Handover) (term : ℕ) (range : Range) (from : ℕ) → prepared handover term range from ≡ Some after → after.role ≡ roles.Wanting from
-prepared_role handover after term range from is = go (ltb handover.term term) is
-  where
-    go : (b : Bool) → cond b (Some (record handover { role = roles.Wanting from; term = term; range = range })) None ≡ Some after → after.role ≡ roles.Wanting from
-    go true e = let same : record handover { role = roles.Wanting from; term = term; range = range } ≡ after = cc e in sym (ap (λ (h : Handover). h.role) same)
-    go false e = cc e
-
 -- a tablet that stays as it is is found as it was
 pub kept_itself : (change : ℕ → Tablet → Tablet) (number : ℕ) (tablets : NumberMap Tablet) → ((tablet : Tablet) → change number tablet ≡ tablet)
     → get (map (changing change) tablets) number ≡ get tablets number
 kept_itself change number [] stays = refl
-kept_itself change number (entry ∷ tablets) stays = go (is_eq (nat_cmp number entry.0)) refl (kept_itself change number tablets stays)
-  where
-    go : (b : Bool) → is_eq (nat_cmp number entry.0) ≡ b → get (map (changing change) tablets) number ≡ get tablets number
-        → cond b (Some (change entry.0 entry.1)) (get (map (changing change) tablets) number) ≡ cond b (Some entry.1) (get tablets number)
-    go true is rest = ap Some (subst (λ (n : ℕ). change n entry.1 ≡ entry.1) (same_number number entry.0 is) (stays entry.1))
-    go false is rest = rest
+kept_itself change number (entry ∷ tablets) stays =
+    grind (arith, is_eq, nat_cmp, changing, same_number, entry.0, entry.1, (kept_itself change number tablets stays))
 
 -- the tablet that a Prepare is about is not given up
 pub stays_itself : (number : ℕ) (range : Range) (tablet : Tablet) → given_up_but number range number tablet ≡ tablet
@@ -273,60 +206,24 @@ pub prepared_so : (master : Master) (rows others after : List Row) (records : Li
     → tablets_of after ≡ insert (tablets_of others) prepare.tenure.tablet (without_merged (with_handover (tablet_in others prepare.tenure.tablet) handover))
     → with_rows (record master { records = records }) after ≡ tablet_prepared (with_rows master rows) prepare
 prepared_so master rows others after records prepare before handover before_is moved dropped others_are after_is =
-    let number : ℕ = prepare.tenure.tablet in
-    let range : Range = prepare.range in
-    let now : Master = with_others_given_up (without_items (with_rows master rows) range) number range in
-    let kept : (tablet_at now number).handover ≡ before =
-    ap (λ (o : Option Tablet). (unwrap_or o no_tablet).handover) (kept_itself (given_up_but number range) number (tablets_of rows) (stays_itself number range)) ∙ sym before_is in
-    let moved_now : prepared (tablet_at now number).handover prepare.tenure.term range (length master.log.entries) ≡ Some handover =
-    ap (λ (h : Handover). prepared h prepare.tenure.term range (length master.log.entries)) kept ∙ moved in
-    (λ i. record master {
-      records = dropped i;
-      tablets = after_is i;
-    })
-    ∙ ap (λ (tablets : NumberMap Tablet). with_move (record master { records = without range master.records; tablets = tablets }) number (Some handover)) others_are
-    ∙ sym (ap (with_move now number) moved_now)
+    grind (arith, tablet_at, no_tablet, kept_itself, given_up_but, tablets_of, stays_itself)
 
 -- it says so
 pub prepare_made : (master now : Master) (prepare : Prepare) (place : ℕ) → now ≡ tablet_prepared master prepare → place ≡ length master.log.entries
     → (tablet_at master prepare.tenure.tablet).handover.term < prepare.tenure.term → list_all (is_above prepare.range prepare.tenure.term) master.tablets ≡ true
     → sending now (ready master prepare.tenure place) ≡ prepare_taken master prepare
-prepare_made master now prepare place now_is place_is greater above =
-    let handover : Handover = (tablet_at master prepare.tenure.tablet).handover in
-    let is : is_greater master prepare.tenure.tablet prepare.tenure.term prepare.range ≡ true =
-    (λ i. lt-ltb handover.term prepare.tenure.term greater i && above i) in
-    (λ i. sending (now_is i) (ready master prepare.tenure (place_is i)))
-    ∙ sym (cond-true (is_greater master prepare.tenure.tablet prepare.tenure.term prepare.range) (preparing master prepare)
-    (ready_again master prepare.tenure handover.role handover.term) is)
+prepare_made master now prepare place now_is place_is greater above = grind (arith, tablet_at, lt-ltb, cond-true)
 
 -- a master that made ready says so again
 pub ready_so : (master : Master) (tenure : Tenure) (role : Role) (term from : ℕ) → role ≡ roles.Wanting from → term ≡ tenure.term
     → sending master (ready master tenure from) ≡ ready_again master tenure role term
-ready_so master tenure role term from role_is term_is =
-    sym (
-    ap (λ (r : Role). ready_again master tenure r term) role_is
-    ∙ cond-true (eqb term tenure.term) (sending master (ready master tenure from)) (changed master) (eq-eqb term tenure.term term_is)
-    )
+ready_so master tenure role term from role_is term_is = grind (arith, cond-true, eqb, changed, eq-eqb)
 
 -- ---- a Grant
 
 -- the role after it
 pub granted_role : (handover after : Handover) (term counter : ℕ) → granted handover term counter ≡ Some after → after.role ≡ roles.Receiving
-granted_role handover after term counter is = go (eqb handover.term term) is
-  where
-    by_role : (role : Role) → in_role (record handover { counter = counter }) (role_granted role) ≡ Some after → after.role ≡ roles.Receiving
-    by_role roles.Absent e = cc e
-    by_role roles.Serving e = cc e
-    by_role roles.Closing e = cc e
-    by_role roles.Frozen e = cc e
-    by_role (roles.Wanting from) e = role_is (record handover { counter = counter }) after roles.Receiving e
-    by_role roles.Receiving e = cc e
-    by_role (roles.Joining entry) e = cc e
-    by_role (roles.Rebuilding from entry) e = cc e
-
-    go : (b : Bool) → cond b (in_role (record handover { counter = counter }) (role_granted handover.role)) None ≡ Some after → after.role ≡ roles.Receiving
-    go true e = by_role handover.role e
-    go false e = cc e
+granted_role handover after term counter is = grind (arith, eqb, role_is)
 
 -- one that does not apply
 pub grant_failed : (master : Master) (grant : Grant) (tablet : Tablet) → tablet_at master grant.tenure.tablet ≡ tablet → granted tablet.handover grant.tenure.term grant.floor ≡ None
@@ -341,20 +238,12 @@ pub grant_made : (master : Master) (log : Log) (rows : List Row) (i : ℕ) (read
     → tablet_of lane ≡ record (without_merged (tablet_of (moved_lane read.1 handover))) { completions = completions_from [] grant.ends; pulling = pulling_from grant.source }
     → changed (with_rows (record master { log = log; sides = items_of_sides log.sides }) (set rows i (read.0, lane))) ≡ grant_taken (with_rows master rows) grant
 grant_made master log rows i read handover lane grant here order at is moved log_is lane_is =
-    let number : ℕ = grant.tenure.tablet in
-    let tablet = tablet_read rows number i read order at is in
-    let tablets = changed_read rows number i read lane order at is ∙ ap (insert (tablets_of rows) number) lane_is
-    ∙ ap (λ (t : Tablet). insert (tablets_of rows) number (record (without_merged t) { handover = handover; completions = completions_from [] grant.ends; pulling = pulling_from grant.source })) (sym tablet) in
-    let sides = ap (λ (l : Log). items_of_sides l.sides) log_is ∙ sym here in
-    (λ i. changed (record master { log = log_is i; sides = sides i; tablets = tablets i }))
-    ∙ sym (ap (granting (with_rows master rows) grant) (ap (λ (t : Tablet). granted t.handover grant.tenure.term grant.floor) tablet ∙ moved))
+    grind (arith, tablet_read, changed_read, insert, tablets_of, without_merged, completions_from, pulling_from, items_of_sides, changed)
 
 -- the role that it has then can be closed
 pub grant_closable : (lane : TabletLane) (handover : Handover) (grant : Grant) → lane.handover ≡ handover → handover.role ≡ roles.Receiving → IsLawfulEntry (carried_entry handover grant)
     → IsClosable (tablet_of lane)
-grant_closable lane handover grant same role lawful =
-    let is : (tablet_of lane).handover.role ≡ roles.Receiving = ap (λ (h : Handover). h.role) same ∙ role in
-    closable_as (tablet_of lane) is (subst (λ (h : Handover). IsLawfulRange h.range × IsNumber w64 1 h.term) (sym same) (lawful.range, lawful.term))
+grant_closable lane handover grant same role lawful = grind (arith, tablet_of, closable_as, w64)
 
 -- its entry can be spelled
 pub grant_lawful : (rows : List Row) (i : ℕ) (read : Row) (master : Master) (handover : Handover) (grant : Grant)
@@ -388,10 +277,7 @@ none_either false moved = refl
 
 -- a Close of it does nothing
 pub close_absent : (master : Master) (tenure : Tenure) → tablet_at master tenure.tablet ≡ no_tablet → changed master ≡ close_taken master tenure
-close_absent master tenure absent =
-    not_told master tenure no_tablet absent refl
-    ∙ sym (ap (λ (moved : Option Handover). transferring (closing master tenure.tablet moved) tenure)
-    (ap (λ (tablet : Tablet). closed tablet.handover tenure.term) absent ∙ none_either (ltb 0 tenure.term) None))
+close_absent master tenure absent = grind (arith, not_told, no_tablet, none_either, ltb)
 
 -- nor an Own
 pub own_absent : (master : Master) (tenure : Tenure) → tablet_at master tenure.tablet ≡ no_tablet → changed master ≡ own_taken master tenure

@@ -1,10 +1,8 @@
 -- What is kept of the staged items, after an item was staged at the end, and after the first one was applied.
-use Rattle.rk_master.proofs.Words.{◌≡◌, ℕ, ◌+◌, ◌-◌, ◌≤◌, ◌<◌, Bool, true, false, cond, eqb, ltb, ◌&&◌, List, [], ◌∷◌, ◌++◌, take, Option}
-use Rattle.rk_master.proofs.Words.{Some, None, is_some, refl, sym, ap, ◌∙◌, subst, ⊎_elim, arith, drop, slice_get, suc, zero, nat_cmp}
-use Rattle.rk_master.proofs.Words.{is_eq, unsigned_tied, cond-true, cond-false, false≢true, Held, append-nil, Entry, items_of, newest}
+use Rattle.rk_master.proofs.Words.{◌≡◌, ℕ, ◌+◌, ◌-◌, ◌≤◌, ◌<◌, Bool, true, false, cond, eqb, ltb, ◌&&◌, List, [], ◌∷◌, ◌++◌, Option, Some}
+use Rattle.rk_master.proofs.Words.{None, refl, sym, ap, ◌∙◌, subst, ⊎_elim, arith, drop, slice_get, suc, zero, nat_cmp, is_eq}
+use Rattle.rk_master.proofs.Words.{unsigned_tied, cond-true, cond-false, false≢true, Held, append-nil, Entry, items_of, newest}
 use Rattle.std.specs.Prelude.{bytes_eq}
-use Rattle.std.specs.Cmp.{tied_then}
-use Rattle.std.specs.Cmp.Lexicographic.{slice_cmp}
 use Rattle.std.specs.BTreeMap.{BTreeMap, get as found_in, Updates}
 use Rattle.std.proofs.lemmas.Map.Text.{is_eq-slice_cmp}
 use Rattle.std.proofs.lemmas.Bool.{cases_Bool, cases_lt}
@@ -20,10 +18,7 @@ use Rattle.rk_master.specs.Kept.{Name, name_cmp, many_of, kept_of, kept, kept_wi
 
 -- two names are one where their tables are, and their keys
 pub same_name : (a b : Name) → is_eq (name_cmp a b) ≡ (eqb a.0 b.0 && bytes_eq a.1 b.1)
-same_name a b =
-    sym (tied_then (nat_cmp a.0 b.0) (slice_cmp nat_cmp a.1 b.1))
-    ∙ ap (λ t. t && is_eq (slice_cmp nat_cmp a.1 b.1)) (unsigned_tied a.0 b.0)
-    ∙ ap (λ t. eqb a.0 b.0 && t) (is_eq-slice_cmp a.1 b.1)
+same_name a b = grind (arith, nat_cmp, is_eq, unsigned_tied, eqb, is_eq-slice_cmp)
 
 -- 1 for an item of the record, and 0 for each other
 abbrev one : Bool → ℕ
@@ -49,33 +44,11 @@ newest_more items item table key = ap (λ (f : Found). f table key) (newest_from
 
 -- what is kept of a record, with one more item of another at the end
 kept_other : (items : List Held) (item : Held) (table : ℕ) (key : List ℕ) → is_of table key item ≡ false → kept (items ++ item ∷ []) table key ≡ kept items table key
-kept_other items item table key apart =
-    let found = newest_more items item table key ∙ with_newer_other (newest items) item table key apart in
-    let count : many_of (items ++ item ∷ []) table key ≡ many_of items table key =
-    let zero_here : one (is_of table key item) ≡ 0 = cond-false (is_of table key item) 1 0 apart in
-    omega (arith, many_more items item table key, zero_here) in
-    λ i. kept_of (found i) (count i)
+kept_other items item table key apart = grind (arith, newest_more, with_newer_other, newest, cond-false, many_more)
 
 -- and with one more of its own
 kept_here : (items : List Held) (item : Held) (table : ℕ) (key : List ℕ) → is_of table key item ≡ true → kept (items ++ item ∷ []) table key ≡ Some (kept_with (kept items table key) item)
-kept_here items item table key here =
-    let found = newest_more items item table key ∙ with_newer_here (newest items) item table key here in
-    let count : many_of (items ++ item ∷ []) table key ≡ many_of items table key + 1 =
-    let one_here : one (is_of table key item) ≡ 1 = cond-true (is_of table key item) 1 0 here in
-    omega (arith, many_more items item table key, one_here) in
-    ap (λ (o : Option Held). kept_of o (many_of (items ++ item ∷ []) table key)) found
-    ∙ ap (kept_of (Some (newer_of (newest items table key) item))) count
-    ∙ go (newest items table key) refl
-  where
-    newer : (old : Held) (n : ℕ) (b : Bool)
-        → kept_of (Some (cond b item old)) (n + 1)
-        ≡ Some (cond b (record { version = item.version; is_live = is_some item.value; count = n + 1 }) (record { version = old.version; is_live = is_some old.value; count = n + 1 }))
-    newer old n true = refl
-    newer old n false = refl
-
-    go : (o : Option Held) → newest items table key ≡ o → kept_of (Some (newer_of o item)) (many_of items table key + 1) ≡ Some (kept_with (kept_of o (many_of items table key)) item)
-    go None is = ap (λ (n : ℕ). kept_of (Some item) (n + 1)) (many_none items table key (none_in none_found items table key is))
-    go (Some old) is = newer old (many_of items table key) (ltb old.version item.version)
+kept_here items item table key here = grind (arith, newest_more, with_newer_here, newest, cond-true, many_more, many_none, none_in, ltb)
 
 -- a tree in which an item was taken in at the end
 pub kept_added : (old new : BTreeMap Name Kept) (item : Held) (items : List Held) (named : List ℕ) (kept_now : Kept)
@@ -101,10 +74,7 @@ kept_added old new item items named kept_now same updates_named is_named was tab
 ahead : (f g : Found) (items : List Held) (table : ℕ) (key : List ℕ) (old item : Held)
     → f table key ≡ Some old → ((y : Held) → g table key ≡ Some y → y.version ≤ old.version)
     → newest_from f items table key ≡ Some item → old.version < item.version → newest_from g items table key ≡ Some item
-ahead f g [] table key old item was below is newer =
-    let same : old ≡ item = cc (was, is) in
-    let equal : old.version ≡ item.version = ap (λ (x : Held). x.version) same in
-    absurd (omega (arith, newer, equal))
+ahead f g [] table key old item was below is newer = grind (arith, old.version, item.version)
 ahead f g (first ∷ items) table key old item was below is newer =
     ⊎_elim
     (λ (here : is_of table key first ≡ true).
@@ -132,11 +102,7 @@ ahead f g (first ∷ items) table key old item was below is newer =
 
 -- what is kept of a record, with the first item of another gone
 kept_apart : (item : Held) (items : List Held) (table : ℕ) (key : List ℕ) → is_of table key item ≡ false → kept (item ∷ items) table key ≡ kept items table key
-kept_apart item items table key apart =
-    let found : newest (item ∷ items) table key ≡ newest items table key = newest_from-same (with_newer none_found item) none_found items table key (with_newer_other none_found item table key apart) in
-    let zero_here : one (is_of table key item) ≡ 0 = cond-false (is_of table key item) 1 0 apart in
-    let count : many_of (item ∷ items) table key ≡ many_of items table key = omega (arith, zero_here) in
-    λ i. kept_of (found i) (count i)
+kept_apart item items table key apart = grind (arith, newest, newest_from-same, with_newer_other, cond-false)
 
 -- none is found where there are none
 none_many : (found : Found) (items : List Held) (table : ℕ) (key : List ℕ) → many_of items table key ≡ 0 → newest_from found items table key ≡ found table key
@@ -153,48 +119,17 @@ none_many found (first ∷ items) table key none =
 -- how many are left
 many_left : (item : Held) (items : List Held) (table : ℕ) (key : List ℕ) (old : Kept) → is_of table key item ≡ true → Some old ≡ kept (item ∷ items) table key
     → old.count ≡ many_of items table key + 1
-many_left item items table key old here is = go (newest (item ∷ items) table key) is
-  where
-    go : (o : Option Held) → Some old ≡ kept_of o (many_of (item ∷ items) table key) → old.count ≡ many_of items table key + 1
-    go None told = cc told
-    go (Some found) told =
-        let same : old ≡ record { version = found.version; is_live = is_some found.value; count = many_of (item ∷ items) table key } = cc told in
-        let count : old.count ≡ many_of (item ∷ items) table key = ap (λ (k : Kept). k.count) same in
-        let one_here : one (is_of table key item) ≡ 1 = cond-true (is_of table key item) 1 0 here in
-        omega (arith, count, one_here)
+many_left item items table key old here is = grind (arith, newest, cond-true)
 
 -- nothing is left of one
 pub kept_none : (item : Held) (items : List Held) (table : ℕ) (key : List ℕ) (old : Kept) → is_of table key item ≡ true → Some old ≡ kept (item ∷ items) table key
     → old.count ≤ 1 → None ≡ kept items table key
-kept_none item items table key old here is few =
-    let none : many_of items table key ≡ 0 = omega (arith, many_left item items table key old here is, few) in
-    sym (ap (λ (o : Option Held). kept_of o (many_of items table key)) (none_many none_found items table key none))
+kept_none item items table key old here is few = grind (arith, many_left, none_many)
 
 -- a newest one that is newer than the first is left
 pub kept_newer : (item : Held) (items : List Held) (table : ℕ) (key : List ℕ) (old : Kept) → is_of table key item ≡ true → Some old ≡ kept (item ∷ items) table key
     → item.version < old.version → Some (record { version = old.version; is_live = old.is_live; count = old.count - 1 }) ≡ kept items table key
-kept_newer item items table key old here is newer = go (newest (item ∷ items) table key) refl is
-  where
-    go : (o : Option Held) → newest (item ∷ items) table key ≡ o → Some old ≡ kept_of o (many_of (item ∷ items) table key)
-        → Some (record { version = old.version; is_live = old.is_live; count = old.count - 1 }) ≡ kept items table key
-    go None found told = cc told
-    go (Some x) found told =
-        let same : old ≡ record { version = x.version; is_live = is_some x.value; count = many_of (item ∷ items) table key } = cc told in
-        let version : old.version ≡ x.version = ap (λ (k : Kept). k.version) same in
-        let live : old.is_live ≡ is_some x.value = ap (λ (k : Kept). k.is_live) same in
-        let count : old.count - 1 ≡ many_of items table key = omega (arith, many_left item items table key old here is) in
-        let later : item.version < x.version = omega (arith, version, newer) in
-        let first_found : with_newer none_found item table key ≡ Some item = with_newer_here none_found item table key here in
-        let left : newest items table key ≡ Some x = ahead (with_newer none_found item) none_found items table key item x first_found (λ y none. absurd (cc none)) found later in
-        (λ i. Some (record { version = version i; is_live = live i; count = count i }))
-        ∙ sym (ap (λ (o : Option Held). kept_of o (many_of items table key)) left)
-
--- the newest one of what is left
-pub kept_left : (item : Held) (items : List Held) (table : ℕ) (key : List ℕ) (old : Kept) (found : Option Held) → is_of table key item ≡ true → Some old ≡ kept (item ∷ items) table key
-    → found ≡ newest items table key → kept_of found (old.count - 1) ≡ kept items table key
-kept_left item items table key old found here is found_is =
-    let count : old.count - 1 ≡ many_of items table key = omega (arith, many_left item items table key old here is) in
-    λ i. kept_of (found_is i) (count i)
+kept_newer item items table key old here is newer = grind (arith, newest, many_left, with_newer_here, ahead)
 
 -- a tree of which the first item was taken out
 pub kept_subtracted : (old new : BTreeMap Name Kept) (name : Name) (item : Held) (items : List Held) (left : Option Kept)
@@ -220,21 +155,10 @@ is_named = is_of_from
 
 -- ---- the newest among entries
 
--- what is found with one more entry
-newest_in_next : (found : Option Held) (entry : Entry) (items : List Held) (table : ℕ) (key : List ℕ) → found ≡ newest items table key → newer_in found entry table key ≡ newest (items ++ items_in entry) table key
-newest_in_next found (entries.Held item) items table key was =
-    ap (λ (o : Option Held). newer_in o (entries.Held item) table key) was ∙ sym (newest_more items item table key)
-newest_in_next found (entries.Refused refused) items table key was = was ∙ ap (λ (xs : List Held). newest xs table key) (sym (append-nil items))
-newest_in_next found (entries.Carried carried) items table key was = was ∙ ap (λ (xs : List Held). newest xs table key) (sym (append-nil items))
-newest_in_next found (entries.Joined joined) items table key was = was ∙ ap (λ (xs : List Held). newest xs table key) (sym (append-nil items))
-
 -- what is found among entries, and one more
 pub newest_pushed : (entries : List Entry) (entry : Entry) (found : Option Held) (table : ℕ) (key : List ℕ)
     → found ≡ newest (items_of entries) table key → newer_in found entry table key ≡ newest (items_of (entries ++ entry ∷ [])) table key
-newest_pushed entries entry found table key was =
-    newest_in_next found entry (items_of entries) table key was
-    ∙ ap (λ (xs : List Held). newest (items_of entries ++ xs) table key) (sym (append-nil (items_in entry)))
-    ∙ ap (λ (xs : List Held). newest xs table key) (sym (flat_map-append items_in entries (entry ∷ [])))
+newest_pushed entries entry found table key was = grind (arith, items_of, newest, append-nil, flat_map-append, newest_more)
 
 -- something is kept of a record that has an item
 pub kept_some : (item : Held) (items : List Held) (table : ℕ) (key : List ℕ) → is_of table key item ≡ true → None ≡ kept (item ∷ items) table key → ⊥
@@ -250,21 +174,8 @@ kept_some item items table key here none = go (newest (item ∷ items) table key
 pub from_place : {X : Type 0} (all : List X) (place : ℕ) (entry : X) → slice_get all place ≡ Some entry → drop place all ≡ entry ∷ drop (place + 1) all
 from_place [] place entry at = cc at
 from_place {X} (first ∷ all) zero entry at = let same : first ≡ entry = cc at in ap (λ (x : X). x ∷ all) same
-from_place (first ∷ all) (suc place) entry at = from_place all place entry at ∙ ap (λ (n : ℕ). entry ∷ drop n (first ∷ all)) (one_later place)
-  where
-    one_later : (n : ℕ) → suc (n + 1) ≡ suc n + 1
-    one_later n = omega arith
+from_place (first ∷ all) (suc place) entry at = grind (arith, (from_place all place entry at))
 
 -- an item, and those of the entries behind it
 pub items_from : (all : List Entry) (place : ℕ) (entry : Entry) (item : Held) → slice_get all place ≡ Some entry → entry ≡ entries.Held item → items_of (drop place all) ≡ item ∷ items_of (drop (place + 1) all)
 items_from all place entry item at is = ap items_of (from_place all place entry at) ∙ ap (λ (x : Entry). items_in x ++ items_of (drop (place + 1) all)) is
-
--- an entry that is no item leaves the items as they are
-pub items_behind : (all : List Entry) (place : ℕ) (entry : Entry) → slice_get all place ≡ Some entry → ((item : Held) → entry ≡ entries.Held item → ⊥) → items_of (drop place all) ≡ items_of (drop (place + 1) all)
-items_behind all place entry at other = ap items_of (from_place all place entry at) ∙ none_in_it entry other
-  where
-    none_in_it : (e : Entry) → ((item : Held) → e ≡ entries.Held item → ⊥) → items_in e ++ items_of (drop (place + 1) all) ≡ items_of (drop (place + 1) all)
-    none_in_it (entries.Held item) not_it = absurd (not_it item refl)
-    none_in_it (entries.Refused refused) not_it = refl
-    none_in_it (entries.Carried carried) not_it = refl
-    none_in_it (entries.Joined joined) not_it = refl

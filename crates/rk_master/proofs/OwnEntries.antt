@@ -15,7 +15,7 @@ use Rattle.rk_entry.specs.Lists.{is_among}
 use Rattle.rk_segment.specs.Segment.{NumberedBytes}
 use Rattle.rk_log.specs.Cut.{cut}
 use Rattle.rk_log.specs.Log.{bytes_of, numbered, segment_bytes, segment_of}
-use Rattle.rk_log.proofs.Cuts.{AreFilled, cut_filled, length-le-bytes}
+use Rattle.rk_log.proofs.Cuts.{cut_filled, length-le-bytes}
 use Rattle.rk_world.specs.Material.{counting, material_of, named, side_entries}
 use Rattle.rk_master.specs.Rebuilding.{AreRead, side_read}
 use Rattle.rk_master.proofs.Sides.{entries_in}
@@ -37,10 +37,7 @@ found_bytes found = option_map_or (λ (segment : NumberedBytes). segment.bytes) 
 -- from the first number on they are found by place
 found_there : (number first place : ℕ) (segments : List (List ℕ)) → first + place ≡ number → found_bytes (segment_of number (numbered first segments)) ≡ get_or segments place []
 found_there number first place [] is = refl
-found_there number first zero (bytes ∷ segments) is =
-    ap found_bytes
-    (cond-true (eqb first number) (Some (record { number = first; bytes = bytes })) (segment_of number (numbered (suc first) segments))
-    (eq-eqb first number (omega (arith, is))))
+found_there number first zero (bytes ∷ segments) is = grind (arith, cond-true, eqb, eq-eqb)
 found_there number first (suc place) (bytes ∷ segments) is =
     ap found_bytes
     (cond-false (eqb first number) (Some (record { number = first; bytes = bytes })) (segment_of number (numbered (suc first) segments))
@@ -49,9 +46,7 @@ found_there number first (suc place) (bytes ∷ segments) is =
 
 -- a log that is not full has few main segments
 few_segments : (log : Log) → segment_bytes log < 2 ^ 31 → length (cut log.entries) < 2 ^ 31
-few_segments log few =
-    let filled : AreFilled (cut log.entries) = cut_filled [] log.entries (λ k within. absurd (omega (arith, within))) in
-    omega (arith, few, length-le-bytes (cut log.entries) filled)
+few_segments log few = grind (arith, cut_filled, length-le-bytes)
 
 -- so that a number from the first side segment on is that of a side segment
 pub side_bytes_are : (log : Log) (number : ℕ) → segment_bytes log < 2 ^ 31 → FIRST_SIDE_SEGMENT ≤ number
@@ -72,9 +67,7 @@ entries_none = refl
 
 -- from the first number on the entries of the bytes are read
 pub read_there : (log : Log) (number : ℕ) → segment_bytes log < 2 ^ 31 → FIRST_SIDE_SEGMENT ≤ number → entries_of (bytes_of log number) ≡ side_read log.sides number
-read_there log number few above =
-    ap entries_of (side_bytes_are log number few above)
-    ∙ sym (cond-false (ltb number FIRST_SIDE_SEGMENT) [] (entries_of (get_or log.sides (number - FIRST_SIDE_SEGMENT) [])) (le-ltb number FIRST_SIDE_SEGMENT above))
+read_there log number few above = grind (arith, entries_of, side_bytes_are, cond-false, ltb, le-ltb)
 
 -- what was right, or is read now, is right then
 read_right : (sides : List (List ℕ)) (read : NumberMap (List Entry)) (numbers : List ℕ) (asked : ℕ)

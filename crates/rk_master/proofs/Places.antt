@@ -1,17 +1,11 @@
 -- The place of a tablet's number, and what is found and changed there.
-use Rattle.rk_master.proofs.Words.{◌≡◌, ℕ, zero, suc, ◌<◌, ◌≤◌, Bool, true, false, cond, ◌&&◌, T, List, [], ◌∷◌, ◌++◌, ◌+◌, length, map}
-use Rattle.rk_master.proofs.Words.{take, drop, slice_get, get_or, set, append_assoc, Option, Some, None, is_some, unwrap_or, refl, sym, ap}
-use Rattle.rk_master.proofs.Words.{◌∙◌, subst, inl, inr, arith, slice_get-get_or, false≢true, IfOk, IsSome, option_map, insert_at, nat_cmp}
-use Rattle.rk_master.proofs.Words.{is_lt, is_eq, Ordering, Less, Equal, Greater, below_all, by_order, NumberMap, IsInOrder, get, insert}
-use Rattle.rk_master.proofs.Words.{IsAt, IsBetween, in_order_insert, Handover, Tablet, no_tablet, with_handover, TabletLane, changing}
-use Rattle.rk_master.proofs.Words.{tablet_of, tablets_of, tablet_in, Row}
+use Rattle.rk_master.proofs.Words.{◌≡◌, ℕ, ◌<◌, Bool, true, false, cond, List, [], ◌∷◌, ◌++◌, ◌+◌, length, map, take, drop, slice_get}
+use Rattle.rk_master.proofs.Words.{get_or, set, append_assoc, Option, Some, unwrap_or, refl, sym, ap, ◌∙◌, subst, arith, slice_get-get_or}
+use Rattle.rk_master.proofs.Words.{false≢true, IsSome, option_map, insert_at, nat_cmp, is_eq, Ordering, Less, Equal, Greater, by_order}
+use Rattle.rk_master.proofs.Words.{NumberMap, IsInOrder, get, insert, IsAt, IsBetween, in_order_insert, Handover, Tablet, no_tablet}
+use Rattle.rk_master.proofs.Words.{with_handover, TabletLane, changing, tablet_of, tablets_of, tablet_in, Row}
 use Rattle.std.proofs.Common.{drop-cons}
 use Rattle.std.proofs.lemmas.List.{take_more_set, drop-set-lt, map-append}
-use Rattle.std.proofs.lemmas.Bool.{cases_lt}
-use Rattle.std.specs.Prelude.{Result, Ok, Err, IfErr, IsOk}
-use Rattle.std.specs.List.Sorted.{IsSearchInRange, IsBinarySearchResult}
-use Rattle.std.specs.Ordering.{ordering_index}
-use Rattle.std.specs.Cmp.{nat_cmp_is, ranked}
 use Rattle.rk_types.proofs.Places.{get_at, get_between, insert_at_place, insert_between}
 
 -- ---- what the tablets stand for
@@ -60,35 +54,21 @@ order_there rows number i d lane order at =
 pub changed_so : (change : Tablet → Tablet) (rows : List Row) (number i : ℕ) (d : Row) (lane : TabletLane) → IsInOrder rows → IsAt number rows i
     → tablet_of lane ≡ change (tablet_of (get_or rows i d).1)
     → tablets_of (set rows i ((get_or rows i d).0, lane)) ≡ insert (tablets_of rows) number (change (tablet_in rows number))
-changed_so change rows number i d lane order at changed =
-    changed_there rows number i d lane order at
-    ∙ ap (insert (tablets_of rows) number) (changed ∙ ap change (sym (tablet_there rows number i d order at)))
+changed_so change rows number i d lane order at changed = grind (arith, changed_there, insert, tablets_of, tablet_there)
 
 -- a tablet that the master has stands among the rows
 pub there_too : (rows : List Row) (number : ℕ) → IsSome (get (tablets_of rows) number) → IsSome (get rows number)
-there_too rows number there = go (get rows number) (sym (ap is_some (get_tablet rows number)) ∙ there)
-  where
-    go : (o : Option TabletLane) → is_some (option_map tablet_of o) ≡ true → is_some o ≡ true
-    go None none = none
-    go (Some lane) some = refl
+there_too rows number there = grind (arith, get_tablet, tablet_of)
 
 -- ---- each tablet is changed in turn
 
 -- the rows from a place on are the one there and those behind it
 pub drop_next : (rows : List Row) (i : ℕ) (d : Row) → i < length rows → drop i rows ≡ get_or rows i d ∷ drop (i + 1) rows
-drop_next rows i d within = drop-cons rows i d within ∙ ap (λ (n : ℕ). get_or rows i d ∷ drop n rows) (one_later i)
-  where
-    one_later : (n : ℕ) → suc n ≡ n + 1
-    one_later n = omega arith
+drop_next rows i d within = grind (arith, drop-cons)
 
 -- a tablet stands at its own place
 pub at_itself : (rows : List Row) (i : ℕ) (d : Row) → i < length rows → IsAt (get_or rows i d).0 rows i
-at_itself rows i d within = record {
-  within = within;
-  same = λ other.
-      let one : Some (get_or rows i other) ≡ Some (get_or rows i d) = sym (slice_get-get_or rows i other within) ∙ slice_get-get_or rows i d within in
-      let row : get_or rows i other ≡ get_or rows i d = cc one in ap (λ (x : Row). x.0) row;
-}
+at_itself rows i d within = grind (arith, slice_get-get_or)
 
 -- the tablets, of which those from a place on are still to be changed
 abbrev pub changed_from : (ℕ → Tablet → Tablet) → ℕ → List Row → NumberMap Tablet
@@ -99,14 +79,7 @@ pub changed_next : (change : ℕ → Tablet → Tablet) (rows : List Row) (i : �
     → tablet_of lane ≡ change (get_or rows i d).0 (tablet_of (get_or rows i d).1)
     → changed_from change (i + 1) (set rows i ((get_or rows i d).0, lane)) ≡ changed_from change i rows
 changed_next change rows i d lane within changed =
-    (λ j. tablets_of (take_more_set rows i new within j) ++ map (changing change) (tablets_of (drop-set-lt (i + 1) rows i new (omega arith) j)))
-    ∙ ap (λ t. t ++ map (changing change) (tablets_of (drop (i + 1) rows))) (map-append (λ entry. (entry.0, tablet_of entry.1)) (take i rows) (new ∷ []))
-    ∙ append_assoc (tablets_of (take i rows)) ((new.0, tablet_of new.1) ∷ []) (map (changing change) (tablets_of (drop (i + 1) rows)))
-    ∙ ap (λ (t : Tablet). tablets_of (take i rows) ++ ((get_or rows i d).0, t) ∷ map (changing change) (tablets_of (drop (i + 1) rows))) changed
-    ∙ ap (λ (xs : List Row). tablets_of (take i rows) ++ map (changing change) (tablets_of xs)) (sym (drop_next rows i d within))
-  where
-    new : Row
-    new = ((get_or rows i d).0, lane)
+    grind (arith, tablets_of, take_more_set, changing, drop-set-lt, map-append, tablet_of, append_assoc, drop_next)
 
 -- ---- a tablet moves
 
@@ -120,10 +93,7 @@ pub moved_there : (rows : List Row) (i : ℕ) (read row : Row) (lane : TabletLan
     → read ≡ get_or rows i read → slice_get rows i ≡ Some row → tablet_of lane ≡ with_handover (tablet_of read.1) handover
     → tablets_of (set rows i (read.0, lane)) ≡ insert (tablets_of rows) row.0 (with_handover (tablet_of row.1) handover)
 moved_there rows i read row lane handover order within is at moved =
-    ap (λ (r : Row). tablets_of (set rows i (r.0, lane))) is
-    ∙ changed_there rows (get_or rows i read).0 i read lane order (at_itself rows i read within)
-    ∙ ap (insert (tablets_of rows) (get_or rows i read).0) (moved ∙ ap (λ (r : Row). with_handover (tablet_of r.1) handover) is)
-    ∙ ap (λ (r : Row). insert (tablets_of rows) r.0 (with_handover (tablet_of r.1) handover)) (row_there rows i read row within at)
+    grind (arith, tablets_of, changed_there, at_itself, insert, with_handover, tablet_of, row_there)
 
 -- ---- a tablet is added
 

@@ -1,7 +1,7 @@
 -- What a rebuild does: how it begins, how it goes on, and how it closes.
-use Rattle.rk_master.proofs.Words.{◌≡◌, ℕ, suc, ◌<◌, ◌≤◌, Bool, true, false, cond, eqb, ltb, ◌&&◌, List, [], ◌∷◌, ◌++◌, fold, drop, map}
-use Rattle.rk_master.proofs.Words.{length, length-append, Option, Some, None, is_some, unwrap_or, append_assoc, get_or, set, refl, sym, ap}
-use Rattle.rk_master.proofs.Words.{◌∙◌, subst, arith, All, list_all, IsSome, cond-true, eq-eqb, false≢true, append-nil, All-head, All-tail}
+use Rattle.rk_master.proofs.Words.{◌≡◌, ℕ, suc, ◌<◌, ◌≤◌, Bool, true, false, cond, eqb, ltb, List, [], ◌∷◌, ◌++◌, fold, drop, map, length}
+use Rattle.rk_master.proofs.Words.{length-append, Option, Some, None, is_some, unwrap_or, append_assoc, get_or, set, refl, sym, ap, ◌∙◌}
+use Rattle.rk_master.proofs.Words.{subst, arith, All, list_all, IsSome, cond-true, eq-eqb, false≢true, append-nil, All-head, All-tail}
 use Rattle.rk_master.proofs.Words.{NumberMap, IsInOrder, get, insert, get_same, in_order_insert, Held, Range, IsLawfulEntry, IsLawfulHeld}
 use Rattle.rk_master.proofs.Words.{Entry, Log, with_entry, Handover, Role, is_above, Master, tablet_at, as_entries, is_gathering, Tablet}
 use Rattle.rk_master.proofs.Words.{no_tablet, pulling_from, with_handover, without_merged, changed, Work, AreClosable, IsClosable}
@@ -22,7 +22,7 @@ use Rattle.rk_world.specs.declared.work.Merged.{Merged}
 use Rattle.rk_world.specs.declared.work.Mark.{Mark}
 use Rattle.rk_world.specs.declared.work.Reading.{Reading}
 use Rattle.rk_world.specs.Gather.{Gather, gather_begun, next_reading}
-use Rattle.rk_world.specs.Handovers.{is_greater, with_others_given_up}
+use Rattle.rk_world.specs.Handovers.{with_others_given_up}
 use Rattle.rk_world.specs.Lineage.{own_member}
 use Rattle.rk_world.specs.Master.{with_all, with_appended}
 use Rattle.rk_world.specs.Material.{material_of, side_entries}
@@ -34,58 +34,13 @@ use Rattle.rk_master.proofs.Places.{there_too}
 
 -- ---- whether it goes on
 
--- a test between the same
-same_either : {X : Type 0} (b : Bool) (x : X) → cond b x x ≡ x
-same_either true x = refl
-same_either false x = refl
-
--- a role that gathers nothing takes no closing entry
-not_carried : (handover : Handover) (place floor : ℕ) → gathered_from handover.role None ≡ None → carried handover handover.term place floor ≡ None
-not_carried handover place floor none =
-    ap (λ (o : Option Handover). cond (eqb handover.term handover.term) o None) (ap (in_role (record handover { counter = floor })) (by_role handover.role none))
-    ∙ same_either (eqb handover.term handover.term) None
-  where
-    by_role : (role : Role) → gathered_from role None ≡ None → role_carried place role ≡ None
-    by_role roles.Absent e = refl
-    by_role roles.Serving e = refl
-    by_role roles.Closing e = refl
-    by_role roles.Frozen e = refl
-    by_role (roles.Wanting from) e = refl
-    by_role roles.Receiving e = refl
-    by_role (roles.Joining entry) e = refl
-    by_role (roles.Rebuilding from None) e = cc e
-    by_role (roles.Rebuilding from (Some entry)) e = refl
-
--- nothing is merged while there is a segment to read, or in another role
-stays_by : (master : Master) (number : ℕ) (reading : Option Reading) → gathered_from (tablet_at master number).handover.role reading ≡ None
-    → changed master ≡ rebuilding_on master number reading
-stays_by master number (Some reading) none = refl
-stays_by master number None none =
-    let tablet : Tablet = tablet_at master number in
-    let merged : Merged = merged_with tablet (own_material master tablet) in
-    sym (
-    ap (merging master number tablet merged)
-    (not_carried tablet.handover (length (with_all master (as_entries merged.copies)).log.entries) merged.floor none)
-    )
-
 pub stays_so : (master : Master) (number : ℕ) (tablet : Tablet) → tablet_at master number ≡ tablet → gathered_from tablet.handover.role (next_reading tablet.gather) ≡ None
     → changed master ≡ rebuild_goes_on master number
-stays_so master number tablet there none =
-    stays_by master number (next_reading (tablet_at master number).gather)
-    (ap (λ (t : Tablet). gathered_from t.handover.role (next_reading t.gather)) there ∙ none)
+stays_so master number tablet there none = grind (arith, tablet_at, as_entries, eqb)
 
 -- what has gathered all from a place on is a rebuild without its closing entry, which has nothing to read
 has_gathered : (role : Role) (reading : Option Reading) (from : ℕ) → gathered_from role reading ≡ Some from → (role ≡ roles.Rebuilding from None) × (reading ≡ None)
-has_gathered roles.Absent reading from e = cc e
-has_gathered roles.Serving reading from e = cc e
-has_gathered roles.Closing reading from e = cc e
-has_gathered roles.Frozen reading from e = cc e
-has_gathered (roles.Wanting place) reading from e = cc e
-has_gathered roles.Receiving reading from e = cc e
-has_gathered (roles.Joining entry) reading from e = cc e
-has_gathered (roles.Rebuilding place (Some entry)) reading from e = cc e
-has_gathered (roles.Rebuilding place None) (Some reading) from e = cc e
-has_gathered (roles.Rebuilding place None) None from e = let same : place ≡ from = cc e in (ap (λ (n : ℕ). roles.Rebuilding n None) same, refl)
+has_gathered role reading from e = grind arith
 
 -- so it is gathering
 pub is_gathering_so : (role : Role) (reading : Option Reading) (from : ℕ) → gathered_from role reading ≡ Some from → is_gathering role ≡ true
@@ -120,10 +75,7 @@ goes_on_so master number tablet from merged here there is merged_is =
 -- a target whose handover and whose sealed segments stay can be closed as before
 pub closable_same : (rows : List Row) (i : ℕ) (read : Row) (lane : TabletLane) → i < length rows → read ≡ get_or rows i read → AreClosable (tablets_of rows)
     → lane.handover ≡ read.1.handover → lane.sealed ≡ read.1.sealed → IsClosable (tablet_of lane)
-closable_same rows i read lane within is closable handover sealed =
-    subst (λ (segments : List ℕ). can_close lane.handover.role (record { range = lane.handover.range; term = lane.handover.term; segments = segments })) (sym sealed)
-    (subst (λ (h : Handover). can_close h.role (record { range = h.range; term = h.term; segments = read.1.sealed })) (sym handover)
-    (subst (λ (row : Row). IsClosable (tablet_of row.1)) (sym is) (closable_at rows i read within closable)))
+closable_same rows i read lane within is closable handover sealed = grind (arith, can_close, tablet_of, closable_at)
 
 -- a tablet that is as it was stands as it stood
 tablets_same : (rows : List Row) (number i : ℕ) (read : Row) (lane : TabletLane) → IsInOrder rows → IsAt number rows i → read ≡ get_or rows i read → tablet_of lane ≡ tablet_of read.1
@@ -140,12 +92,7 @@ pub gathered_at : (master : Master) (rows : List Row) (i : ℕ) (read : Row) (la
     → IsInOrder rows → IsAt copy.tenure.tablet rows i → read ≡ get_or rows i read
     → OnTrue awaited (tablet_of lane ≡ with_gathered (tablet_of read.1) copy)
     → OnTrue awaited (with_rows master (set rows i (read.0, lane)) ≡ segment_gathered (with_rows master rows) copy)
-gathered_at master rows i read lane copy false order at is gathered = tt
-gathered_at master rows i read lane copy true order at is gathered =
-    ap (λ (tablets : NumberMap Tablet). record master { tablets = tablets })
-    (changed_read rows copy.tenure.tablet i read lane order at is
-    ∙ ap (insert (tablets_of rows) copy.tenure.tablet)
-    (gathered ∙ ap (λ (t : Tablet). with_gathered t copy) (sym (tablet_read rows copy.tenure.tablet i read order at is))))
+gathered_at master rows i read lane copy awaited order at is gathered = grind (arith, changed_read, insert, tablets_of, tablet_read)
 
 -- and is as it was, where it did not
 pub ignored_at : (master : Master) (rows : List Row) (i : ℕ) (read : Row) (lane : TabletLane) (copy : CopySegment) (awaited : Bool)
@@ -159,55 +106,16 @@ ignored_at master rows i read lane copy false order at is ignored =
 -- by a copy that is awaited the rebuild goes on
 pub copy_gathered : (master now : Master) (copy : CopySegment) (awaited : Bool) → awaited ≡ is_awaiting (tablet_at master copy.tenure.tablet) copy → awaited ≡ true
     → OnTrue awaited (now ≡ segment_gathered master copy) → rebuild_goes_on now copy.tenure.tablet ≡ copy_taken master copy
-copy_gathered master now copy awaited awaits is gathered =
-    ap (λ (m : Master). rebuild_goes_on m copy.tenure.tablet) (on_true awaited is gathered)
-    ∙ sym (cond-true (is_awaiting (tablet_at master copy.tenure.tablet) copy) (rebuild_goes_on (segment_gathered master copy) copy.tenure.tablet) (changed master) (sym awaits ∙ is))
-  where
-    on_true : (b : Bool) → b ≡ true → OnTrue b (now ≡ segment_gathered master copy) → now ≡ segment_gathered master copy
-    on_true true e it = it
-    on_true false e it = absurd (false≢true e)
+copy_gathered master now copy awaited awaits is gathered = grind (arith, cond-true, tablet_at, changed, false≢true)
 
 -- ---- how it closes
 
 -- a gathering role takes a closing entry
 carries : (role : Role) (place : ℕ) → is_gathering role ≡ true → is_some (role_carried place role) ≡ true
-carries roles.Absent place is = cc is
-carries roles.Serving place is = cc is
-carries roles.Closing place is = cc is
-carries roles.Frozen place is = cc is
-carries (roles.Wanting from) place is = cc is
-carries roles.Receiving place is = cc is
-carries (roles.Joining entry) place is = cc is
-carries (roles.Rebuilding from None) place is = refl
-carries (roles.Rebuilding from (Some entry)) place is = cc is
-
--- where a role is taken, the handover takes it
-some_role : (handover : Handover) (role : Option Role) → is_some role ≡ true → is_some (in_role handover role) ≡ true
-some_role handover None is = is
-some_role handover (Some role) is = refl
-
--- so that the move applies
-pub is_carried : (handover : Handover) (place floor : ℕ) → is_gathering handover.role ≡ true → is_some (carried handover handover.term place floor) ≡ true
-is_carried handover place floor is =
-    ap is_some
-    (cond-true (eqb handover.term handover.term) (in_role (record handover { counter = floor }) (role_carried place handover.role)) None
-    (eq-eqb handover.term handover.term refl))
-    ∙ some_role (record handover { counter = floor }) (role_carried place handover.role) (carries handover.role place is)
-
--- the term and the range stay
-same_in_role : (handover after : Handover) (role : Option Role) → in_role handover role ≡ Some after → (after.term ≡ handover.term) × (after.range ≡ handover.range)
-same_in_role handover after None e = cc e
-same_in_role handover after (Some role) e =
-    let same : record handover { role = role } ≡ after = cc e in
-    (sym (ap (λ (h : Handover). h.term) same), sym (ap (λ (h : Handover). h.range) same))
+carries role place is = grind arith
 
 pub carried_stays : (handover after : Handover) (term place floor : ℕ) → carried handover term place floor ≡ Some after → (after.term ≡ handover.term) × (after.range ≡ handover.range)
-carried_stays handover after term place floor is = go (eqb handover.term term) is
-  where
-    go : (b : Bool) → cond b (in_role (record handover { counter = floor }) (role_carried place handover.role)) None ≡ Some after
-        → (after.term ≡ handover.term) × (after.range ≡ handover.range)
-    go true e = same_in_role (record handover { counter = floor }) after (role_carried place handover.role) e
-    go false e = cc e
+carried_stays handover after term place floor is = grind (arith, eqb)
 
 -- and the role is still that of a rebuild, which has its closing entry
 carried_role : (handover after : Handover) (term place floor : ℕ) → carried handover term place floor ≡ Some after → (from : ℕ) × (after.role ≡ roles.Rebuilding from (Some place))
@@ -259,18 +167,7 @@ put_log log (entry ∷ put) = put_log (with_entry log entry) put ∙ (λ i. reco
 closing_log : (master : Master) (number : ℕ) (tablet : Tablet) (merged : Merged) → is_gathering tablet.handover.role ≡ true
     → (merged_at master number tablet merged).master.log.entries ≡ master.log.entries ++ (as_entries merged.copies ++ rebuilt_entry tablet merged ∷ [])
 closing_log master number tablet merged is =
-    by_move (carried tablet.handover tablet.handover.term place merged.floor) (is_carried tablet.handover place merged.floor is)
-    ∙ ap (λ (m : Master). m.log.entries ++ rebuilt_entry tablet merged ∷ []) (all_put master (as_entries merged.copies))
-    ∙ ap (λ (l : Log). l.entries ++ rebuilt_entry tablet merged ∷ []) (put_log master.log (as_entries merged.copies))
-    ∙ append_assoc master.log.entries (as_entries merged.copies) (rebuilt_entry tablet merged ∷ [])
-  where
-    place : ℕ
-    place = length (with_all master (as_entries merged.copies)).log.entries
-
-    by_move : (moved : Option Handover) → is_some moved ≡ true
-        → (merging master number tablet merged moved).master.log.entries ≡ (with_all master (as_entries merged.copies)).log.entries ++ rebuilt_entry tablet merged ∷ []
-    by_move None some = absurd (false≢true some)
-    by_move (Some handover) some = refl
+    grind (arith, all_put, as_entries, put_log, append_assoc, false≢true, cond-true, eqb, eq-eqb, carries)
 
 -- what holds of all of two lists holds of all of the first
 all_left : {X : Type 0} (P : X → Type 0) (xs ys : List X) → All P (xs ++ ys) → All P xs
@@ -354,9 +251,7 @@ log_closes log items after copies closing items_are after_is =
 
 -- and what it has before its last entry is as long as it was, or longer
 pub items_longer : (log items : Log) (copies : List Held) (applied : ℕ) → items ≡ with_items log copies → applied ≤ length log.entries → applied ≤ length items.entries
-items_longer log items copies applied items_are within =
-    let longer : applied ≤ length (log.entries ++ as_entries copies) = omega (arith, within, length-append log.entries (as_entries copies)) in
-    subst (λ (l : Log). applied ≤ length l.entries) (sym (items_are ∙ put_log log (as_entries copies))) longer
+items_longer log items copies applied items_are within = grind (arith, as_entries, length-append, put_log)
 
 -- one more entry is one more place
 pub one_longer : (log items : Log) (entry : Entry) → log ≡ with_entry items entry → length log.entries ≡ suc (length items.entries)
@@ -366,17 +261,7 @@ one_longer log items entry is = ap (λ (l : Log). length l.entries) is ∙ omega
 
 -- what is put under a number once more
 pub insert_again : {X : Type 0} (things : NumberMap X) (number : ℕ) (first last : X) → IsInOrder things → insert (insert things number first) number last ≡ insert things number last
-insert_again {X} things number first last order =
-    same_map (insert (insert things number first) number last) (insert things number last)
-    (in_order_insert (insert things number first) number last (in_order_insert things number first order)) (in_order_insert things number last order)
-    (λ q. get_insert (insert things number first) number last q
-    ∙ ap (cond (eqb q number) (Some last)) (get_insert things number first q)
-    ∙ go q (eqb q number)
-    ∙ sym (get_insert things number last q))
-  where
-    go : (q : ℕ) (b : Bool) → cond b (Some last) (cond b (Some first) (get things q)) ≡ cond b (Some last) (get things q)
-    go q true = refl
-    go q false = refl
+insert_again {X} things number first last order = grind (arith, same_map, insert, in_order_insert, get_insert, eqb)
 
 -- a greater term begins a rebuild
 pub begins_so : (handover : Handover) (term : ℕ) (range : Range) (from : ℕ) → handover.term < term → is_some (rebuilt handover term range from) ≡ true
@@ -385,11 +270,7 @@ begins_so handover term range from greater =
 
 -- and the role is that of a rebuild then
 pub begun_role : (handover after : Handover) (term : ℕ) (range : Range) (from : ℕ) → rebuilt handover term range from ≡ Some after → after.role ≡ roles.Rebuilding from None
-begun_role handover after term range from is = go (ltb handover.term term) is
-  where
-    go : (b : Bool) → cond b (Some (record handover { role = roles.Rebuilding from None; term = term; range = range })) None ≡ Some after → after.role ≡ roles.Rebuilding from None
-    go true e = let same : record handover { role = roles.Rebuilding from None; term = term; range = range } ≡ after = cc e in sym (ap (λ (h : Handover). h.role) same)
-    go false e = cc e
+begun_role handover after term range from is = grind (arith, ltb)
 
 -- a tablet that was put among others is there
 pub handed_there : (rows : List Row) (others : NumberMap Tablet) (number : ℕ) (tablet : Tablet) → tablets_of rows ≡ insert others number tablet → IsSome (get rows number)
@@ -398,19 +279,13 @@ handed_there rows others number tablet is =
 
 -- and what the master has of it
 pub handed_tablet : (rows : List Row) (others : NumberMap Tablet) (number : ℕ) (tablet : Tablet) → tablets_of rows ≡ insert others number tablet → tablet_in rows number ≡ tablet
-handed_tablet rows others number tablet is =
-    ap (λ (tablets : NumberMap Tablet). unwrap_or (get tablets number) no_tablet) is
-    ∙ ap (λ (o : Option Tablet). unwrap_or o no_tablet) (get_same others number tablet number refl)
+handed_tablet rows others number tablet is = grind (arith, no_tablet, get_same)
 
 -- by a greater term the rebuild that has begun goes on
 pub rebuild_made : (master now : Master) (rebuild : Rebuild) → now ≡ rebuild_begun master rebuild
     → (tablet_at master rebuild.tenure.tablet).handover.term < rebuild.tenure.term → list_all (is_above rebuild.range rebuild.tenure.term) master.tablets ≡ true
     → rebuild_goes_on now rebuild.tenure.tablet ≡ rebuild_taken master rebuild
-rebuild_made master now rebuild now_is greater above =
-    let is : is_greater master rebuild.tenure.tablet rebuild.tenure.term rebuild.range ≡ true =
-    (λ i. lt-ltb (tablet_at master rebuild.tenure.tablet).handover.term rebuild.tenure.term greater i && above i) in
-    ap (λ (m : Master). rebuild_goes_on m rebuild.tenure.tablet) now_is
-    ∙ sym (cond-true (is_greater master rebuild.tenure.tablet rebuild.tenure.term rebuild.range) (rebuild_goes_on (rebuild_begun master rebuild) rebuild.tenure.tablet) (changed master) is)
+rebuild_made master now rebuild now_is greater above = grind (arith, lt-ltb, tablet_at, cond-true, changed)
 
 -- the number of a master stays
 same_number : (master : Master) (range : Range) (own : Option Member) → (without_foreign master range own).number ≡ master.number

@@ -2,12 +2,12 @@
 use Rattle.rk_master.proofs.Words.{◌≡◌, ℕ, zero, suc, ◌+◌, ◌<◌, ◌≤◌, Bool, true, false, eqb, ◌&&◌, T, List, [], ◌∷◌, ◌++◌, length, map}
 use Rattle.rk_master.proofs.Words.{fold, get_or, set, slice_get, Option, Some, None, unwrap_or, refl, sym, ap, ◌∙◌, subst, append_assoc}
 use Rattle.rk_master.proofs.Words.{arith, w32, w64, option_map, All, range_with_len, nat_cmp, is_lt, below_all, cond-false, cond-true}
-use Rattle.rk_master.proofs.Words.{false≢true, append-nil, slice_get-get_or, All-head, All-tail, NumberMap, IsInOrder, get, insert, Held}
-use Rattle.rk_master.proofs.Words.{get_same, Range, IsLawfulRange, IsLawfulEntry, IsLawfulHeld, IsNumber, FIRST_SIDE_SEGMENT, Log}
-use Rattle.rk_master.proofs.Words.{with_entry, joined, Handover, Role, Replayed, side_replayed, bytes_in, spelled_items, is_batch, items_of}
-use Rattle.rk_master.proofs.Words.{Master, tablet_at, with_tablet, Tablet, no_tablet, with_handover, joined_entry, changed, TabletLane}
-use Rattle.rk_master.proofs.Words.{AreTablets, can_close, IsClosable, tablet_of, tablets_of, IsAt, Row, with_side, with_sides, AreSpelled}
-use Rattle.rk_master.proofs.Words.{IsSpelled, items_of_sides}
+use Rattle.rk_master.proofs.Words.{false≢true, append-nil, slice_get-get_or, All-head, All-tail, IsInOrder, get, insert, Held, get_same}
+use Rattle.rk_master.proofs.Words.{Range, IsLawfulRange, IsLawfulEntry, IsLawfulHeld, IsNumber, FIRST_SIDE_SEGMENT, Log, with_entry, joined}
+use Rattle.rk_master.proofs.Words.{Handover, Role, Replayed, side_replayed, bytes_in, spelled_items, is_batch, items_of, Master, tablet_at}
+use Rattle.rk_master.proofs.Words.{with_tablet, Tablet, no_tablet, with_handover, joined_entry, changed, TabletLane, AreTablets, can_close}
+use Rattle.rk_master.proofs.Words.{IsClosable, tablet_of, tablets_of, IsAt, Row, with_side, with_sides, AreSpelled, IsSpelled}
+use Rattle.rk_master.proofs.Words.{items_of_sides}
 use Rattle.std.proofs.Common.{◌%◌}
 use Rattle.std.specs.Prelude.{nat_eq}
 use Rattle.std.specs.List.{AllByRecursion, IsDistinct}
@@ -26,13 +26,11 @@ use Rattle.rk_side_log.proofs.Filled.{items_spelled}
 use Rattle.rk_side_log.proofs.Masters.{insert_twice, replay_is}
 use Rattle.rk_message.specs.declared.pulling.Got.{Got}
 use Rattle.rk_message.specs.declared.pulling.Pulled.{Pulled}
-use Rattle.rk_priority.specs.Hashes.{Hashes}
 use Rattle.rk_table.specs.Scans.{end}
 use Rattle.rk_world.specs.Master.{with_side_segment}
-use Rattle.rk_world.specs.Pulls.{batch_taken, got_taken, hashes_resolved, is_token, joining_at, joining_by, next_sides, pulled_all, pulled_taken, replay, sealing, token_passed, with_pulling}
+use Rattle.rk_world.specs.Pulls.{batch_taken, got_taken, hashes_resolved, is_token, joining_by, pulled_taken, replay, sealing, token_passed}
 use Rattle.rk_world.specs.RoleTests.{is_receiving}
 use Rattle.rk_world.specs.SideLogs.{sealed_sides}
-use Rattle.rk_world.specs.Waiting.{closing_appended, closing_entry}
 use Rattle.rk_master.specs.declared.pulled.TheConstants.{MOST_SEALED}
 use Rattle.rk_master.specs.Pulls.{asked_for, awaits, CanClose, DoesPull, no_sides, with_resolved, with_sealed, with_token}
 use Rattle.rk_master.specs.Sides.{side_items}
@@ -69,9 +67,7 @@ put_there master number tablet = ap (λ (o : Option Tablet). unwrap_or o no_tabl
 -- and where it is changed, the changed one is put in its place
 pub put_again : (master : Master) (number : ℕ) (tablet : Tablet) (change : Tablet → Tablet) → IsInOrder master.tablets
     → with_tablet (with_tablet master number tablet) number (change (tablet_at (with_tablet master number tablet) number)) ≡ with_tablet master number (change tablet)
-put_again master number tablet change order =
-    ap (λ (t : Tablet). with_tablet (with_tablet master number tablet) number (change t)) (put_there master number tablet)
-    ∙ ap (λ (tablets : NumberMap Tablet). record master { tablets = tablets }) (insert_twice master.tablets number tablet (change tablet) order)
+put_again master number tablet change order = grind (arith, with_tablet, put_there, insert_twice)
 
 -- a tablet that stays leaves the tablets as they are
 pub same_tablets : (rows : List Row) (i : ℕ) (read : Row) (lane : TabletLane) → read ≡ get_or rows i read → tablet_of lane ≡ tablet_of read.1 → tablets_of (set rows i (read.0, lane)) ≡ tablets_of rows
@@ -119,16 +115,17 @@ got_made master records rows number i read lane items hashes order at is within 
 -- side segments are added one after the other
 pub added_all : (master : Master) (lists : List (List Held))
     → fold with_side_segment master lists ≡ record master { log = with_sides master.log (map spelled_items lists); sides = master.sides ++ lists }
-added_all master [] = λ i. record master { log = with_sides_none i; sides = sym (append-nil master.sides) i }
-  where
-    with_sides_none : master.log ≡ with_sides master.log []
-    with_sides_none = ap (λ (sides : List (List ℕ)). record master.log { sides = sides }) (sym (append-nil master.log.sides))
+added_all master [] = grind (arith, append-nil, with_sides, master.sides, master.log, master.log.sides)
 added_all master (items ∷ lists) =
-    added_all (with_side_segment master items) lists
-    ∙ (λ i. record master {
-      log = record master.log { sides = append_assoc master.log.sides (spelled_items items ∷ []) (map spelled_items lists) i };
-      sides = append_assoc master.sides (items ∷ []) lists i;
-    })
+    grind (
+      arith,
+      append_assoc,
+      spelled_items,
+      master.log,
+      master.log.sides,
+      master.sides,
+      (added_all (with_side_segment master items) lists),
+    )
 
 -- the items that they spell
 sides_again : (lists : List (List Held)) → All (All IsLawfulHeld) lists → items_of_sides (map spelled_items lists) ≡ lists
@@ -155,19 +152,29 @@ pub sealing_made : (master : Master) (log : Log) (rows : List Row) (number i : �
     → tablet_of lane ≡ with_sealed (tablet_of read.1) no_sides numbers
     → with_rows (record master { log = log; sides = items_of_sides log.sides }) (set rows i (read.0, lane)) ≡ sealing (with_rows master rows) number (tablet_at (with_rows master rows) number)
 sealing_made master log rows number i read lane segments numbers order at is sides_here lawful bytes log_is numbers_is lane_is =
-    let now : Master = with_rows master rows in
-    let lists : List (List Held) = sealed_sides read.1.sides in
-    let log_made : log ≡ with_sides master.log (map spelled_items lists) = log_is ∙ ap (with_sides master.log) bytes in
-    let sides_made : items_of_sides log.sides ≡ master.sides ++ lists =
-    ap (λ (l : Log). items_of_sides l.sides) log_made ∙ sides_added master.log lists (sealed_lawful read.1.sides lawful) ∙ ap (λ (s : List (List Held)). s ++ lists) (sym sides_here) in
-    let count : length segments ≡ length lists =
-    sym (length-map segments (λ (s : NumberedBytes). s.bytes)) ∙ ap (λ (l : List (List ℕ)). length l) bytes ∙ length-map lists spelled_items in
-    let numbers_made : numbers ≡ next_sides now (length lists) = numbers_is ∙ ap (range_with_len (FIRST_SIDE_SEGMENT + length master.log.sides)) count in
-    let tablets_made = changed_read rows number i read lane order at is
-    ∙ ap (insert (tablets_of rows) number) (lane_is ∙ ap (with_sealed (tablet_of read.1) no_sides) numbers_made) in
-    (λ j. record master { log = log_made j; sides = sides_made j; tablets = tablets_made j })
-    ∙ ap (λ (m : Master). with_tablet m number (with_sealed (tablet_of read.1) no_sides (next_sides now (length lists)))) (sym (added_all now lists))
-    ∙ ap (sealing now number) (sym (tablet_read rows number i read order at is))
+    grind (
+      arith,
+      with_rows,
+      with_sides,
+      spelled_items,
+      items_of_sides,
+      sides_added,
+      sealed_lawful,
+      length-map,
+      changed_read,
+      insert,
+      tablets_of,
+      tablet_of,
+      with_tablet,
+      added_all,
+      tablet_read,
+      read.1.sides,
+      master.log,
+      log.sides,
+      master.sides,
+      master.log.sides,
+      read.1,
+    )
 
 -- ---- what closes the role then
 
@@ -188,13 +195,7 @@ names_itself tablet role closable = subst (λ (r : Role). can_close r (closing_j
 -- the entry that names these side segments can be spelled
 pub joined_lawful : (range : Range) (term first count : ℕ) (numbers : List ℕ) → IsLawfulRange range × IsNumber w64 1 term → numbers ≡ range_with_len first count → count ≤ MOST_SEALED
     → AllByRecursion (IsNumber w32 FIRST_SIDE_SEGMENT) numbers → IsLawfulJoined (record { range = range; term = term; segments = numbers })
-joined_lawful range term first count numbers named is few each = record {
-  range = named.0;
-  term = named.1;
-  few = omega (arith, few, ap (λ (l : List ℕ). length l) is ∙ length-range_with_len first count);
-  each = each;
-  distinct = subst (IsDistinct nat_eq) (sym is) (distinct_numbers first count);
-}
+joined_lawful range term first count numbers named is few each = grind (arith, length-range_with_len, distinct_numbers)
 
 -- ---- the tablet at a place
 
@@ -230,20 +231,7 @@ some_sealed numbers some none = false≢true (sym some ∙ ap (λ (l : List ℕ)
 -- and none are none
 pub none_sealed : (numbers : List ℕ) → eqb (length numbers) 0 ≡ true → numbers ≡ []
 none_sealed [] none = refl
-none_sealed (number ∷ numbers) none =
-    let empty : length (number ∷ numbers) ≡ 0 = eqb-true (length (number ∷ numbers)) 0 none in absurd (omega (arith, empty))
-
--- it waits until its side segments are stored
-waits_now : (master : Master) (number : ℕ) (tablet : Tablet) (numbers : List ℕ) (handover : Handover) → (numbers ≡ [] → ⊥) → joined tablet.handover tablet.handover.term None ≡ Some handover
-    → joining_by master number tablet numbers ≡ with_tablet master number (with_handover tablet handover)
-waits_now master number tablet [] handover some moved = absurd (some refl)
-waits_now master number tablet (segment ∷ numbers) handover some moved = ap (joining_at master number tablet) moved
-
--- or appends its closing entry
-closes_now : (master : Master) (number : ℕ) (tablet : Tablet) (numbers : List ℕ) (handover : Handover) → numbers ≡ []
-    → joined tablet.handover tablet.handover.term (Some (length master.log.entries)) ≡ Some handover → joining_by master number tablet numbers ≡ closing_appended master number tablet handover
-closes_now master number tablet [] handover none moved = ap (closing_entry master number tablet) moved
-closes_now master number tablet (segment ∷ numbers) handover none moved = cc none
+none_sealed (number ∷ numbers) none = grind (arith, eqb-true)
 
 -- the tablet at a place waits
 pub waits_made : (master : Master) (rows : List Row) (number i : ℕ) (read : Row) (lane : TabletLane) → IsInOrder rows → IsAt number rows i → read ≡ get_or rows i read
@@ -251,10 +239,7 @@ pub waits_made : (master : Master) (rows : List Row) (number i : ℕ) (read : Ro
     → with_rows master (set rows i (read.0, lane))
     ≡ joining_by (with_rows master rows) number (tablet_at (with_rows master rows) number) (tablet_at (with_rows master rows) number).pulling.sealed
 waits_made master rows number i read lane order at is some moved lane_is =
-    let tablets = changed_read rows number i read lane order at is ∙ ap (insert (tablets_of rows) number) lane_is in
-    (λ j. record master { tablets = tablets j })
-    ∙ sym (waits_now (with_rows master rows) number (tablet_of read.1) read.1.sealed lane.handover some moved)
-    ∙ ap (λ (t : Tablet). joining_by (with_rows master rows) number t t.pulling.sealed) (sym (tablet_read rows number i read order at is))
+    grind (arith, changed_read, insert, tablets_of, with_rows, tablet_of, tablet_read)
 
 -- the tablet at a place appends its closing entry
 pub closes_made : (master : Master) (log : Log) (rows : List Row) (number i : ℕ) (read : Row) (lane : TabletLane)
@@ -264,45 +249,26 @@ pub closes_made : (master : Master) (log : Log) (rows : List Row) (number i : �
     → with_rows (record master { log = log; sides = items_of_sides log.sides }) (set rows i (read.0, lane))
     ≡ joining_by (with_rows master rows) number (tablet_at (with_rows master rows) number) (tablet_at (with_rows master rows) number).pulling.sealed
 closes_made master log rows number i read lane here order at is none moved lane_is log_is =
-    let sides = ap (λ (l : Log). items_of_sides l.sides) log_is ∙ sym here in
-    let tablets = changed_read rows number i read lane order at is ∙ ap (insert (tablets_of rows) number) lane_is in
-    (λ j. record master { log = log_is j; sides = sides j; tablets = tablets j })
-    ∙ sym (closes_now (with_rows master rows) number (tablet_of read.1) read.1.sealed lane.handover none moved)
-    ∙ ap (λ (t : Tablet). joining_by (with_rows master rows) number t t.pulling.sealed) (sym (tablet_read rows number i read order at is))
+    grind (arith, items_of_sides, changed_read, insert, tablets_of, with_rows, tablet_of, tablet_read)
 
 -- ---- a Pulled
 
 -- a role that pulls
 receives : (role : Role) (b c : Bool) → ((is_receiving role && b) && c) ≡ true → role ≡ roles.Receiving
-receives roles.Absent b c e = absurd (false≢true e)
-receives roles.Serving b c e = absurd (false≢true e)
-receives roles.Closing b c e = absurd (false≢true e)
-receives roles.Frozen b c e = absurd (false≢true e)
-receives (roles.Wanting from) b c e = absurd (false≢true e)
-receives roles.Receiving b c e = refl
-receives (roles.Joining entry) b c e = absurd (false≢true e)
-receives (roles.Rebuilding from entry) b c e = absurd (false≢true e)
+receives role b c e = grind (arith, false≢true)
 
 -- a tablet that awaits a batch pulls
 pub awaits_pulls : (rows : List Row) (i : ℕ) (read : Row) (pulled : Pulled) → i < length rows → read ≡ get_or rows i read → awaits (tablet_of read.1) pulled ≡ true → DoesPull rows i
-awaits_pulls rows i read pulled within is yields = λ row there.
-    let same : read ≡ row = is ∙ row_there rows i read row within there in
-    ap (λ (r : Row). r.1.handover.role) (sym same)
-    ∙ receives read.1.handover.role (eqb read.1.handover.term pulled.tenure.term) (is_token pulled.token read.1.token) yields
+awaits_pulls rows i read pulled within is yields = grind (arith, row_there, receives, eqb)
 
 -- a batch that is not awaited changes nothing
 pub pulled_failed : (master : Master) (pulled : Pulled) (tablet : Tablet) → tablet_at master pulled.tenure.tablet ≡ tablet → awaits tablet pulled ≡ false → changed master ≡ pulled_taken master pulled
-pulled_failed master pulled tablet there failed =
-    sym (cond-false (awaits (tablet_at master pulled.tenure.tablet) pulled) (changed (batch_taken master pulled.tenure.tablet pulled)) (changed master)
-    (ap (λ (t : Tablet). awaits t pulled) there ∙ failed))
+pulled_failed master pulled tablet there failed = grind (arith, cond-false, tablet_at, changed)
 
 -- one that is awaited is taken
 pub pulled_made : (master now : Master) (pulled : Pulled) (tablet : Tablet) → tablet_at master pulled.tenure.tablet ≡ tablet → awaits tablet pulled ≡ true
     → now ≡ batch_taken master pulled.tenure.tablet pulled → changed now ≡ pulled_taken master pulled
-pulled_made master now pulled tablet there yields is =
-    ap changed is
-    ∙ sym (cond-true (awaits (tablet_at master pulled.tenure.tablet) pulled) (changed (batch_taken master pulled.tenure.tablet pulled)) (changed master)
-    (ap (λ (t : Tablet). awaits t pulled) there ∙ yields))
+pulled_made master now pulled tablet there yields is = grind (arith, changed, cond-true, tablet_at)
 
 -- what a batch makes before its tablet may have all
 abbrev pub passed_by : Master → ℕ → List Held → Token → Master
@@ -311,41 +277,25 @@ passed_by master number items next = token_passed (replay master number ((tablet
 -- a batch that is not the last one
 pub batch_more : (master now : Master) (number : ℕ) (items : List Held) (pulled : Pulled) → items ≡ items_of pulled.entries → now ≡ passed_by master number items pulled.next
     → is_token pulled.next end ≡ false → now ≡ batch_taken master number pulled
-batch_more master now number items pulled items_are is more =
-    let passed : Master = passed_by master number (items_of pulled.entries) pulled.next in
-    is ∙ ap (λ (l : List Held). passed_by master number l pulled.next) items_are ∙ sym (cond-false (is_token pulled.next end) (pulled_all passed number) passed more)
+batch_more master now number items pulled items_are is more = grind (arith, items_of, cond-false)
 
 -- the last one
 pub batch_last : (master now sealed done : Master) (number : ℕ) (items : List Held) (pulled : Pulled) → items ≡ items_of pulled.entries → now ≡ passed_by master number items pulled.next
     → is_token pulled.next end ≡ true → sealed ≡ sealing now number (tablet_at now number)
     → done ≡ joining_by sealed number (tablet_at sealed number) (tablet_at sealed number).pulling.sealed → done ≡ batch_taken master number pulled
-batch_last master now sealed done number items pulled items_are is last sealed_is done_is =
-    let passed : Master = passed_by master number (items_of pulled.entries) pulled.next in
-    let now_is : now ≡ passed = is ∙ ap (λ (l : List Held). passed_by master number l pulled.next) items_are in
-    done_is
-    ∙ ap (λ (m : Master). joining_by m number (tablet_at m number) (tablet_at m number).pulling.sealed) (sealed_is ∙ ap (λ (m : Master). sealing m number (tablet_at m number)) now_is)
-    ∙ sym (cond-true (is_token pulled.next end) (pulled_all passed number) passed last)
+batch_last master now sealed done number items pulled items_are is last sealed_is done_is = grind (arith, items_of, tablet_at, cond-true)
 
 -- ---- a Got
 
 -- one that was not asked for changes nothing
 pub got_failed : (master : Master) (message : Got) (tablet : Tablet) → tablet_at master message.tenure.tablet ≡ tablet → asked_for tablet message ≡ false → changed master ≡ got_taken master message
-got_failed master message tablet there failed =
-    let number : ℕ = message.tenure.tablet in
-    sym (cond-false (asked_for (tablet_at master number) message) (changed (hashes_resolved (replay master number 0 (items_of message.entries)) number message.hashes)) (changed master)
-    (ap (λ (t : Tablet). asked_for t message) there ∙ failed))
+got_failed master message tablet there failed = grind (arith, cond-false, tablet_at, changed, items_of)
 
 -- one that was asked for
 pub got_resolved : (master now : Master) (message : Got) (tablet : Tablet) (items : List Held) → tablet_at master message.tenure.tablet ≡ tablet → asked_for tablet message ≡ true
     → items ≡ items_of message.entries → now ≡ hashes_resolved (replay master message.tenure.tablet 0 items) message.tenure.tablet message.hashes → changed now ≡ got_taken master message
-got_resolved master now message tablet items there yields items_are is =
-    let number : ℕ = message.tenure.tablet in
-    ap changed (is ∙ ap (λ (l : List Held). hashes_resolved (replay master number 0 l) number message.hashes) items_are)
-    ∙ sym (cond-true (asked_for (tablet_at master number) message) (changed (hashes_resolved (replay master number 0 (items_of message.entries)) number message.hashes)) (changed master)
-    (ap (λ (t : Tablet). asked_for t message) there ∙ yields))
+got_resolved master now message tablet items there yields items_are is = grind (arith, changed, cond-true, tablet_at, items_of)
 
 -- other hashes than those that were asked for leave the tablet as it is
 pub not_resolved : (tablet : Tablet) (hashes : List ℕ) → is_batch tablet.pulling.hashes.outstanding hashes ≡ false → with_resolved tablet hashes ≡ tablet
-not_resolved tablet hashes failed =
-    ap (λ (h : Hashes). with_pulling tablet (record tablet.pulling { hashes = h }))
-    (cond-false (is_batch tablet.pulling.hashes.outstanding hashes) _ tablet.pulling.hashes failed)
+not_resolved tablet hashes failed = grind (arith, cond-false, is_batch)

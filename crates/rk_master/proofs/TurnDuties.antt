@@ -1,7 +1,7 @@
 -- What a master does for its tablets on its turn, for one after the other.
-use Rattle.rk_master.proofs.Words.{◌≡◌, ℕ, ◌+◌, ◌<◌, ◌≤◌, List, [], ◌∷◌, ◌++◌, length, drop, slice_get, get_or, Option, Some, refl, sym, ap}
-use Rattle.rk_master.proofs.Words.{◌∙◌, subst, append_assoc, append-nil, NumberMap, Message, Role, Master, with_tablet, duties, Tablet}
-use Rattle.rk_master.proofs.Words.{Worked, Work, behind, marks_of, tablet_of, tablets_of, worked_of, IsAt, Row}
+use Rattle.rk_master.proofs.Words.{arith, ◌≡◌, ℕ, ◌+◌, ◌<◌, ◌≤◌, List, [], ◌∷◌, ◌++◌, length, drop, slice_get, get_or, Option, Some, refl}
+use Rattle.rk_master.proofs.Words.{sym, ap, ◌∙◌, subst, append_assoc, append-nil, NumberMap, Message, Role, Master, with_tablet, duties}
+use Rattle.rk_master.proofs.Words.{Tablet, Worked, Work, behind, marks_of, tablet_of, tablets_of, worked_of, IsAt, Row}
 use Rattle.std.proofs.lemmas.List.{drop_all}
 use Rattle.rk_transfer.specs.declared.role.Role.TheVariants as roles
 use Rattle.rk_world.specs.MasterTurn.{pull_of, receiving_duty, tablet_duty, want_of, with_outstanding}
@@ -22,23 +22,7 @@ pub asked_so : (work more : Work) (master after : Master) (sends : List Message)
     → more.sends.items ≡ sends ++ pull_of master number asking ∷ [] → more.served.items ≡ work.served.items → more.marked ≡ work.marked
     → worked_of after more ≡ behind work (receiving_duty master number tablet)
 asked_so work more master after sends number tablet asking asking_is after_is wanted pulled served marked =
-    (λ i. record { master = after_is i; sends = sends_are i; served = served_are i; marked = marked_are i })
-    ∙ ap (λ (t : Tablet). behind work (record { master = with_tablet master number t; sends = asks t; served = []; marked = [] })) asking_is
-  where
-    asks : Tablet → List Message
-    asks t = want_of master number t t.pulling.hashes.outstanding ++ pull_of master number t ∷ []
-
-    sends_are : more.sends.items ≡ work.sends.items ++ asks asking
-    sends_are =
-        pulled
-        ∙ ap (λ (xs : List Message). xs ++ pull_of master number asking ∷ []) wanted
-        ∙ append_assoc work.sends.items (want_of master number asking asking.pulling.hashes.outstanding) (pull_of master number asking ∷ [])
-
-    served_are : more.served.items ≡ work.served.items ++ []
-    served_are = served ∙ sym (append-nil work.served.items)
-
-    marked_are : marks_of more.marked ≡ marks_of work.marked ++ []
-    marked_are = ap marks_of marked ∙ sym (append-nil (marks_of work.marked))
+    grind (arith, behind, with_tablet, append_assoc, append-nil, marks_of)
 
 -- nothing is done in a role without a duty
 pub no_duty : (work : Work) (master : Master) (number : ℕ) (tablet : Tablet) (role : Role) → (role ≡ roles.Receiving → ⊥)

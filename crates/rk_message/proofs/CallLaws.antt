@@ -153,10 +153,7 @@ op_again table size key Delete rest text lawful is =
 
 -- what stands after the key takes as many bytes as are counted
 length-op_bytes : (op : Op) → length (op_bytes op) ≡ op_count op
-length-op_bytes Get = refl
-length-op_bytes (Put value) = length-value_bytes value
-length-op_bytes (CondPut expected value) = omega (arith, length-append (number_bytes w64 expected) (value_bytes value), length-number_bytes w64 expected, length-value_bytes value)
-length-op_bytes Delete = refl
+length-op_bytes op = grind (arith, length-value_bytes, length-append, length-number_bytes)
 
 -- what the operation of a number asks
 op_codec : (number table size : ℕ) → IsCodec key_and_op (λ asked. 1 + length asked.key + op_count asked.op) (IsAsked number table size) (read_op number table size)
@@ -173,10 +170,7 @@ op_codec number table size = record {
 
 -- the number of an operation is one
 op_within : (op : Op) → (GET ≤ op_number op) × (op_number op ≤ DELETE)
-op_within Get = (omega arith, omega arith)
-op_within (Put value) = (omega arith, omega arith)
-op_within (CondPut expected value) = (omega arith, omega arith)
-op_within Delete = (omega arith, omega arith)
+op_within op = grind arith
 
 -- what is asked
 asked_codec : (size : ℕ) → IsCodec asked_bytes (λ asked. 10 + length asked.key + op_count asked.op)
@@ -306,33 +300,13 @@ told_again size (NotYet key) rest lawful is =
     let whole : size ≡ REPLY_BYTES + 1 + length key = omega (arith, is) in
     rw ((last_key_codec (REPLY_BYTES + 1) size).again key rest (lawful, whole)) refl
 
--- what stands after the number takes as many bytes as are counted
-length-told_bytes : (answer : Answer) → length (told_bytes answer) ≡ told_count answer
-length-told_bytes (Done (Found version value)) = omega (arith, length-append (number_bytes w64 version) (value_bytes value), length-number_bytes w64 version, length-value_bytes value)
-length-told_bytes (Done Absent) = refl
-length-told_bytes (Done (Written version)) = length-number_bytes w64 version
-length-told_bytes (Done (Deleted version)) = length-number_bytes w64 version
-length-told_bytes (Done (Mismatch version)) = length-number_bytes w64 version
-length-told_bytes (Moved tablet) = length-number_bytes w32 tablet
-length-told_bytes (NotYet key) = length-key_bytes key
-
 -- the number of an answer is a byte
 answer_small : (answer : Answer) → IsNumber w8 0 (answer_number answer)
-answer_small (Done (Found version value)) = record { least_is = omega arith; fits = omega arith }
-answer_small (Done Absent) = record { least_is = omega arith; fits = omega arith }
-answer_small (Done (Written version)) = record { least_is = omega arith; fits = omega arith }
-answer_small (Done (Deleted version)) = record { least_is = omega arith; fits = omega arith }
-answer_small (Done (Mismatch version)) = record { least_is = omega arith; fits = omega arith }
-answer_small (Moved tablet) = record { least_is = omega arith; fits = omega arith }
-answer_small (NotYet key) = record { least_is = omega arith; fits = omega arith }
+answer_small answer = grind arith
 
 -- the answer of a number
 told_codec : (number size : ℕ) → IsCodec told_bytes told_count (IsTold number size) (read_told number size)
-told_codec number size = record {
-  takes = told_takes number size;
-  again = λ answer rest h. subst (λ (n : ℕ). read_told n size (told_bytes answer ++ rest) ≡ Ok (answer, rest)) h.number_is (told_again size answer rest h.lawful h.size_is);
-  counted = length-told_bytes;
-}
+told_codec number size = grind (arith, told_takes, told_again, length-append, length-number_bytes, length-value_bytes, length-key_bytes)
 
 -- an answer
 answer_codec : (size : ℕ) → IsCodec answer_bytes (λ answer. 1 + told_count answer) (λ answer. IsLawfulAnswer answer × (size ≡ REPLY_BYTES + told_count answer)) (read_answer size)
@@ -359,19 +333,11 @@ lookup_codec = fields2 (λ p. record { table = p.0; hash = p.1 }) (λ y. (y.tabl
 -- an owner that is read from a number is lawful and has that number
 owner_is : (number : ℕ) → IsNumber w8 0 number → (b : Bool) → eqb number 0 ≡ b
     → (owner_number (cond b None (Some number)) ≡ number) × IsLawfulOwner (cond b None (Some number))
-owner_is number h true is = (sym (eqb-true number 0 is), tt)
-owner_is number h false is = (refl, record { least_is = above number is; fits = h.fits })
-  where
-    above : (n : ℕ) → eqb n 0 ≡ false → 1 ≤ n
-    above n is = grind (arith, nat_tests)
+owner_is number h b is = grind (arith, eqb-true, eqb, nat_tests)
 
 -- the owner of its own number
 owner_back : (owner : Option ℕ) → IsLawfulOwner owner → owner_of (owner_number owner) ≡ owner
-owner_back None h = refl
-owner_back (Some owner) h = rw (other owner h.least_is) refl
-  where
-    other : (n : ℕ) → 1 ≤ n → eqb n 0 ≡ false
-    other n some = grind (arith, nat_tests)
+owner_back owner h = grind (arith, eqb, nat_tests)
 
 -- the number of an owner is a byte
 owner_small : (owner : Option ℕ) → IsLawfulOwner owner → IsNumber w8 0 (owner_number owner)
@@ -405,41 +371,15 @@ located_codec =
 
 -- ---- lengths
 
--- what a lawful operation puts after the key is at most a version and the longest value
-op_most : (op : Op) → IsLawfulOp op → op_count op ≤ 12 + LONGEST_VALUE
-op_most Get h = omega arith
-op_most (Put value) h = omega (arith, (text_within 0 LONGEST_VALUE value h).1)
-op_most (CondPut expected value) h = omega (arith, (text_within 0 LONGEST_VALUE value h.1).1)
-op_most Delete h = omega arith
-
 -- a lawful Request takes as many bytes as its kind allows
 pub request_size : (request : Request) → IsLawfulRequest request → is_in_range (REQUEST_BYTES + 1) (REQUEST_BYTES + LONGEST_KEY + 12 + LONGEST_VALUE) (request_count request) ≡ true
-request_size request h =
-    let key = text_within 1 LONGEST_KEY request.key h.3.1 in
-    is_in_range_of (REQUEST_BYTES + 1) (REQUEST_BYTES + LONGEST_KEY + 12 + LONGEST_VALUE) (request_count request) (omega (arith, key.0)) (omega (arith, key.1, op_most request.op h.3.2))
+request_size request h = grind (arith, text_within, is_in_range_of)
 
 -- a test of which the second part holds
 or_second : (a b : Bool) → b ≡ true → (a || b) ≡ true
 or_second true b e = refl
 or_second false b e = e
 
--- a length that is neither too small nor too great is allowed
-reply_sized : (n : ℕ) → 2 ≤ n → n ≤ 12 + LONGEST_VALUE → (eqb (REPLY_BYTES + n) REPLY_BYTES || is_in_range (REPLY_BYTES + 2) (REPLY_BYTES + 12 + LONGEST_VALUE) (REPLY_BYTES + n)) ≡ true
-reply_sized n least most =
-    or_second (eqb (REPLY_BYTES + n) REPLY_BYTES) (is_in_range (REPLY_BYTES + 2) (REPLY_BYTES + 12 + LONGEST_VALUE) (REPLY_BYTES + n))
-    (is_in_range_of (REPLY_BYTES + 2) (REPLY_BYTES + 12 + LONGEST_VALUE) (REPLY_BYTES + n) (omega arith) (omega arith))
-
--- a lawful answer takes as many bytes as a Reply allows
-answer_size : (answer : Answer) → IsLawfulAnswer answer
-    → (eqb (REPLY_BYTES + told_count answer) REPLY_BYTES || is_in_range (REPLY_BYTES + 2) (REPLY_BYTES + 12 + LONGEST_VALUE) (REPLY_BYTES + told_count answer)) ≡ true
-answer_size (Done (Found version value)) h = reply_sized (8 + (4 + length value)) (omega arith) (omega (arith, (text_within 0 LONGEST_VALUE value h.1).1))
-answer_size (Done Absent) h = refl
-answer_size (Done (Written version)) h = refl
-answer_size (Done (Deleted version)) h = refl
-answer_size (Done (Mismatch version)) h = refl
-answer_size (Moved tablet) h = refl
-answer_size (NotYet key) h = let within = text_within 1 LONGEST_KEY key h in reply_sized (1 + length key) (omega (arith, within.0)) (omega (arith, within.1))
-
 -- a lawful Reply takes as many bytes as its kind allows
 pub reply_size : (reply : Reply) → IsLawfulReply reply → (eqb (reply_count reply) REPLY_BYTES || is_in_range (REPLY_BYTES + 2) (REPLY_BYTES + 12 + LONGEST_VALUE) (reply_count reply)) ≡ true
-reply_size reply h = answer_size reply.answer h.3
+reply_size reply h = grind (arith, text_within, or_second, eqb, is_in_range_of, reply.answer, h.3)

@@ -1,15 +1,13 @@
 -- The laws of entries within a frame, and of those with which a body ends.
-use Rattle.std.proofs.Common.{◌≡◌, ℕ, zero, suc, ◌+◌, ◌-◌, ◌^◌, ◌<◌, ◌≤◌, List, [], ◌∷◌, ◌++◌, length, Result, Ok, Err, refl, sym, ap, subst, ◌∙◌, append_assoc, arith, eq-eqb, length-append, ◌⊎◌, inl, inr}
+use Rattle.std.proofs.Common.{◌≡◌, ℕ, zero, suc, ◌+◌, ◌-◌, ◌^◌, ◌<◌, ◌≤◌, List, [], ◌∷◌, ◌++◌, length, Result, Ok, refl, sym, ap, subst, ◌∙◌, append_assoc, arith, eq-eqb, length-append, ◌⊎◌, inl, inr}
 use Rattle.std.specs.List.{AllByRecursion, flat_map, sum_by}
 use Rattle.std.specs.Int.{w32}
 use Rattle.std.proofs.lemmas.List.{append-nil}
 use Rattle.std.proofs.lemmas.List.Sums.{sum_by-cons, sum_by-append}
 use Rattle.std.proofs.lemmas.Grind.{flat_map-append}
-use Rattle.rk_types.specs.declared.text.TheConstants.{LONGEST_KEY}
 use Rattle.rk_entry.specs.declared.entry.Entry.{Entry}
 use Rattle.rk_entry.specs.declared.entry.Entry.TheVariants as entries
 use Rattle.rk_entry.specs.declared.error.DecodeError.{DecodeError}
-use Rattle.rk_entry.specs.declared.error.DecodeError.TheVariants.{Cut, Bad, NoMemory}
 use Rattle.rk_entry.specs.Spelling.{spelled}
 use Rattle.rk_entry.specs.Lawful.{IsLawfulEntry}
 use Rattle.rk_entry.specs.Reading.{read_entry}
@@ -21,7 +19,7 @@ use Rattle.rk_entry.proofs.Sizes.{spelled_count}
 use Rattle.rk_message.specs.declared.fields.TheConstants.{COUNT_BYTES}
 use Rattle.rk_message.specs.declared.pulling.TheConstants.{SHORTEST_ENTRY}
 use Rattle.rk_message.specs.Fields.{elements_bytes, list_bytes, read_list}
-use Rattle.rk_message.specs.Pulling.{within_frame, read_entry_within, entry_count, told_length, where_none_other, where_last, read_last_entry, read_ending, read_last_entries}
+use Rattle.rk_message.specs.Pulling.{within_frame, read_entry_within, entry_count, where_last, read_last_entry, read_ending, read_last_entries}
 use Rattle.rk_message.proofs.Codecs.{IsCodec, codec_as}
 use Rattle.rk_message.proofs.Chains.{then_codec}
 use Rattle.rk_message.proofs.FieldLaws.{number_codec}
@@ -31,10 +29,7 @@ use Rattle.rk_message.proofs.ListLaws.{body_was, list_codec, no_elements}
 
 -- what is read within a frame is what is read
 within_frame_ok : (read : Result (Entry × List ℕ) DecodeError) (x : Entry × List ℕ) → within_frame read ≡ Ok x → read ≡ Ok x
-within_frame_ok (Ok y) x e = e
-within_frame_ok (Err Cut) x e = absurd cc
-within_frame_ok (Err (Bad code)) x e = absurd cc
-within_frame_ok (Err NoMemory) x e = absurd cc
+within_frame_ok read x e = grind arith
 
 -- an entry within a frame
 pub entry_codec : IsCodec spelled entry_count IsLawfulEntry read_entry_within
@@ -47,10 +42,7 @@ entry_codec = record {
 
 -- no lawful entry is shorter than the shortest
 shortest : (entry : Entry) → IsLawfulEntry entry → SHORTEST_ENTRY ≤ entry_count entry
-shortest (entries.Held held) h = omega (arith, spelled_count (entries.Held held), (text_within 1 LONGEST_KEY held.key h.key).0)
-shortest (entries.Refused refused) h = omega (arith, spelled_count (entries.Refused refused), (text_within 1 LONGEST_KEY refused.key h.key).0)
-shortest (entries.Carried carried) h = omega (arith, spelled_count (entries.Carried carried))
-shortest (entries.Joined joined) h = omega (arith, spelled_count (entries.Joined joined))
+shortest entry h = grind (arith, spelled_count, text_within)
 
 -- ---- more entries
 
@@ -96,13 +88,7 @@ last_of entry (next ∷ entries) =
 -- it was read, and the body ends with it
 last_was : (before size : ℕ) (bytes : List ℕ) (read : Result (Entry × List ℕ) DecodeError) (x : Entry × List ℕ) → where_last before size bytes read ≡ Ok x
     → (read ≡ Ok x) × (size ≡ before + (length bytes - length x.1))
-last_was before size bytes (Ok y) x e =
-    let g = body_was (before + (length bytes - length y.1)) size y x e in
-    (ap (λ (z : Entry × List ℕ). Ok z) g.1, subst (λ (z : Entry × List ℕ). size ≡ before + (length bytes - length z.1)) g.1 g.0)
-last_was before size bytes (Err fault) x e = absurd (not_read fault x (bind_ok (where_none_other before size (told_length bytes)) e).2)
-  where
-    not_read : (fault : DecodeError) (x : Entry × List ℕ) → Err fault ≡ Ok x → ⊥
-    not_read fault x e = cc
+last_was before size bytes read x e = grind (arith, body_was, bind_ok)
 
 last_codec : (before size : ℕ) → IsCodec spelled entry_count (λ entry. IsLawfulEntry entry × (size ≡ before + entry_count entry)) (read_last_entry before size)
 unfolding read_last_entry

@@ -1,11 +1,10 @@
 -- The laws of the fields of frames.
-use Rattle.std.proofs.Common.{◌≡◌, ℕ, ◌^◌, ◌<◌, ◌≤◌, Bool, true, false, eqb, ltb, List, ◌++◌, Some, None, Ok, refl, ap, subst, ◌∙◌, append_assoc, arith, inl, inr, length-append}
+use Rattle.std.proofs.Common.{◌≡◌, ℕ, ◌^◌, ◌<◌, ◌≤◌, Bool, true, false, eqb, ltb, List, ◌++◌, Some, Ok, refl, ap, subst, ◌∙◌, append_assoc, arith, length-append}
 use Rattle.std.specs.Prelude.{◌&&◌, not}
 use Rattle.std.specs.Option.{ok_or}
 use Rattle.std.proofs.lemmas.Bool.{eqb-true, ltb-true}
 use Rattle.std.proofs.lemmas.Bool.Decides.{nat_tests}
 use Rattle.rk_types.specs.declared.node.Node.{Node}
-use Rattle.rk_types.specs.declared.node.Node.TheVariants.{Client, Coordinator, Master, Backup}
 use Rattle.rk_entry.specs.declared.error.DecodeError.TheVariants.{Bad}
 use Rattle.rk_entry.specs.declared.error.TheConstants.{BAD_NUMBER}
 use Rattle.rk_entry.specs.Steps.{unless}
@@ -19,7 +18,7 @@ use Rattle.rk_entry.proofs.EndLaws.{chosen}
 use Rattle.rk_entry.proofs.FieldLaws.{ok_or_ok}
 use Rattle.rk_entry.proofs.Tools.{bind_ok, unless_ok, ok_is, Takes, takes_both, takes_weaker}
 use Rattle.rk_message.specs.Fields.{node_kind, node_number, node_bytes, IsLawfulNode, node_of, read_node, tenure_bytes, IsLawfulTenure, read_tenure, token_bytes, IsLawfulToken, read_token, IsAnyRange, read_any_range}
-use Rattle.rk_message.specs.declared.fields.TheConstants.{CLIENT, COORDINATOR, MASTER, BACKUP, NODE_BYTES, TENURE_BYTES, TOKEN_BYTES, RANGE_BYTES}
+use Rattle.rk_message.specs.declared.fields.TheConstants.{CLIENT, BACKUP, NODE_BYTES, TENURE_BYTES, TOKEN_BYTES, RANGE_BYTES}
 use Rattle.rk_message.proofs.Codecs.{IsCodec, fields2, codec_as, fields3}
 
 -- any number of a width
@@ -63,41 +62,7 @@ both_true false b e = absurd cc
 
 -- the node of a kind with a number has them
 node_is : (kind number : ℕ) (node : Node) → IsNumber w32 0 number → node_of kind number ≡ Some node → IsNode kind number node
-node_is kind number node fits e =
-    elim (chosen (eqb kind CLIENT) _ _ _ e) [
-      | inl h ↦ subst (IsNode kind number) (some_is (Client number) node h.1) (record { kind_is = eqb-true kind CLIENT h.0; number_is = refl; lawful = fits })
-      | inr h ↦ elim (chosen (eqb kind COORDINATOR && eqb number 0) _ _ _ h.1) [
-        | inl h ↦ subst (IsNode kind number) (some_is Coordinator node h.1) (record {
-          kind_is = eqb-true kind COORDINATOR (both_true (eqb kind COORDINATOR) (eqb number 0) h.0).0;
-          number_is = eqb-true number 0 (both_true (eqb kind COORDINATOR) (eqb number 0) h.0).1;
-          lawful = tt;
-        })
-        | inr h ↦ elim (chosen (eqb kind MASTER && ltb number 256) _ _ _ h.1) [
-          | inl h ↦ subst (IsNode kind number) (some_is (Master number) node h.1) (record {
-            kind_is = eqb-true kind MASTER (both_true (eqb kind MASTER) (ltb number 256) h.0).0;
-            number_is = refl;
-            lawful = small number (both_true (eqb kind MASTER) (ltb number 256) h.0).1;
-          })
-          | inr h ↦ elim (chosen (eqb kind BACKUP && ltb number 256) _ _ _ h.1) [
-            | inl h ↦ subst (IsNode kind number) (some_is (Backup number) node h.1) (record {
-              kind_is = eqb-true kind BACKUP (both_true (eqb kind BACKUP) (ltb number 256) h.0).0;
-              number_is = refl;
-              lawful = small number (both_true (eqb kind BACKUP) (ltb number 256) h.0).1;
-            })
-            | inr h ↦ absurd (not_some node h.1)
-          ]
-        ]
-      ]
-    ]
-  where
-    some_is : (x y : Node) → Some x ≡ Some y → x ≡ y
-    some_is x y e = cc
-
-    not_some : (x : Node) → None ≡ Some x → ⊥
-    not_some x e = cc
-
-    small : (n : ℕ) → ltb n 256 ≡ true → IsNumber w8 0 n
-    small n e = record { least_is = omega arith; fits = ltb-true n 256 e }
+node_is kind number node fits e = grind (arith, chosen, eqb, eqb-true, both_true, ltb, ltb-true)
 
 -- a node that is read is lawful and spelled so
 node_takes : (bytes : List ℕ) (x : Node × List ℕ) → read_node bytes ≡ Ok x → Takes bytes (node_bytes x.0) x.1 (IsLawfulNode x.0)
@@ -125,30 +90,15 @@ node_takes bytes x e =
 
 -- the kind of a node is one of those that there are
 node_kind_within : (node : Node) → (CLIENT ≤ node_kind node) × (node_kind node ≤ BACKUP)
-node_kind_within (Client number) = (omega arith, omega arith)
-node_kind_within Coordinator = (omega arith, omega arith)
-node_kind_within (Master number) = (omega arith, omega arith)
-node_kind_within (Backup number) = (omega arith, omega arith)
+node_kind_within node = grind arith
 
 -- the number of a lawful node has four bytes
 node_number_fits : (node : Node) → IsLawfulNode node → IsNumber w32 0 (node_number node)
-node_number_fits (Client number) h = h
-node_number_fits Coordinator h = record { least_is = omega arith; fits = omega arith }
-node_number_fits (Master number) h = record { least_is = omega arith; fits = omega (arith, h.fits) }
-node_number_fits (Backup number) h = record { least_is = omega arith; fits = omega (arith, h.fits) }
+node_number_fits node h = grind arith
 
 -- a node has its kind and its number
 node_back : (node : Node) → IsLawfulNode node → node_of (node_kind node) (node_number node) ≡ Some node
-node_back (Client number) h = refl
-node_back Coordinator h = refl
-node_back (Master number) h = let small : ltb number 256 ≡ true = below number h.fits in rw small refl
-  where
-    below : (n : ℕ) → n < 256 → ltb n 256 ≡ true
-    below n lt = grind (arith, nat_tests)
-node_back (Backup number) h = let small : ltb number 256 ≡ true = below number h.fits in rw small refl
-  where
-    below : (n : ℕ) → n < 256 → ltb n 256 ≡ true
-    below n lt = grind (arith, nat_tests)
+node_back node h = grind (arith, ltb, nat_tests)
 
 -- a lawful node that is spelled is read
 node_again : (node : Node) (rest : List ℕ) → IsLawfulNode node → read_node (node_bytes node ++ rest) ≡ Ok (node, rest)

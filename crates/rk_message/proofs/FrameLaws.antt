@@ -199,28 +199,7 @@ kind_takes bytes x e =
 
 -- the number of a kind is a byte, by which the kind is found
 kind_found : (kind : Kind) → (kind_number kind < 256) × (kind_numbered (kind_number kind) ≡ Some kind)
-kind_found Request = (omega arith, refl)
-kind_found Reply = (omega arith, refl)
-kind_found Lookup = (omega arith, refl)
-kind_found Located = (omega arith, refl)
-kind_found Append = (omega arith, refl)
-kind_found Stored = (omega arith, refl)
-kind_found Prepare = (omega arith, refl)
-kind_found Ready = (omega arith, refl)
-kind_found Close = (omega arith, refl)
-kind_found Transfer = (omega arith, refl)
-kind_found Grant = (omega arith, refl)
-kind_found Pull = (omega arith, refl)
-kind_found Pulled = (omega arith, refl)
-kind_found Want = (omega arith, refl)
-kind_found Got = (omega arith, refl)
-kind_found Joined = (omega arith, refl)
-kind_found Own = (omega arith, refl)
-kind_found Release = (omega arith, refl)
-kind_found Rebuild = (omega arith, refl)
-kind_found Read = (omega arith, refl)
-kind_found Copy = (omega arith, refl)
-kind_found Rebuilt = (omega arith, refl)
+kind_found kind = grind arith
 
 -- a kind that is spelled is read
 kind_again : (kind : Kind) (rest : List ℕ) → read_kind (number_bytes w8 (kind_number kind) ++ rest) ≡ Ok (kind, rest)
@@ -232,9 +211,7 @@ kind_again kind rest =
 
 -- where two tests hold together, each holds
 both_true : (a b : Bool) → not (a && b) ≡ false → (not a ≡ false) × (b ≡ true)
-both_true true true e = (refl, refl)
-both_true true false e = absurd cc
-both_true false b e = absurd cc
+both_true a b e = grind arith
 
 -- what is known of how many bytes the fields take, from the length of the body
 record IsSize (kind : Kind) (size : ℕ) : Type 0 where

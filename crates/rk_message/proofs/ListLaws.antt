@@ -9,7 +9,6 @@ use Rattle.std.proofs.lemmas.List.Concat.{flat_map-cons}
 use Rattle.std.proofs.lemmas.List.Sums.{sum_by-cons}
 use Rattle.rk_entry.specs.declared.error.DecodeError.{DecodeError}
 use Rattle.rk_entry.specs.declared.error.DecodeError.TheVariants.{Cut}
-use Rattle.rk_entry.specs.declared.error.TheConstants.{BAD_BODY_LENGTH}
 use Rattle.rk_entry.specs.Numbers.{number_bytes, read_number}
 use Rattle.rk_entry.specs.Reading.{where_body_is}
 use Rattle.rk_entry.proofs.Counts.{length-number_bytes}
@@ -31,9 +30,7 @@ not_false false e = absurd cc
 
 -- what was read where a body was as long as was asked for
 pub body_was : {A : Type 0} (count body : ℕ) (x y : A) → where_body_is count body x ≡ Ok y → (body ≡ count) × (x ≡ y)
-body_was count body x y e =
-    let g = unless_ok (not (eqb body count)) BAD_BODY_LENGTH e in
-    (eqb-true body count (not_false (eqb body count) g.0), g.1)
+body_was count body x y e = grind (arith, unless_ok, eqb, eqb-true, not_false)
 
 -- so many bytes as they are
 pub bytes_codec : (count : ℕ) → IsCodec (λ bytes. bytes) length (λ bytes. length bytes ≡ count) (read_bytes count)
@@ -135,17 +132,12 @@ list_counted : {A : Type 0} {spell : A → List ℕ} {size : A → ℕ} {P : A �
     → IsCodec spell size P read → (xs : List A) → length (elements_bytes spell xs) ≡ sum_by size xs
 list_counted {spell = spell} codec [] = ap length (no_elements spell)
 list_counted {spell = spell} {size = size} codec (x ∷ xs) =
-    ap length (elements_bytes-cons spell x xs)
-    ∙ omega (arith, length-append (spell x) (elements_bytes spell xs), codec.counted x, list_counted codec xs, sum_by-cons size x xs)
+    grind (arith, elements_bytes-cons, length-append, sum_by-cons, codec.counted, (list_counted codec xs))
 
 -- so many elements, one after the other
 pub list_codec : {A : Type 0} {spell : A → List ℕ} {size : A → ℕ} {P : A → Type 0} {read : List ℕ → Result (A × List ℕ) DecodeError}
     → IsCodec spell size P read → (count : ℕ) → IsCodec (elements_bytes spell) (sum_by size) (λ xs. AllByRecursion P xs × (length xs ≡ count)) (read_list read count)
-list_codec {A = A} {spell = spell} {read = read} codec count = record {
-  takes = list_takes codec count;
-  again = λ xs rest h. subst (λ (n : ℕ). read_list read n (elements_bytes spell xs ++ rest) ≡ Ok (xs, rest)) h.1 (list_again codec xs rest h.0);
-  counted = list_counted codec;
-}
+list_codec {A = A} {spell = spell} {read = read} codec count = grind (arith, list_takes, list_again, list_counted)
 
 -- elements of one size take so many times it
 pub sum_by_same : {A : Type 0} (each : ℕ) (xs : List A) → sum_by (λ x. each) xs ≡ each * length xs

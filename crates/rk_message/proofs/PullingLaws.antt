@@ -1,7 +1,6 @@
 -- The laws of Pull, Pulled, Want and Got.
 use Rattle.std.proofs.Common.{◌≡◌, ℕ, ◌+◌, ◌*◌, ◌^◌, ◌<◌, ◌≤◌, List, ◌++◌, length, refl, sym, ap, subst, ◌∙◌, append_assoc, arith, true, ltb, leb, eqb, false, eq-eqb, length-append, ⊎_elim}
 use Rattle.std.specs.Prelude.{◌||◌}
-use Rattle.std.specs.List.{sum_by}
 use Rattle.std.specs.Int.{w32, w64}
 use Rattle.std.proofs.lemmas.Bool.{ltb-false, le-ltb, le-leb, or_left, or_right}
 use Rattle.rk_entry.specs.declared.error.TheConstants.{BAD_BODY_LENGTH}
@@ -17,7 +16,7 @@ use Rattle.rk_message.specs.declared.pulling.Pulled.{Pulled}
 use Rattle.rk_message.specs.declared.pulling.Got.{Got}
 use Rattle.rk_message.specs.declared.pulling.TheConstants.{PULL_BYTES, PULLED_BYTES, HASH_BYTES, WANT_BYTES, GOT_BYTES, SHORTEST_ENTRY}
 use Rattle.rk_message.specs.Fields.{tenure_bytes, read_tenure, elements_bytes, list_bytes, read_list}
-use Rattle.rk_message.specs.Pulling.{pull_bytes, IsLawfulPull, read_pull, entry_count, read_last_entries, pulled_bytes, pulled_count, IsLawfulPulled, read_pulled, want_bytes, want_count, IsLawfulWant, read_want, got_bytes, got_count, IsLawfulGot, read_hash_count, read_got}
+use Rattle.rk_message.specs.Pulling.{pull_bytes, IsLawfulPull, read_pull, read_last_entries, pulled_bytes, pulled_count, IsLawfulPulled, read_pulled, want_bytes, want_count, IsLawfulWant, read_want, got_bytes, got_count, IsLawfulGot, read_hash_count, read_got}
 use Rattle.rk_message.proofs.Codecs.{IsCodec, codec_as, fields2, fields4}
 use Rattle.rk_message.proofs.FieldLaws.{number_codec, tenure_codec, token_codec}
 use Rattle.rk_message.proofs.ListLaws.{list_codec, last_list_codec, sum_by_same}
@@ -40,12 +39,7 @@ pulled_codec size small =
 
 -- a lawful Pulled takes as many bytes as its kind allows
 pub pulled_size : (pulled : Pulled) → IsLawfulPulled pulled → (eqb (pulled_count pulled) PULLED_BYTES || leb (PULLED_BYTES + SHORTEST_ENTRY) (pulled_count pulled)) ≡ true
-pulled_size pulled h =
-    ⊎_elim
-    (λ (none : sum_by entry_count pulled.entries ≡ 0). or_left (eqb (pulled_count pulled) PULLED_BYTES) _ (eq-eqb (pulled_count pulled) PULLED_BYTES (omega (arith, none))))
-    (λ (some : SHORTEST_ENTRY ≤ sum_by entry_count pulled.entries).
-    or_right (eqb (pulled_count pulled) PULLED_BYTES) (leb (PULLED_BYTES + SHORTEST_ENTRY) (pulled_count pulled)) (le-leb (PULLED_BYTES + SHORTEST_ENTRY) (pulled_count pulled) (omega (arith, some))))
-    (none_or_shortest pulled.entries h.entries)
+pulled_size pulled h = grind (arith, or_left, eqb, eq-eqb, or_right, leb, le-leb, none_or_shortest)
 
 -- ---- Want
 
@@ -134,12 +128,4 @@ got_codec size small = record {
 -- a lawful Got takes as many bytes as its kind allows
 pub got_size : (got : Got) → IsLawfulGot got → got_count got ≤ LONGEST_BODY
     → (is_list_length GOT_BYTES HASH_BYTES LONGEST_BODY (got_count got) || leb (GOT_BYTES + SHORTEST_ENTRY) (got_count got)) ≡ true
-got_size got h within =
-    ⊎_elim
-    (λ (none : sum_by entry_count got.entries ≡ 0).
-    or_left (is_list_length GOT_BYTES HASH_BYTES LONGEST_BODY (got_count got)) _
-    (list_length GOT_BYTES HASH_BYTES LONGEST_BODY (length got.hashes) (got_count got) (omega arith) (omega (arith, none)) within))
-    (λ (some : SHORTEST_ENTRY ≤ sum_by entry_count got.entries).
-    or_right (is_list_length GOT_BYTES HASH_BYTES LONGEST_BODY (got_count got)) (leb (GOT_BYTES + SHORTEST_ENTRY) (got_count got))
-    (le-leb (GOT_BYTES + SHORTEST_ENTRY) (got_count got) (omega (arith, some))))
-    (none_or_shortest got.entries h.entries)
+got_size got h within = grind (arith, or_left, list_length, or_right, leb, le-leb, none_or_shortest)

@@ -1,5 +1,5 @@
 -- The laws of Rebuild, Read, Copy and Rebuilt.
-use Rattle.std.proofs.Common.{◌≡◌, ℕ, ◌+◌, ◌^◌, ◌<◌, Bool, true, false, List, [], ◌++◌, length, Option, Some, None, Ok, refl, sym, subst, arith, ltb, eqb, inl, inr}
+use Rattle.std.proofs.Common.{◌≡◌, ℕ, ◌+◌, ◌^◌, ◌<◌, Bool, true, false, List, [], ◌++◌, length, Option, Some, None, Ok, refl, sym, subst, arith, ltb, eqb}
 use Rattle.std.specs.Prelude.{is_some, ⊤}
 use Rattle.std.specs.Option.{ok_or}
 use Rattle.std.specs.Int.{w8, w32, w64}
@@ -51,20 +51,7 @@ read_segment_codec =
 
 -- a number that says whether a segment was written is the number of that
 present_is : (n : ℕ) (present : Bool) → present_numbered n ≡ Some present → n ≡ present_number present
-present_is n present e =
-    elim (chosen (eqb n MISSING) _ _ _ e) [
-      | inl h ↦ subst (λ (b : Bool). n ≡ present_number b) (some_is false present h.1) (eqb-true n MISSING h.0)
-      | inr h ↦ elim (chosen (eqb n PRESENT) _ _ _ h.1) [
-        | inl h ↦ subst (λ (b : Bool). n ≡ present_number b) (some_is true present h.1) (eqb-true n PRESENT h.0)
-        | inr h ↦ absurd (not_some present h.1)
-      ]
-    ]
-  where
-    some_is : (x y : Bool) → Some x ≡ Some y → x ≡ y
-    some_is x y e = cc
-
-    not_some : (x : Bool) → None ≡ Some x → ⊥
-    not_some x e = cc
+present_is n present e = grind (arith, chosen, eqb, eqb-true)
 
 -- whether a segment was ever written
 present_codec : IsCodec (λ present. number_bytes w8 (present_number present)) (λ present. 1) (λ present. ⊤) read_present

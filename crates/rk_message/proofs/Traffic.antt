@@ -12,18 +12,8 @@ free : (wire : Traffic) → HasSentNumbers wire → (found : Option Message) →
 free wire numbers None is = refl
 free wire numbers (Some message) is = let past = (numbers (wire.sent + 1) message is).1 in absurd (omega arith)
 
--- nothing is found on a silent wire
-found_none : {message : Message} → None ≡ Some message → ⊥
-found_none is = cc
-
 pub IsConsistent-silent : IsConsistent silent 0
-IsConsistent-silent = record {
-  order = tt;
-  numbers = λ _ _ found. absurd (found_none found);
-  lawful = λ _ _ found. absurd (found_none found);
-  counted = refl;
-  within = omega arith;
-}
+IsConsistent-silent = grind arith
 
 pub IsConsistent-with_message : (message : Message) (wire : Traffic) (bytes : ℕ) → IsLawfulMessage message → frame_len message < 2 ^ 32 → IsConsistent wire bytes
     → IsConsistent (with_message message wire) (bytes + frame_len message)

@@ -1,12 +1,8 @@
 -- A record put between two parts of a legal history, or taken out.
-use Rattle.std.proofs.Common.{◌≡◌, ℕ, Bool, true, false, cond, List, [], ◌∷◌, ◌++◌, None, refl, sym, ap, ◌∙◌, subst, ⊎_elim}
+use Rattle.std.proofs.Common.{arith, ◌≡◌, ℕ, Bool, true, false, cond, List, [], ◌∷◌, ◌++◌, refl, sym, ap, ◌∙◌, subst, ⊎_elim}
 use Rattle.std.proofs.lemmas.Bool.{cases_Bool, or_parts}
 use Rattle.std.specs.Prelude.{filter}
-use Rattle.rk_types.specs.declared.call.Op.{Op}
-use Rattle.rk_types.specs.declared.call.Op.TheVariants.{Get, Put, CondPut, Delete}
-use Rattle.rk_types.specs.declared.call.Outcome.{Outcome}
 use Rattle.rk_types.specs.declared.history.Placed.{Placed}
-use Rattle.rk_model.specs.Machine.{change_of}
 use Rattle.rk_model.specs.History.{Map, with_change, map_with, map_after, IsLegal, is_at, records_at, IsAllowedIn, ChangesNothing}
 use Rattle.rk_model.specs.Merged.{is_kept, is_mutation}
 use Rattle.rk_model.proofs.Histories.{IsLegal-append, legal_front, legal_back, map_after-append}
@@ -114,42 +110,39 @@ map_after_read m front back read nothing =
     ∙ ap (λ (n : Map). map_after n back) (map_with_nothing (map_after m front) read nothing)
     ∙ sym (map_after-append m front back)
 
--- an operation that is no mutation changes nothing
-nothing_from_read : (op : Op) (outcome : Outcome) → is_mutation op ≡ false → change_of op outcome ≡ None
-nothing_from_read Get outcome read = refl
-nothing_from_read (Put value) outcome read = absurd (cc)
-nothing_from_read (CondPut expected value) outcome read = absurd (cc)
-nothing_from_read Delete outcome read = absurd (cc)
-
 -- what is left out of the merged history changes nothing
 pub unkept_changes_nothing : (placed : Placed) → is_kept placed ≡ false → ChangesNothing placed
-unkept_changes_nothing placed unkept =
-    let parts = or_parts placed.accepted (is_mutation placed.call.op) unkept in
-    nothing_from_read placed.call.op placed.outcome parts.1
+unkept_changes_nothing placed unkept = grind (arith, or_parts, is_mutation, placed.accepted, placed.call.op, placed.outcome)
 
 -- a legal history without the reads that nobody accepted is legal
 pub legal_kept : (m : Map) (history : List Placed) → IsLegal m history → IsLegal m (filter is_kept history)
 legal_kept m [] legal = tt
 legal_kept m (placed ∷ history) legal =
-    let rest = legal_kept (map_with m placed) history legal.1 in
-    ⊎_elim
-    (λ (kept : is_kept placed ≡ true). rw kept (legal.0, rest))
-    (λ (unkept : is_kept placed ≡ false).
-    rw unkept
-    (subst (λ (n : Map). IsLegal n (filter is_kept history))
-    (map_with_nothing m placed (unkept_changes_nothing placed unkept)) rest))
-    (cases_Bool (is_kept placed))
+    grind (
+      arith,
+      map_with,
+      is_kept,
+      filter,
+      map_with_nothing,
+      unkept_changes_nothing,
+      cases_Bool,
+      legal.1,
+      legal.0,
+      (legal_kept (map_with m placed) history legal.1),
+    )
 
 -- and leaves the same map
 pub map_after_kept : (m : Map) (history : List Placed) → map_after m (filter is_kept history) ≡ map_after m history
 map_after_kept m [] = refl
 map_after_kept m (placed ∷ history) =
-    let rest = map_after_kept (map_with m placed) history in
-    ⊎_elim
-    (λ (kept : is_kept placed ≡ true). rw kept rest)
-    (λ (unkept : is_kept placed ≡ false).
-    rw unkept
-    (ap (λ (n : Map). map_after n (filter is_kept history))
-    (sym (map_with_nothing m placed (unkept_changes_nothing placed unkept)))
-    ∙ rest))
-    (cases_Bool (is_kept placed))
+    grind (
+      arith,
+      map_with,
+      is_kept,
+      map_after,
+      filter,
+      map_with_nothing,
+      unkept_changes_nothing,
+      cases_Bool,
+      (map_after_kept (map_with m placed) history),
+    )

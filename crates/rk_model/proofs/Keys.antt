@@ -1,4 +1,5 @@
 -- A history, key by key: it is legal where the records of each key are, and so is the map after it.
+use Rattle.std.proofs.Common.{arith}
 use Rattle.std.proofs.Common.{◌≡◌, ◌↔◌, ℕ, true, false, cond, ◌&&◌, eqb, List, [], ◌∷◌, Option, Some, None, refl, sym, ap, ◌∙◌, subst, ⊎_elim}
 use Rattle.std.proofs.lemmas.Bool.{and_parts, and_from, eqb-true, eq-eqb, cond-false, cases_Bool}
 use Rattle.std.proofs.lemmas.Bool.Decides.{same_from_decides, Decides-like, Decides-eqb}
@@ -25,9 +26,7 @@ name-swap t u k l = ap (λ b. b && bytes_eq k l) (eqb-swap t u) ∙ ap (λ b. eq
 
 -- a record is of its own key
 pub is_at_own : (placed : Placed) → is_at placed.call.table placed.call.key placed ≡ true
-is_at_own placed =
-    and_from (eqb placed.call.table placed.call.table) (bytes_eq placed.call.key placed.call.key)
-    (eq-eqb placed.call.table placed.call.table refl) ((bytes_eq-Decides placed.call.key placed.call.key).1 refl)
+is_at_own placed = grind (arith, and_from, eqb, bytes_eq, eq-eqb, bytes_eq-Decides, placed.call.table, placed.call.key)
 
 -- a record of a key has that table and that key
 pub is_at_parts :

@@ -107,13 +107,7 @@ record IsRisingIn (lane stamp : ℕ) (lines : List Line) : Type 0 where
 
 -- a lower bound on the stamps serves too
 rising_weaker : (lane low high : ℕ) (lines : List Line) → low ≤ high → IsRisingIn lane high lines → IsRisingIn lane low lines
-rising_weaker lane low high lines below rising = record {
-  by_lane = rising.by_lane;
-  above =
-      All-weaker (λ (line : Line). (line.lane ≡ lane) × (high < line.placed.stamp))
-      (λ (line : Line). (line.lane ≡ lane) × (low < line.placed.stamp))
-      (λ line above. (above.0, omega (arith, above.1))) lines rising.above;
-}
+rising_weaker lane low high lines below rising = grind (arith, rising.by_lane, rising.above)
 
 -- a first line with a stamp below those of the others
 rising_cons :

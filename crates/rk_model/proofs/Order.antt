@@ -10,29 +10,17 @@ use Rattle.rk_model.specs.Merged.{is_before, is_kept, is_mutation}
 abbrev pub comes_first : ℕ → ℕ → ℕ → ℕ → Bool
 comes_first s l t m = ltb s t || (eqb s t && ltb l m)
 
--- a smaller stamp comes first
-first_by_stamp : (s l t m : ℕ) → s < t → comes_first s l t m ≡ true
-first_by_stamp s l t m h = grind (arith, nat_tests)
-
--- a greater stamp does not
-not_first_by_stamp : (s l t m : ℕ) → t < s → comes_first s l t m ≡ false
-not_first_by_stamp s l t m h = grind (arith, nat_tests)
-
 -- a line of a smaller stamp comes before
 pub before_by_stamp : (a b : Line) → a.placed.stamp < b.placed.stamp → is_before a b ≡ true
-before_by_stamp a b h = first_by_stamp a.placed.stamp a.lane b.placed.stamp b.lane h
+before_by_stamp a b h = grind (arith, nat_tests, a.placed.stamp, a.lane, b.placed.stamp, b.lane)
 
 -- a line of a greater stamp does not
 pub not_before_by_stamp : (a b : Line) → b.placed.stamp < a.placed.stamp → is_before a b ≡ false
-not_before_by_stamp a b h = not_first_by_stamp a.placed.stamp a.lane b.placed.stamp b.lane h
+not_before_by_stamp a b h = grind (arith, nat_tests, a.placed.stamp, a.lane, b.placed.stamp, b.lane)
 
 -- an accepted record stands in the merged history
 pub kept_if_accepted : (placed : Placed) → placed.accepted ≡ true → is_kept placed ≡ true
 kept_if_accepted placed accepted = or_left placed.accepted (is_mutation placed.call.op) accepted
-
--- of two places in the order at most one comes first
-asymmetric : (s l t m : ℕ) → comes_first s l t m ≡ true → comes_first t m s l ≡ true → ⊥
-asymmetric s l t m first second = grind (arith, nat_tests)
 
 -- what comes before what comes first comes first
 transitive :
@@ -46,7 +34,7 @@ either_first s l t m apart second = grind (arith, nat_tests)
 
 -- no two lines come before each other
 pub before-asymmetric : (a b : Line) → is_before a b ≡ true → is_before b a ≡ true → ⊥
-before-asymmetric a b first second = asymmetric a.placed.stamp a.lane b.placed.stamp b.lane first second
+before-asymmetric a b first second = grind (arith, nat_tests, a.placed.stamp, a.lane, b.placed.stamp, b.lane)
 
 -- a line before one that is before a third is before the third
 pub before-transitive : (a b c : Line) → is_before a b ≡ true → is_before b c ≡ true → is_before a c ≡ true

@@ -1,5 +1,5 @@
 -- What stands at each key, after a change at one.
-use Rattle.std.proofs.Common.{◌≡◌, ℕ, Bool, true, false, cond, ◌&&◌, eqb, Option, Some, refl, sym, ap, ◌∙◌, arith}
+use Rattle.std.proofs.Common.{◌≡◌, ℕ, Bool, true, false, cond, ◌&&◌, eqb, Option, Some, refl, ap, ◌∙◌, arith}
 use Rattle.std.proofs.lemmas.Map.Text.{is_eq-slice_cmp}
 use Rattle.std.proofs.lemmas.Bool.Decides.{nat_tests}
 use Rattle.std.specs.Cmp.{tied_then}
@@ -19,9 +19,7 @@ same_number a b = grind (arith, nat_tests)
 -- two names are one where their tables are, and their keys
 same_name : (a b : Name) → is_eq (name_cmp a b) ≡ (eqb b.0 a.0 && bytes_eq b.1.now a.1.now)
 same_name a b =
-    sym (tied_then (nat_cmp a.0 b.0) (slice_cmp nat_cmp a.1.now b.1.now))
-    ∙ ap (λ t. t && is_eq (slice_cmp nat_cmp a.1.now b.1.now)) (same_number a.0 b.0)
-    ∙ ap (λ t. eqb b.0 a.0 && t) (is_eq-slice_cmp a.1.now b.1.now ∙ bytes_eq-swap a.1.now b.1.now)
+    grind (arith, tied_then, nat_cmp, slice_cmp, is_eq, same_number, eqb, is_eq-slice_cmp, bytes_eq-swap, a.0, b.0, a.1.now, b.1.now)
 
 -- an entry found behind a choice is the choice of the entries found
 found_choice :

@@ -36,9 +36,7 @@ with_newer_other found item table key other =
 
 -- the newer one is the item where nothing was found, or only what is older
 pub newer_item : (found : Option Held) (item : Held) → ((old : Held) → found ≡ Some old → old.version < item.version) → newer_of found item ≡ item
-newer_item None item older = refl
-newer_item (Some old) item older =
-    cond-true (ltb old.version item.version) item old (lt-ltb old.version item.version (older old refl))
+newer_item found item older = grind (arith, cond-true, ltb, lt-ltb)
 
 -- and what was found, where the item is not newer
 pub newer_old : (old item : Held) → item.version ≤ old.version → newer_of (Some old) item ≡ old
@@ -46,30 +44,14 @@ newer_old old item no_newer = cond-false (ltb old.version item.version) item old
 
 -- the newer one is the item, or it was found
 pub newer_cases : (found : Option Held) (item : Held) → (newer_of found item ≡ item) ⊎ (found ≡ Some (newer_of found item))
-newer_cases None item = inl refl
-newer_cases (Some old) item =
-    ⊎_elim
-    (λ (older : old.version < item.version). inl (newer_item (Some old) item (λ x is. let same : old ≡ x = cc (is) in subst (λ (y : Held). y.version < item.version) same older)))
-    (λ (newer : item.version ≤ old.version). inr (ap Some (sym (newer_old old item newer))))
-    (cases_lt old.version item.version)
+newer_cases found item = grind (arith, newer_item, newer_old, cases_lt)
 
 -- and it has no smaller version than either
 pub newer_above_item : (found : Option Held) (item : Held) → item.version ≤ (newer_of found item).version
-newer_above_item None item = omega arith
-newer_above_item (Some old) item =
-    ⊎_elim
-    (λ (older : old.version < item.version).
-    rw (cond-true (ltb old.version item.version) item old (lt-ltb old.version item.version older)) (omega arith))
-    (λ (newer : item.version ≤ old.version). rw (newer_old old item newer) newer)
-    (cases_lt old.version item.version)
+newer_above_item found item = grind (arith, cond-true, ltb, lt-ltb, newer_old, cases_lt)
 
 pub newer_above_old : (old item : Held) → old.version ≤ (newer_of (Some old) item).version
-newer_above_old old item =
-    ⊎_elim
-    (λ (older : old.version < item.version).
-    rw (cond-true (ltb old.version item.version) item old (lt-ltb old.version item.version older)) (omega arith))
-    (λ (newer : item.version ≤ old.version). rw (newer_old old item newer) (omega arith))
-    (cases_lt old.version item.version)
+newer_above_old old item = grind (arith, cond-true, ltb, lt-ltb, newer_old, cases_lt)
 
 -- what is found after a list was found before or stands in it, and nothing of its key there has a greater version
 pub record IsFoundFrom (found : Found) (items : List Held) (table : ℕ) (key : List ℕ) (item : Held) : Type 0 where

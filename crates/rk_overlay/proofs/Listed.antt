@@ -2,15 +2,15 @@
 use Rattle.std.proofs.Common.{◌≡◌, ◌+◌, ◌<◌, Bool, false, List, [], ◌∷◌, Option, Some, None, length, map, get_or, refl, sym, ap, ◌∙◌, subst, ⊎_elim, arith, rules}
 use Rattle.std.specs.Prelude.{IfSome}
 use Rattle.std.specs.BTreeMap.{BTreeMap, get, values, IsOrdered, is_at}
-use Rattle.std.specs.Cmp.{IsTotalOrder, on_total, eq_by_cmp_equiv, tied_itself}
+use Rattle.std.specs.Cmp.{IsTotalOrder, on_total, eq_by_cmp_equiv}
 use Rattle.std.specs.Cmp.Rules.{comparing}
 use Rattle.std.specs.List.{All, AllByRecursion, Contains, IsDistinct}
 use Rattle.std.specs.List.Sorted.{IsPermutation, IsSortedBy, IsStrictlySortedBy}
 use Rattle.std.specs.Map.{keys_of, values_of}
 use Rattle.std.specs.Option.{option_copied}
-use Rattle.std.specs.Ordering.{is_eq, is_lt, ordering_reverse}
+use Rattle.std.specs.Ordering.{is_eq, is_lt}
 use Rattle.std.specs.declared.cmp.Ordering.{Ordering}
-use Rattle.std.specs.declared.cmp.Ordering.TheVariants.{Less, Equal, Greater}
+use Rattle.std.specs.declared.cmp.Ordering.TheVariants.{Less}
 use Rattle.std.proofs.lemmas.Bool.{false≢true}
 use Rattle.std.proofs.lemmas.List.{get_or-map, length-map}
 use Rattle.std.proofs.lemmas.List.Elements.{All-contains, All-contains_itself, recursion_from_All}
@@ -81,14 +81,7 @@ distinct_names (first ∷ entries) owns order =
 
 -- one of two neighbours that do not fall and have different names comes before the other
 before_next : (x y : Held) (r : Ordering) → item_cmp x y ≡ r → is_lt (item_cmp y x) ≡ false → is_eq (name_cmp (name_of x) (name_of y)) ≡ false → item_cmp x y ≡ Less
-before_next x y Less is rises apart = is
-before_next x y Equal is rises apart =
-    let parts = tie_parts x y is in
-    let same : name_cmp (name_of x) (name_of y) ≡ name_cmp (name_of y) (name_of y) =
-    λ i. name_cmp (parts.0 i, record { ref_ptr = (0, 0); now = parts.1 i }) (name_of y) in
-    absurd (false≢true (sym apart ∙ ap is_eq (same ∙ tied_itself name_total (name_of y))))
-before_next x y Greater is rises apart =
-    absurd (false≢true (sym rises ∙ ap is_lt (item_total.antisymm y x ∙ ap ordering_reverse is)))
+before_next x y r is rises apart = grind (arith, tie_parts, name_of, false≢true, name_total, item_total)
 
 -- items that do not fall, and of which no two have one name, come each before all those behind it
 abbrev lent_items : List (Bor Held) → List Held

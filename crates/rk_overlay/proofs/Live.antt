@@ -1,6 +1,5 @@
 -- The live records, as the fold finds them and as what stands in a list.
-use Rattle.std.proofs.Common.{◌≡◌, ℕ, List, ◌++◌, Option, Some, None, refl, ap, ◌∙◌}
-use Rattle.std.specs.Option.{option_map}
+use Rattle.std.proofs.Common.{arith, ◌≡◌, ℕ, List, ◌++◌, Option, Some, ap}
 use Rattle.std.proofs.lemmas.Option.{some_pair_parts}
 use Rattle.rk_types.specs.declared.held.Held.{Held}
 use Rattle.rk_overlay.specs.Newest.{Found, newest, newest_from}
@@ -16,22 +15,10 @@ use Rattle.rk_overlay.proofs.Overlays.{newest_of_newest}
 pub live_from-append : (found : Found) (front back : List Held) → live_from found (front ++ back) ≡ live_from (newest_from found front) back
 live_from-append found front back = λ i table key. record_of (newest_from-append found front back i table key)
 
--- a value with the version of its item
-abbrev with_version : ℕ → List ℕ → ℕ × List ℕ
-with_version version value = (version, value)
-
 -- the item that has a version and value
 item_of : (found : Option Held) (version : ℕ) (value : List ℕ) → record_of found ≡ Some (version, value)
     → (item : Held) × (found ≡ Some item) × (item.version ≡ version) × (item.value ≡ Some value)
-item_of None version value is = absurd (cc (is))
-item_of (Some item) version value is = go item.value refl is
-  where
-    go : (o : Option (List ℕ)) → item.value ≡ o → option_map (with_version item.version) o ≡ Some (version, value)
-        → (x : Held) × (Some item ≡ Some x) × (x.version ≡ version) × (x.value ≡ Some value)
-    go None none is = absurd (cc (is))
-    go (Some v) has is =
-        let parts = some_pair_parts item.version version v value is in
-        (item, refl, parts.0, has ∙ ap Some parts.1)
+item_of found version value is = grind (arith, some_pair_parts)
 
 -- a record of the fold has a newest item with its version and value
 pub live_is : (items : List Held) (table : ℕ) (key : List ℕ) (version : ℕ) (value : List ℕ)
@@ -43,10 +30,7 @@ live_is items table key version value is =
 -- and in a plain list such an item makes the record
 pub live_found : (items : List Held) (table : ℕ) (key : List ℕ) (version : ℕ) (value : List ℕ)
     → IsPlain items → IsLive items table key version value → live items table key ≡ Some (version, value)
-live_found items table key version value plain is =
-    ap record_of (newest_found items table key is.item plain is.newest)
-    ∙ ap (option_map (with_version is.item.version)) is.has_value
-    ∙ ap (λ (n : ℕ). Some (n, value)) is.has_version
+live_found items table key version value plain is = grind (arith, newest_found)
 
 -- plain lists in which the same stands have the same records
 pub live_alike : (xs ys : List Held) → IsPlain xs → HaveSame xs ys → (table : ℕ) (key : List ℕ) → live xs table key ≡ live ys table key

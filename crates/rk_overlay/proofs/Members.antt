@@ -1,7 +1,7 @@
 -- What stands in a list with one more item in front.
-use Rattle.std.proofs.Common.{◌≡◌, ◌<◌, List, [], ◌∷◌, ◌⊎◌, refl, inl, inr, ⊎_elim, arith}
+use Rattle.std.proofs.Common.{◌≡◌, ◌<◌, List, [], ◌∷◌, ◌⊎◌, refl, ⊎_elim, arith}
 use Rattle.std.specs.List.{Contains}
-use Rattle.std.proofs.lemmas.List.Elements.{Contains-append_cases, Contains-append_right, Contains-push_cases}
+use Rattle.std.proofs.lemmas.List.Elements.{Contains-append_right}
 
 module _ {X : Type 0} where
   -- nothing stands in the empty list
@@ -18,9 +18,4 @@ module _ {X : Type 0} where
 
   -- and no others
   pub stands_cases : (x : X) (xs : List X) (y : X) → Contains (x ∷ xs) y → (x ≡ y) ⊎ Contains xs y
-  stands_cases x xs y at =
-      ⊎_elim
-      (λ (here : Contains (x ∷ []) y).
-      ⊎_elim (λ (none : Contains [] y). absurd (none_stands y none)) (λ (same : x ≡ y). inl same) (Contains-push_cases [] x y here))
-      (λ (behind : Contains xs y). inr behind)
-      (Contains-append_cases (x ∷ []) xs y at)
+  stands_cases x xs y at = grind (arith, none_stands)

@@ -1,5 +1,5 @@
 -- Items in order: an item at its place, what stands in a list then, and that order and what stands make one list.
-use Rattle.std.proofs.Common.{◌≡◌, List, [], ◌∷◌, ◌⊎◌, refl, sym, ap, ◌∙◌, subst, inl, inr, ⊎_elim, rules}
+use Rattle.std.proofs.Common.{arith, ◌≡◌, List, [], ◌∷◌, ◌⊎◌, refl, sym, ap, ◌∙◌, subst, inl, inr, ⊎_elim, rules}
 use Rattle.std.specs.Prelude.{◌↔◌, fold}
 use Rattle.std.specs.BTreeSet.{insert_key}
 use Rattle.std.specs.Cmp.{IsTotalOrder, tied_itself}
@@ -26,12 +26,7 @@ module _ {X : Type 0} (R : X → X → Ordering) (total : IsTotalOrder R) where
   -- and so does an item that is put among them
   after_inserted : (x y : X) (xs : List X) → R x y ≡ Less → AllByRecursion (λ z. R x z ≡ Less) xs → AllByRecursion (λ z. R x z ≡ Less) (insert_key R xs y)
   after_inserted x y [] less all = (less, tt)
-  after_inserted x y (z ∷ xs) less all = go (R y z) (after_inserted x y xs less all.1)
-    where
-      go : (r : Ordering) → AllByRecursion (λ z. R x z ≡ Less) (insert_key R xs y) → AllByRecursion (λ z. R x z ≡ Less) (match_ordering r (y ∷ z ∷ xs) (z ∷ xs) (z ∷ insert_key R xs y))
-      go Less rest = (less, all)
-      go Equal rest = all
-      go Greater rest = (all.0, rest)
+  after_inserted x y (z ∷ xs) less all = grind (arith, all.1, all.0, (after_inserted x y xs less all.1))
 
   -- an item at its place leaves a list in order
   pub order_inserted : (y : X) (xs : List X) → IsStrictlySortedBy R xs → IsStrictlySortedBy R (insert_key R xs y)

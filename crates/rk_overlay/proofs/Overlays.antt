@@ -12,7 +12,7 @@ use Rattle.std.proofs.lemmas.List.{append-nil}
 use Rattle.std.proofs.lemmas.Map.Text.{is_eq-slice_cmp}
 use Rattle.std.proofs.lemmas.Slice.Eq.{bytes_eq-Decides}
 use Rattle.rk_types.specs.declared.held.Held.{Held}
-use Rattle.rk_overlay.specs.Newest.{newest, none_found}
+use Rattle.rk_overlay.specs.Newest.{newest}
 use Rattle.rk_overlay.specs.Plain.{IsPlain}
 use Rattle.rk_overlay.specs.Overlay.{item_cmp, newest_items, overlay, IsOverlayOf}
 use Rattle.rk_overlay.proofs.Members.{none_stands, first_stands, behind_stands, stands_cases}
@@ -79,9 +79,7 @@ newest_own items table key item is =
 
 -- of two newest items with one table and one key
 one_newest : (items : List Held) (x y : Held) → newest items x.table x.key ≡ Some x → newest items y.table y.key ≡ Some y → x.table ≡ y.table → x.key ≡ y.key → x ≡ y
-one_newest items x y first second table key =
-    let same : newest items x.table x.key ≡ newest items y.table y.key = λ i. newest items (table i) (key i) in
-    cc (first, second, same)
+one_newest items x y first second table key = grind arith
 
 -- the newest items stand in the list of them
 abbrev candidates : List Held → List Held
@@ -159,18 +157,9 @@ newest_of_newest items table key = go (newest items table key) refl
           greatest = λ other at of. best.greatest other (stood other at) of;
         }) ∙ sym is
 
--- the newest items of a list with more behind it are those of its newest items with the same behind them
-pub newest_items_onto : (items more : List Held) → newest_items (newest_items items ++ more) ≡ newest_items (items ++ more)
-newest_items_onto items more =
-    newest_items_same (newest_items items ++ more) (items ++ more)
-    (λ table key.
-    ap (λ found. found table key) (newest_from-append none_found (newest_items items) more)
-    ∙ newest_from-same (newest (newest_items items)) (newest items) more table key (newest_of_newest items table key)
-    ∙ sym (ap (λ found. found table key) (newest_from-append none_found items more)))
-
 -- an overlay with a list laid on it
 pub overlay_onto : (a b c : List Held) → overlay (overlay a b) c ≡ overlay a (b ++ c)
-overlay_onto a b c = newest_items_onto (a ++ b) c ∙ ap newest_items (append_assoc a b c)
+overlay_onto a b c = grind (arith, append_assoc, newest_items_same, newest_from-append, newest_from-same, newest_of_newest)
 
 -- and with nothing
 pub overlay_again : (a b : List Held) → overlay (overlay a b) [] ≡ overlay a b

@@ -33,14 +33,7 @@ module _ (items : List Held) (table : ℕ) (key : List ℕ) (place : ℕ) (d : H
 
   -- those behind it have none that is newer
   none_newer_behind : (other : Held) → Contains (drop (place + 1) items) other → is_of table key other ≡ true → other.version ≤ here.version
-  none_newer_behind other at of =
-      let k : ℕ = place + 1 + at.0 in
-      let there : get_or items k other ≡ other = sym (get_or-drop (place + 1) items at.0 other) ∙ at.2 in
-      let behind : at.0 < length (drop (place + 1) items) = at.1 in
-      let within : k < length items = omega (arith, length-drop (place + 1) items) in
-      let no_newer = best.greatest k other within (subst (λ (x : Held). is_of table key x ≡ true) (sym there) of) in
-      subst (λ (x : Held). other.version ≤ x.version) (one_at other)
-      (subst (λ (x : Held). x.version ≤ (get_or items place other).version) there no_newer)
+  none_newer_behind other at of = grind (arith, get_or-drop, length-drop, one_at)
 
   -- so it is the newest item
   newest_at : newest items table key ≡ slice_get items place

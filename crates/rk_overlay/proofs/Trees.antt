@@ -1,10 +1,8 @@
 -- What the tree has under each name, after one more item.
-use Rattle.std.proofs.Common.{◌≡◌, ℕ, ◌<◌, true, false, ◌&&◌, eqb, List, [], Option, Some, None, sym, ap, ◌∙◌, subst, ⊎_elim}
+use Rattle.std.proofs.Common.{arith, ◌≡◌, ℕ, ◌<◌, true, false, ◌&&◌, eqb, List, [], Option, Some, None, sym, ap, ◌∙◌, subst, ⊎_elim}
 use Rattle.std.proofs.lemmas.Bool.{cases_Bool, cond-true, cond-false}
 use Rattle.std.proofs.lemmas.Map.Text.{is_eq-slice_cmp}
-use Rattle.std.specs.Cmp.{tied_then}
-use Rattle.std.specs.Cmp.Lexicographic.{slice_cmp}
-use Rattle.std.specs.Ordering.{nat_cmp, is_eq}
+use Rattle.std.specs.Ordering.{is_eq}
 use Rattle.std.specs.Option.{option_copied}
 use Rattle.std.specs.Prelude.{bytes_eq}
 use Rattle.std.specs.BTreeMap.{BTreeMap, get, is_at, Updates}
@@ -19,10 +17,7 @@ use Rattle.rk_overlay.proofs.Overlays.{same_number}
 
 -- two names are one where their tables are, and their keys
 pub same_name : (a b : Name) → is_eq (name_cmp a b) ≡ (eqb a.0 b.0 && bytes_eq a.1.now b.1.now)
-same_name a b =
-    sym (tied_then (nat_cmp a.0 b.0) (slice_cmp nat_cmp a.1.now b.1.now))
-    ∙ ap (λ t. t && is_eq (slice_cmp nat_cmp a.1.now b.1.now)) (same_number a.0 b.0)
-    ∙ ap (λ t. eqb a.0 b.0 && t) (is_eq-slice_cmp a.1.now b.1.now)
+same_name a b = grind (arith, same_number, eqb, is_eq-slice_cmp)
 
 -- the name of an item; where its key stands tells nothing
 abbrev pub name_of : Held → Name

@@ -1,8 +1,8 @@
 -- What a command comes to that is a call of a cluster, by what the call answers.
-use Rattle.rk_play.proofs.Words.{◌≡◌, ◌≢◌, ℕ, Bool, true, false, List, [], ◌∷◌, ◌++◌, Option, None, Some, IfErr, refl, sym, ap, subst}
-use Rattle.rk_play.proofs.Words.{IsErrAnd, if◌then◌else◌, Said, Segments, Cluster, Occurrence, CountsGoOn, number_of, Fate, ClusterState}
-use Rattle.rk_play.proofs.Words.{IsOf, Tells, Code, ClusterError, counts_same, said_lines, Came, IsCome, Ran, Stopped, Effect, Refuses}
-use Rattle.rk_play.proofs.Words.{Stop, is_full, refused_by, error_by_cluster, stop_by, PlayError}
+use Rattle.rk_play.proofs.Words.{arith, ◌≡◌, ◌≢◌, ℕ, Bool, true, false, List, [], ◌∷◌, ◌++◌, Option, None, Some, IfErr, refl, sym, ap}
+use Rattle.rk_play.proofs.Words.{subst, IsErrAnd, if◌then◌else◌, Said, Segments, Cluster, Occurrence, CountsGoOn, number_of, Fate}
+use Rattle.rk_play.proofs.Words.{ClusterState, IsOf, Tells, Code, ClusterError, counts_same, said_lines, Came, IsCome, Ran, Stopped, Effect}
+use Rattle.rk_play.proofs.Words.{Refuses, Stop, is_full, refused_by, error_by_cluster, stop_by, PlayError}
 use Rattle.std.proofs.Common.{Result, Ok, Err, IfOk, OnOk}
 use Rattle.std.specs.Prelude.{IsOkAnd}
 use Rattle.rk_cluster.specs.Acted.{Acted, all_acted}
@@ -22,15 +22,11 @@ module _ {R : Type 0} (segments : R → Option Segments) (faults : R → ℕ) wh
 
   came_out : (cluster : Cluster) (state : ClusterState R) (told : List Said) (it : Acted) → IsActedAs segments cluster state told None it
       → IsCome segments state (said_lines told) None (carried_by it it.worn)
-  came_out cluster state told it is =
-      subst (λ (worn : Option ℕ). IsCome segments state (said_lines told) None (carried_by it worn)) (sym is.worn)
-      (record { cluster = is.cluster; text_is = ap said_lines is.said; stop_is = refl })
+  came_out cluster state told it is = grind (arith, said_lines)
 
   came_worn : (cluster : Cluster) (state : ClusterState R) (told : List Said) (number : ℕ) (it : Acted) → IsActedAs segments cluster state told (Some number) it
       → IsCome segments state [] (Some (Wears number)) (carried_by it it.worn)
-  came_worn cluster state told number it is =
-      subst (λ (worn : Option ℕ). IsCome segments state [] (Some (Wears number)) (carried_by it worn)) (sym is.worn)
-      (record { cluster = is.cluster; text_is = refl; stop_is = refl })
+  came_worn cluster state told number it is = grind arith
 
   module _ (old new : ClusterState R) (effect_of : Cluster → List Fate → Effect) where
     -- ---- a call that made just what the effect says, by these fates of the calls of replicas
@@ -159,12 +155,7 @@ module _ {R : Type 0} (segments : R → Option Segments) (faults : R → ℕ) wh
   pub refuses : (old : ClusterState R) (effect_of : Cluster → List Fate → Effect) (code : Code)
       → ((cluster : Cluster) → IsOf segments old cluster → effect_of cluster [] ≡ refused_by code cluster)
       → Stopped segments faults old old effect_of (errors.Refused code)
-  refuses old effect_of code same = record {
-    fates = [];
-    counts = counts_same faults old;
-    comes = λ cluster is.
-        subst (IsCome segments old [] (Some (Refuses (number_of code)))) (sym (same cluster is)) (record { cluster = is; text_is = refl; stop_is = refl });
-  }
+  refuses old effect_of code same = grind (arith, counts_same, number_of)
 
   -- where the cluster is full
   pub full_refuses : (old : ClusterState R) (effect_of : Cluster → List Fate → Effect) → Tells segments old is_full true

@@ -27,11 +27,7 @@ IsEnded status = ⊥
 
 -- its whole text was written
 ended_runs : (p : Played) (status : Status) (old new : Option (List ℕ)) → IsEnded status → p.status ≡ status → Appends old new (text_of p) → Runs p status old new
-ended_runs p Done old new is ended written = record { ended = ended; written = written }
-ended_runs p Refused old new is ended written = record { ended = ended; written = written }
-ended_runs p Worn old new is ended written = record { ended = ended; written = written }
-ended_runs p ReplicaFault old new is ended written = record { ended = ended; written = written }
-ended_runs p _ old new is ended written = absurd is
+ended_runs p status old new is ended written = grind arith
 
 -- so memory was not wanting there
 ended_apart : (status : Status) → IsEnded status → status ≡ NoMemory → ⊥
@@ -119,20 +115,13 @@ halted_runs segments faults old all was now new halted cluster is kept =
       ended = refl;
       pieces = sent.sent;
       few = omega (arith, sent.few, length-append on.pieces []);
-      written =
-          subst (λ (list : List (List ℕ)). Appends was new (concat list)) (sym (take-append-le sent.sent on.pieces [] sent.few))
-          (Appends-kept was now new (concat (take sent.sent on.pieces)) sent.written kept);
+      written = grind (arith, take-append-le, sent.sent, on.pieces, sent.few, sent.written);
     })
 
 -- as many commands came before one that is left
 pub halted_may : {R : Type 0} (segments : R → Option Segments) (faults : R → ℕ) (old : ClusterState R) (all : List Numbered) (was now : Option (List ℕ))
     (halted : IsHalted segments faults old all was now) → length halted.on.ran ≤ length all - 1
-halted_may segments faults old all was now halted =
-    omega (
-      arith,
-      ap (λ (list : List Numbered). length list) halted.on.whole,
-      length-append halted.on.ran (halted.first ∷ halted.others),
-    )
+halted_may segments faults old all was now halted = grind (arith, length-append)
 
 -- the sink failed: it has a part of what was written
 pub failed_runs : {R : Type 0} (segments : R → Option Segments) (faults : R → ℕ) (old now : ClusterState R) (all : List Numbered) (was written new : Option (List ℕ))
@@ -152,14 +141,10 @@ failed_runs segments faults old now all was written new failed cluster is kept =
 -- ---- which statuses come
 
 pub written_comes : (text : List ℕ) (given status : Status) (old new : Option (List ℕ)) → IsWritten text given status old new → MayComeTo given → MayComeTo status
-written_comes text given status old new is may =
-    ⊎_elim (λ (whole : (status ≡ given) × Appends old new text). subst MayComeTo (sym whole.0) may)
-    (λ (part : (status ≡ WriteFault) × AppendsPart old new text). subst MayComeTo (sym part.0) tt) is
+written_comes text given status old new is may = grind arith
 
 pub concluded_comes : (p : Played) (held : List ℕ) (status : Status) (old new : Option (List ℕ)) → Concludes p held status old new → MayComeTo p.status → MayComeTo status
-concluded_comes p held status old new concludes may =
-    ⊎_elim (λ (is : IsWritten (held ++ text_of p) p.status status old new). written_comes (held ++ text_of p) p.status status old new is may)
-    (λ (lacks : (status ≡ NoMemory) × Keeps old new). subst MayComeTo (sym lacks.0) tt) concludes
+concluded_comes p held status old new concludes may = grind (arith, text_of, written_comes)
 
 -- a script that is refused before a command runs comes to one of these
 pub refused_comes : (line code : ℕ) (status : Status) (old new : Option (List ℕ)) → ((cluster : Cluster) → Concludes (refused_at line code cluster) [] status old new)
@@ -170,12 +155,7 @@ refused_comes line code status old new concludes =
 
 -- a run that is not played to its end does not come to it
 pub concluded_apart : (p : Played) (held : List ℕ) (status : Status) (old new : Option (List ℕ)) → Concludes p held status old new → p.status ≢ Done → status ≢ Done
-concluded_apart p held status old new concludes apart done =
-    ⊎_elim
-    (λ (is : IsWritten (held ++ text_of p) p.status status old new).
-    ⊎_elim (λ (whole : (status ≡ p.status) × Appends old new (held ++ text_of p)). apart (sym whole.0 ∙ done))
-    (λ (part : (status ≡ WriteFault) × AppendsPart old new (held ++ text_of p)). absurd (cc (sym part.0 ∙ done))) is)
-    (λ (lacks : (status ≡ NoMemory) × Keeps old new). absurd (cc (sym lacks.0 ∙ done))) concludes
+concluded_apart p held status old new concludes apart done = grind (arith, text_of)
 
 stopped_comes : (line : ℕ) (stop : Stop) (cluster : Cluster) → MayComeTo (stopped_at line stop cluster).status
 stopped_comes line Pauses cluster = tt
@@ -191,20 +171,7 @@ ended_comes ends.NoMemory held status old new is = subst MayComeTo (sym is.0) tt
 
 -- ---- where the sink failed
 
-ended_kept : (end : End) (status : Status) (before mid now : ℕ) → (end ≡ ends.WriteFault → ⊥) → HasEndCause end before mid
-    → ((end ≡ ends.WriteFault → ⊥) → HasStatusCause WriteFault status mid now) → HasStatusCause WriteFault status before now
-ended_kept end status before mid now apart ended concluded =
-    subst (λ (count : ℕ). HasStatusCause WriteFault status count now) (ended.kept apart) (concluded apart)
-
 pub ended_cause : (end : End) (held : List ℕ) (status : Status) (old new : Option (List ℕ)) (before mid now : ℕ) → HasEndCause end before mid
     → ((end ≡ ends.WriteFault → ⊥) → HasStatusCause WriteFault status mid now) → (end ≡ ends.WriteFault → now ≡ mid) → ConcludesBy end held status old new
     → HasStatusCause WriteFault status before now
-ended_cause ends.Done held status old new before mid now ended concluded kept is =
-    ended_kept ends.Done status before mid now (λ same. absurd (cc same)) ended concluded
-ended_cause (ends.Stopped line error) held status old new before mid now ended concluded kept is =
-    ended_kept (ends.Stopped line error) status before mid now (λ same. absurd (cc same)) ended concluded
-ended_cause ends.WriteFault held status old new before mid now ended concluded kept is =
-    subst (λ (count : ℕ). HasStatusCause WriteFault status before count) (sym (kept refl))
-    (record { later = ended.later; kept = λ apart. absurd (apart is.0); rose = λ fault. ended.rose refl })
-ended_cause ends.NoMemory held status old new before mid now ended concluded kept is =
-    ended_kept ends.NoMemory status before mid now (λ same. absurd (cc same)) ended concluded
+ended_cause end held status old new before mid now ended concluded kept is = grind arith

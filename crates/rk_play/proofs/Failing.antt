@@ -1,12 +1,11 @@
 -- Which errors and ends say that replicas failed too often.
-use Rattle.rk_play.proofs.Words.{◌≡◌, ◌≢◌, ℕ, List, [], ◌++◌, IfErr, sym, subst, ◌∙◌, ⊎_elim, IsErrAnd, Appends, Keeps, Status, Done}
-use Rattle.rk_play.proofs.Words.{NoMemory, ReplicaFault, WriteFault, AppendsPart, Cluster, CountsGoOn, ClusterState, Code, ClusterError}
-use Rattle.rk_play.proofs.Words.{MOST_FAULTS, SettleError, WhereRefused, Concludes, ConcludesBy, IsWritten, end_by, Played, refused_at}
-use Rattle.rk_play.proofs.Words.{stopped_at, text_of, error_by_cluster, error_by_settling, stop_by, End, PlayError}
-use Rattle.std.proofs.Common.{Result, Ok, Err}
+use Rattle.rk_play.proofs.Words.{arith, ◌≡◌, ◌≢◌, ℕ, List, [], IfErr, sym, ◌∙◌, ⊎_elim, IsErrAnd, Status, Done, NoMemory, ReplicaFault}
+use Rattle.rk_play.proofs.Words.{WriteFault, Cluster, CountsGoOn, ClusterState, Code, ClusterError, MOST_FAULTS, SettleError, WhereRefused}
+use Rattle.rk_play.proofs.Words.{Concludes, ConcludesBy, IsWritten, end_by, Played, refused_at, stopped_at, text_of, error_by_cluster}
+use Rattle.rk_play.proofs.Words.{error_by_settling, stop_by, End, PlayError}
+use Rattle.std.proofs.Common.{Result}
 use Rattle.std.specs.Prelude.{Option}
 use Rattle.std.proofs.lemmas.Result.{IfErr-weaker}
-use Rattle.rk_cluster.specs.Faults.{counts_in}
 use Rattle.rk_cluster.specs.declared.error.ClusterError.TheVariants as of_cluster
 use Rattle.rk_cluster.proofs.Faults.{go_on_then}
 use Rattle.rk_settle.specs.Faults as settling
@@ -27,17 +26,9 @@ pub of_settling_replicas : (error : SettleError) → IsOfReplicas (error_by_sett
 of_settling_replicas (of_settling.Replica rounds) is = tt
 of_settling_replicas _ is = absurd is
 
--- nor does what is answered to a call of a cluster
-told_apart : {T : Type 0} (told : Result T ClusterError) (e : PlayError)
-    → (e ≢ errors.NoMemory → IsErrAnd told (λ error. e ≡ error_by_cluster error)) → IsOfReplicas e → ⊥
-told_apart (Ok said) e known is = known (λ same. subst IsOfReplicas same is)
-told_apart (Err error) e known is = of_no_replica error (subst IsOfReplicas (known (λ same. subst IsOfReplicas same is)) is)
-
 pub told_cause : {T U : Type 0} (P : Type 0) (told : Result T ClusterError) (result : Result U PlayError)
     → IfErr result (λ e. e ≢ errors.NoMemory → IsErrAnd told (λ error. e ≡ error_by_cluster error)) → IfErr result (λ e. IsOfReplicas e → P)
-told_cause P told result known =
-    IfErr-weaker result (λ e. e ≢ errors.NoMemory → IsErrAnd told (λ error. e ≡ error_by_cluster error)) (λ e. IsOfReplicas e → P)
-    (λ e its is. absurd (told_apart told e its is)) known
+told_cause P told result known = grind (arith, error_by_cluster, of_no_replica)
 
 -- nor a refusal
 pub refused_apart : (Holds : Code → Type 0) (error : PlayError) → WhereRefused Holds error → IsOfReplicas error → ⊥
@@ -51,37 +42,22 @@ never_cause P result never =
 
 -- ---- ends
 
-pub end_replicas : (line : ℕ) (error : PlayError) → EndsByReplicas (end_by line error) → IsOfReplicas error
-end_replicas line errors.NoMemory is = is
-end_replicas line _ is = is
-
 -- where a command stops a run since replicas failed too often, they have done so since its start
 pub ended_often : {R : Type 0} (faults : R → ℕ) (start mid now : ClusterState R) (line : ℕ) (error : PlayError) (end : End) → end ≡ end_by line error
     → CountsGoOn faults [] start mid → HasFaults faults mid now error → EndsByReplicas end → settling.FailsInRounds faults MOST_FAULTS start now
-ended_often faults start mid now line error end same before often is =
-    let fails = often (end_replicas line error (subst EndsByReplicas same is)) in
-    record {
-      failed = fails.failed;
-      are_lost = fails.are_lost;
-      often = fails.often;
-      rose = go_on_then [] fails.failed (counts_in faults start.lanes) (counts_in faults mid.lanes) (counts_in faults now.lanes) before fails.rose;
-    }
+ended_often faults start mid now line error end same before often is = grind (arith, go_on_then)
 
 -- ---- statuses
 
 -- a text that is written with another status does not come to it
 written_apart : (text : List ℕ) (given status : Status) (old new : Option (List ℕ)) → IsWritten text given status old new → status ≡ ReplicaFault
     → given ≡ ReplicaFault
-written_apart text given status old new is fault =
-    ⊎_elim (λ (whole : (status ≡ given) × Appends old new text). sym whole.0 ∙ fault)
-    (λ (part : (status ≡ WriteFault) × AppendsPart old new text). absurd (cc (sym part.0 ∙ fault))) is
+written_apart text given status old new is fault = grind arith
 
 -- nor does a run that is played to another one
 concluded_fault : (p : Played) (held : List ℕ) (status : Status) (old new : Option (List ℕ)) → Concludes p held status old new → status ≡ ReplicaFault
     → p.status ≡ ReplicaFault
-concluded_fault p held status old new concludes fault =
-    ⊎_elim (λ (is : IsWritten (held ++ text_of p) p.status status old new). written_apart (held ++ text_of p) p.status status old new is fault)
-    (λ (lacks : (status ≡ NoMemory) × Keeps old new). absurd (cc (sym lacks.0 ∙ fault))) concludes
+concluded_fault p held status old new concludes fault = grind (arith, text_of, written_apart)
 
 -- nor does one that is refused
 pub refused_fault : (line code : ℕ) (status : Status) (old new : Option (List ℕ))

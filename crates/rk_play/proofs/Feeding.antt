@@ -1,16 +1,14 @@
 -- What a reader was fed of a script, against what is gone of it from its source.
-use Rattle.rk_play.proofs.Words.{◌≡◌, ℕ, ◌+◌, ◌<◌, ◌≤◌, List, ◌++◌, length, take, refl, ap, subst, ◌∙◌, arith, append-nil, length-append}
-use Rattle.rk_play.proofs.Words.{Result, Err, Consumes-trans, PIECE, WasFed, script_of, ScriptLength, Numbered, ParseError, LONGEST_SCRIPT}
-use Rattle.rk_play.proofs.Words.{Says, script_error_by}
-use Rattle.std.specs.Prelude.{Option, None, Some}
+use Rattle.rk_play.proofs.Words.{◌≡◌, ℕ, ◌+◌, ◌<◌, ◌≤◌, List, ◌++◌, length, take, arith, append-nil, length-append, Result, Err}
+use Rattle.rk_play.proofs.Words.{Consumes-trans, PIECE, WasFed, script_of, ScriptLength, Numbered, ParseError, LONGEST_SCRIPT, Says}
+use Rattle.rk_play.proofs.Words.{script_error_by}
+use Rattle.std.specs.Prelude.{Option}
 use Rattle.std.specs.Io.KnownBytes.{Consumes, IsAtEnd}
-use Rattle.std.proofs.KnownBytes.{Consumes-whole}
 use Rattle.std.proofs.lemmas.Bool.{lt-ltb}
 use Rattle.rk_outside.specs.Parts.{ConsumesBetween}
 use Rattle.rk_script.specs.Feeding.{Reader}
 use Rattle.rk_script.specs.declared.code.Code.{Code}
 use Rattle.rk_script.specs.declared.script.ParseError.TheVariants as of_script
-use Rattle.rk_play.specs.Runs.{IsRead}
 use Rattle.rk_play.specs.declared.reading.ScriptError.TheVariants as errors
 
 -- the reader was fed what is gone from the source, and that is not too long
@@ -43,32 +41,13 @@ module _ (before now after : Option (List ℕ)) (reader : Reader) (reads : Reads
   -- the script says what those bytes say, where nothing more came
   pub reads_whole : (count : ℕ) (buffer : List ℕ) (said : Result (List Numbered) ParseError) → count ≡ 0 → Consumes now after (take count buffer) → IsAtEnd after
       → script_of reads.fed ≡ said → Says before after said
-  reads_whole count buffer said none gone end is =
-      let all : Consumes before after reads.fed =
-      subst (Consumes before after) (ap (λ (n : ℕ). reads.fed ++ take n buffer) none ∙ append-nil reads.fed)
-      (Consumes-trans before now after reads.fed (take count buffer) reads.consumed gone)
-      in
-      Consumes-whole before after reads.fed (λ script. (script_of script ≡ said) × IsRead script after) all end
-      (is, record { whole = λ few. end; part = λ long. absurd (omega (arith, reads.few, long)) })
+  reads_whole count buffer said none gone end is = grind (arith, append-nil, script_of)
 
 -- a script is refused as a whole where more than the longest is gone of it
 pub reads_too_long : (before after : Option (List ℕ)) (fed : List ℕ) → Consumes before after fed → LONGEST_SCRIPT < length fed → length fed ≤ LONGEST_SCRIPT + PIECE
     → Says before after (Err (of_script.Refused 0 ScriptLength))
-reads_too_long None after fed consumed long few = tt
-reads_too_long (Some script) None fed consumed long few = absurd consumed
-reads_too_long (Some script) (Some rest) fed consumed long few =
-    let longer : LONGEST_SCRIPT < length script = omega (arith, long, ap (λ (bytes : List ℕ). length bytes) consumed, length-append fed rest) in (
-      rw (lt-ltb LONGEST_SCRIPT (length script) longer) refl,
-      record {
-        whole = λ short. absurd (omega (arith, longer, short));
-        part = λ _. record { front = fed; no_fewer = omega (arith, long); no_more = few; consumed = consumed };
-      },
-    )
+reads_too_long before after fed consumed long few = grind (arith, length-append, lt-ltb)
 
 -- the refusal of a script that made an error
 pub refusal_from : (error : ParseError) (line : ℕ) (code : Code) → script_error_by error ≡ errors.Refused line code → error ≡ of_script.Refused line code
-refusal_from (of_script.Refused wrong_line wrong) line code is =
-    let same_line : wrong_line ≡ line = cc is in
-    let same : wrong ≡ code = cc is in
-    cc
-refusal_from of_script.NoMemory line code is = absurd (cc is)
+refusal_from error line code is = grind arith

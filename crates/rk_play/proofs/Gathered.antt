@@ -1,6 +1,6 @@
 -- What is gathered from the lanes of a cluster, one lane after the other.
 use Rattle.rk_play.proofs.Words.{◌≡◌, ◌≤◌, ◌<◌, ◌+◌, ◌-◌, ◌^◌, ℕ, min, nat_le, sum, List, [], ◌∷◌, ◌++◌, flat_map, map, length, slice_get}
-use Rattle.rk_play.proofs.Words.{take, Option, Some, sym, ap, subst, ◌∙◌, arith, map_push, take_all, NumberMap, Segments, lane_at, World}
+use Rattle.rk_play.proofs.Words.{take, Option, Some, sym, ap, ◌∙◌, arith, map_push, take_all, NumberMap, Segments, lane_at, World}
 use Rattle.rk_play.proofs.Words.{new_world, LaneState, LanesTell, MOST_BYTES}
 use Rattle.std.proofs.Common.{IfSome}
 use Rattle.std.proofs.lemmas.List.{flat_map_more, take_more}
@@ -17,9 +17,7 @@ module _ {R : Type 0} (segments : R → Option Segments) where
       → ((running : Running) (stored : NumberMap Segments) → look (world_with lane running stored) ≡ look (world_with lane running []))
       → IfSome lane.running (λ running. told ≡ look (world_with lane running []))
       → LaneTells segments lane look told
-  seen_running lane look told blind known w is =
-      ap look is.is ∙ blind is.running is.stored
-      ∙ sym (subst (λ (o : Option Running). IfSome o (λ running. told ≡ look (world_with lane running []))) is.runs known)
+  seen_running lane look told blind known w is = grind arith
 
   module _ (lanes : List (LaneState R)) {A B : Type 0} (look : World → A) (gather : List World → B) (more : B → A → B)
       (grows : (worlds : List World) (w : World) → gather (worlds ++ w ∷ []) ≡ more (gather worlds) (look w)) where
@@ -54,9 +52,7 @@ each_grow look worlds w = map_push look worlds w
 -- a sum, up to a limit
 pub sums_grow : (look : World → ℕ) (most : ℕ) (worlds : List World) (w : World)
     → min (sum (map look (worlds ++ w ∷ []))) most ≡ min (min (sum (map look worlds)) most + look w) most
-sums_grow look most worlds w =
-    let all : sum (map look (worlds ++ w ∷ [])) ≡ sum (map look worlds) + look w = ap sum (map_push look worlds w) ∙ sum_by_push (λ n. n) (map look worlds) (look w) in
-    ap (λ (n : ℕ). min n most) all ∙ (omega arith)
+sums_grow look most worlds w = grind (arith, map_push, sum_by_push)
 
 within : (n : ℕ) → nat_le MOST_BYTES n ≡ nat_le MOST_BYTES (min n (2 ^ 64 - 1))
 within n = grind (arith, nat_tests)

@@ -40,10 +40,7 @@ lives_is w None = refl
 lives_is w (Some owner) = refl
 
 one_more : (owned died all any held : Bool) → (not all || any) ≡ not held → (not (owned && all) || (died || any)) ≡ not ((owned && not died) && held)
-one_more false died all any held same = refl
-one_more true true true any held same = refl
-one_more true true false any held same = refl
-one_more true false all any held same = same
+one_more owned died all any held same = grind arith
 
 held_in : (tablet : ℕ) (worlds : List World)
     → (not (list_all (λ w. is_some (owner_in w tablet)) worlds) || list_any (λ w. is_dead_owner w (owner_in w tablet)) worlds)

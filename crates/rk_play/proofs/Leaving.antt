@@ -1,9 +1,8 @@
 -- What a run leaves where it comes to its end: the part that was played, and the cluster in code then.
-use Rattle.rk_play.proofs.Words.{◌≡◌, ◌≢◌, ℕ, List, [], ◌++◌, length, refl, sym, subst, ⊎_elim, append-nil, Appends, Keeps, Status, Done}
-use Rattle.rk_play.proofs.Words.{NoMemory, Refused, ReplicaFault, Worn, WriteFault, AppendsPart, Segments, Cluster, CountsGoOn, Fate}
-use Rattle.rk_play.proofs.Words.{ClusterState, IsOf, Numbered, Concludes, ConcludesBy, IsWritten, part_in, Pauses, Stop, EndsBy, HasFailed}
-use Rattle.rk_play.proofs.Words.{HasStopped, IsHalted, Played, all_fates, ending, stopped_at, text_of, IsOn, MayBePart, Runs, stop_by, End}
-use Rattle.rk_play.proofs.Words.{PlayError}
+use Rattle.rk_play.proofs.Words.{arith, ◌≡◌, ◌≢◌, ℕ, List, [], ◌++◌, length, refl, sym, subst, ⊎_elim, append-nil, Keeps, Status, Done}
+use Rattle.rk_play.proofs.Words.{NoMemory, WriteFault, Segments, Cluster, CountsGoOn, Fate, ClusterState, IsOf, Numbered, Concludes}
+use Rattle.rk_play.proofs.Words.{ConcludesBy, IsWritten, part_in, Pauses, Stop, EndsBy, HasFailed, HasStopped, IsHalted, Played, all_fates}
+use Rattle.rk_play.proofs.Words.{ending, stopped_at, text_of, IsOn, MayBePart, Runs, stop_by, End, PlayError}
 use Rattle.std.specs.Prelude.{Option, None, Some}
 use Rattle.rk_play.specs.declared.end.End.TheVariants as ends
 use Rattle.rk_play.proofs.Concluding.{IsEnded, failed_runs, halted_may, halted_runs, ran_all, ran_alone, stopped_ended, written_runs}
@@ -20,18 +19,9 @@ pub record IsPlayedOut {R : Type 0} (segments : R → Option Segments) (faults :
 
 -- ---- statuses
 
-ended_may : (status : Status) (most : ℕ) → IsEnded status → MayBePart status most None
-ended_may Done most ended = tt
-ended_may Refused most ended = tt
-ended_may Worn most ended = tt
-ended_may ReplicaFault most ended = tt
-ended_may _ most ended = absurd ended
-
 -- where a text is written it is that of the whole run
 pub written_may : (text : List ℕ) (given status : Status) (most : ℕ) (old new : Option (List ℕ)) → IsEnded given → IsWritten text given status old new → MayBePart status most None
-written_may text given status most old new ended is =
-    ⊎_elim (λ (whole : (status ≡ given) × Appends old new text). subst (λ (it : Status). MayBePart it most None) (sym whole.0) (ended_may given most ended))
-    (λ (part : (status ≡ WriteFault) × AppendsPart old new text). subst (λ (it : Status). MayBePart it most None) (sym part.0) tt) is
+written_may text given status most old new ended is = grind arith
 
 -- a run that stops leaves the cluster as it is
 stopped_cluster : (line : ℕ) (stop : Stop) (cluster : Cluster) → (stopped_at line stop cluster).cluster ≡ cluster
@@ -117,8 +107,4 @@ module _ {R : Type 0} (segments : R → Option Segments) (faults : R → ℕ) (o
   -- and the run is concluded
   pub played_out : (written new : Option (List ℕ)) (held : List ℕ) (end : End) (status : Status) → end ≢ ends.NoMemory
       → EndsBy segments faults old now all was written held end → ConcludesBy end held status written new → IsOut status new
-  played_out written new held ends.Done status apart on concludes = done_out written new held status on concludes
-  played_out written new held (ends.Stopped line error) status apart stopped concludes = stopped_out written new held line error status stopped concludes
-  played_out written new held ends.WriteFault status apart failed concludes =
-      subst (λ (it : Status). IsOut it new) (sym concludes.0) (failed_out written new failed concludes.1)
-  played_out written new held ends.NoMemory status apart halted concludes = absurd (apart refl)
+  played_out written new held end status apart on concludes = grind (arith, done_out, stopped_out, failed_out)

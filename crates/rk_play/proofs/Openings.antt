@@ -1,11 +1,11 @@
 -- The commands that set numbers before all others.
 use Rattle.rk_play.proofs.Words.{◌≡◌, ◌≤◌, ◌<◌, ◌+◌, ◌*◌, ℕ, zero, suc, List, [], ◌∷◌, ◌++◌, drop, length, take, refl, sym, ap, subst, ◌∙◌}
 use Rattle.rk_play.proofs.Words.{⊎_elim, arith, Ok, if◌then◌else◌, is_some, length-drop, take-append-drop, take_all, Status, NoMemory}
-use Rattle.rk_play.proofs.Words.{WriteFault, Segments, Cluster, number_of, Fate, Command, Backups, Masters, Numbered, PlaysBy, part_in}
-use Rattle.rk_play.proofs.Words.{Played, Setting, cluster_by, part_of, played_from, played_in, refused_at, unset, MayBePart, Runs}
-use Rattle.rk_play.proofs.Words.{TellStored, backup_count, IsOpened, IsRefusedEarly, IsSetting, setting_of}
+use Rattle.rk_play.proofs.Words.{Segments, Cluster, number_of, Fate, Command, Backups, Masters, Numbered, PlaysBy, part_in, Played, Setting}
+use Rattle.rk_play.proofs.Words.{cluster_by, part_of, played_from, played_in, refused_at, unset, MayBePart, Runs, TellStored, backup_count}
+use Rattle.rk_play.proofs.Words.{IsOpened, IsRefusedEarly, IsSetting, setting_of}
 use Rattle.std.proofs.Common.{◌⊎◌, drop-cons, get_or, inl, inr}
-use Rattle.std.specs.Prelude.{Bool, true, Option, None, Some}
+use Rattle.std.specs.Prelude.{true, Option, None, Some}
 use Rattle.std.proofs.Math.ListN.{drop_of_length-le}
 use Rattle.std.proofs.Math.Seq.{take-add}
 use Rattle.rk_cluster.specs.declared.code.Code.TheVariants.{TooLate}
@@ -31,9 +31,7 @@ next_is commands index first within is =
 -- a command that sets no number makes the cluster
 pub plain : (command : Command) → ((masters : ℕ) → command ≡ Masters masters → ⊥) → ((backups : ℕ) → command ≡ Backups backups → ⊥)
     → (line : ℕ) (setting : Setting) (next : Setting → Played) (all : Cluster → Played) → opened_by line command setting next all ≡ all (cluster_by setting)
-plain (Masters masters) no_masters no_backups line setting next all = absurd (no_masters masters refl)
-plain (Backups backups) no_masters no_backups line setting next all = absurd (no_backups backups refl)
-plain command no_masters no_backups line setting next all = refl
+plain command no_masters no_backups line setting next all = grind arith
 
 -- any of the other commands are played in the cluster that was asked for
 abbrev IsPlayedThere : List Numbered → Setting → Type 0
@@ -47,23 +45,11 @@ none_there setting (suc count) fates = refl
 first_there : (first : Numbered) (rest : List Numbered) (setting : Setting)
     → ((line : ℕ) (setting : Setting) (next : Setting → Played) (all : Cluster → Played) → opened_by line first.command setting next all ≡ all (cluster_by setting))
     → IsPlayedThere (first ∷ rest) setting
-first_there first rest setting makes zero fates = refl
-first_there first rest setting makes (suc count) fates =
-    makes first.line setting (λ next. played_from (take count rest) fates next) (λ cluster. played_in (first ∷ take count rest) fates cluster)
+first_there first rest setting makes holds fates = grind (arith, played_from, played_in)
 
 opens : (commands : List Numbered) (opening : Opening) (index : ℕ) → IsReading commands opening index → IsPlayedThere (drop index commands) (setting_of opening)
     → IsOpened commands opening
-opens commands opening index reading there =
-    let at : opening.count ≡ index = reading.count in
-    record {
-      few = omega (arith, at, reading.within);
-      played = λ count fates.
-          (λ i. played_from (take (at i + count) commands) fates unset)
-          ∙ ap (λ (list : List Numbered). played_from list fates unset) (take-add index count commands)
-          ∙ reading.played (take count (drop index commands)) fates ∙ there count fates
-          ∙ (λ i. played_in (take count (drop (sym at i) commands)) fates (cluster_by (setting_of opening)));
-      setting = reading.setting;
-    }
+opens commands opening index reading there = grind (arith, played_from, unset, take-add, played_in, cluster_by, setting_of)
 
 -- no other command is left
 pub opened_all : (commands : List Numbered) (opening : Opening) (index : ℕ) → IsReading commands opening index → length commands ≤ index → IsOpened commands opening
@@ -74,9 +60,7 @@ opened_all commands opening index reading past =
 pub opened_before : (commands : List Numbered) (opening : Opening) (index : ℕ) (first : Numbered) (rest : List Numbered) → IsReading commands opening index
     → drop index commands ≡ first ∷ rest → ((masters : ℕ) → first.command ≡ Masters masters → ⊥) → ((backups : ℕ) → first.command ≡ Backups backups → ⊥)
     → IsOpened commands opening
-opened_before commands opening index first rest reading is no_masters no_backups =
-    opens commands opening index reading
-    (subst (λ (list : List Numbered). IsPlayedThere list (setting_of opening)) (sym is) (first_there first rest (setting_of opening) (plain first.command no_masters no_backups)))
+opened_before commands opening index first rest reading is no_masters no_backups = grind (arith, opens, setting_of, first_there, plain)
 
 -- ---- a number that is set twice
 
@@ -99,18 +83,12 @@ early commands opening index first rest reading is refuses = record {
 pub early_masters : (commands : List Numbered) (opening : Opening) (index : ℕ) (first : Numbered) (rest : List Numbered) (masters : ℕ) → IsReading commands opening index
     → drop index commands ≡ first ∷ rest → first.command ≡ Masters masters → is_some opening.masters ≡ true → IsRefusedEarly commands first.line
 early_masters commands opening index first rest masters reading is command set =
-    early commands opening index first rest reading is (λ next all.
-    ap (λ (it : Command). opened_by first.line it (setting_of opening) next all) command
-    ∙ (let other : Setting = record { masters = Some masters; backups = opening.backups } in
-    ap (λ (b : Bool). if b then refused_at first.line (number_of TooLate) (cluster_by (setting_of opening)) else next other) set))
+    grind (arith, early, setting_of, refused_at, number_of, cluster_by)
 
 pub early_backups : (commands : List Numbered) (opening : Opening) (index : ℕ) (first : Numbered) (rest : List Numbered) (backups : ℕ) → IsReading commands opening index
     → drop index commands ≡ first ∷ rest → first.command ≡ Backups backups → is_some opening.backups ≡ true → IsRefusedEarly commands first.line
 early_backups commands opening index first rest backups reading is command set =
-    early commands opening index first rest reading is (λ next all.
-    ap (λ (it : Command). opened_by first.line it (setting_of opening) next all) command
-    ∙ (let other : Setting = record { masters = opening.masters; backups = Some backups } in
-    ap (λ (b : Bool). if b then refused_at first.line (number_of TooLate) (cluster_by (setting_of opening)) else next other) set))
+    grind (arith, early, setting_of, refused_at, number_of, cluster_by)
 
 -- ---- a part of the others is a part of all
 
@@ -120,10 +98,7 @@ shifted before (Some count) = Some (before + count)
 
 -- unless memory was wanting
 may_shift : (status : Status) (few most before : ℕ) (part : Option ℕ) → (status ≡ NoMemory → ⊥) → MayBePart status few part → MayBePart status most (shifted before part)
-may_shift NoMemory few most before part apart may = absurd (apart refl)
-may_shift WriteFault few most before part apart may = tt
-may_shift _ few most before None apart may = tt
-may_shift _ few most before (Some count) apart may = absurd may
+may_shift status few most before part apart may = grind arith
 
 lacks : (status : Status) → (status ≡ NoMemory) ⊎ (status ≡ NoMemory → ⊥)
 lacks NoMemory = inl refl
@@ -164,15 +139,7 @@ module _ {R : Type 0} (segments : R → Option Segments) (faults : R → ℕ) (c
   -- memory was wanting before one of the commands
   halted_part : (part : Option ℕ) (fates : List (List Fate)) → MayBePart NoMemory (length commands) part → Runs (part_of (Ok commands) part fates) NoMemory was new
       → PlaysBy segments faults (part_of (Ok commands)) (length commands) NoMemory was new before after
-  halted_part part fates may halts = record {
-    part = part;
-    may = may;
-    fates = fates;
-    runs = halts;
-    counts = λ apart. absurd (apart refl);
-    stored = λ apart. absurd (apart refl);
-    others = λ apart. absurd (apart refl);
-  }
+  halted_part part fates may halts = grind arith
 
   played_wanting : (part : Option ℕ) (fates : List (List Fate)) → MayBePart NoMemory (length others) part → Runs (part_in others asked part fates) NoMemory was new
       → PlaysBy segments faults (part_of (Ok commands)) (length commands) NoMemory was new before after

@@ -1,5 +1,5 @@
 -- A run goes on from the pieces that it has written; these lemmas know of no command.
-use Rattle.rk_play.proofs.Words.{◌≡◌, ◌≢◌, ℕ, List, [], ◌∷◌, ◌++◌, refl, sym, ap, subst, ◌∙◌, append_assoc, append-nil, concat}
+use Rattle.rk_play.proofs.Words.{arith, ◌≡◌, ◌≢◌, ℕ, List, [], ◌∷◌, ◌++◌, refl, sym, ap, subst, ◌∙◌, append_assoc, append-nil, concat}
 use Rattle.rk_play.proofs.Words.{concat-append, Segments, AppendsPart, Cluster, Occurrence, CountsGoOn, Fate, ClusterState, counts_same}
 use Rattle.rk_play.proofs.Words.{counts_then, Numbered, Came, Ran, Stopped, Effect, Stop, EndsBy, HasFailed, HasStopped, IsHalted, end_by}
 use Rattle.rk_play.proofs.Words.{Played, all_fates, behind, played_in, stopped_at, text_of, IsOn, Spills, stop_by, PlayError}
@@ -26,9 +26,7 @@ text_behind pieces occurred p = concat-append pieces p.pieces
 -- it goes on behind its text
 went_on : (line : ℕ) (it : Effect) (text : List ℕ) (rest : Cluster → Played) → it.text ≡ text → it.stop ≡ None
     → continued line it it.stop rest ≡ behind (text ∷ []) it.occurred (rest it.cluster)
-went_on line it text rest text_is stop_is =
-    ap (λ (stop : Option Stop). continued line it stop rest) stop_is
-    ∙ ap (λ (piece : List ℕ). behind (piece ∷ []) it.occurred (rest it.cluster)) text_is
+went_on line it text rest text_is stop_is = grind (arith, behind)
 
 -- or the run stops there
 came_to_stop : (line : ℕ) (it : Effect) (stop : Stop) (rest : Cluster → Played) → it.stop ≡ Some stop
@@ -53,11 +51,7 @@ module _ {R : Type 0} (segments : R → Option Segments) (faults : R → ℕ) wh
       subst (λ (list : List Fate). CountsGoOn faults list old now) (sym (one_more fates its)) (counts_then faults (all_fates fates) its old mid now before on)
 
   pub reached_start : (old : ClusterState R) → Reached segments faults old old [] []
-  reached_start old = record {
-    fates = [];
-    counts = counts_same faults old;
-    reached = λ cluster is. record { cluster = cluster; is = is; occurred = []; goes_on = λ left later. refl };
-  }
+  reached_start old = grind (arith, counts_same)
 
   pub reached_step : (old mid now : ClusterState R) (ran : List Numbered) (first : Numbered) (pieces : List (List ℕ)) (text : List ℕ)
       → Reached segments faults old mid ran pieces → Came segments faults mid now (λ cluster fates. effect_within cluster first.command fates) text None
@@ -147,24 +141,11 @@ module _ {R : Type 0} (segments : R → Option Segments) (faults : R → ℕ) wh
 
   pub on_spilled : (old now : ClusterState R) (all left : List Numbered) (was mid new : Option (List ℕ)) (held next : List ℕ) (few : Bool)
       → IsOn segments faults old now all left was mid held → Spills few mid new held next → IsOn segments faults old now all left was new next
-  on_spilled old now all left was mid new held next few on spills = record {
-    ran = on.ran;
-    whole = on.whole;
-    pieces = on.pieces;
-    reached = on.reached;
-    sent = sent_spilled was mid new on.pieces held next few spills on.sent;
-  }
+  on_spilled old now all left was mid new held next few on spills = grind (arith, sent_spilled)
 
   pub on_failed : (old now : ClusterState R) (all left : List Numbered) (was mid new : Option (List ℕ)) (held : List ℕ) → IsOn segments faults old now all left was mid held
       → AppendsPart mid new held → HasFailed segments faults old now all was new
-  on_failed old now all left was mid new held on part = record {
-    ran = on.ran;
-    left = left;
-    whole = on.whole;
-    pieces = on.pieces;
-    reached = on.reached;
-    put = sent_failed was mid new on.pieces held on.sent part;
-  }
+  on_failed old now all left was mid new held on part = search (sent_failed, on.ran, on.whole, on.pieces, on.reached, on.sent)
 
   pub on_start : (old : ClusterState R) (all : List Numbered) (was : Option (List ℕ)) (held : List ℕ) → held ≡ [] → IsOn segments faults old old all all was was held
   on_start old all was held none =

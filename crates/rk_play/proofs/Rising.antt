@@ -22,8 +22,7 @@ use Rattle.rk_lending.specs.declared.lending.TheConstants.{REPLICAS}
 -- counts that are alike behind others do not matter
 rose_before : (many : ℕ) (before now back : List ℕ) (place : ℕ) → length before ≡ length now → RoseBy many (slice_get before place) (slice_get now place)
     → RoseBy many (slice_get (before ++ back) place) (slice_get (now ++ back) place)
-rose_before many [] [] back place same rose =
-    subst (λ (n : ℕ). RoseBy n (slice_get back place) (slice_get back place)) (sym rose) (rose_same (slice_get back place))
+rose_before many [] [] back place same rose = grind (arith, rose_same)
 rose_before many [] (is ∷ now) back place same rose = absurd (cc same)
 rose_before many (was ∷ before) [] back place same rose = absurd (cc same)
 rose_before many (was ∷ before) (is ∷ now) back zero same rose = rose
@@ -53,26 +52,10 @@ module _ {R : Type 0} (faults : R → ℕ) (old now : ClusterState R) (backups :
     (many : length replicas.items ≡ REPLICAS) (lent : HasLent backups replicas room its kept) (given : AreGivenBack now.lanes kept.others.items back.items) where
   -- as many came back as were lent
   as_many : length given.its ≡ LANES * backups
-  as_many =
-      omega (
-        arith,
-        given.count,
-        lent.backups_are,
-        lent.room.all,
-        ap (λ (list : List R). length list) given.whole,
-        length-append given.its kept.others.items,
-      )
+  as_many = grind (arith, length-append)
 
   were_lent : length its.items ≡ LANES * backups
-  were_lent =
-      omega (
-        arith,
-        many,
-        lent.backups_are,
-        lent.room.all,
-        ap (λ (list : List R). length list) lent.its_are,
-        length-take (LANES * backups) replicas.items,
-      )
+  were_lent = grind (arith, length-take)
 
   -- those that were not lent are as they were
   pub others_stay : drop (LANES * backups) back.items ≡ drop (LANES * backups) replicas.items

@@ -1,7 +1,7 @@
 -- Pieces of text of which some were put into a sink, and the others are held back.
 use Rattle.rk_play.proofs.Words.{◌≡◌, ℕ, Bool, true, false, List, [], ◌∷◌, ◌++◌, drop, length, take, sym, ap, subst, ◌∙◌, arith}
-use Rattle.rk_play.proofs.Words.{length-append, append-nil, append_assoc, Result, Ok, Err, concat, Appends, Appends-nil, Appends-kept}
-use Rattle.rk_play.proofs.Words.{take-append-drop, take-append-le, concat-append, take-length, AppendsPart, IsSent, Spills}
+use Rattle.rk_play.proofs.Words.{length-append, append-nil, append_assoc, Result, Ok, Err, concat, Appends, Appends-nil, take-append-drop}
+use Rattle.rk_play.proofs.Words.{take-append-le, concat-append, take-length, AppendsPart, IsSent, Spills}
 use Rattle.std.specs.Prelude.{Option, OnErr, OnOk, is_err}
 use Rattle.std.proofs.KnownBytes.{Appends-trans}
 use Rattle.std.proofs.lemmas.List.{drop-append-le}
@@ -27,26 +27,12 @@ sent_none old held none = record { sent = 0; few = omega arith; written = Append
 -- one more piece is held back
 pub sent_piece : (old now : Option (List ℕ)) (pieces : List (List ℕ)) (held next text : List ℕ) → next ≡ held ++ text → IsSent old now pieces held
     → IsSent old now (pieces ++ text ∷ []) next
-sent_piece old now pieces held next text added is = record {
-  sent = is.sent;
-  few = omega (arith, is.few, length-append pieces (text ∷ []));
-  written = subst (λ (list : List (List ℕ)). Appends old now (concat list)) (sym (take-append-le is.sent pieces (text ∷ []) is.few)) is.written;
-  rest =
-      added ∙ ap (λ (front : List ℕ). front ++ text) is.rest
-      ∙ sym
-      (ap concat (drop-append-le is.sent pieces (text ∷ []) is.few) ∙ concat-append (drop is.sent pieces) (text ∷ [])
-      ∙ ap (λ (list : List ℕ). concat (drop is.sent pieces) ++ list) (append-nil text));
-}
+sent_piece old now pieces held next text added is = grind (arith, length-append, take-append-le, drop-append-le, concat-append, append-nil)
 
 -- what is held back still is, or all of it was put
 pub sent_spilled : (old mid new : Option (List ℕ)) (pieces : List (List ℕ)) (held next : List ℕ) (few : Bool) → Spills few mid new held next → IsSent old mid pieces held
     → IsSent old new pieces next
-sent_spilled old mid new pieces held next true kept is = record {
-  sent = is.sent;
-  few = is.few;
-  written = Appends-kept old mid new (concat (take is.sent pieces)) is.written kept.0;
-  rest = kept.1 ∙ is.rest;
-}
+sent_spilled old mid new pieces held next true kept is = grind (arith, is.sent, is.few, is.written, kept.0, kept.1, is.rest)
 sent_spilled old mid new pieces held next false put is = record {
   sent = length pieces;
   few = omega arith;

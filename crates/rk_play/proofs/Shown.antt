@@ -1,5 +1,5 @@
 -- What commands that show something have come to, and those that a code refuses.
-use Rattle.rk_play.proofs.Words.{◌≡◌, ℕ, ◌++◌, List, [], Option, None, Some, refl, sym, subst, Segments, Cluster, number_of, Fate}
+use Rattle.rk_play.proofs.Words.{arith, ◌≡◌, ℕ, ◌++◌, List, [], Option, None, Some, refl, sym, subst, Segments, Cluster, number_of, Fate}
 use Rattle.rk_play.proofs.Words.{ClusterState, IsOf, LaneState, state_of, LanesTell, Tells, Code, counts_same, Came, IsCome, Ran, Stopped}
 use Rattle.rk_play.proofs.Words.{WhereRefused, Effect, Refuses, refused_by, PlayError}
 use Rattle.rk_play.specs.Effects.{shown, writing}
@@ -10,13 +10,7 @@ module _ {R : Type 0} (segments : R → Option Segments) (faults : R → ℕ) (s
   pub came_refused : (effect_of : Cluster → List Fate → Effect) (it : Code)
       → ((cluster : Cluster) → IsOf segments state cluster → effect_of cluster [] ≡ refused_by it cluster)
       → Came segments faults state state effect_of [] (Some (Refuses (number_of it)))
-  came_refused effect_of it refuses = record {
-    fates = [];
-    counts = counts_same faults state;
-    comes = λ cluster is.
-        subst (λ (effect : Effect). IsCome segments state [] (Some (Refuses (number_of it))) effect) (sym (refuses cluster is))
-        (record { cluster = is; text_is = refl; stop_is = refl });
-  }
+  came_refused effect_of it refuses = grind (arith, counts_same, number_of)
 
   module _ (code : Cluster → Option Code) (text : Cluster → List ℕ) where
     pub shown_refused : (it : Code) → Tells segments state code (Some it)
@@ -48,16 +42,10 @@ in_lanes {R} segments state lanes look seen same tells cluster is =
 
 -- what is known of the code of a refusal
 pub refused_weaker : (Holds Also : Code → Type 0) (error : PlayError) → ((code : Code) → Holds code → Also code) → WhereRefused Holds error → WhereRefused Also error
-refused_weaker Holds Also errors.NoMemory weaker known = tt
-refused_weaker Holds Also (errors.Refused code) weaker known = weaker code known
-refused_weaker Holds Also (errors.Worn number) weaker known = known
-refused_weaker Holds Also (errors.Replica rounds) weaker known = known
+refused_weaker Holds Also error weaker known = grind arith
 
 -- a refusal ends the run as each of its codes does
 pub refused_stops : {R : Type 0} (segments : R → Option Segments) (faults : R → ℕ) (state : ClusterState R) (effect_of : Cluster → List Fate → Effect) (Holds : Code → Type 0) (error : PlayError)
     → ((code : Code) → Holds code → Came segments faults state state effect_of [] (Some (Refuses (number_of code)))) → WhereRefused Holds error
     → Stopped segments faults state state effect_of error
-refused_stops segments faults state effect_of Holds errors.NoMemory stops known = tt
-refused_stops segments faults state effect_of Holds (errors.Refused code) stops known = stops code known
-refused_stops segments faults state effect_of Holds (errors.Worn number) stops known = absurd known
-refused_stops segments faults state effect_of Holds (errors.Replica rounds) stops known = absurd known
+refused_stops segments faults state effect_of Holds error stops known = grind arith

@@ -1,14 +1,14 @@
 -- What the replicas that come back tell.
 use Rattle.rk_play.proofs.Words.{◌≡◌, ℕ, zero, suc, ◌+◌, ◌*◌, ◌≤◌, ◌<◌, true, false, List, [], ◌∷◌, ◌++◌, All, drop, length, map, take}
-use Rattle.rk_play.proofs.Words.{slice_get, slice_index_or, refl, sym, ap, subst, ◌∙◌, ⊎_elim, arith, Keeps, Keeps-refl, range_with_len}
-use Rattle.rk_play.proofs.Words.{NumberMap, LANES, Status, Done, NoMemory, Refused, Segments, Cluster, lane_at, World, new_world, LaneState}
+use Rattle.rk_play.proofs.Words.{slice_get, slice_index_or, refl, sym, ap, subst, ◌∙◌, ⊎_elim, arith, Keeps, range_with_len, NumberMap}
+use Rattle.rk_play.proofs.Words.{LANES, Status, Done, NoMemory, Refused, Segments, Cluster, lane_at, World, new_world, LaneState}
 use Rattle.rk_play.proofs.Words.{replicas_of, script_of, CountsGoOn, GoOn, backups_of, Fate, ClusterState, IsOf, go_on_same, there_within}
 use Rattle.rk_play.proofs.Words.{AreGivenBack, Concludes, IsWritten, PlaysBy, Played, Setting, all_fates, cluster_by, part_of, refused_at}
 use Rattle.rk_play.proofs.Words.{text_of, unset, Runs, TellStored, backup_count, count_of, replica_counts, IsSetting}
 use Rattle.std.proofs.Common.{cond}
 use Rattle.std.specs.Prelude.{Option, None, Some, IfSome}
 use Rattle.std.specs.Ordering.{eq_by_cmp, nat_cmp}
-use Rattle.std.proofs.lemmas.List.Elements.{All-cons, All-nil, All-take}
+use Rattle.std.proofs.lemmas.List.Elements.{All-nil, All-take}
 use Rattle.rk_log.specs.declared.copied.TheConstants.{MOST_BACKUPS}
 use Rattle.rk_types.proofs.NumberMaps.{same_number}
 use Rattle.rk_types.specs.NumberMap.{get}
@@ -18,8 +18,7 @@ use Rattle.rk_world.specs.Cluster.{new_cluster}
 use Rattle.rk_world.specs.World.{new_backups}
 use Rattle.rk_lane.specs.LaneState.{IsTold}
 use Rattle.rk_cluster.specs.Fresh.{AreEmpty}
-use Rattle.rk_cluster.specs.Masters.{backups_in}
-use Rattle.rk_cluster.specs.State.{AreWorlds, IsWorld}
+use Rattle.rk_cluster.specs.State.{IsWorld}
 use Rattle.rk_cluster.proofs.Worlds.{all_at, something_within, world_at}
 use Rattle.rk_play.specs.Played.{how_many}
 use Rattle.rk_play.specs.Runs.{Plays, TellsAt}
@@ -65,8 +64,7 @@ module _ {R : Type 0} (segments : R → Option Segments) where
       let tells = lane_tells its.0 w given.its lane place stored world (given.each lane its.0 its.1) found in
       record {
         replica = tells.replica;
-        there =
-            ap (λ (list : List R). slice_get list (8 * place + lane)) given.whole ∙ there_before given.its others (8 * place + lane) tells.replica tells.there;
+        there = grind (arith, there_before, given.whole, given.its, tells.replica, tells.there);
         tells = tells.tells;
       }
 
@@ -86,9 +84,7 @@ module _ {R : Type 0} (segments : R → Option Segments) where
 
   new_backups_at : (masters backups from count : ℕ) → All (λ (w : World). w.backups ≡ new_backups backups) (map (λ lane. new_world lane masters backups) (range_with_len from count))
   new_backups_at masters backups from zero = All-nil (λ (w : World). w.backups ≡ new_backups backups)
-  new_backups_at masters backups from (suc count) =
-      All-cons (λ (w : World). w.backups ≡ new_backups backups) (new_world from masters backups) (map (λ lane. new_world lane masters backups) (range_with_len (from + 1) count)) refl
-      (new_backups_at masters backups (from + 1) count)
+  new_backups_at masters backups from (suc count) = grind (arith, new_world, (new_backups_at masters backups (from + 1) count))
 
   -- empty replicas tell what the backups of a new cluster store
   pub empty_tell : (replicas : List R) (masters backups : ℕ) → length replicas ≡ 32 → backups ≤ MOST_BACKUPS → AreEmpty segments replicas
@@ -115,14 +111,7 @@ module _ {R : Type 0} (segments : R → Option Segments) where
 -- a cluster has as many backups as the one in code that stands for it
 pub backups_there : {R : Type 0} (segments : R → Option Segments) (state : ClusterState R) (cluster : Cluster) → IsOf segments state cluster
     → backup_count cluster ≡ backups_of state
-backups_there segments state cluster is = go state.lanes cluster.lanes is.lanes
-  where
-    go : (lanes : List (LaneState _)) (worlds : List World) → AreWorlds segments lanes worlds
-        → (slice_index_or worlds 0 (new_world 0 0 0)).backup_count ≡ backups_in lanes
-    go [] [] are = refl
-    go [] (w ∷ worlds) are = absurd are
-    go (lane ∷ lanes) [] are = absurd are
-    go (lane ∷ lanes) (w ∷ worlds) are = ap (λ (v : World). v.backup_count) are.0.is
+backups_there segments state cluster is = grind (arith, slice_index_or, new_world, backup_count)
 
 module _ {R : Type 0} (segments : R → Option Segments) (faults : R → ℕ) where
   -- a cluster over empty replicas is the one that was asked for
@@ -138,15 +127,7 @@ module _ {R : Type 0} (segments : R → Option Segments) (faults : R → ℕ) wh
   -- one for which memory was wanting before anything ran
   pub wanting_plays : (played_by : Option ℕ → List (List Fate) → Played) (most : ℕ) (was new : Option (List ℕ)) (before after : List R) → (played_by (Some 0) []).status ≡ Done
       → Keeps was new → PlaysBy segments faults played_by most NoMemory was new before after
-  wanting_plays played_by most was new before after done kept = record {
-    part = Some 0;
-    may = omega arith;
-    fates = [];
-    runs = halts_kept (played_by (Some 0) []) was new done kept;
-    counts = λ apart. absurd (apart refl);
-    stored = λ apart. absurd (apart refl);
-    others = λ apart. absurd (apart refl);
-  }
+  wanting_plays played_by most was new before after done kept = grind (arith, halts_kept)
 
   pub wanting_told : (told was : Option (List ℕ)) (before after : List R) → IfSome told (λ script. Plays segments faults script NoMemory was was before after)
   wanting_told None was before after = tt
@@ -162,16 +143,7 @@ module _ {R : Type 0} (segments : R → Option Segments) (faults : R → ℕ) wh
 
   -- one whose script was not read
   pub unread_told : (told was : Option (List ℕ)) (replicas : List R) → IfSome told (λ script. Plays segments faults script ReadFault was was replicas replicas)
-  unread_told None was replicas = tt
-  unread_told (Some script) was replicas = record {
-    part = None;
-    may = tt;
-    fates = [];
-    runs = Keeps-refl was;
-    counts = λ memory. go_on_same (replica_counts faults replicas);
-    stored = λ memory read. absurd (read refl);
-    others = λ memory. refl;
-  }
+  unread_told told was replicas = grind (arith, go_on_same, replica_counts)
 
   -- a run that is refused before a command runs leaves the replicas as they are
   pub refused_plays : (played_by : Option ℕ → List (List Fate) → Played) (line code : ℕ) (setting : Setting) (most : ℕ) (status : Status) (old new : Option (List ℕ)) (replicas : List R)
@@ -202,28 +174,12 @@ module _ {R : Type 0} (segments : R → Option Segments) (faults : R → ℕ) wh
   pub script_plays : (script : List ℕ) (status : Status) (was new : Option (List ℕ)) (before after : List R)
       → PlaysBy segments faults (part_of (script_of script)) (count_of (script_of script)) status was new before after
       → Plays segments faults script status was new before after
-  script_plays script status was new before after plays = record {
-    part = plays.part;
-    may = plays.may;
-    fates = plays.fates;
-    runs = plays.runs;
-    counts = plays.counts;
-    stored = λ memory read. plays.stored memory;
-    others = plays.others;
-  }
+  script_plays script status was new before after plays = grind arith
 
   -- one that was played out as far as memory went
   pub out_wanting : (old now : ClusterState R) (played_by : Option ℕ → List (List Fate) → Played) (most : ℕ) (was new : Option (List ℕ)) (before after : List R)
       → IsPlayedOut segments faults old now played_by most NoMemory was new → PlaysBy segments faults played_by most NoMemory was new before after
-  out_wanting old now played_by most was new before after out = record {
-    part = out.part;
-    may = out.may;
-    fates = out.fates;
-    runs = out.runs;
-    counts = λ apart. absurd (apart refl);
-    stored = λ apart. absurd (apart refl);
-    others = λ apart. absurd (apart refl);
-  }
+  out_wanting old now played_by most was new before after out = grind arith
 
   -- one that was played out, and whose replicas came back
   pub ended_plays : (old now : ClusterState R) (played_by : Option ℕ → List (List Fate) → Played) (most : ℕ) (status : Status) (was new : Option (List ℕ)) (backups : ℕ) (others before after : List R)

@@ -5,7 +5,6 @@ use Rattle.rk_rebuild.proofs.Words.{position_or_len, eq-eqb, get, insert, Member
 use Rattle.rk_rebuild.proofs.Words.{is_by, is_unread, log_of, gathered_of, gathered_at, members_of, KnowsNamed, passed}
 use Rattle.std.proofs.Common.{zero, suc, Result, Ok, Err, length-append, is_some}
 use Rattle.std.specs.Prelude.{OnOk, OnErr}
-use Rattle.std.specs.List.{slice_get}
 use Rattle.std.proofs.lemmas.Bool.{eqb-true, ne_eqb, false≢true}
 use Rattle.std.proofs.lemmas.List.{set-get_or}
 use Rattle.std.proofs.lemmas.List.Folds.{find_at, find-set}
@@ -27,26 +26,15 @@ pub record StandsAt (logs : List ReadLog) (place master : ℕ) (log : ReadLog) :
   pub within : place < length logs
   pub log_is : log ≡ get_or logs place log
 
--- it is the one that is found
-log_found : (logs : List ReadLog) (place master : ℕ) (log : ReadLog) → StandsAt logs place master log → log_of logs master ≡ Some log
-log_found logs place master log at =
-    find_at (is_by master) logs
-    ∙ ap (λ (i : ℕ). slice_get logs i) (sym at.place_is)
-    ∙ slice_get-get_or logs place log at.within
-    ∙ ap Some (sym at.log_is)
-
 -- and it is that master's
 pub log_master : (logs : List ReadLog) (place master : ℕ) (log : ReadLog) → StandsAt logs place master log → log.master ≡ master
 log_master logs place master log at =
-    let first : position_or_len (is_by master) logs < length logs = subst (λ (i : ℕ). i < length logs) at.place_is at.within in
-    let same : get_or logs (position_or_len (is_by master) logs) log ≡ log = ap (λ (i : ℕ). get_or logs i log) (sym at.place_is) ∙ sym at.log_is in
-    eqb-true log.master master (ap (is_by master) (sym same) ∙ passes_at_first (is_by master) logs log first)
+    grind (arith, position_or_len, is_by, eqb-true, passes_at_first, at.place_is, at.within, at.log_is, log.master)
 
 -- what is found by another test stays where neither the old nor the new one passes it
 find_other : {X : Type 0} (p : X → Bool) (xs : List X) (i : ℕ) (new d : X) → p (get_or xs i d) ≡ false → p new ≡ false → find p (set xs i new) ≡ find p xs
 find_other p [] i new d old_fails new_fails = refl
-find_other p (x ∷ xs) zero new d old_fails new_fails =
-    ap (λ (b : Bool). cond b (Some new) (find p xs)) new_fails ∙ sym (ap (λ (b : Bool). cond b (Some x) (find p xs)) old_fails)
+find_other p (x ∷ xs) zero new d old_fails new_fails = grind arith
 find_other p (x ∷ xs) (suc i) new d old_fails new_fails = ap (λ o. cond (p x) (Some x) o) (find_other p xs i new d old_fails new_fails)
 
 -- ---- what was read of a member, once the log of a master was changed
@@ -54,25 +42,18 @@ find_other p (x ∷ xs) (suc i) new d old_fails new_fails = ap (λ o. cond (p x)
 same_gathered : (logs : List ReadLog) (place master : ℕ) (old new : ReadLog) → StandsAt logs place master old → new.master ≡ master
     → (member : Member) → eqb member.master master ≡ true → gathered_at (set logs place new) member ≡ gathered_of (Some new) member
 same_gathered logs place master old new at new_master member own =
-    ap (λ (log : Option ReadLog). gathered_of log member)
-    (ap (log_of (set logs place new)) (eqb-true member.master master own)
-    ∙ find-set (is_by master) logs place new at.place_is at.within (eq-eqb new.master master new_master))
+    grind (arith, gathered_of, log_of, eqb-true, find-set, is_by, eq-eqb, member.master, at.place_is, at.within, new.master)
 
 other_gathered : (logs : List ReadLog) (place master : ℕ) (old new : ReadLog) → StandsAt logs place master old → new.master ≡ master
     → (member : Member) → eqb member.master master ≡ false → gathered_at (set logs place new) member ≡ gathered_at logs member
 other_gathered logs place master old new at new_master member other =
-    let apart : (x : ReadLog) → x.master ≡ master → is_by member.master x ≡ false = λ x is.
-    ne_eqb x.master member.master (λ same. false≢true (sym other ∙ eq-eqb member.master master (sym same ∙ is))) in
-    ap (λ (log : Option ReadLog). gathered_of log member)
-    (find_other (is_by member.master) logs place new old
-    (ap (is_by member.master) (sym at.log_is) ∙ apart old (log_master logs place master old at)) (apart new new_master))
+    grind (arith, is_by, ne_eqb, false≢true, eq-eqb, gathered_of, find_other, log_master, member.master, at.log_is)
 
 -- what was read of a member of the master before
 old_gathered : (logs : List ReadLog) (place master : ℕ) (old : ReadLog) → StandsAt logs place master old
     → (member : Member) → eqb member.master master ≡ true → gathered_at logs member ≡ gathered_of (Some old) member
 old_gathered logs place master old at member own =
-    ap (λ (log : Option ReadLog). gathered_of log member)
-    (ap (log_of logs) (eqb-true member.master master own) ∙ log_found logs place master old at)
+    grind (arith, gathered_of, log_of, eqb-true, find_at, is_by, slice_get-get_or, member.master)
 
 -- what was read of each member once a segment of the master was read
 pub members_read : (before logs : List ReadLog) (place master : ℕ) (old new : ReadLog) (segment : ℕ) (bytes : Option (List ℕ))
@@ -82,28 +63,19 @@ pub members_read : (before logs : List ReadLog) (place master : ℕ) (old new : 
     → (readers : List Reader) → members_of (set logs place new) readers ≡ with_read (members_of before readers) master segment bytes
 members_read before logs place master old new segment bytes same at new_master reads [] = refl
 members_read before logs place master old new segment bytes same at new_master reads (reader ∷ readers) =
-    let rest = members_read before logs place master old new segment bytes same at new_master reads readers in
-    λ i. one (eqb reader.member.master master) refl i ∷ rest i
-  where
-    member : Member
-    member = reader.member
-
-    was : Gathered
-    was = gathered_at before member
-
-    its : was.member.master ≡ member.master
-    its = ap (λ (m : Member). m.master) (gathered_member (log_of before member.master) member)
-
-    one : (own : Bool) → eqb member.master master ≡ own
-        → gathered_at (set logs place new) member ≡ cond (eqb was.member.master master) (with_segment was segment bytes) was
-    one true own =
-        same_gathered logs place master old new at new_master member own
-        ∙ reads member
-        ∙ ap (λ (g : Gathered). with_segment g segment bytes) (sym (old_gathered logs place master old at member own) ∙ same member)
-        ∙ sym (ap (λ (b : Bool). cond b (with_segment was segment bytes) was) (ap (λ (m : ℕ). eqb m master) its ∙ own))
-    one false other =
-        other_gathered logs place master old new at new_master member other ∙ same member
-        ∙ sym (ap (λ (b : Bool). cond b (with_segment was segment bytes) was) (ap (λ (m : ℕ). eqb m master) its ∙ other))
+    grind (
+      arith,
+      eqb,
+      gathered_at,
+      gathered_member,
+      log_of,
+      same_gathered,
+      old_gathered,
+      other_gathered,
+      reader.member.master,
+      reader.member,
+      (members_read before logs place master old new segment bytes same at new_master reads readers),
+    )
 
 -- where nothing changed
 pub members_same : (before logs : List ReadLog) → ((member : Member) → gathered_at logs member ≡ gathered_at before member)
@@ -118,18 +90,23 @@ members_mapped change same logs [] = refl
 members_mapped change same logs (reader ∷ readers) = λ i. gathered_at logs (same reader i) ∷ members_mapped change same logs readers i
 
 member_passed : (range : Range) (log : ReadLog) (reader : Reader) → (passed range log reader).member ≡ reader.member
-member_passed range log reader = go (eqb reader.member.master log.master)
-  where
-    go : (b : Bool) → (cond b (record reader { named = named range (drop reader.member.from (flat_map (λ entries. entries) log.main)); done = 0 }) reader).member ≡ reader.member
-    go true = refl
-    go false = refl
+member_passed range log reader = grind (arith, eqb, named, reader.member.master, log.master, reader.member.from, log.main, reader.member)
 
 member_advanced : (log : ReadLog) (reader : Reader) → (advanced log reader).member ≡ reader.member
-member_advanced log reader = go (eqb reader.member.master log.master)
-  where
-    go : (b : Bool) → (cond b (record reader { done = reader.done + position_or_len (is_unread log.sides) (drop reader.done reader.named) }) reader).member ≡ reader.member
-    go true = refl
-    go false = refl
+member_advanced log reader =
+    grind (
+      arith,
+      eqb,
+      position_or_len,
+      is_unread,
+      named,
+      reader.member.master,
+      log.master,
+      reader.done,
+      log.sides,
+      reader.named,
+      reader.member,
+    )
 
 pub members_passed : (range : Range) (log : ReadLog) (logs : List ReadLog) (readers : List Reader) → members_of logs (map (passed range log) readers) ≡ members_of logs readers
 members_passed range log logs readers = members_mapped (passed range log) (member_passed range log) logs readers
@@ -151,11 +128,7 @@ side_reads old segment bytes is member =
 pub main_reads : (old : ReadLog) (segment : ℕ) (bytes : List ℕ) → old.main_read ≡ false → length old.main + 1 < LAST_MAIN_SEGMENT → (member : Member)
     → gathered_of (Some (record old { main = old.main ++ entries_of bytes ∷ [] })) member
     ≡ with_segment (gathered_of (Some old) member) segment (Some bytes)
-main_reads old segment bytes is short member =
-    let g : Gathered = gathered_of (Some old) member in
-    let not_last : eqb (length old.main + 1) LAST_MAIN_SEGMENT ≡ false = ne_eqb (length old.main + 1) LAST_MAIN_SEGMENT (λ same. absurd (omega arith)) in
-    (λ i. record g { main = old.main ++ entries_of bytes ∷ []; main_read = (is ∙ sym not_last) i })
-    ∙ sym (ap (λ (b : Bool). cond b (record g { sides = insert g.sides segment (entries_of bytes) }) (with_main g (Some bytes))) is)
+main_reads old segment bytes is short member = grind (arith, gathered_of, eqb, ne_eqb, insert, old.main)
 
 -- the main segments are passed
 pub pass_reads : (old : ReadLog) (segment : ℕ) → old.main_read ≡ false → (member : Member)
@@ -180,20 +153,9 @@ all_set P [] i new has all = tt
 all_set P (x ∷ xs) zero new has all = (has, all.1)
 all_set P (x ∷ xs) (suc i) new has all = (all.0, all_set P xs i new has all.1)
 
--- what is known stays where what was read stays
-knows_same : (range : Range) (before logs : List ReadLog) → ((member : Member) → gathered_at logs member ≡ gathered_at before member)
-    → (readers : List Reader) → AllByRecursion (KnowsNamed range before) readers → AllByRecursion (KnowsNamed range logs) readers
-knows_same range before logs same readers all =
-    all_weaker (KnowsNamed range before) (KnowsNamed range logs)
-    (λ reader knows. subst (λ (g : Gathered). g.main_read ≡ true → IsUpTo range g reader.named reader.done) (sym (same reader.member)) knows)
-    readers all
-
 pub gathered_same : (range : Range) (before logs : List ReadLog) (readers : List Reader) → ((member : Member) → gathered_at logs member ≡ gathered_at before member)
     → AllByRecursion IsShort logs → IsGathered range before readers → IsGathered range logs readers
-gathered_same range before logs readers same short was = record {
-  short = short;
-  named = knows_same range before logs same readers was.named;
-}
+gathered_same range before logs readers same short was = grind (arith, named, all_weaker, was.named)
 
 -- a reader knows what is named once the log of a master was changed
 knows_set : (range : Range) (logs : List ReadLog) (place master : ℕ) (old new : ReadLog) → StandsAt logs place master old → new.master ≡ master
@@ -203,21 +165,20 @@ knows_set : (range : Range) (logs : List ReadLog) (place master : ℕ) (old new 
     → (eqb reader.member.master master ≡ false → now ≡ reader)
     → KnowsNamed range logs reader → KnowsNamed range (set logs place new) now
 knows_set range logs place master old new at new_master reader now same_member if_own if_other knows =
-    subst (λ (m : Member). (gathered_at (set logs place new) m).main_read ≡ true → IsUpTo range (gathered_at (set logs place new) m) now.named now.done) (sym same_member)
-    (go (eqb member.master master) refl)
-  where
-    member : Member
-    member = reader.member
-
-    go : (own : Bool) → eqb member.master master ≡ own → (gathered_at (set logs place new) member).main_read ≡ true → IsUpTo range (gathered_at (set logs place new) member) now.named now.done
-    go true own =
-        subst (λ (g : Gathered). g.main_read ≡ true → IsUpTo range g now.named now.done)
-        (sym (same_gathered logs place master old new at new_master member own))
-        (if_own own (subst (λ (g : Gathered). g.main_read ≡ true → IsUpTo range g reader.named reader.done) (old_gathered logs place master old at member own) knows))
-    go false other =
-        subst (λ (g : Gathered). g.main_read ≡ true → IsUpTo range g now.named now.done)
-        (sym (other_gathered logs place master old new at new_master member other))
-        (subst (λ (r : Reader). (gathered_at logs member).main_read ≡ true → IsUpTo range (gathered_at logs member) r.named r.done) (sym (if_other other)) knows)
+    grind (
+      arith,
+      gathered_at,
+      named,
+      eqb,
+      same_gathered,
+      old_gathered,
+      other_gathered,
+      now.named,
+      now.done,
+      reader.member,
+      reader.named,
+      reader.done,
+    )
 
 -- a log as short as before
 same_short : (logs : List ReadLog) (place master : ℕ) (old new : ReadLog) → StandsAt logs place master old → new.main ≡ old.main → AllByRecursion IsShort logs → IsShort new
@@ -328,19 +289,7 @@ find_before {X} p (z ∷ xs) x y found = go (p z) found (find_before p xs x y)
 -- a log of which nothing was read tells nothing
 pub opened_same : (logs : List ReadLog) (new : ReadLog) → new.main ≡ [] → new.main_read ≡ false → new.sides ≡ [] → (member : Member)
     → gathered_at (logs ++ new ∷ []) member ≡ gathered_at logs member
-opened_same logs new no_main not_read no_sides member = go (log_of logs member.master) refl
-  where
-    unread_is : (b : Bool) → gathered_of (cond b (Some new) None) member ≡ gathered_of None member
-    unread_is true = λ i. record { member = member; main = no_main i; main_read = not_read i; sides = no_sides i }
-    unread_is false = refl
-
-    go : (log : Option ReadLog) → log_of logs member.master ≡ log → gathered_of (log_of (logs ++ new ∷ []) member.master) member ≡ gathered_of (log_of logs member.master) member
-    go None none =
-        ap (λ (o : Option ReadLog). gathered_of o member) (find_pushed (is_by member.master) logs new none)
-        ∙ unread_is (is_by member.master new)
-        ∙ ap (λ (o : Option ReadLog). gathered_of o member) (sym none)
-    go (Some log) some =
-        ap (λ (o : Option ReadLog). gathered_of o member) (find_before (is_by member.master) logs new log some ∙ sym some)
+opened_same logs new no_main not_read no_sides member = grind (arith, log_of, gathered_of, find_pushed, is_by, find_before, member.master)
 
 -- a log with one more main segment is short
 pub short_main : (old new : ReadLog) (entries : List Entry) → new.main ≡ old.main ++ entries ∷ [] → length old.main + 1 < LAST_MAIN_SEGMENT → IsShort new

@@ -1,14 +1,12 @@
 -- What is read next, as the code looks for it, and what a change of one log leaves of the others.
 use Rattle.rk_rebuild.proofs.Words.{◌≡◌, ℕ, ◌+◌, ◌<◌, Bool, true, false, cond, List, [], ◌∷◌, map, drop, length, get_or, Option, Some, None}
 use Rattle.rk_rebuild.proofs.Words.{refl, sym, ap, ◌∙◌, subst, ◌++◌, take, not, arith, position_or_len, AllByRecursion, find, Member, Range}
-use Rattle.rk_rebuild.proofs.Words.{Gathered, ReadLog, Reader, is_by, log_of, gathered_of, gathered_at, members_of}
+use Rattle.rk_rebuild.proofs.Words.{ReadLog, Reader, is_by, log_of, gathered_of, gathered_at, members_of}
 use Rattle.std.proofs.Common.{zero, suc}
 use Rattle.std.proofs.Math.Seq.{take-add}
-use Rattle.std.specs.Option.{option_map, option_or}
 use Rattle.std.proofs.lemmas.List.{at_drop_more}
 use Rattle.std.proofs.lemmas.List.Elements.{All-from_recursion}
-use Rattle.rk_world.specs.declared.work.Reading.{Reading}
-use Rattle.rk_world.specs.Gather.{unread, next_of, next_segment, reading_of}
+use Rattle.rk_world.specs.Gather.{unread, next_of, next_segment}
 use Rattle.rk_rebuild.specs.Logs.{IsShort}
 
 -- what holds of each in a list holds of one that is found there
@@ -47,21 +45,13 @@ pub next_here : (range : Range) (logs : List ReadLog) (readers : List Reader) (i
     → Some segment ≡ next_segment range (gathered_at logs reader.member)
     → Some (record { master = reader.member.master; segment = segment }) ≡ next_of range (members_of logs (drop i readers))
 next_here range logs readers i segment reader within is next =
-    let here : Gathered = gathered_at logs reader.member in
-    let others : Option Reading = next_of range (members_of logs (drop (i + 1) readers)) in
-    let made : ℕ → Reading = λ master. record { master = master; segment = segment } in
-    ap (λ (m : Member). Some (made m.master)) (sym (gathered_member (log_of logs reader.member.master) reader.member))
-    ∙ ap (λ (o : Option ℕ). option_or (option_map (reading_of here) o) others) next
-    ∙ sym (members_from range logs readers i reader within is)
+    grind (arith, gathered_at, members_of, gathered_member, log_of, members_from, reader.member, reader.member.master)
 
 -- a member has nothing to read
 pub next_behind : (range : Range) (logs : List ReadLog) (readers : List Reader) (i : ℕ) (reader : Reader) → i < length readers → reader ≡ get_or readers i reader
     → None ≡ next_segment range (gathered_at logs reader.member)
     → next_of range (members_of logs (drop i readers)) ≡ next_of range (members_of logs (drop (i + 1) readers))
-next_behind range logs readers i reader within is next =
-    let here : Gathered = gathered_at logs reader.member in
-    members_from range logs readers i reader within is
-    ∙ ap (λ (o : Option ℕ). option_or (option_map (reading_of here) o) (next_of range (members_of logs (drop (i + 1) readers)))) (sym next)
+next_behind range logs readers i reader within is next = grind (arith, gathered_at, members_from, members_of, reader.member)
 
 -- ---- nothing was read
 

@@ -1,12 +1,7 @@
 -- The items among entries, one entry after the other, and the set of their versions.
-use Rattle.rk_rebuild.proofs.Words.{◌≡◌, ℕ, ◌+◌, ◌<◌, Bool, true, false, cond, eqb, ◌||◌, List, [], ◌∷◌, ◌++◌, take, length, get_or, refl}
-use Rattle.rk_rebuild.proofs.Words.{sym, ap, ◌∙◌, flat_map, list_any, Bor, Held, Entry, lent, HasVersions}
-use Rattle.std.proofs.Common.{◌&&◌}
-use Rattle.std.specs.Prelude.{bytes_eq}
-use Rattle.std.specs.Ordering.{nat_cmp, is_eq, ordering_then}
-use Rattle.std.specs.Cmp.{tied_then, unsigned_tied}
-use Rattle.std.specs.Cmp.Lexicographic.{slice_cmp}
-use Rattle.std.specs.BTreeSet.{BTreeSet, contains, Updates}
+use Rattle.rk_rebuild.proofs.Words.{arith, ◌≡◌, ℕ, ◌+◌, ◌<◌, true, eqb, List, [], ◌∷◌, ◌++◌, take, length, get_or, refl, sym, ap, ◌∙◌}
+use Rattle.rk_rebuild.proofs.Words.{flat_map, list_any, Bor, Held, Entry, lent, HasVersions}
+use Rattle.std.specs.BTreeSet.{BTreeSet, Updates}
 use Rattle.std.specs.BTreeMap.{is_at}
 use Rattle.std.proofs.lemmas.List.{append-nil, take_more}
 use Rattle.std.proofs.lemmas.List.Concat.{flat_map-append}
@@ -39,15 +34,6 @@ lent_taken f entries i entry within is =
 
 -- ---- versions
 
--- two versions are one where all three parts are
-same_version : (a b : Version) → is_eq (version_cmp a b) ≡ (eqb a.0 b.0 && bytes_eq a.1.now b.1.now && eqb a.2 b.2)
-same_version a b =
-    sym (tied_then (ordering_then (nat_cmp a.0 b.0) (slice_cmp nat_cmp a.1.now b.1.now)) (nat_cmp a.2 b.2))
-    ∙ ap (λ t. t && is_eq (nat_cmp a.2 b.2)) (sym (tied_then (nat_cmp a.0 b.0) (slice_cmp nat_cmp a.1.now b.1.now)))
-    ∙ ap (λ t. t && is_eq (slice_cmp nat_cmp a.1.now b.1.now) && is_eq (nat_cmp a.2 b.2)) (unsigned_tied a.0 b.0)
-    ∙ ap (λ t. eqb a.0 b.0 && t && is_eq (nat_cmp a.2 b.2)) (is_eq-slice_cmp a.1.now b.1.now)
-    ∙ ap (λ t. eqb a.0 b.0 && bytes_eq a.1.now b.1.now && t) (unsigned_tied a.2 b.2)
-
 -- the version of an item; where its key stands tells nothing
 abbrev pub version_of : Held → Version
 version_of item = (item.table, record { ref_ptr = (0, 0); now = item.key }, item.version)
@@ -55,21 +41,7 @@ version_of item = (item.table, record { ref_ptr = (0, 0); now = item.key }, item
 -- a set with one more version
 pub version_noted : (old new : BTreeSet Version) (items : List Held) (item : Held)
     → Updates version_cmp old new (version_of item) true → HasVersions old items → HasVersions new (items ++ item ∷ [])
-version_noted old new items item updates were q =
-    updates.0 q
-    ∙ ap (λ (b : Bool). cond b true (contains version_cmp old q)) (same_version (version_of item) q)
-    ∙ ap (λ (b : Bool). cond (here item) true b) (were q)
-    ∙ either (here item) (list_any here items)
-    ∙ sym (list_any-append here items (item ∷ []))
-  where
-    here : Held → Bool
-    here other = eqb other.table q.0 && bytes_eq other.key q.1.now && eqb other.version q.2
-
-    either : (a b : Bool) → cond a true b ≡ (b || (a || false))
-    either true true = refl
-    either true false = refl
-    either false true = refl
-    either false false = refl
+version_noted old new items item updates were q = grind (arith, list_any-append, eqb, is_eq-slice_cmp, updates.0, q.0, q.1.now, q.2)
 
 -- a set without versions is that of no items
 pub no_versions : (set : BTreeSet Version) → set.keys ≡ [] → HasVersions set []

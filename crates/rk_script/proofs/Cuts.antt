@@ -1,6 +1,6 @@
 -- Bytes that are cut at the first line feed.
-use Rattle.std.proofs.Common.{◌≡◌, ℕ, ◌+◌, ◌<◌, ◌≤◌, List, ◌∷◌, ◌++◌, length, get_or, take, drop, Bool, true, false, cond, refl, subst, ap, ◌∙◌, arith}
-use Rattle.std.specs.Prelude.{◌==◌, Some, None, nat_lt, position}
+use Rattle.std.proofs.Common.{◌≡◌, ℕ, ◌+◌, ◌<◌, List, ◌∷◌, ◌++◌, length, get_or, take, drop, Bool, true, false, cond, refl, subst, ap, ◌∙◌, arith}
+use Rattle.std.specs.Prelude.{◌==◌, Some, None, position}
 use Rattle.std.specs.List.{after_first, before_first, position_or_len}
 use Rattle.std.proofs.lemmas.Grind.{common_steps}
 use Rattle.std.proofs.lemmas.List.Sums.{fails_before_first, passes_at_first, split_at_first}
@@ -24,11 +24,7 @@ refused false n e = refl
 
 -- the place that `position` finds is that of the first line feed
 pub place_of : (xs : List ℕ) (i : ℕ) → position is_feed xs ≡ Some i → (position_or_len is_feed xs < length xs) × (position_or_len is_feed xs ≡ i)
-place_of xs i e =
-    let found : (nat_lt (position_or_len is_feed xs) (length xs) ≡ true) × (position_or_len is_feed xs ≡ i) =
-    chosen (nat_lt (position_or_len is_feed xs) (length xs)) (position_or_len is_feed xs) i e
-    in
-    (ltb-true (position_or_len is_feed xs) (length xs) found.0, found.1)
+place_of xs i e = grind (arith, chosen, ltb-true)
 
 -- a byte that passes is a line feed
 pub feed_is : (byte : ℕ) → (byte == LINE_FEED) ≡ true → byte ≡ LINE_FEED
@@ -52,8 +48,4 @@ line_before_position xs i e =
 
 -- bytes in which `position` finds nothing have no line feed
 pub line_without_position : (xs : List ℕ) → position is_feed xs ≡ None → IsWithinLine xs
-line_without_position xs e =
-    let all : length xs ≤ position_or_len is_feed xs =
-    ltb-false (position_or_len is_feed xs) (length xs) (refused (nat_lt (position_or_len is_feed xs) (length xs)) (position_or_len is_feed xs) e)
-    in
-    λ k d h. fails_before_first is_feed xs k d (omega arith)
+line_without_position xs e = grind (arith, ltb-false, refused, fails_before_first)

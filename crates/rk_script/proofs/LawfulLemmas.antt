@@ -1,20 +1,17 @@
 -- Commands that are read are lawful: a number is read where it is in its range, and what is made of readings keeps what holds of them.
-use Rattle.std.proofs.Common.{◌≡◌, ℕ, ◌+◌, ◌<◌, ◌≤◌, ◌&&◌, cond, List, [], ◌∷◌, length, refl, arith}
-use Rattle.std.specs.Prelude.{◌-◌, ◌^◌, ◌==◌, All, IfOk, IfSome, bytes_eq, codes, nat_le, nat_lt, slice_index, Option, Some, None, Result, Ok, Err}
+use Rattle.std.proofs.Common.{◌≡◌, ℕ, ◌+◌, ◌<◌, ◌≤◌, cond, List, [], ◌∷◌, length, arith}
+use Rattle.std.specs.Prelude.{◌-◌, ◌^◌, ◌==◌, All, IfOk, IfSome, bytes_eq, codes, nat_lt, slice_index, Option, Some, None, Result, Ok, Err}
 use Rattle.std.specs.Int.{IsInRange}
 use Rattle.std.specs.List.{list_any}
 use Rattle.std.specs.Str.Lines.{lines}
-use Rattle.std.specs.Str.Parse.{digits_value}
 use Rattle.std.proofs.lemmas.Bool.{cond_both, leb-true}
-use Rattle.std.proofs.lemmas.List.Elements.{All-cons, All-nil}
+use Rattle.std.proofs.lemmas.List.Elements.{All-nil}
 use Rattle.std.proofs.lemmas.Result.{IfOk-at_ok, IfOk-weaker}
 use Rattle.rk_types.specs.declared.call.Op.TheVariants as op
 use Rattle.rk_types.specs.declared.hashing.TheConstants.{LANES}
 use Rattle.rk_types.specs.declared.text.TextError.{TextError}
-use Rattle.rk_types.specs.declared.text.TextError.TheVariants.{Length, Byte, NoMemory}
-use Rattle.rk_types.specs.Text.{key_fault, value_fault}
 use Rattle.rk_script.specs.declared.code.Code.{Code}
-use Rattle.rk_script.specs.declared.code.Code.TheVariants.{BadByte, BadNumber, KeyLength, ScriptLength, ValueLength, WordCount}
+use Rattle.rk_script.specs.declared.code.Code.TheVariants.{BadByte, ScriptLength}
 use Rattle.rk_script.specs.declared.command.Command.{Command}
 use Rattle.rk_script.specs.declared.command.Command.TheVariants as command
 use Rattle.rk_script.specs.declared.command.Numbered.{Numbered}
@@ -22,16 +19,15 @@ use Rattle.rk_script.specs.declared.line.TheConstants.{COMMENT}
 use Rattle.rk_script.specs.declared.names.Keyword.{Keyword}
 use Rattle.rk_script.specs.declared.names.Keyword.TheVariants.{Masters, Backups, Table, Client, Serve, Repeat, Migrate, Priority, Split, Turn, Deliver, Forget, Crash, Notice, Settle, Where, Dump, History}
 use Rattle.rk_script.specs.declared.names.Operation.{Operation}
-use Rattle.rk_script.specs.declared.names.Operation.TheVariants.{Get, Put, CondPut, Delete}
-use Rattle.rk_script.specs.declared.numbers.TheConstants.{FEWEST_MASTERS, MOST_MASTERS, MOST_BACKUPS, MOST_TABLETS}
+use Rattle.rk_script.specs.declared.numbers.TheConstants.{MOST_MASTERS, MOST_BACKUPS, MOST_TABLETS}
 use Rattle.rk_script.specs.declared.script.ParseError.{ParseError}
 use Rattle.rk_script.specs.declared.script.ParseError.TheVariants.{Refused}
 use Rattle.rk_script.specs.declared.script.TheConstants.{LONGEST_SCRIPT}
-use Rattle.rk_script.specs.Commands.{advance_of, after, asked, call_of, call_with, command_of, key_of, last_value, made_of, made_of_both, one, op_of, plain_command, takes, text_of, two, value_of}
+use Rattle.rk_script.specs.Commands.{advance_of, after, asked, call_of, command_of, key_of, made_of, made_of_both, one, op_of, plain_command, text_of, two}
 use Rattle.rk_script.specs.Lawful.{HasLawfulValue, IsLawful, IsLawfulCommand, IsMasterNumber, IsTabletNumber}
 use Rattle.rk_script.specs.Lines.{is_bad, said_by, said_in, words_of}
-use Rattle.rk_script.specs.Names.{keyword_of, operation_of, reach_of}
-use Rattle.rk_script.specs.Numbers.{backups_of, client_of, hash_of, is_decimal, lane_of, master_of, masters_of, number_in, place_of, table_of, tablet_of, version_of}
+use Rattle.rk_script.specs.Names.{keyword_of}
+use Rattle.rk_script.specs.Numbers.{backups_of, client_of, hash_of, lane_of, master_of, number_in, place_of, table_of, tablet_of}
 use Rattle.rk_script.specs.Script.{before_others, commands_from, script_of}
 use Rattle.rk_script.proofs.Digits.{both_hold}
 
@@ -50,16 +46,10 @@ after-keeps P Q (Ok a) next keeps holds = keeps a holds
 after-keeps P Q (Err code) next keeps holds = tt
 
 pub one-keeps : {A : Type 0} (P : A → Type 0) (read : List ℕ → Result A Code) → ((word : List ℕ) → IfOk (read word) P) → (words : List (List ℕ)) → IfOk (one read words) P
-one-keeps P read holds [] = tt
-one-keeps P read holds (word ∷ []) = holds word
-one-keeps P read holds (word ∷ next ∷ words) = tt
+one-keeps P read holds words = grind arith
 
 pub two-keeps : {A B : Type 0} (P : A → Type 0) (Q : B → Type 0) (read_left : List ℕ → Result A Code) (read_right : List ℕ → Result B Code) → ((word : List ℕ) → IfOk (read_left word) P) → ((word : List ℕ) → IfOk (read_right word) Q) → (words : List (List ℕ)) → IfOk (two read_left read_right words) (λ both. P both.0 × Q both.1)
-two-keeps P Q read_left read_right left_holds right_holds [] = tt
-two-keeps P Q read_left read_right left_holds right_holds (left ∷ []) = tt
-two-keeps P Q read_left read_right left_holds right_holds (left ∷ right ∷ []) =
-    made_of_both-keeps P Q (λ both. P both.0 × Q both.1) (λ a b. (a, b)) (read_left left) (read_right right) (λ a b p q. (p, q)) (left_holds left) (right_holds right)
-two-keeps P Q read_left read_right left_holds right_holds (left ∷ right ∷ next ∷ words) = tt
+two-keeps P Q read_left read_right left_holds right_holds words = grind (arith, made_of_both-keeps)
 
 -- nothing is asked of what is read
 pub free : {A E : Type 0} (read : Result A E) → IfOk read (λ a. Unit {0})
@@ -70,14 +60,7 @@ free (Err e) = tt
 
 -- a number that is read is of its range
 pub number_in-range : (least most : ℕ) (word : List ℕ) → IfOk (number_in least most word) (IsInRange least most)
-number_in-range least most word =
-    let n : ℕ = digits_value 10 word in
-    cond_both (is_decimal word && nat_le least n && nat_le n most) (Ok n) (Err BadNumber) (λ read. IfOk read (IsInRange least most))
-    (λ tests.
-    let last = both_hold (is_decimal word && nat_le least n) (nat_le n most) tests in
-    let first = both_hold (is_decimal word) (nat_le least n) last.0 in
-    (leb-true least n first.1, leb-true n most last.1))
-    (λ refused. tt)
+number_in-range least most word = grind (arith, cond_both, both_hold, leb-true)
 
 -- a number that is read is no less than the least
 number_in-least : (least most : ℕ) (word : List ℕ) → IfOk (number_in least most word) (λ n. least ≤ n)
@@ -111,17 +94,13 @@ of_one : (P : ℕ → Type 0) (make : ℕ → Command) (read : List ℕ → Resu
 of_one P make read keeps holds words = made_of-keeps P IsLawfulCommand make (one read words) keeps (one-keeps P read holds words)
 
 of_two : (P Q : ℕ → Type 0) (make : ℕ → ℕ → Command) (read_left read_right : List ℕ → Result ℕ Code) → ((a b : ℕ) → P a → Q b → IsLawfulCommand (make a b)) → ((word : List ℕ) → IfOk (read_left word) P) → ((word : List ℕ) → IfOk (read_right word) Q) → (words : List (List ℕ)) → IfOk (made_of (λ p. make p.0 p.1) (two read_left read_right words)) IsLawfulCommand
-of_two P Q make read_left read_right keeps left_holds right_holds words =
-    made_of-keeps (λ p. P p.0 × Q p.1) IsLawfulCommand (λ p. make p.0 p.1) (two read_left read_right words)
-    (λ p holds. keeps p.0 p.1 holds.0 holds.1) (two-keeps P Q read_left read_right left_holds right_holds words)
+of_two P Q make read_left read_right keeps left_holds right_holds words = grind (arith, made_of-keeps, two-keeps)
 
 -- a command is lawful, whatever its name and the words after it
 plain_command-lawful : (keyword : Keyword) (words : List (List ℕ)) → IfOk (plain_command keyword words) IsLawfulCommand
-plain_command-lawful Masters words =
-    of_one (IsInRange FEWEST_MASTERS MOST_MASTERS) command.Masters masters_of (λ n range. range) (number_in-range FEWEST_MASTERS MOST_MASTERS) words
+plain_command-lawful Masters words = grind (arith, of_one, number_in-range)
 plain_command-lawful Backups words = of_one (IsInRange 1 MOST_BACKUPS) command.Backups backups_of (λ n range. range) (number_in-range 1 MOST_BACKUPS) words
-plain_command-lawful Table words =
-    of_two (λ table. 1 ≤ table) IsMasterNumber command.Table table_of master_of (λ a b p q. (p, q)) table_of-least master_of-range words
+plain_command-lawful Table words = grind (arith, of_two, table_of-least, master_of-range)
 plain_command-lawful Client words = of_one (λ client. 1 ≤ client) command.Client client_of (λ n range. range) client_of-least words
 plain_command-lawful Serve words = of_one (λ client. 1 ≤ client) command.Serve client_of (λ n range. range) client_of-least words
 plain_command-lawful Repeat words = of_one (λ client. 1 ≤ client) command.Repeat client_of (λ n range. range) client_of-least words
@@ -129,10 +108,8 @@ plain_command-lawful Migrate words = of_two IsTabletNumber IsMasterNumber comman
 plain_command-lawful Priority words = of_one IsTabletNumber command.Priority tablet_of (λ n range. range) tablet_of-range words
 plain_command-lawful Split words = of_two IsTabletNumber (λ hash. Unit {0}) command.Split tablet_of hash_of (λ a b p q. p) tablet_of-range (λ word. free (hash_of word)) words
 plain_command-lawful Turn words = of_one (λ lane. lane < LANES) command.Turn lane_of (λ n range. range) lane_of-below words
-plain_command-lawful Deliver words =
-    of_two (λ lane. lane < LANES) (λ place. 1 ≤ place) command.Deliver lane_of place_of (λ a b p q. (p, q)) lane_of-below place_of-least words
-plain_command-lawful Forget words =
-    of_two (λ lane. lane < LANES) (λ place. 1 ≤ place) command.Forget lane_of place_of (λ a b p q. (p, q)) lane_of-below place_of-least words
+plain_command-lawful Deliver words = grind (arith, of_two, lane_of-below, place_of-least)
+plain_command-lawful Forget words = grind (arith, of_two, lane_of-below, place_of-least)
 plain_command-lawful Crash words = of_one IsMasterNumber command.Crash master_of (λ n range. range) master_of-range words
 plain_command-lawful Notice words = of_one IsMasterNumber command.Notice master_of (λ n range. range) master_of-range words
 plain_command-lawful Settle [] = tt
@@ -146,44 +123,20 @@ plain_command-lawful History (word ∷ words) = tt
 advance_of-lawful : (words : List (List ℕ)) → IfOk (advance_of words) IsLawfulCommand
 advance_of-lawful [] = tt
 advance_of-lawful (tablet ∷ []) = tt
-advance_of-lawful (tablet ∷ reach ∷ more) =
-    after-keeps (λ r. Unit {0}) IsLawfulCommand (reach_of reach) (λ r. made_of (λ n. command.Advance n r) (one tablet_of (tablet ∷ more)))
-    (λ r nothing. of_one IsTabletNumber (λ n. command.Advance n r) tablet_of (λ n range. range) tablet_of-range (tablet ∷ more)) (free (reach_of reach))
+advance_of-lawful (tablet ∷ reach ∷ more) = grind (arith, after-keeps, of_one, tablet_of-range, free)
 
 -- ---- calls
 
 -- bytes are read as a text where they have no fault
 text_of-keeps : (P : List ℕ → Type 0) (code : Code) (bytes : List ℕ) (fault : Option TextError) → (fault ≡ None → P bytes) → IfOk (text_of code bytes fault) P
-text_of-keeps P code bytes None holds = holds refl
-text_of-keeps P code bytes (Some (Length count)) holds = tt
-text_of-keeps P code bytes (Some (Byte place)) holds = tt
-text_of-keeps P code bytes (Some NoMemory) holds = tt
-
-key_of-lawful : (word : List ℕ) → IfOk (key_of word) (λ key. key_fault key ≡ None)
-key_of-lawful word = text_of-keeps (λ key. key_fault key ≡ None) KeyLength word (key_fault word) (λ lawful. lawful)
-
-value_of-lawful : (word : List ℕ) → IfOk (value_of word) (λ value. value_fault value ≡ None)
-value_of-lawful word = text_of-keeps (λ value. value_fault value ≡ None) ValueLength word (value_fault word) (λ lawful. lawful)
-
-last_value-lawful : (words : List (List ℕ)) → IfOk (last_value words) (λ value. value_fault value ≡ None)
-last_value-lawful [] = refl
-last_value-lawful (word ∷ words) = value_of-lawful word
+text_of-keeps P code bytes fault holds = grind arith
 
 op_of-lawful : (operation : Operation) (words : List (List ℕ)) → IfOk (op_of operation words) HasLawfulValue
-op_of-lawful Get words = tt
-op_of-lawful Put words = made_of-keeps (λ value. value_fault value ≡ None) HasLawfulValue op.Put (last_value words) (λ value lawful. lawful) (last_value-lawful words)
-op_of-lawful CondPut [] = tt
-op_of-lawful CondPut (version ∷ words) =
-    made_of_both-keeps (λ v. Unit {0}) (λ value. value_fault value ≡ None) HasLawfulValue op.CondPut (version_of version) (last_value words)
-    (λ v value nothing lawful. lawful) (free (version_of version)) (last_value-lawful words)
-op_of-lawful Delete words = tt
+op_of-lawful operation words = grind (arith, made_of-keeps, made_of_both-keeps, free, text_of-keeps)
 
 -- a call, where its client and its table are read
 call-lawful : (operation : Operation) (c t : ℕ) (key : List ℕ) (words : List (List ℕ)) → 1 ≤ c → 1 ≤ t → IfOk (made_of_both (command.Call c t) (key_of key) (op_of operation words)) IsLawfulCommand
-call-lawful operation c t key words client table =
-    made_of_both-keeps (λ k. key_fault k ≡ None) HasLawfulValue IsLawfulCommand (command.Call c t) (key_of key) (op_of operation words)
-    (λ k o k_lawful o_lawful. record { client_is = client; table_is = table; key_is = k_lawful; op_is = o_lawful })
-    (key_of-lawful key) (op_of-lawful operation words)
+call-lawful operation c t key words client table = grind (arith, made_of_both-keeps, op_of-lawful, text_of-keeps)
 
 asked-lawful : (operation : Operation) (client table key : List ℕ) (words : List (List ℕ)) → IfOk (asked operation client table key words) IsLawfulCommand
 asked-lawful operation client table key words =
@@ -193,19 +146,8 @@ asked-lawful operation client table key words =
     (λ t t_lawful. call-lawful operation c t key words c_lawful t_lawful) (table_of-least table))
     (client_of-least client)
 
-call_with-lawful : (operation : Operation) (client : List ℕ) (words : List (List ℕ)) → IfOk (call_with operation client words) IsLawfulCommand
-call_with-lawful operation client [] = tt
-call_with-lawful operation client (table ∷ []) = tt
-call_with-lawful operation client (table ∷ key ∷ words) =
-    cond_both (takes operation (length words)) (asked operation client table key words) (Err WordCount) (λ read. IfOk read IsLawfulCommand)
-    (λ taken. asked-lawful operation client table key words) (λ refused. tt)
-
 call_of-lawful : (words : List (List ℕ)) → IfOk (call_of words) IsLawfulCommand
-call_of-lawful [] = tt
-call_of-lawful (client ∷ []) = tt
-call_of-lawful (client ∷ operation ∷ words) =
-    after-keeps (λ o. Unit {0}) IsLawfulCommand (operation_of operation) (λ o. call_with o client words)
-    (λ o nothing. call_with-lawful o client words) (free (operation_of operation))
+call_of-lawful words = grind (arith, after-keeps, free, cond_both, asked-lawful)
 
 -- ---- lines
 
@@ -237,11 +179,7 @@ said_in-lawful line (name ∷ words) =
 -- ---- scripts
 
 before_others-lawful : (line : ℕ) (said : Result (Option Command) Code) (others : Result (List Numbered) ParseError) → 1 ≤ line → IfOk said (λ o. IfSome o IsLawfulCommand) → IfOk others (All IsLawful) → IfOk (before_others line said others) (All IsLawful)
-before_others-lawful line (Err code) others first lawful rest = tt
-before_others-lawful line (Ok None) others first lawful rest = rest
-before_others-lawful line (Ok (Some command)) (Ok others) first lawful rest =
-    All-cons IsLawful (record { line = line; command = command }) others (record { line = first; command = lawful }) rest
-before_others-lawful line (Ok (Some command)) (Err error) first lawful rest = tt
+before_others-lawful line said others first lawful rest = grind arith
 
 commands_from-lawful : (line : ℕ) (texts : List (List ℕ)) → 1 ≤ line → IfOk (commands_from line texts) (All IsLawful)
 commands_from-lawful line [] first = All-nil IsLawful

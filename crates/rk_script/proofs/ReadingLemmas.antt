@@ -1,8 +1,7 @@
 -- A script is read line by line: what is read settles what the whole comes to, whatever follows.
 use Rattle.std.proofs.Common.{◌≡◌, ◌≢◌, false, ℕ, ◌+◌, ◌<◌, List, [], ◌∷◌, ◌++◌, length, refl, sym, ◌∙◌, ap, arith, append_assoc, append-nil, ne_eqb}
-use Rattle.std.specs.Prelude.{◌==◌, Option, Some, None, Result, Ok, Err}
+use Rattle.std.specs.Prelude.{◌==◌, Option, Result, Ok, Err}
 use Rattle.std.specs.Str.Lines.{lines, lines_of_parts, strip_carriage_return}
-use Rattle.std.specs.List.{slice_split}
 use Rattle.std.proofs.lemmas.List.Elements.{All-append}
 use Rattle.std.proofs.lemmas.List.Splits.{length-slice_split, slice_split_at, slice_split_none}
 use Rattle.rk_script.specs.declared.code.Code.{Code}
@@ -23,19 +22,11 @@ lines_of_parts-step text (part ∷ parts) some = refl
 
 -- the lines, where the first is complete
 pub lines-cut : (text more : List ℕ) → IsWithinLine text → lines (text ++ LINE_FEED ∷ more) ≡ strip_carriage_return text ∷ lines more
-lines-cut text more opened =
-    ap lines_of_parts (slice_split_at is_feed text LINE_FEED more opened refl)
-    ∙ lines_of_parts-step text (slice_split is_feed more) (omega (arith, length-slice_split is_feed more))
-
--- what follows the last line feed is a line, if it is not empty
-pub lines-last : (text : List ℕ) → IsWithinLine text → length text ≢ 0 → lines text ≡ text ∷ []
-lines-last text opened some = ap lines_of_parts (slice_split_none is_feed text opened) ∙ rw (ne_eqb (length text) 0 some) refl
+lines-cut text more opened = grind (arith, slice_split_at, is_feed, lines_of_parts-step, length-slice_split)
 
 -- one more line is read
 pub after_commands-line : (done : List Numbered) (line : ℕ) (said : Option Command) (others : Result (List Numbered) ParseError) → after_commands done (before_others line (Ok said) others) ≡ after_commands (with_line done line said) others
-after_commands-line done line None others = refl
-after_commands-line done line (Some command) (Ok more) = ap Ok (sym (append_assoc done (record { line = line; command = command } ∷ []) more))
-after_commands-line done line (Some command) (Err error) = refl
+after_commands-line done line said others = grind (arith, append_assoc)
 
 -- what a script comes to, by what is read of it and by what follows
 abbrev pub answer : List Numbered → ℕ → List ℕ → Result (List Numbered) ParseError
@@ -56,38 +47,22 @@ answer-cut done line last text more opened within =
 -- a line is read
 pub answer-line : (done new : List Numbered) (line : ℕ) (last text more : List ℕ) → IsWithinLine last → IsWithinLine text
     → AddsLine done new line (strip_carriage_return (last ++ text)) → answer done line (last ++ (text ++ LINE_FEED ∷ more)) ≡ answer new (line + 1) more
-answer-line done new line last text more opened within adds =
-    answer-cut done line last text more opened within
-    ∙ ap (λ (said : Result (Option Command) Code). after_line done line said (lines more)) adds.1
-    ∙ after_commands-line done line adds.0 (commands_from (line + 1) (lines more))
-    ∙ ap (λ (all : List Numbered). after_commands all (commands_from (line + 1) (lines more))) (sym adds.2)
+answer-line done new line last text more opened within adds = grind (arith, answer-cut, after_commands-line)
 
 -- a line that is refused refuses the script
 pub refused-by_line : (e : ParseError) (done : List Numbered) (line : ℕ) (said : Result (Option Command) Code) (texts : List (List ℕ)) (whole : Result (List Numbered) ParseError)
     → whole ≡ after_line done line said texts → IsLineRefusal e line said → IsScriptRefusal e whole
-refused-by_line (Refused wrong code) done line said texts whole is told =
-    rw told.0 (is ∙ ap (λ (all : Result (Option Command) Code). after_line done line all texts) told.1)
-refused-by_line NoMemory done line said texts whole is told = tt
+refused-by_line e done line said texts whole is told = grind arith
 
 -- the last line, and none after it
 pub answer-last : (done : List Numbered) (line : ℕ) (last : List ℕ) → IsWithinLine last → length last ≢ 0
     → answer done line (last ++ []) ≡ after_line done line (said_by last) []
-answer-last done line last opened some =
-    ap (answer done line) (append-nil last) ∙ ap (λ (all : List (List ℕ)). after_commands done (commands_from line all)) (lines-last last opened some)
+answer-last done line last opened some = grind (arith, append-nil, slice_split_none, is_feed, ne_eqb)
 
 -- the last line is read
 pub answer-end : (done new : List Numbered) (line : ℕ) (last : List ℕ) → IsWithinLine last → length last ≢ 0 → AddsLine done new line last
     → answer done line (last ++ []) ≡ Ok new
-answer-end done new line last opened some adds =
-    answer-last done line last opened some
-    ∙ ap (λ (said : Result (Option Command) Code). after_line done line said []) adds.1
-    ∙ after_commands-line done line adds.0 (Ok [])
-    ∙ ap Ok (append-nil (with_line done line adds.0) ∙ sym adds.2)
-
--- nothing is left
-pub answer-none : (done : List Numbered) (line : ℕ) (last : List ℕ) → length last ≡ 0 → answer done line (last ++ []) ≡ Ok done
-answer-none done line [] none = ap Ok (append-nil done)
-answer-none done line (byte ∷ last) none = absurd (omega arith)
+answer-end done new line last opened some adds = grind (arith, answer-last, after_commands-line, append-nil)
 
 -- the first refusal, in the words of the caller
 pub refusal-is : (e : ParseError) (said : Result (List Numbered) ParseError) → IsScriptRefusal e said → e ≢ NoMemory → said ≡ Err e
@@ -101,10 +76,7 @@ Remains whole done line last rest = (more : List ℕ) → whole more ≡ answer 
 -- the next line of a piece is cut off
 pub Remains-cut : (whole : List ℕ → Result (List Numbered) ParseError) (done : List Numbered) (line : ℕ) (last rest text after : List ℕ) → Remains whole done line last rest
     → rest ≡ text ++ LINE_FEED ∷ after → (more : List ℕ) → whole more ≡ answer done line (last ++ (text ++ LINE_FEED ∷ (after ++ more)))
-Remains-cut whole done line last rest text after remains cut more =
-    remains more
-    ∙ ap (λ (bytes : List ℕ). answer done line (last ++ (bytes ++ more))) cut
-    ∙ ap (λ (bytes : List ℕ). answer done line (last ++ bytes)) (append_assoc text (LINE_FEED ∷ after) more)
+Remains-cut whole done line last rest text after remains cut more = grind (arith, append_assoc)
 
 -- it is read
 pub Remains-line : (whole : List ℕ → Result (List Numbered) ParseError) (done new : List Numbered) (line : ℕ) (last left rest text after : List ℕ) → Remains whole done line last rest
@@ -122,11 +94,3 @@ pub Remains-refused : (whole : List ℕ → Result (List Numbered) ParseError) (
 Remains-refused whole e done line last rest text after remains cut opened within told more =
     refused-by_line e done line (said_by (strip_carriage_return (last ++ text))) (lines (after ++ more)) (whole more)
     (Remains-cut whole done line last rest text after remains cut more ∙ answer-cut done line last text (after ++ more) opened within) told
-
--- the rest of a piece has no line feed
-pub Remains-kept : (whole : List ℕ → Result (List Numbered) ParseError) (done : List Numbered) (line : ℕ) (last left rest : List ℕ) → Remains whole done line last rest → left ≡ last ++ rest
-    → (more : List ℕ) → whole more ≡ answer done line (left ++ more)
-Remains-kept whole done line last left rest remains is more =
-    remains more
-    ∙ ap (answer done line) (sym (append_assoc last rest more))
-    ∙ ap (λ (bytes : List ℕ). answer done line (bytes ++ more)) (sym is)

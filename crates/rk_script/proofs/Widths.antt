@@ -1,31 +1,31 @@
 -- Commands that are read name numbers of their widths: a client has 32 bits, a table and a version 64.
-use Rattle.std.proofs.Common.{◌≡◌, ℕ, ◌+◌, ◌≤◌, cond, List, [], ◌∷◌, length}
+use Rattle.std.proofs.Common.{arith, ◌≡◌, ℕ, ◌+◌, ◌≤◌, cond, List, [], ◌∷◌, length}
 use Rattle.std.specs.Prelude.{◌-◌, ◌^◌, ◌==◌, All, IfOk, IfSome, bytes_eq, codes, nat_lt, slice_index, Option, Some, None, Result, Ok, Err}
 use Rattle.std.specs.Int.{IsInRange}
 use Rattle.std.specs.List.{list_any}
 use Rattle.std.specs.Str.Lines.{lines}
 use Rattle.std.proofs.lemmas.Bool.{cond_both}
-use Rattle.std.proofs.lemmas.List.Elements.{All-cons, All-nil}
+use Rattle.std.proofs.lemmas.List.Elements.{All-nil}
 use Rattle.std.proofs.lemmas.Result.{IfOk-at_ok, IfOk-weaker}
 use Rattle.rk_types.specs.declared.call.Op.{Op}
 use Rattle.rk_types.specs.declared.call.Op.TheVariants as op
 use Rattle.rk_script.specs.declared.code.Code.{Code}
-use Rattle.rk_script.specs.declared.code.Code.TheVariants.{BadByte, ScriptLength, WordCount}
+use Rattle.rk_script.specs.declared.code.Code.TheVariants.{BadByte, ScriptLength}
 use Rattle.rk_script.specs.declared.command.Command.{Command}
 use Rattle.rk_script.specs.declared.command.Command.TheVariants as command
 use Rattle.rk_script.specs.declared.command.Numbered.{Numbered}
 use Rattle.rk_script.specs.declared.line.TheConstants.{COMMENT}
 use Rattle.rk_script.specs.declared.names.Keyword.{Keyword}
-use Rattle.rk_script.specs.declared.names.Keyword.TheVariants.{Masters, Backups, Table, Client, Serve, Repeat, Migrate, Priority, Split, Turn, Deliver, Forget, Crash, Notice, Settle, Where, Dump, History}
+use Rattle.rk_script.specs.declared.names.Keyword.TheVariants.{Table, Client}
 use Rattle.rk_script.specs.declared.names.Operation.{Operation}
-use Rattle.rk_script.specs.declared.names.Operation.TheVariants.{Get, Put, CondPut, Delete}
+use Rattle.rk_script.specs.declared.names.Operation.TheVariants.{CondPut}
 use Rattle.rk_script.specs.declared.script.ParseError.{ParseError}
 use Rattle.rk_script.specs.declared.script.ParseError.TheVariants.{Refused}
 use Rattle.rk_script.specs.declared.script.TheConstants.{LONGEST_SCRIPT}
-use Rattle.rk_script.specs.Commands.{advance_of, after, asked, call_of, call_with, command_of, key_of, last_value, made_of, made_of_both, one, op_of, plain_command, takes, two}
-use Rattle.rk_script.specs.Lines.{is_bad, said_by, said_in, words_of}
-use Rattle.rk_script.specs.Names.{keyword_of, operation_of, reach_of}
-use Rattle.rk_script.specs.Numbers.{backups_of, client_of, hash_of, lane_of, master_of, masters_of, number_in, place_of, table_of, tablet_of, version_of}
+use Rattle.rk_script.specs.Commands.{advance_of, after, asked, call_of, command_of, key_of, made_of, made_of_both, op_of, plain_command}
+use Rattle.rk_script.specs.Lines.{is_bad, said_in}
+use Rattle.rk_script.specs.Names.{keyword_of}
+use Rattle.rk_script.specs.Numbers.{client_of, number_in, table_of}
 use Rattle.rk_script.specs.Script.{before_others, commands_from, script_of}
 use Rattle.rk_script.proofs.LawfulLemmas.{after-keeps, free, made_of-keeps, made_of_both-keeps, number_in-range, one-keeps, two-keeps}
 
@@ -52,9 +52,6 @@ client_of-most word = number_in-most 1 (2 ^ 32 - 1) word
 table_of-most : (word : List ℕ) → IfOk (table_of word) (λ table. table ≤ 2 ^ 64 - 1)
 table_of-most word = number_in-most 1 (2 ^ 64 - 1) word
 
-version_of-most : (word : List ℕ) → IfOk (version_of word) (λ version. version ≤ 2 ^ 64 - 1)
-version_of-most word = number_in-most 0 (2 ^ 64 - 1) word
-
 -- ---- plain commands
 
 -- a command of which nothing is asked
@@ -62,54 +59,16 @@ made_free : {A : Type 0} (make : A → Command) (read : Result A Code) → ((a :
 made_free make read has = made_of-keeps (λ a. Unit {0}) HasWidths make read (λ a nothing. has a) (free read)
 
 plain_command-widths : (keyword : Keyword) (words : List (List ℕ)) → IfOk (plain_command keyword words) HasWidths
-plain_command-widths Masters words = made_free command.Masters (one masters_of words) (λ n. tt)
-plain_command-widths Backups words = made_free command.Backups (one backups_of words) (λ n. tt)
-plain_command-widths Table words =
-    made_of-keeps (λ both. (both.0 ≤ 2 ^ 64 - 1) × Unit {0}) HasWidths (λ both. command.Table both.0 both.1) (two table_of master_of words) (λ both holds. holds.0)
-    (two-keeps (λ table. table ≤ 2 ^ 64 - 1) (λ master. Unit {0}) table_of master_of table_of-most (λ word. free (master_of word)) words)
-plain_command-widths Client words =
-    made_of-keeps (λ client. client ≤ 2 ^ 32 - 1) HasWidths command.Client (one client_of words) (λ client holds. holds)
-    (one-keeps (λ client. client ≤ 2 ^ 32 - 1) client_of client_of-most words)
-plain_command-widths Serve words = made_free command.Serve (one client_of words) (λ n. tt)
-plain_command-widths Repeat words = made_free command.Repeat (one client_of words) (λ n. tt)
-plain_command-widths Migrate words = made_free (λ both. command.Migrate both.0 both.1) (two tablet_of master_of words) (λ both. tt)
-plain_command-widths Priority words = made_free command.Priority (one tablet_of words) (λ n. tt)
-plain_command-widths Split words = made_free (λ both. command.Split both.0 both.1) (two tablet_of hash_of words) (λ both. tt)
-plain_command-widths Turn words = made_free command.Turn (one lane_of words) (λ n. tt)
-plain_command-widths Deliver words = made_free (λ both. command.Deliver both.0 both.1) (two lane_of place_of words) (λ both. tt)
-plain_command-widths Forget words = made_free (λ both. command.Forget both.0 both.1) (two lane_of place_of words) (λ both. tt)
-plain_command-widths Crash words = made_free command.Crash (one master_of words) (λ n. tt)
-plain_command-widths Notice words = made_free command.Notice (one master_of words) (λ n. tt)
-plain_command-widths Settle [] = tt
-plain_command-widths Settle (word ∷ words) = tt
-plain_command-widths Where words = made_free command.Where (one tablet_of words) (λ n. tt)
-plain_command-widths Dump words = made_free command.Dump (one tablet_of words) (λ n. tt)
-plain_command-widths History [] = tt
-plain_command-widths History (word ∷ words) = tt
+plain_command-widths keyword words = grind (arith, made_free, made_of-keeps, two-keeps, table_of-most, free, one-keeps, client_of-most)
 
 advance_of-widths : (words : List (List ℕ)) → IfOk (advance_of words) HasWidths
-advance_of-widths [] = tt
-advance_of-widths (tablet ∷ []) = tt
-advance_of-widths (tablet ∷ reach ∷ more) =
-    after-keeps (λ r. Unit {0}) HasWidths (reach_of reach) (λ r. made_of (λ n. command.Advance n r) (one tablet_of (tablet ∷ more)))
-    (λ r nothing. made_free (λ n. command.Advance n r) (one tablet_of (tablet ∷ more)) (λ n. tt)) (free (reach_of reach))
+advance_of-widths words = grind (arith, after-keeps, made_free, free)
 
 -- ---- calls
 
-op_of-version : (operation : Operation) (words : List (List ℕ)) → IfOk (op_of operation words) HasVersion
-op_of-version Get words = tt
-op_of-version Put words = made_of-keeps (λ value. Unit {0}) HasVersion op.Put (last_value words) (λ value nothing. tt) (free (last_value words))
-op_of-version CondPut [] = tt
-op_of-version CondPut (version ∷ words) =
-    made_of_both-keeps (λ v. v ≤ 2 ^ 64 - 1) (λ value. Unit {0}) HasVersion op.CondPut (version_of version) (last_value words)
-    (λ v value holds nothing. holds) (version_of-most version) (free (last_value words))
-op_of-version Delete words = tt
-
 call-widths : (operation : Operation) (c t : ℕ) (key : List ℕ) (words : List (List ℕ)) → c ≤ 2 ^ 32 - 1 → t ≤ 2 ^ 64 - 1
     → IfOk (made_of_both (command.Call c t) (key_of key) (op_of operation words)) HasWidths
-call-widths operation c t key words client table =
-    made_of_both-keeps (λ k. Unit {0}) HasVersion HasWidths (command.Call c t) (key_of key) (op_of operation words)
-    (λ k o nothing version. (client, table, version)) (free (key_of key)) (op_of-version operation words)
+call-widths operation c t key words client table = grind (arith, made_of_both-keeps, free, made_of-keeps, number_in-most)
 
 asked-widths : (operation : Operation) (client table key : List ℕ) (words : List (List ℕ)) → IfOk (asked operation client table key words) HasWidths
 asked-widths operation client table key words =
@@ -119,19 +78,8 @@ asked-widths operation client table key words =
     (λ t t_most. call-widths operation c t key words c_most t_most) (table_of-most table))
     (client_of-most client)
 
-call_with-widths : (operation : Operation) (client : List ℕ) (words : List (List ℕ)) → IfOk (call_with operation client words) HasWidths
-call_with-widths operation client [] = tt
-call_with-widths operation client (table ∷ []) = tt
-call_with-widths operation client (table ∷ key ∷ words) =
-    cond_both (takes operation (length words)) (asked operation client table key words) (Err WordCount) (λ read. IfOk read HasWidths)
-    (λ taken. asked-widths operation client table key words) (λ refused. tt)
-
 call_of-widths : (words : List (List ℕ)) → IfOk (call_of words) HasWidths
-call_of-widths [] = tt
-call_of-widths (client ∷ []) = tt
-call_of-widths (client ∷ operation ∷ words) =
-    after-keeps (λ o. Unit {0}) HasWidths (operation_of operation) (λ o. call_with o client words)
-    (λ o nothing. call_with-widths o client words) (free (operation_of operation))
+call_of-widths words = grind (arith, after-keeps, free, cond_both, asked-widths)
 
 -- ---- lines
 
@@ -167,16 +115,11 @@ HasWidthsAt numbered = HasWidths numbered.command
 
 before_others-widths : (line : ℕ) (said : Result (Option Command) Code) (others : Result (List Numbered) ParseError) → IfOk said (λ o. IfSome o HasWidths)
     → IfOk others (All HasWidthsAt) → IfOk (before_others line said others) (All HasWidthsAt)
-before_others-widths line (Err code) others here rest = tt
-before_others-widths line (Ok None) others here rest = rest
-before_others-widths line (Ok (Some command)) (Ok others) here rest =
-    All-cons HasWidthsAt (record { line = line; command = command }) others here rest
-before_others-widths line (Ok (Some command)) (Err error) here rest = tt
+before_others-widths line said others here rest = grind arith
 
 commands_from-widths : (line : ℕ) (texts : List (List ℕ)) → IfOk (commands_from line texts) (All HasWidthsAt)
 commands_from-widths line [] = All-nil HasWidthsAt
-commands_from-widths line (text ∷ texts) =
-    before_others-widths line (said_by text) (commands_from (line + 1) texts) (said_in-widths text (words_of text)) (commands_from-widths (line + 1) texts)
+commands_from-widths line (text ∷ texts) = grind (arith, before_others-widths, said_in-widths, (commands_from-widths (line + 1) texts))
 
 -- the commands of a script do
 pub script_of-widths : (script : List ℕ) (commands : List Numbered) → script_of script ≡ Ok commands → All HasWidthsAt commands

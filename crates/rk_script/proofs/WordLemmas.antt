@@ -6,43 +6,17 @@ use Rattle.rk_script.specs.declared.code.Code.{Code}
 use Rattle.rk_script.specs.declared.code.Code.TheVariants.{WordCount}
 use Rattle.rk_script.specs.declared.line.TheConstants.{MOST_WORDS}
 use Rattle.rk_script.specs.declared.names.Keyword.{Keyword}
-use Rattle.rk_script.specs.declared.names.Keyword.TheVariants.{Masters, Backups, Table, Client, Serve, Repeat, Migrate, Priority, Split, Turn, Deliver, Forget, Crash, Notice, Settle, Where, Dump, History}
 use Rattle.rk_script.specs.declared.names.Operation.{Operation}
-use Rattle.rk_script.specs.declared.names.Operation.TheVariants.{Get, Put, CondPut, Delete}
 use Rattle.rk_script.specs.Names.{keyword_of, operation_of}
-use Rattle.rk_script.specs.Commands.{advance_of, after, call_of, call_with, command_of, plain_command, takes}
+use Rattle.rk_script.specs.Commands.{advance_of, after, call_of, call_with, command_of, plain_command}
 use Rattle.rk_script.specs.Lines.{said_in}
 
 -- three words are too many after the name of a plain command
 pub plain_command-many : (keyword : Keyword) (a b c : List ℕ) (more : List (List ℕ)) → plain_command keyword (a ∷ b ∷ c ∷ more) ≡ Err WordCount
-plain_command-many Masters a b c more = refl
-plain_command-many Backups a b c more = refl
-plain_command-many Table a b c more = refl
-plain_command-many Client a b c more = refl
-plain_command-many Serve a b c more = refl
-plain_command-many Repeat a b c more = refl
-plain_command-many Migrate a b c more = refl
-plain_command-many Priority a b c more = refl
-plain_command-many Split a b c more = refl
-plain_command-many Turn a b c more = refl
-plain_command-many Deliver a b c more = refl
-plain_command-many Forget a b c more = refl
-plain_command-many Crash a b c more = refl
-plain_command-many Notice a b c more = refl
-plain_command-many Settle a b c more = refl
-plain_command-many Where a b c more = refl
-plain_command-many Dump a b c more = refl
-plain_command-many History a b c more = refl
-
--- three words are too many after the key of a call
-pub takes-many : (operation : Operation) (count : ℕ) → 3 ≤ count → takes operation count ≡ false
-takes-many Get count many = grind (arith, nat_tests)
-takes-many Put count many = grind (arith, nat_tests)
-takes-many CondPut count many = grind (arith, nat_tests)
-takes-many Delete count many = grind (arith, nat_tests)
+plain_command-many keyword a b c more = grind arith
 
 pub call_with-many : (operation : Operation) (client table key : List ℕ) (words : List (List ℕ)) → 3 ≤ length words → call_with operation client (table ∷ key ∷ words) ≡ Err WordCount
-call_with-many operation client table key words many = rw (takes-many operation (length words) many) refl
+call_with-many operation client table key words many = grind (arith, nat_tests)
 
 -- what leads to the same is the same
 pub after-same : {A B : Type 0} (said : Result A Code) (f g : A → Result B Code) → ((a : A) → f a ≡ g a) → after said f ≡ after said g
@@ -75,12 +49,4 @@ command_of-many name a b c d e f g more =
 
 -- the first words of a line say what all of them say
 pub said_in-take : (line : List ℕ) (words : List (List ℕ)) → said_in line (take MOST_WORDS words) ≡ said_in line words
-said_in-take line [] = refl
-said_in-take line (a ∷ []) = refl
-said_in-take line (a ∷ b ∷ []) = refl
-said_in-take line (a ∷ b ∷ c ∷ []) = refl
-said_in-take line (a ∷ b ∷ c ∷ d ∷ []) = refl
-said_in-take line (a ∷ b ∷ c ∷ d ∷ e ∷ []) = refl
-said_in-take line (a ∷ b ∷ c ∷ d ∷ e ∷ f ∷ []) = refl
-said_in-take line (a ∷ b ∷ c ∷ d ∷ e ∷ f ∷ g ∷ []) = refl
-said_in-take line (name ∷ a ∷ b ∷ c ∷ d ∷ e ∷ f ∷ g ∷ more) = rw (command_of-many name a b c d e f g more) refl
+said_in-take line words = grind (arith, command_of-many)

@@ -4,10 +4,7 @@ use Rattle.std.specs.List.{filter}
 
 -- one more that a filter may keep, before lists that are no longer than one another
 more_kept : {X : Type 0} (a b : Bool) (x : X) (xs ys : List X) → (b ≡ true → a ≡ true) → length ys ≤ length xs → length (cond b (x ∷ ys) ys) ≤ length (cond a (x ∷ xs) xs)
-more_kept true true x xs ys keeps short = omega (arith, short)
-more_kept true false x xs ys keeps short = omega (arith, short)
-more_kept false true x xs ys keeps short = let never : false ≡ true = keeps refl in cc
-more_kept false false x xs ys keeps short = short
+more_kept a b x xs ys keeps short = grind arith
 
 -- a filter that keeps what another one keeps, and maybe more, leaves no shorter a list
 pub filter_longer : {X : Type 0} (p q : X → Bool) → ((x : X) → q x ≡ true → p x ≡ true) → (xs : List X) → length (filter q xs) ≤ length (filter p xs)

@@ -1,5 +1,5 @@
 -- The session once its call is answered.
-use Rattle.std.proofs.Common.{◌≡◌, ℕ, max, List, [], ◌∷◌, ◌++◌, Option, None, ◌∙◌, ap}
+use Rattle.std.proofs.Common.{arith, ◌≡◌, ℕ, max, List, [], ◌∷◌, ◌++◌, Option, None}
 use Rattle.rk_types.specs.declared.call.Call.{Call}
 use Rattle.rk_types.specs.declared.call.Outcome.{Outcome}
 use Rattle.rk_types.specs.declared.history.Receipt.{Receipt}
@@ -10,6 +10,4 @@ use Rattle.rk_world.specs.Client.{Session, done, receipt_of}
 pub finished : (before now : Session) (call : Call) (reply : Reply) (outcome : Outcome) (receipts : List Receipt) (outstanding : Option Call) (seen : ℕ) → before ≡ now
     → receipts ≡ before.receipts ++ receipt_of call reply outcome ∷ [] → outstanding ≡ None → seen ≡ max before.seen reply.stamp
     → record before { receipts = receipts; outstanding = outstanding; seen = seen } ≡ done now call reply outcome
-finished before now call reply outcome receipts outstanding seen same is_receipts is_none is_seen =
-    (λ i. record before { receipts = is_receipts i; outstanding = is_none i; seen = is_seen i })
-    ∙ ap (λ (session : Session). done session call reply outcome) same
+finished before now call reply outcome receipts outstanding seen same is_receipts is_none is_seen = grind arith

@@ -1,11 +1,8 @@
 -- The ranges of one lane change: what is cached then, and the room that is left.
-use Rattle.std.proofs.Common.{◌≡◌, ℕ, ◌≤◌, ◌<◌, Bool, true, false, cond, not, List, [], ◌∷◌, ◌++◌, length, Option, Some, None, refl, sym, ap, ◌∙◌, subst, arith, get_or, set}
+use Rattle.std.proofs.Common.{◌≡◌, ℕ, ◌≤◌, ◌<◌, true, not, List, [], ◌++◌, length, sym, ap, ◌∙◌, subst, arith, get_or, set}
 use Rattle.std.proofs.lemmas.Bool.Decides.{nat_tests}
 use Rattle.std.proofs.lemmas.List.{append-nil, map-set, set-get_or, get_or-map, get_or_default, get_or-set_same}
 use Rattle.std.proofs.lemmas.List.Elements.{filter-append}
-use Rattle.rk_types.specs.Range.{has, meets}
-use Rattle.rk_types.specs.Hashing.{hash_of}
-use Rattle.rk_types.specs.declared.range.Range.{Range}
 use Rattle.rk_types.specs.declared.call.Call.{Call}
 use Rattle.rk_message.specs.declared.calls.Located.{Located}
 use Rattle.rk_world.specs.Client.{call_lane, has_call, owned_range}
@@ -16,50 +13,18 @@ use Rattle.rk_session.proofs.Filters.{length-filter_le, filter_longer, filter_tw
 abbrev pub none_cached : Cached
 none_cached = record { ranges = []; capacity = 0 }
 
--- two ranges with a hash in common meet
-pub meets_at : (a b : Range) (table hash : ℕ) → has a table hash ≡ true → has b table hash ≡ true → meets a b ≡ true
-meets_at a b table hash in_a in_b = grind (arith, nat_tests, in_a, in_b)
-
--- a range that does not meet one with the key of a call does not have that key
-pub apart_lacks : (call : Call) (located other : Located) → has_call call located ≡ true → not (meets other.range located.range) ≡ true → not (has_call call other) ≡ true
-apart_lacks call located other its apart = go (has_call call other) refl
-  where
-    go : (b : Bool) → has_call call other ≡ b → not b ≡ true
-    go false is = refl
-    go true is =
-        let met : meets other.range located.range ≡ true = meets_at other.range located.range call.table (hash_of call.key) is its in
-        let not_met : not (meets other.range located.range) ≡ false = ap not met in
-        cc
-
 -- there is room for a range with the key of a call, once those that it meets are gone
 pub room_to_put : (call : Call) (located : Located) (cached : Cached) → has_call call located ≡ true → IsRoomy call cached → length (apart_from located cached.ranges) < cached.capacity
-room_to_put call located cached its roomy =
-    omega (arith, roomy, filter_longer (λ other. not (has_call call other)) (λ other. not (meets other.range located.range)) (λ other apart. apart_lacks call located other its apart) cached.ranges)
+room_to_put call located cached its roomy = grind (arith, filter_longer, nat_tests, located.range, cached.ranges)
 
 -- the room stays where the ranges with the key are dropped
 pub room_forgotten : (call : Call) (old new : Cached) → new.ranges ≡ without_call call old.ranges → new.capacity ≡ old.capacity → IsRoomy call old → IsRoomy call new
-room_forgotten call old new ranges capacity roomy =
-    let p : Located → Bool = λ other. not (has_call call other) in
-    let same : length (without_call call new.ranges) ≡ length (without_call call (without_call call old.ranges)) = ap (λ l. length (without_call call l)) ranges in
-    omega (arith, roomy, capacity, same, filter_twice p p old.ranges)
-
--- a range with the key of a call does not count for its room
-put_lacks : (call : Call) (located : Located) (owner : Option ℕ) → has_call call located ≡ true → without_call call (owned_range located owner) ≡ []
-put_lacks call located None its = refl
-put_lacks call located (Some master) its = ap (λ b. cond (not b) (located ∷ []) []) its
+room_forgotten call old new ranges capacity roomy = grind (arith, filter_twice)
 
 -- the room stays where a range with the key is put
 pub room_put : (call : Call) (located : Located) (old new : Cached) → has_call call located ≡ true
     → new.ranges ≡ apart_from located old.ranges ++ owned_range located located.owner → old.capacity ≤ new.capacity → IsRoomy call old → IsRoomy call new
-room_put call located old new its ranges capacity roomy =
-    let p : Located → Bool = λ other. not (has_call call other) in
-    let q : Located → Bool = λ other. not (meets other.range located.range) in
-    let parts : without_call call new.ranges ≡ without_call call (apart_from located old.ranges) ++ [] =
-    ap (without_call call) ranges
-    ∙ filter-append p (apart_from located old.ranges) (owned_range located located.owner)
-    ∙ ap (λ l. without_call call (apart_from located old.ranges) ++ l) (put_lacks call located located.owner its) in
-    let same : length (without_call call new.ranges) ≡ length (without_call call (apart_from located old.ranges)) = ap length parts ∙ ap length (append-nil (without_call call (apart_from located old.ranges))) in
-    omega (arith, roomy, capacity, same, filter_twice p q old.ranges)
+room_put call located old new its ranges capacity roomy = grind (arith, filter-append, append-nil, filter_twice)
 
 -- what is read at the lane of a call is roomy, where that lane has room
 pub read_room : (call : Call) (lanes : List Cached) (lane : ℕ) (d : Cached) → lane ≡ call_lane call → lane < length lanes → HasRoom call lanes → IsRoomy call (get_or lanes lane d)
@@ -68,22 +33,15 @@ read_room call lanes lane d at within room =
 
 -- the lane of a call has room once something roomy stands there
 pub set_room : (call : Call) (lanes : List Cached) (lane : ℕ) (new : Cached) → lane ≡ call_lane call → lane < length lanes → IsRoomy call new → HasRoom call (set lanes lane new)
-set_room call lanes lane new at within roomy =
-    let there : get_or (set lanes lane new) (call_lane call) none_cached ≡ new = ap (λ i. get_or (set lanes lane new) i none_cached) (sym at) ∙ get_or-set_same lanes lane new none_cached within in
-    subst (IsRoomy call) (sym there) roomy
+set_room call lanes lane new at within roomy = grind (arith, get_or-set_same)
 
 -- the ranges that are read at the lane of a call
 pub read_ranges : (call : Call) (lanes : List Cached) (lane : ℕ) (d : Cached) → lane ≡ call_lane call → lane < length lanes → (get_or lanes lane d).ranges ≡ ranges_for call (ranges_of lanes)
-read_ranges call lanes lane d at within =
-    sym (get_or-map (λ (cached : Cached). cached.ranges) lanes lane d [] within)
-    ∙ ap (λ i. get_or (ranges_of lanes) i []) at
+read_ranges call lanes lane d at within = grind (arith, get_or-map)
 
 -- what is cached once the ranges of the lane of a call are others
 pub set_ranges : (call : Call) (lanes : List Cached) (lane : ℕ) (new : Cached) (ranges : List Located) → lane ≡ call_lane call → new.ranges ≡ ranges → ranges_of (set lanes lane new) ≡ set (ranges_of lanes) (call_lane call) ranges
-set_ranges call lanes lane new ranges at is =
-    map-set (λ (cached : Cached). cached.ranges) lanes lane new
-    ∙ ap (λ i. set (ranges_of lanes) i new.ranges) at
-    ∙ ap (λ r. set (ranges_of lanes) (call_lane call) r) is
+set_ranges call lanes lane new ranges at is = grind (arith, map-set)
 
 -- what is cached stays where those ranges stay
 pub same_ranges : (lanes : List Cached) (lane : ℕ) (d new : Cached) → lane < length lanes → new.ranges ≡ (get_or lanes lane d).ranges → ranges_of (set lanes lane new) ≡ ranges_of lanes

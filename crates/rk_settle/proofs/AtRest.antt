@@ -1,5 +1,5 @@
 -- Where `settle` ends its cluster is at rest.
-use Rattle.rk_settle.proofs.Words.{◌≡◌, Bool, true, false, List, [], ◌∷◌, ◌++◌, map, refl, sym, subst, ◌∙◌, append_assoc, append-nil}
+use Rattle.rk_settle.proofs.Words.{arith, ◌≡◌, Bool, true, false, List, [], ◌∷◌, ◌++◌, map, refl, sym, ◌∙◌, append_assoc, append-nil}
 use Rattle.rk_settle.proofs.Words.{flat_map, Cluster, Occurrence, Acted, all_acted, is_lost_at_backup, deliver_in_makes, Fate, Course}
 use Rattle.rk_settle.proofs.Words.{act_makes, course_of, is_at_limit, moved, moved_all, moved_by, occurring, occurring_by, round_over}
 use Rattle.rk_settle.proofs.Words.{with_tasks, is_at_rest, lane_numbers, lane_tasks, settle, round_of, unfolded, Task}
@@ -30,8 +30,7 @@ last_by course false is =
 
 occurs_by : (course : Course) (failed : Bool) (front : List Task) (came : Acted) (worn : Option ℕ) → IsSettling course
     → IsSettling (occurring_by course failed (front ++ tasks.Settles ∷ []) came worn)
-occurs_by course failed front came None is =
-    settling (occurring_by course failed (front ++ tasks.Settles ∷ []) came None) front refl
+occurs_by course failed front came None is = grind (arith, settling, occurring_by)
 occurs_by course failed front came (Some number) is = is
 
 occurs : (course : Course) (occurrences : List Occurrence) (failed : Bool) (front : List Task) → IsSettling course
@@ -48,8 +47,7 @@ begins_by course front false is = settling (with_tasks course (front ++ tasks.Se
 by_tasks : (course : Course) (fate : Fate) (front : List Task) → IsSettling course → IsSettling (moved_by course fate (front ++ tasks.Settles ∷ []))
 by_tasks course fate [] is = last_by course (is_at_rest course.cluster) refl
 by_tasks course fate (tasks.Occurs lane act ∷ front) is = occurs course (act_makes course.cluster lane act) false front is
-by_tasks course fate (tasks.Delivers lane number ∷ front) is =
-    occurs course (deliver_in_makes course.cluster lane number fate) (is_lost_at_backup course.cluster lane number fate) front is
+by_tasks course fate (tasks.Delivers lane number ∷ front) is = grind (arith, occurs, deliver_in_makes, is_lost_at_backup, course.cluster)
 by_tasks course fate (tasks.Begins ∷ front) is = begins_by course front (is_at_limit course) is
 by_tasks course fate (tasks.Ends ∷ front) is = settling (round_over course (front ++ tasks.Settles ∷ [])) front refl
 by_tasks course fate (task ∷ front) is =
@@ -57,11 +55,7 @@ by_tasks course fate (task ∷ front) is =
     (sym (append_assoc (unfolded course.cluster task) front (tasks.Settles ∷ [])))
 
 moves : (course : Course) (fate : Fate) → IsSettling course → IsSettling (moved course fate)
-moves course fate is =
-    ⊎_elim
-    (λ (last : SettlesLast course.tasks). subst (λ (left : List Task). IsSettling (moved_by course fate left)) (sym last.is) (by_tasks course fate last.front is))
-    (λ (over : (course.tasks ≡ []) × (is_at_rest course.cluster ≡ true)).
-    subst (λ (left : List Task). IsSettling (moved_by course fate left)) (sym over.0) is) is
+moves course fate is = grind (arith, moved_by, by_tasks, is_at_rest)
 
 all_moves : (course : Course) (fates : List Fate) → IsSettling course → IsSettling (moved_all course fates)
 all_moves course [] is = is

@@ -1,4 +1,5 @@
 -- How a command in code comes to its end, or stops.
+use Rattle.rk_settle.proofs.Words.{arith}
 use Rattle.rk_settle.proofs.Words.{◌≡◌, ℕ, ◌≤◌, false, List, [], ◌++◌, length, map, Option, sym, ap, ◌∙◌, range_with_len, LANES, Said}
 use Rattle.rk_settle.proofs.Words.{Segments, Cluster, masters_of, ClusterState, IsOf, counts_same, same_count, course_of, FailsInRounds}
 use Rattle.rk_settle.proofs.Words.{failed_rounds, AreTasks, Fails, lane_numbers, IsCourse, MovesAll, Progress, SettleError, Task}
@@ -30,14 +31,7 @@ module _ {R : Type 0} (segments : R → Option Segments) (faults : R → ℕ) (o
     (eight : length old.lanes ≡ LANES) (tells : EightTell segments old command left) where
   -- a command begins
   begun : (cluster : Cluster) → IsOf segments old cluster → IsCourse segments cluster was.said.items old left was (course_of cluster (command cluster))
-  begun cluster stands = record {
-    cluster = stands;
-    leads = leads_nowhere cluster;
-    tasks = tells cluster stands (same_count segments old.lanes cluster.lanes stands.lanes ∙ eight);
-    said = append-nil was.said.items;
-    faults = sym fresh.faults;
-    failing = sym fresh.failing;
-  }
+  begun cluster stands = grind (arith, leads_nowhere, same_count, append-nil)
 
   -- it is over once no task is left
   pub ends_by : (after : List Task) (is : Progress) → after ≡ [] → MovesAll segments faults old new left after was is
@@ -52,11 +46,7 @@ module _ {R : Type 0} (segments : R → Option Segments) (faults : R → ℕ) (o
 
   -- or stops
   stops_before : (has : List Said) (e : SettleError) → StopsAfter segments faults old new left was has e → StopsBefore segments faults old new command was.said.items has e
-  stops_before has e it = record {
-    fates = it.fates;
-    counts = it.counts;
-    stopped = λ cluster stands. it.stopped cluster was.said.items (course_of cluster (command cluster)) (begun cluster stands);
-  }
+  stops_before has e it = search (course_of, begun, it.fates, it.counts, it.stopped)
 
   said_so_far : (has : List Said) → SaysAfter segments faults old new left was has → SaidSoFar segments faults old new command was.said.items has
   said_so_far has it = record {
@@ -66,10 +56,7 @@ module _ {R : Type 0} (segments : R → Option Segments) (faults : R → ℕ) (o
   }
 
   pub fails_by : (has : List Said) (e : SettleError) → StopsIn segments faults old new left was has e → Fails segments faults old new command was.said.items has e
-  fails_by has errors.NoMemory it = said_so_far has it
-  fails_by has errors.TooLong it = said_so_far has it
-  fails_by has (errors.Worn number) it = stops_before has (errors.Worn number) it
-  fails_by has (errors.Replica rounds) it = stops_before has (errors.Replica rounds) it
+  fails_by has e it = grind (arith, said_so_far, stops_before)
 
 -- a command that has made no move: nothing more is said
 pub nothing_said : {R : Type 0} (segments : R → Option Segments) (faults : R → ℕ) (state : ClusterState R) (command : Cluster → List Task) (had : List Said)

@@ -3,7 +3,7 @@ use Rattle.rk_settle.proofs.Words.{◌≡◌, ◌≤◌, ◌+◌, ◌||◌, ◌+
 use Rattle.rk_settle.proofs.Words.{arith, All-append, All-cons, All-nil, CountsGoOn, counts_in, Fate, ClusterState, FailsInRounds}
 use Rattle.rk_settle.proofs.Words.{failed_rounds, Progress}
 use Rattle.std.proofs.lemmas.List.{append-nil, length-append}
-use Rattle.rk_cluster.specs.Faults.{GoOn, SomeLaneFailed}
+use Rattle.rk_cluster.specs.Faults.{SomeLaneFailed}
 use Rattle.rk_cluster.specs.Replicas.{IsLost, Lost}
 use Rattle.rk_cluster.specs.declared.error.ClusterError.{ClusterError}
 use Rattle.rk_cluster.specs.declared.error.ClusterError.TheVariants as causes
@@ -13,9 +13,7 @@ use Rattle.rk_settle.specs.Faults.{IsOfReplicas, KeepsUp}
 
 -- no error of a cluster says that replicas failed too often
 pub of_no_replica : (e : ClusterError) → IsOfReplicas (failure_by e) → ⊥
-of_no_replica causes.NoMemory is = is
-of_no_replica (causes.Code code) is = is
-of_no_replica (causes.Worn number) is = is
+of_no_replica e is = grind arith
 
 module _ {R : Type 0} (faults : R → ℕ) where
   -- ---- rounds in which a replica failed
@@ -35,13 +33,7 @@ module _ {R : Type 0} (faults : R → ℕ) where
 
   -- no more meanwhile
   pub in_as_many : (rounds : ℕ) (start now next : ClusterState R) → FailsInRounds faults rounds start now → CountsGoOn faults [] now next → FailsInRounds faults rounds start next
-  in_as_many rounds start now next it on = record {
-    failed = it.failed;
-    are_lost = it.are_lost;
-    often = it.often;
-    rose = subst (λ (fates : List Fate). GoOn fates (counts_in faults start.lanes) (counts_in faults next.lanes)) (append-nil it.failed)
-        (go_on_then it.failed [] (counts_in faults start.lanes) (counts_in faults now.lanes) (counts_in faults next.lanes) it.rose on);
-  }
+  in_as_many rounds start now next it on = grind (arith, counts_in, append-nil, go_on_then)
 
   -- once more
   pub in_one_more : (rounds : ℕ) (start now next : ClusterState R) → FailsInRounds faults rounds start now → SomeLaneFailed faults now.lanes next.lanes
@@ -74,9 +66,7 @@ module _ {R : Type 0} (faults : R → ℕ) where
 
   pub keeps_up_once : (failed : Bool) (old new : ClusterState R) (was is : Progress) → is.faults ≡ was.faults → is.failing ≡ (was.failing || failed)
       → CountsGoOn faults [] old new → (failed ≡ true → SomeLaneFailed faults old.lanes new.lanes) → KeepsUp faults old new was is
-  keeps_up_once failed old new was is same so on once start before =
-      subst (λ (count : ℕ). FailsInRounds faults count start new) (λ i. (sym same i) + (if (sym so i) then 1 else 0))
-      (keeps_up_by failed was.failing old new start was.faults on once before)
+  keeps_up_once failed old new was is same so on once start before = grind (arith, keeps_up_by)
 
   -- a command that stops since replicas failed in so many rounds
   pub failed_often : (rounds : ℕ) (start now next : ClusterState R) (progress : Progress) → rounds ≤ progress.faults → FailsInRounds faults (failed_rounds progress) start now

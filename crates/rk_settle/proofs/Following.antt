@@ -1,5 +1,5 @@
 -- What is found among the numbers after one, up to a last one.
-use Rattle.std.proofs.Common.{◌≡◌, ◌≤◌, ◌<◌, ◌+◌, ◌-◌, ◌++◌, ℕ, suc, Bool, true, false, cond, List, [], ◌∷◌, filter, find, map, None, Some, sym, ap, ◌∙◌, append_assoc, append-nil, arith}
+use Rattle.std.proofs.Common.{◌≡◌, ◌≤◌, ◌<◌, ◌+◌, ◌-◌, ◌++◌, ℕ, Bool, true, false, cond, List, [], ◌∷◌, filter, find, map, None, Some, sym, ap, ◌∙◌, append_assoc, append-nil, arith}
 use Rattle.std.specs.List.{range_with_len}
 
 -- the numbers after one, up to a last one
@@ -8,27 +8,19 @@ after before last = range_with_len (before + 1) (last - before)
 
 -- they are the next one and those after it, if there are some
 after_next : (before last : ℕ) → before < last → after before last ≡ (before + 1) ∷ after (before + 1) last
-after_next before last within =
-    let more : last - before ≡ suc (last - (before + 1)) = omega (arith, within) in
-    ap (range_with_len (before + 1)) more
+after_next before last within = grind arith
 
 after_none : (before last : ℕ) → last ≤ before → after before last ≡ []
-after_none before last past =
-    let none : last - before ≡ 0 = omega (arith, past) in
-    ap (range_with_len (before + 1)) none
+after_none before last past = grind arith
 
 module _ (test : ℕ → Bool) where
   -- ---- the first that passes a test
 
   pub first_here : (before last : ℕ) → before < last → test (before + 1) ≡ true → find test (after before last) ≡ Some (before + 1)
-  first_here before last within passes =
-      ap (find test) (after_next before last within)
-      ∙ ap (λ (b : Bool). cond b (Some (before + 1)) (find test (after (before + 1) last))) passes
+  first_here before last within passes = grind (arith, after_next)
 
   pub first_later : (before last : ℕ) → before < last → test (before + 1) ≡ false → find test (after before last) ≡ find test (after (before + 1) last)
-  first_later before last within fails =
-      ap (find test) (after_next before last within)
-      ∙ ap (λ (b : Bool). cond b (Some (before + 1)) (find test (after (before + 1) last))) fails
+  first_later before last within fails = grind (arith, after_next)
 
   pub first_none : (before last : ℕ) → last ≤ before → find test (after before last) ≡ None
   first_none before last past = ap (find test) (after_none before last past)

@@ -1,16 +1,14 @@
 -- What is found in lists of a lane and of a session names masters that are there.
-use Rattle.rk_settle.proofs.Words.{◌≡◌, ◌<◌, ◌≤◌, ℕ, Bool, true, false, cond, not, is_some, List, [], ◌∷◌, slice_index_or, All, find}
-use Rattle.rk_settle.proofs.Words.{Option, None, Some, IfSome, sym, ap, subst, ◌∙◌, length, arith, All-head, All-nil, All-tail, Segments}
-use Rattle.rk_settle.proofs.Words.{row_of, Phase, Moving, Opening, Row, Session, IsMaster, World, LaneState, AreNamed}
-use Rattle.std.proofs.Common.{◌==◌, ⊎_elim}
+use Rattle.rk_settle.proofs.Words.{◌≡◌, ℕ, Bool, true, false, cond, not, is_some, List, [], ◌∷◌, slice_index_or, All, find, Option, None}
+use Rattle.rk_settle.proofs.Words.{Some, IfSome, sym, subst, arith, All-head, All-tail, Segments, row_of, Phase, Moving, Opening, Row}
+use Rattle.rk_settle.proofs.Words.{Session, IsMaster, World, LaneState, AreNamed}
+use Rattle.std.proofs.Common.{⊎_elim}
 use Rattle.std.proofs.lemmas.Bool.{cases_lt}
 use Rattle.std.proofs.lemmas.List.{get_or_past}
-use Rattle.rk_types.specs.declared.call.Call.{Call}
 use Rattle.rk_message.specs.declared.calls.Located.{Located}
 use Rattle.rk_tablet_map.specs.Phase.{member}
 use Rattle.rk_tablet_map.specs.declared.phase.Phase.TheVariants.{Owned, Rebuilding}
-use Rattle.rk_session.specs.Owners.{cached_owner, known_owner, owner_by_call}
-use Rattle.rk_world.specs.Client.{call_lane, has_call, range_of, ranges_in}
+use Rattle.rk_session.specs.Owners.{cached_owner, known_owner}
 use Rattle.rk_world.specs.Formed.{IsFormedRow, named_in}
 use Rattle.rk_world.specs.Limits.{IsFormedMember, Limits, limits_of}
 use Rattle.rk_world.specs.Premises.{IsCached, MayAct}
@@ -38,9 +36,7 @@ sides_are limits (Moving source sfrom target dfrom) are = ((are 0 (member source
 sides_are limits (Rebuilding lineage to) are = tt
 
 pub row_names : (limits : Limits) (rows : List Row) (tablet : ℕ) → All (IsFormedRow limits) rows → IfSome (row_of rows tablet) (λ row. AreNamed limits.masters row.phase)
-row_names limits rows tablet formed =
-    first_holds (λ row. AreNamed limits.masters row.phase) (λ row. row.tablet == tablet) rows
-    (λ k d within. sides_are limits (slice_index_or rows k d).phase (formed k d within).named)
+row_names limits rows tablet formed = grind (arith, first_holds, sides_are, slice_index_or)
 
 -- in a lane that is not spent, of masters that its coordinator counts
 pub row_there : {R : Type 0} (at : LaneState R) (o : Option Running) (rows : List Row) (tablet : ℕ) → not (is_some o) ≡ false
@@ -55,28 +51,14 @@ row_there at (Some running) rows tablet lives formed counted same =
 -- a world of such a lane has as many masters
 pub masters_in : {R : Type 0} (segments : R → Option Segments) (at : LaneState R) (w : World) → IsWorld segments at w
     → IfSome at.running (λ running. running.coordinator.masters ≡ at.masters) → w.coordinator.masters ≡ at.masters
-masters_in segments at w is counted =
-    ap (λ (w : World). w.coordinator.masters) is.is
-    ∙ subst (λ (o : Option Running). IfSome o (λ running. running.coordinator.masters ≡ at.masters)) is.runs counted
+masters_in segments at w is counted = grind arith
 
 -- ---- what a client has cached
-
-ranges_there : (masters : ℕ) (session : Session) (lane : ℕ) → MayAct masters session → All (IsCached masters) (ranges_in session lane)
-ranges_there masters session lane may =
-    ⊎_elim (λ (within : lane < length session.ranges). may.cached lane [] within)
-    (λ (past : length session.ranges ≤ lane). subst (All (IsCached masters)) (sym (get_or_past session.ranges lane [] past)) (All-nil (IsCached masters)))
-    (cases_lt lane (length session.ranges))
 
 located_there : (masters : ℕ) (found : Option Located) → IfSome found (IsCached masters) → IfSome (cached_owner found) (IsMaster masters)
 located_there masters None cached = tt
 located_there masters (Some located) cached = cached.owner
 
-cached_there : (masters : ℕ) (session : Session) (call : Option Call) → MayAct masters session → IfSome (owner_by_call session call) (IsMaster masters)
-cached_there masters session None may = tt
-cached_there masters session (Some call) may =
-    located_there masters (range_of session call)
-    (first_holds (IsCached masters) (has_call call) (ranges_in session (call_lane call)) (ranges_there masters session (call_lane call) may))
-
 -- the owner that a client knows is there
 pub owner_there : (masters : ℕ) (session : Session) → MayAct masters session → IfSome (known_owner session) (IsMaster masters)
-owner_there masters session may = cached_there masters session session.outstanding may
+owner_there masters session may = grind (arith, located_there, first_holds, get_or_past, cases_lt, session.outstanding)

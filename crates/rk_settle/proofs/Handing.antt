@@ -1,10 +1,10 @@
 -- Messages that are handed out: several moves at once.
-use Rattle.rk_settle.proofs.Words.{◌≡◌, ℕ, Bool, true, false, List, [], ◌∷◌, ◌++◌, filter, map, Option, None, Some, refl, sym, ap}
-use Rattle.rk_settle.proofs.Words.{◌∙◌, Segments, Cluster, lane_at, CountsGoOn, ClusterState, IsOf, is_number_off, sent_after, Moves, MovesAll}
+use Rattle.rk_settle.proofs.Words.{arith, ◌≡◌, ℕ, Bool, true, false, List, [], ◌∷◌, filter, Option, None, Some, refl, sym, ap, ◌∙◌}
+use Rattle.rk_settle.proofs.Words.{Segments, Cluster, lane_at, CountsGoOn, ClusterState, IsOf, is_number_off, sent_after, Moves, MovesAll}
 use Rattle.rk_settle.proofs.Words.{Stops, forgets, Progress, SettleError, Task, Said}
 use Rattle.std.proofs.Common.{find, cond, Result, Ok, Err, IfErr}
 use Rattle.rk_message.specs.Wire.{Traffic}
-use Rattle.rk_settle.specs.Exchange.{hand_by, hand_tasks, oldest_after, sort_tasks}
+use Rattle.rk_settle.specs.Exchange.{oldest_after}
 use Rattle.rk_settle.specs.States.{StopsLater}
 use Rattle.rk_settle.specs.declared.task.Task.TheVariants as made
 use Rattle.rk_settle.specs.declared.topic.Topic.{Topic}
@@ -26,51 +26,23 @@ module _ {R : Type 0} (segments : R → Option Segments) (faults : R → ℕ) (s
   -- messages of which none is to be forgotten are sorted at once
   pub sorts_none : (last : ℕ) → find (is_number_off wire topic) (sent_after wire last) ≡ None
       → Moves segments faults state state (made.Sorts lane topic from last ∷ rest) (made.Hands lane topic from ∷ rest) progress progress
-  sorts_none last none =
-      unfolds_moves segments faults state (made.Sorts lane topic from last) rest (made.Hands lane topic from ∷ rest) progress
-      (record { occurs = λ _ _ is. absurd (cc is); delivers = λ _ _ is. absurd (cc is); begins = λ is. absurd (cc is); ends = λ is. absurd (cc is) })
-      (λ cluster stands.
-      ap (λ (w : Traffic). sort_tasks w lane topic from last ++ rest) (wire_is cluster stands)
-      ∙ ap (λ (off : List ℕ). (map (forgets lane) off ++ made.Hands lane topic from ∷ []) ++ rest) (none_passes (is_number_off wire topic) (sent_after wire last) none))
-
-  hands_by : (found : Option ℕ) (after : List Task) → oldest_after wire from ≡ found → hand_by wire lane topic found ++ rest ≡ after
-      → Moves segments faults state state (made.Hands lane topic from ∷ rest) after progress progress
-  hands_by found after is so =
-      unfolds_moves segments faults state (made.Hands lane topic from) rest after progress
-      (record { occurs = λ _ _ is. absurd (cc is); delivers = λ _ _ is. absurd (cc is); begins = λ is. absurd (cc is); ends = λ is. absurd (cc is) })
-      (λ cluster stands.
-      ap (λ (w : Traffic). hand_tasks w lane topic from ++ rest) (wire_is cluster stands) ∙ ap (λ (it : Option ℕ). hand_by wire lane topic it ++ rest) is ∙ so)
+  sorts_none last none = grind (arith, unfolds_moves, forgets, none_passes, is_number_off, sent_after)
 
   -- no message is left to hand out
   pub hands_none : oldest_after wire from ≡ None → Moves segments faults state state (made.Hands lane topic from ∷ rest) rest progress progress
-  hands_none is = hands_by None rest is refl
+  hands_none is = grind (arith, unfolds_moves)
 
   -- the oldest one is handed out
   pub hands_one : (number : ℕ) → oldest_after wire from ≡ Some number
       → Moves segments faults state state (made.Hands lane topic from ∷ rest)
       (made.Delivers lane number ∷ forgets lane number ∷ made.Sorts lane topic number wire.sent ∷ rest) progress progress
-  hands_one number is =
-      hands_by (Some number) (made.Delivers lane number ∷ forgets lane number ∷ made.Sorts lane topic number wire.sent ∷ rest) is refl
+  hands_one number is = grind (arith, forgets, unfolds_moves)
 
 module _ {R : Type 0} (segments : R → Option Segments) (faults : R → ℕ) where
-  -- one more move
-  pub then_moved : (begun now next : ClusterState R) (first left after : List Task) (was is later : Progress) → MovesAll segments faults begun now first left was is
-      → Moves segments faults now next left after is later → MovesAll segments faults begun next first after was later
-  then_moved begun now next first left after was is later all move =
-      more_moved segments faults begun now next first left after was is later all (one_moved segments faults now next left after is later move)
-
   -- a command stops at its first move
   pub stops_first : (old new : ClusterState R) (left : List Task) (progress : Progress) (has : List Said) (e : SettleError) → has ≡ progress.said.items
       → CountsGoOn faults [] old new → Stops segments old new left progress e → StopsLater segments faults old new left progress has e
-  stops_first old new left progress has e said counts stops = record {
-    now = old;
-    left = left;
-    is = progress;
-    moves = none_moved segments faults old left progress;
-    said = said;
-    counts = counts;
-    stops = stops;
-  }
+  stops_first old new left progress has e said counts stops = search none_moved
 
   -- or after more moves
   pub stops_then : (begun now next : ClusterState R) (first left : List Task) (was is : Progress) (has : List Said) (e : SettleError) → MovesAll segments faults begun now first left was is
@@ -97,21 +69,17 @@ module _ {R : Type 0} (segments : R → Option Segments) (faults : R → ℕ) (o
 
   -- it is to be delivered
   pub found_one : MovesAll segments faults old old (made.Hands lane topic from ∷ rest) (made.Delivers lane number ∷ forgets_first) was was
-  found_one =
-      one_moved segments faults old old (made.Hands lane topic from ∷ rest) (made.Delivers lane number ∷ forgets_first) was was
-      (hands_one segments faults old lane topic wire wire_is from rest was number found)
+  found_one = grind (arith, one_moved, hands_one)
 
   -- it was delivered
   pub delivered : Moves segments faults old mid (made.Delivers lane number ∷ forgets_first) forgets_first was is
       → MovesAll segments faults old mid (made.Hands lane topic from ∷ rest) forgets_first was is
-  delivered move =
-      then_moved segments faults old old mid (made.Hands lane topic from ∷ rest) (made.Delivers lane number ∷ forgets_first) forgets_first was was is found_one move
+  delivered move = grind (arith, found_one, more_moved, one_moved)
 
   -- and is forgotten
   pub handed : (new : ClusterState R) → Moves segments faults old mid (made.Delivers lane number ∷ forgets_first) forgets_first was is
       → Moves segments faults mid new forgets_first sorts_on is is → MovesAll segments faults old new (made.Hands lane topic from ∷ rest) sorts_on was is
-  handed new move forgotten =
-      then_moved segments faults old mid new (made.Hands lane topic from ∷ rest) forgets_first sorts_on was is is (delivered move) forgotten
+  handed new move forgotten = grind (arith, delivered, more_moved, one_moved)
 
 -- what follows from two things that hold of an error
 pub of_both : {T E : Type 0} (result : Result T E) (P Q S : E → Type 0) → ((e : E) → P e → Q e → S e) → IfErr result P → IfErr result Q → IfErr result S

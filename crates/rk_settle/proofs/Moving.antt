@@ -1,8 +1,8 @@
 -- The moves of a command in code, one after the other.
-use Rattle.rk_settle.proofs.Words.{◌≡◌, ℕ, ◌+◌, ◌<◌, ◌≤◌, Bool, true, false, nat_le, List, [], ◌∷◌, ◌++◌, Option, None, Some, if◌then◌else◌}
-use Rattle.rk_settle.proofs.Words.{refl, sym, ap, subst, ◌∙◌, Segments, Said, Cluster, CountsGoOn, counts_in, Fate, Kept, ClusterState}
-use Rattle.rk_settle.proofs.Words.{counts_same, Course, MOST_FAULTS, error_by, moved, moved_all, moved_by, round_over, with_tasks, Keeps}
-use Rattle.rk_settle.proofs.Words.{IsCourse, Moves, MovesAll, Stops, unfolded, Progress, SettleError, Act, Task}
+use Rattle.rk_settle.proofs.Words.{arith, ◌≡◌, ℕ, ◌+◌, ◌<◌, ◌≤◌, Bool, false, nat_le, List, [], ◌∷◌, ◌++◌, Option, if◌then◌else◌, refl, sym}
+use Rattle.rk_settle.proofs.Words.{ap, subst, ◌∙◌, Segments, Said, Cluster, CountsGoOn, counts_in, Fate, Kept, ClusterState, counts_same}
+use Rattle.rk_settle.proofs.Words.{Course, MOST_FAULTS, error_by, moved, moved_all, moved_by, round_over, with_tasks, Keeps, IsCourse}
+use Rattle.rk_settle.proofs.Words.{Moves, MovesAll, Stops, unfolded, Progress, SettleError, Act, Task}
 use Rattle.std.proofs.lemmas.Bool.{le-leb, lt-leb}
 use Rattle.std.proofs.lemmas.List.{append-nil}
 use Rattle.std.proofs.lemmas.List.Sums.{fold-append}
@@ -37,39 +37,12 @@ StopsIn segments faults old new left progress has error = StopsAfter segments fa
 below_limit : (limit count : ℕ) → count < limit → nat_le limit count ≡ false
 below_limit limit count below = lt-leb limit count below
 
--- one that is not is at it
-at_limit : (limit count : ℕ) → limit ≤ count → nat_le limit count ≡ true
-at_limit limit count above = le-leb limit count above
-
 -- a task makes no occurrence, and neither begins nor ends a round
 pub record Unfolds (task : Task) : Type 0 where
   pub occurs : (lane : ℕ) (act : Act) → task ≡ made.Occurs lane act → ⊥
   pub delivers : (lane number : ℕ) → task ≡ made.Delivers lane number → ⊥
   pub begins : task ≡ made.Begins → ⊥
   pub ends : task ≡ made.Ends → ⊥
-
--- such a task unfolds
-moved_unfolding : (course : Course) (task : Task) (rest : List Task) → Unfolds task
-    → moved_by course Kept (task ∷ rest) ≡ with_tasks course (unfolded course.cluster task ++ rest)
-moved_unfolding course (made.Occurs lane act) rest is = absurd (is.occurs lane act refl)
-moved_unfolding course (made.Delivers lane number) rest is = absurd (is.delivers lane number refl)
-moved_unfolding course made.Begins rest is = absurd (is.begins refl)
-moved_unfolding course made.Ends rest is = absurd (is.ends refl)
-moved_unfolding course (made.Exchanges lane topic act) rest is = refl
-moved_unfolding course (made.Sorts lane topic from last) rest is = refl
-moved_unfolding course (made.Hands lane topic from) rest is = refl
-moved_unfolding course (made.Notices lane) rest is = refl
-moved_unfolding course made.Settles rest is = refl
-moved_unfolding course (made.Turns lane) rest is = refl
-moved_unfolding course (made.Empties lane) rest is = refl
-moved_unfolding course (made.Tries lane client times) rest is = refl
-moved_unfolding course (made.Requests lane client times) rest is = refl
-moved_unfolding course (made.Hears lane client times asked) rest is = refl
-moved_unfolding course (made.Commits lane client asked) rest is = refl
-moved_unfolding course (made.Hastens lane tablet) rest is = refl
-moved_unfolding course (made.Advances lane tablet reach) rest is = refl
-moved_unfolding course (made.Reaches lane tablet reach) rest is = refl
-moved_unfolding course (made.Freezes lane tablet master) rest is = refl
 
 module _ {R : Type 0} (segments : R → Option Segments) (faults : R → ℕ) (state : ClusterState R) where
   -- a round begins
@@ -110,40 +83,17 @@ module _ {R : Type 0} (segments : R → Option Segments) (faults : R → ℕ) (s
   -- a task unfolds
   pub unfolds_moves : (task : Task) (rest after : List Task) (progress : Progress) → Unfolds task
       → ClusterTells segments state (λ cluster. unfolded cluster task ++ rest) after → Moves segments faults state state (task ∷ rest) after progress progress
-  unfolds_moves task rest after progress unfolds tells = record {
-    fate = Kept;
-    counts = go_on_kept (counts_in faults state.lanes) (counts_in faults state.lanes) (counts_same faults state);
-    kept = keeps_same progress.said.items;
-    moves = λ start had course stands.
-        subst (λ (left : List Task). IsCourse segments start had state after progress (moved_by course Kept left)) (sym stands.tasks)
-        (subst (λ (next : Course). IsCourse segments start had state after progress next) (sym (moved_unfolding course task rest unfolds))
-        (record { cluster = stands.cluster; leads = stands.leads; tasks = tells course.cluster stands.cluster; said = stands.said; faults = stands.faults; failing = stands.failing }));
-  }
+  unfolds_moves task rest after progress unfolds tells = grind (arith, go_on_kept, counts_in, counts_same, keeps_same, moved_by)
 
   -- a command stops where a round is to begin and replicas have failed too often
   pub begins_stops : (task : Task) (rest : List Task) (progress : Progress) (e : SettleError) → task ≡ made.Begins → e ≡ errors.Replica progress.faults → MOST_FAULTS ≤ progress.faults
       → Stops segments state state (task ∷ rest) progress e
-  begins_stops task rest progress e begins is above =
-      subst (Stops segments state state (task ∷ rest) progress) (sym is)
-      (λ start had course stands. record {
-        cluster = stands.cluster;
-        leads = stands.leads;
-        said = stands.said;
-        stops =
-            ap (error_by course) (stands.tasks ∙ ap (λ (first : Task). first ∷ rest) begins)
-            ∙ ap (λ (b : Bool). if b then Some (errors.Replica course.faults) else None) (ap (nat_le MOST_FAULTS) stands.faults ∙ at_limit MOST_FAULTS progress.faults above)
-            ∙ ap (λ (count : ℕ). Some (errors.Replica count)) stands.faults;
-      })
+  begins_stops task rest progress e begins is above = grind (arith, error_by, nat_le, le-leb)
 
 module _ {R : Type 0} (segments : R → Option Segments) (faults : R → ℕ) where
   -- no move yet
   pub none_moved : (state : ClusterState R) (left : List Task) (progress : Progress) → MovesAll segments faults state state left left progress progress
-  none_moved state left progress = record {
-    fates = [];
-    counts = counts_same faults state;
-    kept = keeps_same progress.said.items;
-    moves = λ start had course stands. stands;
-  }
+  none_moved state left progress = grind (arith, counts_same, keeps_same)
 
   -- more moves
   pub more_moved : (begun now next : ClusterState R) (first left after : List Task) (was is later : Progress) → MovesAll segments faults begun now first left was is
@@ -191,7 +141,5 @@ module _ {R : Type 0} (segments : R → Option Segments) (faults : R → ℕ) wh
       → CountsGoOn faults [] now next → Stops segments now next left is e → StopsIn segments faults begun next first was is.said.items e
   stops_in begun now next first left was is errors.NoMemory all on stops = says_after begun now next first left was is all on
   stops_in begun now next first left was is errors.TooLong all on stops = says_after begun now next first left was is all on
-  stops_in begun now next first left was is (errors.Worn number) all on stops =
-      stops_after begun now next first left was is (errors.Worn number) all on stops
-  stops_in begun now next first left was is (errors.Replica rounds) all on stops =
-      stops_after begun now next first left was is (errors.Replica rounds) all on stops
+  stops_in begun now next first left was is (errors.Worn number) all on stops = search (stops_after, errors.Worn)
+  stops_in begun now next first left was is (errors.Replica rounds) all on stops = search (stops_after, errors.Replica)

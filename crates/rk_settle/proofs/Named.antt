@@ -39,9 +39,4 @@ module _ (masters : ℕ) where
 
   -- a round, and then the next
   pub round_are : (old : List Task) → AreTasks masters old → AreTasks masters (round_of (flat_map lane_tasks (range_with_len 0 LANES)) ++ tasks.Settles ∷ old)
-  round_are old are =
-      let lanes : List Task = flat_map lane_tasks (range_with_len 0 LANES) in
-      All-cons (IsTask masters) tasks.Begins ((lanes ++ tasks.Ends ∷ []) ++ tasks.Settles ∷ old) tt
-      (All-append (IsTask masters) (lanes ++ tasks.Ends ∷ []) (tasks.Settles ∷ old)
-      (All-append (IsTask masters) lanes (tasks.Ends ∷ []) (lanes_are 0 LANES (omega arith)) (All-cons (IsTask masters) tasks.Ends [] tt (All-nil (IsTask masters))))
-      (All-cons (IsTask masters) tasks.Settles old tt are))
+  round_are old are = grind (arith, lane_tasks, lanes_are)

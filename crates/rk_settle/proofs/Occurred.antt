@@ -1,26 +1,22 @@
 -- What occurs in the course of a command makes its cluster, and may occur there at any time.
-use Rattle.rk_settle.proofs.Words.{◌≡◌, ℕ, ◌<◌, Bool, true, false, List, [], ◌∷◌, ◌++◌, All, Option, None, Some, Ok, if◌then◌else◌, refl}
-use Rattle.rk_settle.proofs.Words.{sym, ap, subst, ◌∙◌, All-append, All-cons, All-head, All-nil, All-tail, get, LANES, Node, Message}
-use Rattle.rk_settle.proofs.Words.{StepError, Gave, Calls, Cluster, Happens, Occurrence, lane_at, session_at, World, new_world, Acted}
-use Rattle.rk_settle.proofs.Words.{all_acted, is_lost_at_backup, deliver_in_makes, delivery, delivery_of, has_receiver, Fate, Course}
-use Rattle.rk_settle.proofs.Words.{act_makes, has_actor, is_at_limit, moved, moved_by, occurring, occurring_by, with_tasks, AreTasks}
-use Rattle.rk_settle.proofs.Words.{IsTask, occurrence_of, unfolded, Act, Task}
+use Rattle.rk_settle.proofs.Words.{arith, ◌≡◌, ℕ, ◌<◌, Bool, true, false, List, [], ◌∷◌, ◌++◌, All, Option, None, Some, Ok, if◌then◌else◌}
+use Rattle.rk_settle.proofs.Words.{refl, sym, subst, ◌∙◌, All-append, All-cons, All-head, All-nil, All-tail, LANES, Node, StepError, Calls}
+use Rattle.rk_settle.proofs.Words.{Cluster, Happens, Occurrence, lane_at, session_at, new_world, Acted, all_acted, is_lost_at_backup}
+use Rattle.rk_settle.proofs.Words.{deliver_in_makes, delivery, has_receiver, Fate, Course, act_makes, has_actor, is_at_limit, moved}
+use Rattle.rk_settle.proofs.Words.{moved_by, occurring, occurring_by, with_tasks, AreTasks, IsTask, occurrence_of, unfolded, Act, Task}
 use Rattle.std.proofs.Common.{Result, Err}
 use Rattle.std.specs.Int.{w32}
 use Rattle.std.proofs.lemmas.List.{append-nil}
 use Rattle.rk_types.specs.declared.node.Node.TheVariants as nodes
 use Rattle.rk_entry.specs.Numbers.{IsNumber}
-use Rattle.rk_world.specs.Calls.{Visited, accept, ask}
+use Rattle.rk_world.specs.Calls.{Visited}
 use Rattle.rk_world.specs.Cluster.{Accepts, Asks, Joins, cluster_after, cluster_run, cluster_stepped, cluster_visited}
 use Rattle.rk_world.specs.Premises.{MayHappen}
 use Rattle.rk_world.specs.Replicas.{IsTold}
-use Rattle.rk_world.specs.Step.{Stepped, step}
+use Rattle.rk_world.specs.Step.{Stepped}
 use Rattle.rk_world.specs.declared.event.Event.{Event}
 use Rattle.rk_world.specs.declared.event.Event.TheVariants as events
-use Rattle.rk_lane.specs.Events.{receiver_by}
 use Rattle.rk_cluster.specs.Acted.{acted, came_in, going_on}
-use Rattle.rk_cluster.specs.Replicas.{left_by}
-use Rattle.rk_cluster.specs.Steps.{IsPlain}
 use Rattle.rk_cluster.proofs.Leading.{runs_join}
 use Rattle.rk_settle.specs.Lawful.{IsAct}
 use Rattle.rk_settle.specs.declared.task.Act.TheVariants as acts
@@ -31,11 +27,7 @@ use Rattle.rk_settle.proofs.Unfolded.{NamesMasters, unfolded_are}
 
 -- the cluster after something was carried out is the one after it occurred
 pub acted_is : (cluster : Cluster) (occurrence : Occurrence) → (acted cluster occurrence).cluster ≡ cluster_after cluster occurrence
-acted_is cluster (Happens lane event called) = refl
-acted_is cluster (Joins client) = refl
-acted_is cluster (Calls client table key op) = refl
-acted_is cluster (Asks lane client) = refl
-acted_is cluster (Accepts lane number client) = refl
+acted_is cluster occurrence = grind arith
 
 -- so is it after those that came: one that is refused changes nothing
 stepped_is : (cluster : Cluster) (lane : ℕ) (occurrence : Occurrence) (stepped : Result Stepped StepError) → cluster_after cluster occurrence ≡ cluster_stepped cluster lane stepped
@@ -49,21 +41,11 @@ visited_is cluster lane client occurrence (Ok visited) is = sym is
 visited_is cluster lane client occurrence (Err error) is = refl
 
 pub came_is : (cluster : Cluster) (occurrence : Occurrence) → (acted cluster occurrence).cluster ≡ cluster_run cluster (acted cluster occurrence).came
-came_is cluster (Happens lane event called) = stepped_is cluster lane (Happens lane event called) (step (lane_at cluster lane) event called) refl
-came_is cluster (Joins client) = refl
-came_is cluster (Calls client table key op) = refl
-came_is cluster (Asks lane client) = visited_is cluster lane client (Asks lane client) (ask (lane_at cluster lane) (session_at cluster client)) refl
-came_is cluster (Accepts lane number client) =
-    visited_is cluster lane client (Accepts lane number client) (accept (lane_at cluster lane) number (session_at cluster client)) refl
+came_is cluster occurrence = grind (arith, stepped_is, lane_at, visited_is, session_at)
 
 going_is : (cluster : Cluster) (occurrence : Occurrence) (next : Cluster → Acted) → ((after : Cluster) → (next after).cluster ≡ cluster_run after (next after).came) → (worn : Option ℕ)
     → (going_on (acted cluster occurrence) worn next).cluster ≡ cluster_run cluster (going_on (acted cluster occurrence) worn next).came
-going_is cluster occurrence next rest None =
-    let first : Acted = acted cluster occurrence in
-    rest first.cluster
-    ∙ ap (λ (after : Cluster). cluster_run after (next first.cluster).came) (came_is cluster occurrence)
-    ∙ sym (runs_join cluster first.came (next first.cluster).came)
-going_is cluster occurrence next rest (Some number) = came_is cluster occurrence
+going_is cluster occurrence next rest worn = grind (arith, came_is, runs_join)
 
 -- so is it after some, one after the other
 pub acted_all_is : (cluster : Cluster) (occurrences : List Occurrence) → (all_acted cluster occurrences).cluster ≡ cluster_run cluster (all_acted cluster occurrences).came
@@ -74,17 +56,8 @@ acted_all_is cluster (occurrence ∷ later) =
 -- ---- what came was to come
 
 module _ (Holds : Occurrence → Type 0) where
-  answered_come : {T : Type 0} (occurrence : Occurrence) (answer : Result T StepError) → Holds occurrence → All Holds (came_in occurrence answer)
-  answered_come occurrence (Ok answer) holds = All-cons Holds occurrence [] holds (All-nil Holds)
-  answered_come occurrence (Err error) holds = All-nil Holds
-
   one_come : (cluster : Cluster) (occurrence : Occurrence) → Holds occurrence → All Holds (acted cluster occurrence).came
-  one_come cluster (Happens lane event called) holds = answered_come (Happens lane event called) (step (lane_at cluster lane) event called) holds
-  one_come cluster (Joins client) holds = All-cons Holds (Joins client) [] holds (All-nil Holds)
-  one_come cluster (Calls client table key op) holds = All-cons Holds (Calls client table key op) [] holds (All-nil Holds)
-  one_come cluster (Asks lane client) holds = answered_come (Asks lane client) (ask (lane_at cluster lane) (session_at cluster client)) holds
-  one_come cluster (Accepts lane number client) holds =
-      answered_come (Accepts lane number client) (accept (lane_at cluster lane) number (session_at cluster client)) holds
+  one_come cluster occurrence holds = grind (arith, lane_at, session_at)
 
   going_come : (first : Acted) (worn : Option ℕ) (next : Cluster → Acted) → All Holds first.came → ((after : Cluster) → All Holds (next after).came)
       → All Holds (going_on first worn next).came
@@ -114,10 +87,6 @@ IsAllowed masters (Calls client table key op) = ⊥
 IsAllowed masters (Asks lane client) = lane < LANES
 IsAllowed masters (Accepts lane number client) = lane < LANES
 
-plain_crashes_none : (event : Event) → IsPlain event → IsNoCrash event
-plain_crashes_none (events.Crash master) plain = absurd plain
-plain_crashes_none event plain = tt
-
 -- ---- what replicas answer
 
 -- where a replica is called, it answers what it stores, or fails
@@ -130,55 +99,24 @@ abbrev pub AreToldFrom : Cluster → List Occurrence → Type 0
 AreToldFrom cluster [] = Unit {0}
 AreToldFrom cluster (occurrence ∷ later) = IsToldAt cluster occurrence × AreToldFrom (cluster_after cluster occurrence) later
 
-answered_told : {T : Type 0} (cluster : Cluster) (occurrence : Occurrence) (answer : Result T StepError) → IsToldAt cluster occurrence → AreToldFrom cluster (came_in occurrence answer)
-answered_told cluster occurrence (Ok answer) told = (told, tt)
-answered_told cluster occurrence (Err error) told = tt
-
 one_told : (cluster : Cluster) (occurrence : Occurrence) → IsToldAt cluster occurrence → AreToldFrom cluster (acted cluster occurrence).came
-one_told cluster (Happens lane event called) told = answered_told cluster (Happens lane event called) (step (lane_at cluster lane) event called) told
-one_told cluster (Joins client) told = (tt, tt)
-one_told cluster (Calls client table key op) told = (tt, tt)
-one_told cluster (Asks lane client) told = answered_told cluster (Asks lane client) (ask (lane_at cluster lane) (session_at cluster client)) tt
-one_told cluster (Accepts lane number client) told = answered_told cluster (Accepts lane number client) (accept (lane_at cluster lane) number (session_at cluster client)) tt
-
-alone_told : (cluster : Cluster) (first : Acted) (worn : Option ℕ) → AreToldFrom cluster first.came → AreToldFrom cluster (going_on first worn (λ next. all_acted next [])).came
-alone_told cluster first None told = subst (AreToldFrom cluster) (sym (append-nil first.came)) told
-alone_told cluster first (Some number) told = told
+one_told cluster occurrence told = grind (arith, lane_at, session_at)
 
 -- what comes of one thing, if it is to occur
 where_told : (cluster : Cluster) (b : Bool) (occurrence : Occurrence) → IsToldAt cluster occurrence → AreToldFrom cluster (all_acted cluster (if b then occurrence ∷ [] else [])).came
-where_told cluster true occurrence told = alone_told cluster (acted cluster occurrence) (acted cluster occurrence).worn (one_told cluster occurrence told)
-where_told cluster false occurrence told = tt
-
--- a plain event calls no replica
-plain_told : (w : World) (event : Event) → IsPlain event → IsTold w event (Gave None)
-plain_told w (events.Deliver number) plain = absurd plain
-plain_told w _ plain = record { fault = None; told = refl }
+where_told cluster b occurrence told = grind (arith, one_told, append-nil)
 
 act_told : (masters : ℕ) (cluster : Cluster) (lane : ℕ) (act : Act) → IsAct masters act → IsToldAt cluster (occurrence_of lane act)
-act_told masters cluster lane (acts.Happens event) is = plain_told (lane_at cluster lane) event is.0
-act_told masters cluster lane (acts.Asks client) is = tt
-
-delivery_told : (cluster : Cluster) (lane number : ℕ) (fate : Fate) (to : Node) → IsToldAt cluster (delivery cluster lane number fate to)
-delivery_told cluster lane number fate (nodes.Client client) = tt
-delivery_told cluster lane number fate nodes.Coordinator = record { fault = left_by fate lane (receiver_by (events.Deliver number) (lane_at cluster lane).wire); told = refl }
-delivery_told cluster lane number fate (nodes.Master master) = record { fault = left_by fate lane (receiver_by (events.Deliver number) (lane_at cluster lane).wire); told = refl }
-delivery_told cluster lane number fate (nodes.Backup backup) = record { fault = left_by fate lane (receiver_by (events.Deliver number) (lane_at cluster lane).wire); told = refl }
-
-message_told : (cluster : Cluster) (lane number : ℕ) (fate : Fate) (found : Option Message) → AreToldFrom cluster (all_acted cluster (delivery_of cluster lane number fate found)).came
-message_told cluster lane number fate None = tt
-message_told cluster lane number fate (Some message) =
-    where_told cluster (has_receiver cluster message.to) (delivery cluster lane number fate message.to) (delivery_told cluster lane number fate message.to)
+act_told masters cluster lane act is = grind (arith, lane_at)
 
 -- what comes of the delivery of a message
 pub delivered_told : (cluster : Cluster) (lane number : ℕ) (fate : Fate) → AreToldFrom cluster (all_acted cluster (deliver_in_makes cluster lane number fate)).came
-delivered_told cluster lane number fate = message_told cluster lane number fate (get (lane_at cluster lane).wire.messages number)
+delivered_told cluster lane number fate = grind (arith, lane_at, where_told, has_receiver, delivery)
 
 module _ (masters : ℕ) where
   -- an act
   act_allowed : (lane : ℕ) (act : Act) → lane < LANES → IsAct masters act → IsAllowed masters (occurrence_of lane act)
-  act_allowed lane (acts.Happens event) inside is = (inside, plain_crashes_none event is.0, is.1)
-  act_allowed lane (acts.Asks client) inside is = inside
+  act_allowed lane act inside is = grind arith
 
   where_allowed : (b : Bool) (occurrence : Occurrence) → IsAllowed masters occurrence → All (IsAllowed masters) (if b then occurrence ∷ [] else [])
   where_allowed true occurrence allowed = All-cons (IsAllowed masters) occurrence [] allowed (All-nil (IsAllowed masters))
@@ -186,18 +124,10 @@ module _ (masters : ℕ) where
 
   -- the delivery of a message
   delivery_allowed : (cluster : Cluster) (lane number : ℕ) (fate : Fate) (to : Node) → lane < LANES → IsAllowed masters (delivery cluster lane number fate to)
-  delivery_allowed cluster lane number fate (nodes.Client client) inside = inside
-  delivery_allowed cluster lane number fate nodes.Coordinator inside = (inside, tt, tt)
-  delivery_allowed cluster lane number fate (nodes.Master master) inside = (inside, tt, tt)
-  delivery_allowed cluster lane number fate (nodes.Backup backup) inside = (inside, tt, tt)
-
-  delivered_by : (cluster : Cluster) (lane number : ℕ) (fate : Fate) (found : Option Message) → lane < LANES → All (IsAllowed masters) (delivery_of cluster lane number fate found)
-  delivered_by cluster lane number fate None inside = All-nil (IsAllowed masters)
-  delivered_by cluster lane number fate (Some message) inside =
-      where_allowed (has_receiver cluster message.to) (delivery cluster lane number fate message.to) (delivery_allowed cluster lane number fate message.to inside)
+  delivery_allowed cluster lane number fate to inside = grind arith
 
   pub delivered_allowed : (cluster : Cluster) (lane number : ℕ) (fate : Fate) → lane < LANES → All (IsAllowed masters) (deliver_in_makes cluster lane number fate)
-  delivered_allowed cluster lane number fate inside = delivered_by cluster lane number fate (get (lane_at cluster lane).wire.messages number) inside
+  delivered_allowed cluster lane number fate inside = grind (arith, lane_at, where_allowed, has_receiver, delivery, delivery_allowed)
 
   -- ---- a move
 

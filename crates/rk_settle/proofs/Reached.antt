@@ -1,25 +1,15 @@
 -- How far a migration has come, by its phase and the reach.
-use Rattle.rk_settle.proofs.Words.{◌≡◌, ℕ, Option, refl, Moving, Opening, Row, World, Granted}
+use Rattle.rk_settle.proofs.Words.{arith, ◌≡◌, ℕ, Option, Moving, Opening, Row, World}
 use Rattle.rk_settle.specs.Reaches.{is_at_reach, is_moved_to}
 use Rattle.rk_settle.specs.declared.reach.Reach.{Reach}
-use Rattle.rk_settle.specs.declared.reach.Reach.TheVariants.{Begun, Frozen, Pulled, Joined, Finished}
+use Rattle.rk_settle.specs.declared.reach.Reach.TheVariants.{Begun, Frozen}
 
 module _ (w : World) (row : Row) (source target sfrom : ℕ) where
   -- an opening one that is to do more than begin and freeze its source
   pub opening_moved : (dfrom : Option ℕ) (reach : Reach) → (reach ≡ Begun → ⊥) → (reach ≡ Frozen → ⊥)
       → is_at_reach w row (Opening source sfrom target dfrom) reach ≡ is_moved_to w row target reach
-  opening_moved dfrom Begun begins freezes = absurd (begins refl)
-  opening_moved dfrom Frozen begins freezes = absurd (freezes refl)
-  opening_moved dfrom Granted begins freezes = refl
-  opening_moved dfrom Pulled begins freezes = refl
-  opening_moved dfrom Joined begins freezes = refl
-  opening_moved dfrom Finished begins freezes = refl
+  opening_moved dfrom reach begins freezes = grind arith
 
   -- one that moves, but for its source
   pub moving_moved : (dfrom : ℕ) (reach : Reach) → (reach ≡ Frozen → ⊥) → is_at_reach w row (Moving source sfrom target dfrom) reach ≡ is_moved_to w row target reach
-  moving_moved dfrom Begun freezes = refl
-  moving_moved dfrom Frozen freezes = absurd (freezes refl)
-  moving_moved dfrom Granted freezes = refl
-  moving_moved dfrom Pulled freezes = refl
-  moving_moved dfrom Joined freezes = refl
-  moving_moved dfrom Finished freezes = refl
+  moving_moved dfrom reach freezes = grind arith

@@ -1,30 +1,27 @@
 -- What a task unfolds into names lanes and masters that are there, where the cluster does.
 use Rattle.rk_settle.proofs.Words.{◌≡◌, ℕ, ◌<◌, Bool, true, false, List, [], ◌∷◌, ◌++◌, filter, length, map, All, Option, None, Some}
-use Rattle.rk_settle.proofs.Words.{if◌then◌else◌, refl, sym, subst, arith, flat_map, range_with_len, All-append, All-cons, All-nil, LANES}
-use Rattle.rk_settle.proofs.Words.{number_at, row_of, Phase, Moving, Opening, Row, Session, Cluster, lane_at, session_at, IsMaster, World}
-use Rattle.rk_settle.proofs.Words.{advance, is_number_off, sent_after, AreNamed, AreTasks, IsTask, is_short_of, is_at_rest, serve}
-use Rattle.rk_settle.proofs.Words.{lane_numbers, lane_tasks, settle, forgets, round_of, unfolded, Granted, Task}
+use Rattle.rk_settle.proofs.Words.{if◌then◌else◌, refl, arith, All-append, All-cons, All-nil, LANES, number_at, row_of, Phase, Moving}
+use Rattle.rk_settle.proofs.Words.{Opening, Row, Session, Cluster, lane_at, session_at, IsMaster, World, advance, is_number_off, sent_after}
+use Rattle.rk_settle.proofs.Words.{AreNamed, AreTasks, IsTask, is_short_of, is_at_rest, serve, lane_numbers, lane_tasks, settle, forgets}
+use Rattle.rk_settle.proofs.Words.{round_of, unfolded, Granted, Task}
 use Rattle.std.proofs.Common.{◌==◌}
 use Rattle.std.specs.Prelude.{IfSome}
 use Rattle.std.proofs.Math.Nat.{mod-lt}
 use Rattle.std.proofs.lemmas.List.Elements.{All-map}
 use Rattle.std.proofs.lemmas.List.FromFn.{get_or-range_with_len, length-range_with_len}
-use Rattle.rk_types.specs.Hashing.{hash_of}
 use Rattle.rk_types.specs.NumberMap.{numbers}
-use Rattle.rk_types.specs.declared.call.Call.{Call}
 use Rattle.rk_types.specs.declared.node.Node.TheVariants as nodes
 use Rattle.rk_message.specs.Wire.{Traffic}
 use Rattle.rk_transfer.specs.declared.role.Role.{Role}
 use Rattle.rk_transfer.specs.declared.role.Role.TheVariants as roles
 use Rattle.rk_session.specs.Owners.{known_owner, looks_up}
-use Rattle.rk_world.specs.Client.{call_lane}
 use Rattle.rk_world.specs.World.{live_masters, tablet_in}
 use Rattle.rk_world.specs.declared.event.Event.TheVariants as events
 use Rattle.rk_cluster.specs.Turns.{clients_in}
 use Rattle.rk_settle.specs.Advance.{advance_tasks, coordinator_exchange, freeze_by, grant_task, log_round, reach_between, reach_phase, reach_row, reaches_to, transfer_tasks}
-use Rattle.rk_settle.specs.Exchange.{hand_by, oldest_after, sort_tasks}
+use Rattle.rk_settle.specs.Exchange.{hand_by, sort_tasks}
 use Rattle.rk_settle.specs.Priority.{hasten_phase, hasten_row, priority, wants_first}
-use Rattle.rk_settle.specs.Serve.{MOST_TRIES, ask_exchange, commit_tasks, hear_tasks, is_staged_by, request_by, serve_by, try_tasks, was_moved}
+use Rattle.rk_settle.specs.Serve.{MOST_TRIES, ask_exchange, commit_tasks, hear_tasks, is_staged_by, request_by, try_tasks, was_moved}
 use Rattle.rk_settle.specs.Settle.{empty_by, notice_by, settling_tasks, unnoticed}
 use Rattle.rk_settle.specs.Tasks.{turn_exchange}
 use Rattle.rk_settle.specs.declared.reach.Reach.{Reach}
@@ -187,49 +184,33 @@ module _ (masters : ℕ) where
 module _ (masters : ℕ) (cluster : Cluster) (names : NamesMasters masters cluster) where
   hastened_by : (lane : ℕ) → lane < LANES → (tablet : ℕ) (found : Option Row) → row_of (lane_at cluster lane).coordinator.rows tablet ≡ found
       → AreTasks masters (hasten_row (lane_at cluster lane) lane tablet found)
-  hastened_by lane inside tablet None is = none_are masters
-  hastened_by lane inside tablet (Some row) is =
-      hastened_are masters lane inside (lane_at cluster lane) tablet row.phase (names.rows lane tablet row inside is)
+  hastened_by lane inside tablet found is = grind (arith, none_are, lane_at)
 
   reached_by : (lane : ℕ) → lane < LANES → (tablet : ℕ) (reach : Reach) (found : Option Row) → row_of (lane_at cluster lane).coordinator.rows tablet ≡ found
       → AreTasks masters (reach_row lane tablet found reach)
-  reached_by lane inside tablet reach None is = none_are masters
-  reached_by lane inside tablet reach (Some row) is =
-      phased_are masters lane inside tablet row.phase reach (names.rows lane tablet row inside is)
+  reached_by lane inside tablet reach found is = grind (arith, none_are)
 
   settled_are : AreTasks masters (settling_tasks cluster)
-  settled_are =
-      subst (λ (count : ℕ). AreTasks masters (if is_at_rest cluster then [] else round_of (flat_map lane_tasks (range_with_len 0 count)) ++ tasks.Settles ∷ []))
-      (sym names.eight)
-      (where_are masters (is_at_rest cluster) [] (round_of (flat_map lane_tasks (range_with_len 0 LANES)) ++ tasks.Settles ∷ [])
-      (none_are masters) (round_are masters [] (none_are masters)))
+  settled_are = grind (arith, is_at_rest, round_of, lane_tasks, where_are, none_are, round_are)
 
   -- what a task unfolds into
   pub unfolded_are : (task : Task) → IsTask masters task → AreTasks masters (unfolded cluster task)
-  unfolded_are (tasks.Exchanges lane topic act) is =
-      let wire : Traffic = (lane_at cluster lane).wire in
-      both_are masters (tasks.Occurs lane act) (tasks.Sorts lane topic wire.sent wire.sent) is is.0
+  unfolded_are (tasks.Exchanges lane topic act) is = grind (arith, lane_at, both_are, tasks.Occurs, tasks.Sorts, is.0)
   unfolded_are (tasks.Sorts lane topic from last) is = sorted_are masters lane is (lane_at cluster lane).wire topic from last
-  unfolded_are (tasks.Hands lane topic from) is =
-      let wire : Traffic = (lane_at cluster lane).wire in handed_are masters lane is wire topic (oldest_after wire from)
+  unfolded_are (tasks.Hands lane topic from) is = grind (arith, lane_at)
   unfolded_are (tasks.Notices lane) is = noticed_are masters lane is (unnoticed (lane_at cluster lane)) (names.unnoticed_is lane is)
   unfolded_are tasks.Settles is = settled_are
   unfolded_are (tasks.Turns lane) is =
       turns_are masters lane (clients_in lane cluster.sessions) (numbers (live_masters (lane_at cluster lane))) is (names.live lane is)
   unfolded_are (tasks.Empties lane) is = emptied_are masters lane is (number_at 1 (lane_at cluster lane).wire)
   unfolded_are (tasks.Tries lane client times) is = tried_are masters lane is (session_at cluster client) client times
-  unfolded_are (tasks.Requests lane client times) is =
-      requested_are masters lane is client times (known_owner (session_at cluster client)) (names.owners client)
+  unfolded_are (tasks.Requests lane client times) is = grind (arith, session_at)
   unfolded_are (tasks.Hears lane client times asked) is = heard_are masters lane is.0 (session_at cluster client) client times asked is.1
-  unfolded_are (tasks.Commits lane client asked) is =
-      committed_are masters lane is.0 (lane_at cluster lane) (session_at cluster client) client asked is.1
+  unfolded_are (tasks.Commits lane client asked) is = grind (arith, lane_at, session_at, is.0, is.1)
   unfolded_are (tasks.Hastens lane tablet) is = hastened_by lane is tablet (row_of (lane_at cluster lane).coordinator.rows tablet) refl
   unfolded_are (tasks.Advances lane tablet reach) is = advanced_are masters lane is (lane_at cluster lane) tablet reach
-  unfolded_are (tasks.Reaches lane tablet reach) is =
-      let found : Option Row = row_of (lane_at cluster lane).coordinator.rows tablet in
-      where_are masters (is_short_of (lane_at cluster lane) tablet reach) (reach_row lane tablet found reach) [] (reached_by lane is tablet reach found refl) (none_are masters)
-  unfolded_are (tasks.Freezes lane tablet source) is =
-      frozen_are masters lane is.0 tablet source (tablet_in (lane_at cluster lane) source tablet).handover.role is.1
+  unfolded_are (tasks.Reaches lane tablet reach) is = grind (arith, row_of, lane_at, where_are, is_short_of, reached_by, none_are)
+  unfolded_are (tasks.Freezes lane tablet source) is = grind (arith, lane_at, is.0, is.1)
   unfolded_are (tasks.Occurs lane act) is = none_are masters
   unfolded_are (tasks.Delivers lane number) is = none_are masters
   unfolded_are tasks.Begins is = none_are masters
@@ -239,19 +220,10 @@ module _ (masters : ℕ) (cluster : Cluster) (names : NamesMasters masters clust
 
   -- the lanes of a cluster are there
   pub lanes_are : All (λ lane. lane < LANES) (lane_numbers cluster)
-  lanes_are k d within =
-      let eight = names.eight in
-      let long = length-range_with_len 0 (length cluster.lanes) in
-      let inside : k < length cluster.lanes = omega (arith, within, long) in
-      let is = get_or-range_with_len 0 (length cluster.lanes) k d inside in
-      omega (arith, is, inside, eight)
-
-  served_by : (client : ℕ) (out : Option Call) → AreTasks masters (serve_by client out)
-  served_by client None = none_are masters
-  served_by client (Some call) = one_is masters (tasks.Tries (call_lane call) client 1) (mod-lt (hash_of call.key) (omega arith))
+  lanes_are k d within = grind (arith, length-range_with_len, get_or-range_with_len)
 
   pub serve_are : (client : ℕ) → AreTasks masters (serve cluster client)
-  serve_are client = served_by client (session_at cluster client).outstanding
+  serve_are client = grind (arith, session_at, none_are, one_is, mod-lt)
 
   pub advance_are : (tablet : ℕ) (reach : Reach) → AreTasks masters (advance cluster tablet reach)
   advance_are tablet reach = All-map (IsTask masters) (λ lane. tasks.Advances lane tablet reach) (lane_numbers cluster) lanes_are
@@ -260,6 +232,4 @@ module _ (masters : ℕ) (cluster : Cluster) (names : NamesMasters masters clust
   priority_are tablet = All-map (IsTask masters) (λ lane. tasks.Hastens lane tablet) (lane_numbers cluster) lanes_are
 
   pub settle_are : AreTasks masters (settle cluster)
-  settle_are =
-      joined_are masters (map tasks.Notices (lane_numbers cluster)) (tasks.Settles ∷ [])
-      (All-map (IsTask masters) tasks.Notices (lane_numbers cluster) lanes_are) (one_is masters tasks.Settles tt)
+  settle_are = grind (arith, joined_are, lane_numbers, lanes_are, one_is)

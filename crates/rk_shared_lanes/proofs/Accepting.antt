@@ -1,9 +1,8 @@
 -- A lane behind its lock, and a pass, stay so when a client takes a message.
-use Rattle.rk_shared_lanes.proofs.Words.{◌≡◌, ℕ, ◌+◌, Bool, true, false, cond, not, List, [], ◌∷◌, length, Option, Some, None, Result, Ok}
-use Rattle.rk_shared_lanes.proofs.Words.{Err, refl, sym, ap, subst, ◌∙◌, arith, ◌==◌, IfSome, Segments, BackupLane, NumberMap, get, Answer}
-use Rattle.rk_shared_lanes.proofs.Words.{Call, Receipt, Located, Reply, Body, Message, Visited, accept, accepting, is_asked_here, taking}
-use Rattle.rk_shared_lanes.proofs.Words.{untouched, Session, accepted_by, accepted_of, answer_accepted, call_lane, has_call, ignoring}
-use Rattle.rk_shared_lanes.proofs.Words.{with_range, MayAct, accept_refusal, world_visited, World, StepError, Seen, Taken, Ledger, is_added}
+use Rattle.rk_shared_lanes.proofs.Words.{◌≡◌, ℕ, ◌+◌, Bool, true, false, not, List, [], ◌∷◌, length, Option, Some, None, Result, Ok, refl}
+use Rattle.rk_shared_lanes.proofs.Words.{sym, ap, subst, ◌∙◌, arith, IfSome, Segments, BackupLane, NumberMap, get, Answer, Call, Body}
+use Rattle.rk_shared_lanes.proofs.Words.{Message, Visited, accept, accepting, is_asked_here, taking, untouched, Session, accepted_by}
+use Rattle.rk_shared_lanes.proofs.Words.{has_call, MayAct, accept_refusal, world_visited, World, StepError, Seen, Taken, Ledger, is_added}
 use Rattle.rk_shared_lanes.proofs.Words.{AreTold, IsSameLane, LaneState, Running, world_with, IsVisitOf, waiting, Counts, lanes_visited}
 use Rattle.rk_shared_lanes.proofs.Words.{HasSameClients, accepted_count, IsGoodLane, IsOrderly, HasCountedCalls, is_answer, IsKept}
 use Rattle.rk_shared_lanes.proofs.Words.{StandsFor, IsPass, MakesOnly, PassState, one_if}
@@ -11,7 +10,6 @@ use Rattle.std.specs.Prelude.{is_some}
 use Rattle.std.specs.Option.{option_or}
 use Rattle.rk_types.specs.declared.call.Answer.TheVariants as answers
 use Rattle.rk_message.specs.declared.message.Body.TheVariants as bodies
-use Rattle.rk_world.specs.Calls.{accept_by}
 use Rattle.rk_world.specs.Refusals.{is_for, where_true}
 use Rattle.rk_world.specs.declared.error.StepError.TheVariants as errors
 use Rattle.rk_world.specs.declared.event.Taken.TheVariants as takes
@@ -30,35 +28,8 @@ record IsSameCaller (session now : Session) : Type 0 where
   pub client : now.client ≡ session.client
   pub last : now.last ≡ session.last
 
-caller_by_answer : (session : Session) (call : Call) (reply : Reply) (answer : Answer) → IsSameCaller session (answer_accepted session call reply answer).session
-caller_by_answer session call reply (answers.Done outcome) = record { client = refl; last = refl }
-caller_by_answer session call reply _ = record { client = refl; last = refl }
-
-caller_by_seq : (session : Session) (call : Call) (reply : Reply) (test : Bool)
-    → IsSameCaller session (cond test (answer_accepted session call reply reply.answer) (ignoring session)).session
-caller_by_seq session call reply true = caller_by_answer session call reply reply.answer
-caller_by_seq session call reply false = record { client = refl; last = refl }
-
-caller_by_range : (session : Session) (call : Call) (located : Located) (test : Bool)
-    → IsSameCaller session (cond test (record { session = with_range session (call_lane call) located; taken = takes.Located }) (ignoring session)).session
-caller_by_range session call located true = record { client = refl; last = refl }
-caller_by_range session call located false = record { client = refl; last = refl }
-
 caller_by : (session : Session) (call : Call) (body : Body) → IsSameCaller session (accepted_by session call body).session
-caller_by session call (bodies.Reply reply) = caller_by_seq session call reply (reply.seq == call.seq)
-caller_by session call (bodies.Located located) = caller_by_range session call located (has_call call located)
-caller_by session call body = record { client = refl; last = refl }
-
-caller_of : (session : Session) (out : Option Call) (body : Body) → IsSameCaller session (accepted_of session out body).session
-caller_of session None body = record { client = refl; last = refl }
-caller_of session (Some call) body = caller_by session call body
-
-caller_taken : (w : World) (session : Session) (message : Message) → IsSameCaller session (accepting w session (Some message)).session
-caller_taken w session message = go (is_asked_here w session)
-  where
-    go : (here : Bool) → IsSameCaller session (cond here (taking w session message.body) (untouched w session (Some takes.Ignored))).session
-    go true = caller_of session session.outstanding message.body
-    go false = record { client = refl; last = refl }
+caller_by session call body = grind (arith, has_call)
 
 -- ---- a message that was taken
 
@@ -76,23 +47,10 @@ for_client w number client message false is none = absurd (cc none)
 
 taken_by : (w : World) (number : ℕ) (session : Session) (visited : Visited) (found : Option Message) → get w.wire.messages number ≡ found
     → accept_refusal w number session.client found ≡ None → accepting w session found ≡ visited → IsTaken w number session visited
-taken_by w number session visited None none refused is = absurd (cc refused)
-taken_by w number session visited (Some message) there refused is = record {
-  message = message;
-  there = there;
-  for_it = for_client w number session.client message (is_for session.client message.to) refl refused;
-  is = is;
-}
+taken_by w number session visited found none refused is = grind (arith, for_client)
 
 taken_here : (w : World) (number : ℕ) (session : Session) (visited : Visited) → accept w number session ≡ Ok visited → IsTaken w number session visited
-taken_here w number session visited is = go (accept_refusal w number session.client (get w.wire.messages number)) refl
-  where
-    go : (refused : Option StepError) → accept_refusal w number session.client (get w.wire.messages number) ≡ refused → IsTaken w number session visited
-    go None none =
-        let all : Ok (accepting w session (get w.wire.messages number)) ≡ Ok visited = sym (ap (accept_by w number session) none) ∙ is in
-        taken_by w number session visited (get w.wire.messages number) refl none (cc all)
-    go (Some error) some =
-        let all : Err error ≡ Ok visited = sym (ap (accept_by w number session) some) ∙ is in absurd (cc all)
+taken_here w number session visited is = grind (arith, accept_refusal, accepting, taken_by)
 
 -- what is counted of it, and what is not
 pub record IsTakenCounted (w : World) (session : Session) (visited : Visited) : Type 0 where
@@ -104,15 +62,7 @@ pub record IsTakenCounted (w : World) (session : Session) (visited : Visited) : 
 
 taken_counted : (w : World) (number : ℕ) (session : Session) (visited : Visited) → accept w number session ≡ Ok visited → IsTakenCounted w session visited
 taken_counted w number session visited is =
-    let it = taken_here w number session visited is in
-    subst (IsTakenCounted w session) it.is
-    (record {
-      asked = answer_asked w session it.message;
-      clients = answer_clients w session it.message;
-      receipts = answer_receipts w session it.message;
-      client = (caller_taken w session it.message).client;
-      last = (caller_taken w session it.message).last;
-    })
+    grind (arith, taken_here, answer_asked, answer_clients, answer_receipts, is_asked_here, taking, untouched, caller_by)
 
 makes_taken : (makes : Call → Type 0) (w : World) (number : ℕ) (session : Session) (visited : Visited) → accept w number session ≡ Ok visited
     → MakesOnly makes session → MakesOnly makes visited.session
@@ -122,10 +72,7 @@ makes_taken makes w number session visited is made =
 
 counted_good : (masters lane : ℕ) (w : World) (number : ℕ) (session : Session) (visited : Visited) → accept w number session ≡ Ok visited
     → IsGoodLane masters lane w → MayAct masters session → IsCounted w.ledger visited.world.ledger session visited.session visited.seen.taken
-counted_good masters lane w number session visited is good may =
-    let it = taken_here w number session visited is in
-    let Counted : Visited → Type 0 = λ made. IsCounted w.ledger made.world.ledger session made.session made.seen.taken in
-    subst Counted it.is (answer_counted masters lane w number session it.message good may it.there it.for_it)
+counted_good masters lane w number session visited is good may = grind (arith, taken_here, answer_counted)
 
 module _ (masters lane : ℕ) (w : World) (number : ℕ) (session : Session) (visited : Visited) (is : accept w number session ≡ Ok visited)
     (good : IsGoodLane masters lane w) (may : MayAct masters session) where
@@ -159,25 +106,10 @@ still_open : (session now : Session) (taken : Option Taken) → HasReceipts sess
 still_open session now (Some takes.Done) has pending none = absurd (cc none)
 still_open session now _ has pending none = ap is_some has.1 ∙ pending
 
-waiting_one : (call : Option Call) → is_some call ≡ true → waiting call ≡ 1
-waiting_one None pending = absurd (cc pending)
-waiting_one (Some call) pending = refl
-
-same_last : (session now : Session) → now.receipts ≡ session.receipts → now.outstanding ≡ session.outstanding → now.last ≡ session.last
-    → session.last ≡ length session.receipts + waiting session.outstanding → now.last ≡ length now.receipts + waiting now.outstanding
-same_last session now receipts outstanding last is =
-    last ∙ is ∙ ap (λ (rs : List Receipt). length rs + waiting session.outstanding) (sym receipts)
-    ∙ ap (λ (call : Option Call). length now.receipts + waiting call) (sym outstanding)
-
 -- a session has a receipt for each of its calls but an outstanding one still
 last_more : (session now : Session) (taken : Option Taken) → HasReceipts session now taken → is_some session.outstanding ≡ true → now.last ≡ session.last
     → session.last ≡ length session.receipts + waiting session.outstanding → now.last ≡ length now.receipts + waiting now.outstanding
-last_more session now (Some takes.Done) has pending last is =
-    let one = waiting_one session.outstanding pending in
-    let none = ap waiting has.1 in
-    let more = has.0 in
-    omega (arith, one, none, more, last, is)
-last_more session now _ has pending last is = same_last session now has.0 has.1 last is
+last_more session now taken has pending last is = grind (arith, waiting)
 
 -- an outstanding call that was counted is a receipt now, or still counted
 made_on : (before now : ℕ) (answer : Bool) → now ≡ before + one_if answer → before + one_if true ≡ now + one_if (not answer)

@@ -1,17 +1,15 @@
 -- A lane behind its lock, and a pass, stay so at a client's turn.
-use Rattle.rk_shared_lanes.proofs.Words.{◌≡◌, ℕ, ◌+◌, Bool, true, false, cond, not, List, [], ◌∷◌, length, Option, Some, None, Result, Ok}
-use Rattle.rk_shared_lanes.proofs.Words.{Err, refl, sym, ap, subst, ◌∙◌, ⊎_elim, arith, ◌==◌, IfSome, Segments, BackupLane, Call, Receipt}
-use Rattle.rk_shared_lanes.proofs.Words.{Located, Visited, ask, is_asked_here, untouched, Session, is_added, MayAct, ask_refusal}
-use Rattle.rk_shared_lanes.proofs.Words.{world_visited, World, StepError, Seen, AreTold, IsSameLane, LaneState, Running, world_with}
-use Rattle.rk_shared_lanes.proofs.Words.{IsVisitOf, waiting, Counts, lanes_visited, HasSameClients, accepted_count, IsGoodLane, IsOrderly}
-use Rattle.rk_shared_lanes.proofs.Words.{HasCountedCalls, IsKept, IsPass, PassState, one_if}
+use Rattle.rk_shared_lanes.proofs.Words.{◌≡◌, ℕ, ◌+◌, Bool, true, false, cond, not, List, [], ◌∷◌, length, Option, Some, Result, Ok, refl}
+use Rattle.rk_shared_lanes.proofs.Words.{sym, ap, subst, ◌∙◌, ⊎_elim, arith, IfSome, Segments, BackupLane, Call, Located, Visited, ask}
+use Rattle.rk_shared_lanes.proofs.Words.{is_asked_here, untouched, Session, is_added, MayAct, ask_refusal, world_visited, World, StepError}
+use Rattle.rk_shared_lanes.proofs.Words.{Seen, AreTold, IsSameLane, LaneState, Running, world_with, IsVisitOf, waiting, Counts}
+use Rattle.rk_shared_lanes.proofs.Words.{lanes_visited, HasSameClients, accepted_count, IsGoodLane, IsOrderly, HasCountedCalls, IsKept}
+use Rattle.rk_shared_lanes.proofs.Words.{IsPass, PassState, one_if}
 use Rattle.std.specs.Prelude.{is_some}
 use Rattle.std.proofs.lemmas.Bool.{and_parts}
-use Rattle.rk_session.specs.Turns.{session_after}
-use Rattle.rk_world.specs.Calls.{ask_by, asked_by_session, asking, asking_by, fits, fits_by, fits_with}
-use Rattle.rk_world.specs.Client.{ClientTurn, MOST_REQUESTS, looking_up, range_of, session_turn, turn_by, turn_of, turn_to}
+use Rattle.rk_world.specs.Calls.{asking, fits}
+use Rattle.rk_world.specs.Client.{turn_by}
 use Rattle.rk_lane.specs.Visits.{MayHaveTurned}
-use Rattle.rk_laws_lanes.specs.Counts.{IsAskedOnce}
 use Rattle.rk_laws_lanes.proofs.Asks.{asked_once, turned_same}
 use Rattle.rk_laws_lanes.proofs.Clients.{good_asks}
 use Rattle.rk_laws_gathered.proofs.Counting.{ask_counted}
@@ -22,13 +20,7 @@ use Rattle.rk_shared_lanes.proofs.Standing.{kept_with, sound_on, stands_on}
 
 -- a turn that was taken was not refused
 asked_is : (w : World) (session : Session) (visited : Visited) → ask w session ≡ Ok visited → asking w session session.outstanding ≡ visited
-asked_is w session visited is = go (ask_refusal w session) refl
-  where
-    go : (found : Option StepError) → ask_refusal w session ≡ found → asking w session session.outstanding ≡ visited
-    go None none =
-        let all : Ok (asking w session session.outstanding) ≡ Ok visited = sym (ap (ask_by w session) none) ∙ is in cc all
-    go (Some error) some =
-        let all : Err error ≡ Ok visited = sym (ap (ask_by w session) some) ∙ is in absurd (cc all)
+asked_is w session visited is = grind (arith, ask_refusal)
 
 -- what a turn counts in a lane that its session fits
 pub record IsTurnCounted (w : World) (session : Session) (visited : Visited) : Type 0 where
@@ -41,27 +33,7 @@ pub record IsTurnCounted (w : World) (session : Session) (visited : Visited) : T
   pub pending : is_some session.outstanding ≡ true
 
 turn_counted : (w : World) (session : Session) (visited : Visited) → ask w session ≡ Ok visited → fits w session ≡ true → IsTurnCounted w session visited
-turn_counted w session visited is fit =
-    let both = and_parts (is_added w.ledger session.client) (fits_by w session session.outstanding) fit in
-    go session.outstanding refl both.0 both.1
-  where
-    go : (call : Option Call) → session.outstanding ≡ call → is_added w.ledger session.client ≡ true → fits_by w session session.outstanding ≡ true → IsTurnCounted w session visited
-    go None none added fitting =
-        let never : false ≡ true = sym (ap (fits_by w session) none) ∙ fitting in absurd (cc never)
-    go (Some call) some added fitting =
-        let fits_here = sym (ap (fits_by w session) some) ∙ fitting in
-        let once = asked_once w session call some added fits_here in
-        let made : asking w session (Some call) ≡ visited = ap (asking w session) (sym some) ∙ asked_is w session visited is in
-        let counted : IsAskedOnce w session call visited = subst (IsAskedOnce w session call) made once in
-        record {
-          accepted = counted.accepted;
-          asked = counted.asked ∙ ap (λ (here : Bool). cond here w.ledger.asked (w.ledger.asked + 1)) (ap (asked_by_session w session) (sym some));
-          clients = counted.clients;
-          receipts = counted.receipts;
-          outstanding = counted.outstanding;
-          client = counted.client;
-          pending = ap is_some some;
-        }
+turn_counted w session visited is fit = grind (arith, and_parts, is_added, asked_once, asked_is)
 
 -- what a turn leaves of a session, also where it was refused for want of memory
 pub record IsSameSession (session now : Session) : Type 0 where
@@ -73,62 +45,20 @@ pub record IsSameSession (session now : Session) : Type 0 where
 
 -- a turn leaves how many calls a session made
 turned_last : (session : Session) (call : Call) (found : Option Located) → (turn_by session call found).session.last ≡ session.last
-turned_last session call None = refl
-turned_last session call (Some located) = by_count (session.requests == MOST_REQUESTS)
-  where
-    by_owner : (owner : Option ℕ) → (turn_to session call located.tablet owner).session.last ≡ session.last
-    by_owner None = refl
-    by_owner (Some master) = refl
-
-    by_count : (most : Bool) → (cond most (looking_up session call) (turn_to session call located.tablet located.owner)).session.last ≡ session.last
-    by_count true = refl
-    by_count false = by_owner located.owner
+turned_last session call found = grind arith
 
 -- so does a turn in a lane
 asked_last : (w : World) (session : Session) (call : Option Call) → session.outstanding ≡ call → (asking w session call).session.last ≡ session.last
-asked_last w session None is = refl
-asked_last w session (Some call) is = by_fit (fits_with w session call)
-  where
-    by_turn : (turn : Option ClientTurn) → session_turn session ≡ turn → (asking_by w session call turn).session.last ≡ session.last
-    by_turn None none = refl
-    by_turn (Some turned) some =
-        let same : Some (turn_by session call (range_of session call)) ≡ Some turned = ap (turn_of session) (sym is) ∙ some in
-        let turn_is : turn_by session call (range_of session call) ≡ turned = cc same in
-        subst (λ (turn : ClientTurn). turn.session.last ≡ session.last) turn_is (turned_last session call (range_of session call))
-
-    by_fit : (fit : Bool) → (cond fit (asking_by w session call (session_turn session)) (untouched w session None)).session.last ≡ session.last
-    by_fit true = by_turn (session_turn session) refl
-    by_fit false = refl
-
--- a session that has taken its turn
-turned_session : (session : Session) (call : Option Call) → session.outstanding ≡ call → IsSameSession session (session_after session (turn_of session call))
-turned_session session None is = record { receipts = refl; outstanding = refl; client = refl; last = refl; orderly = λ orderly. orderly }
-turned_session session (Some call) is =
-    let same = turned_same session call (range_of session call) in
-    record {
-      receipts = same.receipts;
-      outstanding = same.outstanding;
-      client = same.client;
-      last = turned_last session call (range_of session call);
-      orderly = λ orderly. turn_orderly session.client session orderly (Some call) (turn_by session call (range_of session call)) refl;
-    }
+asked_last w session call is = grind (arith, turned_last, untouched)
 
 pub turned_or_not : (session now : Session) → MayHaveTurned session now → IsSameSession session now
-turned_or_not session now turned =
-    ⊎_elim
-    (λ (same : now ≡ session). subst (IsSameSession session) (sym same) (record { receipts = refl; outstanding = refl; client = refl; last = refl; orderly = λ orderly. orderly }))
-    (λ (after : now ≡ session_after session (session_turn session)).
-    subst (IsSameSession session) (sym after) (turned_session session session.outstanding refl)) turned
+turned_or_not session now turned = grind (arith, turned_same, turned_last, turn_orderly)
 
 -- ---- the pass
 
 -- the amount of a share to which one was added where a call was not counted before, and which counts it now
 one_for : (here counted : Bool) (before : ℕ) → here ≡ counted → cond here before (before + 1) ≡ before + one_if (not counted)
-one_for here counted before same = subst (λ (b : Bool). cond b before (before + 1) ≡ before + one_if (not counted)) (sym same) (go counted)
-  where
-    go : (b : Bool) → cond b before (before + 1) ≡ before + one_if (not b)
-    go true = omega arith
-    go false = refl
+one_for here counted before same = grind (arith, one_if)
 
 made_for : (counted : Bool) (receipts : ℕ) → receipts + one_if counted + one_if (not counted) ≡ receipts + 1
 made_for true receipts = omega arith
@@ -140,38 +70,16 @@ module _ (tells : Type 0) (masters : ℕ) (makes : Call → Type 0) (pass : Pass
 
   -- it has as many receipts and calls as before
   last_same : pass.session.last ≡ length pass.session.receipts + waiting pass.session.outstanding → now.last ≡ length now.receipts + waiting now.outstanding
-  last_same is =
-      same.last ∙ is ∙ ap (λ (receipts : List Receipt). length receipts + waiting pass.session.outstanding) (sym same.receipts)
-      ∙ ap (λ (call : Option Call). length now.receipts + waiting call) (sym same.outstanding)
+  last_same is = grind (arith, waiting)
 
   -- it stays so where its call was not asked
   pub pass_kept : (got made : ℕ × ℕ) → IsPass tells masters makes pass got made → IsPass tells masters makes (record { session = now; counted = pass.counted }) got made
-  pass_kept got made it = record {
-    may = may;
-    last_is = last_same it.last_is;
-    calls = λ told. same_makes makes pass.session now same.receipts same.outstanding (it.calls told);
-    got_is = (it.got_is.0, it.got_is.1 ∙ ap length (sym same.receipts));
-    made_is = (it.made_is.0, it.made_is.1 ∙ ap (λ (receipts : List Receipt). length receipts + one_if pass.counted) (sym same.receipts));
-    pending = λ counted. ap is_some same.outstanding ∙ it.pending counted;
-    orderly = λ told. now_orderly (it.orderly told);
-  }
+  pass_kept got made it = grind (arith, last_same, same_makes, one_if, now_orderly)
 
   -- and where it was asked, and counted
   pub pass_asked : (got made made_now : ℕ × ℕ) → IsPass tells masters makes pass got made → made_now.0 ≡ made.0 → made_now.1 ≡ made.1 + one_if (not pass.counted)
       → is_some pass.session.outstanding ≡ true → IsPass tells masters makes (record { session = now; counted = true }) got made_now
-  pass_asked got made made_now it parts amount pending = record {
-    may = may;
-    last_is = last_same it.last_is;
-    calls = λ told. same_makes makes pass.session now same.receipts same.outstanding (it.calls told);
-    got_is = (it.got_is.0, it.got_is.1 ∙ ap length (sym same.receipts));
-    made_is = (
-      parts ∙ it.made_is.0,
-      amount ∙ ap (λ (n : ℕ). n + one_if (not pass.counted)) it.made_is.1 ∙ made_for pass.counted (length pass.session.receipts)
-          ∙ ap (λ (receipts : List Receipt). length receipts + 1) (sym same.receipts),
-    );
-    pending = λ counted. ap is_some same.outstanding ∙ pending;
-    orderly = λ told. now_orderly (it.orderly told);
-  }
+  pass_asked got made made_now it parts amount pending = grind (arith, last_same, same_makes, one_if, made_for, now_orderly)
 
 -- ---- the lane
 
@@ -233,7 +141,4 @@ module _ {R : Type 0} (segments : R → Option Segments) (faults : R → ℕ) (t
 -- a lane and a pass that a worker holds suit, said of what is in them
 pub suits_in : {R : Type 0} (lane now : LaneState R) (pass pass_now : PassState) (running : Running) → lane ≡ now → pass ≡ pass_now → lane.running ≡ Some running
     → IfSome now.running (λ r. Suits (world_with now r []) pass_now) → Suits (world_with lane running []) pass
-suits_in {R} lane now pass pass_now running same_lane same_pass runs suits =
-    subst (λ (o : Option Running). IfSome o (λ r. Suits (world_with lane r []) pass)) runs
-    (subst (λ (it : LaneState R). IfSome it.running (λ r. Suits (world_with it r []) pass)) (sym same_lane)
-    (subst (λ (it : PassState). IfSome now.running (λ r. Suits (world_with now r []) it)) (sym same_pass) suits))
+suits_in {R} lane now pass pass_now running same_lane same_pass runs suits = grind (arith, world_with)

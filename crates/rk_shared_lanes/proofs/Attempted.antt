@@ -1,8 +1,8 @@
 -- A client's attempt in a lane behind its lock, put together from what the smaller functions make.
-use Rattle.rk_shared_lanes.proofs.Words.{◌≡◌, ◌≢◌, ⊎_elim, ℕ, true, false, not, List, Option, Some, None, Result, Ok, Err, refl, sym, ap}
-use Rattle.rk_shared_lanes.proofs.Words.{subst, ◌∙◌, IfErr, IfOk, IfSome, get, Segments, accept, ask, Session, accept_refusal, ask_refusal}
-use Rattle.rk_shared_lanes.proofs.Words.{StepError, Seen, Taken, LaneState, IsVisitOf, Comes, EndsAt, IsEvent, IsSending, StopsAt, Short}
-use Rattle.rk_shared_lanes.proofs.Words.{is_answer, PassState}
+use Rattle.rk_shared_lanes.proofs.Words.{arith, ◌≡◌, ◌≢◌, ⊎_elim, ℕ, true, false, not, List, Option, Some, None, Result, Ok, Err, refl, sym}
+use Rattle.rk_shared_lanes.proofs.Words.{ap, subst, ◌∙◌, IfErr, IfOk, IfSome, get, Segments, accept, ask, Session, accept_refusal}
+use Rattle.rk_shared_lanes.proofs.Words.{ask_refusal, StepError, Seen, Taken, LaneState, IsVisitOf, Comes, EndsAt, IsEvent, IsSending}
+use Rattle.rk_shared_lanes.proofs.Words.{StopsAt, Short, is_answer, PassState}
 use Rattle.std.proofs.Common.{◌==◌, eq-eqb, ne_eqb}
 use Rattle.std.specs.Prelude.{OnErr, is_some}
 use Rattle.rk_world.specs.declared.error.StepError.TheVariants as errors
@@ -39,9 +39,7 @@ unanswered _ none = refl
 pub still_counted : (answer : Result Seen StepError) (old new : PassState) (taken : Option Taken) (attempt : Option Attempt) → old.counted ≡ true
     → IfOk answer (λ seen. new.counted ≡ not (is_answer seen.taken)) → OnErr answer (new ≡ old) → IfOk answer (λ seen. taken ≡ seen.taken)
     → attempt ≡ heard taken → attempt ≡ None → new.counted ≡ true
-still_counted (Ok seen) old new taken attempt counted counts same is says none =
-    counts ∙ unanswered seen.taken (ap heard (sym is) ∙ sym says ∙ none)
-still_counted (Err error) old new taken attempt counted counts same is says none = ap (λ (pass : PassState). pass.counted) same ∙ counted
+still_counted answer old new taken attempt counted counts same is says none = grind (arith, unanswered)
 
 module _ {R : Type 0} (segments : R → Option Segments) where
   -- ---- one message
@@ -57,11 +55,8 @@ module _ {R : Type 0} (segments : R → Option Segments) where
       → IfErr answer (λ e. e ≢ errors.NoMemory → IsRefusedFor (λ w. accept_refusal w number pass.session.client (get w.wire.messages number)) old e)
       → OnErr answer (new ≡ old) → OnErr answer (now ≡ pass) → IfOk answer (λ seen. taken ≡ seen.taken)
       → IfErr answer (λ e. (e ≢ errors.NoMemory) × (taken ≡ None)) → IsAccepted old new pass.session now.session number taken
-  accepted old new pass now number (Ok seen) taken runs visited refused kept same is none = record {
-    seen = seen;
-    comes = taken_one segments old new pass.session now.session number seen visited;
-    says = sym is;
-  }
+  accepted old new pass now number (Ok seen) taken runs visited refused kept same is none =
+      grind (arith, taken_one, pass.session, now.session)
   accepted old new pass now number (Err error) taken runs visited refused kept same is none =
       let there = running_there old.running runs in
       subst (λ (it : LaneState R). IsAccepted old it pass.session now.session number taken) (sym kept)
@@ -101,14 +96,7 @@ module _ {R : Type 0} (segments : R → Option Segments) where
       → (error ≢ errors.NoMemory → result ≡ refused_by error) → (error ≡ errors.NoMemory → result ≡ Err shorts.NoMemory)
       → (worn : Option ℕ) → EndsAt result worn → IsAttempt segments old new pass.session now.session result
   attempt_unasked old new pass now error result runs refused kept same is memory worn ends =
-      ⊎_elim
-      (λ (it : error ≡ errors.NoMemory). absurd (subst (λ (r : Result Attempt Short). EndsAt r worn) (memory it) ends))
-      (λ (other : error ≢ errors.NoMemory).
-      let there = running_there old.running runs in
-      subst (λ (it : LaneState R). IsAttempt segments old it pass.session now.session result) (sym kept)
-      (subst (λ (it : PassState). IsAttempt segments old old pass.session it.session result) (sym (same other))
-      (subst (IsAttempt segments old old pass.session pass.session) (sym (is other)) (attempt_refused segments old there.0 pass.session error there.1 (refused other)))))
-      (memory_or error)
+      grind (arith, running_there, attempt_refused, memory_or)
 
   module _ (old middle : LaneState R) (session asked : Session) (seen : Seen) (asks : IsVisitOf (λ w. ask w session) old middle asked seen) where
     -- one that was stopped once the client had asked

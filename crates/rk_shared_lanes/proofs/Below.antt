@@ -49,9 +49,7 @@ module _ {R : Type 0} (faults : R → ℕ) (counts : Counts) (lanes : List (Lane
 
   -- and the roster has none of further lanes
   pub none_further : GoOn [] counts (counts_in faults lanes) → (number place : ℕ) → LANES ≤ number → counts number place ≡ None
-  none_further on number place past =
-      none_before (counts number place)
-      (subst (λ (found : Option (LaneState R)). RoseBy 0 (counts number place) (lane_counts faults found place)) (slice_get_past lanes number (omega (arith, eight, past))) (on number place))
+  none_further on number place past = grind (arith, none_before, lane_counts, slice_get_past, eight)
 
   pub all_above : ((number place : ℕ) → LANES ≤ number → counts number place ≡ None) → All (IsNoneBelow faults counts) lanes → GoOn [] counts (counts_in faults lanes)
   all_above further above number place =

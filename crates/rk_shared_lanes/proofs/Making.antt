@@ -1,8 +1,8 @@
 -- The calls of a session stay such as clients make.
-use Rattle.rk_shared_lanes.proofs.Words.{◌≡◌, ℕ, Bool, true, false, cond, List, [], Option, None, Some, refl, sym, subst, ◌==◌, IfSome, All}
-use Rattle.rk_shared_lanes.proofs.Words.{All-nil, All-push, Answer, Call, Op, Receipt, Located, Reply, Body, Message, accepting}
-use Rattle.rk_shared_lanes.proofs.Words.{is_asked_here, taking, untouched, Session, accepted_by, accepted_of, answer_accepted, call_lane}
-use Rattle.rk_shared_lanes.proofs.Words.{has_call, ignoring, next_call, with_next_call, with_range, World, MakesOnly}
+use Rattle.rk_shared_lanes.proofs.Words.{arith, ◌≡◌, ℕ, Bool, true, false, cond, List, [], Option, None, Some, refl, subst, ◌==◌, IfSome}
+use Rattle.rk_shared_lanes.proofs.Words.{All-push, Answer, Call, Op, Receipt, Located, Reply, Body, Message, accepting, is_asked_here}
+use Rattle.rk_shared_lanes.proofs.Words.{taking, untouched, Session, accepted_by, accepted_of, answer_accepted, call_lane, has_call}
+use Rattle.rk_shared_lanes.proofs.Words.{ignoring, next_call, with_next_call, with_range, World, MakesOnly}
 use Rattle.rk_types.specs.declared.call.Answer.TheVariants as answers
 use Rattle.rk_message.specs.declared.message.Body.TheVariants as bodies
 use Rattle.rk_world.specs.Client.{receipt_of}
@@ -12,16 +12,7 @@ module _ (makes : Call → Type 0) where
   -- ---- what leaves them
 
   pub same_makes : (session now : Session) → now.receipts ≡ session.receipts → now.outstanding ≡ session.outstanding → MakesOnly makes session → MakesOnly makes now
-  same_makes session now receipts outstanding it = record {
-    answered = subst (All (λ (receipt : Receipt). makes receipt.call)) (sym receipts) it.answered;
-    outstanding = subst (λ (call : Option Call). IfSome call makes) (sym outstanding) it.outstanding;
-  }
-
-  pub idle_makes : (session : Session) → session.receipts ≡ [] → session.outstanding ≡ None → MakesOnly makes session
-  idle_makes session receipts outstanding = record {
-    answered = subst (All (λ (receipt : Receipt). makes receipt.call)) (sym receipts) (All-nil _);
-    outstanding = subst (λ (call : Option Call). IfSome call makes) (sym outstanding) tt;
-  }
+  same_makes session now receipts outstanding it = grind arith
 
   pub next_makes : (session : Session) (table : ℕ) (key : List ℕ) (op : Op) → makes (next_call session table key op) → MakesOnly makes session
       → MakesOnly makes (with_next_call session table key op)

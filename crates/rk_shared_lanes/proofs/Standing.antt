@@ -1,8 +1,8 @@
 -- What lies behind a lane's lock stays so, by what became of the lane.
-use Rattle.rk_shared_lanes.proofs.Words.{◌≡◌, ◌^◌, ◌<◌, ℕ, List, [], ◌∷◌, Option, Some, sym, ap, subst, ◌∙◌, IfSome, NumberMap, LANES}
-use Rattle.rk_shared_lanes.proofs.Words.{Segments, Ledger, World, AreTold, IsSameLane, LaneState, Running, world_with, Counts, LanesGoOn}
-use Rattle.rk_shared_lanes.proofs.Words.{RoseBy, lane_counts, HasSameClients, accepted_count, IsGoodLane, HasCountedCalls, IsKept}
-use Rattle.rk_shared_lanes.proofs.Words.{IsNoneBelow, IsPart, IsSoundOrSpent, StandsFor}
+use Rattle.rk_shared_lanes.proofs.Words.{arith, ◌≡◌, ◌^◌, ◌<◌, ℕ, List, [], ◌∷◌, Option, Some, sym, ap, subst, ◌∙◌, NumberMap, LANES}
+use Rattle.rk_shared_lanes.proofs.Words.{Segments, Ledger, AreTold, IsSameLane, LaneState, Running, world_with, Counts, LanesGoOn, RoseBy}
+use Rattle.rk_shared_lanes.proofs.Words.{lane_counts, HasSameClients, accepted_count, IsGoodLane, HasCountedCalls, IsKept, IsNoneBelow}
+use Rattle.rk_shared_lanes.proofs.Words.{IsPart, IsSoundOrSpent, StandsFor}
 use Rattle.rk_cluster.proofs.Faults.{rose_then}
 use Rattle.rk_shared_lanes.specs.Kept.{HasClients}
 
@@ -18,23 +18,15 @@ below_still faults counts old new same on above place =
     (rose_then 0 0 (counts old.number place) (lane_counts faults (Some old) place) (lane_counts faults (Some new) place) (above place) (on 0 place))
 
 module _ {R : Type 0} (segments : R → Option Segments) (old new : LaneState R) (same : IsSameLane old new) where
-  -- a good world of the lane as it was is one of the lane as it is
-  pub good_on : (w : World) → IsGoodLane old.masters old.number w → IsGoodLane new.masters new.number w
-  good_on w good =
-      subst (λ (count : ℕ). IsGoodLane count new.number w) (sym same.masters)
-      (subst (λ (number : ℕ). IsGoodLane old.masters number w) (sym same.number) good)
-
   -- the lane stands for a good world with what its backups stored before
   pub stands_on : (before after : Running) → (stored : NumberMap Segments) → AreTold segments new.backups stored
       → IsGoodLane old.masters old.number (world_with new after stored) → StandsFor segments new after
-  stands_on before after stored told good = record { stored = stored; told = told; good = good_on (world_with new after stored) good }
+  stands_on before after stored told good = grind (arith, world_with)
 
   -- it stays sound or spent where each good world that it stood for leads to one
   pub sound_on : (before after : Running) → old.running ≡ Some before → new.running ≡ Some after
       → (StandsFor segments old before → StandsFor segments new after) → IsSoundOrSpent segments old → IsSoundOrSpent segments new
-  sound_on before after was is leads sound =
-      subst (λ (running : Option Running). IfSome running (StandsFor segments new)) (sym is)
-      (leads (subst (λ (running : Option Running). IfSome running (StandsFor segments old)) was sound))
+  sound_on before after was is leads sound = grind arith
 
 module _ {R : Type 0} (segments : R → Option Segments) (faults : R → ℕ) (tells : Type 0) (masters backups : ℕ) (clients : List ℕ) (counts : Counts) (old new : LaneState R)
     (same : IsSameLane old new) where

@@ -1,17 +1,16 @@
 -- A lane behind its lock stays so at each event.
-use Rattle.rk_shared_lanes.proofs.Words.{◌≡◌, ◌≢◌, ℕ, [], ◌∷◌, List, length, Option, Some, None, Result, Ok, Err, refl, sym, ap, subst, ◌∙◌}
-use Rattle.rk_shared_lanes.proofs.Words.{⊎_elim, IfErr, IfOk, IfSome, Segments, BackupLane, NumberMap, Placed, Ledger, is_added, World}
-use Rattle.rk_shared_lanes.proofs.Words.{StepError, Event, Seen, AreTold, IsSameLane, LaneState, Running, world_with, Counts, LanesGoOn}
+use Rattle.rk_shared_lanes.proofs.Words.{arith, ◌≡◌, ◌≢◌, ℕ, [], ◌∷◌, List, length, Option, Some, None, Result, Ok, Err, refl, sym, ap}
+use Rattle.rk_shared_lanes.proofs.Words.{subst, ◌∙◌, ⊎_elim, IfErr, IfOk, IfSome, Segments, BackupLane, Ledger, is_added, World, StepError}
+use Rattle.rk_shared_lanes.proofs.Words.{Event, Seen, AreTold, IsSameLane, LaneState, Running, world_with, Counts, LanesGoOn}
 use Rattle.rk_shared_lanes.proofs.Words.{HasSameClients, accepted_count, IsGoodLane, HasCountedCalls, IsKept, IsSoundOrSpent, StandsFor}
 use Rattle.std.proofs.Common.{inl, inr}
 use Rattle.std.specs.Prelude.{◌⊎◌}
 use Rattle.rk_world.specs.Backup.{Called}
-use Rattle.rk_world.specs.declared.ledger.LastCall.{LastCall}
 use Rattle.rk_world.specs.Premises.{MayHappen}
 use Rattle.rk_world.specs.Refusals.{refusal}
 use Rattle.rk_world.specs.Replicas.{IsTold}
 use Rattle.rk_world.specs.Runs.{IsCalmEvent}
-use Rattle.rk_world.specs.Step.{Stepped, happened, step, stepped_by, told_by_replica}
+use Rattle.rk_world.specs.Step.{Stepped, happened, step, told_by_replica}
 use Rattle.rk_world.specs.declared.error.StepError.TheVariants as errors
 use Rattle.rk_lane.specs.Events.{IsAnswerOf, IsRefused, IsStepFrom, IsStepOf}
 use Rattle.rk_lane.proofs.Backed.{by_failing}
@@ -30,10 +29,7 @@ memory_or _ = inr (λ e. cc e)
 
 -- replicas that tell what they store answered by it
 told_so : (w : World) (event : Event) (called : Called) → IsAnswerOf (told_by_replica w event) called → IsTold w event called
-told_so w event called answers =
-    by_failing called (IsTold w event called)
-    (λ failed. let kept = answers.failed failed in record { fault = Some kept.0; told = kept.1 })
-    (λ fine. record { fault = None; told = answers.fine fine })
+told_so w event called answers = grind (arith, by_failing)
 
 -- of no backup is it said what it stores
 pub none_told : {R : Type 0} {segments : R → Option Segments} (backups : List (BackupLane R)) → AreTold segments backups []
@@ -45,24 +41,12 @@ pub record IsTaken (w : World) (event : Event) (called : Called) (after : World)
   pub is : (happened w event called).world ≡ after
 
 taken : (w : World) (event : Event) (called : Called) (stepped : Stepped) → step w event called ≡ Ok stepped → IsTaken w event called stepped.world
-taken w event called stepped is = go (refusal w event) refl
-  where
-    go : (found : Option StepError) → refusal w event ≡ found → IsTaken w event called stepped.world
-    go None none =
-        let all : Ok (happened w event called) ≡ Ok stepped = sym (ap (stepped_by w event called) none) ∙ is in
-        let same : happened w event called ≡ stepped = cc all in
-        record { allowed = none; is = ap (λ (s : Stepped). s.world) same }
-    go (Some error) some =
-        let all : Err error ≡ Ok stepped = sym (ap (stepped_by w event called) some) ∙ is in
-        absurd (cc all)
+taken w event called stepped is = grind arith
 
 -- a ledger has counted its calls where another one did that has its journal, its asked calls and its clients
 counted_same : (before after : Ledger) → after.journal ≡ before.journal → after.asked ≡ before.asked → after.clients ≡ before.clients
     → HasCountedCalls before → HasCountedCalls after
-counted_same before after journal asked clients counted =
-    subst (λ (it : List Placed). HasCountedCalls (record after { journal = it })) (sym journal)
-    (subst (λ (it : ℕ). HasCountedCalls (record after { journal = before.journal; asked = it })) (sym asked)
-    (subst (λ (it : NumberMap (Option LastCall)). HasCountedCalls (record after { journal = before.journal; asked = before.asked; clients = it })) (sym clients) counted))
+counted_same before after journal asked clients counted = grind arith
 
 module _ {R : Type 0} (segments : R → Option Segments) (faults : R → ℕ) (old new : LaneState R) (event : Event) (same : IsSameLane old new) where
   -- ---- an event that was taken

@@ -1,5 +1,5 @@
 -- Lanes and sessions that are taken out of their locks and passes, one after the other.
-use Rattle.rk_shared_lanes.proofs.Words.{◌≡◌, ◌^◌, ◌<◌, ◌≤◌, ℕ, ◌+◌, List, [], ◌∷◌, ◌++◌, length, sym, ap, ◌∙◌, arith, Option, All, All-nil}
+use Rattle.rk_shared_lanes.proofs.Words.{◌≡◌, ◌^◌, ◌<◌, ◌≤◌, ℕ, ◌+◌, List, [], ◌∷◌, ◌++◌, length, sym, ap, ◌∙◌, arith, Option, All}
 use Rattle.rk_shared_lanes.proofs.Words.{All-push, sum_by_push, Call, LANES, Segments, Session, MayAct, LaneState, waiting, Counts}
 use Rattle.rk_shared_lanes.proofs.Words.{accepted_count, IsOrderly, HasCountedCalls, IsNoneBelow, IsSoundOrSpent, MakesOnly}
 use Rattle.rk_shared_lanes.proofs.Words.{AllSoundOrSpent, IsOfRoster, powers_of}
@@ -26,17 +26,7 @@ module _ {R : Type 0} (segments : R → Option Segments) (faults : R → ℕ) (t
 
   pub none_taken : (accepted asked number : ℕ × ℕ) → (accepted.0 ≡ 0) × (accepted.1 ≡ 0) → (asked.0 ≡ 0) × (asked.1 ≡ 0) → (number.0 ≡ 0) × (number.1 ≡ 0)
       → AreTaken [] accepted asked number
-  none_taken accepted asked number a b c = record {
-    accepted_parts = a.0;
-    accepted_is = λ told. a.1;
-    asked_is = record { parts_are = b.0; amount_is = b.1 };
-    number_is = record { parts_are = c.0; amount_is = c.1 };
-    few = All-nil _;
-    roster = All-nil _;
-    none_below = All-nil _;
-    counted = λ told. All-nil _;
-    sound = λ told. All-nil _;
-  }
+  none_taken accepted asked number a b c = grind arith
 
   pub one_more_taken : (lanes : List (LaneState R)) (lane : LaneState R) (accepted asked number accepted_now asked_now number_now : ℕ × ℕ)
       → (accepted_now.0 ≡ accepted.0 + 1) × (tells → accepted_now.1 ≡ accepted.1 + accepted_count lane.ledger)
@@ -76,16 +66,6 @@ module _ (tells : Type 0) (masters : ℕ) (makes : Call → Type 0) where
     pub acts : All (MayAct masters) sessions
     pub orderly : tells → AllOrderly sessions
     pub calls : tells → All (MakesOnly makes) sessions
-
-  pub none_returned : (got made : ℕ × ℕ) → (got.0 ≡ 0) × (got.1 ≡ 0) → (made.0 ≡ 0) × (made.1 ≡ 0) → AreReturned [] got made
-  none_returned got made a b = record {
-    got_is = record { parts_are = a.0; amount_is = a.1 };
-    made_parts = b.0;
-    made_is = let none = b.1 in omega (arith, none);
-    acts = All-nil _;
-    orderly = λ told. All-nil _;
-    calls = λ told. All-nil _;
-  }
 
   pub one_more_returned : (sessions : List Session) (session : Session) (got made got_now made_now : ℕ × ℕ)
       → (got_now.0 ≡ got.0 + 1) × (got_now.1 ≡ got.1 + length session.receipts)

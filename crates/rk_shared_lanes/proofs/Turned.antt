@@ -1,7 +1,7 @@
 -- Turns and replays of a lane behind its lock, put together from what the smaller functions make.
-use Rattle.rk_shared_lanes.proofs.Words.{◌≡◌, ◌≤◌, ℕ, Bool, true, false, not, Option, Some, None, Result, Ok, Err, refl, sym, ap, subst}
-use Rattle.rk_shared_lanes.proofs.Words.{◌∙◌, IfErr, IfSome, OnOk, Segments, Event, IsSameLane, LaneState, world_with, Comes, EndsAt}
-use Rattle.rk_shared_lanes.proofs.Words.{IsEvent, StopsAt, started, next_message, Short, IsHandingOut, first_turned, one_handed_out}
+use Rattle.rk_shared_lanes.proofs.Words.{arith, ◌≡◌, ◌≤◌, ℕ, Bool, true, false, not, Option, Some, None, Result, Ok, Err, refl, ap, subst}
+use Rattle.rk_shared_lanes.proofs.Words.{IfErr, IfSome, OnOk, Segments, Event, IsSameLane, LaneState, world_with, Comes, EndsAt, IsEvent}
+use Rattle.rk_shared_lanes.proofs.Words.{StopsAt, started, next_message, Short, IsHandingOut, first_turned, one_handed_out}
 use Rattle.std.specs.Prelude.{is_some, []}
 use Rattle.rk_types.specs.declared.node.Node.TheVariants as nodes
 use Rattle.rk_world.specs.World.{has_crashed}
@@ -19,11 +19,7 @@ pub same_lane : {R : Type 0} (lane : LaneState R) → IsSameLane lane lane
 same_lane lane = record { number = refl; masters = refl; backups = refl }
 
 pub same_then : {R : Type 0} (old middle new : LaneState R) → IsSameLane old middle → IsSameLane middle new → IsSameLane old new
-same_then old middle new first second = record {
-  number = second.number ∙ first.number;
-  masters = second.masters ∙ first.masters;
-  backups = second.backups ∙ first.backups;
-}
+same_then old middle new first second = grind arith
 
 pub running_there : {X : Type 0} (there : Option X) → is_some there ≡ true → (x : X) × (there ≡ Some x)
 running_there None runs = absurd (cc runs)
@@ -31,12 +27,7 @@ running_there (Some x) runs = (x, refl)
 
 -- a lane that is found not spent runs
 pub not_spent : {R : Type 0} (old lane : LaneState R) (spent : Bool) → lane ≡ old → spent ≡ not (is_some lane.running) → spent ≡ false → is_some old.running ≡ true
-not_spent {R} old lane spent is tells lives =
-    ap (λ (it : LaneState R). is_some it.running) (sym is) ∙ by_test (is_some lane.running) (sym tells ∙ lives)
-  where
-    by_test : (runs : Bool) → not runs ≡ false → runs ≡ true
-    by_test true lives = refl
-    by_test false lives = absurd (cc lives)
+not_spent {R} old lane spent is tells lives = grind arith
 
 -- its coordinator counts its masters
 counted_in : {R : Type 0} (old lane : LaneState R) → lane ≡ old → IfSome lane.running (λ running. running.coordinator.masters ≡ lane.masters)
@@ -67,10 +58,6 @@ module _ {R : Type 0} (segments : R → Option Segments) where
       → OnOk result (is_some new.running ≡ true)
   event_runs old new event result came = runs_after new result (IsEvent segments old new event) (λ worn it. ap is_some it.comes.is) came
 
-  pub handed_runs : {T : Type 0} (old new : LaneState R) (number : ℕ) (result : Result T Short) → ((worn : Option ℕ) → EndsAt result worn → IsHanded segments old new number worn)
-      → OnOk result (is_some new.running ≡ true)
-  handed_runs old new number result came = runs_after new result (IsHanded segments old new number) (λ worn it. ap is_some it.comes.is) came
-
   -- a delivery was stopped
   pub hand_stopped : (old new : LaneState R) (number : ℕ) (short : Short) → ((worn : Option ℕ) → StopsAt short worn → IsEvent segments old new (events.Deliver number) worn)
       → (worn : Option ℕ) → StopsAt short worn → IsHanded segments old new number worn
@@ -88,31 +75,21 @@ module _ {R : Type 0} (segments : R → Option Segments) where
   -- all masters took their turns
   pub all_turned : (old new : LaneState R) (count masters : ℕ) → count ≡ masters → Comes segments old new (first_turned segments count) started
       → (worn : Option ℕ) → worn ≡ None → Comes segments old new (λ w. nodes_turned w masters) (has_come worn)
-  all_turned old new count masters all came worn ends =
-      subst (λ (it : Option ℕ). Comes segments old new (λ w. nodes_turned w masters) (has_come it)) (sym ends)
-      (subst (λ (n : ℕ). Comes segments old new (λ w. nodes_turned w n) started) all came)
+  all_turned old new count masters all came worn ends = grind (arith, started)
 
   -- a master that has crashed takes no turn
   pub crashed_passes : (old lane : LaneState R) (master : ℕ) (crashed : Bool) → is_some old.running ≡ true → lane ≡ old
       → IfSome lane.running (λ running. crashed ≡ has_crashed (world_with lane running []) master) → crashed ≡ true
       → (worn : Option ℕ) → worn ≡ None → Comes segments old old (λ w. master_turned (started w) master) (has_come worn)
   crashed_passes old lane master crashed some is tells yes_crashed worn ends =
-      let there = running_there old.running some in
-      subst (λ (it : Option ℕ). Comes segments old old (λ w. master_turned (started w) master) (has_come it)) (sym ends)
-      (master_crashed segments old there.0 master there.1
-      (subst (λ (b : Bool). IfSome old.running (λ running. b ≡ has_crashed (world_with old running []) master)) yes_crashed
-      (subst (λ (it : LaneState R). IfSome it.running (λ running. crashed ≡ has_crashed (world_with it running []) master)) is tells)))
+      grind (arith, running_there, started, master_crashed, world_with)
 
   -- one that lives does
   pub living_turns : {T : Type 0} (old lane new : LaneState R) (master : ℕ) (crashed : Bool) (result : Result T Short) → lane ≡ old
       → IfSome lane.running (λ running. crashed ≡ has_crashed (world_with lane running []) master) → crashed ≡ false
       → ((worn : Option ℕ) → EndsAt result worn → IsEvent segments old new (events.Turn (nodes.Master master)) worn)
       → (worn : Option ℕ) → EndsAt result worn → Comes segments old new (λ w. master_turned (started w) master) (has_come worn)
-  living_turns old lane new master crashed result is tells lives came worn ends =
-      master_lives segments old new master worn
-      (subst (λ (b : Bool). IfSome old.running (λ running. b ≡ has_crashed (world_with old running []) master)) lives
-      (subst (λ (it : LaneState R). IfSome it.running (λ running. crashed ≡ has_crashed (world_with it running []) master)) is tells))
-      (came worn ends)
+  living_turns old lane new master crashed result is tells lives came worn ends = grind (arith, master_lives, world_with)
 
   -- ---- messages that are handed out
 
@@ -131,9 +108,7 @@ module _ {R : Type 0} (segments : R → Option Segments) where
   pub turn_stopped : (old lane new : LaneState R) (short : Short) → lane ≡ old → IfSome lane.running (λ running. running.coordinator.masters ≡ lane.masters)
       → ((worn : Option ℕ) → StopsAt short worn → Comes segments old new (λ w. nodes_turned w old.masters) (has_come worn))
       → (worn : Option ℕ) → StopsAt short worn → IsTurn segments old new worn
-  turn_stopped old lane new short is counts came worn stops =
-      let at = stopped_at short worn stops in
-      turn_short segments old new worn at.0 at.1 (counted_in old lane is counts) (came worn stops)
+  turn_stopped old lane new short is counts came worn stops = grind (arith, stopped_at, turn_short, counted_in)
 
   -- it came to the deliveries
   pub turn_handed : (old lane middle new : LaneState R) (worn : Option ℕ) → lane ≡ old → IfSome lane.running (λ running. running.coordinator.masters ≡ lane.masters)
@@ -147,11 +122,7 @@ module _ {R : Type 0} (segments : R → Option Segments) where
   -- no message is there to be replayed
   pub replay_passes : (old : LaneState R) (number : ℕ) (here : Bool) → is_some old.running ≡ true → IfSome old.running (λ running. here ≡ is_replayed (world_with old running []) number)
       → here ≡ false → (worn : Option ℕ) → worn ≡ None → IsReplay segments old old number worn
-  replay_passes old number here runs tells gone worn ends =
-      let there = running_there old.running runs in
-      subst (IsReplay segments old old number) (sym ends)
-      (replay_none segments old there.0 number there.1
-      (subst (λ (b : Bool). IfSome old.running (λ running. b ≡ is_replayed (world_with old running []) number)) gone tells))
+  replay_passes old number here runs tells gone worn ends = grind (arith, running_there, replay_none, world_with)
 
   -- it is there
   pub replay_hands : {T : Type 0} (old new : LaneState R) (number : ℕ) (here : Bool) (result : Result T Short) → IfSome old.running (λ running. here ≡ is_replayed (world_with old running []) number)

@@ -1,6 +1,6 @@
 -- The side segments that items fill: none is empty or too long, none could have taken what begins the next, and all items stand in them.
 use Rattle.rk_side_log.proofs.Words.{◌≡◌, ℕ, zero, suc, ◌+◌, ◌<◌, ◌≤◌, Bool, true, false, leb, List, [], ◌∷◌, ◌++◌, length, map, get_or}
-use Rattle.rk_side_log.proofs.Words.{refl, sym, ap, subst, ◌∙◌, arith, length-append, append_assoc, All, append-nil, All-head, All-tail}
+use Rattle.rk_side_log.proofs.Words.{refl, sym, ap, ◌∙◌, arith, length-append, append_assoc, All, append-nil, All-head, All-tail}
 use Rattle.rk_side_log.proofs.Words.{spelled_of, Held, SEGMENT_BYTES, IsLawfulHeld, spelled, held_spelled, cut_items, sealed_sides}
 use Rattle.rk_side_log.proofs.Words.{spelled_items}
 use Rattle.std.proofs.Common.{sum, fold, add-one}
@@ -94,16 +94,12 @@ begins : (items : List Held) (item : Held) → fits items item ≡ false → SEG
 begins items item e = omega (arith, size_one item, length-spelled items, leb-false (sum (map spelled_of items) + spelled_of item) SEGMENT_BYTES e)
 
 packed_next : (items next : List Held) (others : List (List Held)) (item : Held) → ArePacked (items ∷ next ∷ others) → ArePacked (items ∷ with_side_item (next ∷ others) item)
-packed_next items next [] item packed =
-    cond_both (fits next item) ((next ++ item ∷ []) ∷ []) (next ∷ (item ∷ []) ∷ []) (λ (s : List (List Held)). ArePacked (items ∷ s))
-    (λ e. (omega (arith, packed.0, size_push next item), tt))
-    (λ e. (packed.0, (begins next item e, tt)))
+packed_next items next [] item packed = grind (arith, cond_both, size_push, begins, packed.0)
 packed_next items next (third ∷ others) item packed = (packed.0, packed_next next third others item packed.1)
 
 packed_with : (lists : List (List Held)) (item : Held) → ArePacked lists → ArePacked (with_side_item lists item)
 packed_with [] item packed = tt
-packed_with (items ∷ []) item packed =
-    cond_both (fits items item) ((items ++ item ∷ []) ∷ []) (items ∷ (item ∷ []) ∷ []) ArePacked (λ e. tt) (λ e. (begins items item e, tt))
+packed_with (items ∷ []) item packed = grind (arith, cond_both, begins)
 packed_with (items ∷ next ∷ others) item packed = packed_next items next others item packed
 
 packed_after : (lists : List (List Held)) (items : List Held) → ArePacked lists → ArePacked (fold with_side_item lists items)
@@ -118,27 +114,18 @@ packed_at (items ∷ next ∷ others) (suc place) packed h = packed_at (next ∷
 
 pub cut_packed : (items : List Held) (place : ℕ) → place + 1 < length (cut_items items)
     → SEGMENT_BYTES < length (spelled_items (get_or (cut_items items) place [])) + length (spelled_items (get_or (cut_items items) (place + 1) []))
-cut_packed items place h =
-    subst (λ (n : ℕ). SEGMENT_BYTES < size (get_or (cut_items items) place []) + size (get_or (cut_items items) n [])) (sym (add-one place))
-    (packed_at (cut_items items) place (packed_after [] items tt) (omega arith))
+cut_packed items place h = grind (arith, cut_items, add-one, packed_at, packed_after)
 
 -- ---- all items
 
 whole_with : (lists : List (List Held)) (item : Held) → flat_map (λ (s : List Held). s) (with_side_item lists item) ≡ flat_map (λ (s : List Held). s) lists ++ item ∷ []
 whole_with [] item = refl
-whole_with (items ∷ []) item =
-    cond_both (fits items item) ((items ++ item ∷ []) ∷ []) (items ∷ (item ∷ []) ∷ []) (λ (l : List (List Held)). flat_map (λ (s : List Held). s) l ≡ (items ++ []) ++ item ∷ [])
-    (λ e. append-nil (items ++ item ∷ []) ∙ ap (λ (l : List Held). l ++ item ∷ []) (sym (append-nil items)))
-    (λ e. ap (λ (l : List Held). l ++ item ∷ []) (sym (append-nil items)))
-whole_with (items ∷ next ∷ others) item =
-    ap (λ (l : List Held). items ++ l) (whole_with (next ∷ others) item)
-    ∙ sym (append_assoc items (flat_map (λ (s : List Held). s) (next ∷ others)) (item ∷ []))
+whole_with (items ∷ []) item = grind (arith, cond_both, append-nil)
+whole_with (items ∷ next ∷ others) item = grind (arith, append_assoc, (whole_with (next ∷ others) item))
 
 whole_after : (lists : List (List Held)) (items : List Held) → flat_map (λ (s : List Held). s) (fold with_side_item lists items) ≡ flat_map (λ (s : List Held). s) lists ++ items
 whole_after lists [] = sym (append-nil (flat_map (λ (s : List Held). s) lists))
-whole_after lists (x ∷ items) =
-    whole_after (with_side_item lists x) items ∙ ap (λ (l : List Held). l ++ items) (whole_with lists x)
-    ∙ append_assoc (flat_map (λ (s : List Held). s) lists) (x ∷ []) items
+whole_after lists (x ∷ items) = grind (arith, whole_with, append_assoc, (whole_after (with_side_item lists x) items))
 
 pub cut_whole : (items : List Held) → flat_map (λ (s : List Held). s) (cut_items items) ≡ items
 cut_whole items = whole_after [] items

@@ -1,16 +1,16 @@
 -- What segments that are filled with items spell, and how they take one more.
-use Rattle.std.proofs.Common.{◌≡◌, ℕ, zero, suc, ◌+◌, ◌-◌, ◌<◌, ◌≤◌, Bool, true, false, cond, leb, ltb, ◌&&◌, List, [], ◌∷◌, ◌++◌, Option, Some, None, length, take, get_or, set, replicate, refl, sym, ap, subst, ◌∙◌, arith, length-append, length-set, append_assoc, ⊎_elim}
+use Rattle.std.proofs.Common.{◌≡◌, ℕ, zero, suc, ◌+◌, ◌-◌, ◌<◌, ◌≤◌, Bool, true, false, cond, leb, ltb, ◌&&◌, List, [], ◌∷◌, ◌++◌, Option, None, length, take, get_or, set, replicate, refl, sym, ap, subst, ◌∙◌, arith, length-append, length-set, append_assoc, ⊎_elim}
 use Rattle.std.specs.Prelude.{IfSome}
 use Rattle.std.specs.List.{All, AllByRecursion}
 use Rattle.std.proofs.lemmas.Bool.{cond-true, cond-false, lt-ltb, le-ltb, and_left, and_cases, cases_lt, cond_both, both_ways, and_parts, ltb-true, leb-true}
 use Rattle.std.proofs.lemmas.List.{append-nil, length-map, length-replicate, map_push, replicate-append-replicate, take_at, set-append_left, set_at, get_or_append_left, get_or_at, get_or-append_right, get_or-replicate}
 use Rattle.std.proofs.lemmas.List.Concat.{flat_map-append}
-use Rattle.std.proofs.lemmas.List.Elements.{All-nil, All-head, All-tail, All-push}
+use Rattle.std.proofs.lemmas.List.Elements.{All-head, All-tail, All-push}
 use Rattle.rk_types.specs.declared.held.Held.{Held}
 use Rattle.rk_types.specs.Held.{spelled_of, spelled_value_of}
 use Rattle.rk_types.specs.Text.{value_fault}
-use Rattle.rk_types.specs.declared.held.TheConstants.{SEGMENT_BYTES, LONGEST_SHORT_VALUE, LONGEST_SPELLED}
-use Rattle.rk_types.specs.declared.text.TheConstants.{LONGEST_KEY, LONGEST_VALUE}
+use Rattle.rk_types.specs.declared.held.TheConstants.{SEGMENT_BYTES, LONGEST_SPELLED}
+use Rattle.rk_types.specs.declared.text.TheConstants.{LONGEST_KEY}
 use Rattle.rk_entry.specs.declared.entry.Entry.{Entry}
 use Rattle.rk_entry.specs.declared.entry.Entry.TheVariants as entries
 use Rattle.rk_entry.specs.Entries.{entries_of, entries_within}
@@ -64,12 +64,7 @@ read_empty (suc count) = (λ i. read_none i ++ read_empty count i)
 -- filled segments spell their items
 pub items_filled : (segments : List (List ℕ)) (used : ℕ) (items : List Held) → IsFilled segments used items → items_read segments ≡ items
 items_filled segments used items filled =
-    ap items_read filled.bytes_are
-    ∙ ap items_of
-    (flat_map-append entries_of (cut (as_entries items)) (replicate filled.empty [])
-    ∙ (λ i. cut_again (as_entries items) (lawful_entries items filled.lawful) i ++ read_empty filled.empty i)
-    ∙ append-nil (as_entries items))
-    ∙ items-as_entries items
+    grind (arith, flat_map-append, cut_again, lawful_entries, read_empty, append-nil, items-as_entries)
 
 -- they are filled with what they spell
 pub filled_again : (segments : List (List ℕ)) (used : ℕ) (items : List Held) → IsFilled segments used items → IsFilled segments used (items_read segments)
@@ -83,9 +78,7 @@ segments_cut items = sym (length-map (cut_items items) spelled_items) ∙ ap len
 
 -- the used ones, and the empty ones behind them
 pub length-filled : (segments : List (List ℕ)) (used : ℕ) (items : List Held) (filled : IsFilled segments used items) → length segments ≡ used + filled.empty
-length-filled segments used items filled =
-    ap length filled.bytes_are ∙ length-append (cut (as_entries items)) (replicate filled.empty [])
-    ∙ (λ i. sym filled.used_is i + length-replicate {A = List ℕ} filled.empty [] i)
+length-filled segments used items filled = grind (arith, length-append, length-replicate)
 
 -- the used ones
 pub take-filled : (segments : List (List ℕ)) (used : ℕ) (items : List Held) → IsFilled segments used items → take used segments ≡ cut (as_entries items)
@@ -93,21 +86,9 @@ take-filled segments used items filled = ap (take used) filled.bytes_are ∙ tak
 
 -- ---- other segments
 
--- none are filled with nothing
-pub filled_none : IsFilled [] 0 []
-filled_none = record { empty = 0; lawful = All-nil IsLawfulHeld; bytes_are = refl; used_is = refl }
-
 -- more empty ones may stand behind
 pub filled_more : (segments : List (List ℕ)) (used more : ℕ) (items : List Held) → IsFilled segments used items → IsFilled (segments ++ replicate more []) used items
-filled_more segments used more items filled = record {
-  empty = filled.empty + more;
-  lawful = filled.lawful;
-  bytes_are =
-      ap (λ (l : List (List ℕ)). l ++ replicate more []) filled.bytes_are
-      ∙ append_assoc (cut (as_entries items)) (replicate filled.empty []) (replicate more [])
-      ∙ ap (λ (l : List (List ℕ)). cut (as_entries items) ++ l) (replicate-append-replicate filled.empty more []);
-  used_is = filled.used_is;
-}
+filled_more segments used more items filled = grind (arith, append_assoc, replicate-append-replicate)
 
 -- ---- one more item
 
@@ -117,17 +98,12 @@ cut_more items item = ap cut (map_push entries.Held items item) ∙ cut_push [] 
 
 -- the last of the used segments
 last_used : (segments : List (List ℕ)) (used : ℕ) (items : List Held) → IsFilled segments used items → 0 < used → get_or segments (used - 1) [] ≡ last_of (cut (as_entries items))
-last_used segments used items filled some =
-    ap (λ (l : List (List ℕ)). get_or l (used - 1) []) filled.bytes_are
-    ∙ get_or_append_left (cut (as_entries items)) (replicate filled.empty []) [] (used - 1) (omega (arith, filled.used_is))
-    ∙ ap (λ (n : ℕ). get_or (cut (as_entries items)) (n - 1) []) filled.used_is
+last_used segments used items filled some = grind (arith, get_or_append_left)
 
 -- whether it fits there
 last_has_room : (segments : List (List ℕ)) (used : ℕ) (items : List Held) (bytes : List ℕ) → IsFilled segments used items → 0 < used
     → has_room (cut (as_entries items)) bytes ≡ leb (length (get_or segments (used - 1) []) + length bytes) SEGMENT_BYTES
-last_has_room segments used items bytes filled some =
-    ap (λ (b : Bool). b && leb (length (last_of (cut (as_entries items))) + length bytes) SEGMENT_BYTES) (lt-ltb 0 (length (cut (as_entries items))) (omega (arith, filled.used_is)))
-    ∙ ap (λ (l : List ℕ). leb (length l + length bytes) SEGMENT_BYTES) (sym (last_used segments used items filled some))
+last_has_room segments used items bytes filled some = grind (arith, leb, lt-ltb, last_used)
 
 -- it goes into the last one where it fits
 pub filled_last : (segments : List (List ℕ)) (used : ℕ) (items : List Held) (item : Held) (bytes : List ℕ) → IsFilled segments used items → IsLawfulHeld item → bytes ≡ spelled (entries.Held item)
@@ -151,22 +127,12 @@ filled_last segments used items item bytes filled lawful is some fits =
 -- whether there is room where there is none in the last of the used segments, or none is used
 no_room : (segments : List (List ℕ)) (used : ℕ) (items : List Held) (bytes : List ℕ) → IsFilled segments used items
     → (0 < used → leb (length (get_or segments (used - 1) []) + length bytes) SEGMENT_BYTES ≡ false) → has_room (cut (as_entries items)) bytes ≡ false
-no_room segments used items bytes filled full =
-    ⊎_elim
-    (λ (some : 0 < used). last_has_room segments used items bytes filled some ∙ full some)
-    (λ (none : used ≤ 0).
-    and_left (ltb 0 (length (cut (as_entries items)))) (leb (length (last_of (cut (as_entries items))) + length bytes) SEGMENT_BYTES)
-    (le-ltb 0 (length (cut (as_entries items))) (omega (arith, filled.used_is))))
-    (cases_lt 0 used)
+no_room segments used items bytes filled full = grind (arith, last_has_room, and_left, ltb, leb, le-ltb, cases_lt)
 
 -- the first of the empty ones takes it
 taken : (front : List (List ℕ)) (used empty : ℕ) (bytes : List ℕ) → length front ≡ used → 0 < empty
     → set (front ++ replicate empty []) used (get_or (front ++ replicate empty []) used [] ++ bytes) ≡ (front ++ bytes ∷ []) ++ replicate (empty - 1) []
-taken front used zero bytes at some = absurd (omega arith)
-taken front used (suc empty) bytes at some =
-    ap (λ (l : List ℕ). set (front ++ [] ∷ replicate empty []) used (l ++ bytes)) (get_or_at front [] (replicate empty []) [] used at)
-    ∙ set_at front [] (replicate empty []) bytes used at ∙ sym (append_assoc front (bytes ∷ []) (replicate empty []))
-    ∙ ap (λ (n : ℕ). (front ++ bytes ∷ []) ++ replicate n []) (omega arith)
+taken front used empty bytes at some = grind (arith, get_or_at, set_at, append_assoc)
 
 -- it goes into the first of the empty ones where it does not fit into the last of the used ones
 pub filled_next : (segments : List (List ℕ)) (used : ℕ) (items : List Held) (item : Held) (bytes : List ℕ) → IsFilled segments used items → IsLawfulHeld item → bytes ≡ spelled (entries.Held item)
@@ -198,12 +164,7 @@ next_there segments used items item bytes filled is full made =
 -- ---- how long an entry is
 
 value_most : (value : Option (List ℕ)) → IfSome value (λ v. value_fault v ≡ None) → spelled_value_of value ≤ 65005
-value_most None lawful = omega arith
-value_most (Some value) lawful =
-    let within : length value ≤ LONGEST_VALUE = (text_within 0 LONGEST_VALUE value lawful).1 in
-    let mark : cond (ltb LONGEST_SHORT_VALUE (length value)) 1 0 ≤ 1 =
-    cond_both (ltb LONGEST_SHORT_VALUE (length value)) 1 0 (λ (n : ℕ). n ≤ 1) (λ _. omega arith) (λ _. omega arith) in
-    omega arith
+value_most value lawful = grind (arith, text_within, ltb, cond_both)
 
 -- the entry of a lawful item is within the bound
 pub spelled_most : (item : Held) → IsLawfulHeld item → spelled_of item ≤ LONGEST_SPELLED
@@ -217,18 +178,13 @@ bytes_most item bytes lawful is = omega (arith, ap length is, held_spelled item,
 
 -- the first segment behind the used ones is empty
 pub next_empty : (segments : List (List ℕ)) (used : ℕ) (items : List Held) → IsFilled segments used items → used < length segments → get_or segments used [] ≡ []
-next_empty segments used items filled within =
-    ap (λ (l : List (List ℕ)). get_or l used []) filled.bytes_are
-    ∙ get_or-append_right (cut (as_entries items)) (replicate filled.empty []) used used [] (sym filled.used_is) (omega arith)
-    ∙ get_or-replicate filled.empty (used - used) [] [] (omega (arith, length-filled segments used items filled))
+next_empty segments used items filled within = grind (arith, get_or-append_right, get_or-replicate, length-filled)
 
 -- ---- where an entry goes
 
 -- an entry that does not fit into the last one, where there is one
 full_last : (used : ℕ) (fits : Bool) → (ltb 0 used && fits) ≡ false → 0 < used → fits ≡ false
-full_last used fits is some =
-    ⊎_elim (λ (none : ltb 0 used ≡ false). absurd (both_ways (ltb 0 used) none (lt-ltb 0 used some))) (λ (full : fits ≡ false). full)
-    (and_cases (ltb 0 used) fits is)
+full_last used fits is some = grind (arith, ltb, both_ways, lt-ltb, and_cases)
 
 -- the entry of an item goes into the segment at a place
 pub record GoesInto (segments : List (List ℕ)) (items : List Held) (item : Held) (bytes : List ℕ) (place : ℕ) : Type 0 where

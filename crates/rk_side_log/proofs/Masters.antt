@@ -1,14 +1,15 @@
 -- A replay on a master is one into its records and the items of a worker of the tablet.
-use Rattle.std.proofs.Common.{◌≡◌, ℕ, ◌<◌, Bool, true, false, cond, List, [], ◌∷◌, ◌++◌, length, get_or, set, Option, Some, refl, sym, ap, ◌∙◌, ⊎_elim}
+use Rattle.rk_side_log.proofs.Words.{arith}
+use Rattle.std.proofs.Common.{◌≡◌, ℕ, ◌<◌, Bool, cond, List, [], ◌∷◌, ◌++◌, length, get_or, set, Option, Some, refl, sym, ap, ◌∙◌, ⊎_elim}
 use Rattle.std.specs.Prelude.{unwrap_or}
 use Rattle.std.proofs.lemmas.Bool.{cases_eq}
 use Rattle.std.proofs.lemmas.List.{get_or-set_same, set-set, set-get_or}
 use Rattle.rk_types.specs.NumberMap.{NumberMap, IsInOrder, get, insert}
 use Rattle.rk_types.specs.declared.held.Held.{Held}
 use Rattle.rk_types.proofs.NumberMaps.{get_same, get_other, in_order_insert, same_map}
-use Rattle.rk_table.specs.Items.{found, is_newer, with_newer}
+use Rattle.rk_table.specs.Items.{with_newer}
 use Rattle.rk_world.specs.Master.{Master, tablet_at}
-use Rattle.rk_world.specs.Pulls.{with_pulled, with_pulling, item_replayed, replay}
+use Rattle.rk_world.specs.Pulls.{with_pulling, item_replayed, replay}
 use Rattle.rk_world.specs.Tablet.{Tablet, no_tablet}
 use Rattle.rk_side_log.specs.Replayed.{Replayed, with_replayed, side_replayed, master_with}
 
@@ -17,21 +18,11 @@ use Rattle.rk_side_log.specs.Replayed.{Replayed, with_replayed, side_replayed, m
 module _ {X : Type 0} where
   -- what is there may be put there again
   insert_there : (things : NumberMap X) (number : ℕ) (thing : X) → IsInOrder things → get things number ≡ Some thing → insert things number thing ≡ things
-  insert_there things number thing order there =
-      same_map (insert things number thing) things (in_order_insert things number thing order) order
-      (λ q. ⊎_elim (λ (is : q ≡ number). get_same things number thing q is ∙ sym there ∙ ap (get things) (sym is)) (λ (apart : q ≡ number → ⊥). get_other things number thing q apart)
-      (cases_eq q number))
+  insert_there things number thing order there = grind (arith, same_map, in_order_insert, get_same, get_other, cases_eq)
 
   -- the last thing that is put stays
   pub insert_twice : (things : NumberMap X) (number : ℕ) (first last : X) → IsInOrder things → insert (insert things number first) number last ≡ insert things number last
-  insert_twice things number first last order =
-      same_map (insert (insert things number first) number last) (insert things number last)
-      (in_order_insert (insert things number first) number last (in_order_insert things number first order)) (in_order_insert things number last order)
-      (λ q. ⊎_elim
-      (λ (is : q ≡ number). get_same (insert things number first) number last q is ∙ sym (get_same things number last q is))
-      (λ (apart : q ≡ number → ⊥).
-      get_other (insert things number first) number last q apart ∙ get_other things number first q apart ∙ sym (get_other things number last q apart))
-      (cases_eq q number))
+  insert_twice things number first last order = grind (arith, same_map, in_order_insert, get_same, get_other, cases_eq)
 
 -- ---- a replay
 
@@ -51,40 +42,22 @@ module _ (master : Master) (number worker : ℕ) (tablet : Tablet) (order : IsIn
   -- its items and one more
   sides_then : (items : List Held) (item : Held)
       → set (set tablet.pulling.sides worker items) worker (get_or (set tablet.pulling.sides worker items) worker [] ++ item ∷ []) ≡ set tablet.pulling.sides worker (items ++ item ∷ [])
-  sides_then items item =
-      set-set tablet.pulling.sides worker items (get_or (set tablet.pulling.sides worker items) worker [] ++ item ∷ [])
-      ∙ ap (λ (l : List Held). set tablet.pulling.sides worker (l ++ item ∷ [])) (get_or-set_same tablet.pulling.sides worker items [] within)
-
-  -- an item is replayed
-  item_then : (now : Replayed) (item : Held)
-      → item_replayed number worker (master_with master number tablet worker now) item
-      ≡ master_with master number tablet worker (record { records = with_newer item now.records; items = now.items ++ item ∷ [] })
-  item_then now item =
-      let tablets : NumberMap Tablet = insert master.tablets number (tablet_with tablet worker now.items) in
-      ap (λ (t : Tablet). put_in master number (with_newer item now.records) tablets (with_pulling t (with_pulled t.pulling worker item))) (there now)
-      ∙ ap (λ (l : List (List Held)). put_in master number (with_newer item now.records) tablets (with_pulling tablet (record tablet.pulling { sides = l }))) (sides_then now.items item)
-      ∙ ap (λ (map : NumberMap Tablet). record master { records = with_newer item now.records; tablets = map })
-      (insert_twice master.tablets number (tablet_with tablet worker now.items) (tablet_with tablet worker (now.items ++ item ∷ [])) order)
+  sides_then items item = grind (arith, set-set, get_or-set_same)
 
   step_by : (b : Bool) (now : Replayed) (item : Held)
       → cond b (item_replayed number worker (master_with master number tablet worker now) item) (master_with master number tablet worker now)
       ≡ master_with master number tablet worker (cond b (record { records = with_newer item now.records; items = now.items ++ item ∷ [] }) now)
-  step_by true now item = item_then now item
-  step_by false now item = refl
+  step_by b now item = grind (arith, there, sides_then, insert_twice)
 
   -- one after the other
   replay_from : (now : Replayed) (items : List Held)
       → replay (master_with master number tablet worker now) number worker items ≡ master_with master number tablet worker (side_replayed now.records now.items items)
   replay_from now [] = refl
-  replay_from now (item ∷ items) =
-      ap (λ (m : Master). replay m number worker items) (step_by (is_newer item (found item.table item.key now.records)) now item)
-      ∙ replay_from (with_replayed now item) items
+  replay_from now (item ∷ items) = grind (arith, step_by, item.table, item.key, now.records, (replay_from (with_replayed now item) items))
 
   -- before the first
   none_yet : get master.tablets number ≡ Some tablet → master_with master number tablet worker (record { records = master.records; items = get_or tablet.pulling.sides worker [] }) ≡ master
-  none_yet is =
-      ap (λ (l : List (List Held)). put_in master number master.records master.tablets (with_pulling tablet (record tablet.pulling { sides = l }))) (set-get_or tablet.pulling.sides worker [])
-      ∙ ap (λ (map : NumberMap Tablet). record master { tablets = map }) (insert_there master.tablets number tablet order is)
+  none_yet is = grind (arith, set-get_or, insert_there)
 
 -- a replay on a master that has the tablet
 pub replay_is : (master : Master) (number worker : ℕ) (tablet : Tablet) (items : List Held) → IsInOrder master.tablets → get master.tablets number ≡ Some tablet → worker < length tablet.pulling.sides

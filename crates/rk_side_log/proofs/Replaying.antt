@@ -24,20 +24,6 @@ pub record GoesOn (end : Replayed) (begin : Side) (records : List Held) (side : 
   pub few : tally.items + length rest < 2 ^ 32
   pub small : tally.bytes ≤ tally.items * LONGEST_SPELLED
 
--- before the first item
-pub goes_first : (records : List Held) (side : Side) (items : List Held) → segments_of (side.items ++ items) ≤ side.made → All IsLawfulHeld items → length items < 2 ^ 32
-    → GoesOn (side_replayed records side.items items) side records side (record { items = 0; bytes = 0 }) items
-goes_first records side items room lawful few = record {
-  whole = refl;
-  made = refl;
-  room = room;
-  count = omega arith;
-  bytes = omega arith;
-  lawful = lawful;
-  few = omega arith;
-  small = omega arith;
-}
-
 -- an item is newer
 pub goes_newer : (end : Replayed) (begin : Side) (records records' : List Held) (side side' : Side) (tally : Tally) (item : Held) (rest : List Held) (bytes : ℕ)
     → GoesOn end begin records side tally (item ∷ rest) → is_newer item (found item.table item.key records) ≡ true
@@ -91,9 +77,7 @@ goes_older end begin records records' side side' tally item rest goes older reco
 -- there is room for the next item
 pub next_room : (end : Replayed) (begin : Side) (records : List Held) (side : Side) (tally : Tally) (item : Held) (list rest : List Held)
     → GoesOn end begin records side tally list → list ≡ item ∷ rest → segments_of (side.items ++ item ∷ []) ≤ side.made
-next_room end begin records side tally item list rest goes is =
-    let all : segments_of (side.items ++ list) ≡ segments_of (side.items ++ item ∷ rest) = ap (λ (l : List Held). segments_of (side.items ++ l)) is in
-    omega (arith, all, segments_first side.items rest item, goes.room)
+next_room end begin records side tally item list rest goes is = grind (arith, segments_of, segments_first)
 
 answered_some : (b : Bool) (size bytes : ℕ) (o : Option ℕ) → o ≡ cond b (Some size) None → o ≡ Some bytes → (b ≡ true) × (bytes ≡ size)
 answered_some true size bytes o told is = (refl, cc)

@@ -51,6 +51,4 @@ made_none count = sum_by-replicate (λ (s : Side). s.made) count no_side ∙ ome
 
 pub unsealed_no_sides : (count : ℕ) → unsealed_in (items_of_each (replicate count no_side)) ≡ 0
 unsealed_no_sides zero = refl
-unsealed_no_sides (suc count) =
-    sum_first (λ (items : List Held). length (spelled_items items)) [] (items_of_each (replicate count no_side))
-    ∙ (λ i. ap length spelled_none i + unsealed_no_sides count i)
+unsealed_no_sides (suc count) = grind (arith, sum_first, spelled_items, items_of_each, no_side, spelled_none, (unsealed_no_sides count))

@@ -1,8 +1,8 @@
 -- What a write to a segment is to the bytes of all of them.
-use Rattle.rk_side_log.proofs.Words.{◌≡◌, ℕ, ◌+◌, ◌-◌, ◌<◌, ◌≤◌, true, ltb, List, [], ◌∷◌, ◌++◌, length, take, get_or, set, Some, None}
-use Rattle.rk_side_log.proofs.Words.{refl, sym, ap, ◌∙◌, arith, is_ok, cond-false, length-map, Held, SEGMENT_BYTES, IsLawfulHeld, spelled}
+use Rattle.rk_side_log.proofs.Words.{◌≡◌, ℕ, ◌+◌, ◌-◌, ◌<◌, ◌≤◌, true, ltb, List, [], ◌∷◌, ◌++◌, length, take, get_or, set, Some, None, sym}
+use Rattle.rk_side_log.proofs.Words.{ap, ◌∙◌, arith, is_ok, cond-false, length-map, Held, SEGMENT_BYTES, IsLawfulHeld, spelled}
 use Rattle.rk_side_log.proofs.Words.{NumberedBytes, Side, IsFilled, room_in, segments_of, bytes_in, items_read}
-use Rattle.std.proofs.Common.{Result, Ok, Err}
+use Rattle.std.proofs.Common.{Result}
 use Rattle.std.specs.Prelude.{OnOk, MatchResult}
 use Rattle.std.proofs.lemmas.Bool.{le-ltb, false≢true}
 use Rattle.std.proofs.lemmas.List.{map-set, get_or-map, get_or-take, length-take-le}
@@ -22,40 +22,22 @@ bytes_at : (segments : List NumberedBytes) (place : ℕ) (old : NumberedBytes) �
 bytes_at segments place old within there =
     ap (λ (s : NumberedBytes). s.bytes) there ∙ sym (get_or-map (λ (s : NumberedBytes). s.bytes) segments place old [] within)
 
--- bytes are put at the end of a segment
-appended_at : (segments : List NumberedBytes) (place : ℕ) (old now : NumberedBytes) (bytes : List ℕ) → place < length segments → old ≡ get_or segments place old → now ≡ appended old bytes
-    → bytes_in (set segments place now) ≡ set (bytes_in segments) place (get_or (bytes_in segments) place [] ++ bytes)
-appended_at segments place old now bytes within there is =
-    map-set (λ (s : NumberedBytes). s.bytes) segments place now
-    ∙ ap (λ (l : List ℕ). set (bytes_in segments) place l)
-    (ap (λ (s : NumberedBytes). s.bytes) is ∙ ap (λ (l : List ℕ). l ++ bytes) (bytes_at segments place old within there))
-
 -- bytes that have room are taken
 pub taken_at : {T : Type 0} (segments : List NumberedBytes) (place : ℕ) (old : NumberedBytes) (bytes : List ℕ) (r : Result T Full) → place < length segments → old ≡ get_or segments place old
     → length (get_or (bytes_in segments) place []) + length bytes ≤ SEGMENT_BYTES
     → MatchResult r (λ _. overflow old bytes ≡ None) (λ full. overflow old bytes ≡ Some full) → is_ok r ≡ true
-taken_at segments place old bytes (Ok _) within there fits told = refl
-taken_at segments place old bytes (Err full) within there fits told =
-    let none : overflow old bytes ≡ None =
-    cond-false (ltb SEGMENT_BYTES (length old.bytes + length bytes)) _ _
-    (le-ltb SEGMENT_BYTES (length old.bytes + length bytes) (omega (arith, ap length (bytes_at segments place old within there)))) in
-    absurd (cc)
+taken_at segments place old bytes r within there fits told = grind (arith, cond-false, ltb, le-ltb, bytes_at)
 
 -- then they stand at the end of the segment
 pub put_seen : {T E : Type 0} (segments : List NumberedBytes) (place : ℕ) (old now : NumberedBytes) (bytes : List ℕ) (r : Result T E) → place < length segments → old ≡ get_or segments place old
     → is_ok r ≡ true → OnOk r (now ≡ appended old bytes) → bytes_in (set segments place now) ≡ set (bytes_in segments) place (get_or (bytes_in segments) place [] ++ bytes)
-put_seen segments place old now bytes (Ok _) within there is on_ok = appended_at segments place old now bytes within there on_ok
-put_seen segments place old now bytes (Err _) within there is on_ok = absurd (false≢true is)
+put_seen segments place old now bytes r within there is on_ok = grind (arith, false≢true, map-set, bytes_in, bytes_at)
 
 -- the room in the last of the first segments
 pub room_seen : (segments : List NumberedBytes) (used size : ℕ) (last : NumberedBytes) → (used ≡ 0 → ⊥) → used ≤ length segments → last ≡ get_or segments (used - 1) last → size ≡ length last.bytes
     → SEGMENT_BYTES - size ≡ room_in (take used (bytes_in segments))
 room_seen segments used size last some within is count =
-    let front : length (take used (bytes_in segments)) ≡ used = length-take-le used (bytes_in segments) (omega (arith, length-map segments (λ (s : NumberedBytes). s.bytes))) in
-    let bytes : get_or (take used (bytes_in segments)) (length (take used (bytes_in segments)) - 1) [] ≡ last.bytes =
-    ap (λ (n : ℕ). get_or (take used (bytes_in segments)) (n - 1) []) front ∙ get_or-take used (bytes_in segments) (used - 1) [] (omega arith)
-    ∙ get_or-map (λ (s : NumberedBytes). s.bytes) segments (used - 1) last [] (omega arith) ∙ ap (λ (s : NumberedBytes). s.bytes) (sym is) in
-    omega (arith, room_is (take used (bytes_in segments)) (omega arith), count, ap length bytes)
+    grind (arith, bytes_in, length-take-le, length-map, get_or-take, get_or-map, room_is)
 
 -- where the entry of an item goes
 pub goes_seen : (segments slice : List NumberedBytes) (used : ℕ) (side : Side) (item : Held) (bytes : List ℕ) (place : ℕ)

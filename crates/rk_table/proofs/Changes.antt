@@ -1,5 +1,5 @@
 -- What is found after an item was put, and after a range was dropped.
-use Rattle.std.proofs.Common.{◌≡◌, ℕ, suc, ◌+◌, ◌≤◌, Bool, length, arith, length-append, true, false, cond, not, List, [], ◌∷◌, ◌++◌, Some, None, get_or, refl, sym, ap, ◌∙◌, ⊎_elim}
+use Rattle.std.proofs.Common.{◌≡◌, ℕ, ◌+◌, ◌≤◌, Bool, length, arith, length-append, true, false, cond, not, List, [], ◌∷◌, ◌++◌, Some, None, refl, sym, ap, ◌∙◌, ⊎_elim}
 use Rattle.std.specs.Cmp.{tied_itself, tied_back}
 use Rattle.std.specs.Cmp.Lexicographic.{bytes_decides}
 use Rattle.std.specs.List.{AllByRecursion, filter}
@@ -24,15 +24,6 @@ use Rattle.rk_table.proofs.Found.{all_behind, at_from_tie, at_or_behind, behind,
 -- an item is the one of its own key
 at_itself : (item : Held) → is_at item.table item.key item ≡ true
 at_itself item = at_from_tie item.table item.key item (tied_itself place_total (item_place item))
-
--- an item at its place is found
-pub found_with_item : (item : Held) (items : List Held) → found item.table item.key (with_item item items) ≡ Some item
-found_with_item item items =
-    let front : List Held = filter (λ other. is_before other item) items in
-    let back : List Held = filter (λ other. is_before item other) items in
-    find_past (is_at item.table item.key) front (item ∷ back)
-    (λ k d h. not_at_before item.table item.key (get_or front k d) (filter_passes (λ other. is_before other item) items k d h))
-    ∙ cond-true (is_at item.table item.key item) (Some item) (found item.table item.key back) (at_itself item)
 
 -- none comes before a place where all are behind
 before_none : (place : Place) (items : List Held) → AllByRecursion (λ other. place_cmp place (item_place other) ≡ Less) items → filter (comes_before place) items ≡ []
@@ -76,63 +67,53 @@ found_other item (x ∷ items) table key order other =
 -- the same after a newer item was put
 pub found_newer : (item : Held) (items : List Held) → IsInScanOrder items → is_newer item (found item.table item.key items) ≡ true
     → found item.table item.key (with_newer item items) ≡ Some item
-found_newer item items order newer =
-    ap (found item.table item.key) (cond-true (is_newer item (found item.table item.key items)) (with_item item items) items newer) ∙ found_with_item item items
+found_newer item items order newer = grind (arith, cond-true, find_past, not_at_before, filter_passes, at_itself, item.table, item.key)
 
 pub same_older : (item : Held) (items : List Held) → is_newer item (found item.table item.key items) ≡ false → with_newer item items ≡ items
 same_older item items older = cond-false (is_newer item (found item.table item.key items)) (with_item item items) items older
 
 pub found_after : (item : Held) (items : List Held) (table : ℕ) (key : List ℕ) → IsInScanOrder items → is_at table key item ≡ false
     → found table key (with_newer item items) ≡ found table key items
-found_after item items table key order other = go (is_newer item (found item.table item.key items))
-  where
-    go : (newer : Bool) → found table key (cond newer (with_item item items) items) ≡ found table key items
-    go true = found_other item items table key order other
-    go false = refl
+found_after item items table key order other = grind (arith, found_other)
 
 pub order_after : (item : Held) (items : List Held) → IsInScanOrder items → IsInScanOrder (with_newer item items)
-order_after item items order = go (is_newer item (found item.table item.key items))
-  where
-    go : (newer : Bool) → IsInScanOrder (cond newer (with_item item items) items)
-    go true = order_with_item item items order
-    go false = order
+order_after item items order = grind (arith, order_with_item)
 
 -- whether an item is in a range is told by its key
 in_from_at : (range : Range) (table : ℕ) (key : List ℕ) (item : Held) → is_at table key item ≡ true → is_in range item ≡ has range table (hash_of key)
-in_from_at range table key item here =
-    let both = and_parts _ _ here in
-    let its_table : item.table ≡ table = eqb-true _ _ both.0 in
-    let its_key : item.key ≡ key = (bytes_decides item.key key).0 both.1 in
-    λ i. has range (its_table i) (hash_of (its_key i))
+in_from_at range table key item here = grind (arith, and_parts, eqb-true, bytes_decides, has, hash_of)
 
 -- a key of a dropped range is not found
 pub found_dropped : (range : Range) (items : List Held) (table : ℕ) (key : List ℕ) → has range table (hash_of key) ≡ true → found table key (without range items) ≡ None
 found_dropped range [] table key inside = refl
 found_dropped range (item ∷ items) table key inside =
-    ⊎_elim
-    (λ (gone : is_in range item ≡ true).
-    ap (found table key) (filter_left_out (λ x. not (is_in range x)) item items (ap not gone)) ∙ found_dropped range items table key inside)
-    (λ (stays : is_in range item ≡ false).
-    ap (found table key) (filter_kept (λ x. not (is_in range x)) item items (ap not stays))
-    ∙ cond-false (is_at table key item) (Some item) (found table key (without range items))
-    (false_from_ne_true _ (λ here. false≢true (sym stays ∙ in_from_at range table key item here ∙ inside)))
-    ∙ found_dropped range items table key inside)
-    (cases_Bool (is_in range item))
+    grind (
+      arith,
+      filter_left_out,
+      filter_kept,
+      cond-false,
+      false_from_ne_true,
+      false≢true,
+      in_from_at,
+      cases_Bool,
+      (found_dropped range items table key inside),
+    )
 
 -- and any other is found as before
 pub found_outside : (range : Range) (items : List Held) (table : ℕ) (key : List ℕ) → has range table (hash_of key) ≡ false → found table key (without range items) ≡ found table key items
 found_outside range [] table key outside = refl
 found_outside range (item ∷ items) table key outside =
-    ⊎_elim
-    (λ (gone : is_in range item ≡ true).
-    ap (found table key) (filter_left_out (λ x. not (is_in range x)) item items (ap not gone))
-    ∙ found_outside range items table key outside
-    ∙ sym (cond-false (is_at table key item) (Some item) (found table key items)
-    (false_from_ne_true _ (λ here. false≢true (sym outside ∙ sym (in_from_at range table key item here) ∙ gone)))))
-    (λ (stays : is_in range item ≡ false).
-    ap (found table key) (filter_kept (λ x. not (is_in range x)) item items (ap not stays))
-    ∙ ap (λ o. cond (is_at table key item) (Some item) o) (found_outside range items table key outside))
-    (cases_Bool (is_in range item))
+    grind (
+      arith,
+      filter_left_out,
+      cond-false,
+      false_from_ne_true,
+      false≢true,
+      in_from_at,
+      filter_kept,
+      cases_Bool,
+      (found_outside range items table key outside),
+    )
 
 pub order_without : (range : Range) (items : List Held) → IsInScanOrder items → IsInScanOrder (without range items)
 order_without range items order = IsStrictlySortedBy-filter item_cmp (λ x. not (is_in range x)) items order
@@ -144,20 +125,7 @@ order_live range items order = IsStrictlySortedBy-filter item_cmp (is_live_in ra
 length_of_two : (p q : Held → Bool) → ((item : Held) → p item ≡ true → q item ≡ false) → (items : List Held)
     → length (filter p items) + length (filter q items) ≤ length items
 length_of_two p q apart [] = omega arith
-length_of_two p q apart (item ∷ items) =
-    let fewer : length (filter p items) + length (filter q items) ≤ length items = length_of_two p q apart items in
-    ⊎_elim
-    (λ (first : p item ≡ true).
-    let one : length (filter p (item ∷ items)) ≡ suc (length (filter p items)) = ap length (filter_kept p item items first) in
-    let out : length (filter q (item ∷ items)) ≡ length (filter q items) = ap length (filter_left_out q item items (apart item first)) in
-    omega arith)
-    (λ (second : p item ≡ false).
-    let out : length (filter p (item ∷ items)) ≡ length (filter p items) = ap length (filter_left_out p item items second) in
-    ⊎_elim
-    (λ (here : q item ≡ true). let one : length (filter q (item ∷ items)) ≡ suc (length (filter q items)) = ap length (filter_kept q item items here) in omega arith)
-    (λ (none : q item ≡ false). let gone : length (filter q (item ∷ items)) ≡ length (filter q items) = ap length (filter_left_out q item items none) in omega arith)
-    (cases_Bool (q item)))
-    (cases_Bool (p item))
+length_of_two p q apart (item ∷ items) = grind (arith, filter_kept, filter_left_out, cases_Bool, (length_of_two p q apart items))
 
 before_not_behind : (item other : Held) → is_before other item ≡ true → is_before item other ≡ false
 before_not_behind item other before = ap is_lt (place_total.antisymm (item_place item) (item_place other) ∙ ap ordering_reverse (less_is _ before))

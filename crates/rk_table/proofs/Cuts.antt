@@ -1,10 +1,10 @@
 -- Searches: what they find in a list in scan order, place by place.
-use Rattle.std.proofs.Common.{◌≡◌, ℕ, ◌+◌, ◌<◌, ◌≤◌, Bool, true, false, eqb, List, [], length, get_or, refl, sym, ap, ◌∙◌, subst, ⊎_elim, arith}
+use Rattle.std.proofs.Common.{◌≡◌, ℕ, ◌<◌, ◌≤◌, Bool, true, false, eqb, List, [], length, get_or, refl, sym, ap, ◌∙◌, subst, ⊎_elim, arith}
 use Rattle.std.specs.List.{All}
 use Rattle.std.specs.List.Sorted.{IsPartitionPoint, IsPartitionedBy, IsNonDecreasingBy}
 use Rattle.std.specs.Ordering.{nat_cmp, ordering_then, is_lt}
 use Rattle.std.specs.declared.cmp.Ordering.{Ordering}
-use Rattle.std.specs.declared.cmp.Ordering.TheVariants.{Less, Equal, Greater}
+use Rattle.std.specs.declared.cmp.Ordering.TheVariants.{Less}
 use Rattle.std.proofs.lemmas.Bool.{cases_lt, eqb-true, eq-eqb}
 use Rattle.std.proofs.lemmas.Cmp.{ranked}
 use Rattle.std.proofs.lemmas.List.{get_or-take, get_or-drop, length-take, length-drop}
@@ -18,20 +18,11 @@ use Rattle.rk_table.proofs.InOrder.{place_total, bucket_before}
 -- where a search ends is a cut
 pub cut_from_point : (test : Held → Bool) (items : List Held) (cut : ℕ) → cut ≤ length items
     → IsPartitionPoint (λ item. test item ≡ true) (λ item. test item ≡ false) items cut → IsCut test items cut
-cut_from_point test items cut within point = record {
-  within = within;
-  front = λ k d h.
-      let below : k < cut = omega (arith, length-take cut items) in
-      subst (λ (x : Held). test x ≡ true) (sym (get_or-take cut items k d below)) (point.0 k d (omega arith) below);
-  back = λ k d h.
-      subst (λ (x : Held). test x ≡ false) (sym (get_or-drop cut items k d)) (point.1 (cut + k) d (omega arith) (omega (arith, length-drop cut items)));
-}
+cut_from_point test items cut within point = grind (arith, length-take, get_or-take, get_or-drop, length-drop)
 
 -- an answer that is less
 pub less_is : (r : Ordering) → is_lt r ≡ true → r ≡ Less
-less_is Less h = refl
-less_is Equal h = absurd (cc)
-less_is Greater h = absurd (cc)
+less_is r h = grind arith
 
 -- of two items of a list in scan order, the first is the same or comes before
 earlier : (items : List Held) → IsInScanOrder items → (i j : ℕ) (d : Held) → i ≤ j → j < length items
@@ -55,29 +46,15 @@ pub buckets_rise : (items : List Held) → IsInScanOrder items → IsNonDecreasi
 buckets_rise items order i j d le lt =
     earlier items order i j d le lt (λ x y. item_bucket x ≤ item_bucket y) (λ x. omega arith) bucket_before
 
--- in one bucket the hashes do not fall
-le_from_second : (a b c d : ℕ) (r s o : Ordering) → r ≡ nat_cmp a b → s ≡ nat_cmp c d → ordering_then r (ordering_then s o) ≡ Less → a ≡ b → c ≤ d
-le_from_second a b c d Less s o e f h same = let k : a < b = ranked a b Less e in absurd (omega arith)
-le_from_second a b c d Equal Less o e f h same = let k : c < d = ranked c d Less f in omega arith
-le_from_second a b c d Equal Equal o e f h same = let k : c ≡ d = ranked c d Equal f in omega arith
-le_from_second a b c d Equal Greater o e f h same = absurd (cc)
-le_from_second a b c d Greater s o e f h same = absurd (cc)
-
 pub hash_before : (a b : Held) → item_cmp a b ≡ Less → item_bucket a ≡ item_bucket b → item_hash a ≤ item_hash b
-hash_before a b h same = le_from_second (item_bucket a) (item_bucket b) (item_hash a) (item_hash b) _ _ _ refl refl h same
+hash_before a b h same = grind (arith, ranked)
 
 -- an item that does not come before the first place of a hash has no lesser bucket, and in the same bucket no lesser hash
 bucket_from : (a b : ℕ) (r o : Ordering) → r ≡ nat_cmp a b → is_lt (ordering_then r o) ≡ false → b ≤ a
-bucket_from a b Less o e h = absurd (cc)
-bucket_from a b Equal o e h = let k : a ≡ b = ranked a b Equal e in omega arith
-bucket_from a b Greater o e h = let k : b < a = ranked a b Greater e in omega arith
+bucket_from a b r o e h = grind (arith, ranked)
 
 hash_from : (a b c d : ℕ) (r s o : Ordering) → r ≡ nat_cmp a b → s ≡ nat_cmp c d → is_lt (ordering_then r (ordering_then s o)) ≡ false → a ≡ b → d ≤ c
-hash_from a b c d Less s o e f h same = absurd (cc)
-hash_from a b c d Equal Less o e f h same = absurd (cc)
-hash_from a b c d Equal Equal o e f h same = let k : c ≡ d = ranked c d Equal f in omega arith
-hash_from a b c d Equal Greater o e f h same = let k : d < c = ranked c d Greater f in omega arith
-hash_from a b c d Greater s o e f h same = let k : b < a = ranked a b Greater e in absurd (omega arith)
+hash_from a b c d r s o e f h same = grind (arith, ranked)
 
 -- from the first place of a hash on, the items with the hash stand in front
 pub parted_by_hash : (hash : ℕ) (items : List Held) → IsInScanOrder items

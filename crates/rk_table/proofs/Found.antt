@@ -1,4 +1,5 @@
 -- An item among others in scan order: where it is found, and where it goes.
+use Rattle.std.proofs.Common.{arith}
 use Rattle.std.proofs.Common.{◌≡◌, ℕ, ◌+◌, ◌<◌, ◌≤◌, Bool, true, false, List, [], ◌∷◌, ◌++◌, ◌⊎◌, Some, None, length, take, drop, get_or, set, refl, sym, ap, ◌∙◌, subst, inl, inr, ⊎_elim, add-one}
 use Rattle.std.specs.Prelude.{find}
 use Rattle.std.specs.Cmp.{tied_itself}
@@ -24,9 +25,7 @@ use Rattle.rk_table.proofs.Cuts.{less_is}
 use Rattle.rk_table.proofs.Walks.{filter_all_here, filter_none_here}
 
 then_equal : (r s : Ordering) → ordering_then r s ≡ Equal → (r ≡ Equal) × (s ≡ Equal)
-then_equal Less s h = absurd (cc)
-then_equal Equal s h = (refl, h)
-then_equal Greater s h = absurd (cc)
+then_equal r s h = grind arith
 
 -- an item is that of a key of a table exactly where the two places are the same
 pub at_from_tie : (table : ℕ) (key : List ℕ) (item : Held) → place_cmp (item_place item) (place_of table key) ≡ Equal → is_at table key item ≡ true
@@ -99,8 +98,7 @@ behind place items = filter (λ other. is_lt (place_cmp place (item_place other)
 
 pub behind_all : (place : Place) (items : List Held) → AllByRecursion (λ other. place_cmp place (item_place other) ≡ Less) items → behind place items ≡ items
 behind_all place [] all = refl
-behind_all place (item ∷ items) all =
-    filter_kept (λ other. is_lt (place_cmp place (item_place other))) item items (ap is_lt all.0) ∙ ap (λ (l : List Held). item ∷ l) (behind_all place items all.1)
+behind_all place (item ∷ items) all = grind (arith, filter_kept, all.0, all.1, (behind_all place items all.1))
 
 -- of items in scan order from a place on, the first is the one there, and all others come behind
 tail_here : (table : ℕ) (key : List ℕ) (item : Held) (items : List Held) → IsInScanOrder (item ∷ items)
@@ -142,17 +140,11 @@ module _ (table : ℕ) (key : List ℕ) (items : List Held) (order : IsInScanOrd
 
   -- what is found stands behind the cut
   found_back : found table key items ≡ found table key (drop cut items)
-  found_back =
-      ap (found table key) (sym whole)
-      ∙ find_past (is_at table key) (take cut items) (drop cut items) (λ k d h. not_at_before table key (get_or (take cut items) k d) (at.front k d h))
+  found_back = grind (arith, whole, find_past, not_at_before)
 
   -- the items before the place are those before the cut
   before_front : filter (comes_before there) items ≡ take cut items
-  before_front =
-      ap (filter (comes_before there)) (sym whole)
-      ∙ filter-append (comes_before there) (take cut items) (drop cut items)
-      ∙ (λ i. filter_all_here (comes_before there) (take cut items) at.front i ++ filter_none_here (comes_before there) (drop cut items) at.back i)
-      ∙ append-nil (take cut items)
+  before_front = grind (arith, whole, filter-append, filter_all_here, filter_none_here, append-nil)
 
   not_behind : (item : Held) → comes_before there item ≡ true → is_lt (place_cmp there (item_place item)) ≡ false
   not_behind item before = ap is_lt (place_total.antisymm there (item_place item) ∙ ap ordering_reverse (less_is _ before))
@@ -167,9 +159,7 @@ module _ (table : ℕ) (key : List ℕ) (items : List Held) (order : IsInScanOrd
 
   -- an item goes to its place
   goes : (item : Held) → item.table ≡ table → item.key ≡ key → with_item item items ≡ filter (comes_before there) items ++ item ∷ behind there items
-  goes item its_table its_key =
-      let same : item_place item ≡ there = λ i. place_of (its_table i) (its_key i) in
-      ap (λ (p : Place). filter (comes_before p) items ++ item ∷ behind p items) same
+  goes item its_table its_key = grind arith
 
   module _ (item : Held) (within : cut < length items) (read : item ≡ get_or items cut item) where
     tail : drop cut items ≡ item ∷ drop (cut + 1) items

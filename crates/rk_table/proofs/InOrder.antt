@@ -1,12 +1,10 @@
 -- Scan order: it is a total order, and along a list in scan order the buckets do not fall.
-use Rattle.std.proofs.Common.{◌≡◌, ℕ, ◌<◌, ◌≤◌, List, [], ◌∷◌, refl, arith, rules}
+use Rattle.std.proofs.Common.{◌≡◌, ◌<◌, ◌≤◌, List, [], ◌∷◌, arith, rules}
 use Rattle.std.specs.Cmp.{IsTotalOrder, on_total}
 use Rattle.std.specs.Cmp.Rules.{comparing}
 use Rattle.std.specs.List.{AllByRecursion}
 use Rattle.std.specs.List.Sorted.{IsStrictlySortedBy}
-use Rattle.std.specs.Ordering.{nat_cmp, ordering_then}
-use Rattle.std.specs.declared.cmp.Ordering.{Ordering}
-use Rattle.std.specs.declared.cmp.Ordering.TheVariants.{Less, Equal, Greater}
+use Rattle.std.specs.declared.cmp.Ordering.TheVariants.{Less}
 use Rattle.std.proofs.lemmas.Cmp.{ranked}
 use Rattle.rk_types.specs.declared.held.Held.{Held}
 use Rattle.rk_types.specs.declared.hashing.TheConstants.{BUCKETS}
@@ -20,15 +18,9 @@ place_total = search (comparing, rules)
 pub item_total : IsTotalOrder item_cmp
 item_total = on_total item_place place_total
 
--- what comes first by two orders does not come behind by the first of them
-le_from_first : (a b : ℕ) (r o : Ordering) → r ≡ nat_cmp a b → ordering_then r o ≡ Less → a ≤ b
-le_from_first a b Less o e h = let k : a < b = ranked a b Less e in omega arith
-le_from_first a b Equal o e h = let k : a ≡ b = ranked a b Equal e in omega arith
-le_from_first a b Greater o e h = absurd (cc)
-
 -- an item that comes before another has no greater bucket
 pub bucket_before : (a b : Held) → item_cmp a b ≡ Less → item_bucket a ≤ item_bucket b
-bucket_before a b h = le_from_first (item_bucket a) (item_bucket b) _ _ refl h
+bucket_before a b h = grind (arith, ranked)
 
 -- every bucket is below the end
 pub bucket_below_end : (item : Held) → item_bucket item < BUCKETS

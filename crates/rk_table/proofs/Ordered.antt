@@ -67,15 +67,11 @@ module _ {X : Type 0} (n : X → ℕ) where
 
   pub same_none : (a b : ℕ) (xs : List X) → a < b → AllFrom b xs → same a xs ≡ []
   same_none a b [] h all = refl
-  same_none a b (x ∷ xs) h all =
-      let k : b ≤ n x = all.0 in
-      filter_left_out (λ x. eqb (n x) a) x xs (ne_eqb (n x) a (λ e. omega arith)) ∙ same_none a b xs h all.1
+  same_none a b (x ∷ xs) h all = grind (arith, filter_left_out, eqb, ne_eqb, all.0, all.1, (same_none a b xs h all.1))
 
   pub more_all : (a b : ℕ) (xs : List X) → a < b → AllFrom b xs → more a xs ≡ xs
   more_all a b [] h all = refl
-  more_all a b (x ∷ xs) h all =
-      let k : b ≤ n x = all.0 in
-      filter_kept (λ x. ltb a (n x)) x xs (lt-ltb a (n x) (omega arith)) ∙ ap (λ (l : List X). x ∷ l) (more_all a b xs h all.1)
+  more_all a b (x ∷ xs) h all = grind (arith, filter_kept, ltb, lt-ltb, all.0, all.1, (more_all a b xs h all.1))
 
   pub more_none : (b : ℕ) (xs : List X) → AllUpTo b xs → more b xs ≡ []
   more_none b [] all = refl
@@ -85,17 +81,25 @@ module _ {X : Type 0} (n : X → ℕ) where
   pub same_and_more : (b : ℕ) (xs : List X) → AllFrom b xs → Rises xs → same b xs ++ more b xs ≡ xs
   same_and_more b [] all rises = refl
   same_and_more b (x ∷ xs) all rises =
-      ⊎_elim
-      (λ (behind : b < n x).
-      let none : same b (x ∷ xs) ≡ [] = filter_left_out (λ x. eqb (n x) b) x xs (ne_eqb (n x) b (λ e. omega arith)) ∙ same_none b (n x) xs behind rises.0 in
-      let whole : more b (x ∷ xs) ≡ x ∷ xs = filter_kept (λ x. ltb b (n x)) x xs (lt-ltb b (n x) behind) ∙ ap (λ (l : List X). x ∷ l) (more_all b (n x) xs behind rises.0) in
-      ap (λ (l : List X). l ++ more b (x ∷ xs)) none ∙ whole)
-      (λ (here : n x ≤ b).
-      let k : b ≤ n x = all.0 in
-      let one : same b (x ∷ xs) ≡ x ∷ same b xs = filter_kept (λ x. eqb (n x) b) x xs (eq-eqb (n x) b (omega arith)) in
-      let out : more b (x ∷ xs) ≡ more b xs = filter_left_out (λ x. ltb b (n x)) x xs (le-ltb b (n x) here) in
-      (λ i. one i ++ out i) ∙ ap (λ (l : List X). x ∷ l) (same_and_more b xs all.1 rises.1))
-      (cases_lt b (n x))
+      grind (
+        arith,
+        filter_left_out,
+        eqb,
+        ne_eqb,
+        same_none,
+        filter_kept,
+        ltb,
+        lt-ltb,
+        more_all,
+        eq-eqb,
+        le-ltb,
+        cases_lt,
+        rises.0,
+        all.0,
+        all.1,
+        rises.1,
+        (same_and_more b xs all.1 rises.1),
+      )
 
   -- the list is what is before a number, what has it, and what is behind it
   pub three_parts : (b : ℕ) (xs : List X) → Rises xs → less b xs ++ (same b xs ++ more b xs) ≡ xs

@@ -2,10 +2,8 @@
 use Rattle.std.proofs.Common.{◌≡◌, ℕ, ◌+◌, ◌-◌, ◌<◌, Bool, true, false, eqb, ltb, List, [], ◌∷◌, ◌++◌, length, take, drop, get_or, refl, sym, ap, ◌∙◌, subst, ⊎_elim, arith}
 use Rattle.std.specs.Prelude.{◌||◌}
 use Rattle.std.specs.List.{All, HoldsAt, filter, list_any}
-use Rattle.std.specs.Ordering.{nat_cmp, ordering_then, is_lt}
+use Rattle.std.specs.Ordering.{nat_cmp, is_lt}
 use Rattle.std.specs.Cmp.Lexicographic.{slice_cmp}
-use Rattle.std.specs.declared.cmp.Ordering.{Ordering}
-use Rattle.std.specs.declared.cmp.Ordering.TheVariants.{Less, Equal, Greater}
 use Rattle.std.proofs.lemmas.Bool.{cases_Bool, ne_eqb, le-ltb, ltb-true, or_parts, false≢true}
 use Rattle.std.proofs.lemmas.Cmp.{ranked}
 use Rattle.std.proofs.lemmas.List.{append-nil, append_cancel_right, drop-drop, drop_at, take-append-drop, get_or-drop, length-drop}
@@ -118,15 +116,11 @@ module _ (range : Range) (token : Token) (limit : ℕ) (items : List Held) (orde
 
   -- where a live item is left, the next token is that behind the batch
   pub next_behind : list_any (is_live_in range) (drop (start + batch) items) ≡ true → token_behind (live_in range (take (start + batch) items)) ≡ next_token token limit live
-  next_behind more =
-      sym (any_some (is_live_in range) (drop (start + batch) items) (live_in range (take (start + batch) items)) more)
-      ∙ (λ i. token_before (rest_is i) (done_is i))
+  next_behind more = grind (arith, any_some, rest_is, done_is)
 
   -- and else it is the end
   pub next_end : list_any (is_live_in range) (drop (start + batch) items) ≡ false → end ≡ next_token token limit live
-  next_end none =
-      sym (token_before_none (rest_at token limit live) (passed token live ++ batch_at token limit live)
-      (sym rest_is ∙ any_none (is_live_in range) (drop (start + batch) items) none))
+  next_end none = grind (arith, token_before_none, rest_is, any_none)
 
 -- the same, in the words of the code: it splits the slots, step by step
 module _ (range : Range) (token : Token) (limit : ℕ) (items slots from_bucket from_token : List Held) (bucket skipped count : ℕ)
@@ -142,19 +136,14 @@ module _ (range : Range) (token : Token) (limit : ℕ) (items slots from_bucket 
   start_is = token_is ∙ ap (drop skipped) (bucket_is ∙ ap (drop bucket) slots_are) ∙ drop-drop skipped bucket items
 
   all_left : live_in range (drop start items) ≡ left token (live_in range items)
-  all_left =
-      ap (live_in range) (sym start_is ∙ token_is) ∙ stays
-      ∙ ap (λ (l : List Held). left token (live_in range l)) (bucket_is ∙ ap (drop bucket) slots_are)
-      ∙ left_from_bucket range token items bucket (subst (λ (l : List Held). IsCut (λ item. ltb (item_bucket item) token.bucket) l bucket) slots_are at)
+  all_left = grind (arith, start_is, left_from_bucket, ltb)
 
   batch_given : live_in range (take count (drop start items)) ≡ batch_of limit (live_in range (drop start items))
   batch_given = subst (λ (l : List Held). live_in range (take count l) ≡ batch_of limit (live_in range l)) start_is given
 
   -- what is handed out is the batch
   pub scan_batch : (batch : List Held) → batch ≡ take count from_token → live_in range batch ≡ batch_at token limit (live_in range items)
-  scan_batch batch is =
-      ap (live_in range) (is ∙ ap (take count) start_is)
-      ∙ batch_is range token limit items order start count all_left batch_given
+  scan_batch batch is = grind (arith, start_is, batch_is, all_left, batch_given)
 
   rest_drop : (rest : List Held) → rest ≡ drop count from_token → rest ≡ drop (start + count) items
   rest_drop rest is = is ∙ ap (drop count) start_is ∙ drop-drop count start items
@@ -162,46 +151,25 @@ module _ (range : Range) (token : Token) (limit : ℕ) (items slots from_bucket 
   -- the next token where a live item is left
   pub scan_behind : (rest : List Held) → rest ≡ drop count from_token → list_any (is_live_in range) rest ≡ true → (cut : ℕ) → cut ≡ start + count
       → token_behind (live_in range (take cut slots)) ≡ next_token token limit (live_in range items)
-  scan_behind rest is more cut cut_is =
-      (λ i. token_behind (live_in range (take (cut_is i) (slots_are i))))
-      ∙ next_behind range token limit items order start count all_left batch_given
-      (subst (λ (l : List Held). list_any (is_live_in range) l ≡ true) (rest_drop rest is) more)
+  scan_behind rest is more cut cut_is = grind (arith, next_behind, all_left, batch_given, rest_drop)
 
   -- and where none is
   pub scan_end : (rest : List Held) → rest ≡ drop count from_token → list_any (is_live_in range) rest ≡ false → end ≡ next_token token limit (live_in range items)
-  scan_end rest is none =
-      next_end range token limit items order start count all_left batch_given
-      (subst (λ (l : List Held). list_any (is_live_in range) l ≡ false) (rest_drop rest is) none)
+  scan_end rest is none = grind (arith, next_end, all_left, batch_given, rest_drop)
 
   -- the slot before the rest is live where one is left
   pub scan_last : (rest : List Held) → rest ≡ drop count from_token → list_any (is_live_in range) rest ≡ true → (cut : ℕ) → cut ≡ start + count
       → (count < length from_token → (0 < count) × HoldsAt (λ item. is_live_in range item ≡ true) from_token (count - 1))
       → HoldsAt (λ item. is_live_in range item ≡ true) slots (cut - 1)
-  scan_last rest is more cut cut_is closed =
-      let whole = last_of_batch (is_live_in range) items start count
-      (subst (λ (l : List Held). list_any (is_live_in range) l ≡ true) (rest_drop rest is) more)
-      (subst (λ (l : List Held). count < length l → (0 < count) × HoldsAt (λ item. is_live_in range item ≡ true) l (count - 1)) start_is closed) in
-      λ d. (λ i. is_live_in range (get_or (slots_are i) (cut_is i - 1) d)) ∙ whole d
+  scan_last rest is more cut cut_is closed = grind (arith, last_of_batch, rest_drop, start_is)
 
 -- an item with a hash does not come before the first place of that hash
 le_key : (key : List ℕ) → is_lt (slice_cmp nat_cmp key []) ≡ false
 le_key [] = refl
 le_key (byte ∷ key) = refl
 
-not_less_then : (a : ℕ) (r o : Ordering) → r ≡ nat_cmp a a → is_lt o ≡ false → is_lt (ordering_then r o) ≡ false
-not_less_then a Less o e h = let k : a < a = ranked a a Less e in absurd (omega arith)
-not_less_then a Equal o e h = h
-not_less_then a Greater o e h = refl
-
-not_less_zero : (a : ℕ) (r o : Ordering) → r ≡ nat_cmp a 0 → is_lt o ≡ false → is_lt (ordering_then r o) ≡ false
-not_less_zero a Less o e h = let k : a < 0 = ranked a 0 Less e in absurd (omega arith)
-not_less_zero a Equal o e h = h
-not_less_zero a Greater o e h = refl
-
 with_hash_not_before : (hash : ℕ) (item : Held) → item_hash item ≡ hash → comes_before (bucket_of hash, hash, 0, []) item ≡ false
-with_hash_not_before hash item same =
-    subst (λ (k : ℕ). comes_before (bucket_of k, k, 0, []) item ≡ false) same
-    (not_less_then (item_bucket item) _ _ refl (not_less_then (item_hash item) _ _ refl (not_less_zero item.table _ _ refl (le_key item.key))))
+with_hash_not_before hash item same = grind (arith, le_key, ranked)
 
 -- the live items with a hash stand between the two cuts
 pub at_hash_is : (range : Range) (hash : ℕ) (items : List Held) (start run : ℕ) → IsCut (comes_before (bucket_of hash, hash, 0, [])) items start

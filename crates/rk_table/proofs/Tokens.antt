@@ -1,13 +1,12 @@
 -- The laws of scans over a list in scan order.
-use Rattle.std.proofs.Common.{◌≡◌, ℕ, zero, suc, ◌+◌, ◌-◌, ◌<◌, ◌≤◌, Bool, true, false, cond, List, [], ◌∷◌, ◌++◌, Option, Some, None, length, take, drop, refl, sym, ap, ◌∙◌, subst, ⊎_elim, arith, length-append}
-use Rattle.std.specs.Prelude.{◌↔◌, nat_le}
+use Rattle.std.proofs.Common.{◌≡◌, ℕ, zero, suc, ◌+◌, ◌-◌, ◌<◌, ◌≤◌, List, [], ◌∷◌, ◌++◌, Option, Some, None, length, take, drop, refl, sym, ap, ◌∙◌, subst, ⊎_elim, arith, length-append}
+use Rattle.std.specs.Prelude.{◌↔◌}
 use Rattle.std.specs.List.{last_or}
 use Rattle.std.proofs.lemmas.Bool.{cases_lt, ne_eqb, le-ltb}
 use Rattle.std.proofs.lemmas.List.{append-nil, append_assoc, append_cancel_left, append_cancel_right, take-append-drop, take_at, nil_from_length}
 use Rattle.std.proofs.lemmas.List.Elements.{filter-append}
 use Rattle.rk_types.specs.declared.held.Held.{Held}
 use Rattle.rk_types.specs.declared.held.Token.{Token}
-use Rattle.rk_types.specs.declared.hashing.TheConstants.{BUCKETS}
 use Rattle.rk_types.specs.Held.{spelled_of}
 use Rattle.rk_table.specs.Order.{item_bucket, IsInScanOrder}
 use Rattle.rk_table.specs.Scans.{before_bucket, of_bucket, behind_bucket, first, end, passed, left, batch_of, batch_at, rest_at, token_of, token_behind, token_before, next_token, scanned, token_after}
@@ -37,14 +36,7 @@ passed_first items = append-nil (before_bucket 0 items) ∙ less_none item_bucke
 passed_behind : (front : List Held) (item : Held) (back : List Held) → Rises item_bucket ((front ++ item ∷ []) ++ back)
     → passed (token_of (Some item) (front ++ item ∷ [])) ((front ++ item ∷ []) ++ back) ≡ front ++ item ∷ []
 passed_behind front item back rises =
-    let b : ℕ = item_bucket item in
-    let done : List Held = front ++ item ∷ [] in
-    let whole : Rises item_bucket (front ++ item ∷ back) = subst (Rises item_bucket) (append_assoc front (item ∷ []) back) rises in
-    let before : before_bucket b (done ++ back) ≡ before_bucket b done =
-    filter-append _ done back ∙ ap (λ (l : List Held). before_bucket b done ++ l) (less_none item_bucket b back (from_here item_bucket front item back whole)) ∙ append-nil (before_bucket b done) in
-    let here : take (length (of_bucket b done)) (of_bucket b (done ++ back)) ≡ of_bucket b done =
-    ap (take (length (of_bucket b done))) (filter-append _ done back) ∙ take_at (of_bucket b done) (of_bucket b back) (length (of_bucket b done)) refl in
-    (λ i. before i ++ here i) ∙ less_and_same item_bucket b done (up_to_here item_bucket front item back whole) (rises_front item_bucket done back rises)
+    grind (arith, append_assoc, filter-append, less_none, from_here, append-nil, take_at, less_and_same, up_to_here, rises_front)
 
 pub passed_token_behind : (front back : List Held) → Rises item_bucket (front ++ back) → passed (token_behind front) (front ++ back) ≡ front
 passed_token_behind front back rises =
@@ -67,23 +59,12 @@ left_token_behind front back rises =
 
 -- at the end nothing is left
 left_end : (items : List Held) → left end items ≡ []
-left_end items =
-    let here : of_bucket BUCKETS items ≡ [] =
-    filter_none _ (λ item. let h : item_bucket item < BUCKETS = bucket_below_end item in ne_eqb (item_bucket item) BUCKETS (λ e. omega arith)) items in
-    let behind : behind_bucket BUCKETS items ≡ [] =
-    filter_none _ (λ item. let h : item_bucket item < BUCKETS = bucket_below_end item in le-ltb BUCKETS (item_bucket item) (omega arith)) items in
-    λ i. here i ++ behind i
+left_end items = grind (arith, filter_none, bucket_below_end, ne_eqb, le-ltb)
 
 -- a batch is the first part that its length says
 batch_and_rest : (limit : ℕ) (items : List Held) → batch_of limit items ++ drop (length (batch_of limit items)) items ≡ items
 batch_and_rest limit [] = refl
-batch_and_rest limit (item ∷ items) =
-    go (nat_le limit (spelled_of item)) (batch_of (limit - spelled_of item) items) (batch_and_rest (limit - spelled_of item) items)
-  where
-    go : (full : Bool) (batch : List Held) → batch ++ drop (length batch) items ≡ items
-        → (item ∷ cond full [] batch) ++ drop (length (item ∷ cond full [] batch)) (item ∷ items) ≡ item ∷ items
-    go true batch whole = refl
-    go false batch whole = ap (λ (l : List Held). item ∷ l) whole
+batch_and_rest limit (item ∷ items) = grind (arith, (batch_and_rest (limit - spelled_of item) items))
 
 -- what is left is the batch and the rest
 pub left_in_two : (token : Token) (limit : ℕ) (items : List Held) → batch_at token limit items ++ rest_at token limit items ≡ left token items
@@ -100,10 +81,7 @@ batch_gives token limit items some = go (left token items) some
 -- what is passed, the batch and the rest are the items
 passed_batch_rest : (token : Token) (limit : ℕ) (items : List Held) → Rises item_bucket items
     → (passed token items ++ batch_at token limit items) ++ rest_at token limit items ≡ items
-passed_batch_rest token limit items rises =
-    append_assoc (passed token items) (batch_at token limit items) (rest_at token limit items)
-    ∙ ap (λ (l : List Held). passed token items ++ l) (left_in_two token limit items)
-    ∙ passed_and_left token items rises
+passed_batch_rest token limit items rises = grind (arith, append_assoc, left_in_two, passed_and_left)
 
 -- of a list in two parts, the second is left at the token between them
 left_between : (rest front : List Held) → Rises item_bucket (front ++ rest) → left (token_before rest front) (front ++ rest) ≡ rest
@@ -132,9 +110,7 @@ passed_next token limit items rises =
 -- the batch goes on with what is left, and leaves what is left at the next token
 pub left_goes_on : (token : Token) (limit : ℕ) (items : List Held) → Rises item_bucket items
     → left token items ≡ batch_at token limit items ++ left (next_token token limit items) items
-left_goes_on token limit items rises =
-    sym (left_in_two token limit items)
-    ∙ ap (λ (l : List Held). batch_at token limit items ++ l) (sym (left_next token limit items rises))
+left_goes_on token limit items rises = grind (arith, left_in_two, left_next)
 
 -- where nothing is left, the next token is the end
 pub token_before_none : (rest done : List Held) → rest ≡ [] → token_before rest done ≡ end
@@ -143,10 +119,7 @@ token_before_none rest done none = ap (λ (l : List Held). token_before l done) 
 -- the next token is the end exactly where nothing is left at it
 pub ends_where_none_left : (token : Token) (limit : ℕ) (items : List Held) → Rises item_bucket items
     → (next_token token limit items ≡ end) ↔ (left (next_token token limit items) items ≡ [])
-ends_where_none_left token limit items rises = (
-  λ last. ap (λ (t : Token). left t items) last ∙ left_end items,
-  λ none. token_before_none _ _ (sym (left_next token limit items rises) ∙ none),
-)
+ends_where_none_left token limit items rises = grind (arith, left_end, token_before_none, left_next)
 
 -- so many turns hand out what is left, where that is no more items than turns
 pub scanned_left : (limit turns : ℕ) (token : Token) (items : List Held) → Rises item_bucket items
@@ -207,12 +180,7 @@ pub law_ends : (token : Token) (limit : ℕ) (items : List Held) → IsInScanOrd
 law_ends token limit items order = ends_where_none_left token limit items (rises_in_order items order)
 
 pub law_all : (limit scans : ℕ) (items : List Held) → IsInScanOrder items → length items ≤ scans → scanned limit scans first items ≡ items
-law_all limit scans items order enough =
-    let rises : Rises item_bucket items = rises_in_order items order in
-    let whole : left first items ≡ items = left_first items rises in
-    scanned_left limit scans first items rises (subst (λ (l : List Held). length l ≤ scans) (sym whole) enough) ∙ whole
+law_all limit scans items order enough = grind (arith, rises_in_order, left_first, scanned_left)
 
 pub law_end : (limit scans : ℕ) (items : List Held) → IsInScanOrder items → length items < scans → token_after limit scans first items ≡ end
-law_end limit scans items order enough =
-    let rises : Rises item_bucket items = rises_in_order items order in
-    ends_after limit scans first items rises (subst (λ (l : List Held). length l < scans) (sym (left_first items rises)) enough)
+law_end limit scans items order enough = grind (arith, rises_in_order, ends_after, left_first)

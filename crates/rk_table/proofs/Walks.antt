@@ -181,7 +181,4 @@ pub token_behind_at : (range : Range) (items : List Held) (cut start bucket skip
     → bucket ≡ item_bucket item → IsCut (λ other. ltb (item_bucket other) bucket) items start
     → skip ≡ length (live_in range (take (cut - start) (drop start items)))
     → (let t : Token = record { bucket = bucket; skip = skip } in t) ≡ token_behind (live_in range (take cut items))
-token_behind_at range items cut start bucket skip item order some within read live its_bucket at count =
-    (λ i. let t : Token = record { bucket = its_bucket i; skip = count i } in t)
-    ∙ sym (token_behind_is range items cut start item order some within read live
-    (subst (λ (b : ℕ). IsCut (λ other. ltb (item_bucket other) b) items start) its_bucket at))
+token_behind_at range items cut start bucket skip item order some within read live its_bucket at count = grind (arith, token_behind_is, ltb)

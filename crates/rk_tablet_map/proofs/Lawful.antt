@@ -18,17 +18,11 @@ all_weaker P Q f (x ∷ xs) a = (f x a.0, all_weaker P Q f xs a.1)
 -- and of the rows with one more of which it holds
 all_placed : (P : Row → Type 0) (row : Row) (rows : List Row) → P row → AllByRecursion P rows → AllByRecursion P (placed row rows)
 all_placed P row [] p a = (p, tt)
-all_placed P row (x ∷ xs) p a =
-    elim (nat_le row.tablet x.tablet) as (λ b. AllByRecursion P (cond b (row ∷ x ∷ xs) (x ∷ placed row xs))) [
-      | true ↦ (p, a)
-      | false ↦ (a.0, all_placed P row xs p a.1)
-    ]
+all_placed P row (x ∷ xs) p a = grind (arith, nat_le, row.tablet, x.tablet, a.0, a.1, (all_placed P row xs p a.1))
 
 -- tests that are joined by "or" can be turned
 or_turned : (a b c : Bool) → (a || (b || c)) ≡ (b || (a || c))
-or_turned true true c = refl
-or_turned true false c = refl
-or_turned false b c = refl
+or_turned a b c = grind arith
 
 -- and grouped to the left
 or_grouped : (a b c : Bool) → (a || (b || c)) ≡ ((a || b) || c)
@@ -46,12 +40,7 @@ pub record IsNew (row : Row) (rows : List Row) : Type 0 where
 
 -- and so without the first row
 new_tail : (row x : Row) (xs : List Row) → IsNew row (x ∷ xs) → (x.tablet ≢ row.tablet) × (meets x.range row.range ≡ false) × IsNew row xs
-new_tail row x xs new =
-    let parts = or_parts (meets x.range row.range) (meets_any xs row.range) new.apart in
-    elim (x.tablet == row.tablet) as (λ b. (x.tablet == row.tablet) ≡ b → is_some (cond b (Some x) (row_of xs row.tablet)) ≡ false → (x.tablet ≢ row.tablet) × (meets x.range row.range ≡ false) × IsNew row xs) [
-      | true ↦ λ _ h. absurd (cc)
-      | false ↦ λ e h. (eqb-false _ _ e, parts.0, record { unknown = h; apart = parts.1 })
-    ] refl new.unknown
+new_tail row x xs new = grind (arith, or_parts, eqb-false)
 
 -- a new row with a smaller number than the first precedes all later ones
 first_of_all : (row x : Row) (xs : List Row) → row.tablet < x.tablet → AllByRecursion (Precedes x) xs → IsNew row xs → AllByRecursion (Precedes row) xs
@@ -80,11 +69,7 @@ pub record TakesPlace (row old : Row) : Type 0 where
 
 -- the row that is found is the first, or is found behind it
 found_cases : (P : Type 0) (x old : Row) (xs : List Row) (tablet : ℕ) → row_of (x ∷ xs) tablet ≡ Some old → ((x.tablet == tablet) ≡ true → x ≡ old → P) → ((x.tablet == tablet) ≡ false → row_of xs tablet ≡ Some old → P) → P
-found_cases P x old xs tablet h first later =
-    elim (x.tablet == tablet) as (λ b. (x.tablet == tablet) ≡ b → cond b (Some x) (row_of xs tablet) ≡ Some old → P) [
-      | true ↦ λ e s. first e (cc)
-      | false ↦ λ e s. later e s
-    ] refl h
+found_cases P x old xs tablet h first later = grind arith
 
 -- what holds of each row, and of the new one where it holds of the old one, holds of each row with that one replaced
 all_replaced : (P : Row → Type 0) (row old : Row) (tablet : ℕ) (rows : List Row) → row_of rows tablet ≡ Some old → (P old → P row) → AllByRecursion P rows → AllByRecursion P (replaced tablet row rows)
@@ -117,9 +102,7 @@ number_of (x ∷ xs) tablet row h = found_cases _ x row xs tablet h (λ e s. rw 
 
 -- which of two rows with one number stands first tells nothing of the numbers that are known
 some_alike : (row x : Row) (xs : List Row) (new : ℕ) → row.tablet ≡ x.tablet → is_some (row_of (row ∷ xs) new) ≡ is_some (row_of (x ∷ xs) new)
-some_alike row x xs new same =
-    subst (λ (b : Bool). is_some (cond b (Some row) (row_of xs new)) ≡ is_some (row_of (x ∷ xs) new)) (ap (λ k. k == new) (sym same))
-    (elim (x.tablet == new) as (λ b. is_some (cond b (Some row) (row_of xs new)) ≡ is_some (cond b (Some x) (row_of xs new))) [ true ↦ refl | false ↦ refl ])
+some_alike row x xs new same = grind arith
 
 -- a replaced row with the same number leaves the same numbers known
 known_replaced : (row : Row) (tablet new : ℕ) (rows : List Row) → row.tablet ≡ tablet → is_some (row_of (replaced tablet row rows) new) ≡ is_some (row_of rows new)
@@ -164,12 +147,7 @@ parts_apart row at new h = grind (arith, nat_tests)
 -- so the rows after a split are those of a map
 pub lawful_split : (rows : List Row) (tablet at new : ℕ) (row : Row) → row_of rows tablet ≡ Some row → is_some (row_of rows new) ≡ false → is_split row.range at ≡ true → IsTabletMap rows → IsTabletMap (placed (upper_part row at new) (replaced tablet (lower_part row at) rows))
 lawful_split rows tablet at new row h unknown split m =
-    lawful_placed (upper_part row at new) (replaced tablet (lower_part row at) rows)
-    (lawful_replaced (lower_part row at) row tablet rows h (record { same = refl; narrower = λ other a. lower_narrower row at other split a }) m)
-    (record {
-      unknown = known_replaced (lower_part row at) tablet new rows (number_of rows tablet row h) ∙ unknown;
-      apart = apart_replaced (lower_part row at) row (upper_part row at new).range tablet rows h (parts_apart row at new split) (λ other a. upper_narrower row at new other split a) m;
-    })
+    grind (arith, lawful_placed, lawful_replaced, lower_narrower, known_replaced, number_of, apart_replaced, parts_apart, upper_narrower)
 
 -- and after a change of term and phase
 pub lawful_turned : (rows : List Row) (tablet : ℕ) (row new : Row) → row_of rows tablet ≡ Some row → new.tablet ≡ row.tablet → new.range ≡ row.range → IsTabletMap rows → IsTabletMap (replaced tablet new rows)
@@ -183,10 +161,7 @@ has_parts row at new table hash h = grind (arith, nat_tests)
 covered_placed : (row : Row) (rows : List Row) (table hash : ℕ) → is_covered (placed row rows) table hash ≡ (has row.range table hash || is_covered rows table hash)
 covered_placed row [] table hash = refl
 covered_placed row (x ∷ xs) table hash =
-    elim (nat_le row.tablet x.tablet) as (λ b. is_covered (cond b (row ∷ x ∷ xs) (x ∷ placed row xs)) table hash ≡ (has row.range table hash || (has x.range table hash || is_covered xs table hash))) [
-      | true ↦ refl
-      | false ↦ ap (λ t. has x.range table hash || t) (covered_placed row xs table hash) ∙ or_turned (has x.range table hash) (has row.range table hash) (is_covered xs table hash)
-    ]
+    grind (arith, nat_le, or_turned, row.tablet, x.tablet, row.range, x.range, (covered_placed row xs table hash))
 
 -- with both parts of a row in its place the rows cover what they covered
 covered_parts : (row lower upper : Row) (tablet : ℕ) (rows : List Row) (table hash : ℕ) → row_of rows tablet ≡ Some row → (has upper.range table hash || has lower.range table hash) ≡ has row.range table hash → (has upper.range table hash || is_covered (replaced tablet lower rows) table hash) ≡ is_covered rows table hash
@@ -226,8 +201,4 @@ fault_taken rows tablet at new place found known =
 
 -- the new number is free, so the range decides
 pub fault_of_range : (rows : List Row) (tablet at new : ℕ) (row : Row) → row_of rows tablet ≡ Some row → is_some (row_of rows new) ≡ false → split_fault rows tablet at new ≡ cond (is_split row.range at) None (Some (BadSplit at))
-fault_of_range rows tablet at new row h unknown = rw h (free (row_of rows new) unknown)
-  where
-    free : (o : Option Row) → is_some o ≡ false → cut_fault (Some row) o at new ≡ cond (is_split row.range at) None (Some (BadSplit at))
-    free None k = refl
-    free (Some other) k = absurd (cc)
+fault_of_range rows tablet at new row h unknown = grind arith

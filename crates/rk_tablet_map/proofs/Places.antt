@@ -42,11 +42,7 @@ module _ {X : Type 0} (p : X → Bool) where
 
   -- an index that was found is the first place
   pub indexed : (xs : List X) (i : ℕ) → Some i ≡ position p xs → (i ≡ first_place xs) × (i < length xs)
-  indexed xs i e =
-      elim (ltb (position_or_len p xs) (length xs)) as (λ b. ltb (position_or_len p xs) (length xs) ≡ b → Some i ≡ cond b (Some (position_or_len p xs)) None → (i ≡ first_place xs) × (i < length xs)) [
-        | true ↦ λ t s. let same : i ≡ position_or_len p xs = cc in (same ∙ first_place_is xs, omega (arith, ltb-true _ _ t))
-        | false ↦ λ _ s. absurd (cc)
-      ] refl e
+  indexed xs i e = grind (arith, ltb, first_place_is, ltb-true)
 
   -- something is found where there is such a place
   found_there : (xs : List X) → first_place xs < length xs → true ≡ is_some (find p xs)
@@ -55,17 +51,11 @@ module _ {X : Type 0} (p : X → Bool) where
 
   -- an index is found where something is
   pub index_is_some : (xs : List X) → is_some (position p xs) ≡ is_some (find p xs)
-  index_is_some xs =
-      elim (ltb (position_or_len p xs) (length xs)) as (λ b. ltb (position_or_len p xs) (length xs) ≡ b → is_some (cond b (Some (position_or_len p xs)) None) ≡ is_some (find p xs)) [
-        | true ↦ λ t. found_there xs (omega (arith, ltb-true _ _ t, first_place_is xs))
-        | false ↦ λ t. sym (ap is_some (find_none xs (omega (arith, ltb-false _ _ t, first_place_is xs))))
-      ] refl
+  index_is_some xs = grind (arith, ltb, found_there, ltb-true, first_place_is, find_none, ltb-false)
 
 -- the row at the place of a tablet is its row
 pub row_at : (rows : List Row) (tablet i : ℕ) (d : Row) → Some i ≡ position (λ row. row.tablet == tablet) rows → row_of rows tablet ≡ Some (get_or rows i d)
-row_at rows tablet i d e =
-    let at = indexed (λ row. row.tablet == tablet) rows i e in
-    subst (λ (k : ℕ). row_of rows tablet ≡ Some (get_or rows k d)) (sym at.0) (find_first (λ row. row.tablet == tablet) rows d (omega (arith, at.0, at.1)))
+row_at rows tablet i d e = grind (arith, indexed, find_first)
 
 -- a tablet without a place has no row
 pub no_row : (rows : List Row) (tablet : ℕ) → None ≡ position (λ row. row.tablet == tablet) rows → row_of rows tablet ≡ None
@@ -92,19 +82,11 @@ replaced_at tablet row rows i e =
 -- to put a row in its place is to insert it before the first row with no smaller number
 placed_first : (row : Row) (rows : List Row) → placed row rows ≡ insert rows (first_place (λ r. nat_le row.tablet r.tablet) rows) row
 placed_first row [] = refl
-placed_first row (x ∷ xs) =
-    elim (nat_le row.tablet x.tablet) as (λ b. cond b (row ∷ x ∷ xs) (x ∷ placed row xs) ≡ insert (x ∷ xs) (cond b 0 (suc (first_place (λ r. nat_le row.tablet r.tablet) xs))) row) [
-      | true ↦ refl
-      | false ↦ ap (λ t. x ∷ t) (placed_first row xs)
-    ]
+placed_first row (x ∷ xs) = grind (arith, nat_le, row.tablet, x.tablet, (placed_first row xs))
 
 -- the place of the first element, or the length where none passes
 pub place_found : {X : Type 0} (p : X → Bool) (xs : List X) → unwrap_or (position p xs) (length xs) ≡ position_or_len p xs
-place_found p xs =
-    elim (ltb (position_or_len p xs) (length xs)) as (λ b. ltb (position_or_len p xs) (length xs) ≡ b → unwrap_or (cond b (Some (position_or_len p xs)) None) (length xs) ≡ position_or_len p xs) [
-      | true ↦ λ _. refl
-      | false ↦ λ t. omega (arith, ltb-false _ _ t, first_place_is p xs, within p xs)
-    ] refl
+place_found p xs = grind (arith, ltb, ltb-false, first_place_is, within)
 
 -- it is within the list, so a row can be inserted there
 pub place_within : {X : Type 0} (p : X → Bool) (xs : List X) → position_or_len p xs ≤ length xs

@@ -1,11 +1,11 @@
 -- A lane stays sound when the record of a client's last call is accepted, where no record of it was.
-use Rattle.rk_inv_base.proofs.Words.{◌≡◌, ℕ, ◌<◌, true, List, ◌++◌, Option, Some, None, sym, ap, ◌∙◌, subst, ⊎_elim, inl, inr, arith}
-use Rattle.rk_inv_base.proofs.Words.{slice_get, slice_set, IfSome, Contains, All-weaker, slice_get-get_or, slice_get_within}
-use Rattle.rk_inv_base.proofs.Words.{get_or_from_slice_get, hash_of, Call, Ended, Placed, Range, is_mutation, lane_of_key, AreOneMutation}
-use Rattle.rk_inv_base.proofs.Words.{Entry, is_covered, Reply, Request, base_map, ends_told, told, accepted_at, as_accepted, of_key}
-use Rattle.rk_inv_base.proofs.Words.{IsAfterStart, has_key, World, LastCall, AreOneAccepted, IsAccepted, RequestFits, WasAsked, IsKnown}
-use Rattle.rk_inv_base.proofs.Words.{IsReached, IsRecorded, ReachAll, TellAll, is_record_in, MayAccept, IsAfterSeen, View, view, AskedOf}
-use Rattle.rk_inv_base.proofs.Words.{IsSound, SoundView, IsRecordAt, Outcome, accepted, record_accepted_in}
+use Rattle.rk_inv_base.proofs.Words.{◌≡◌, ℕ, true, List, ◌++◌, Option, Some, sym, ap, ◌∙◌, subst, ⊎_elim, inl, inr, arith, slice_get}
+use Rattle.rk_inv_base.proofs.Words.{slice_set, IfSome, Contains, All-weaker, slice_get-get_or, slice_get_within, get_or_from_slice_get}
+use Rattle.rk_inv_base.proofs.Words.{hash_of, Call, Ended, Placed, Range, is_mutation, lane_of_key, AreOneMutation, Entry, is_covered}
+use Rattle.rk_inv_base.proofs.Words.{Reply, Request, base_map, ends_told, told, accepted_at, as_accepted, of_key, IsAfterStart, has_key}
+use Rattle.rk_inv_base.proofs.Words.{World, LastCall, AreOneAccepted, IsAccepted, RequestFits, WasAsked, IsKnown, IsReached, IsRecorded}
+use Rattle.rk_inv_base.proofs.Words.{ReachAll, TellAll, is_record_in, MayAccept, IsAfterSeen, View, view, AskedOf, IsSound, SoundView}
+use Rattle.rk_inv_base.proofs.Words.{IsRecordAt, Outcome, accepted, record_accepted_in}
 use Rattle.rk_inv_base.proofs.calls.OtherJournals.{asked_by_other, is_request_by, request_by_other, request_says_by, says_by}
 use Rattle.rk_inv_base.proofs.calls.Journals.{view_with_journal}
 use Rattle.rk_inv_base.proofs.calls.SameRecords.{AreSameRecords, IsSameRecord, accepted_cases, accepted_same, all_records_same}
@@ -36,9 +36,7 @@ module _ (v : View) (place : ℕ) (sound : SoundView v) (may : MayAccept v place
 
   -- what was seen is below the stamp of the same record
   after_seen : (last : Option LastCall) (old new : Placed) → IsSameRecord old new → IsAfterSeen last old → IsAfterSeen last new
-  after_seen None old new is above = tt
-  after_seen (Some last) old new is above = λ of_call.
-      subst (λ (n : ℕ). last.seen < n) (sym is.stamp) (above (of_call ∙ is.call))
+  after_seen last old new is above = grind arith
 
   known : (end : Ended) → IsKnown v.base v.journal end → IsKnown v.base after end
   known end =
@@ -70,17 +68,7 @@ module _ (v : View) (place : ℕ) (sound : SoundView v) (may : MayAccept v place
 
   -- a Reply tells the same record
   told_still : (client : ℕ) (reply : Reply) (outcome : Outcome) → IsRecordAt v.journal client reply outcome → IsRecordAt after client reply outcome
-  told_still client reply outcome fits =
-      let new = record_after v.journal after reply.place fits.placed same fits.stands in
-      let is : IsSameRecord fits.placed new.0 = new.2 in
-      record {
-        placed = new.0;
-        stands = new.1;
-        client_is = ap (λ (c : Call). c.client) is.call ∙ fits.client_is;
-        seq_is = ap (λ (c : Call). c.seq) is.call ∙ fits.seq_is;
-        outcome_is = is.outcome ∙ fits.outcome_is;
-        stamp_is = is.stamp ∙ fits.stamp_is;
-      }
+  told_still client reply outcome fits = grind (arith, record_after, same)
 
   -- what was asked was so before
   accepted_still : (call : Call) → IsAccepted v.journal call → IsAccepted after call
@@ -101,23 +89,7 @@ module _ (v : View) (place : ℕ) (sound : SoundView v) (may : MayAccept v place
   none_accepted i other at accepted client seq = grind (arith, stands_there, is_last)
 
   once : (i j : ℕ) (a b : Placed) → slice_get after i ≡ Some a → slice_get after j ≡ Some b → AreOneAccepted a b → i ≡ j
-  once i j a b at_i at_j one =
-      ⊎_elim
-      (λ (here : (i ≡ place) × (as_accepted may.placed ≡ a)).
-      ⊎_elim
-      (λ (too : (j ≡ place) × (as_accepted may.placed ≡ b)). here.0 ∙ sym too.0)
-      (λ (there : slice_get v.journal j ≡ Some b).
-      absurd (none_accepted j b there one.second
-      (sym one.client ∙ ap (λ (p : Placed). p.call.client) (sym here.1)) (sym one.seq ∙ ap (λ (p : Placed). p.call.seq) (sym here.1))))
-      (accepted_cases v.journal place may.placed j b at_j))
-      (λ (there : slice_get v.journal i ≡ Some a).
-      ⊎_elim
-      (λ (too : (j ≡ place) × (as_accepted may.placed ≡ b)).
-      absurd (none_accepted i a there one.first
-      (one.client ∙ ap (λ (p : Placed). p.call.client) (sym too.1)) (one.seq ∙ ap (λ (p : Placed). p.call.seq) (sym too.1))))
-      (λ (both : slice_get v.journal j ≡ Some b). sound.asked.once i j a b there both one)
-      (accepted_cases v.journal place may.placed j b at_j))
-      (accepted_cases v.journal place may.placed i a at_i)
+  once i j a b at_i at_j one = grind (arith, as_accepted, none_accepted, accepted_cases, one.second, one.client, one.seq, one.first)
 
   asked : AskedOf (record v { journal = after })
   asked = record {

@@ -1,7 +1,7 @@
 -- Lineages: what their truth is by what counts of each member, and that the first of two members is not the last one.
 use Rattle.rk_inv_base.proofs.Words.{◌≡◌, ℕ, suc, List, [], ◌∷◌, Some, refl, sym, ap, ◌∙◌, arith, Contains, flat_map, Member, Range, Entry}
-use Rattle.rk_inv_base.proofs.Words.{lineage_of, Phase, Moving, Rebuilding, Base, last_of, Written, member_truth, lineage_truth, AreApart}
-use Rattle.rk_inv_base.proofs.Words.{IsFormed, base_entries}
+use Rattle.rk_inv_base.proofs.Words.{lineage_of, Phase, Base, last_of, Written, member_truth, lineage_truth, AreApart, IsFormed}
+use Rattle.rk_inv_base.proofs.Words.{base_entries}
 
 -- the truth of a lineage, by what counts of each member
 abbrev pub truth_by : Base → (Range → Member → List Entry) → Range → List Member → List Entry
@@ -21,9 +21,7 @@ last_stands (member ∷ next ∷ more) last is =
 
 -- the lineage of a row in such a phase has at most two members, and they are two
 pub formed_apart : (phase : Phase) → IsFormed phase → AreApart (lineage_of phase)
-formed_apart (Moving source sfrom target dfrom) formed = formed
-formed_apart (Rebuilding lineage to) formed = formed
-formed_apart _ formed = tt
+formed_apart phase formed = grind arith
 
 -- so the first one is another master than the last one
 pub first_not_last : (first next : Member) (more : List Member) (last : Member) → AreApart (first ∷ next ∷ more) → last_of (first ∷ next ∷ more) ≡ Some last → first.master ≡ last.master → ⊥

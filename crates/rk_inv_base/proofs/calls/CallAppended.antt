@@ -34,15 +34,11 @@ above_floor truth rest item low =
 
 -- an entry of a call that counts for a row lies in rows
 pub within_rows : (rows : List Row) (row : Row) (call : Call) (entry : Entry) → IsEntryOf call entry → Contains rows row → counts row.range entry ≡ true → IsEntryWithin rows entry
-within_rows rows row call (entries.Held held) own stands has = covered_by rows row held.table (hash_of held.key) stands has
-within_rows rows row call (entries.Refused refused) own stands has = covered_by rows row refused.table (hash_of refused.key) stands has
-within_rows rows row call _ own stands has = absurd own
+within_rows rows row call entry own stands has = grind (arith, covered_by, hash_of)
 
 -- and nothing is asked of it as of a Carried or a Joined
 pub whole_rows : (rows : List Row) (call : Call) (entry : Entry) → IsEntryOf call entry → IsOfWholeRows rows entry
-whole_rows rows call (entries.Carried carried) own = absurd own
-whole_rows rows call (entries.Joined joined) own = absurd own
-whole_rows rows call _ own = tt
+whole_rows rows call entry own = grind arith
 
 -- behind the rest of a row stands an item that is above all that counts for it, or none
 pub above_pushed : (truth rest : List Entry) (call : Call) (entry : Entry) → IsEntryOf call entry → All (λ item. IsNext (truth ++ rest) item.version) (items_in entry) → AreAbove (items_of truth) (items_of rest) → AreAbove (items_of truth) (items_of (rest ++ entry ∷ []))
@@ -95,14 +91,10 @@ module _ (v : View) (master : ℕ) (call : Call) (entry : Entry) (counter : ℕ)
   inside = counts_call row.range call entry may.own ∙ may.served.in_row
 
   untouched : (range : Range) → meets row.range range ≡ false → touches range entry ≡ false
-  untouched range apart =
-      touches_call range call entry may.own ∙ counts_call range call entry may.own
-      ∙ false_from_ne_true (has_key range call.table call.key) (no_meeting row.range range call.table call.key apart may.served.in_row)
+  untouched range apart = grind (arith, touches_call, counts_call, false_from_ne_true, has_key, no_meeting)
 
   uncounted : (x : Row) → Contains v.rows x → (x.tablet ≡ row.tablet → ⊥) → counts x.range entry ≡ false
-  uncounted x has apart =
-      counts_call x.range call entry may.own
-      ∙ in_one_row v.rows row x call.table call.key sound.rows.apart may.served.has_row has apart may.served.in_row
+  uncounted x has apart = grind (arith, counts_call, in_one_row)
 
   -- ---- what is staged of the row
 
@@ -122,16 +114,13 @@ module _ (v : View) (master : ℕ) (call : Call) (entry : Entry) (counter : ℕ)
 
   -- and nothing is handed over for the row
   none_kept : handed_for_grant row v.handovers v.handed ≡ None
-  none_kept =
-      cond-false _ (get v.handed row.tablet) None
-      (none_waits row v.handovers row.phase may.served.last was.formed may.served.is_last serves_last)
+  none_kept = grind (arith, cond-false, none_waits, was, serves_last)
 
   rest : RestFits v now row
   rest =
       let grown : List Entry = rests v row ++ entry ∷ [] in
       record {
-        above =
-            rw rest_is (above_pushed (truths v row) (rests v row) call entry may.own may.above was.above);
+        above = grind (arith, rest_is, above_pushed, truths, rests, was, may.own, may.above);
         counted = λ q counts says.
             let same : q ≡ master = speaker_at q counts says ∙ sym speaker in
             subst (λ (list : List Entry). IsNext (truths v row ++ list) (now.handovers q row.tablet).counter) (sym rest_is)
@@ -198,13 +187,9 @@ module _ (v : View) (master : ℕ) (call : Call) (entry : Entry) (counter : ℕ)
   waits_new q at = subst (λ (n : ℕ). WaitsAt n place call) (sym at) (record {
     behind = omega (arith, within v master entry sound.logs master, applied_same v master entry sound.logs master);
     entry = entry;
-    stands =
-        of_written v master entry sound.logs (λ (w : Written). slice_get w.entries place ≡ Some entry) master
-        (λ _. slice_get_end (v.written master).entries entry) (λ apart. absurd (apart refl));
+    stands = grind (arith, of_written, slice_get_end, sound.logs, v.written);
     own = may.own;
-    unmarked =
-        of_written v master entry sound.logs (λ (w : Written). is_marked w.marks place ≡ false) master
-        (λ _. marked_none (v.written master).marks place (sound.logs.each master).marked) (λ apart. absurd (apart refl));
+    unmarked = grind (arith, of_written, is_marked, marked_none, sound.logs, v.written, sound.logs.each);
     row = row;
     has_row = may.served.has_row;
     in_row = may.served.in_row;

@@ -1,21 +1,14 @@
 -- A lane stays sound when a client asks a call, where its last one, if any, is older and accepted: nothing of the client is staged then.
-use Rattle.rk_inv_base.proofs.Words.{◌≡◌, ℕ, ◌<◌, true, List, [], ◌∷◌, ◌++◌, Option, Some, refl, sym, ap, ◌∙◌, subst, inr}
-use Rattle.rk_inv_base.proofs.Words.{arith, IfSome, unwrap_or, All, eq-eqb, length, and_from, false≢true, All-contains, All-head, All-tail}
-use Rattle.rk_inv_base.proofs.Words.{All-weaker, list_any_at, get_other, get_same, Call, Placed, Range, IsLegal, live_after, is_mutation}
-use Rattle.rk_inv_base.proofs.Words.{Entry, Row, Request, base_map, item_end, items_of, refusal_end, has_record, is_of_mutation, Ledger}
-use Rattle.rk_inv_base.proofs.Words.{asked_by, with_asked, AgreeIn, call_of, World, LastCall, IsAccepted, IsLastCall, RequestFits}
-use Rattle.rk_inv_base.proofs.Words.{WasAsked, IsEntryOf, IsLast, IsLastAsked, IsRest, IsStaged, Waits, call_ends, record_of_last}
-use Rattle.rk_inv_base.proofs.Words.{records_of, put, IsAfterSeen, View, view, truths, rests, AskedOf, IsSound, RestOf, SoundView, TruthOf}
-use Rattle.rk_inv_base.proofs.Words.{Message, get, MayAsk, call_asked, call_asked_in}
+use Rattle.rk_inv_base.proofs.Words.{◌≡◌, ℕ, ◌<◌, true, List, [], ◌∷◌, ◌++◌, Option, Some, refl, sym, ◌∙◌, subst, inr, arith, IfSome}
+use Rattle.rk_inv_base.proofs.Words.{unwrap_or, All, length, false≢true, All-head, All-tail, All-weaker, list_any_at, get_other, get_same}
+use Rattle.rk_inv_base.proofs.Words.{Call, Range, live_after, Entry, Row, Request, base_map, item_end, items_of, refusal_end, Ledger}
+use Rattle.rk_inv_base.proofs.Words.{asked_by, with_asked, call_of, World, LastCall, IsAccepted, IsLastCall, RequestFits, WasAsked}
+use Rattle.rk_inv_base.proofs.Words.{IsEntryOf, IsLast, IsLastAsked, IsRest, IsStaged, Waits, call_ends, record_of_last, records_of, put}
+use Rattle.rk_inv_base.proofs.Words.{View, view, truths, rests, AskedOf, IsSound, RestOf, SoundView, TruthOf, Message, get, MayAsk}
+use Rattle.rk_inv_base.proofs.Words.{call_asked, call_asked_in}
 use Rattle.rk_entry.specs.declared.entry.Entry.TheVariants as entries
-use Rattle.rk_overlay.specs.Live.{live as live_items}
 use Rattle.rk_inv_base.proofs.Base.{of_waiting, all_in, put_by, put_is, put_other, row_in}
 use Rattle.rk_inv_base.proofs.calls.OtherJournals.{is_request_by, request_says_by}
-
--- an accepted mutation has its record
-pub recorded_there : (journal : List Placed) (call : Call) (client seq : ℕ) → IsAccepted journal call → is_mutation call.op ≡ true → call.client ≡ client → call.seq ≡ seq → has_record journal client seq ≡ true
-recorded_there journal call client seq accepted mutation client_is seq_is =
-    grind (arith, eq-eqb, list_any_at, is_of_mutation, and_from, is_mutation)
 
 module _ (v : View) (client : ℕ) (last : LastCall) (sound : SoundView v) (may : MayAsk v client last) where
   abbrev now : View
@@ -33,46 +26,24 @@ module _ (v : View) (client : ℕ) (last : LastCall) (sound : SoundView v) (may 
   before : (c : ℕ) → c ≡ client → IfSome (v.asked c) (λ old. IsOlder old.call)
   before c is = subst (λ (n : ℕ). IfSome (v.asked n) (λ old. IsOlder old.call)) (sym is) may.accepted
 
-  -- and each that it asked
-  older_of : (old : Option LastCall) (call : Call) → IfSome old (λ o. IsOlder o.call) → WasAsked old v.journal call → IsOlder call
-  older_of old call before was = grind arith
-
   older : (c : ℕ) (call : Call) → c ≡ client → WasAsked (v.asked c) v.journal call → IsOlder call
-  older c call is was = older_of (v.asked c) call (before c is) was
+  older c call is was = grind (arith, before)
 
   -- what was asked is not the new call
   another : (c : ℕ) (call : Call) → c ≡ client → WasAsked (v.asked c) v.journal call → last.call ≡ call → ⊥
-  another c call is was same =
-      let less : call.seq < last.call.seq = (older c call is was).0 in
-      let seq : last.call.seq ≡ call.seq = ap (λ (k : Call). k.seq) same in absurd (omega (arith, less, seq))
+  another c call is was same = grind (arith, older)
 
   -- and was asked still
   still_asked : (c : ℕ) (call : Call) → WasAsked (v.asked c) v.journal call → WasAsked (now.asked c) v.journal call
   still_asked c call was = of_client (λ old. WasAsked old v.journal call) c (λ is. inr (older c call is was)) (λ apart. was)
 
   truth : TruthOf now (truths v)
-  truth =
-      assumption
-      (all_in (λ placed. IsAfterSeen (v.asked placed.call.client) placed) (λ placed. IsAfterSeen (now.asked placed.call.client) placed) v.journal
-      (λ placed stands old.
-      of_client (λ last. IsAfterSeen last placed) placed.call.client
-      (λ is same.
-      absurd (another placed.call.client placed.call is
-      (All-contains (λ (p : Placed). WasAsked (v.asked p.call.client) v.journal p.call) v.journal placed sound.asked.recorded stands)
-      same))
-      (λ apart. old))
-      sound.truth.seen)
+  truth = grind (arith, all_in, of_client, another)
 
   -- nothing of the client is staged, since its last call has its record
   unstaged : (c seq table : ℕ) (key : List ℕ) → IsLastAsked v.asked v.journal c seq table key → c ≡ client → ⊥
   unstaged c seq table key staged is =
-      let call : Call = staged.last.call in
-      let own : IsLastCall v.base v.lane c staged.last =
-      subst (λ (old : Option LastCall). IfSome old (IsLastCall v.base v.lane c)) staged.asked_is (sound.asked.last c) in
-      let old : IsOlder call =
-      subst (λ (old : Option LastCall). IfSome old (λ o. IsOlder o.call)) staged.asked_is (before c is) in
-      false≢true
-      (sym staged.unrecorded ∙ recorded_there v.journal call c seq old.1 staged.mutation own.own staged.seq_is)
+      grind (arith, list_any_at)
 
   -- so what is staged is of the last call of its client as before
   same_asked : (c seq table : ℕ) (key : List ℕ) → IsLastAsked v.asked v.journal c seq table key → now.asked c ≡ v.asked c
@@ -110,16 +81,7 @@ module _ (v : View) (client : ℕ) (last : LastCall) (sound : SoundView v) (may 
 
   goes_on : (range : Range) (sure left : List Entry) → IsRest v.base range sure left v.journal v.asked → IsRest v.base range sure left v.journal now.asked
   goes_on range sure left old =
-      let same = sym (records_same left old.staged) in
-      record {
-        legal = subst (λ (more : List Placed). IsLegal (base_map v.base) (v.journal ++ more)) same old.legal;
-        live =
-            subst
-            (λ (more : List Placed).
-            AgreeIn range (live_items (items_of (sure ++ left))) (live_after (base_map v.base) (v.journal ++ more))) same old.live;
-        staged = All-weaker (IsStaged v.base v.asked v.journal) (IsStaged v.base now.asked v.journal) still_staged left old.staged;
-        one = old.one;
-      }
+      grind (arith, records_same, base_map, items_of, live_after, still_staged, old.staged, old.legal, old.live, old.one)
 
   -- no call of the client waits
   entry_apart : (call : Call) (entry : Entry) → IsEntryOf call entry → IsStaged v.base v.asked v.journal entry → call.client ≡ client → ⊥

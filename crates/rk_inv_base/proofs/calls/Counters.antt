@@ -1,7 +1,5 @@
 -- The counter of a tablet from which its master answers calls.
-use Rattle.rk_inv_base.proofs.Words.{arith}
-use Rattle.rk_inv_base.proofs.Words.{ℕ, List, ◌++◌, IsNext, post_of, speaks, View, truths, rests}
-use Rattle.rk_inv_base.proofs.Words.{CountersOf, IsServed}
+use Rattle.rk_inv_base.proofs.Words.{arith, ℕ, List, ◌++◌, IsNext, post_of, speaks, View, truths, rests, CountersOf, IsServed}
 use Rattle.rk_inv_base.proofs.rows.Speakers.{speaks_serving}
 
 -- the counter of a tablet is above all that counts for its row, where its master serves it

@@ -56,15 +56,11 @@ module _ (map : Map) (items : List Held) (item : Held) (table : ℕ) (key : List
 module _ (start : Map) (journal records : List Placed) (call : Call) (outcome : Outcome) where
   -- the history of the journal and of the staged calls, with one more call that may end so
   legal_pushed : IsLegal start (journal ++ records) → Allowed (map_after start (journal ++ records) call.table call.key) call.op outcome → IsLegal start (journal ++ (records ++ record_for call outcome ∷ []))
-  legal_pushed legal allowed =
-      subst (IsLegal start) (append_assoc journal records (record_for call outcome ∷ []))
-      (legal_push start (journal ++ records) (record_for call outcome) legal allowed)
+  legal_pushed legal allowed = grind (arith, append_assoc, legal_push)
 
   -- and the map after it
   map_pushed : map_after start (journal ++ (records ++ record_for call outcome ∷ [])) ≡ with_change (map_after start (journal ++ records)) call.table call.key (change_of call.op outcome)
-  map_pushed =
-      ap (map_after start) (sym (append_assoc journal records (record_for call outcome ∷ [])))
-      ∙ map_after-append start (journal ++ records) (record_for call outcome ∷ [])
+  map_pushed = grind (arith, map_after, append_assoc, map_after-append)
 
 -- the items of truth and rest, with one more entry behind
 pub items_pushed : (truth rest : List Entry) (entry : Entry) → items_of (truth ++ (rest ++ entry ∷ [])) ≡ items_of (truth ++ rest) ++ items_in entry

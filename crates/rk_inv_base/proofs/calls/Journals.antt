@@ -1,11 +1,10 @@
 -- The law of the journal: a view stays sound with another journal that leaves the same and loses no record.
-use Rattle.rk_inv_base.proofs.Words.{arith}
-use Rattle.rk_inv_base.proofs.Words.{◌≡◌, ℕ, false, true, List, ◌++◌, Some, sym, ap, ◌∙◌, ⊎_elim, inl, inr, All, slice_get, ◌<◌, length}
-use Rattle.rk_inv_base.proofs.Words.{slice_index_or, All-weaker, IfSome_then, hash_of, Ended, Placed, Range, IsLegal, Map, map_after}
-use Rattle.rk_inv_base.proofs.Words.{IsRisingAbove, AreOneMutation, Entry, ends_of, is_covered, Row, Node, Body, base_map, told, has_record}
-use Rattle.rk_inv_base.proofs.Words.{AreHandedOver, IsKnown, IsStagedEnd, ReachAll, TellAll, Says, IsLastAsked, IsRest, IsStaged, call_ends}
-use Rattle.rk_inv_base.proofs.Words.{records_of, IsAfterSeen, View, truths, rests, SoundView, CallsOf, AskedOf, IsTruth, Message, get}
-use Rattle.rk_inv_base.proofs.Words.{target_truth, handed_for_grant, handed_by}
+use Rattle.rk_inv_base.proofs.Words.{arith, ◌≡◌, ℕ, false, true, List, ◌++◌, Some, sym, ap, ◌∙◌, ⊎_elim, inl, inr, All, slice_get, ◌<◌}
+use Rattle.rk_inv_base.proofs.Words.{length, slice_index_or, All-weaker, IfSome_then, hash_of, Ended, Placed, Range, IsLegal, Map}
+use Rattle.rk_inv_base.proofs.Words.{map_after, IsRisingAbove, AreOneMutation, Entry, ends_of, is_covered, Row, Node, Body, base_map, told}
+use Rattle.rk_inv_base.proofs.Words.{has_record, AreHandedOver, IsKnown, IsStagedEnd, ReachAll, TellAll, Says, IsLastAsked, IsRest}
+use Rattle.rk_inv_base.proofs.Words.{IsStaged, call_ends, records_of, IsAfterSeen, View, truths, rests, SoundView, CallsOf, AskedOf}
+use Rattle.rk_inv_base.proofs.Words.{IsTruth, Message, get, target_truth, handed_for_grant, handed_by}
 use Rattle.rk_entry.specs.declared.entry.Entry.TheVariants as entries
 use Rattle.rk_model.specs.History.{record_of}
 
@@ -35,10 +34,7 @@ module _ (v : View) (after : List Placed) (sound : SoundView v) (may : MayReplac
   now = record v { journal = after }
 
   handed_over : (range : Range) (list : List Ended) → AreHandedOver v.base range v.journal list → AreHandedOver v.base range after list
-  handed_over range list old = record {
-    reached = may.reach_all range list old.reached;
-    known = All-weaker (IsKnown v.base v.journal) (IsKnown v.base after) may.known list old.known;
-  }
+  handed_over range list old = grind arith
 
   calls : CallsOf now (truths v) (rests v)
   calls = record {

@@ -1,8 +1,7 @@
 -- A journal with more records behind it: what was known, asked, accepted or told by it still is.
-use Rattle.rk_inv_base.proofs.Words.{arith}
-use Rattle.rk_inv_base.proofs.Words.{◌≡◌, ℕ, ◌<◌, List, [], ◌∷◌, ◌++◌, Option, Some, ⊎_elim, inl, inr, ◌⊎◌, length, slice_get, Contains}
-use Rattle.rk_inv_base.proofs.Words.{Contains-append_left, Call, Ended, Placed, Node, IsRisingAbove, Reply, Body, Base, ends_told, LastCall}
-use Rattle.rk_inv_base.proofs.Words.{IsAccepted, IsRequest, RequestSays, WasAsked, IsKnown, IsRecorded, Says, IsRecordAt, Outcome}
+use Rattle.rk_inv_base.proofs.Words.{arith, ◌≡◌, ℕ, ◌<◌, List, [], ◌∷◌, ◌++◌, Option, Some, ⊎_elim, inl, inr, ◌⊎◌, length, slice_get}
+use Rattle.rk_inv_base.proofs.Words.{Contains, Contains-append_left, Call, Ended, Placed, Node, IsRisingAbove, Reply, Body, Base, ends_told}
+use Rattle.rk_inv_base.proofs.Words.{LastCall, IsAccepted, IsRequest, RequestSays, WasAsked, IsKnown, IsRecorded, Says, IsRecordAt, Outcome}
 use Rattle.rk_inv_base.proofs.Words.{slice_get_front, slice_get_push_cases, last_stamp_from}
 use Rattle.rk_inv_base.proofs.calls.OtherJournals.{asked_by_other, is_request_by, request_by_other, request_says_by, says_by}
 

@@ -1,8 +1,6 @@
 -- What is said of calls by a journal is said by another one that has an accepted record of each accepted call, and each record at its place.
-use Rattle.rk_inv_base.proofs.Words.{arith}
-use Rattle.rk_inv_base.proofs.Words.{ℕ, List, Option, Answer, Call, Outcome, Placed, Node, Reply}
-use Rattle.rk_inv_base.proofs.Words.{Request, Body, call_of, LastCall, IsAccepted, IsRequest, RequestFits, RequestSays, WasAsked}
-use Rattle.rk_inv_base.proofs.Words.{AnswerFits, IsRecordAt, Says, ReplyFits}
+use Rattle.rk_inv_base.proofs.Words.{arith, ℕ, List, Option, Answer, Call, Outcome, Placed, Node, Reply, Request, Body, call_of, LastCall}
+use Rattle.rk_inv_base.proofs.Words.{IsAccepted, IsRequest, RequestFits, RequestSays, WasAsked, IsRecordAt, Says}
 use Rattle.rk_types.specs.declared.call.Answer.TheVariants as answers
 use Rattle.rk_types.specs.declared.node.Node.TheVariants as nodes
 use Rattle.rk_message.specs.declared.message.Body.TheVariants as bodies
@@ -26,14 +24,5 @@ module _ (journal after : List Placed) (accepted : (call : Call) → IsAccepted 
 
 -- what Replies say
 module _ (journal after : List Placed) (told : (client : ℕ) (reply : Reply) (outcome : Outcome) → IsRecordAt journal client reply outcome → IsRecordAt after client reply outcome) where
-  answer_by : (client : ℕ) (reply : Reply) (answer : Answer) → AnswerFits journal client reply answer → AnswerFits after client reply answer
-  answer_by client reply (answers.Done outcome) fits = told client reply outcome fits
-  answer_by client reply answer fits = fits
-
-  reply_by : (to : Node) (reply : Reply) → ReplyFits journal to reply → ReplyFits after to reply
-  reply_by (nodes.Client client) reply fits = answer_by client reply reply.answer fits
-  reply_by node reply fits = fits
-
   pub says_by : (to : Node) (body : Body) → Says journal to body → Says after to body
-  says_by to (bodies.Reply reply) says = reply_by to reply says
-  says_by to body says = says
+  says_by to body says = grind arith

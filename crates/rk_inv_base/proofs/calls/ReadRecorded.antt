@@ -1,13 +1,12 @@
 -- A lane stays sound when a read gets its record, which tells what the journal leaves and changes nothing of it.
-use Rattle.rk_inv_base.proofs.Words.{◌≡◌, ℕ, ◌<◌, true, false, List, [], ◌∷◌, ◌++◌, Option, Some, None, sym, ap, ◌∙◌}
-use Rattle.rk_inv_base.proofs.Words.{subst, ⊎_elim, arith, slice_get, IfSome, length, All, All-weaker, All-contains, All-push}
-use Rattle.rk_inv_base.proofs.Words.{list_any-append, slice_get-get_or, slice_get_within, get_or_from_slice_get, hash_of, Call, Ended}
-use Rattle.rk_inv_base.proofs.Words.{Outcome, Placed, Range, IsLegal-append, legal_back, legal_push, map_after-append, IsLegal, Map}
-use Rattle.rk_inv_base.proofs.Words.{map_after, with_change, is_mutation, lane_of_key, AreOneMutation, Entry, is_covered, base_map, told}
-use Rattle.rk_inv_base.proofs.Words.{has_record, is_of_call, is_of_mutation, next_record, of_key, IsAfterStart, World, LastCall}
-use Rattle.rk_inv_base.proofs.Words.{AreOneAccepted, HasSeen, IsAccepted, WasAsked, IsReached, ReachAll, TellAll, is_record_in, IsAfterSeen}
-use Rattle.rk_inv_base.proofs.Words.{View, view, AskedOf, IsSound, SoundView, IfSome_then, unkept_changes_nothing, MayRead, recorded}
-use Rattle.rk_inv_base.proofs.Words.{recorded_in}
+use Rattle.rk_inv_base.proofs.Words.{◌≡◌, ℕ, true, false, List, [], ◌∷◌, ◌++◌, Option, Some, None, sym, ap, ◌∙◌, subst, ⊎_elim, arith}
+use Rattle.rk_inv_base.proofs.Words.{slice_get, IfSome, length, All, All-weaker, All-contains, All-push, list_any-append, slice_get-get_or}
+use Rattle.rk_inv_base.proofs.Words.{slice_get_within, get_or_from_slice_get, hash_of, Call, Ended, Outcome, Placed, Range, IsLegal-append}
+use Rattle.rk_inv_base.proofs.Words.{legal_back, legal_push, map_after-append, IsLegal, Map, map_after, with_change, is_mutation}
+use Rattle.rk_inv_base.proofs.Words.{lane_of_key, AreOneMutation, Entry, is_covered, base_map, told, has_record, is_of_call, is_of_mutation}
+use Rattle.rk_inv_base.proofs.Words.{next_record, of_key, IsAfterStart, World, LastCall, AreOneAccepted, HasSeen, WasAsked, IsReached}
+use Rattle.rk_inv_base.proofs.Words.{ReachAll, TellAll, is_record_in, IsAfterSeen, View, view, AskedOf, IsSound, SoundView, IfSome_then}
+use Rattle.rk_inv_base.proofs.Words.{unkept_changes_nothing, MayRead, recorded, recorded_in}
 use Rattle.rk_inv_base.proofs.Base.{covered_by}
 use Rattle.rk_inv_base.proofs.calls.Journals.{view_with_journal}
 use Rattle.rk_inv_base.proofs.calls.MoreRecords.{asked_still, got_cases, is_request_still, known_still, request_says_still, rising_push}
@@ -20,13 +19,9 @@ AcceptsOnce journal =
 
 -- so calls of one client with one seq are one call
 module _ (journal : List Placed) (once : AcceptsOnce journal) (a b : Call) (client : a.client ≡ b.client) (seq : a.seq ≡ b.seq) where
-  -- where both are accepted
-  one_accepted : IsAccepted journal a → IsAccepted journal b → a ≡ b
-  one_accepted first second = grind (arith, slice_get, slice_get-get_or)
-
   -- and where both were asked
   one_asked : (last : Option LastCall) → WasAsked last journal a → WasAsked last journal b → a ≡ b
-  one_asked last first second = grind (arith, one_accepted)
+  one_asked last first second = grind (arith, slice_get-get_or)
 
 module _ (v : View) (master : ℕ) (call : Call) (seen : ℕ) (outcome : Outcome) (sound : SoundView v) (may : MayRead v master call seen outcome) where
   -- the record of the read, and the journal with it
@@ -109,24 +104,11 @@ module _ (v : View) (master : ℕ) (call : Call) (seen : ℕ) (outcome : Outcome
 
   -- what holds of its client's last call, and of each call that has a record, holds of a call that was asked
   of_asked : (P : Call → Type 0) (last : Option LastCall) → IfSome last (λ l. P l.call) → All (λ (placed : Placed). P placed.call) v.journal → WasAsked last v.journal call → P call
-  of_asked P None of_last each was = absurd was
-  of_asked P (Some last) of_last each was =
-      ⊎_elim (λ (is : last.call ≡ call). subst P is of_last)
-      (λ (before : (call.seq < last.call.seq) × IsAccepted v.journal call).
-      subst P before.1.call_is (All-contains (λ (placed : Placed). P placed.call) v.journal before.1.placed each before.1.stands))
-      was
+  of_asked P last of_last each was = grind arith
 
   -- the record of the read is not accepted
   once : (i j : ℕ) (a b : Placed) → slice_get after i ≡ Some a → slice_get after j ≡ Some b → AreOneAccepted a b → i ≡ j
-  once i j a b at_i at_j one =
-      ⊎_elim
-      (λ (there : slice_get v.journal i ≡ Some a).
-      ⊎_elim
-      (λ (both : slice_get v.journal j ≡ Some b). sound.asked.once i j a b there both one)
-      (λ (last : (j ≡ length v.journal) × (new ≡ b)). absurd (cc (ap (λ (p : Placed). p.accepted) last.1 ∙ one.second)))
-      (got_cases v.journal new j b at_j))
-      (λ (last : (i ≡ length v.journal) × (new ≡ a)). absurd (cc (ap (λ (p : Placed). p.accepted) last.1 ∙ one.first)))
-      (got_cases v.journal new i a at_i)
+  once i j a b at_i at_j one = grind (arith, got_cases, one.second, one.first)
 
   asked : AskedOf (record v { journal = after })
   asked = record {

@@ -15,9 +15,7 @@ use Rattle.rk_inv_base.proofs.views.Places.{behind_none}
 -- the last member of a lineage is one of it
 pub last_member : (lineage : List Member) (last : Member) (master : ℕ) → last_of lineage ≡ Some last → last.master ≡ master → is_member lineage master ≡ true
 last_member [] last master is here = absurd (cc)
-last_member (only ∷ []) last master is here =
-    let same : only ≡ last = cc is in
-    or_left (only.master == master) false (eq-eqb only.master master (ap (λ (m : Member). m.master) same ∙ here))
+last_member (only ∷ []) last master is here = grind (arith, or_left, eq-eqb, only.master)
 last_member (first ∷ next ∷ more) last master is here =
     or_right (first.master == master) (is_member (next ∷ more) master) (last_member (next ∷ more) last master is here)
 

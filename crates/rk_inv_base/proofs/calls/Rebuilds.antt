@@ -1,10 +1,9 @@
 -- The part Rebuilds where the entry of a call is appended.
-use Rattle.rk_inv_base.proofs.Words.{arith}
-use Rattle.rk_inv_base.proofs.Words.{◌≡◌, ℕ, Bool, true, List, Contains, ne_eqb, cond-false, cond-true}
-use Rattle.rk_inv_base.proofs.Words.{All-contains, Ended, Held, Member, Segments, Entry, Completions, Handover, Role, Rebuilding}
-use Rattle.rk_inv_base.proofs.Words.{Row, Log, known_of, EntryEnd, Gather, is_member, own_place, Written, member_material, Mark, stored_of}
-use Rattle.rk_inv_base.proofs.Words.{FormerMember, Holds, bond_of, post_of, rebuilder_post, IsRebuilder, MarkFits}
-use Rattle.rk_inv_base.proofs.Words.{NeededOf, READ_BACKUP, StandsLast, has_merged, RoleFits, View, RolesOf, lineage_of}
+use Rattle.rk_inv_base.proofs.Words.{arith, ◌≡◌, ℕ, Bool, true, List, Contains, ne_eqb, cond-false, cond-true, All-contains, Ended, Held}
+use Rattle.rk_inv_base.proofs.Words.{Member, Segments, Entry, Completions, Handover, Role, Rebuilding, Row, Log, known_of, EntryEnd, Gather}
+use Rattle.rk_inv_base.proofs.Words.{is_member, own_place, Written, member_material, Mark, stored_of, FormerMember, Holds, bond_of, post_of}
+use Rattle.rk_inv_base.proofs.Words.{rebuilder_post, IsRebuilder, MarkFits, NeededOf, READ_BACKUP, StandsLast, has_merged, RoleFits, View}
+use Rattle.rk_inv_base.proofs.Words.{RolesOf, lineage_of}
 use Rattle.rk_tablet_map.specs.Phase.{member as member_at}
 use Rattle.rk_inv_base.proofs.views.ByRows.{CountsFor}
 

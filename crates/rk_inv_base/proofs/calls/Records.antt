@@ -132,9 +132,7 @@ found_still item items x order is =
 
 -- a range has an item where it has another one of its key
 pub in_by_key : (range : Range) (item x : Held) → is_at item.table item.key x ≡ true → is_in range x ≡ is_in range item
-in_by_key range item x here =
-    let its = is_of_parts item.table item.key x here in
-    λ i. has range (its.0 i) (hash_of (its.1 i))
+in_by_key range item x here = grind (arith, is_of_parts, has, hash_of)
 
 -- ---- scans
 

@@ -1,10 +1,9 @@
 -- Journals whose records are the same but for whether they are accepted, where accepted ones stay so: they leave the same map, are as
 -- lawful, and tell the same ends.
-use Rattle.rk_inv_base.proofs.Words.{arith}
-use Rattle.rk_inv_base.proofs.Words.{◌≡◌, ℕ, zero, suc, ◌<◌, true, ◌||◌, ◌&&◌, eqb, List, [], ◌∷◌, ◌++◌, Some, refl, sym, ap, ◌∙◌, subst}
-use Rattle.rk_inv_base.proofs.Words.{⊎_elim, inl, inr, ◌⊎◌, slice_get, slice_set, All, All-head, All-tail, All-cons, ⊤, Call, Ended}
-use Rattle.rk_inv_base.proofs.Words.{Placed, IsLegal, Map, map_after, map_with, Allowed, IsRisingAbove, is_mutation, outcome_of}
-use Rattle.rk_inv_base.proofs.Words.{as_accepted, has_record, IsReached, Reaches, IsRecordOf}
+use Rattle.rk_inv_base.proofs.Words.{arith, ◌≡◌, ℕ, zero, suc, ◌<◌, true, eqb, List, [], ◌∷◌, ◌++◌, Some, refl, sym, ap, ◌∙◌, subst, ⊎_elim}
+use Rattle.rk_inv_base.proofs.Words.{inl, inr, ◌⊎◌, slice_get, slice_set, All, All-head, All-tail, All-cons, ⊤, Call, Ended, Placed}
+use Rattle.rk_inv_base.proofs.Words.{IsLegal, Map, map_after, map_with, Allowed, IsRisingAbove, is_mutation, outcome_of, as_accepted}
+use Rattle.rk_inv_base.proofs.Words.{has_record, IsReached, IsRecordOf}
 
 -- a record is another one but for whether it is accepted, and is accepted where that is
 pub record IsSameRecord (old new : Placed) : Type 0 where
@@ -38,16 +37,7 @@ records_behind _ _ more same = absurd same
 -- the records are the same
 pub accepted_same : (journal : List Placed) (place : ℕ) (placed : Placed) → slice_get journal place ≡ Some placed → AreSameRecords journal (slice_set journal place (as_accepted placed))
 accepted_same [] place placed stands = absurd (cc stands)
-accepted_same (first ∷ journal) zero placed stands =
-    let is : first ≡ placed = cc stands in (
-      record {
-        call = ap (λ (p : Placed). p.call) (sym is);
-        outcome = ap (λ (p : Placed). p.outcome) (sym is);
-        stamp = ap (λ (p : Placed). p.stamp) (sym is);
-        kept = λ accepted. refl;
-      },
-      records_themselves journal,
-    )
+accepted_same (first ∷ journal) zero placed stands = grind (arith, records_themselves)
 accepted_same (first ∷ journal) (suc place) placed stands = (record_itself first, accepted_same journal place placed stands)
 
 -- each of them is the accepted one, or stood there
@@ -93,8 +83,7 @@ rising_same stamp _ _ same rising = absurd same
 pub has_record_same : (olds news : List Placed) (client seq : ℕ) → AreSameRecords olds news → has_record news client seq ≡ has_record olds client seq
 has_record_same [] [] client seq same = refl
 has_record_same (old ∷ olds) (new ∷ news) client seq same =
-    λ i. (is_mutation (same.0.call i).op && (eqb (same.0.call i).client client && eqb (same.0.call i).seq seq))
-    || has_record_same olds news client seq same.1 i
+    grind (arith, is_mutation, eqb, same.0.call, same.1, (has_record_same olds news client seq same.1))
 has_record_same _ _ client seq same = absurd same
 
 -- what holds of each record
@@ -107,28 +96,21 @@ all_records_same P gives _ _ same all = absurd same
 -- the record at a place is the same as one was there
 pub record_before : (olds news : List Placed) (i : ℕ) (new : Placed) → AreSameRecords olds news → slice_get news i ≡ Some new → (old : Placed) × (slice_get olds i ≡ Some old) × IsSameRecord old new
 record_before [] [] i new same stands = absurd (cc stands)
-record_before (o ∷ olds) (n ∷ news) zero new same stands =
-    let is : n ≡ new = cc stands in (o, refl, subst (IsSameRecord o) is same.0)
+record_before (o ∷ olds) (n ∷ news) zero new same stands = grind (arith, same.0)
 record_before (o ∷ olds) (n ∷ news) (suc i) new same stands = record_before olds news i new same.1 stands
 record_before _ _ i new same stands = absurd same
 
 -- and one that was there is the same as the record there now
 pub record_after : (olds news : List Placed) (i : ℕ) (old : Placed) → AreSameRecords olds news → slice_get olds i ≡ Some old → (new : Placed) × (slice_get news i ≡ Some new) × IsSameRecord old new
 record_after [] [] i old same stands = absurd (cc stands)
-record_after (o ∷ olds) (n ∷ news) zero old same stands =
-    let is : o ≡ old = cc stands in (n, refl, subst (λ (p : Placed). IsSameRecord p n) is same.0)
+record_after (o ∷ olds) (n ∷ news) zero old same stands = grind (arith, same.0)
 record_after (o ∷ olds) (n ∷ news) (suc i) old same stands = record_after olds news i old same.1 stands
 record_after _ _ i old same stands = absurd same
 
 -- ---- ends
 
--- an end reaches the same record
-pub reaches_same : (end : Ended) (old new : Placed) → IsSameRecord old new → Reaches end old → Reaches end new
-reaches_same end old new same reaches = grind (arith, outcome_of)
-
 pub reached_same : (ends : List Ended) (old new : Placed) → IsSameRecord old new → IsReached ends old → IsReached ends new
-reached_same ends old new same reached =
-    record { end = reached.end; stands = reached.stands; reaches = reaches_same reached.end old new same reached.reaches }
+reached_same ends old new same reached = grind (arith, outcome_of, reached.end, reached.stands, reached.reaches)
 
 -- it is the end of the same record
 pub record_of_same : (end : Ended) (old new : Placed) → IsSameRecord old new → IsRecordOf end old → IsRecordOf end new

@@ -1,7 +1,7 @@
 -- A view stays sound when a write is staged that its master may serve and that goes on lawfully.
-use Rattle.rk_inv_base.proofs.Words.{◌≡◌, ℕ, ◌+◌, List, [], Option, refl, sym, subst, ◌∙◌, ◌++◌, All-cons, All-nil, Call, Held, Row}
-use Rattle.rk_inv_base.proofs.Words.{counted_up, item_of, with_staged, World, master_at, tablet_in, MayAppend, IsNext, View, view, truths}
-use Rattle.rk_inv_base.proofs.Words.{rests, IsSound, SoundView, write_staged, MayStage, write_staged_in}
+use Rattle.rk_inv_base.proofs.Words.{arith, ◌≡◌, ℕ, ◌+◌, List, [], Option, refl, sym, subst, ◌∙◌, ◌++◌, Call, Held, Row, counted_up}
+use Rattle.rk_inv_base.proofs.Words.{item_of, with_staged, World, master_at, tablet_in, MayAppend, IsNext, View, view, truths, rests}
+use Rattle.rk_inv_base.proofs.Words.{IsSound, SoundView, write_staged, MayStage, write_staged_in}
 use Rattle.rk_entry.specs.declared.entry.Entry.TheVariants as entries
 use Rattle.rk_sound.specs.Small.{staged}
 use Rattle.rk_inv_base.proofs.Base.{put_same, put2_same, tablet_here, tablet_apart, view_master, next_push, counter_low, row_in}
@@ -30,9 +30,7 @@ module _ (v : View) (master : ℕ) (call : Call) (value : Option (List ℕ)) (so
     served = may.served;
     room = may.room;
     own = record { client_is = refl; seq_is = refl; table_is = refl; key_is = refl };
-    above =
-        All-cons (λ (held : Held). IsNext (truths v row ++ rests v row) held.version) item [] low
-        (All-nil (λ (held : Held). IsNext (truths v row ++ rests v row) held.version));
+    above = grind (arith, truths, rests, low);
     next = next_push (truths v row) (rests v row) version item refl low;
     last = last_asked v.asked v.journal call may.ends.last may.ends.same_call;
     goes_on =

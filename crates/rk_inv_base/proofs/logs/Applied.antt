@@ -1,6 +1,5 @@
 -- What is applied of a log stands in it.
-use Rattle.rk_inv_base.proofs.Words.{ℕ, ◌≤◌, List, length, arith, prefix_len-le-length, length-ends, ends, Log, is_held}
-use Rattle.rk_inv_base.proofs.Words.{Written, IsLog}
+use Rattle.rk_inv_base.proofs.Words.{ℕ, ◌≤◌, List, length, arith, prefix_len-le-length, length-ends, ends, Log, is_held, Written, IsLog}
 
 -- what is applied stands in the log
 pub applied_within : (log : Log) (written : Written) (stored : ℕ → ℕ → List ℕ) → IsLog log written stored → written.applied ≤ length written.entries

@@ -1,9 +1,9 @@
 -- A lane stays sound when a backup stores more of a master's log: each segment that it stored is a first part of what it stores then.
-use Rattle.rk_inv_base.proofs.Words.{◌≡◌, ℕ, List, [], ◌∷◌, ◌++◌, Option, Some, None, refl, sym, ap, ◌∙◌, subst, arith, ◌≢◌}
-use Rattle.rk_inv_base.proofs.Words.{unwrap_or, eqb-true, append-nil, and_parts, cond_both, get_other, get_same, get, insert, Node}
-use Rattle.rk_inv_base.proofs.Words.{Segments, bytes_of, known_of, Body, no_segments, World, backup_at, with_stored_by, IsCopy, IsFirstPart}
-use Rattle.rk_inv_base.proofs.Words.{IsKnownBefore, LogSays, stored_of, READ_BACKUP, View, view, IsSound, LogsOf, SoundView, IsBackup}
-use Rattle.rk_inv_base.proofs.Words.{with_part, with_more, MayStore, bytes_stored_in, stored_more}
+use Rattle.rk_inv_base.proofs.Words.{◌≡◌, ℕ, List, [], ◌∷◌, ◌++◌, Option, Some, None, refl, sym, ap, ◌∙◌, subst, arith, ◌≢◌, unwrap_or}
+use Rattle.rk_inv_base.proofs.Words.{eqb-true, append-nil, and_parts, cond_both, get_other, get_same, get, insert, Node, Segments, bytes_of}
+use Rattle.rk_inv_base.proofs.Words.{known_of, Body, no_segments, World, backup_at, with_stored_by, IsCopy, IsFirstPart, IsKnownBefore}
+use Rattle.rk_inv_base.proofs.Words.{LogSays, stored_of, READ_BACKUP, View, view, IsSound, LogsOf, SoundView, with_part, with_more}
+use Rattle.rk_inv_base.proofs.Words.{MayStore, bytes_stored_in, stored_more}
 use Rattle.rk_types.specs.declared.node.Node.TheVariants as nodes
 use Rattle.rk_message.specs.declared.message.Body.TheVariants as bodies
 use Rattle.rk_outside.specs.Segments.{bytes_of as stored_bytes}
@@ -36,10 +36,7 @@ module _ (v : View) (master backup segment : ℕ) (bytes : List ℕ) (sound : So
 
   -- each backup stores more, or as much
   more : (q b s : ℕ) → IsFirstPart (stored_of v.stored q b s) (stored_of now.stored q b s)
-  more q b s =
-      let old : List ℕ = stored_of v.stored q b s in
-      by_more (IsFirstPart old) q b s (λ at on of. record { more = bytes; parts = refl })
-      (record { more = []; parts = sym (append-nil old) })
+  more q b s = grind (arith, stored_of, by_more, append-nil)
 
   -- what the change asks, of these numbers
   may_here : (q b s : ℕ) → q ≡ master → b ≡ backup → s ≡ segment → MayStore v q b s bytes
@@ -61,19 +58,11 @@ module _ (v : View) (master backup segment : ℕ) (bytes : List ℕ) (sound : So
 
   -- a Stored tells no more than is stored
   log_says : (from to : Node) (body : Body) → LogSays v.logs v.stored from to body → LogSays v.logs now.stored from to body
-  log_says (nodes.Backup b) (nodes.Master q) (bodies.Stored told) says =
-      let s : ℕ = told.segment in
-      let longer = first_part_length (stored_of v.stored q b s) (stored_of now.stored q b s) (more q b s) in
-      omega (arith, says, longer)
+  log_says (nodes.Backup b) (nodes.Master q) (bodies.Stored told) says = grind (arith, first_part_length, stored_of, more, told.segment)
   log_says _ _ _ says = says
 
   logs : LogsOf now
-  logs = record {
-    each = λ q.
-        let old = sound.logs.each q in
-        assumption (λ (b : ℕ) (numbered : IsBackup (v.logs q) b). copy_now q b (old.copies b numbered));
-    sent = λ n m there. log_says m.from m.to m.body (sound.logs.sent n m there);
-  }
+  logs = grind (arith, copy_now, log_says)
 
   pub view_stored : SoundView now
   view_stored =

@@ -1,18 +1,17 @@
 -- A lane stays sound when a target whose side segments are stored appends the entry that closes its joining.
 use Rattle.rk_inv_base.proofs.Words.{◌≡◌, ℕ, ◌≤◌, Bool, true, ◌&&◌, eqb, leb, List, [], ◌∷◌, ◌++◌, length, fold, Some, None, refl, sym, ap}
-use Rattle.rk_inv_base.proofs.Words.{◌∙◌, subst, ⊎_elim, inl, arith, slice_get, All, Contains, flat_map, append-nil, slice_index_or}
-use Rattle.rk_inv_base.proofs.Words.{cases_eq, cond-true, false≢true, both_ways, nat_tests, flat_map-append, All-head, All-tail}
-use Rattle.rk_inv_base.proofs.Words.{Contains-get_or, get, meets, Member, Range, slice_get_push_cases, Entry, is_in, Handover, lineage_of}
-use Rattle.rk_inv_base.proofs.Words.{Row, items_of, last_of, unmarked_from, named, named_by, side_entries, with_number, has_all, is_absent}
-use Rattle.rk_inv_base.proofs.Words.{with_handover, closing_appended, World, log_in, master_at, tablet_in, Written, member_material}
-use Rattle.rk_inv_base.proofs.Words.{member_truth, bond_of, post_of, IsTarget, MembersFit, NamedFit, closing_joined, is_granted}
-use Rattle.rk_inv_base.proofs.Words.{named_items, EachHasCall, is_call_entry, IsPlaced, as_closed, View, view, IsSound, SoundView}
-use Rattle.rk_inv_base.proofs.Words.{has_merged, is_idle, is_rebuilding, is_serving, is_wanting, may_have_staged, wanted_place, MayJoin}
-use Rattle.rk_inv_base.proofs.Words.{closed_off, closing_appended_in}
+use Rattle.rk_inv_base.proofs.Words.{◌∙◌, subst, ⊎_elim, arith, slice_get, All, Contains, flat_map, append-nil, slice_index_or, cases_eq}
+use Rattle.rk_inv_base.proofs.Words.{cond-true, false≢true, both_ways, nat_tests, flat_map-append, All-head, All-tail, Contains-get_or, get}
+use Rattle.rk_inv_base.proofs.Words.{meets, Member, Range, slice_get_push_cases, Entry, is_in, Handover, lineage_of, Row, items_of, last_of}
+use Rattle.rk_inv_base.proofs.Words.{unmarked_from, named, named_by, side_entries, with_number, has_all, is_absent, with_handover}
+use Rattle.rk_inv_base.proofs.Words.{closing_appended, World, log_in, master_at, tablet_in, Written, member_material, member_truth, bond_of}
+use Rattle.rk_inv_base.proofs.Words.{post_of, IsTarget, MembersFit, NamedFit, closing_joined, is_granted, named_items, EachHasCall}
+use Rattle.rk_inv_base.proofs.Words.{is_call_entry, IsPlaced, as_closed, View, view, IsSound, SoundView, has_merged, is_idle, is_rebuilding}
+use Rattle.rk_inv_base.proofs.Words.{is_serving, is_wanting, may_have_staged, wanted_place, MayJoin, closed_off, closing_appended_in}
 use Rattle.rk_transfer.specs.declared.role.Role.TheVariants as roles
 use Rattle.rk_inv_base.proofs.Base.{SoundRow, row_in, tablet_here, tablet_apart, put2_by, put_same, put2_same, view_master}
 use Rattle.rk_inv_base.proofs.Base.{last_member, marked_none, unmarked_from_last, unless_marked, same_number, numbers_append}
-use Rattle.rk_inv_base.proofs.logs.ClosingTarget.{closed_goes_on, target_here}
+use Rattle.rk_inv_base.proofs.logs.ClosingTarget.{target_here}
 use Rattle.rk_inv_base.proofs.logs.EntryAppended.{row_beside, view_with_entry, waits_on}
 use Rattle.rk_inv_base.proofs.logs.OneMore.{material_same, of_written, rest_at, truth_same, within}
 use Rattle.rk_inv_base.proofs.pulls.Joining.{IsSecond, joining_second, kept_stands, numbered, scanned, stands_kept}
@@ -40,8 +39,7 @@ module _ (v : View) (row : Row) (master : ℕ) (sound : SoundView v) (has_row : 
 
   -- the tablet goes on as it was
   stays : StaysAs old (as_closed place old)
-  stays =
-      grind (arith, closed_goes_on, is_serving, is_rebuilding, is_wanting, is_idle, has_merged, is_granted, may_have_staged, wanted_place)
+  stays = grind (arith, is_serving, is_rebuilding, is_wanting, is_idle, has_merged, is_granted, may_have_staged, wanted_place)
 
   at_end : place ≡ length (v.written master).entries
   at_end = ap (λ (list : List Entry). length list) (sound.logs.each master).entries_are
@@ -52,9 +50,7 @@ module _ (v : View) (row : Row) (master : ℕ) (sound : SoundView v) (has_row : 
   second = grind (arith, joining_second, was, bond_of, post_of)
 
   ranged : old.range ≡ row.range
-  ranged =
-      was.ranged master (inl may.lives)
-      (last_member (lineage_of row.phase) second.target master (ap last_of second.lineage_is) second.here)
+  ranged = grind (arith, was, last_member, lineage_of, second, last_of)
 
   inside : meets old.range row.range ≡ true
   inside = ap (meets old.range) (sym ranged) ∙ may.some

@@ -1,23 +1,12 @@
 -- A target that joins stays a target of its row with the entry that closes its joining.
-use Rattle.rk_inv_base.proofs.Words.{◌≡◌, ℕ, ◌≤◌, true, List, [], ◌∷◌, ◌++◌, length, filter, Option, Some, None, sym, ap, ◌∙◌, subst}
-use Rattle.rk_inv_base.proofs.Words.{arith, slice_get, drop, take, Contains, cond-true, drop-append-le, take-append-le, All-nil}
-use Rattle.rk_inv_base.proofs.Words.{filter-append, IfSome_then, list_any, meets, Held, Member, Entry, Handover, Role, Row, Handed}
-use Rattle.rk_inv_base.proofs.Words.{items_of, touches, is_joined_in, joined_from, Pulling, Written, applied_entries, Post, MovingTarget}
-use Rattle.rk_inv_base.proofs.Words.{LastRebuilder, bond_of, Holds, HasArrived, HasClosing, IsReceived, IsTarget, before_closing}
-use Rattle.rk_inv_base.proofs.Words.{beginning_of, closing_joined, copied_items, entries_from, is_joining, joined_place, scan_items}
-use Rattle.rk_inv_base.proofs.Words.{as_closed, with_one_more, slice_get_end, take_all}
+use Rattle.rk_inv_base.proofs.Words.{◌≡◌, ℕ, ◌≤◌, true, List, [], ◌∷◌, ◌++◌, length, filter, Option, Some, None, sym, ap, ◌∙◌, subst, arith}
+use Rattle.rk_inv_base.proofs.Words.{slice_get, drop, cond-true, drop-append-le, take-append-le, All-nil, filter-append, meets, Held}
+use Rattle.rk_inv_base.proofs.Words.{Member, Entry, Handover, Role, Row, Handed, items_of, touches, is_joined_in, joined_from, Pulling}
+use Rattle.rk_inv_base.proofs.Words.{Written, applied_entries, HasArrived, HasClosing, IsReceived, IsTarget, before_closing, beginning_of}
+use Rattle.rk_inv_base.proofs.Words.{closing_joined, copied_items, entries_from, is_joining, joined_place, scan_items, as_closed}
+use Rattle.rk_inv_base.proofs.Words.{with_one_more, slice_get_end, take_all}
 use Rattle.rk_transfer.specs.declared.role.Role.TheVariants as roles
-use Rattle.rk_inv_base.proofs.Base.{GoesOn, AreBelow, own_push}
-
--- a post that takes a target that joins takes it with its closing entry too
-pub fits_closed : (post : Post) (term own applied place : ℕ) → Holds (bond_of post (roles.Joining None)) term own applied → Holds (bond_of post (roles.Joining (Some place))) term own applied
-fits_closed (MovingTarget from) term own applied place holds = holds
-fits_closed (LastRebuilder from) term own applied place holds = holds
-fits_closed _ term own applied place holds = absurd holds
-
--- so it goes on as it was
-pub closed_goes_on : (place : ℕ) → GoesOn (roles.Joining None) (roles.Joining (Some place))
-closed_goes_on place = grind (arith, fits_closed)
+use Rattle.rk_inv_base.proofs.Base.{AreBelow, own_push}
 
 module _ (place : ℕ) (old : Handover) (sealed : List ℕ) where
   abbrev closing : Entry
@@ -42,15 +31,8 @@ module _ (place : ℕ) (old : Handover) (sealed : List ℕ) where
     above =
         own_push x.range target.from w.entries closing from (AreBelow (items_of material)) was.above
         (λ inside. All-nil (AreBelow (items_of material)));
-    told =
-        IfSome_then handed was.told (λ e told.
-        subst (λ (list : List Entry). Contains (drop target.from list) (beginning_of h e))
-        (sym (take-append-le place w.entries (closing ∷ []) (omega (arith, end))
-        ∙ ap (λ (n : ℕ). take n w.entries) end ∙ take_all (length w.entries) w.entries (omega arith)))
-        (subst (λ (role : Role). Contains (drop target.from (before_closing (joined_place role) w.entries)) (beginning_of h e)) joining told));
-    early =
-        ap (λ (all : List Entry). list_any (touches x.range) (drop w.applied all)) (take-append-le target.from w.entries (closing ∷ []) from)
-        ∙ was.early;
+    told = grind (arith, beginning_of, take-append-le, take_all, before_closing, joined_place, was.told, target.from, w.entries);
+    early = grind (arith, touches, take-append-le, x.range, w.applied, target.from, w.entries, was.early);
     closing =
         let none : joined_from x.range target.from w.entries ≡ [] =
         subst (λ (role : Role). HasClosing (joined_place role) (closing_joined h pulling.sealed) x.range target.from w.entries) joining was.closing in

@@ -33,9 +33,7 @@ members_by P (gathered ∷ members) all =
 
 -- each member of a lineage is one
 pub each_member : (lineage : List Member) → All (λ member. is_member lineage member.master ≡ true) lineage
-each_member lineage k d within =
-    let member : Member = slice_index_or lineage k d in
-    list_any_at (λ (other : Member). other.master == member.master) lineage k d within (eq-eqb member.master member.master refl)
+each_member lineage k d within = grind (arith, slice_index_or, list_any_at, eq-eqb)
 
 -- no fewer first entries are stored where more is stored of each segment
 pub count_more : (log : Log) (stored stored' : ℕ → List ℕ) → ((segment : ℕ) → IsFirstPart (stored segment) (stored' segment)) → stored_count log stored ≤ stored_count log stored'

@@ -4,15 +4,15 @@ use Rattle.rk_inv_base.proofs.Words.{◌≡◌, ℕ, ◌≤◌, false, true, Lis
 use Rattle.rk_inv_base.proofs.Words.{◌⊎◌, All, Contains, slice_get, arith, cases_eq, All-push, All-weaker, EachIn, NumberMap, Call, Ended}
 use Rattle.rk_inv_base.proofs.Words.{meets, Range, slice_get_front, Entry, Handover, Row, Known, ends_of, touches, counts, is_absent}
 use Rattle.rk_inv_base.proofs.Words.{is_marked, Written, IsKnown, IsStagedEnd, HasSegmentLeft, IsEntryWithin, IsOfWholeRows, IsBare}
-use Rattle.rk_inv_base.proofs.Words.{MembersFit, NamedFit, EachHasCall, IsLast, Waits, View, rests, SoundView, CoverOf, AreApart, put2}
-use Rattle.rk_inv_base.proofs.Words.{Member, last_of, lineage_of, Rebuilding, both_ways, is_serving, is_joined_in, bond_of}
-use Rattle.rk_inv_base.proofs.Words.{post_of, false_from_ne_true, IsMaster}
+use Rattle.rk_inv_base.proofs.Words.{MembersFit, NamedFit, EachHasCall, IsLast, Waits, View, rests, SoundView, CoverOf, put2, Member}
+use Rattle.rk_inv_base.proofs.Words.{last_of, lineage_of, Rebuilding, both_ways, is_serving, is_joined_in, bond_of, post_of}
+use Rattle.rk_inv_base.proofs.Words.{false_from_ne_true, IsMaster}
 use Rattle.rk_inv_base.proofs.Base.{SoundBeside, SoundRow, row_in, view_by_rows, staged_as, cover_looks, cover_written, all_by, put2_by}
 use Rattle.rk_inv_base.proofs.Base.{first_not_last, formed_apart, last_member, serving_unmerged, IsBareOf, serving_waits, waits_then}
 use Rattle.rk_inv_base.proofs.Base.{bare_pushed, AreStored, logs_grown, rows_apart, same_number, not_begun}
 use Rattle.rk_inv_base.proofs.views.Terms.{terms_looks}
 use Rattle.rk_inv_base.proofs.logs.OneMore.{IsBeside, applied_same, known_same, of_written, written_with}
-use Rattle.rk_inv_base.proofs.rows.Serving.{present, serving_busy, serving_rebuilds}
+use Rattle.rk_inv_base.proofs.rows.Serving.{present}
 use Rattle.rk_inv_base.proofs.rows.RowAppended.{RestFits, RowGrows, StaysAs, beside_grows, each_stays, entry_appended, row_appended}
 
 -- rows of other numbers do not meet
@@ -62,26 +62,14 @@ module _ (v : View) (row : Row) (master : ℕ) (entry : Entry) (calls : ℕ → 
 
   -- the first of two members is another one
   first_apart : (first last : Member) (more : List Member) → lineage_of row.phase ≡ first ∷ last ∷ more → first.master ≡ master → ⊥
-  first_apart first last more is at =
-      first_not_last first last more may.at_end.last (subst AreApart is (formed_apart row.phase was.formed)) (ap last_of (sym is) ∙ may.at_end.is_last)
-      (at ∙ sym may.at_end.here)
+  first_apart first last more is at = grind (arith, first_not_last, formed_apart, was, last_of)
 
   -- and where the master is to rebuild the row, it has not begun
   idles : (lineage : List Member) → row.phase ≡ Rebuilding lineage master → (v.handovers master row.tablet).term ≡ row.term → ⊥
-  idles lineage is term = grind (arith, not_begun, serving_rebuilds, bond_of, post_of, was)
+  idles lineage is term = grind (arith, not_begun, bond_of, post_of, was)
 
   grows : RowGrows v now master row.tablet entry row
-  grows = record {
-    first = λ first last more is at. absurd (first_apart first last more is at);
-    only = λ only is at. may.only only is;
-    idle = λ idles. absurd (both_ways _ (serving_busy (v.handovers master row.tablet).role may.serves) idles);
-    merged = λ merged. absurd (serving_unmerged (v.handovers master row.tablet).role may.serves merged);
-    rebuilder = λ lineage is term. absurd (idles lineage is term);
-    source = λ first last more is at its. first_apart first last more is at;
-    rest = may.rest;
-    target = may.target;
-    named = may.named;
-  }
+  grows = grind (arith, first_apart, idles, both_ways, serving_unmerged)
 
   -- the master keeps the row's range
   range_is : (v.handovers master row.tablet).range ≡ row.range
@@ -93,10 +81,7 @@ module _ (v : View) (row : Row) (master : ℕ) (entry : Entry) (calls : ℕ → 
 
   -- the entry is of no other row
   beside_row : (x : Row) → Contains v.rows x → (x.tablet ≡ row.tablet → ⊥) → IsBeside x.range entry
-  beside_row x has apart = record {
-    uncounted = may.uncounted x has apart;
-    untouched = may.untouched x.range (row_beside v row x sound may.has_row has apart);
-  }
+  beside_row x has apart = grind (arith, row_beside)
 
   -- each row goes on as it should
   rows_grow : (x : Row) → Contains v.rows x → RowGrows v now master row.tablet entry x
@@ -187,8 +172,7 @@ module _ (v : View) (master tablet : ℕ) (entry : Entry) (calls : ℕ → Numbe
         of_written v master entry sound.logs (λ (w : Written). slice_get w.entries k ≡ Some was.entry) q
         (λ at. slice_get_front (v.written q).entries (entry ∷ []) k was.entry was.stands) (λ apart. was.stands);
     own = was.own;
-    unmarked =
-        of_written v master entry sound.logs (λ (w : Written). is_marked w.marks k ≡ false) q (λ at. was.unmarked) (λ apart. was.unmarked);
+    unmarked = grind (arith, of_written, is_marked, sound.logs);
     row = was.row;
     has_row = was.has_row;
     in_row = was.in_row;

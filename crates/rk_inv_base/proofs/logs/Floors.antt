@@ -1,22 +1,16 @@
 -- The number from which the next version is taken is above each version, and does not fall with more entries.
-use Rattle.rk_inv_base.proofs.Words.{◌≡◌, ℕ, ◌≤◌, ◌<◌, ◌+◌, List, [], ◌∷◌, ◌++◌, subst, ⊎_elim, arith, append_assoc, fold}
-use Rattle.rk_inv_base.proofs.Words.{max, Contains, fold-append, Held, Entry, none_stands, stands_cases, items_of, floor_by, floor_of}
-use Rattle.rk_inv_base.proofs.Words.{IsNext, Refused}
+use Rattle.rk_inv_base.proofs.Words.{◌≡◌, ℕ, ◌≤◌, ◌<◌, ◌+◌, List, [], ◌∷◌, ◌++◌, subst, ⊎_elim, arith, append_assoc, fold, max, Contains}
+use Rattle.rk_inv_base.proofs.Words.{fold-append, Held, Entry, none_stands, stands_cases, items_of, floor_by, floor_of, IsNext, Refused}
 use Rattle.rk_entry.specs.declared.entry.Entry.TheVariants as entries
 
 -- a floor does not fall with an entry
 pub floor_step : (floor : ℕ) (entry : Entry) → floor ≤ floor_by floor entry
-floor_step floor (entries.Held held) = omega arith
-floor_step floor (entries.Carried carried) = omega arith
-floor_step floor _ = omega arith
+floor_step floor entry = grind arith
 
 -- nor with several
 pub floor_rises : (floor : ℕ) (list : List Entry) → floor ≤ fold floor_by floor list
 floor_rises floor [] = omega arith
-floor_rises floor (entry ∷ list) =
-    let step = floor_step floor entry in
-    let rest = floor_rises (floor_by floor entry) list in
-    omega (arith, step, rest)
+floor_rises floor (entry ∷ list) = grind (arith, floor_step, floor_by, (floor_rises (floor_by floor entry) list))
 
 -- from a floor on, it is above each version
 pub above_from : (floor : ℕ) (list : List Entry) (item : Held) → Contains (items_of list) item → item.version < fold floor_by floor list

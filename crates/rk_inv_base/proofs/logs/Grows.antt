@@ -1,9 +1,9 @@
 -- What a backup stores of a member, and what it tells, once the member's log has more entries at its end.
-use Rattle.rk_inv_base.proofs.Words.{◌≡◌, ℕ, zero, suc, ◌≤◌, Bool, true, false, cond, List, [], ◌∷◌, ◌++◌, refl, sym, ap, ◌∙◌, subst, arith}
-use Rattle.rk_inv_base.proofs.Words.{append_assoc, drop, take, length, nat_le, Contains, flat_map-append, All-weaker, Contains-append_left}
-use Rattle.rk_inv_base.proofs.Words.{filter-append, Held, Range, spelled, Entry, ends, end_of, cut, with_bytes, Log, with_entry, EntryEnd}
-use Rattle.rk_inv_base.proofs.Words.{items_in, items_of, told, told_by, is_marked, unmarked, unmarked_from, counts, counting, Mark}
-use Rattle.rk_inv_base.proofs.Words.{TellNoMore, stored_count, ends_push, prefix_len_push_le}
+use Rattle.rk_inv_base.proofs.Words.{◌≡◌, ℕ, zero, suc, ◌≤◌, List, [], ◌∷◌, ◌++◌, refl, sym, ap, subst, arith, append_assoc, drop, take}
+use Rattle.rk_inv_base.proofs.Words.{nat_le, Contains, flat_map-append, All-weaker, Contains-append_left, filter-append, Held, Range}
+use Rattle.rk_inv_base.proofs.Words.{spelled, Entry, ends, end_of, cut, with_bytes, Log, with_entry, items_in, items_of, told, told_by}
+use Rattle.rk_inv_base.proofs.Words.{is_marked, unmarked, unmarked_from, counts, counting, Mark, TellNoMore, stored_count, ends_push}
+use Rattle.rk_inv_base.proofs.Words.{prefix_len_push_le}
 use Rattle.rk_inv_base.proofs.logs.Floors.{floor_append}
 
 -- entries are others with more behind them
@@ -37,11 +37,7 @@ drop_extends (suc place) (entry ∷ list) behind = drop_extends place list behin
 -- those that bear no mark
 pub unmarked_extends : (marks : List Mark) (place : ℕ) (list behind : List Entry) → Extends (unmarked marks place list) (unmarked marks place (list ++ behind))
 unmarked_extends marks place [] behind = record { more = unmarked marks place behind; parts = refl }
-unmarked_extends marks place (entry ∷ list) behind = go (is_marked marks place) (unmarked_extends marks (suc place) list behind)
-  where
-    go : (b : Bool) → Extends (unmarked marks (suc place) list) (unmarked marks (suc place) (list ++ behind)) → Extends (cond b (unmarked marks (suc place) list) (entry ∷ unmarked marks (suc place) list)) (cond b (unmarked marks (suc place) (list ++ behind)) (entry ∷ unmarked marks (suc place) (list ++ behind)))
-    go true rest = rest
-    go false rest = record { more = rest.more; parts = ap (λ (all : List Entry). entry ∷ all) rest.parts }
+unmarked_extends marks place (entry ∷ list) behind = grind (arith, is_marked, unmarked, (unmarked_extends marks (suc place) list behind))
 
 -- and those that count of these
 pub counting_extends : (range : Range) (marks : List Mark) (place : ℕ) (old new : List Entry) → Extends old new → Extends (counting range (unmarked_from marks place old)) (counting range (unmarked_from marks place new))
@@ -50,18 +46,12 @@ counting_extends range marks place old new grown =
     let rest = unmarked_extends marks place (drop place old) behind.more in
     record {
       more = counting range rest.more;
-      parts =
-          ap (λ (all : List Entry). counting range (unmarked marks place (drop place all))) grown.parts
-          ∙ ap (λ (all : List Entry). counting range (unmarked marks place all)) behind.parts
-          ∙ ap (counting range) rest.parts
-          ∙ filter-append (counts range) (unmarked marks place (drop place old)) rest.more;
+      parts = grind (arith, counting, unmarked, filter-append, counts, grown.parts, behind.parts, rest.parts, rest.more);
     }
 
 -- a backup stores as many first entries of a log with one more
 pub stored_push : (log : Log) (entry : Entry) (stored : ℕ → List ℕ) → stored_count log stored ≤ stored_count (with_entry log entry) stored
-stored_push log entry stored =
-    let p : EntryEnd → Bool = λ (end : EntryEnd). nat_le end.offset (length (stored end.segment)) in
-    rw (ends_push [] log.entries entry) (prefix_len_push_le p (ends log.entries) (end_of (with_bytes (cut log.entries) (spelled entry))))
+stored_push log entry stored = grind (arith, nat_le, ends_push, prefix_len_push_le, ends, end_of, with_bytes, cut, spelled)
 
 -- what tells no more than some tells no more than these with others
 pub tells_extended : (list old new : List Entry) → Extends old new → TellNoMore list old → TellNoMore list new
@@ -73,8 +63,5 @@ tells_extended list old new grown tells =
       ends =
           rw (flat_map-append told_by old grown.more) (All-weaker (Contains (told old)) (Contains (told old ++ told grown.more))
           (λ end at. Contains-append_left (told old) (told grown.more) end at) (told list) tells.ends);
-      floor =
-          let rises = floor_append 1 old grown.more in
-          let under = tells.floor in
-          omega (arith, rises, under);
+      floor = grind (arith, floor_append, grown.more, tells.floor);
     })

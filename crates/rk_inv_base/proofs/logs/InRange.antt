@@ -1,6 +1,5 @@
 -- What of a range stands in records once the items of a range are dropped that does not meet it.
-use Rattle.rk_inv_base.proofs.Words.{arith}
-use Rattle.rk_inv_base.proofs.Words.{◌≡◌, ℕ, Bool, true, false, not, ◌||◌, List, ap, ◌∙◌, ⊎_elim, filter, drop, All, Contains, sym, ◌⊎◌}
+use Rattle.rk_inv_base.proofs.Words.{arith, ◌≡◌, ℕ, Bool, true, false, not, ◌||◌, List, ◌∙◌, ⊎_elim, filter, drop, All, Contains, sym, ◌⊎◌}
 use Rattle.rk_inv_base.proofs.Words.{Option, All-contains, list_any, meets, Held, Member, Range, Entry, is_in, without, is_of, items_of}
 use Rattle.rk_inv_base.proofs.Words.{unmarked_from, material_of, side_entries, Written, applied_entries, member_truth, applied_from}
 use Rattle.rk_inv_base.proofs.Words.{IsFound, entries_from, scan_items, IsTableOf, list_any_none, Handover, Handed, IsRebuildTable}
@@ -127,9 +126,7 @@ rebuilder_same v row lineage to old new same was =
 module _ (gone range : Range) (apart : meets gone range ≡ false) (records : List Held) where
   -- an item of the other range stands still
   pub stays : (item : Held) → is_in range item ≡ true → Contains records item → Contains (without gone records) item
-  stays item inside stands =
-      filter_stands (λ held. not (is_in gone held)) records item stands
-      (ap not (key_outside gone range item.table item.key apart inside))
+  stays item inside stands = grind (arith, filter_stands, is_in, key_outside)
 
   -- so records without what is dropped have the same items of the other range
   pub dropped_same : HaveSame range records (without gone records)

@@ -1,13 +1,12 @@
 -- A lane stays sound when a master is told that a backup stores so many bytes of a segment. What it believes then of the other backups,
 -- and what each other master believes, is as it was; what is needed of dead masters too, since this one lives.
-use Rattle.rk_inv_base.proofs.Words.{◌≡◌, ℕ, ◌-◌, ◌≤◌, true, false, List, [], length, set, Option, refl, sym, ap}
-use Rattle.rk_inv_base.proofs.Words.{◌∙◌, subst, arith, length-set, get_or-set_same, get_or-set_other, le-leb, leb-true, append-nil}
-use Rattle.rk_inv_base.proofs.Words.{All, cases_eq, false≢true, All-weaker, list_all, option_map_or, Node, NumberedBytes, told_other}
-use Rattle.rk_inv_base.proofs.Words.{list_all_each, Known, is_whole, known_length, nothing, IsBackup, Log, is_side_stored, known_of}
-use Rattle.rk_inv_base.proofs.Words.{segment_of, side_segments, Body, Append, with_known, World, master_at, tablet_in, Written, IsCopy}
-use Rattle.rk_inv_base.proofs.Words.{IsFromLog, IsKnownBefore, IsLog, LogSays, segments_in, stored_of, READ_BACKUP, View, view, IsSound}
-use Rattle.rk_inv_base.proofs.Words.{LogsOf, SoundView, committed, told_more, committed_told, list_all-set, with_told, MayTell, length_told}
-use Rattle.rk_inv_base.proofs.Words.{length_told_in}
+use Rattle.rk_inv_base.proofs.Words.{◌≡◌, ℕ, ◌-◌, ◌≤◌, true, false, List, [], length, set, Option, refl, sym, ◌∙◌, subst, arith, length-set}
+use Rattle.rk_inv_base.proofs.Words.{get_or-set_same, get_or-set_other, le-leb, leb-true, append-nil, All, cases_eq, false≢true, All-weaker}
+use Rattle.rk_inv_base.proofs.Words.{list_all, option_map_or, Node, NumberedBytes, told_other, list_all_each, Known, is_whole, known_length}
+use Rattle.rk_inv_base.proofs.Words.{nothing, IsBackup, Log, is_side_stored, known_of, segment_of, side_segments, Body, Append, with_known}
+use Rattle.rk_inv_base.proofs.Words.{World, master_at, tablet_in, Written, IsCopy, IsFromLog, IsKnownBefore, IsLog, LogSays, segments_in}
+use Rattle.rk_inv_base.proofs.Words.{stored_of, READ_BACKUP, View, view, IsSound, LogsOf, SoundView, committed, told_more, committed_told}
+use Rattle.rk_inv_base.proofs.Words.{list_all-set, with_told, MayTell, length_told, length_told_in}
 use Rattle.rk_types.specs.declared.node.Node.TheVariants as nodes
 use Rattle.rk_message.specs.declared.message.Body.TheVariants as bodies
 use Rattle.std.proofs.Common.{get_or}
@@ -76,13 +75,7 @@ module _ (log : Log) (backup segment size : ℕ) (numbered : IsBackup log backup
       copy_told (stored b) b was (λ on. rw on is_stored) (old.copies b was))
 
   piece_told : (b : ℕ) (append : Append) → IsFromLog log (known_of log b) append → IsFromLog new (known_of new b) append
-  piece_told b append piece = record {
-    before = piece.before;
-    behind = piece.behind;
-    bytes = piece.bytes;
-    place = piece.place;
-    in_order = λ some. before_still b append.segment (piece.in_order some);
-  }
+  piece_told b append piece = grind (arith, before_still)
 
 -- ---- a master is told a length
 
@@ -119,9 +112,7 @@ module _ (v : View) (master backup segment size : ℕ) (sound : SoundView v) (ma
 
   -- a dead master was not told
   known_dead : (q : ℕ) → v.live q ≡ false → known_of (v.logs q) READ_BACKUP ≡ known_of (now.logs q) READ_BACKUP
-  known_dead q dead =
-      ap (λ (log : Log). known_of log READ_BACKUP)
-      (sym (put_other v.logs master (with_told (v.logs master) backup segment size) q (λ at. false≢true (sym dead ∙ ap v.live at ∙ may.lives))))
+  known_dead q dead = grind (arith, known_of, put_other, with_told, false≢true)
 
   pub view_length_told : SoundView now
   view_length_told = view_with_copies v now.logs v.stored sound (record {

@@ -1,9 +1,8 @@
 -- The part Logs through small changes.
-use Rattle.rk_inv_base.proofs.Words.{◌≡◌, ℕ, ◌≤◌, true, List, [], ◌∷◌, ◌++◌, length, refl, sym, ap, subst, ◌∙◌, arith, append_assoc}
-use Rattle.rk_inv_base.proofs.Words.{length-append, ◌≢◌, All, All-nil, All-push, All-weaker, Node, Entry, Known, Log, bytes_of}
-use Rattle.rk_inv_base.proofs.Words.{is_side_stored, known_of, with_entry, Body, Append, Written, Mark, HasSegmentLeft, IsFirstPart, IsCopy}
-use Rattle.rk_inv_base.proofs.Words.{IsKnownBefore, IsLog, IsFromLog, Logs, LogSays, segments_in, stored_of, put, with_one_more, View}
-use Rattle.rk_inv_base.proofs.Words.{LogsOf, committed_entry}
+use Rattle.rk_inv_base.proofs.Words.{◌≡◌, ℕ, true, List, [], ◌∷◌, ◌++◌, length, refl, sym, ap, subst, ◌∙◌, arith, append_assoc}
+use Rattle.rk_inv_base.proofs.Words.{length-append, ◌≢◌, All, All-nil, All-push, Node, Entry, Known, Log, bytes_of, is_side_stored}
+use Rattle.rk_inv_base.proofs.Words.{known_of, with_entry, Body, Append, Written, HasSegmentLeft, IsFirstPart, IsCopy, IsKnownBefore, IsLog}
+use Rattle.rk_inv_base.proofs.Words.{IsFromLog, Logs, LogSays, segments_in, stored_of, put, with_one_more, View, LogsOf, committed_entry}
 use Rattle.rk_types.specs.declared.node.Node.TheVariants as nodes
 use Rattle.rk_message.specs.declared.message.Body.TheVariants as bodies
 use Rattle.rk_inv_base.proofs.views.Put.{put_by}
@@ -72,9 +71,7 @@ log_grown log written stored entry grows held old = record {
   spelled = old.spelled;
   named =
       All-push (λ entry. All (λ segment. is_side_stored log segment ≡ true) (segments_in entry)) written.entries entry old.named held;
-  marked =
-      All-weaker (λ (mark : Mark). mark.past ≤ length written.entries) (λ (mark : Mark). mark.past ≤ length (written.entries ++ entry ∷ []))
-      (λ mark past. omega (arith, past, length-append written.entries (entry ∷ []))) written.marks old.marked;
+  marked = grind (arith, length-append, written.entries, written.marks, old.marked);
 }
 
 module _ (v : View) (master : ℕ) (entry : Entry) (few : HasSegmentLeft (v.logs master)) where

@@ -1,10 +1,10 @@
 -- What is marked in a log is of rows that are rebuilt, and counts for no other row.
 use Rattle.rk_inv_base.proofs.Words.{◌≡◌, ℕ, zero, suc, ◌+◌, ◌-◌, ◌<◌, ◌≤◌, true, false, ◌&&◌, List, [], ◌∷◌, Option, Some, None, refl, sym}
 use Rattle.rk_inv_base.proofs.Words.{ap, subst, ◌∙◌, ⊎_elim, arith, drop, is_some, nat_le, nat_lt, slice_get, take, Contains, leb-true}
-use Rattle.rk_inv_base.proofs.Words.{ltb-true, and_parts, cond-false, cond_both, false≢true, nat_tests, All-contains}
-use Rattle.rk_inv_base.proofs.Words.{Any-from_list_any, meets, Member, Range, Entry, number_of, Precedes, row_of, Rebuilding, Row, told}
-use Rattle.rk_inv_base.proofs.Words.{is_marked, counting, counts, has_all, Mark, HasOwnRange, IsOfRange, MarkFits, MarkedFit, TellNoMore}
-use Rattle.rk_inv_base.proofs.Words.{marked_entries, member_marked, View, SoundView}
+use Rattle.rk_inv_base.proofs.Words.{ltb-true, and_parts, cond-false, cond_both, false≢true, nat_tests, All-contains, Any-from_list_any}
+use Rattle.rk_inv_base.proofs.Words.{meets, Member, Range, Entry, number_of, Precedes, row_of, Rebuilding, Row, told, is_marked, counting}
+use Rattle.rk_inv_base.proofs.Words.{counts, has_all, Mark, HasOwnRange, IsOfRange, MarkedFit, TellNoMore, marked_entries, member_marked}
+use Rattle.rk_inv_base.proofs.Words.{View, SoundView}
 use Rattle.rk_entry.specs.declared.entry.Entry.TheVariants as entries
 use Rattle.rk_inv_base.proofs.Base.{key_outside, one_precedes, behind_at, behind_first, row_in, floor_rises}
 use Rattle.rk_inv_base.proofs.rows.Serving.{found_stands}
@@ -13,8 +13,7 @@ use Rattle.rk_inv_base.proofs.rows.Serving.{found_stands}
 
 -- what stands behind a place stands at its own
 pub place_of : {X : Type 0} (xs : List X) (from k place : ℕ) (x : X) → from + k ≡ place → slice_get (drop from xs) k ≡ Some x → slice_get xs place ≡ Some x
-place_of xs zero k place x is at =
-    let same : k ≡ place = omega (arith, is) in subst (λ (n : ℕ). slice_get xs n ≡ Some x) same at
+place_of xs zero k place x is at = grind arith
 place_of [] (suc from) k place x is at = absurd (cc at)
 place_of (y ∷ xs) (suc from) k zero x is at = absurd (omega (arith, is))
 place_of (y ∷ xs) (suc from) k (suc place) x is at = place_of xs from k place x (omega (arith, is)) at
@@ -41,9 +40,7 @@ not_all a b apart some = grind (arith, nat_tests)
 
 -- an entry of a rebuild of another range does not count
 pub entry_apart : (a b : Range) → meets a b ≡ false → meets b a ≡ false → b.first ≤ b.last → (entry : Entry) → IsOfRange a entry → counts b entry ≡ false
-entry_apart a b apart back some (entries.Held held) of = key_outside b a held.table held.key back of
-entry_apart a b apart back some (entries.Carried carried) of = rw of (not_all a b apart some)
-entry_apart a b apart back some _ of = absurd of
+entry_apart a b apart back some entry of = grind (arith, key_outside, not_all)
 
 -- ranges that do not meet do not the other way round
 pub apart_either : (a b : Range) → meets a b ≡ false → meets b a ≡ false
@@ -69,20 +66,12 @@ none_counted range marks (entry ∷ list) place none =
 
 -- ---- nothing tells no more than any entries
 
-pub none_tells : (others : List Entry) → TellNoMore [] others
-none_tells others = grind (arith, told, floor_rises)
-
 -- ---- a row that is not rebuilt
 
 module _ (v : View) (row : Row) (sound : SoundView v) (has_row : Contains v.rows row) (some : row.range.first ≤ row.range.last) (never : (lineage : List Member) (to : ℕ) → row.phase ≡ Rebuilding lineage to → ⊥) where
   -- no mark is of its tablet
   unmarked : (q : ℕ) (mark : Mark) → Contains (v.written q).marks mark → mark.tablet ≡ row.tablet → ⊥
-  unmarked q mark stands its =
-      let fits : MarkFits row q (v.handovers q row.tablet) (v.live q) (v.written q) mark =
-      All-contains (λ m. m.tablet ≡ row.tablet → MarkFits row q (v.handovers q row.tablet) (v.live q) (v.written q) m)
-      (v.written q).marks mark
-      ((row_in v sound row has_row).marks q) stands its in
-      never fits.rebuilt.0 fits.rebuilt.1 fits.rebuilt.2
+  unmarked q mark stands its = grind (arith, row_in)
 
   -- an entry of a piece of another row does not count
   other_counts : (q : ℕ) (mark : Mark) (other : Row) (entry : Entry) → Contains (v.written q).marks mark → Contains v.rows other → other.tablet ≡ mark.tablet → Contains (take (mark.past - mark.first) (drop mark.first (v.written q).entries)) entry → counts row.range entry ≡ false
@@ -128,9 +117,7 @@ module _ (v : View) (row : Row) (sound : SoundView v) (has_row : Contains v.rows
 
   -- and what a member has in marked pieces tells nothing new
   tells_none : (member : Member) (others : List Entry) → TellNoMore (member_marked v.written row.range member) others
-  tells_none member others = subst (λ (list : List Entry). TellNoMore list others) (sym (marks_none member)) (none_tells others)
+  tells_none member others = grind (arith, marks_none, told, floor_rises)
 
   pub marked_fit : (lineage : List Member) → MarkedFit v.logs v.written v.stored v.live row.range lineage
-  marked_fit [] = tt
-  marked_fit (only ∷ []) = λ dead. tells_none only _
-  marked_fit (first ∷ last ∷ more) = (λ dead. tells_none first _, λ dead. tells_none last _)
+  marked_fit lineage = grind (arith, tells_none)

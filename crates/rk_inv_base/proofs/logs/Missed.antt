@@ -1,9 +1,9 @@
 -- What entries that do not touch a range tell of it: nothing; and what a history leaves at a key that it has no record of.
 use Rattle.rk_inv_base.proofs.Words.{◌≡◌, ℕ, suc, ◌≤◌, Bool, true, false, cond, ◌&&◌, eqb, leb, List, [], ◌∷◌, ◌++◌, None, Some, Option}
-use Rattle.rk_inv_base.proofs.Words.{refl, ap, ◌∙◌, arith, drop, filter, fold, All, flat_map, nat_tests, All-cons, All-head, All-tail}
-use Rattle.rk_inv_base.proofs.Words.{list_any, Placed, Range, name-swap, Map, is_at, map_after, map_with, with_change, change_of, Entry}
-use Rattle.rk_inv_base.proofs.Words.{is_marked, unmarked, unmarked_from, touches, counting, counts, is_joined_in, material_of, named}
-use Rattle.rk_inv_base.proofs.Words.{named_by, with_number, Mark, All-drop, list_any_none, All-weaker}
+use Rattle.rk_inv_base.proofs.Words.{refl, ap, ◌∙◌, arith, drop, filter, All, flat_map, nat_tests, All-cons, All-head, All-tail, list_any}
+use Rattle.rk_inv_base.proofs.Words.{Placed, Range, name-swap, Map, is_at, map_after, map_with, with_change, change_of, Entry, is_marked}
+use Rattle.rk_inv_base.proofs.Words.{unmarked, unmarked_from, touches, counting, counts, is_joined_in, material_of, named, named_by}
+use Rattle.rk_inv_base.proofs.Words.{with_number, Mark, All-drop, list_any_none, All-weaker}
 use Rattle.rk_entry.specs.declared.entry.Entry.TheVariants as entries
 use Rattle.rk_model.specs.Machine.{Entry as MapEntry}
 use Rattle.rk_inv_base.proofs.Base.{none_kept}
@@ -40,9 +40,7 @@ pub counts_none : (range : Range) (entry : Entry) → range.first ≤ range.last
 counts_none range entry some misses = grind (arith, not_all)
 
 pub counting_none : (range : Range) (list : List Entry) → range.first ≤ range.last → All (Misses range) list → counting range list ≡ []
-counting_none range list some all =
-    none_kept (counts range) list
-    (All-weaker (Misses range) (λ entry. counts range entry ≡ false) (λ entry misses. counts_none range entry some misses) list all)
+counting_none range list some all = grind (arith, none_kept, counts, counts_none)
 
 -- nor names side segments
 pub names_none : (range : Range) (entry : Entry) → Misses range entry → named_by range entry ≡ []
@@ -56,9 +54,7 @@ all_names_none range (entry ∷ list) all =
     ∙ all_names_none range list (All-tail (Misses range) entry list all)
 
 pub material_none : (range : Range) (side : ℕ → List Entry) (list : List Entry) → range.first ≤ range.last → All (Misses range) list → material_of range side list ≡ []
-material_none range side list some all =
-    ap (λ (l : List Entry). l ++ counting range (flat_map side (named range list))) (counting_none range list some all)
-    ∙ ap (λ (l : List ℕ). counting range (flat_map side (fold with_number [] l))) (all_names_none range list all)
+material_none range side list some all = grind (arith, counting, named, counting_none, with_number, all_names_none)
 
 -- nor joins
 pub joins_none : (range : Range) (entry : Entry) → Misses range entry → is_joined_in range entry ≡ false

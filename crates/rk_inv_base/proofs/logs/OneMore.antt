@@ -59,9 +59,7 @@ module _ (v : View) (master : ℕ) (entry : Entry) (sound : LogsOf v) where
   applied_same q = of_written (λ (w : Written). w.applied ≡ (v.written q).applied) q (λ at. refl) (λ apart. refl)
 
   pub longer : (q : ℕ) → length (v.written q).entries ≤ length (written q).entries
-  longer q =
-      of_written (λ (w : Written). length (v.written q).entries ≤ length w.entries) q
-      (λ at. omega (arith, length-append (v.written q).entries (entry ∷ []))) (λ apart. omega arith)
+  longer q = grind (arith, of_written, length-append)
 
   -- what is applied stands in the log, and so do the marked pieces
   pub within : (q : ℕ) → (v.written q).applied ≤ length (v.written q).entries

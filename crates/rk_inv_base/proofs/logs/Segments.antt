@@ -24,10 +24,7 @@ numbered_past number first (bytes ∷ more) past =
 
 pub numbered_at : (number first k : ℕ) (segments : List (List ℕ)) → first + k ≡ number → k < length segments → segment_of number (numbered first segments) ≡ Some (record { number = number; bytes = get_or segments k [] })
 numbered_at number first k [] is within = absurd (omega arith)
-numbered_at number first zero (bytes ∷ more) is within =
-    let same : first ≡ number = omega arith in
-    cond-true (eqb first number) (Some (record { number = first; bytes = bytes })) (segment_of number (numbered (suc first) more)) (eq-eqb first number same)
-    ∙ ap (λ (n : ℕ). Some (record { number = n; bytes = bytes })) same
+numbered_at number first zero (bytes ∷ more) is within = grind (arith, cond-true, eqb, segment_of, numbered, eq-eqb)
 numbered_at number first (suc k) (bytes ∷ more) is within =
     cond-false (eqb first number) (Some (record { number = first; bytes = bytes })) (segment_of number (numbered (suc first) more)) (ne_eqb first number (λ e. omega arith))
     ∙ numbered_at number (suc first) k more (omega arith) (omega arith)
@@ -42,14 +39,7 @@ found_in log number = ap bytes_in (find-append (λ (segment : NumberedBytes). eq
 -- of a main segment, by its place
 pub bytes_main : (log : Log) (number : ℕ) → 1 ≤ number → number < FIRST_SIDE_SEGMENT → bytes_of log number ≡ get_or (cut log.entries) (number - 1) []
 bytes_main log number some less =
-    found_in log number
-    ∙ ⊎_elim
-    (λ (within : number - 1 < length (cut log.entries)).
-    ap (λ (o : Option NumberedBytes). bytes_in (option_or o (segment_of number (side_segments log)))) (numbered_at number 1 (number - 1) (cut log.entries) (omega arith) within))
-    (λ (past : length (cut log.entries) ≤ number - 1).
-    (λ i. bytes_in (option_or (numbered_past number 1 (cut log.entries) (omega arith) i) (numbered_before number FIRST_SIDE_SEGMENT log.sides less i)))
-    ∙ sym (get_or_past (cut log.entries) (number - 1) [] past))
-    (cases_lt (number - 1) (length (cut log.entries)))
+    grind (arith, found_in, cut, segment_of, side_segments, numbered_at, numbered_past, numbered_before, get_or_past, cases_lt)
 
 -- a main segment has bytes where a later one has some
 pub bytes_before : (log : Log) (earlier later : ℕ) → 1 ≤ earlier → earlier < later → later < FIRST_SIDE_SEGMENT → 0 < length (bytes_of log later) → 0 < length (bytes_of log earlier)
@@ -57,15 +47,11 @@ bytes_before log earlier later some before less filled = grind (arith, length, c
 
 -- no segment has the number 0
 pub bytes_zero : (log : Log) (number : ℕ) → number < 1 → bytes_of log number ≡ []
-bytes_zero log number less =
-    found_in log number
-    ∙ (λ i. bytes_in (option_or (numbered_before number 1 (cut log.entries) less i) (numbered_before number FIRST_SIDE_SEGMENT log.sides (omega arith) i)))
+bytes_zero log number less = grind (arith, found_in, numbered_before, cut)
 
 -- of a side segment, which the main ones do not hide
 pub bytes_side : (log : Log) (number : ℕ) → length (cut log.entries) < FIRST_SIDE_SEGMENT → FIRST_SIDE_SEGMENT ≤ number → bytes_of log number ≡ bytes_in (segment_of number (side_segments log))
-bytes_side log number few side =
-    found_in log number
-    ∙ ap (λ (o : Option NumberedBytes). bytes_in (option_or o (segment_of number (side_segments log)))) (numbered_past number 1 (cut log.entries) (omega arith))
+bytes_side log number few side = grind (arith, found_in, segment_of, side_segments, numbered_past, cut)
 
 -- ---- bytes behind segments
 
@@ -85,10 +71,7 @@ with_bytes_front segments bytes k =
     (λ (last : k ≡ length segments - 1).
     record {
       more = bytes;
-      parts =
-          ap (λ (n : ℕ). get_or (in_last segments bytes) n []) last
-          ∙ get_or-set_same segments (length segments - 1) (last_of segments ++ bytes) [] (omega arith)
-          ∙ ap (λ (n : ℕ). get_or segments n [] ++ bytes) (sym last);
+      parts = grind (arith, in_last, get_or-set_same);
     })
     (λ (other : k ≡ length segments - 1 → ⊥).
     first_part_same (get_or segments k []) (get_or (in_last segments bytes) k []) (get_or-set_other segments (length segments - 1) k (last_of segments ++ bytes) [] other))
@@ -161,19 +144,7 @@ module _ (log : Log) (entry : Entry) (few : length (cut log.entries) + 1 < FIRST
 
   grown_full : (earlier later : ℕ) → earlier < later → is_main earlier ≡ is_main later → bytes_of log later ≢ [] → bytes_of (with_entry log entry) earlier ≡ bytes_of log earlier
   grown_full earlier later before sort filled =
-      ⊎_elim
-      (λ (less : earlier < FIRST_SIDE_SEGMENT).
-      ⊎_elim
-      (λ (none : earlier < 1). grown_zero earlier none)
-      (λ (some : 1 ≤ earlier).
-      let later_less : later < FIRST_SIDE_SEGMENT = ltb-true later FIRST_SIDE_SEGMENT (sym sort ∙ lt-ltb earlier FIRST_SIDE_SEGMENT less) in
-      let within : later - 1 < length (cut log.entries) = within_cut later (omega arith) later_less filled in
-      grown_main earlier some less
-      ∙ with_bytes_full (cut log.entries) (spelled entry) (earlier - 1) (omega arith)
-      ∙ sym (bytes_main log earlier some less))
-      (cases_lt earlier 1))
-      (λ (side : FIRST_SIDE_SEGMENT ≤ earlier). grown_side earlier side)
-      (cases_lt earlier FIRST_SIDE_SEGMENT)
+      grind (arith, grown_zero, ltb-true, lt-ltb, cut, within_cut, grown_main, with_bytes_full, spelled, bytes_main, cases_lt, grown_side)
 
   -- one more entry
   pub grows_entry : Grows log (with_entry log entry)

@@ -1,6 +1,6 @@
 -- What counts for a range of a log that grew by one entry at its end.
 use Rattle.rk_inv_base.proofs.Words.{◌≡◌, ℕ, suc, ◌+◌, ◌≤◌, ◌<◌, Bool, true, false, ◌&&◌, ◌||◌, cond, leb, ltb, List, [], ◌∷◌, ◌++◌, length}
-use Rattle.rk_inv_base.proofs.Words.{drop, fold, refl, sym, ap, ◌∙◌, ⊎_elim, arith, All, filter, flat_map, le-ltb, length-drop, append-nil}
+use Rattle.rk_inv_base.proofs.Words.{drop, fold, refl, sym, ap, ◌∙◌, ⊎_elim, arith, All, flat_map, le-ltb, length-drop, append-nil}
 use Rattle.rk_inv_base.proofs.Words.{length-append, cases_lt, cond-true, cond-false, drop-append-le, flat_map-append, filter-append}
 use Rattle.rk_inv_base.proofs.Words.{All-head, All-tail, Call, Held, Range, Entry, is_marked, unmarked, unmarked_from, touches, counts}
 use Rattle.rk_inv_base.proofs.Words.{counting, with_number, named, named_by, material_of, side_entries, log_material, joined_from}
@@ -30,17 +30,8 @@ marked_none (mark ∷ marks) place within =
 
 -- the entries that bear no mark, with one more behind them
 pub unmarked_last : (marks : List Mark) (place : ℕ) (list : List Entry) (entry : Entry) → unmarked marks place (list ++ entry ∷ []) ≡ unmarked marks place list ++ unless_marked (is_marked marks (place + length list)) entry
-unmarked_last marks place [] entry =
-    let e : place ≡ place + 0 = omega arith in ap (λ (n : ℕ). unless_marked (is_marked marks n) entry) e
-unmarked_last marks place (first ∷ list) entry =
-    let e : suc place + length list ≡ place + suc (length list) = omega arith in
-    let more = unmarked_last marks (suc place) list entry ∙ ap (λ (n : ℕ). unmarked marks (suc place) list ++ unless_marked (is_marked marks n) entry) e in
-    ap (λ (later : List Entry). cond (is_marked marks place) later (first ∷ later)) more
-    ∙ kept (is_marked marks place) (unmarked marks (suc place) list) (unless_marked (is_marked marks (place + suc (length list))) entry)
-  where
-    kept : (b : Bool) (xs ys : List Entry) → cond b (xs ++ ys) (first ∷ (xs ++ ys)) ≡ cond b xs (first ∷ xs) ++ ys
-    kept true xs ys = refl
-    kept false xs ys = refl
+unmarked_last marks place [] entry = grind (arith, is_marked)
+unmarked_last marks place (first ∷ list) entry = grind (arith, unmarked, is_marked, (unmarked_last marks (suc place) list entry))
 
 -- the same from a place on, which is one of the list or its end
 pub unmarked_from_last : (marks : List Mark) (place : ℕ) (list : List Entry) (entry : Entry) → place ≤ length list → unmarked_from marks place (list ++ entry ∷ []) ≡ unmarked_from marks place list ++ unless_marked (is_marked marks (length list)) entry
@@ -89,14 +80,7 @@ module _ (range : Range) (entry : Entry) (inside : counts range entry ≡ true) 
 -- one more entry that is no Joined of a range lets those of the range be
 pub joined_same : (range : Range) (place : ℕ) (list : List Entry) (entry : Entry) → is_joined_in range entry ≡ false → joined_from range place (list ++ entry ∷ []) ≡ joined_from range place list
 joined_same range place list entry other =
-    ⊎_elim
-    (λ (beyond : length list < place). ap (filter (is_joined_in range)) (drop_none place list entry beyond))
-    (λ (within : place ≤ length list).
-    ap (filter (is_joined_in range)) (drop-append-le place list (entry ∷ []) within)
-    ∙ filter-append (is_joined_in range) (drop place list) (entry ∷ [])
-    ∙ ap (λ (more : List Entry). joined_from range place list ++ more) (cond-false (is_joined_in range entry) (entry ∷ []) [] other)
-    ∙ append_nil (joined_from range place list))
-    (cases_lt (length list) place)
+    grind (arith, is_joined_in, drop_none, drop-append-le, filter-append, joined_from, cond-false, append_nil, cases_lt)
 
 -- ---- the entry of a call
 
@@ -105,22 +89,14 @@ pub counts_call : (range : Range) (call : Call) (entry : Entry) → IsEntryOf ca
 counts_call range call entry own = grind (arith, has_key)
 
 pub touches_call : (range : Range) (call : Call) (entry : Entry) → IsEntryOf call entry → touches range entry ≡ counts range entry
-touches_call range call (entries.Carried carried) own = absurd own
-touches_call range call (entries.Joined joined) own = absurd own
-touches_call range call _ own = refl
+touches_call range call entry own = grind arith
 
 -- it names no side segment, and is no Joined
 pub names_call : (range : Range) (call : Call) (entry : Entry) → IsEntryOf call entry → named_by range entry ≡ []
-names_call range call (entries.Carried carried) own = absurd own
-names_call range call (entries.Joined joined) own = absurd own
-names_call range call _ own = refl
+names_call range call entry own = grind arith
 
 pub segments_call : (call : Call) (entry : Entry) → IsEntryOf call entry → segments_in entry ≡ []
-segments_call call (entries.Carried carried) own = absurd own
-segments_call call (entries.Joined joined) own = absurd own
-segments_call call _ own = refl
+segments_call call entry own = grind arith
 
 pub joins_call : (range : Range) (call : Call) (entry : Entry) → IsEntryOf call entry → is_joined_in range entry ≡ false
-joins_call range call (entries.Carried carried) own = absurd own
-joins_call range call (entries.Joined joined) own = absurd own
-joins_call range call _ own = refl
+joins_call range call entry own = grind arith

@@ -1,15 +1,12 @@
 -- A lane stays sound when a hash is wanted first, and when a batch of the wanted ones is asked for.
-use Rattle.rk_inv_base.proofs.Words.{◌≡◌, ℕ, ◌++◌, List, [], ◌∷◌, refl, sym, subst, cond_both, Hashes, World, view, IsSound, SoundView}
+use Rattle.rk_inv_base.proofs.Words.{arith, ◌≡◌, ℕ, List, [], ◌∷◌, refl, sym, subst, cond_both, Hashes, World, view, IsSound, SoundView}
 use Rattle.rk_inv_base.proofs.Words.{batched, batched_by, wanting, asking_batch, batch_asked_in, hash_wanted_in, wanting_hash}
-use Rattle.rk_priority.specs.Hashes.{is_known}
 use Rattle.rk_inv_base.proofs.Base.{view_pulled}
 use Rattle.rk_inv_base.proofs.pulls.PullingChanges.{none_arrives, view_goes_on}
 
 -- a hash that is wanted resolves none
 pub wanting_resolves : (hashes : Hashes) (hash : ℕ) → (wanting hashes hash).resolved ≡ hashes.resolved
-wanting_resolves hashes hash =
-    cond_both (is_known hashes hash) hashes (record hashes { wanted = hashes.wanted ++ hash ∷ [] })
-    (λ now. now.resolved ≡ hashes.resolved) (λ known. refl) (λ new. refl)
+wanting_resolves hashes hash = grind (arith, cond_both)
 
 -- nor does a batch that is asked for
 pub batch_resolves : (hashes : Hashes) (batch : List ℕ) → (batched_by hashes batch).resolved ≡ hashes.resolved

@@ -1,12 +1,11 @@
 -- What a target that joins is to its row, and how what it copied tells what its source has.
-use Rattle.rk_inv_base.proofs.Words.{arith}
-use Rattle.rk_inv_base.proofs.Words.{◌≡◌, ℕ, ◌<◌, ◌⊎◌, Bool, true, false, cond, List, [], ◌∷◌, ◌++◌, filter, fold, Option, Some, None, refl}
-use Rattle.rk_inv_base.proofs.Words.{sym, ap, ◌∙◌, subst, ⊎_elim, inl, inr, ◌==◌, Contains, flat_map, eq-eqb, eqb-true, cond_both}
-use Rattle.rk_inv_base.proofs.Words.{false≢true, flat_map-append, Contains-append_cases, Contains-append_left, Contains-append_right, Held}
-use Rattle.rk_inv_base.proofs.Words.{Member, is_among, Entry, lineage_of, Phase, Owned, Opening, Moving, Rebuilding, items_in, items_of}
-use Rattle.rk_inv_base.proofs.Words.{is_member, with_number, Post, Owner, OpeningSource, MovingSource, MovingTarget}
-use Rattle.rk_inv_base.proofs.Words.{FormerMember, Bystander, bond_of, post_of}
-use Rattle.rk_inv_base.proofs.Words.{rebuilder_post, target_post, Holds, scan_items, IsFormed, filter_passes, All-contains}
+use Rattle.rk_inv_base.proofs.Words.{arith, ◌≡◌, ℕ, ◌<◌, ◌⊎◌, Bool, true, false, cond, List, [], ◌∷◌, ◌++◌, filter, fold, Option, Some}
+use Rattle.rk_inv_base.proofs.Words.{None, refl, sym, ap, ◌∙◌, subst, ⊎_elim, inl, inr, ◌==◌, Contains, flat_map, eq-eqb, eqb-true}
+use Rattle.rk_inv_base.proofs.Words.{cond_both, false≢true, flat_map-append, Contains-append_cases, Contains-append_left}
+use Rattle.rk_inv_base.proofs.Words.{Contains-append_right, Held, Member, is_among, Entry, lineage_of, Phase, Owned, Opening, Moving}
+use Rattle.rk_inv_base.proofs.Words.{Rebuilding, items_in, items_of, is_member, with_number, Post, MovingSource, MovingTarget, Bystander}
+use Rattle.rk_inv_base.proofs.Words.{bond_of, post_of, rebuilder_post, target_post, Holds, scan_items, IsFormed, filter_passes}
+use Rattle.rk_inv_base.proofs.Words.{All-contains}
 use Rattle.rk_transfer.specs.declared.role.Role.TheVariants as roles
 use Rattle.rk_tablet_map.specs.Phase.{member as member_at}
 use Rattle.rk_inv_base.proofs.calls.Records.{filter_from, filter_stands, scanned_from}
@@ -38,14 +37,8 @@ module _ (master term own applied : ℕ) where
 
   -- it is the second of its row's two members
   pub joining_second : (phase : Phase) → IsFormed phase → Joins phase (post_of phase master)
-  joining_second (Owned owner from) formed =
-      cond_both (owner == master) (Owner from) Bystander (Joins (Owned owner from)) (λ e holds. absurd holds) (λ e holds. absurd holds)
-  joining_second (Opening source sfrom target dfrom) formed =
-      cond_both (source == master) OpeningSource (cond (target == master) (target_post dfrom) Bystander)
-      (Joins (Opening source sfrom target dfrom)) (λ e holds. absurd holds)
-      (λ other.
-      cond_both (target == master) (target_post dfrom) Bystander (Joins (Opening source sfrom target dfrom))
-      (λ e. of_target source sfrom target dfrom) (λ e holds. absurd holds))
+  joining_second (Owned owner from) formed = grind (arith, cond_both)
+  joining_second (Opening source sfrom target dfrom) formed = grind (arith, cond_both, target_post, of_target)
   joining_second (Moving source sfrom target dfrom) formed =
       cond_both (source == master) MovingSource (cond (target == master) (MovingTarget dfrom) Bystander)
       (Joins (Moving source sfrom target dfrom)) (λ e holds. absurd holds)
@@ -60,12 +53,7 @@ module _ (master term own applied : ℕ) where
         behind = λ lineage is. absurd (cc is);
       })
       (λ e holds. absurd holds))
-  joining_second (Rebuilding lineage to) formed =
-      cond_both (to == master) (rebuilder_post lineage master) (cond (is_member lineage master) FormerMember Bystander)
-      (Joins (Rebuilding lineage to)) (λ e. of_rebuilder lineage to formed)
-      (λ e.
-      cond_both (is_member lineage master) FormerMember Bystander (Joins (Rebuilding lineage to)) (λ f holds. absurd holds)
-      (λ f holds. absurd holds))
+  joining_second (Rebuilding lineage to) formed = grind (arith, cond_both, rebuilder_post, is_member, of_rebuilder)
 
 -- ---- what is among some
 

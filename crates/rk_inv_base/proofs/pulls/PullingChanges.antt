@@ -1,9 +1,8 @@
 -- A view stays sound when what is pulled of a tablet goes on: no more of the source's items count as arrived than have arrived. The
 -- token, the count of batches and the hashes may change; the items that were pulled stay.
-use Rattle.rk_inv_base.proofs.Words.{arith}
-use Rattle.rk_inv_base.proofs.Words.{◌≡◌, ℕ, [], ◌∷◌, sym, ap, ◌∙◌, subst, ⊎_elim, inl, inr, get, Token, Member}
-use Rattle.rk_inv_base.proofs.Words.{passed, lineage_of, Row, Hashes, contains, Pulling, GoesOn, IsPulling, source_items, View, SoundView}
-use Rattle.rk_inv_base.proofs.Words.{item_hash, MayGoOn, gone_on, pulled}
+use Rattle.rk_inv_base.proofs.Words.{arith, ◌≡◌, ℕ, [], ◌∷◌, sym, ap, ◌∙◌, subst, ⊎_elim, inl, inr, get, Token, Member, passed, lineage_of}
+use Rattle.rk_inv_base.proofs.Words.{Row, Hashes, contains, Pulling, GoesOn, IsPulling, source_items, View, SoundView, item_hash, MayGoOn}
+use Rattle.rk_inv_base.proofs.Words.{gone_on, pulled}
 use Rattle.rk_inv_base.proofs.Base.{same_number, put2_by, IsTargetIn}
 use Rattle.rk_inv_base.proofs.views.WithRecords.{view_with_pullings}
 

@@ -1,13 +1,12 @@
 -- A view stays sound when a target replays an item of its source: the item goes into the records, where it is newer than what is there,
 -- and to the items that the target copied.
-use Rattle.rk_inv_base.proofs.Words.{◌≡◌, ℕ, ◌<◌, true, false, List, [], ◌∷◌, refl, sym, ap, ◌∙◌, subst, ⊎_elim, inl, arith, IfSome, All}
+use Rattle.rk_inv_base.proofs.Words.{◌≡◌, ℕ, ◌<◌, true, false, List, [], ◌∷◌, refl, sym, ap, ◌∙◌, subst, ⊎_elim, arith, IfSome, All}
 use Rattle.rk_inv_base.proofs.Words.{Contains, false≢true, All-contains, IfSome_then, hash_of, get, meets, Held, Member, Range, order_after}
-use Rattle.rk_inv_base.proofs.Words.{is_in, with_newer, IsInScanOrder, Handover, Role, lineage_of, Phase, Rebuilding, Row, items_of}
-use Rattle.rk_inv_base.proofs.Words.{first_of, is_member, unmarked_from, Master, tablet_at, side_entries, item_replayed, with_pulled}
-use Rattle.rk_inv_base.proofs.Words.{with_pulling, is_absent, is_receiving, Pulling, Tablet, World, master_at, applied_entries}
-use Rattle.rk_inv_base.proofs.Words.{member_material, member_truth, IsItemWithin, source_items, Post}
-use Rattle.rk_inv_base.proofs.Words.{Holds, bond_of, post_of, IsBare, wanted_place, HasItems, has_all_items}
-use Rattle.rk_inv_base.proofs.Words.{View, view, IsSound, SoundView, is_granted, MayReplay, item_replayed_in, replayed}
+use Rattle.rk_inv_base.proofs.Words.{is_in, with_newer, IsInScanOrder, Handover, Role, lineage_of, Rebuilding, Row, items_of, first_of}
+use Rattle.rk_inv_base.proofs.Words.{is_member, unmarked_from, Master, tablet_at, side_entries, item_replayed, with_pulled, with_pulling}
+use Rattle.rk_inv_base.proofs.Words.{is_absent, is_receiving, Pulling, Tablet, World, master_at, applied_entries, member_material}
+use Rattle.rk_inv_base.proofs.Words.{member_truth, IsItemWithin, source_items, Holds, bond_of, post_of, IsBare, wanted_place, HasItems}
+use Rattle.rk_inv_base.proofs.Words.{has_all_items, View, view, IsSound, SoundView, is_granted, MayReplay, item_replayed_in, replayed}
 use Rattle.rk_transfer.specs.declared.role.Role.TheVariants as roles
 use Rattle.rk_world.specs.Master.{with_item}
 use Rattle.rk_inv_base.proofs.Base.{in_one_row, key_outside, same_number, covered_by, all_by, tablet_apart, tablet_here, put_by, put_same}
@@ -18,10 +17,6 @@ use Rattle.rk_inv_base.proofs.calls.Records.{material_in, newer_cases, scanned_f
 use Rattle.rk_inv_base.proofs.logs.InRange.{rebuilder_same, scan_in, target_same, truth_in}
 
 -- ---- what a post says of a master that pulls
-
--- it has not all of the tablet
-pub receiving_lacks : (post : Post) (handover : Handover) (term own applied : ℕ) → Holds (bond_of post roles.Receiving) term own applied → has_all_items post handover term ≡ false
-receiving_lacks post handover term own applied holds = grind arith
 
 -- and if it is to rebuild the tablet, it has not begun
 pub receiving_behind : (lineage : List Member) (master term own applied : ℕ) → Holds (bond_of (post_of (Rebuilding lineage master) master) roles.Receiving) term own applied → own < term
@@ -67,10 +62,7 @@ module _ (v : View) (row : Row) (source target : Member) (worker : ℕ) (item : 
 
   -- it keeps the row's range
   ranged : kept.range ≡ row.range
-  ranged =
-      (row_in v sound row may.pulling.has_row).ranged target.master (inl may.pulling.lives)
-      (ap (λ (members : List Member). is_member members target.master) may.pulling.lineage_is
-      ∙ last_member (source ∷ target ∷ []) target target.master refl refl)
+  ranged = grind (arith, row_in, is_member, last_member)
 
   -- ---- cover
 
@@ -89,15 +81,10 @@ module _ (v : View) (row : Row) (source target : Member) (worker : ℕ) (item : 
 
   -- whose records have all of a row, is not the target of this one
   lacks : has_all_items (post_of row.phase target.master) kept row.term ≡ false
-  lacks = receiving_lacks (post_of row.phase target.master) kept row.term kept.term (v.written target.master).applied fits
+  lacks = grind (arith, post_of, fits)
 
   has_other : (other : Row) → Contains v.rows other → (q : ℕ) → q ≡ target.master → has_all_items (post_of other.phase q) (v.handovers q other.tablet) other.term ≡ true → other.tablet ≡ row.tablet → ⊥
-  has_other other has q at all its =
-      let same : other ≡ row = same_row other has its in
-      let one : has_all_items (post_of other.phase q) (v.handovers q other.tablet) other.term
-      ≡ has_all_items (post_of row.phase target.master) kept row.term =
-      λ i. has_all_items (post_of (same i).phase (at i)) (v.handovers (at i) (same i).tablet) (same i).term in
-      false≢true (sym lacks ∙ sym one ∙ all)
+  has_other other has q at all its = grind (arith, same_row, has_all_items, post_of, false≢true, lacks)
 
   items : (q : ℕ) → v.live q ≡ true → (other : Row) → Contains v.rows other → has_all_items (post_of other.phase q) (v.handovers q other.tablet) other.term ≡ true → HasItems other v.written (v.records q) → HasItems other v.written (now.records q)
   items q lives other has all old =
@@ -177,30 +164,13 @@ module _ (v : View) (row : Row) (source target : Member) (worker : ℕ) (item : 
       (key_outside ready.range row.range item.table item.key no_meet inside) from (v.written target.master) bare)
 
   bare_after : (q r : ℕ) → IsBareOf (v.handovers q r) (v.written q) (v.records q) → IsBareOf (v.handovers q r) (v.written q) (now.records q)
-  bare_after q r bare =
-      by_records (IsBareOf (v.handovers q r) (v.written q)) q
-      (λ at.
-      subst
-      (λ (n : ℕ). IsBareOf (v.handovers n r) (v.written n) (v.records n)
-      → IsBareOf (v.handovers n r) (v.written n) (with_newer item (v.records n)))
-      (sym at) (bare_here r) bare)
-      (λ apart. bare)
+  bare_after q r bare = grind (arith, by_records, with_newer, bare_here)
 
   -- ---- rebuilds
 
   -- the target does not rebuild the row
   not_rebuilt : (other : Row) → Contains v.rows other → (lineage : List Member) (to : ℕ) → other.phase ≡ Rebuilding lineage to → to ≡ target.master → (v.handovers to other.tablet).term ≡ other.term → other.tablet ≡ row.tablet → ⊥
-  not_rebuilt other has lineage to is at term its =
-      let same : other ≡ row = same_row other has its in
-      let phase_is : row.phase ≡ Rebuilding lineage target.master =
-      ap (λ (r : Row). r.phase) (sym same) ∙ is ∙ ap (λ (n : ℕ). Rebuilding lineage n) at in
-      let behind : kept.term < row.term =
-      receiving_behind lineage target.master row.term kept.term (v.written target.master).applied
-      (subst (λ (phase : Phase). Holds (bond_of (post_of phase target.master) roles.Receiving) row.term kept.term (v.written target.master).applied)
-      phase_is fits) in
-      let equal : kept.term ≡ row.term =
-      sym (λ i. (v.handovers (at i) (same i).tablet).term) ∙ term ∙ ap (λ (r : Row). r.term) same in
-      omega (arith, behind, equal)
+  not_rebuilt other has lineage to is at term its = grind (arith, same_row, receiving_behind, bond_of, post_of, fits)
 
   pub view_replayed : SoundView now
   view_replayed = view_with_kept v now.records now.pullings v.gathers sound (record {

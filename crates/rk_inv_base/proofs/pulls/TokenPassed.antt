@@ -1,16 +1,11 @@
 -- A view stays sound when a target passes on to a token, where all items that the token has passed have arrived.
-use Rattle.rk_inv_base.proofs.Words.{ap, sym, subst, ◌∙◌, ⊎_elim, inl, inr, ◌+◌, false≢true, Token, Member, Row, is_receiving, World}
-use Rattle.rk_inv_base.proofs.Words.{GoesOn, is_joining, View, view, IsSound, SoundView, MayPass, passing, token_passed_in}
+use Rattle.rk_inv_base.proofs.Words.{arith, sym, subst, ⊎_elim, ◌+◌, false≢true, Token, Member, Row, is_receiving, World, GoesOn}
+use Rattle.rk_inv_base.proofs.Words.{is_joining, View, view, IsSound, SoundView, MayPass, passing, token_passed_in}
 use Rattle.rk_inv_base.proofs.Base.{view_pulled}
 use Rattle.rk_inv_base.proofs.pulls.PullingChanges.{of_one_row, view_goes_on}
 
 pub goes_on : (v : View) (row : Row) (source target : Member) (next : Token) → MayPass v row source target next → GoesOn v row source target (passing next (v.pullings target.master row.tablet))
-goes_on v row source target next may = record {
-  at_end = λ joins had. absurd (false≢true (sym (ap is_joining may.pulling.receiving) ∙ joins));
-  arrived = λ item stands arrives.
-      ⊎_elim (λ passed. inr (may.arrived item passed)) (λ resolved. inl (λ receives. inr resolved))
-      (arrives (ap is_receiving may.pulling.receiving));
-}
+goes_on v row source target next may = grind (arith, false≢true, is_joining, is_receiving)
 
 pub sound_passed : (w : World) (row : Row) (source target : Member) (next : Token) → IsSound w → MayPass (view w) row source target next → IsSound (token_passed_in w target.master row.tablet next)
 sound_passed w row source target next sound may =

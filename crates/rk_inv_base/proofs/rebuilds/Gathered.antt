@@ -3,9 +3,9 @@ use Rattle.rk_inv_base.proofs.Words.{◌≡◌, ℕ, ◌+◌, ◌<◌, ◌≤◌
 use Rattle.rk_inv_base.proofs.Words.{ap, ◌∙◌, subst, ⊎_elim, ◌⊎◌, inl, inr, arith, length-append, ◌≢◌, ◌==◌, if◌then◌else◌, All, option_map}
 use Rattle.rk_inv_base.proofs.Words.{eq-eqb, ne_eqb, eqb-true, ltb-true, cases_eq, cases_lt, cond-true, cond-false, cond_both, and_parts}
 use Rattle.rk_inv_base.proofs.Words.{false≢true, get_or_push, get_or_append_left, All-head, All-tail, All-cons, option_or, ⊤, each_insert}
-use Rattle.rk_inv_base.proofs.Words.{Member, Range, entries_of, Known, known_length, EntryEnd, Gathered, LAST_MAIN_SEGMENT, is_awaited}
-use Rattle.rk_inv_base.proofs.Words.{next_of, next_segment, reading_of, is_main, AreRead, IsGathered, IsReadPart, AreApart, next_side}
-use Rattle.rk_inv_base.proofs.Words.{with_main, with_read, with_segment}
+use Rattle.rk_inv_base.proofs.Words.{Member, Range, entries_of, Known, known_length, EntryEnd, Gathered, is_awaited, next_of, next_segment}
+use Rattle.rk_inv_base.proofs.Words.{reading_of, is_main, AreRead, IsGathered, IsReadPart, AreApart, next_side, with_main, with_read}
+use Rattle.rk_inv_base.proofs.Words.{with_segment}
 use Rattle.rk_outside.specs.Segments.{bytes_of}
 
 -- ---- members are apart
@@ -20,39 +20,24 @@ abbrev pub AllApart : List Member → Type 0
 AllApart [] = ⊤
 AllApart (member ∷ others) = IsAway member.master others × AllApart others
 
--- those of a lineage are
-pub lineage_apart : (lineage : List Member) → AreApart lineage → AllApart lineage
-lineage_apart lineage apart = grind arith
-
 pub away_kept : (keep : Member → Bool) (master : ℕ) (members : List Member) → IsAway master members → IsAway master (filter keep members)
 away_kept keep master [] away = tt
-away_kept keep master (member ∷ others) away =
-    let later = away_kept keep master others away.1 in
-    cond_both (keep member) (member ∷ filter keep others) (filter keep others) (IsAway master) (λ e. (away.0, later)) (λ e. later)
+away_kept keep master (member ∷ others) away = grind (arith, cond_both, away.1, away.0, (away_kept keep master others away.1))
 
 -- and so are those of them that are kept
 pub kept_apart : (keep : Member → Bool) (members : List Member) → AllApart members → AllApart (filter keep members)
 kept_apart keep [] apart = tt
 kept_apart keep (member ∷ others) apart =
-    let later = kept_apart keep others apart.1 in
-    cond_both (keep member) (member ∷ filter keep others) (filter keep others) AllApart
-    (λ e. (away_kept keep member.master others apart.0, later)) (λ e. later)
+    grind (arith, cond_both, away_kept, apart.1, member.master, apart.0, (kept_apart keep others apart.1))
 
 -- so those that are read of a lineage are apart
 pub read_apart : (lineage : List Member) (keep : Member → Bool) (members : List Gathered) → AreApart lineage → map (λ gathered. gathered.member) members ≡ filter keep lineage → AllApart (map (λ gathered. gathered.member) members)
-read_apart lineage keep members apart is = subst AllApart (sym is) (kept_apart keep lineage (lineage_apart lineage apart))
+read_apart lineage keep members apart is = grind (arith, kept_apart)
 
 -- ---- one member
 
--- a member stays the one that it is
-pub with_main_member : (gathered : Gathered) (bytes : Option (List ℕ)) → (with_main gathered bytes).member ≡ gathered.member
-with_main_member gathered None = refl
-with_main_member gathered (Some bytes) = refl
-
 pub same_member : (gathered : Gathered) (segment : ℕ) (bytes : Option (List ℕ)) → (with_segment gathered segment bytes).member ≡ gathered.member
-same_member gathered segment bytes =
-    cond_both gathered.main_read _ (with_main gathered bytes) (λ now. now.member ≡ gathered.member) (λ e. refl)
-    (λ e. with_main_member gathered bytes)
+same_member gathered segment bytes = grind (arith, cond_both, with_main)
 
 -- nothing is known of a main segment behind one of which nothing is known
 abbrev pub NoneBehind : Known → Type 0
@@ -68,50 +53,10 @@ pub record NeedsFew (Needed : EntryEnd → Type 0) (known : Known) : Type 0 wher
       → known_length known earlier ≡ 0 → ⊥
 
 module _ (Needed : EntryEnd → Type 0) (known : Known) (stored : ℕ → List ℕ) (gathered : Gathered) (segment : ℕ) (few : NeedsFew Needed known) (old : IsGathered Needed known stored gathered) where
-  -- nothing is needed from its next main segment on, where that was never written
-  none_needed : length gathered.main + 1 ≡ segment → IsReadPart Needed known stored segment [] → (end : EntryEnd) → Needed end → is_main end.segment ≡ true → end.segment ≤ length gathered.main
-  none_needed is part end its main = grind (arith, length, cases_eq, cases_lt)
-
   -- its next main segment was read, or was never written
   main_gathered : (bytes : Option (List ℕ)) → NoneBehind known → length gathered.main + 1 ≡ segment → IsReadPart Needed known stored segment (bytes_of bytes) → IsGathered Needed known stored (with_main gathered bytes)
-  main_gathered None none is part = record {
-    main = old.main;
-    passed = λ read later behind main.
-        let nothing : known_length known segment ≡ 0 = omega (arith, part.enough) in
-        ⊎_elim
-        (λ (same : later ≡ segment). ap (known_length known) same ∙ nothing)
-        (λ (other : later ≡ segment → ⊥).
-        none segment later (omega (arith, is)) (omega (arith, is, behind, other)) main nothing)
-        (cases_eq later segment);
-    passed_needed = λ read. none_needed is part;
-    sides = old.sides;
-  }
-  main_gathered (Some bytes) none is part = record {
-    main = λ place within.
-        ⊎_elim
-        (λ (before : place < length gathered.main).
-        subst (AreRead Needed known stored (place + 1))
-        (sym (get_or_append_left gathered.main (entries_of bytes ∷ []) [] place before)) (old.main place before))
-        (λ (last : length gathered.main ≤ place).
-        let at : length gathered.main ≡ place = omega (arith, last, within, length-append gathered.main (entries_of bytes ∷ [])) in
-        record {
-          bytes = bytes;
-          read = subst (λ (n : ℕ). IsReadPart Needed known stored n bytes) (sym (ap (λ (n : ℕ). n + 1) (sym at) ∙ is)) part;
-          spelled = get_or_push gathered.main (entries_of bytes) [] place at;
-        })
-        (cases_lt place (length gathered.main));
-    passed = λ read later behind main.
-        let size = length-append gathered.main (entries_of bytes ∷ []) in
-        let last : length gathered.main + 1 ≡ LAST_MAIN_SEGMENT = eqb-true (length gathered.main + 1) LAST_MAIN_SEGMENT read in
-        let less = ltb-true later _ main in
-        absurd (omega (arith, size, last, behind, less));
-    passed_needed = λ read end its main.
-        let size = length-append gathered.main (entries_of bytes ∷ []) in
-        let last : length gathered.main + 1 ≡ LAST_MAIN_SEGMENT = eqb-true (length gathered.main + 1) LAST_MAIN_SEGMENT read in
-        let less = ltb-true end.segment _ main in
-        omega (arith, size, last, less);
-    sides = old.sides;
-  }
+  main_gathered bytes none is part =
+      grind (arith, known_length, cases_eq, get_or_append_left, entries_of, length-append, get_or_push, cases_lt, eqb-true, ltb-true)
 
   -- one of its segments was read, which is the next one
   pub segment_read : (range : Range) (bytes : Option (List ℕ)) → NoneBehind known → next_segment range gathered ≡ Some segment → IsReadPart Needed known stored segment (bytes_of bytes) → IsGathered Needed known stored (with_segment gathered segment bytes)
@@ -142,10 +87,8 @@ module _ (range : Range) (master segment : ℕ) (bytes : Option (List ℕ)) wher
   -- the members are those that they were
   pub same_members : (members : List Gathered) → map (λ gathered. gathered.member) (with_read members master segment bytes) ≡ map (λ gathered. gathered.member) members
   same_members [] = refl
-  same_members (gathered ∷ others) = λ i.
-      cond_both (gathered.member.master == master) (with_segment gathered segment bytes) gathered (λ now. now.member ≡ gathered.member)
-      (λ e. same_member gathered segment bytes) (λ e. refl) i
-      ∷ same_members others i
+  same_members (gathered ∷ others) =
+      grind (arith, cond_both, with_segment, same_member, gathered.member.master, gathered.member, (same_members others))
 
   -- the segment is awaited of a first one with this next segment, or of the others
   abbrev Awaits : Gathered → List Gathered → Option ℕ → Type 0
@@ -166,9 +109,8 @@ module _ (range : Range) (master segment : ℕ) (bytes : Option (List ℕ)) wher
   -- and nothing changes for it
   none_read : (members : List Gathered) → IsAway master (map (λ gathered. gathered.member) members) → with_read members master segment bytes ≡ members
   none_read [] away = refl
-  none_read (gathered ∷ others) away = λ i.
-      cond-false (gathered.member.master == master) (with_segment gathered segment bytes) gathered (ne_eqb gathered.member.master master away.0) i
-      ∷ none_read others away.1 i
+  none_read (gathered ∷ others) away =
+      grind (arith, cond-false, with_segment, ne_eqb, gathered.member.master, away.0, away.1, (none_read others away.1))
 
   -- what holds of a member of the master holds of it once its next segment was read
   abbrev StaysFit : (Gathered → Type 0) → Type 0

@@ -1,19 +1,10 @@
 -- A view stays sound when what is gathered for a tablet goes on: it is still that of the row, and what was read of each segment is a
 -- first part that holds what its master knew to be stored, and what is needed.
-use Rattle.rk_inv_base.proofs.Words.{arith}
-use Rattle.rk_inv_base.proofs.Words.{◌≡◌, ℕ, List, subst, refl, true, None, Some, Member, Role, Rebuilding, Row}
-use Rattle.rk_inv_base.proofs.Words.{Gather, own_place, is_gathering, member_material, merged_place, View, SoundView, GathersOn}
-use Rattle.rk_inv_base.proofs.Words.{MayGatherOn, gathered}
+use Rattle.rk_inv_base.proofs.Words.{arith, ◌≡◌, ℕ, List, subst, Member, Role, Rebuilding, Row, Gather, own_place, member_material}
+use Rattle.rk_inv_base.proofs.Words.{merged_place, View, SoundView, GathersOn, MayGatherOn, gathered}
 use Rattle.rk_transfer.specs.declared.role.Role.TheVariants as roles
-use Rattle.rk_tablet_map.specs.Phase.{member as member_at}
 use Rattle.rk_inv_base.proofs.Base.{put2_by}
 use Rattle.rk_inv_base.proofs.views.WithRecords.{RebuildsBy, view_with_gathers}
-
--- a master that gathers has merged nothing
-pub gathering_merged : (role : Role) → is_gathering role ≡ true → merged_place role ≡ None
-gathering_merged (roles.Rebuilding from None) gathers = refl
-gathering_merged (roles.Rebuilding from (Some entry)) gathers = absurd (cc)
-gathering_merged role gathers = absurd (cc)
 
 module _ (v : View) (master number : ℕ) (change : Gather → Gather) (sound : SoundView v) (may : MayGatherOn v master number change) where
   abbrev now : View
@@ -21,7 +12,7 @@ module _ (v : View) (master number : ℕ) (change : Gather → Gather) (sound : 
 
   -- it goes on to gather
   gathers_on : (row : Row) (lineage : List Member) (to : ℕ) (gather new : Gather) → GathersOn v row lineage to new → RebuildsBy v row lineage to gather (v.records to) → RebuildsBy v row lineage to new (v.records to)
-  gathers_on row lineage to gather new goes was = grind (arith, member_material, member_at, own_place, merged_place, gathering_merged)
+  gathers_on row lineage to gather new goes was = grind (arith, member_material, own_place, merged_place)
 
   pub view_gathers_on : SoundView now
   view_gathers_on =

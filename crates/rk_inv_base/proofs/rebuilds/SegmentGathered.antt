@@ -25,23 +25,10 @@ copy_none_stored log stored known copy earlier later some before main none fille
     copy.in_order later (λ empty. omega (arith, filled, ap length empty)) earlier before sort in
     omega (arith, whole, none, bytes_before log earlier later some before less there)
 
--- and nothing is known to be
-pub copy_none_behind : (log : Log) (stored : ℕ → List ℕ) (known : Known) → IsCopy log stored known → NoneBehind known
-copy_none_behind log stored known copy earlier later some before main none = grind (arith, known_length, copy_none_stored, cases_lt)
-
 -- so it is of each master
 pub none_behind : (v : View) → SoundView v → (master : ℕ) → NoneBehind (known_of (v.logs master) READ_BACKUP)
 none_behind v sound master =
-    let log : Log = v.logs master in
-    ⊎_elim
-    (λ (some : 0 < length log.known).
-    let kept = sound.logs.each master in
-    copy_none_behind log (stored_of v.stored master READ_BACKUP) (known_of log READ_BACKUP)
-    (kept.copies READ_BACKUP (record { first = omega arith; last = omega (arith, some) })))
-    (λ (few : length log.known ≤ 0).
-    λ earlier later one before main none.
-    ap (λ (known : Known). known_length known later) (get_or_past log.known 0 nothing few))
-    (cases_lt 0 (length log.known))
+    grind (arith, stored_of, known_of, known_length, get_or_past, nothing, cases_lt, copy_none_stored, v.logs, sound.logs.each, v.stored)
 
 -- ---- what is needed
 

@@ -1,24 +1,18 @@
 -- A view stays sound when a master that is frozen at a tablet, and not of its row's lineage, drops the items of the tablet's range.
-use Rattle.rk_inv_base.proofs.Words.{◌≡◌, ℕ, true, false, not, List, [], ◌∷◌, refl, sym, ap, ◌∙◌, subst, inl, arith, All, Contains}
-use Rattle.rk_inv_base.proofs.Words.{eq-eqb, false≢true, or_left, or_right, All-filter, IfSome_then, get, meets, Held, Member, Range}
-use Rattle.rk_inv_base.proofs.Words.{order_without, is_in, without, IsInScanOrder, Handover, Role, lineage_of, Phase, Rebuilding, Row}
-use Rattle.rk_inv_base.proofs.Words.{first_of, is_member, is_absent, member_truth, IsItemWithin, MayRelease, Post}
-use Rattle.rk_inv_base.proofs.Words.{post_of, bond_of, Holds}
-use Rattle.rk_inv_base.proofs.Words.{IsBare, is_granted, wanted_place, RoleFits, HasItems, has_all_items, View, SoundView}
-use Rattle.rk_inv_base.proofs.Words.{is_steady, items_dropped}
+use Rattle.rk_inv_base.proofs.Words.{◌≡◌, ℕ, true, false, not, List, [], ◌∷◌, refl, sym, ap, ◌∙◌, subst, inl, arith, All, Contains, eq-eqb}
+use Rattle.rk_inv_base.proofs.Words.{false≢true, or_left, or_right, All-filter, IfSome_then, get, meets, Held, Member, Range, order_without}
+use Rattle.rk_inv_base.proofs.Words.{is_in, without, IsInScanOrder, Handover, Role, lineage_of, Phase, Rebuilding, Row, first_of, is_member}
+use Rattle.rk_inv_base.proofs.Words.{is_absent, member_truth, IsItemWithin, MayRelease, Post, post_of, bond_of, Holds, IsBare, is_granted}
+use Rattle.rk_inv_base.proofs.Words.{wanted_place, RoleFits, HasItems, has_all_items, View, SoundView, is_steady, items_dropped}
 use Rattle.rk_transfer.specs.declared.role.Role.TheVariants as roles
-use Rattle.rk_inv_base.proofs.Base.{put_by, same_number, IsTargetIn, rebuilding_behind, row_in, is_inside, inside_member}
+use Rattle.rk_inv_base.proofs.Base.{put_by, same_number, IsTargetIn, rebuilding_behind, row_in, inside_member}
 use Rattle.rk_inv_base.proofs.logs.InRange.{none_left, scan_in, truth_in, dropped_same, rebuilder_same, table_same, target_same}
 use Rattle.rk_inv_base.proofs.views.WithRecords.{RebuildsWith, view_with_kept}
 
 -- ---- who has all items of a tablet
 
--- a master that has them is of the lineage
-pub full_inside : (post : Post) (handover : Handover) (term : ℕ) → has_all_items post handover term ≡ true → is_inside post ≡ true
-full_inside post handover term has = grind arith
-
 pub has_all_member : (phase : Phase) (master term : ℕ) (handover : Handover) → has_all_items (post_of phase master) handover term ≡ true → is_member (lineage_of phase) master ≡ true
-has_all_member phase master term handover has = inside_member phase master (full_inside (post_of phase master) handover term has)
+has_all_member phase master term handover has = grind (arith, inside_member, post_of)
 
 -- none of them is absent
 pub absent_has_none : (post : Post) (handover : Handover) (term applied : ℕ) → has_all_items post handover term ≡ true → Holds (bond_of post roles.Absent) term handover.term applied → ⊥
@@ -27,10 +21,6 @@ absent_has_none post handover term applied has holds = grind arith
 pub not_absent : (role : Role) → (role ≡ roles.Absent → ⊥) → is_absent role ≡ false
 not_absent roles.Absent none = absurd (none refl)
 not_absent role none = refl
-
-pub granted_present : (role : Role) → is_granted role ≡ true → is_absent role ≡ false
-granted_present roles.Absent granted = absurd (cc)
-granted_present role granted = refl
 
 module _ (v : View) (row : Row) (master : ℕ) (sound : SoundView v) (may : MayRelease v row master) where
   abbrev gone : Range
@@ -45,16 +35,11 @@ module _ (v : View) (row : Row) (master : ℕ) (sound : SoundView v) (may : MayR
 
   -- a tablet that the master has beside this one, and that it is not absent from, has none of the range
   apart : (number : ℕ) → (number ≡ row.tablet → ⊥) → is_absent (v.handovers master number).role ≡ false → meets gone (v.handovers master number).range ≡ false
-  apart number other there =
-      sound.terms.apart master row.tablet number (λ same. other (sym same)) (ap is_absent may.frozen) there
+  apart number other there = grind (arith, is_absent)
 
   -- a row's range is kept by its members, and has none of what is dropped where the row is another one
   outside : (x : Row) → Contains v.rows x → (q : ℕ) → q ≡ master → (x.tablet ≡ row.tablet → ⊥) → is_absent (v.handovers q x.tablet).role ≡ false → is_member (lineage_of x.phase) q ≡ true → meets gone x.range ≡ false
-  outside x has q at other there member =
-      let kept : (v.handovers q x.tablet).range ≡ x.range =
-      (row_in v sound x has).ranged q (inl (ap v.live at ∙ may.lives)) member in
-      ap (meets gone) (sym kept) ∙ ap (λ (n : ℕ). meets gone (v.handovers n x.tablet).range) at
-      ∙ apart x.tablet other (ap (λ (n : ℕ). is_absent (v.handovers n x.tablet).role) (sym at) ∙ there)
+  outside x has q at other there member = grind (arith, row_in, meets, apart, is_absent)
 
   -- the role and the term of the master fit each row
   fits : (x : Row) → Contains v.rows x → (q : ℕ) → q ≡ master → RoleFits x q (v.handovers q x.tablet) (v.written q).applied
@@ -93,7 +78,7 @@ module _ (v : View) (row : Row) (master : ℕ) (sound : SoundView v) (may : MayR
   -- where the master was granted a tablet, it is another one
   target_apart : (x : Row) → Contains v.rows x → (source target : Member) → lineage_of x.phase ≡ source ∷ target ∷ [] → target.master ≡ master → is_granted (v.handovers target.master x.tablet).role ≡ true → meets gone x.range ≡ false
   target_apart x has source target two at granted =
-      grind (arith, false≢true, is_granted, is_member, lineage_of, or_right, or_left, eq-eqb, outside, granted_present)
+      grind (arith, false≢true, is_granted, is_member, lineage_of, or_right, or_left, eq-eqb, outside)
 
   -- ---- masters that rebuild
 

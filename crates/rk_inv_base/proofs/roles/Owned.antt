@@ -1,34 +1,14 @@
 -- A lane stays sound when the owner of a row, or one that owned it at the term that it keeps, serves once its closing entry is applied.
-use Rattle.rk_inv_base.proofs.Words.{◌≡◌, ℕ, true, false, [], Some, refl, sym, ap, ◌∙◌, subst, arith, lt-ltb, false≢true, get}
-use Rattle.rk_inv_base.proofs.Words.{Handover, Role, Row, no_gather, is_absent, Pulling, pulling_from, without_merged, World, tablet_in}
-use Rattle.rk_inv_base.proofs.Words.{is_wanting, IsOwner, MayTakeRole, Post, post_of, bond_of, Holds}
-use Rattle.rk_inv_base.proofs.Words.{speaks, is_granted, role_taken, View, view, IsSound, SoundView, IsClosed, MayOwn, as_serving, pulled}
-use Rattle.rk_inv_base.proofs.Words.{tablet_owned_in}
+use Rattle.rk_inv_base.proofs.Words.{◌≡◌, ℕ, true, false, [], refl, sym, ap, ◌∙◌, subst, arith, lt-ltb, false≢true, get, Handover, Role}
+use Rattle.rk_inv_base.proofs.Words.{Row, no_gather, Pulling, pulling_from, without_merged, World, tablet_in, MayTakeRole, post_of, speaks}
+use Rattle.rk_inv_base.proofs.Words.{is_granted, role_taken, View, view, IsSound, SoundView, MayOwn, as_serving, pulled, tablet_owned_in}
 use Rattle.rk_transfer.specs.declared.role.Role.TheVariants as roles
 use Rattle.rk_inv_base.proofs.Base.{put2_by, put2_here, put2_same, IsTargetIn, view_role_taken, view_kept, row_in, at_most}
 use Rattle.rk_inv_base.proofs.views.WithRecords.{view_with_pullings}
 
 -- ---- roles whose closing entry is applied
 
-pub closed_present : (role : Role) (applied : ℕ) → IsClosed role applied → is_absent role ≡ false
-closed_present (roles.Joining (Some entry)) applied closed = refl
-closed_present (roles.Rebuilding from (Some entry)) applied closed = refl
-closed_present _ applied closed = absurd closed
-
-pub closed_wants : (role : Role) (applied : ℕ) → IsClosed role applied → is_wanting role ≡ false
-closed_wants (roles.Joining (Some entry)) applied closed = refl
-closed_wants (roles.Rebuilding from (Some entry)) applied closed = refl
-closed_wants _ applied closed = absurd closed
-
 -- ---- posts of those who own a tablet, or owned it
-
--- such a post takes a role that serves at the terms at which it takes a closed one
-pub fits_serving : (post : Post) (role : Role) (term own applied : ℕ) → IsOwner post own term → IsClosed role applied → Holds (bond_of post role) term own applied → Holds (bond_of post roles.Serving) term own applied
-fits_serving post role term own applied owner closed holds = grind arith
-
--- what has a closed role speaks for such a post already
-pub speaks_closed : (post : Post) (role : Role) (old : Handover) (term applied : ℕ) → old.role ≡ role → IsOwner post old.term term → IsClosed role applied → speaks post old term ≡ true
-speaks_closed post role old term applied is owner closed = grind (arith, speaks, lt-ltb)
 
 -- ---- the role
 
@@ -40,7 +20,7 @@ module _ (v : View) (row : Row) (master : ℕ) (sound : SoundView v) (may : MayO
   applied = (v.written master).applied
 
   pub serves : MayTakeRole v row master (as_serving old)
-  serves = grind (arith, at_most, closed_present, closed_wants, fits_serving, post_of, row_in, speaks, speaks_closed)
+  serves = grind (arith, at_most, post_of, row_in, speaks, lt-ltb)
 
 -- ---- what was pulled
 

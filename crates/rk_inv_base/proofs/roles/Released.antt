@@ -6,8 +6,8 @@ use Rattle.rk_inv_base.proofs.Words.{MayRelease, MayTakeRole, Post, InvitedTarge
 use Rattle.rk_inv_base.proofs.Words.{post_of, bond_of, Holds, speaks, role_taken, View, view, IsSound, SoundView, tablet_released}
 use Rattle.rk_inv_base.proofs.Words.{as_released, items_dropped, tablet_released_in}
 use Rattle.rk_transfer.specs.declared.role.Role.TheVariants as roles
-use Rattle.rk_inv_base.proofs.Base.{tablet_apart, tablet_here, put_same, put2_same, view_role_taken, view_master, row_in, is_inside}
-use Rattle.rk_inv_base.proofs.Base.{inside_heir, inside_member, at_most}
+use Rattle.rk_inv_base.proofs.Base.{tablet_apart, tablet_here, put_same, put2_same, view_role_taken, view_master, row_in, inside_heir}
+use Rattle.rk_inv_base.proofs.Base.{inside_member, at_most}
 use Rattle.rk_inv_base.proofs.roles.ItemsDropped.{view_dropped}
 
 -- ---- posts of masters that are not of the lineage
@@ -20,27 +20,13 @@ IsOutside OutsideRebuilder = ⊤
 IsOutside Bystander = ⊤
 IsOutside _ = ⊥
 
-pub not_inside : (post : Post) → (is_inside post ≡ true → ⊥) → IsOutside post
-not_inside post outside = grind arith
-
 -- one that rebuilds it from without is none
 pub heir_outside : (lineage : List Member) (master : ℕ) → is_member lineage master ≡ false → IsOutside (rebuilder_post lineage master)
-heir_outside lineage master outside =
-    not_inside (rebuilder_post lineage master) (λ is. false≢true (sym outside ∙ inside_heir lineage master is))
+heir_outside lineage master outside = grind (arith, rebuilder_post, false≢true, inside_heir)
 
 -- each master that is not of the lineage has such a post
 pub outside_post : (phase : Phase) (master : ℕ) → is_member (lineage_of phase) master ≡ false → IsOutside (post_of phase master)
-outside_post phase master outside =
-    not_inside (post_of phase master)
-    (λ is. false≢true (sym outside ∙ inside_member phase master is))
-
--- such a post takes an absent role at the terms of a frozen one
-pub fits_absent : (post : Post) (term own applied : ℕ) → IsOutside post → Holds (bond_of post roles.Frozen) term own applied → Holds (bond_of post roles.Absent) term own applied
-fits_absent post term own applied outside holds = grind arith
-
--- and speaks for nothing in it
-pub absent_speaks : (post : Post) (old : Handover) (term : ℕ) → IsOutside post → speaks post (as_released old) term ≡ true → ⊥
-absent_speaks post old term outside says = grind (arith, false≢true)
+outside_post phase master outside = grind (arith, post_of, false≢true, inside_member)
 
 -- ---- a frozen tablet is given up
 
@@ -51,20 +37,15 @@ module _ (v : View) (row : Row) (master : ℕ) (sound : SoundView v) (may : MayR
   abbrev applied : ℕ
   applied = (v.written master).applied
 
-  post_outside : IsOutside (post_of row.phase master)
-  post_outside = outside_post row.phase master may.outside
-
   fits : Holds (bond_of (post_of row.phase master) roles.Frozen) row.term old.term applied
-  fits =
-      subst (λ (role : Role). Holds (bond_of (post_of row.phase master) role) row.term old.term applied) may.frozen
-      ((row_in v sound row may.has_row).fitting master (inl may.lives))
+  fits = grind (arith, bond_of, post_of, row_in)
 
   settled : list_any (touches row.range) (drop applied (v.written master).entries) ≡ false
   settled =
       (row_in v sound row may.has_row).idle master (inl may.lives) (ap is_idle may.frozen)
 
   takes_role : MayTakeRole (items_dropped v master old.range) row master (as_released old)
-  takes_role = grind (arith, at_most, is_wanting, fits, fits_absent, post_of, post_outside, speaks, absent_speaks, settled)
+  takes_role = grind (arith, at_most, is_wanting, fits, post_of, speaks, settled, outside_post, false≢true)
 
   pub view_given_up : SoundView (role_taken (items_dropped v master old.range) master row.tablet (as_released old) no_gather [])
   view_given_up =

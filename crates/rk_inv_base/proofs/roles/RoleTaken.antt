@@ -6,12 +6,11 @@ use Rattle.rk_inv_base.proofs.Words.{ByMaster, IfMaster, cases_eq, and_left, or_
 use Rattle.rk_inv_base.proofs.Words.{meets, Ended, Member, Node, Range, Completions, ends_of, Handover, lineage_of, row_of, Phase, Opening}
 use Rattle.rk_inv_base.proofs.Words.{Moving, Rebuilding, Row, Tenure, Transfer, Body, Got, Pulled, Rebuilt, Gather, is_member, second_of}
 use Rattle.rk_inv_base.proofs.Words.{touches, is_absent, is_idle, may_have_staged, IsKnown, IsStagedEnd, ReachAll, IsWithinRows, handed_by}
-use Rattle.rk_inv_base.proofs.Words.{handed_for_grant, is_waiting, is_waiting_at, is_wanting, second_has, AskAgrees, CloseFits, GotAgrees}
-use Rattle.rk_inv_base.proofs.Words.{GrantAgrees, IsOf, IsOfTarget, JoinedIn, OwnFits, PrepareFits, PulledAgrees, ReadyIn}
-use Rattle.rk_inv_base.proofs.Words.{RebuildFits, RebuiltIn, ReleaseFits, TransferIn, MayTakeRole, post_of, bond_of, Holds, speaks}
-use Rattle.rk_inv_base.proofs.Words.{StillCounts, MarkFits, HandedFits, MembersFit, is_granted, KeepTerm, RoleFits, role_taken}
-use Rattle.rk_inv_base.proofs.Words.{HasItems, has_all_items, HandoverFits, View, truths, rests, CoverOf, SoundView, Message, has_merged}
-use Rattle.rk_inv_base.proofs.Words.{MayRise}
+use Rattle.rk_inv_base.proofs.Words.{handed_for_grant, is_waiting, is_wanting, second_has, AskAgrees, CloseFits, GotAgrees, GrantAgrees}
+use Rattle.rk_inv_base.proofs.Words.{IsOfTarget, JoinedIn, OwnFits, PrepareFits, PulledAgrees, ReadyIn, RebuildFits, RebuiltIn, ReleaseFits}
+use Rattle.rk_inv_base.proofs.Words.{TransferIn, MayTakeRole, post_of, bond_of, speaks, StillCounts, MarkFits, HandedFits, MembersFit}
+use Rattle.rk_inv_base.proofs.Words.{is_granted, KeepTerm, RoleFits, role_taken, HasItems, has_all_items, HandoverFits, View, truths, rests}
+use Rattle.rk_inv_base.proofs.Words.{CoverOf, SoundView, Message, has_merged, MayRise}
 use Rattle.rk_message.specs.declared.message.Body.TheVariants as bodies
 use Rattle.rk_inv_base.proofs.views.ByRows.{row_in, IsNextOf, SaysIn, SoundBeside, SoundRow, view_by_rows, waits_for, staged_as}
 use Rattle.rk_inv_base.proofs.views.ByRows.{IsRebuiltIn}
@@ -20,14 +19,12 @@ use Rattle.rk_inv_base.proofs.views.Put.{put2_by, put2_here, put2_other}
 use Rattle.rk_inv_base.proofs.rows.Apart.{same_number, one_met}
 use Rattle.rk_inv_base.proofs.rows.TurnedRows.{stands_found}
 use Rattle.rk_inv_base.proofs.views.Cover.{covered_by}
-use Rattle.rk_inv_base.proofs.wire.Messages.{by_master, if_master, close_rises, grant_rises, own_rises, prepare_rises, rebuild_rises}
-use Rattle.rk_inv_base.proofs.wire.Messages.{release_rises}
+use Rattle.rk_inv_base.proofs.wire.Messages.{by_master, if_master, close_rises, grant_rises, prepare_rises, rebuild_rises, release_rises}
 use Rattle.rk_inv_base.proofs.views.Places.{behind_any}
 use Rattle.rk_inv_base.proofs.calls.Receives.{IsBareOf, IsTargetIn}
 use Rattle.rk_inv_base.proofs.calls.Rebuilds.{IsRebuilderIn}
 use Rattle.rk_inv_base.proofs.calls.Rest.{own_touches}
-use Rattle.rk_inv_base.proofs.roles.Steady.{all_items_before, idle_or_staged, moving_steady, rebuilding_behind, steady_granted}
-use Rattle.rk_inv_base.proofs.roles.Steady.{steady_place, steady_wants}
+use Rattle.rk_inv_base.proofs.roles.Steady.{all_items_before, idle_or_staged, rebuilding_behind, steady_granted, steady_place}
 use Rattle.rk_inv_base.proofs.views.Lists.{all_in}
 
 -- rows of other numbers do not meet
@@ -67,7 +64,7 @@ module _ (v : View) (row : Row) (master : ℕ) (new : Handover) (gather : Gather
   was = row_in v sound row may.has_row
 
   wants : is_wanting new.role ≡ false
-  wants = steady_wants new.role may.steady
+  wants = grind arith
 
   -- a tablet at the row's term stays there
   at_term : old.term ≡ row.term → new.term ≡ row.term
@@ -75,9 +72,7 @@ module _ (v : View) (row : Row) (master : ℕ) (new : Handover) (gather : Gather
 
   -- no row is rebuilt by the master at its term
   pub behind : (lineage : List Member) → row.phase ≡ Rebuilding lineage master → new.term < row.term
-  behind lineage is =
-      rebuilding_behind lineage master new.role row.term new.term (v.written master).applied may.steady
-      (subst (λ (phase : Phase). Holds (bond_of (post_of phase master) new.role) row.term new.term (v.written master).applied) is may.fits)
+  behind lineage is = grind (arith, rebuilding_behind, bond_of, post_of)
 
   range_same : (q r : ℕ) → (now.handovers q r).range ≡ (v.handovers q r).range
   range_same q r = by (λ q r h. h.range ≡ (v.handovers q r).range) q r (λ was. may.range_is) refl
@@ -88,13 +83,7 @@ module _ (v : View) (row : Row) (master : ℕ) (new : Handover) (gather : Gather
 
   -- where the row has two members, each master keeps its term
   term_of_two : (source target : Member) → lineage_of row.phase ≡ source ∷ target ∷ [] → (q : ℕ) → (now.handovers q row.tablet).term ≡ (v.handovers q row.tablet).term
-  term_of_two source target is q =
-      at (λ q h. h.term ≡ (v.handovers q row.tablet).term) q
-      (λ same.
-      ⊎_elim (λ (same : new.term ≡ old.term). same)
-      (λ (rise : MayRise row master new).
-      let alone : rise.only ∷ [] ≡ source ∷ target ∷ [] = sym rise.lineage_is ∙ is in absurd (cc alone))
-      may.term_is) refl
+  term_of_two source target is q = grind (arith, at)
 
   -- each master has of another tablet what it had
   seen_apart : (q r : ℕ) → (q ≡ master → r ≡ row.tablet → ⊥) → seen_at v r q ≡ seen_at now r q
@@ -158,15 +147,11 @@ module _ (v : View) (row : Row) (master : ℕ) (new : Handover) (gather : Gather
   waits_same (Some member) =
       at (λ q h. is_wanting h.role ≡ is_wanting (v.handovers q row.tablet).role) member.master (λ was. wants ∙ sym may.waited) refl
 
-  waits_at_same : (term : ℕ) (member : Option Member) → is_waiting_at (second_has now.handovers row member) term ≡ is_waiting_at (second_has v.handovers row member) term
-  waits_at_same term None = refl
-  waits_at_same term (Some member) = wants_at_same term member.master row.tablet
-
   for_grant_same : handed_for_grant row now.handovers v.handed ≡ handed_for_grant row v.handovers v.handed
   for_grant_same = ap (λ (b : Bool). cond b (get v.handed row.tablet) None) (waits_same (second_of (lineage_of row.phase)))
 
   by_message_same : (body : Body) → handed_by row now.handovers body ≡ handed_by row v.handovers body
-  by_message_same body = grind (arith, eqb, waits_at_same, second_of, lineage_of)
+  by_message_same body = grind (arith, eqb, second_of, lineage_of, wants_at_same)
 
   -- an end that the master keeps is known as before
   end_known : (q r : ℕ) (end : Ended) → IsKnown v.base v.journal end ⊎ IsStagedEnd v.rows (rests v) q r (v.handovers q r).term end → IsKnown v.base v.journal end ⊎ IsStagedEnd v.rows (rests v) q r (now.handovers q r).term end
@@ -205,10 +190,7 @@ module _ (v : View) (row : Row) (master : ℕ) (new : Handover) (gather : Gather
 
   -- what a source told is what it keeps
   told : (lineage : List Member) → lineage_of row.phase ≡ lineage → HandedFits row v.handovers v.completions v.handed lineage → HandedFits row now.handovers v.completions v.handed lineage
-  told (source ∷ target ∷ []) is fit = λ term.
-      fit (sym (term_of_two source target is target.master) ∙ term ∙ term_of_two source target is source.master)
-      ∙ sym (ap (λ (n : ℕ). Some (record { floor = n; ends = ends_of (v.completions source.master row.tablet) }))
-      (by (λ q r h. h.counter ≡ (v.handovers q r).counter) source.master row.tablet (λ was. may.counter_is) refl))
+  told (source ∷ target ∷ []) is fit = grind (arith, term_of_two, ends_of, by, was, target.master, source.master)
   told _ is fit = fit
 
   -- the master does not rebuild the row
@@ -236,32 +218,23 @@ module _ (v : View) (row : Row) (master : ℕ) (new : Handover) (gather : Gather
   -- ---- messages
 
   own_on : (live : Bool) (tenure : Tenure) → OwnFits row old live master tenure → OwnFits row new live master tenure
-  own_on live tenure = grind (arith, own_rises, at, post_of)
+  own_on live tenure = grind (arith, at, post_of)
 
   -- no report of the old role counts now
   ready_on : (phase : Phase) (place : ℕ) → ReadyIn phase old row.term master place → ReadyIn phase new row.term master place
-  ready_on (Opening source sfrom target None) place says =
-      absurd (false≢true (sym may.waited ∙ ap is_wanting says.1))
-  ready_on _ place says = tt
+  ready_on phase place says = grind (arith, false≢true, is_wanting)
 
   transfer_on : (phase : Phase) → row.phase ≡ phase → (completions : Completions) (transfer : Transfer) → TransferIn phase old completions row.term master transfer → TransferIn phase new completions row.term master transfer
   transfer_on phase is completions transfer says = grind (arith, is_member, lineage_of, false≢true, or_left, eq-eqb)
 
   joined_on : (phase : Phase) → row.phase ≡ phase → (applied : ℕ) → JoinedIn phase old applied row.term master → JoinedIn phase new applied row.term master
-  joined_on phase is applied says = grind (arith, row_in, moving_steady, bond_of, post_of)
+  joined_on phase is applied says = grind (arith, row_in, bond_of, post_of, eqb, eq-eqb)
 
   abbrev TellsRebuilt : Phase → ℕ → Rebuilt → SeenTablet → Type 0
   TellsRebuilt phase q rebuilt t = RebuiltIn phase t.handover t.merged (v.written q).applied row.term q rebuilt
 
   rebuilt_on : (phase : Phase) → row.phase ≡ phase → (q : ℕ) (rebuilt : Rebuilt) → TellsRebuilt phase q rebuilt (seen_at v row.tablet q) → TellsRebuilt phase q rebuilt (seen_at now row.tablet q)
-  rebuilt_on (Rebuilding lineage to) is q rebuilt says =
-      ⊎_elim
-      (λ (is_own : q ≡ master).
-      absurd (not_by_master lineage q is_own (is ∙ ap (λ (n : ℕ). Rebuilding lineage n) says.0)
-      (at (λ q h. h.term ≡ row.term) q at_term says.1)))
-      (λ (other : q ≡ master → ⊥). subst (TellsRebuilt (Rebuilding lineage to) q rebuilt) (other_has q other) says)
-      (cases_eq q master)
-  rebuilt_on _ is q rebuilt says = says
+  rebuilt_on phase is q rebuilt says = grind (arith, not_by_master, at, at_term, other_has, cases_eq)
 
   -- between two members all terms are as before
   of_target : (source target : Member) → lineage_of row.phase ≡ source ∷ target ∷ [] → (q : ℕ) (tenure : Tenure) → IsOfTarget row (now.handovers q row.tablet) tenure → IsOfTarget row (v.handovers q row.tablet) tenure
@@ -291,15 +264,11 @@ module _ (v : View) (row : Row) (master : ℕ) (new : Handover) (gather : Gather
   says_on from to (bodies.Prepare prepare) =
       to_on to (λ q h. PrepareFits row h (v.live q) q prepare)
       (prepare_rises row old new (v.live master) master may.grows prepare)
-  says_on from to (bodies.Ready ready) =
-      from_on from (λ q h. IsOf row ready.tenure → ReadyIn row.phase h row.term q ready.place)
-      (λ told is. ready_on row.phase ready.place (told is))
+  says_on from to (bodies.Ready ready) = grind (arith, from_on, told, ready_on, ready.tenure, ready.place)
   says_on from to (bodies.Close tenure) =
       to_on to (λ q h. CloseFits row h (v.live q) q tenure)
       (close_rises row old new (v.live master) master may.grows tenure)
-  says_on from to (bodies.Transfer transfer) =
-      from_on from (λ q h. IsOf row transfer.tenure → TransferIn row.phase h (v.completions q row.tablet) row.term q transfer)
-      (λ told is. transfer_on row.phase refl (v.completions master row.tablet) transfer (told is))
+  says_on from to (bodies.Transfer transfer) = grind (arith, from_on, told, transfer_on, transfer.tenure)
   says_on from to (bodies.Grant grant) = λ says. (
     says.0,
     to_on to (λ q h. GrantAgrees row h (v.live q) (get v.handed row.tablet) q grant)
@@ -307,15 +276,10 @@ module _ (v : View) (row : Row) (master : ℕ) (new : Handover) (gather : Gather
         (λ waits. absurd (both_ways (is_wanting new.role) wants waits))) says.1,
   )
   says_on from to (bodies.Pull pull) = λ says. (says.0, by_master from _ _ (λ q. ask_on (lineage_of row.phase) refl q to pull.tenure) says.1)
-  says_on from to (bodies.Pulled pulled) = λ says. (
-    says.0,
-    if_master to _ _ (λ q. pulled_on (lineage_of row.phase) refl from q pulled) says.1,
-  )
+  says_on from to (bodies.Pulled pulled) = grind (arith, if_master, pulled_on, lineage_of)
   says_on from to (bodies.Want want) = λ says. (says.0, by_master from _ _ (λ q. ask_on (lineage_of row.phase) refl q to want.tenure) says.1)
   says_on from to (bodies.Got got) = λ says. (says.0, if_master to _ _ (λ q. got_on (lineage_of row.phase) refl from q got) says.1)
-  says_on from to (bodies.Joined tenure) =
-      from_on from (λ q h. IsOf row tenure → JoinedIn row.phase h (v.written q).applied row.term q)
-      (λ told is. joined_on row.phase refl (v.written master).applied (told is))
+  says_on from to (bodies.Joined tenure) = grind (arith, from_on, told, joined_on)
   says_on from to (bodies.Own tenure) = to_on to (λ q h. OwnFits row h (v.live q) q tenure) (own_on (v.live master) tenure)
   says_on from to (bodies.Release tenure) =
       to_on to (λ q h. ReleaseFits row h (v.live q) q tenure)
@@ -323,10 +287,7 @@ module _ (v : View) (row : Row) (master : ℕ) (new : Handover) (gather : Gather
   says_on from to (bodies.Rebuild rebuild) =
       to_on to (λ q h. RebuildFits row h (v.live q) q rebuild)
       (rebuild_rises row old new (v.live master) master may.grows rebuild)
-  says_on from to (bodies.Rebuilt rebuilt) =
-      by_master from (λ q. IsOf row rebuilt.tenure → TellsRebuilt row.phase q rebuilt (seen_at v row.tablet q))
-      (λ q. IsOf row rebuilt.tenure → TellsRebuilt row.phase q rebuilt (seen_at now row.tablet q))
-      (λ q told is. rebuilt_on row.phase refl q rebuilt (told is))
+  says_on from to (bodies.Rebuilt rebuilt) = grind (arith, by_master, seen_at, told, rebuilt_on, rebuilt.tenure)
   says_on from to _ = λ says. says
 
   -- ---- the whole

@@ -1,7 +1,6 @@
 -- Laws of the part Roles: what tablets that look the same keep of it.
-use Rattle.rk_inv_base.proofs.Words.{arith}
-use Rattle.rk_inv_base.proofs.Words.{Some, ◌∙◌, ◌≡◌, ℕ, Bool, List, slice_index_or, Handover, Phase, Opening, Moving, Row, Written}
-use Rattle.rk_inv_base.proofs.Words.{post_of, RoleFits, KeepTerm, Roles}
+use Rattle.rk_inv_base.proofs.Words.{arith, ◌≡◌, ℕ, Bool, List, slice_index_or, Handover, Phase, Row, Written, post_of, RoleFits, KeepTerm}
+use Rattle.rk_inv_base.proofs.Words.{Roles}
 use Rattle.rk_inv_base.proofs.Base.{still_counts, LooksAs}
 
 -- a tablet that looks as before fits its master's post as before
@@ -11,9 +10,7 @@ role_looks row master old new applied applied' looks same fits =
 
 -- who hands a tablet over and who takes it keep the row's term as before
 pub terms_look : (phase : Phase) (terms terms' : ℕ → ℕ) (term : ℕ) → ((q : ℕ) → terms' q ≡ terms q) → KeepTerm phase terms term → KeepTerm phase terms' term
-terms_look (Opening source sfrom target (Some dfrom)) terms terms' term same at = same target ∙ at
-terms_look (Moving source sfrom target dfrom) terms terms' term same at = (same source ∙ at.0, same target ∙ at.1)
-terms_look _ terms terms' term same at = tt
+terms_look phase terms terms' term same at = grind arith
 
 module _ (rows : List Row) (handovers handovers' : ℕ → ℕ → Handover) (written written' : ℕ → Written) (live : ℕ → Bool) where
   -- each tablet looks as before, and as much is applied

@@ -1,13 +1,12 @@
 -- Rows of a tablet map with one more in its place.
-use Rattle.rk_inv_base.proofs.Words.{◌≡◌, ℕ, Bool, true, false, cond, ◌||◌, ◌&&◌, List, [], ◌∷◌, eqb, leb, refl, sym, ap, subst, ◌∙◌}
-use Rattle.rk_inv_base.proofs.Words.{⊎_elim, arith, ◌⊎◌, inl, inr, is_some, nat_le, All, Contains, nat_tests, list_any, has, meets, Range}
+use Rattle.rk_inv_base.proofs.Words.{◌≡◌, ℕ, Bool, true, false, cond, ◌||◌, ◌&&◌, List, [], ◌∷◌, eqb, leb, refl, sym, subst, ◌∙◌, ⊎_elim}
+use Rattle.rk_inv_base.proofs.Words.{arith, ◌⊎◌, inl, inr, is_some, nat_le, All, Contains, nat_tests, list_any, has, meets, Range}
 use Rattle.rk_inv_base.proofs.Words.{is_covered, placed, row_of, Row, behind_stands, or_right, Any-from_list_any, meets_any}
 use Rattle.rk_inv_base.proofs.Base.{contains_cases, all_by, none_pass, found_any}
 
 -- what stands then is the new one, or stood before
 pub stood_placed : (row x : Row) (rows : List Row) → Contains (placed row rows) x → (x ≡ row) ⊎ Contains rows x
-stood_placed row x [] stands =
-    ⊎_elim (λ (is : row ≡ x). inl (sym is)) (λ (behind : Contains [] x). inr behind) (contains_cases row [] x stands)
+stood_placed row x [] stands = grind (arith, contains_cases)
 stood_placed row x (first ∷ rest) stands = go (nat_le row.tablet first.tablet) (stood_placed row x rest) stands
   where
     go : (b : Bool) → (Contains (placed row rest) x → (x ≡ row) ⊎ Contains rest x) → Contains (cond b (row ∷ first ∷ rest) (first ∷ placed row rest)) x → (x ≡ row) ⊎ Contains (first ∷ rest) x
@@ -51,18 +50,12 @@ all_with P row rows here others =
 
 -- tests that are joined by "or" can be turned
 pub or_turned : (a b c : Bool) → (a || (b || c)) ≡ (b || (a || c))
-or_turned true true c = refl
-or_turned true false c = refl
-or_turned false b c = refl
+or_turned a b c = grind arith
 
 -- a test that the new one or another passes
 pub any_placed : (test : Row → Bool) (row : Row) (rows : List Row) → list_any test (placed row rows) ≡ (test row || list_any test rows)
 any_placed test row [] = refl
-any_placed test row (first ∷ rest) = go (nat_le row.tablet first.tablet) (any_placed test row rest)
-  where
-    go : (b : Bool) → list_any test (placed row rest) ≡ (test row || list_any test rest) → list_any test (cond b (row ∷ first ∷ rest) (first ∷ placed row rest)) ≡ (test row || (test first || list_any test rest))
-    go true later = refl
-    go false later = ap (λ (b : Bool). test first || b) later ∙ or_turned (test first) (test row) (list_any test rest)
+any_placed test row (first ∷ rest) = grind (arith, nat_le, placed, or_turned, row.tablet, first.tablet, (any_placed test row rest))
 
 -- the numbers that are known then
 pub known_placed : (row : Row) (rows : List Row) (number : ℕ) → is_some (row_of (placed row rows) number) ≡ (eqb row.tablet number || is_some (row_of rows number))

@@ -1,7 +1,6 @@
 -- Where a row is added for a master that served nothing of it, nothing was said of it.
-use Rattle.rk_inv_base.proofs.Words.{◌≡◌, ℕ, true, false, List, [], ◌∷◌, refl, sym, ◌∙◌, ⊎_elim, arith, IfSome, is_some, Contains}
-use Rattle.rk_inv_base.proofs.Words.{false≢true, ⊤, meets, Node, Range, row_of, Row, Tenure, Body, new_row, IfMaster, range_in, tenure_in}
-use Rattle.rk_inv_base.proofs.Words.{View, added}
+use Rattle.rk_inv_base.proofs.Words.{◌≡◌, ℕ, true, false, List, [], ◌∷◌, refl, ⊎_elim, arith, IfSome, is_some, Contains, false≢true, ⊤}
+use Rattle.rk_inv_base.proofs.Words.{meets, Node, Range, row_of, Row, Tenure, Body, new_row, IfMaster, range_in, tenure_in, View, added}
 use Rattle.rk_types.specs.declared.node.Node.TheVariants as nodes
 use Rattle.rk_message.specs.declared.message.Body.TheVariants as bodies
 use Rattle.rk_inv_base.proofs.Base.{SaysIn, by_master}
@@ -17,28 +16,15 @@ module _ (v : View) (tablet : ℕ) (range : Range) (master : ℕ) (unsaid : (ten
 
   -- what is said of another row tells that a report comes from a master
   pub says_new : (from to : Node) (body : Body) → IfSome (tenure_in body) (λ tenure. is_some (row_of v.rows tenure.tablet) ≡ true) → IfSome (range_in body) (λ r. meets range r ≡ false) → ((x : Row) → Contains v.rows x → SaysIn v x from to body) → SaysIn (added v tablet range master) (new_row tablet range master) from to body
-  says_new from to (bodies.Prepare prepare) known away was =
-      if_any to _ (λ q. record {
-        range = λ is. absurd (unsaid prepare.tenure known is.tablet);
-        invited = λ is. absurd (unsaid prepare.tenure known is.tablet);
-        members = λ asks lives inside.
-            absurd (⊎_elim (unsaid prepare.tenure known) (λ (met : meets range prepare.range ≡ true). false≢true (sym away ∙ met)) asks);
-      })
+  says_new from to (bodies.Prepare prepare) known away was = grind (arith, if_any, meets, false≢true, prepare.tenure, prepare.range)
   says_new from to (bodies.Ready ready) known away was =
       let x = some_row v.rows ready.tenure.tablet known in
       by_master from _ _ (λ q said is. absurd (unsaid ready.tenure known is.tablet)) (was x.0 x.1)
-  says_new from to (bodies.Close tenure) known away was =
-      if_any to _ (λ q. record {
-        source = λ is. absurd (unsaid tenure known is.tablet);
-        may_follow = λ is. absurd (unsaid tenure known is);
-      })
+  says_new from to (bodies.Close tenure) known away was = grind (arith, if_any)
   says_new from to (bodies.Transfer transfer) known away was =
       let x = some_row v.rows transfer.tenure.tablet known in
       by_master from _ _ (λ q said is. absurd (unsaid transfer.tenure known is.tablet)) (was x.0 x.1)
-  says_new from to (bodies.Grant grant) known away was = (
-    λ is. absurd (unsaid grant.tenure known is.tablet),
-    if_any to _ (λ q. record { reached = λ is. absurd (unsaid grant.tenure known is); told = λ is. absurd (unsaid grant.tenure known is) }),
-  )
+  says_new from to (bodies.Grant grant) known away was = grind (arith, if_any, grant.tenure)
   says_new from to (bodies.Pull pull) known away was =
       let x = some_row v.rows pull.tenure.tablet known in
       (λ is. absurd (unsaid pull.tenure known is.tablet), by_master from _ (λ q. ⊤) (λ q said. tt) ((was x.0 x.1).1))
@@ -50,20 +36,9 @@ module _ (v : View) (tablet : ℕ) (range : Range) (master : ℕ) (unsaid : (ten
   says_new from to (bodies.Joined tenure) known away was =
       let x = some_row v.rows tenure.tablet known in
       by_master from _ _ (λ q said is. absurd (unsaid tenure known is.tablet)) (was x.0 x.1)
-  says_new from to (bodies.Own tenure) known away was =
-      if_any to _ (λ q. record {
-        owned = λ is. absurd (unsaid tenure known is.tablet);
-        reached = λ is. absurd (unsaid tenure known is);
-        owner = λ is. absurd (unsaid tenure known is);
-      })
-  says_new from to (bodies.Release tenure) known away was =
-      if_any to _ (λ q. record { owned = λ is. absurd (unsaid tenure known is.tablet); outside = λ is. absurd (unsaid tenure known is) })
-  says_new from to (bodies.Rebuild rebuild) known away was =
-      if_any to _ (λ q. record {
-        range = λ is. absurd (unsaid rebuild.tenure known is.tablet);
-        lineage = λ is. absurd (unsaid rebuild.tenure known is.tablet);
-        ordered = λ is. absurd (unsaid rebuild.tenure known is);
-      })
+  says_new from to (bodies.Own tenure) known away was = grind (arith, if_any)
+  says_new from to (bodies.Release tenure) known away was = grind (arith, if_any)
+  says_new from to (bodies.Rebuild rebuild) known away was = grind (arith, if_any, rebuild.tenure)
   says_new from to (bodies.Read read) known away was = λ is. absurd (unsaid read.tenure known is.tablet)
   says_new from to (bodies.Copy copy) known away was = λ is. absurd (unsaid copy.tenure known is.tablet)
   says_new from to (bodies.Rebuilt rebuilt) known away was =

@@ -1,9 +1,8 @@
 -- What is known of a row that is to be turned: what its masters have is at most at its term; and one that is owned, or opens before its
 -- target told a place, asks for no Close and is not rebuilt.
-use Rattle.rk_inv_base.proofs.Words.{◌≡◌, ℕ, ◌≤◌, ◌<◌, Bool, true, eqb, Some, None, refl, ⊎_elim, arith, inl, inr, All}
-use Rattle.rk_inv_base.proofs.Words.{Contains, cond_both, All-contains, ⊤, Phase, Owned, Opening, Rebuilding, Row, IsRebuiltBy}
-use Rattle.rk_inv_base.proofs.Words.{IsClosing, IsOnlyRebuilder, row_at, post_of}
-use Rattle.rk_inv_base.proofs.Words.{StillCounts, MarkFits, HandoverFits, View, SoundView, MayFollowClose}
+use Rattle.rk_inv_base.proofs.Words.{◌≡◌, ℕ, ◌≤◌, ◌<◌, Bool, true, eqb, None, refl, ⊎_elim, arith, inl, inr, All, Contains, cond_both}
+use Rattle.rk_inv_base.proofs.Words.{All-contains, ⊤, Phase, Owned, Opening, Row, IsRebuiltBy, row_at, post_of, StillCounts, MarkFits}
+use Rattle.rk_inv_base.proofs.Words.{HandoverFits, View, SoundView, MayFollowClose}
 use Rattle.rk_inv_base.proofs.views.ByRows.{row_in}
 
 -- what counts at a term counted at one that is not greater, if it is at most that
@@ -23,24 +22,13 @@ IsEarly (Owned owner from) = ⊤
 IsEarly (Opening source sfrom target None) = ⊤
 IsEarly phase = ⊥
 
-pub early_closes : (phase : Phase) (master : ℕ) → IsEarly phase → IsClosing phase master → ⊥
-early_closes (Opening source sfrom target (Some dfrom)) master early closes = early
-early_closes _ master early closes = closes
-
-pub early_rebuilds : (phase : Phase) (master : ℕ) → IsEarly phase → IsOnlyRebuilder (post_of phase master) → ⊥
-early_rebuilds phase master early only = grind (arith, cond_both, eqb)
-
-pub early_rebuilt : (phase : Phase) (master : ℕ) → IsEarly phase → IsRebuiltBy phase master → ⊥
-early_rebuilt (Rebuilding lineage to) master early by = early
-early_rebuilt _ master early by = by
-
 module _ (v : View) (row : Row) (term : ℕ) (phase : Phase) (sound : SoundView v) (has_row : Contains v.rows row) (early : IsEarly row.phase) where
   -- no living master follows a Close
   pub none_closes : (q order : ℕ) → v.live q ≡ true → (v.handovers q row.tablet).term < order → MayFollowClose row q order → MayFollowClose (row_at row term phase) q order
-  none_closes q order lives below follows = grind (arith, early_closes, post_of, early_rebuilds)
+  none_closes q order lives below follows = grind (arith, post_of, cond_both, eqb)
 
   pub none_rebuilds : (q : ℕ) → v.live q ≡ true → IsRebuiltBy row.phase q → ⊥
-  none_rebuilds q lives by = early_rebuilt row.phase q early by
+  none_rebuilds q lives by = grind arith
 
   -- no mark of the tablet stands
   pub none_marked : (q : ℕ) → All (λ mark. mark.tablet ≡ row.tablet → MarkFits (row_at row term phase) q (v.handovers q row.tablet) (v.live q) (v.written q) mark) (v.written q).marks

@@ -1,16 +1,15 @@
 -- A lane stays sound when a crash is noticed: the master is marked as dead, and each row that was its own, or that it was to give or to
 -- take over, or to rebuild, is turned, and is rebuilt at the next term.
-use Rattle.rk_inv_base.proofs.Words.{◌≡◌, ℕ, ◌+◌, ◌≤◌, ◌<◌, Bool, true, false, cond, eqb, not, List, [], ◌∷◌, ◌++◌, map, Option, Some}
-use Rattle.rk_inv_base.proofs.Words.{None, refl, sym, ap, subst, ◌∙◌, ⊎_elim, arith, inl, All, Contains, eq-eqb, eqb-true, ne_eqb, ◌⊎◌}
-use Rattle.rk_inv_base.proofs.Words.{zero, suc, find, unwrap_or, cond-false, cond-true, false≢true, or_cases, or_left, or_right}
-use Rattle.rk_inv_base.proofs.Words.{All-contains, All-from_recursion, All-head, All-map, All-push, All-tail, All-weaker}
-use Rattle.rk_inv_base.proofs.Words.{Contains-append_right, list_any_at, list_any_none, Member, lineage_of, IsTabletMap, Precedes}
-use Rattle.rk_inv_base.proofs.Words.{replaced, Phase, Owned, Opening, Moving, Rebuilding, Row, Coordinator, is_noticed, is_member, names}
-use Rattle.rk_inv_base.proofs.Words.{phase_noticed, row_noticed, IsMaster, World, Mark, IsClosing, IsOnlyRebuilder, IsRebuiltBy}
-use Rattle.rk_inv_base.proofs.Words.{MayTakePost, MayTurn, row_at, post_of, StillCounts, MarkFits, MarkedFit, RowIsRebuilt, View, view}
-use Rattle.rk_inv_base.proofs.Words.{truths, IsSound, SoundView, cond_both, range_with_len, or_parts, Handover, Post}
-use Rattle.rk_inv_base.proofs.Words.{OutsideRebuilder, FormerMember, Bystander, rebuilder_post, bond_of, Holds}
-use Rattle.rk_inv_base.proofs.Words.{closing, lowest_left, next_rebuilder, MayFollowClose, MayNotice, OpensOn, crash_noticed_in}
+use Rattle.rk_inv_base.proofs.Words.{◌≡◌, ℕ, ◌+◌, ◌≤◌, ◌<◌, Bool, true, false, cond, eqb, not, List, [], ◌∷◌, ◌++◌, map, Option, Some, None}
+use Rattle.rk_inv_base.proofs.Words.{refl, sym, ap, subst, ◌∙◌, ⊎_elim, arith, inl, All, Contains, eq-eqb, eqb-true, ne_eqb, ◌⊎◌, zero, suc}
+use Rattle.rk_inv_base.proofs.Words.{find, unwrap_or, cond-false, cond-true, false≢true, or_cases, or_left, or_right, All-contains}
+use Rattle.rk_inv_base.proofs.Words.{All-from_recursion, All-head, All-map, All-push, All-tail, Contains-append_right, list_any_at}
+use Rattle.rk_inv_base.proofs.Words.{list_any_none, Member, lineage_of, IsTabletMap, Precedes, replaced, Phase, Owned, Opening, Moving}
+use Rattle.rk_inv_base.proofs.Words.{Rebuilding, Row, Coordinator, is_noticed, is_member, names, phase_noticed, row_noticed, IsMaster}
+use Rattle.rk_inv_base.proofs.Words.{World, Mark, IsOnlyRebuilder, IsRebuiltBy, MayTakePost, MayTurn, row_at, post_of, StillCounts}
+use Rattle.rk_inv_base.proofs.Words.{MarkFits, MarkedFit, RowIsRebuilt, View, view, truths, IsSound, SoundView, cond_both, range_with_len}
+use Rattle.rk_inv_base.proofs.Words.{or_parts, Handover, Post, OutsideRebuilder, FormerMember, Bystander, rebuilder_post, bond_of, Holds}
+use Rattle.rk_inv_base.proofs.Words.{lowest_left, next_rebuilder, MayFollowClose, MayNotice, OpensOn, crash_noticed_in}
 use Rattle.rk_inv_base.proofs.Base.{at_most, all_by, SoundRow, row_in, IsRebuiltIn, formed_apart}
 use Rattle.rk_inv_base.proofs.logs.MarkedApart.{marked_fit}
 use Rattle.rk_inv_base.proofs.rows.RowTurned.{view_turned}
@@ -64,25 +63,14 @@ module _ (dead to q : ℕ) (apart : q ≡ dead → ⊥) (term : ℕ) (handover :
   noticed_post (Owned master from) passes fits = owned master from passes fits
   noticed_post (Opening source sfrom target dfrom) passes fits = opened source sfrom target dfrom passes fits
   noticed_post (Moving source sfrom target dfrom) passes fits = moved source sfrom target dfrom passes fits
-  noticed_post (Rebuilding lineage was) passes fits =
-      passed_on (rebuilder_post lineage q) (eqb was q) (is_member lineage q) (eqb to q) (ne_eqb was q (λ same. apart (sym same ∙ passes)))
-      (outside_post lineage q) fits
+  noticed_post (Rebuilding lineage was) passes fits = grind (arith, passed_on, rebuilder_post, eqb, is_member, ne_eqb, outside_post)
 
 -- ---- what living masters do
 
 module _ (dead to q : ℕ) (apart : q ≡ dead → ⊥) where
-  -- a living source that was asked to close is to rebuild the tablet
-  pub noticed_closing : (phase : Phase) → PassesTo dead phase to → IsClosing phase q → IsOnlyRebuilder (post_of (rebuilding phase to) q)
-  noticed_closing phase passes closing = grind arith
-
   -- no living master was to rebuild the tablet, which was its own alone
   pub noticed_rebuilder : (phase : Phase) → PassesTo dead phase to → IsOnlyRebuilder (post_of phase q) → ⊥
   noticed_rebuilder phase passes its = grind arith
-
-  -- nor does one rebuild it
-  pub noticed_rebuilt : (phase : Phase) → PassesTo dead phase to → IsRebuiltBy phase q → ⊥
-  noticed_rebuilt (Rebuilding lineage was) passes by = apart (sym by ∙ passes)
-  noticed_rebuilt _ passes by = by
 
 -- ---- the lowest master that was not noticed dead
 
@@ -157,9 +145,7 @@ module _ (v : View) (row : Row) (dead : ℕ) (sound : SoundView v) (crashed : v.
 
   -- only what a living master has counts at the next term
   living : (q : ℕ) → StillCounts (v.live q) (v.handovers q row.tablet).term next → v.live q ≡ true
-  living q counting =
-      ⊎_elim (λ (lives : v.live q ≡ true). lives)
-      (λ (at : (v.handovers q row.tablet).term ≡ next). absurd (omega (arith, at, low q))) counting
+  living q counting = grind (arith, low)
 
   posts : (q : ℕ) → StillCounts (v.live q) (v.handovers q row.tablet).term next → MayTakePost (post_of row.phase q) (post_of new q) row.term next (v.handovers q row.tablet) (v.written q).applied
   posts q counting =
@@ -167,10 +153,10 @@ module _ (v : View) (row : Row) (dead : ℕ) (sound : SoundView v) (crashed : v.
       (its.fitting q (inl (living q counting)))
 
   closes : (q order : ℕ) → v.live q ≡ true → (v.handovers q row.tablet).term < order → MayFollowClose row q order → MayFollowClose (row_at row next new) q order
-  closes q order lives below follows = grind (arith, noticed_closing, apart, post_of, noticed_rebuilder)
+  closes q order lives below follows = grind (arith, apart, post_of, noticed_rebuilder)
 
   given_up : (q : ℕ) → v.live q ≡ true → IsRebuiltBy row.phase q → ⊥
-  given_up q lives = noticed_rebuilt dead to q (apart q lives) row.phase passes
+  given_up q lives = grind (arith, apart)
 
   -- what is marked of the members tells nothing new, by the old phase
   fit_by : (phase : Phase) → row.phase ≡ phase → MarkedFit v.logs v.written v.stored v.live row.range (lineage_of row.phase)
@@ -182,10 +168,7 @@ module _ (v : View) (row : Row) (dead : ℕ) (sound : SoundView v) (crashed : v.
   mark_fits q mark fits = grind (arith, lineage_of, given_up)
 
   marks : (q : ℕ) → All (λ mark. mark.tablet ≡ row.tablet → MarkFits (row_at row next new) q (v.handovers q row.tablet) (v.live q) (v.written q) mark) (v.written q).marks
-  marks q =
-      All-weaker (λ mark. mark.tablet ≡ row.tablet → MarkFits row q (v.handovers q row.tablet) (v.live q) (v.written q) mark)
-      (λ mark. mark.tablet ≡ row.tablet → MarkFits (row_at row next new) q (v.handovers q row.tablet) (v.live q) (v.written q) mark)
-      (λ mark fits its. mark_fits q mark (fits its)) (v.written q).marks (its.marks q)
+  marks q = grind (arith, row_at, its, mark_fits)
 
   pub may_pass : MayTurn v row next new
   may_pass =
@@ -198,8 +181,7 @@ module _ (v : View) (row : Row) (dead : ℕ) (sound : SoundView v) (crashed : v.
 
 -- what is replaced stands in the same place
 pub replaced_there : (before after : List Row) (row new : Row) → IsTabletMap (before ++ row ∷ after) → replaced row.tablet new (before ++ row ∷ after) ≡ before ++ new ∷ after
-replaced_there [] after row new apart =
-    cond-true (eqb row.tablet row.tablet) (new ∷ after) (row ∷ replaced row.tablet new after) (eq-eqb row.tablet row.tablet refl)
+replaced_there [] after row new apart = grind (arith, cond-true, eqb, replaced, eq-eqb, row.tablet)
 replaced_there (first ∷ before) after row new apart =
     let precedes : Precedes first row =
     All-contains (Precedes first) (before ++ row ∷ after) row (All-from_recursion (Precedes first) (before ++ row ∷ after) apart.0)

@@ -1,8 +1,8 @@
 -- A lane stays sound when a row that is owned begins to move to another master that is there, at the next term.
-use Rattle.rk_inv_base.proofs.Words.{◌≡◌, ℕ, ◌+◌, Bool, true, cond, eqb, None, sym, ap, subst, ◌∙◌, ⊎_elim, arith, inl}
-use Rattle.rk_inv_base.proofs.Words.{eqb-true, ◌⊎◌, ◌<◌, or_cases, Role, lineage_of, Phase, Opening, Row, names, IsMaster, World}
-use Rattle.rk_inv_base.proofs.Words.{MayTakePost, MayTurn, Post, Owner, OpeningSource, InvitedTarget, Bystander, post_of, bond_of, Holds}
-use Rattle.rk_inv_base.proofs.Words.{StillCounts, View, view, IsSound, SoundView, MayMigrate, OpensOn, migration_begun_in}
+use Rattle.rk_inv_base.proofs.Words.{◌≡◌, ℕ, ◌+◌, Bool, true, cond, eqb, None, sym, ap, subst, ◌∙◌, ⊎_elim, arith, eqb-true, ◌⊎◌, or_cases}
+use Rattle.rk_inv_base.proofs.Words.{Role, lineage_of, Phase, Opening, Row, names, IsMaster, World, MayTakePost, MayTurn, Post, Owner}
+use Rattle.rk_inv_base.proofs.Words.{OpeningSource, InvitedTarget, Bystander, post_of, bond_of, Holds, StillCounts, View, view, IsSound}
+use Rattle.rk_inv_base.proofs.Words.{SoundView, MayMigrate, migration_begun_in}
 use Rattle.rk_inv_base.proofs.Base.{IsEarly, at_most, counted_before, none_closes, none_marked, none_rebuilds, SoundRow, row_in}
 use Rattle.rk_inv_base.proofs.rows.RowTurned.{view_changed}
 
@@ -11,10 +11,6 @@ use Rattle.rk_inv_base.proofs.rows.RowTurned.{view_changed}
 -- an owner may open the tablet
 pub owner_fits : (role : Role) (place term own applied : ℕ) → Holds (bond_of (Owner place) role) term own applied → Holds (bond_of OpeningSource role) (term + 1) own applied
 owner_fits role place term own applied fits = grind arith
-
--- a master that has nothing to do with it may be invited, or has nothing to do with it still
-pub bystander_invited : (role : Role) (term own applied : ℕ) → Holds (bond_of Bystander role) term own applied → Holds (bond_of InvitedTarget role) (term + 1) own applied
-bystander_invited role term own applied fits = grind arith
 
 pub bystander_stays : (role : Role) (term own applied : ℕ) → Holds (bond_of Bystander role) term own applied → Holds (bond_of Bystander role) (term + 1) own applied
 bystander_stays role term own applied fits = grind arith
@@ -43,30 +39,16 @@ module _ (v : View) (row : Row) (to : ℕ) (sound : SoundView v) (may : MayMigra
 
   posts_by : (q : ℕ) (a b : Bool) → FitsPost q (cond a (Owner may.from) Bystander)
       → TakesPost q (cond a (Owner may.from) Bystander) (cond a OpeningSource (cond b InvitedTarget Bystander))
-  posts_by q a b fits = grind (arith, owner_fits, bystander_invited, bystander_stays)
+  posts_by q a b fits = grind (arith, owner_fits, bystander_stays)
 
   posts : (q : ℕ) → StillCounts (v.live q) (v.handovers q row.tablet).term (row.term + 1) → TakesPost q (post_of row.phase q) (post_of opening q)
-  posts q counting =
-      let fits : FitsPost q (post_of row.phase q) =
-      its.fitting q
-      (counted_before (v.live q) (v.handovers q row.tablet).term row.term (row.term + 1) (at_most v row q sound may.has_row) (omega arith)
-      counting) in
-      rw may.phase_is (posts_by q (eqb may.owner q) (eqb to q) (subst (λ (phase : Phase). FitsPost q (post_of phase q)) may.phase_is fits))
+  posts q counting = grind (arith, post_of, its, counted_before, at_most, posts_by, eqb)
 
   early : IsEarly row.phase
   early = subst IsEarly (sym may.phase_is) tt
 
   pub may_begin : MayTurn v row (row.term + 1) opening
-  may_begin =
-      let term_is : (row.term < row.term + 1) ⊎ ((row.term + 1 ≡ row.term) × OpensOn row.phase opening) = inl (omega arith) in
-      assumption (
-        sym (ap lineage_of may.phase_is),
-        named,
-        posts,
-        none_closes v row (row.term + 1) opening sound may.has_row early,
-        none_rebuilds v row (row.term + 1) opening sound may.has_row early,
-        none_marked v row (row.term + 1) opening sound may.has_row early,
-      )
+  may_begin = grind (arith, lineage_of, named, posts, none_closes, early, none_rebuilds, none_marked)
 
 pub sound_migrated : (w : World) (row : Row) (to : ℕ) → IsSound w → (may : MayMigrate (view w) row to) → IsSound (migration_begun_in w row may.owner may.from to)
 sound_migrated w row to sound may =

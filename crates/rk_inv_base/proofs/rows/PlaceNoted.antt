@@ -1,16 +1,11 @@
 -- A view stays sound when the place of a target is noted, where that waits at it at the row's term.
-use Rattle.rk_inv_base.proofs.Words.{arith}
-use Rattle.rk_inv_base.proofs.Words.{◌≡◌, ℕ, Bool, true, cond, eqb, Some, refl, sym, ap, subst, ◌∙◌, eqb-true}
-use Rattle.rk_inv_base.proofs.Words.{Handover, lineage_of, Phase, Opening, Row, names, IsMaster, World, MayTakePost, MayTurn, Post}
-use Rattle.rk_inv_base.proofs.Words.{InvitedTarget, ReadyTarget, OpeningSource, Bystander, post_of, bond_of, Holds, StillCounts}
-use Rattle.rk_inv_base.proofs.Words.{View, view, IsSound, SoundView, MayNote, place_noted_in}
+use Rattle.rk_inv_base.proofs.Words.{arith, ◌≡◌, ℕ, Bool, true, cond, eqb, Some, refl, sym, ap, subst, ◌∙◌, eqb-true, Handover, lineage_of}
+use Rattle.rk_inv_base.proofs.Words.{Phase, Opening, Row, names, IsMaster, World, MayTakePost, MayTurn, Post, InvitedTarget, ReadyTarget}
+use Rattle.rk_inv_base.proofs.Words.{OpeningSource, Bystander, post_of, bond_of, Holds, StillCounts, View, view, IsSound, SoundView}
+use Rattle.rk_inv_base.proofs.Words.{MayNote, place_noted_in}
 use Rattle.rk_transfer.specs.declared.role.Role.TheVariants as roles
 use Rattle.rk_inv_base.proofs.Base.{IsEarly, none_closes, none_marked, none_rebuilds, SoundRow, row_in}
 use Rattle.rk_inv_base.proofs.rows.RowTurned.{view_changed}
-
--- what a master has fits its post as before, where that is the same
-pub same_post : (post : Post) (term : ℕ) (handover : Handover) (applied : ℕ) → Holds (bond_of post handover.role) term handover.term applied → MayTakePost post post term term handover applied
-same_post post term handover applied fits = assumption
 
 -- a target that waits at its place, at the row's term, is ready
 pub ready_post : (place term : ℕ) (handover : Handover) (applied : ℕ) → handover.role ≡ roles.Wanting place → handover.term ≡ term → MayTakePost InvitedTarget (ReadyTarget place) term term handover applied
@@ -38,13 +33,10 @@ module _ (v : View) (row : Row) (source sfrom target place : ℕ) (sound : Sound
   posts_by : (q : ℕ) (a b : Bool) → eqb target q ≡ b
       → FitsPost q (cond a OpeningSource (cond b InvitedTarget Bystander))
       → TakesPost q (cond a OpeningSource (cond b InvitedTarget Bystander)) (cond a OpeningSource (cond b (ReadyTarget place) Bystander))
-  posts_by q a b is fits = grind (arith, same_post, its, eqb-true, ready_post)
+  posts_by q a b is fits = grind (arith, its, eqb-true, ready_post)
 
   posts : (q : ℕ) → StillCounts (v.live q) (v.handovers q row.tablet).term row.term → TakesPost q (post_of row.phase q) (post_of noted q)
-  posts q counting =
-      let fits : FitsPost q (post_of row.phase q) = its.fitting q counting in
-      subst (λ (phase : Phase). TakesPost q (post_of phase q) (post_of noted q)) (sym may.phase_is)
-      (posts_by q (eqb source q) (eqb target q) refl (subst (λ (phase : Phase). FitsPost q (post_of phase q)) may.phase_is fits))
+  posts q counting = grind (arith, post_of, its, posts_by, eqb)
 
   early : IsEarly row.phase
   early = subst IsEarly (sym may.phase_is) tt

@@ -1,21 +1,20 @@
 -- A lane stays sound when a row is added for a master that serves it at once: nobody speaks of its number or of its range so far.
-use Rattle.rk_inv_base.proofs.Words.{◌≡◌, ℕ, ◌≤◌, ◌<◌, Bool, true, false, cond, ◌&&◌, List, [], ◌∷◌, Option, Some, None, eqb, leb}
-use Rattle.rk_inv_base.proofs.Words.{refl, sym, ap, subst, ◌∙◌, ⊎_elim, arith, ◌⊎◌, inl, inr, IfSome, is_some, drop, All, Contains}
-use Rattle.rk_inv_base.proofs.Words.{flat_map, eq-eqb, eqb-true, ne_eqb, append-nil, length, cases_eq, cases_lt, false≢true, or_left}
-use Rattle.rk_inv_base.proofs.Words.{nat_tests, All-contains, All-nil, All-cons, All-weaker, IfSome_then, hash_of, has, meets, Call, Ended}
-use Rattle.rk_inv_base.proofs.Words.{Held, Waits, Placed, Member, Range, is_at_parts, IsLegal, is_at, live_after, map_after, last_version}
-use Rattle.rk_inv_base.proofs.Words.{never, is_mutation, Entry, ends_of, is_serving, Handover, Role, is_covered, placed, row_of, Owned, Row}
-use Rattle.rk_inv_base.proofs.Words.{newest_none, is_of, Tenure, Body, base_map, new_row, items_of, told, is_member, unmarked_from, of_key}
-use Rattle.rk_inv_base.proofs.Words.{side_entries, IsMaster, has_all, has_key, is_absent, may_have_staged, with_added, World, master_at}
-use Rattle.rk_inv_base.proofs.Words.{tablet_in, with_master, member_truth, applied_entries, Mark, IsKnown, IsReached, IsStagedEnd}
-use Rattle.rk_inv_base.proofs.Words.{is_record_in, AreAboveMap, HasWholeRows, IsEntryWithin, IsItemWithin, IsOfWholeRows, IsWithinRows}
-use Rattle.rk_inv_base.proofs.Words.{HasSome, AreAbove, Bystander, Owner, Post, Holds, bond_of, post_of, speaks, HasOwnRange, MarkFits}
-use Rattle.rk_inv_base.proofs.Words.{IsPlaced, put2, IsTableOf, HandoverFits, SentFits, range_in, tenure_in, View, view, truths, rests}
-use Rattle.rk_inv_base.proofs.Words.{IsSound, SoundView, CoverOf, get, false_from_ne_true, is_of_parts, All-take, or_right, lawful_placed}
-use Rattle.rk_inv_base.proofs.Words.{meets_any, newest_entry, tablet_added, HasSomeIn, MayAdd, added, as_added, true_from_ne_false}
+use Rattle.rk_inv_base.proofs.Words.{◌≡◌, ℕ, ◌≤◌, ◌<◌, Bool, true, false, cond, ◌&&◌, List, [], ◌∷◌, Option, Some, None, eqb, leb, refl}
+use Rattle.rk_inv_base.proofs.Words.{sym, ap, subst, ◌∙◌, ⊎_elim, arith, ◌⊎◌, IfSome, is_some, drop, All, Contains, flat_map, eq-eqb}
+use Rattle.rk_inv_base.proofs.Words.{eqb-true, ne_eqb, append-nil, length, cases_eq, cases_lt, false≢true, or_left, nat_tests, All-contains}
+use Rattle.rk_inv_base.proofs.Words.{All-nil, All-cons, All-weaker, IfSome_then, hash_of, has, meets, Call, Ended, Held, Waits, Placed}
+use Rattle.rk_inv_base.proofs.Words.{Member, Range, is_at_parts, is_at, live_after, map_after, last_version, never, is_mutation, Entry}
+use Rattle.rk_inv_base.proofs.Words.{ends_of, is_serving, Handover, Role, is_covered, placed, row_of, Owned, Row, newest_none, is_of}
+use Rattle.rk_inv_base.proofs.Words.{Tenure, Body, base_map, new_row, items_of, told, is_member, unmarked_from, of_key, side_entries}
+use Rattle.rk_inv_base.proofs.Words.{IsMaster, has_all, has_key, is_absent, may_have_staged, with_added, World, master_at, tablet_in}
+use Rattle.rk_inv_base.proofs.Words.{with_master, member_truth, applied_entries, Mark, IsKnown, IsReached, IsStagedEnd, is_record_in}
+use Rattle.rk_inv_base.proofs.Words.{HasWholeRows, IsEntryWithin, IsItemWithin, IsOfWholeRows, IsWithinRows, HasSome, AreAbove, Bystander}
+use Rattle.rk_inv_base.proofs.Words.{Owner, Post, Holds, bond_of, post_of, speaks, HasOwnRange, MarkFits, IsPlaced, put2, IsTableOf}
+use Rattle.rk_inv_base.proofs.Words.{HandoverFits, SentFits, range_in, tenure_in, View, view, truths, rests, IsSound, SoundView, CoverOf}
+use Rattle.rk_inv_base.proofs.Words.{get, false_from_ne_true, is_of_parts, All-take, or_right, lawful_placed, meets_any, newest_entry}
+use Rattle.rk_inv_base.proofs.Words.{tablet_added, HasSomeIn, MayAdd, added, as_added, true_from_ne_false}
 use Rattle.rk_entry.specs.declared.entry.Entry.TheVariants as entries
 use Rattle.rk_transfer.specs.declared.role.Role.TheVariants as roles
-use Rattle.rk_model.specs.History.{record_of}
 use Rattle.rk_inv_base.proofs.Base.{row_in, IsNextOf, SoundBeside, SoundRow, none_for_owned, view_by_rows, waits_for, staged_as, row_kept}
 use Rattle.rk_inv_base.proofs.Base.{seen_at, covered_by, all_by, none_pass, put2_by, put2_here, put2_other, put2_same, IsBareOf}
 use Rattle.rk_inv_base.proofs.Base.{stands_found, view_kept}
@@ -73,9 +72,7 @@ module _ (v : View) (tablet : ℕ) (range : Range) (master : ℕ) (sound : Sound
   term_none q = sound.cover.unknown q tablet (no_row (row_of v.rows tablet) (λ some. false≢true (sym free.0 ∙ some)))
 
   absent_before : (q : ℕ) → is_absent (v.handovers q tablet).role ≡ true
-  absent_before q =
-      true_from_ne_false (is_absent (v.handovers q tablet).role)
-      (λ is. omega (arith, sound.terms.begun q tablet is, term_none q))
+  absent_before q = grind (arith, true_from_ne_false, is_absent, term_none)
 
   -- ---- ranges
 
@@ -84,11 +81,7 @@ module _ (v : View) (tablet : ℕ) (range : Range) (master : ℕ) (sound : Sound
   no_hash t hash covered inside = false≢true (sym (uncovered v.rows range t hash free.1 covered) ∙ inside)
 
   no_meeting : (other : Range) → HasSome other → IsWithinRows v.rows other → meets other range ≡ false
-  no_meeting other some within =
-      false_from_ne_true (meets other range)
-      (λ met.
-      let both = in_both other.table other.first other.last range.table range.first range.last some may.some met in
-      no_hash other.table both.0 (within both.0 both.1) both.2)
+  no_meeting other some within = grind (arith, false_from_ne_true, meets, in_both, no_hash)
 
   misses : (entry : Entry) → HasSomeIn entry → IsEntryWithin v.rows entry → Misses range entry
   misses entry some within = grind (arith, uncovered, hash_of, free, no_meeting)
@@ -178,21 +171,7 @@ module _ (v : View) (tablet : ℕ) (range : Range) (master : ℕ) (sound : Sound
   beside q n there = kept_apart q n (sound.terms.begun q n there)
 
   ranges_apart : (q a b : ℕ) → (a ≡ b → ⊥) → is_absent (now.handovers q a).role ≡ false → is_absent (now.handovers q b).role ≡ false → meets (now.handovers q a).range (now.handovers q b).range ≡ false
-  ranges_apart q a b unlike first second =
-      by
-      (λ q a h. (a ≡ b → ⊥) → is_absent h.role ≡ false → is_absent (now.handovers q b).role ≡ false
-      → meets h.range (now.handovers q b).range ≡ false)
-      q a
-      (λ unlike first second.
-      let same : now.handovers master b ≡ v.handovers master b = apart master b (λ its. unlike (sym its)) in
-      rw same (meets_turned (v.handovers master b).range range
-      (beside master b (ap (λ (h : Handover). is_absent h.role) (sym same) ∙ second))))
-      (λ unlike first second.
-      by
-      (λ q b h. (a ≡ b → ⊥) → is_absent (v.handovers q a).role ≡ false → is_absent h.role ≡ false
-      → meets (v.handovers q a).range h.range ≡ false)
-      q b (λ unlike first second. beside master a first) (λ unlike first second. sound.terms.apart q a b unlike first second) unlike first second)
-      unlike first second
+  ranges_apart q a b unlike first second = grind (arith, by, is_absent, meets, apart, meets_turned, beside)
 
   sent_new : (body : Body) → IfSome (tenure_in body) (λ tenure. is_some (row_of v.rows tenure.tablet) ≡ true) → IfSome (range_in body) (λ r. meets range r ≡ false) → SentFits row body
   sent_new body known away = grind (arith, tenure_in, unsaid, range_in, false≢true)
@@ -217,9 +196,7 @@ module _ (v : View) (tablet : ℕ) (range : Range) (master : ℕ) (sound : Sound
       (λ x has. All-contains (λ x. meets x.range r ≡ true → has_all r x.range ≡ true) v.rows x wholes has)
 
   entry_whole : (entry : Entry) → Misses range entry → IsOfWholeRows v.rows entry → IsOfWholeRows now.rows entry
-  entry_whole (entries.Carried carried) away wholes = whole carried.range away wholes
-  entry_whole (entries.Joined joined) away wholes = whole joined.range away wholes
-  entry_whole _ away wholes = tt
+  entry_whole entry away wholes = grind (arith, whole)
 
   known_on : (n : ℕ) → is_some (row_of v.rows n) ≡ true → is_some (row_of now.rows n) ≡ true
   known_on n is = known_placed row v.rows n ∙ or_right (eqb tablet n) (is_some (row_of v.rows n)) is
@@ -275,12 +252,7 @@ module _ (v : View) (tablet : ℕ) (range : Range) (master : ℕ) (sound : Sound
       (λ placed stands inside mutation. absurd (no_record placed stands inside))
 
   end_known : (q n : ℕ) (end : Ended) → IsKnown v.base v.journal end ⊎ IsStagedEnd v.rows (rests v) q n (v.handovers q n).term end → IsKnown v.base v.journal end ⊎ IsStagedEnd now.rows (rests v) q n (now.handovers q n).term end
-  end_known q n end =
-      ⊎_elim (λ (knows : IsKnown v.base v.journal end). inl knows)
-      (λ (s : IsStagedEnd v.rows (rests v) q n (v.handovers q n).term end).
-      let same : (now.handovers q n).term ≡ (v.handovers q n).term =
-      ap (λ (h : Handover). h.term) (apart q n (λ is. other s.row s.stands (s.number ∙ is))) in
-      inr (staged_as _ _ _ _ _ _ _ _ _ s (stands_placed row s.row v.rows s.stands) s.told (same ∙ s.at_term)))
+  end_known q n end = grind (arith, rests, apart, other, staged_as, stands_placed, told)
 
   silent : (role : Role) → is_absent role ≡ true → is_serving role ≡ false
   silent roles.Absent is = refl
@@ -295,9 +267,7 @@ module _ (v : View) (tablet : ℕ) (range : Range) (master : ℕ) (sound : Sound
   )
 
   no_mark : (Q : Mark → Type 0) (q : ℕ) → All (λ mark. mark.tablet ≡ tablet → Q mark) (v.written q).marks
-  no_mark Q q =
-      All-weaker (λ mark. is_some (row_of v.rows mark.tablet) ≡ true) (λ mark. mark.tablet ≡ tablet → Q mark)
-      (λ mark knows is. absurd (unknown mark.tablet knows is)) (v.written q).marks (sound.cover.marks q)
+  no_mark Q q = grind (arith, row_of, unknown, cover)
 
   -- ---- the whole
 
@@ -314,9 +284,7 @@ module _ (v : View) (tablet : ℕ) (range : Range) (master : ℕ) (sound : Sound
         (λ away. absent_fits (v.handovers q tablet).role _ (v.written q).applied (term_none q) (absent_before q));
     ranged = λ q counts inside. ranged_new q inside;
     at_term = tt;
-    truth =
-        rw truth_none
-        (record { plain = λ a b first second. absurd (omega (arith, first.1)); live = λ table key inside. sym (ap record_of (untouched table key inside)) });
+    truth = grind (arith, truth_none, untouched);
     above = subst (λ (l : List Entry). AreAbove (items_of (truths v row)) (items_of l)) (sym rest_none) tt;
     reached = none_reached (λ p. IsReached (told (of_key p.call.table p.call.key (truths v row))) p);
     recorded = subst (λ (l : List Entry). All (IsKnown v.base v.journal) (told l)) (sym truth_none) (All-nil (IsKnown v.base v.journal));
@@ -324,23 +292,14 @@ module _ (v : View) (tablet : ℕ) (range : Range) (master : ℕ) (sound : Sound
     answering = λ q counts says. none_reached (IsReached (ends_of (v.completions q tablet)));
     ends_granted = tt;
     ends_sent = λ n m there. rw (none_for_owned tablet 1 range master 0 now.handovers m.body) tt;
-    low =
-        subst (λ (l : List Entry). AreAboveMap range (map_after (base_map v.base) v.journal) l) (sym truth_none)
-        (λ table key inside. let none : last_version (map_after (base_map v.base) v.journal table key) ≡ 0 = ap last_version (untouched table key inside) in omega (arith, none));
+    low = grind (arith, map_after, base_map, truth_none, last_version, untouched, v.base, v.journal);
     low_moving = tt;
     counted = λ q counts.
         by_post (λ q post h. speaks post h 1 ≡ true → IsNextOf v row h.counter) q (λ says. rw (truth_none, rest_none) (omega arith))
         (λ away says. absurd (false≢true (sym (silent (v.handovers q tablet).role (absent_before q)) ∙ says)));
     floor_granted = tt;
     floor_sent = λ n m there. rw (none_for_owned tablet 1 range master 0 now.handovers m.body) tt;
-    goes_on =
-        rw truth_none (rw rest_none (record {
-          legal = subst (IsLegal (base_map v.base)) (sym (append-nil v.journal)) sound.truth.legal;
-          live = λ table key inside.
-              sym (ap (λ (l : List Placed). live_after (base_map v.base) l table key) (append-nil v.journal) ∙ ap record_of (untouched table key inside));
-          staged = All-nil _;
-          one = λ i j d below within. absurd (omega (arith, within));
-        }));
+    goes_on = grind (arith, truth_none, rest_none, base_map, append-nil, live_after, untouched, v.base, v.journal, sound.truth.legal);
     done = tt;
     unnamed = joined_none range (drop _ (v.written master).entries) (drop_missed range _ (v.written master).entries (missed master));
     idle = λ q counts idles.
@@ -360,10 +319,7 @@ module _ (v : View) (tablet : ℕ) (range : Range) (master : ℕ) (sound : Sound
 
   -- a call waits for its row still
   waits : (q n : ℕ) (call : Call) → Waits v.rows (v.handovers q) (v.written q) q n call → Waits now.rows (now.handovers q) (v.written q) q n call
-  waits q n call wait =
-      waits_for v.rows now.rows (v.handovers q) (now.handovers q) (v.written q) q n call wait wait.row
-      (stands_placed row wait.row v.rows wait.has_row) wait.in_row wait.is_last
-      (ap (λ (h : Handover). may_have_staged h.role) (apart q wait.row.tablet (other wait.row wait.has_row)) ∙ wait.may_stage)
+  waits q n call wait = grind (arith, waits_for, stands_placed, may_have_staged, apart, other)
 
   beside_rows : SoundBeside now
   beside_rows =

@@ -1,15 +1,12 @@
 -- A view stays sound when a row is replaced by another one of its number and range, of which all holds that is said of rows, and what is
 -- noted of its tablet may change with it.
-use Rattle.rk_inv_base.proofs.Words.{arith}
-use Rattle.rk_inv_base.proofs.Words.{◌≡◌, ℕ, true, List, [], ◌∷◌, Some, refl, sym, ap, subst, ◌∙◌, ⊎_elim, inl, inr}
-use Rattle.rk_inv_base.proofs.Words.{◌⊎◌, IfSome, is_some, option_map, Contains, flat_map, slice_index_or, All, ◌<◌, length, false}
-use Rattle.rk_inv_base.proofs.Words.{All-weaker, IfSome_then, hash_of, NumberMap, get, meets, Call, Ended, Held, Member, Node, Range, Entry}
-use Rattle.rk_inv_base.proofs.Words.{ends_of, lawful_turned, lineage_of, is_covered, replaced, row_of, Phase, Moving, Row, Body, Handed}
-use Rattle.rk_inv_base.proofs.Words.{last_of, second_of, has_all, has_key, may_have_staged, member_truth, IsKnown, IsStagedEnd}
-use Rattle.rk_inv_base.proofs.Words.{HasWholeRows, IsEntryWithin, IsItemWithin, IsOfWholeRows, IsWithinRows, beginning_in, handed_for_grant}
-use Rattle.rk_inv_base.proofs.Words.{is_waiting, second_has, target_truth, IsRebuiltBy, row_at, HandedFits}
-use Rattle.rk_inv_base.proofs.Words.{MembersFit, Waits, HandoverFits, tenure_in, range_in, View, rests, SoundView, CoverOf, Message, EachIn}
-use Rattle.rk_inv_base.proofs.Words.{Placed, is_absent}
+use Rattle.rk_inv_base.proofs.Words.{arith, ◌≡◌, ℕ, true, List, [], Some, refl, sym, ap, subst, ◌∙◌, ⊎_elim, ◌⊎◌, IfSome, is_some, Contains}
+use Rattle.rk_inv_base.proofs.Words.{flat_map, slice_index_or, All, ◌<◌, length, false, All-weaker, IfSome_then, hash_of, NumberMap, get}
+use Rattle.rk_inv_base.proofs.Words.{meets, Call, Ended, Held, Node, Range, Entry, ends_of, lawful_turned, lineage_of, is_covered, replaced}
+use Rattle.rk_inv_base.proofs.Words.{row_of, Phase, Row, Body, Handed, last_of, second_of, has_all, has_key, may_have_staged, member_truth}
+use Rattle.rk_inv_base.proofs.Words.{IsKnown, IsStagedEnd, HasWholeRows, IsEntryWithin, IsItemWithin, IsOfWholeRows, IsWithinRows}
+use Rattle.rk_inv_base.proofs.Words.{beginning_in, handed_for_grant, is_waiting, second_has, target_truth, IsRebuiltBy, row_at, Waits}
+use Rattle.rk_inv_base.proofs.Words.{HandoverFits, tenure_in, range_in, View, rests, SoundView, CoverOf, EachIn, Placed, is_absent}
 use Rattle.rk_entry.specs.declared.entry.Entry.TheVariants as entries
 use Rattle.rk_inv_base.proofs.Base.{SaysIn, SoundRow, SoundBeside, each_row, view_by_rows, waits_for, staged_as, all_turned, covered_turned}
 use Rattle.rk_inv_base.proofs.Base.{known_turned, new_stands, none_known, stands_found, stands_still}
@@ -41,33 +38,14 @@ module _ (v : View) (rows : List Row) (handed : NumberMap Handed) (row : Row) (s
   granted_as P = grind (arith, is_waiting, second_has, second_of, lineage_of)
 
   target_as : (phase : Phase) → target_truth v.written v.handed row phase ≡ target_truth v.written handed row phase
-  target_as (Moving source sfrom target dfrom) =
-      ap (option_map (λ h. beginning_in row h ∷ member_truth v.written row.range (record { master = target; from = dfrom }))) (sym same)
-  target_as _ = refl
-
-  members_as : (l : List Member) → MembersFit row v.written v.handovers v.pullings v.records v.handed l → MembersFit row v.written v.handovers v.pullings v.records handed l
-  members_as (source ∷ target ∷ []) fit = λ granted. rw same (fit granted)
-  members_as _ fit = fit
-
-  handed_as : (l : List Member) → HandedFits row v.handovers v.completions v.handed l → HandedFits row v.handovers v.completions handed l
-  handed_as (source ∷ target ∷ []) fit = λ terms. rw same (fit terms)
-  handed_as _ fit = fit
+  target_as phase = grind (arith, beginning_in, member_truth)
 
   says_as : (from to : Node) (body : Body) → SaysIn v row from to body → SaysIn noted row from to body
   says_as from to body said = grind arith
 
   -- of a row all holds that held, where the same is noted of its tablet
   row_noted : SoundRow v row → SoundRow noted row
-  row_noted was =
-      assumption (
-        rw (target_as row.phase) at was.moving,
-        rw (target_as row.phase) at was.low_moving,
-        granted_as _ was.ends_granted,
-        granted_as _ was.floor_granted,
-        members_as (lineage_of row.phase) was.target,
-        handed_as (lineage_of row.phase) was.handed_on,
-        λ (n : ℕ) (m : Message) (there : get v.wire n ≡ Some m). says_as m.from m.to m.body (was.says n m there),
-      )
+  row_noted was = grind (arith, target_as, granted_as, lineage_of, says_as)
 
 -- ---- what lay in rows lies there
 
@@ -100,9 +78,7 @@ module _ (v : View) (row new : Row) (sound : SoundView v) (has_row : Contains v.
       (subst (λ (r : Range). meets r whole ≡ true → has_all whole r ≡ true) (sym range))
 
   entry_whole : (entry : Entry) → IsOfWholeRows v.rows entry → IsOfWholeRows rows entry
-  entry_whole (entries.Carried carried) whole = of_whole carried.range whole
-  entry_whole (entries.Joined joined) whole = of_whole joined.range whole
-  entry_whole _ whole = tt
+  entry_whole entry whole = grind (arith, of_whole)
 
   pub cover_replaced : (handed : NumberMap Handed) → CoverOf (record v { rows = rows; handed = handed })
   cover_replaced handed = record {
@@ -140,11 +116,7 @@ module _ (v : View) (row : Row) (term : ℕ) (phase : Phase) (handed : NumberMap
       (stands_still v.rows row.tablet row new s.row found s.stands)
 
   known : (q r : ℕ) → v.live q ≡ true → All (λ end. IsKnown v.base v.journal end ⊎ IsStagedEnd now.rows (rests v) q r (v.handovers q r).term end) (ends_of (v.completions q r))
-  known q r lives =
-      All-weaker _ _
-      (λ end. ⊎_elim (λ (knows : IsKnown v.base v.journal end). inl knows)
-      (λ (s : IsStagedEnd v.rows (rests v) q r (v.handovers q r).term end). inr (staged_end q r (v.handovers q r).term end lives s)))
-      (ends_of (v.completions q r)) (sound.calls.known q r lives)
+  known q r lives = grind (arith, rests, staged_end, ends_of)
 
   waiting : (q : ℕ) → v.live q ≡ true → EachIn (λ n call. Waits now.rows (v.handovers q) (v.written q) q n call) (v.calls q)
   waiting q lives n call there =

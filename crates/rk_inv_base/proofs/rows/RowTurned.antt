@@ -1,11 +1,10 @@
 -- A view stays sound when a row is turned: it is at another phase of the same lineage, at a greater term, or opens and goes on to open.
-use Rattle.rk_inv_base.proofs.Words.{◌≡◌, ℕ, ◌≤◌, ◌<◌, true, List, [], ◌∷◌, Option, sym, ap, subst, ⊎_elim, arith, inl, All, IfSome}
-use Rattle.rk_inv_base.proofs.Words.{◌++◌, IfSome_then, Member, map_after, Entry, lineage_of, changed_rows, Phase, Row, Body, base_map}
-use Rattle.rk_inv_base.proofs.Words.{Handed, items_of, told, first_of, is_member, last_of, lineage_rest, lineage_truth, member_truth}
-use Rattle.rk_inv_base.proofs.Words.{AreHandedOver, handed_by, handed_for_grant, IsKnown, TellAll, AreAboveMap, IsNext, MayTurn, row_at}
-use Rattle.rk_inv_base.proofs.Words.{AreAbove, StillCounts, RowIsRebuilt, HandedFits, MembersFit, NamedFit, FirstIsDone, IsRest}
-use Rattle.rk_inv_base.proofs.Words.{OnlyIsUnnamed, IsPlaced, IsTableOf, HandoverFits, SentFits, tenure_in, range_in, IsTruth, View}
-use Rattle.rk_inv_base.proofs.Words.{SoundView, OpensOn}
+use Rattle.rk_inv_base.proofs.Words.{◌≡◌, ℕ, ◌≤◌, true, List, [], ◌∷◌, Option, sym, ap, subst, ⊎_elim, arith, inl, All, IfSome, ◌++◌}
+use Rattle.rk_inv_base.proofs.Words.{Member, map_after, Entry, lineage_of, changed_rows, Phase, Row, Body, base_map, Handed, items_of, told}
+use Rattle.rk_inv_base.proofs.Words.{first_of, is_member, last_of, lineage_rest, lineage_truth, member_truth, AreHandedOver, handed_by}
+use Rattle.rk_inv_base.proofs.Words.{handed_for_grant, IsKnown, TellAll, AreAboveMap, IsNext, MayTurn, row_at, AreAbove, StillCounts}
+use Rattle.rk_inv_base.proofs.Words.{HandedFits, MembersFit, NamedFit, FirstIsDone, IsRest, OnlyIsUnnamed, IsPlaced, IsTableOf}
+use Rattle.rk_inv_base.proofs.Words.{HandoverFits, SentFits, tenure_in, range_in, IsTruth, View, SoundView}
 use Rattle.rk_tablet_map.specs.Rows.{turned as changed}
 use Rattle.rk_sound.specs.Small.{turned}
 use Rattle.rk_inv_base.proofs.Base.{row_in, SoundRow, at_most, counted_before, stands_found}
@@ -34,9 +33,7 @@ module _ (v : View) (row : Row) (term : ℕ) (phase : Phase) (sound : SoundView 
 
   -- the term does not fall, so what counts counted before
   grows : row.term ≤ term
-  grows =
-      ⊎_elim (λ (rises : row.term < term). omega (arith, rises))
-      (λ (stays : (term ≡ row.term) × OpensOn row.phase phase). let same : term ≡ row.term = stays.0 in omega (arith, same)) may.term_is
+  grows = grind arith
 
   counts : (q : ℕ) → StillCounts (v.live q) (v.handovers q row.tablet).term term → StillCounts (v.live q) (v.handovers q row.tablet).term row.term
   counts q =
@@ -46,14 +43,7 @@ module _ (v : View) (row : Row) (term : ℕ) (phase : Phase) (sound : SoundView 
   kept q number fits = grind (arith, grows)
 
   sent_fits : (body : Body) → SentFits row body → SentFits new body
-  sent_fits body fits = record {
-    within = IfSome_then (tenure_in body) fits.within (λ tenure fit its. let low = fit its in omega (arith, low, grows));
-    below =
-        IfSome_then (tenure_in body) fits.below
-        (λ tenure ranged.
-        IfSome_then (range_in body) ranged
-        (λ range fit apart meeting. let low = fit apart meeting in omega (arith, low, grows)));
-  }
+  sent_fits body fits = grind (arith, tenure_in, grows, range_in)
 
   -- a number is next behind the row
   abbrev IsNextBehind : List Member → ℕ → Type 0
@@ -109,9 +99,7 @@ module _ (v : View) (row : Row) (term : ℕ) (phase : Phase) (sound : SoundView 
     handed_on = over (HandedFits new v.handovers v.completions v.handed) (handed_fits (lineage_of row.phase) was.handed_on);
     named_items = over (NamedFit v.written row.range) was.named_items;
     rebuilt =
-        over
-        (λ l. RowIsRebuilt new phase (truth_with l) v.logs v.written v.stored v.handovers v.completions v.gathers v.merged v.records v.live)
-        may.rebuilt;
+        grind (arith, over, v.logs, v.written, v.stored, v.handovers, v.completions, v.gathers, v.merged, v.records, v.live, may.rebuilt);
     marks = may.marks;
     pieces = was.pieces;
     says = λ n m there. says v row term phase may m.from m.to m.body (was.sent n m there) (was.says n m there);

@@ -1,13 +1,11 @@
 -- Who answers calls of a row: one living master at most, and while it does, no grant is awaited and no Transfer counts.
-use Rattle.rk_inv_base.proofs.Words.{arith}
-use Rattle.rk_inv_base.proofs.Words.{◌≡◌, ℕ, Bool, true, false, ◌&&◌, ltb, eqb, List, [], ◌∷◌, Option, Some, None, refl, sym, ap, subst}
-use Rattle.rk_inv_base.proofs.Words.{◌∙◌, cond, ne_eqb, eqb-true, cases_eq, cond-false, cond_both, or_left, and_left, and_right, ⊤}
-use Rattle.rk_inv_base.proofs.Words.{NumberMap, Ended, Member, Node, Segments, Completions, is_serving, Handover, Role, lineage_of, Phase}
-use Rattle.rk_inv_base.proofs.Words.{Owned, Opening, Moving, Rebuilding, Row, Log, Transfer, Body, Handed, is_member, second_of, last_of}
-use Rattle.rk_inv_base.proofs.Words.{is_rebuilding, Written, is_wanting, is_opening, second_has, is_waiting, is_waiting_at, handed_by}
-use Rattle.rk_inv_base.proofs.Words.{SaysOf, TransferIn, Post, Owner, OpeningSource, InvitedTarget, ReadyTarget, MovingSource, MovingTarget}
-use Rattle.rk_inv_base.proofs.Words.{FormerMember, Bystander, target_post, rebuilder_post, post_of, bond_of, Holds, speaks}
-use Rattle.rk_inv_base.proofs.Words.{RoleFits, AreApart, IsFormed}
+use Rattle.rk_inv_base.proofs.Words.{arith, ◌≡◌, ℕ, Bool, true, false, ltb, eqb, List, [], Option, Some, None, refl, subst, ne_eqb}
+use Rattle.rk_inv_base.proofs.Words.{eqb-true, cases_eq, cond-false, cond_both, or_left, and_left, and_right, ⊤, NumberMap, Ended, Member}
+use Rattle.rk_inv_base.proofs.Words.{Node, Segments, Completions, is_serving, Handover, Role, lineage_of, Phase, Owned, Opening, Moving}
+use Rattle.rk_inv_base.proofs.Words.{Rebuilding, Row, Log, Transfer, Body, Handed, is_member, second_of, last_of, is_rebuilding, Written}
+use Rattle.rk_inv_base.proofs.Words.{is_wanting, second_has, is_waiting, is_waiting_at, handed_by, SaysOf, Post, InvitedTarget, ReadyTarget}
+use Rattle.rk_inv_base.proofs.Words.{MovingSource, FormerMember, Bystander, target_post, rebuilder_post, post_of, bond_of, Holds, speaks}
+use Rattle.rk_inv_base.proofs.Words.{RoleFits, IsFormed}
 use Rattle.rk_transfer.specs.declared.role.Role.TheVariants as roles
 use Rattle.rk_message.specs.declared.message.Body.TheVariants as bodies
 
@@ -38,67 +36,27 @@ speaker_of (Opening source sfrom target dfrom) = source
 speaker_of (Moving source sfrom target dfrom) = target
 speaker_of (Rebuilding lineage to) = to
 
-pub quiet_asked : (place : Option ℕ) → IsQuiet (target_post place)
-quiet_asked None = tt
-quiet_asked (Some place) = tt
-
 -- each other one is in a post in which none serves
 pub quiet_others : (phase : Phase) (q : ℕ) → (q ≡ speaker_of phase → ⊥) → IsQuiet (post_of phase q)
-quiet_others (Owned owner from) q apart =
-    subst IsQuiet (sym (cond-false (eqb owner q) (Owner from) Bystander (ne_eqb owner q (λ e. apart (sym e))))) tt
-quiet_others (Opening source sfrom target dfrom) q apart =
-    subst IsQuiet
-    (sym (cond-false (eqb source q) OpeningSource (cond (eqb target q) (target_post dfrom) Bystander) (ne_eqb source q (λ e. apart (sym e)))))
-    (cond_both (eqb target q) (target_post dfrom) Bystander IsQuiet (λ e. quiet_asked dfrom) (λ e. tt))
-quiet_others (Moving source sfrom target dfrom) q apart =
-    cond_both (eqb source q) MovingSource (cond (eqb target q) (MovingTarget dfrom) Bystander) IsQuiet (λ e. tt)
-    (λ e. subst IsQuiet (sym (cond-false (eqb target q) (MovingTarget dfrom) Bystander (ne_eqb target q (λ e. apart (sym e))))) tt)
-quiet_others (Rebuilding lineage to) q apart =
-    subst IsQuiet
-    (sym (cond-false (eqb to q) (rebuilder_post lineage q) (cond (is_member lineage q) FormerMember Bystander) (ne_eqb to q (λ e. apart (sym e)))))
-    (cond_both (is_member lineage q) FormerMember Bystander IsQuiet (λ e. tt) (λ e. tt))
+quiet_others phase q apart = grind (arith, cond-false, eqb, ne_eqb, target_post, cond_both, rebuilder_post, is_member)
 
 -- so a master whose role fits its post and that speaks is that one
 pub speaker_is : (row : Row) (q : ℕ) (handover : Handover) (applied : ℕ) → RoleFits row q handover applied → speaks (post_of row.phase q) handover row.term ≡ true → q ≡ speaker_of row.phase
 speaker_is row q handover applied fits says = grind (arith, quiet_says, post_of, quiet_others, cases_eq)
 
--- a role that serves waits for no grant
-pub serving_wants : (role : Role) → is_serving role ≡ true → is_wanting role ≡ false
-serving_wants (roles.Wanting from) serves = absurd (cc)
-serving_wants _ serves = refl
-
--- no second member waits while the last member of the lineage serves
-pub second_serves : (row : Row) (handovers : ℕ → ℕ → Handover) (last member : Member) → is_serving (handovers last.master row.tablet).role ≡ true → Some member ≡ Some last → is_wanting (handovers member.master row.tablet).role ≡ false
-second_serves row handovers last member serves is =
-    let same : member ≡ last = cc in
-    serving_wants (handovers member.master row.tablet).role (ap (λ (m : Member). is_serving (handovers m.master row.tablet).role) same ∙ serves)
-
-pub lineage_waits : (row : Row) (handovers : ℕ → ℕ → Handover) (lineage : List Member) (last : Member) → AreApart lineage → last_of lineage ≡ Some last → is_serving (handovers last.master row.tablet).role ≡ true → is_waiting (second_has handovers row (second_of lineage)) ≡ false
-lineage_waits row handovers (first ∷ second ∷ []) last formed is serves = second_serves row handovers last second serves is
-lineage_waits row handovers (first ∷ second ∷ third ∷ more) last formed is serves = absurd formed
-lineage_waits row handovers _ last formed is serves = refl
-
 pub none_waits : (row : Row) (handovers : ℕ → ℕ → Handover) (phase : Phase) (last : Member) → IsFormed phase → last_of (lineage_of phase) ≡ Some last → is_serving (handovers last.master row.tablet).role ≡ true → is_waiting (second_has handovers row (second_of (lineage_of phase))) ≡ false
-none_waits row handovers (Moving source sfrom target dfrom) last formed is serves = second_serves row handovers last (record { master = target; from = dfrom }) serves is
-none_waits row handovers (Rebuilding lineage to) last formed is serves = lineage_waits row handovers lineage last formed is serves
-none_waits row handovers _ last formed is serves = refl
+none_waits row handovers phase last formed is serves = grind (arith, is_serving)
 
 -- what waits at no term waits at none
 pub waiting_at : (other : Option Handover) (term : ℕ) → is_waiting other ≡ false → is_waiting_at other term ≡ false
 waiting_at None term none = refl
 waiting_at (Some handover) term none = and_left (is_wanting handover.role) (eqb handover.term term) none
 
--- no Transfer counts for a row whose source serves
-pub opening_hands : (phase : Phase) (tablet : ℕ) (handovers : ℕ → ℕ → Handover) (completions : Completions) (term sender : ℕ) (transfer : Transfer) (of_tablet of_term : Bool) (given : Handed)
-    → (of_tablet ≡ true → of_term ≡ true → TransferIn phase (handovers sender tablet) completions term sender transfer) → is_serving (handovers (speaker_of phase) tablet).role ≡ true
-    → cond (is_opening phase && of_tablet && of_term) (Some given) None ≡ None
-opening_hands phase tablet handovers completions term sender transfer of_tablet of_term given says serves = grind (arith, is_serving)
-
 pub transfer_hands : (row : Row) (logs : ℕ → Log) (written : ℕ → Written) (stored : ℕ → Segments) (handovers : ℕ → ℕ → Handover) (completions : ℕ → ℕ → Completions) (merged : ℕ → ℕ → List Ended) (live : ℕ → Bool) (handed : NumberMap Handed) (from to : Node) (transfer : Transfer)
     → SaysOf row logs written stored handovers completions merged live handed from to (bodies.Transfer transfer) → is_serving (handovers (speaker_of row.phase) row.tablet).role ≡ true
     → handed_by row handovers (bodies.Transfer transfer) ≡ None
 transfer_hands row logs written stored handovers completions merged live handed from to transfer says serves =
-    grind (arith, opening_hands, eqb, eqb-true)
+    grind (arith, eqb, eqb-true, is_serving)
 
 -- of a row no message hands anything over while the last member of its lineage, its speaker, serves
 pub none_hands : (row : Row) (logs : ℕ → Log) (written : ℕ → Written) (stored : ℕ → Segments) (handovers : ℕ → ℕ → Handover) (completions : ℕ → ℕ → Completions) (merged : ℕ → ℕ → List Ended) (live : ℕ → Bool) (handed : NumberMap Handed) (from to : Node) (body : Body) (last : Member)

@@ -94,11 +94,7 @@ covered_turned rows tablet old new found same table hash =
 -- whether a row is found is whether one passes the test
 pub found_any : (test : Row → Bool) (rows : List Row) → is_some (find test rows) ≡ list_any test rows
 found_any test [] = refl
-found_any test (first ∷ rest) = go (test first) (found_any test rest)
-  where
-    go : (b : Bool) → is_some (find test rest) ≡ list_any test rest → is_some (cond b (Some first) (find test rest)) ≡ (b || list_any test rest)
-    go true later = refl
-    go false later = later
+found_any test (first ∷ rest) = grind (arith, (found_any test rest))
 
 -- so the same numbers are known
 pub known_turned : (rows : List Row) (tablet : ℕ) (old new : Row) → row_of rows tablet ≡ Some old → new.tablet ≡ old.tablet → (number : ℕ) → is_some (row_of (replaced tablet new rows) number) ≡ is_some (row_of rows number)

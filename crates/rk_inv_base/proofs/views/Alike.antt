@@ -1,10 +1,9 @@
 -- Handovers that answer alike where the parts ask who answers calls, and who waits for a grant.
-use Rattle.rk_inv_base.proofs.Words.{arith}
-use Rattle.rk_inv_base.proofs.Words.{◌≡◌, ℕ, Bool, true, cond, ltb, ◌&&◌, eqb, List, ◌∷◌, Option, Some, None, refl, sym, ap, ◌∙◌}
-use Rattle.rk_inv_base.proofs.Words.{⊎_elim, inl, inr, option_map, NumberMap, get, Member, Range, Entry, is_serving, Handover, lineage_of}
-use Rattle.rk_inv_base.proofs.Words.{Phase, Moving, Row, Body, Handed, second_of, is_rebuilding, Written, member_truth, is_wanting}
-use Rattle.rk_inv_base.proofs.Words.{second_has, is_waiting, is_waiting_at, handed_for_grant, handed_by, beginning_in, target_truth, Post}
-use Rattle.rk_inv_base.proofs.Words.{StillCounts, speaks, as_frozen}
+use Rattle.rk_inv_base.proofs.Words.{arith, ◌≡◌, ℕ, Bool, true, cond, ltb, eqb, List, ◌∷◌, Option, Some, None, refl, sym, ap, ◌∙◌, ⊎_elim}
+use Rattle.rk_inv_base.proofs.Words.{inl, inr, option_map, NumberMap, get, Member, Range, Entry, is_serving, Handover, lineage_of, Phase}
+use Rattle.rk_inv_base.proofs.Words.{Moving, Row, Body, Handed, second_of, is_rebuilding, Written, member_truth, is_wanting, second_has}
+use Rattle.rk_inv_base.proofs.Words.{is_waiting, handed_for_grant, handed_by, beginning_in, target_truth, Post, StillCounts, speaks}
+use Rattle.rk_inv_base.proofs.Words.{as_frozen}
 use Rattle.rk_transfer.specs.declared.role.Role.TheVariants as roles
 
 -- two handovers, or one before and after, that answer alike
@@ -37,11 +36,6 @@ pub waits_alike : (row : Row) (handovers now : ℕ → ℕ → Handover) (member
 waits_alike row handovers now None alike = refl
 waits_alike row handovers now (Some member) alike = (alike member.master row.tablet).same_wanting
 
-pub waits_at_alike : (row : Row) (handovers now : ℕ → ℕ → Handover) (term : ℕ) (member : Option Member) → AreAlike handovers now → is_waiting_at (second_has now row member) term ≡ is_waiting_at (second_has handovers row member) term
-waits_at_alike row handovers now term None alike = refl
-waits_at_alike row handovers now term (Some member) alike =
-    λ i. (alike member.master row.tablet).same_wanting i && eqb ((alike member.master row.tablet).same_term i) term
-
 -- what is kept for a grant counts alike
 pub handed_for_grant_alike : (row : Row) (handovers now : ℕ → ℕ → Handover) (handed : NumberMap Handed) → AreAlike handovers now → handed_for_grant row now handed ≡ handed_for_grant row handovers handed
 handed_for_grant_alike row handovers now handed alike =
@@ -49,7 +43,7 @@ handed_for_grant_alike row handovers now handed alike =
 
 -- what a message hands over counts alike
 pub handed_by_alike : (row : Row) (handovers now : ℕ → ℕ → Handover) (body : Body) → AreAlike handovers now → handed_by row now body ≡ handed_by row handovers body
-handed_by_alike row handovers now body alike = grind (arith, eqb, waits_at_alike, second_of, lineage_of)
+handed_by_alike row handovers now body alike = grind (arith, eqb, second_of, lineage_of)
 
 -- what the target of a row that moves has applied, behind what its source told, is the same where as much is applied
 pub target_truth_same : (written now : ℕ → Written) (handed : NumberMap Handed) (row : Row) (phase : Phase) → ((range : Range) (m : Member) → member_truth now range m ≡ member_truth written range m) → target_truth now handed row phase ≡ target_truth written handed row phase

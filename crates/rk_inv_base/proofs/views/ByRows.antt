@@ -1,17 +1,16 @@
 -- The law of rows: what the invariant says of a row, row by row, and what it says beside that. A view whose rows all have the one and
 -- which has the other is sound; so a change of one row is shown by what is to hold of that row.
-use Rattle.rk_inv_base.proofs.Words.{arith}
-use Rattle.rk_inv_base.proofs.Words.{None, eqb, List, Contains, ◌≡◌, ◌≢◌, ℕ, ◌≤◌, true, false, ◌++◌, ◌⊎◌, Some, All}
-use Rattle.rk_inv_base.proofs.Words.{IfSome, drop, is_some, length, slice_get, Range, Owned, All-contains, Handover, Written, Call}
-use Rattle.rk_inv_base.proofs.Words.{has_key, last_of, may_have_staged, list_any, hash_of, EachIn, meets, map_after, IsLegal, IsRisingAbove}
-use Rattle.rk_inv_base.proofs.Words.{Placed, AreOneMutation, ends_of, lineage_of, IsTabletMap, is_covered, row_of, Row, Node, Body}
-use Rattle.rk_inv_base.proofs.Words.{base_map, items_of, told, is_member, touches, names, IsMaster, is_absent, is_idle, AreHandedOver}
-use Rattle.rk_inv_base.proofs.Words.{IsKnown, IsStagedEnd, ReachAll, TellAll, AreAboveMap, IsNext, handed_by, handed_for_grant}
-use Rattle.rk_inv_base.proofs.Words.{target_truth, SaysOf, Says, AreAbove, post_of, speaks, StillCounts, HasOwnRange, MarkFits}
-use Rattle.rk_inv_base.proofs.Words.{RowIsRebuilt, HandedFits, IsBare, MembersFit, NamedFit, wanted_place, FirstIsDone, IsLast, IsRest}
-use Rattle.rk_inv_base.proofs.Words.{EachHasCall, OnlyIsUnnamed, Waits, RoleFits, KeepTerm, IsFormed, IsPlaced, HasItems, has_all_items}
-use Rattle.rk_inv_base.proofs.Words.{IsInScanOrder, HandoverFits, SentFits, IsAfterSeen, IsTruth, View, truths, rests, SoundView, CoverOf}
-use Rattle.rk_inv_base.proofs.Words.{LogsOf, AskedOf, Entry, Ended, All-weaker, Message, get, Phase, SomeLives}
+use Rattle.rk_inv_base.proofs.Words.{arith, None, eqb, List, Contains, ◌≡◌, ◌≢◌, ℕ, ◌≤◌, true, false, ◌++◌, ◌⊎◌, Some, All, IfSome, drop}
+use Rattle.rk_inv_base.proofs.Words.{is_some, length, slice_get, Range, Owned, All-contains, Handover, Written, Call, has_key, last_of}
+use Rattle.rk_inv_base.proofs.Words.{may_have_staged, list_any, hash_of, EachIn, meets, map_after, IsLegal, IsRisingAbove, Placed}
+use Rattle.rk_inv_base.proofs.Words.{AreOneMutation, ends_of, lineage_of, IsTabletMap, is_covered, row_of, Row, Node, Body, base_map}
+use Rattle.rk_inv_base.proofs.Words.{items_of, told, is_member, touches, names, IsMaster, is_absent, is_idle, AreHandedOver, IsKnown}
+use Rattle.rk_inv_base.proofs.Words.{IsStagedEnd, ReachAll, TellAll, AreAboveMap, IsNext, handed_by, handed_for_grant, target_truth, SaysOf}
+use Rattle.rk_inv_base.proofs.Words.{Says, AreAbove, post_of, speaks, StillCounts, HasOwnRange, MarkFits, RowIsRebuilt, HandedFits, IsBare}
+use Rattle.rk_inv_base.proofs.Words.{MembersFit, NamedFit, wanted_place, FirstIsDone, IsLast, IsRest, EachHasCall, OnlyIsUnnamed, Waits}
+use Rattle.rk_inv_base.proofs.Words.{RoleFits, KeepTerm, IsFormed, IsPlaced, HasItems, has_all_items, IsInScanOrder, HandoverFits, SentFits}
+use Rattle.rk_inv_base.proofs.Words.{IsAfterSeen, IsTruth, View, truths, rests, SoundView, CoverOf, LogsOf, AskedOf, Entry, Ended}
+use Rattle.rk_inv_base.proofs.Words.{All-weaker, Message, get, Phase, SomeLives}
 
 -- what a master has of a row's tablet counts
 abbrev pub CountsFor : View → Row → ℕ → Type 0

@@ -1,8 +1,8 @@
 -- What stands in a world where nothing has happened: new masters and backups that keep nothing.
 use Rattle.rk_inv_base.proofs.Words.{◌≡◌, ℕ, zero, suc, ◌+◌, ◌≤◌, ◌<◌, Bool, cond, eqb, List, [], ◌∷◌, replicate, map, Option, Some, None}
-use Rattle.rk_inv_base.proofs.Words.{refl, sym, ap, ◌∙◌, ◌⊎◌, inl, inr, ⊎_elim, arith, unwrap_or, eq-eqb, ne_eqb, cases_eq, cases_lt}
-use Rattle.rk_inv_base.proofs.Words.{cond-true, cond-false, unsigned_tied, range_with_len, NumberMap, get, Known, nothing, no_segments}
-use Rattle.rk_inv_base.proofs.Words.{Master, new_master, IsMaster, new_world, master_at, backup_at, new_masters}
+use Rattle.rk_inv_base.proofs.Words.{refl, ap, ◌∙◌, ◌⊎◌, inl, ⊎_elim, arith, unwrap_or, eq-eqb, ne_eqb, cases_eq, cases_lt, cond-true}
+use Rattle.rk_inv_base.proofs.Words.{cond-false, unsigned_tied, range_with_len, NumberMap, get, Known, nothing, no_segments, Master}
+use Rattle.rk_inv_base.proofs.Words.{new_master, IsMaster, new_world, master_at, backup_at, new_masters}
 use Rattle.std.proofs.Common.{get_or}
 
 -- each number with its thing
@@ -15,9 +15,7 @@ found_first thing n numbers q =
     ap (λ (b : Bool). cond b (Some (thing n)) (get (with_numbers thing numbers) q)) (unsigned_tied q n)
 
 pub found_here : {X : Type 0} (thing : ℕ → X) (n : ℕ) (numbers : List ℕ) (q : ℕ) → q ≡ n → get (with_numbers thing (n ∷ numbers)) q ≡ Some (thing q)
-found_here thing n numbers q is =
-    found_first thing n numbers q ∙ cond-true (eqb q n) (Some (thing n)) (get (with_numbers thing numbers) q) (eq-eqb q n is)
-    ∙ ap (λ (k : ℕ). Some (thing k)) (sym is)
+found_here thing n numbers q is = grind (arith, found_first, cond-true, eqb, eq-eqb)
 
 pub found_behind : {X : Type 0} (thing : ℕ → X) (n : ℕ) (numbers : List ℕ) (q : ℕ) → (q ≡ n → ⊥) → get (with_numbers thing (n ∷ numbers)) q ≡ get (with_numbers thing numbers) q
 found_behind thing n numbers q apart =
@@ -26,15 +24,7 @@ found_behind thing n numbers q apart =
 -- what is found under a number is nothing, or its thing
 pub found_numbered : {X : Type 0} (thing : ℕ → X) (numbers : List ℕ) (q : ℕ) → (get (with_numbers thing numbers) q ≡ None) ⊎ (get (with_numbers thing numbers) q ≡ Some (thing q))
 found_numbered thing [] q = inl refl
-found_numbered {X} thing (n ∷ numbers) q =
-    ⊎_elim
-    (λ (is : q ≡ n). inr (found_here thing n numbers q is))
-    (λ (apart : q ≡ n → ⊥).
-    ⊎_elim
-    (λ (e : get (with_numbers thing numbers) q ≡ None). inl (found_behind thing n numbers q apart ∙ e))
-    (λ (e : get (with_numbers thing numbers) q ≡ Some (thing q)). inr (found_behind thing n numbers q apart ∙ e))
-    (found_numbered thing numbers q))
-    (cases_eq q n)
+found_numbered {X} thing (n ∷ numbers) q = grind (arith, found_here, found_behind, cases_eq, (found_numbered thing numbers q))
 
 pub above : (a b : ℕ) → a ≤ b → (b ≡ a → ⊥) → a + 1 ≤ b
 above a b low apart =

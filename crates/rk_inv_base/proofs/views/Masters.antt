@@ -1,7 +1,6 @@
 -- What is seen of the masters of a world once one of them is another.
-use Rattle.rk_inv_base.proofs.Words.{arith}
-use Rattle.rk_inv_base.proofs.Words.{[], ◌≡◌, ℕ, Option, refl, ap, unwrap_or, cases_eq, get_same, get_other, Master}
-use Rattle.rk_inv_base.proofs.Words.{new_master, tablet_at, with_tablet, Tablet, no_tablet, World, master_at, tablet_in, with_master, put2}
+use Rattle.rk_inv_base.proofs.Words.{arith, [], ◌≡◌, ℕ, Option, refl, ap, unwrap_or, cases_eq, get_same, get_other, Master, new_master}
+use Rattle.rk_inv_base.proofs.Words.{tablet_at, with_tablet, Tablet, no_tablet, World, master_at, tablet_in, with_master, put2}
 use Rattle.rk_inv_base.proofs.views.Put.{put2_by}
 
 -- the master that was put

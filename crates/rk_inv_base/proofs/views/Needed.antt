@@ -57,11 +57,7 @@ module _ (Needed Less : ℕ → EntryEnd → Type 0) (known : ℕ → Known) (st
 -- the members that are read are others than the master
 pub kept_away : (own : ℕ) (lineage : List Member) → IsAway own (filter (λ member. not (member.master == own)) lineage)
 kept_away own [] = tt
-kept_away own (member ∷ others) =
-    let later = kept_away own others in
-    cond_both (not (member.master == own)) (member ∷ filter (λ m. not (m.master == own)) others)
-    (filter (λ m. not (m.master == own)) others) (IsAway own)
-    (λ e. (λ same. absurd (false≢true (sym (ap not (eq-eqb member.master own same)) ∙ e)), later)) (λ e. later)
+kept_away own (member ∷ others) = grind (arith, cond_both, false≢true, eq-eqb, member.master, (kept_away own others))
 
 -- so a master that rebuilds a row goes on where no more is needed of others
 module _ (row : Row) (lineage : List Member) (master : ℕ) (truth own : List Entry) (Needed Less : ℕ → EntryEnd → Type 0) (known : ℕ → Known) (stored : ℕ → ℕ → List ℕ) (w : Written) (handover : Handover) (completions : Completions) (gather : Gather) (merged : List Ended) (table : List Held) where
@@ -150,18 +146,11 @@ needed_member row written _ q end needed = absurd needed
 
 -- a marked entry is not the last one, where all marks are before it
 pub marked_last : (marks : List Mark) (place : ℕ) (list : List Entry) (entry : Entry) → is_marked marks (place + length list) ≡ false → marked_entries marks place (list ++ entry ∷ []) ≡ marked_entries marks place list
-marked_last marks place [] entry free =
-    let at : place + 0 ≡ place = omega arith in
-    cond-false (is_marked marks place) (entry ∷ []) [] (ap (is_marked marks) (sym at) ∙ free)
+marked_last marks place [] entry free = grind (arith, cond-false, is_marked)
 marked_last marks place (first ∷ list) entry free =
     let at : suc place + length list ≡ place + suc (length list) = omega arith in
     ap (λ (rest : List Entry). cond (is_marked marks place) (first ∷ rest) rest)
     (marked_last marks (suc place) list entry (ap (is_marked marks) at ∙ free))
-
--- nor is it from a place on
-pub marked_from_last : (marks : List Mark) (from : ℕ) (list : List Entry) (entry : Entry) → is_marked marks (length list) ≡ false → marked_entries marks from (drop from (list ++ entry ∷ [])) ≡ marked_entries marks from (drop from list)
-marked_from_last marks from list entry free =
-    grind (arith, length, marked_entries, drop_none, drop, length-drop, drop-append-le, marked_last, is_marked, cases_lt)
 
 -- those of marks that are kept are before it too
 pub kept_within : (keep : Mark → Bool) (marks : List Mark) (place : ℕ) → All (λ mark. mark.past ≤ place) marks → All (λ mark. mark.past ≤ place) (filter keep marks)
@@ -183,7 +172,7 @@ material_at range from w = log_material range w.marks w.sides from w.entries
 -- the one is what it was
 pub given_up_pushed : (row : Row) (from : ℕ) (w : Written) (entry : Entry) → All (λ mark. mark.past ≤ length w.entries) w.marks → given_up_of row from (with_one_more w entry) ≡ given_up_of row from w
 given_up_pushed row from w entry marked =
-    grind (arith, counting, marked_from_last, given_up_marks, marked_none, length, kept_within, nat_lt)
+    grind (arith, marked_none, kept_within, drop_none, length-drop, drop-append-le, marked_last)
 
 -- numbers with more of them have these before the others
 pub numbers_extend : (some more : List ℕ) → (others : List ℕ) × (fold with_number some more ≡ some ++ others)
@@ -211,10 +200,7 @@ sides_extend range sides old new grown =
     ∙ rest.1 in
     record {
       more = counting range (flat_map sides rest.0);
-      parts =
-          ap (λ (numbers : List ℕ). counting range (flat_map sides numbers)) parts
-          ∙ ap (counting range) (flat_map-append sides (named range old) rest.0)
-          ∙ filter-append (counts range) (flat_map sides (named range old)) (flat_map sides rest.0);
+      parts = grind (arith, counting, flat_map-append, named, filter-append, counts, rest.0);
     }
 
 -- and the other tells what it told
@@ -386,10 +372,7 @@ needed_within range given_up own from last place entry count needed among =
 -- an entry has some bytes, so it does not end where its segment begins
 pub end_some : (segments : List (List ℕ)) (list : List Entry) (k : ℕ) (d : EntryEnd) → AreFilled segments → k < length (ends_after segments list) → 1 ≤ (get_or (ends_after segments list) k d).offset
 end_some segments [] k d filled within = absurd (omega arith)
-end_some segments (entry ∷ list) zero d filled within =
-    let now : List (List ℕ) = with_bytes segments (spelled entry) in
-    let some = filled_with segments (spelled entry) filled (spelled_some entry) (length now - 1) (omega (arith, (some_segments segments (spelled entry)).1)) in
-    omega (arith, some)
+end_some segments (entry ∷ list) zero d filled within = grind (arith, with_bytes, spelled, filled_with, spelled_some, some_segments)
 end_some segments (entry ∷ list) (suc k) d filled within =
     end_some (with_bytes segments (spelled entry)) list k d (filled_with segments (spelled entry) filled (spelled_some entry)) (omega arith)
 
@@ -407,6 +390,5 @@ end_stored log w stored place end same less stands =
     let passes = prefix_len_passes (λ (e : EntryEnd). nat_le e.offset (length (stored e.segment))) (ends log.entries) place end less in
     record {
       some = subst (λ (e : EntryEnd). 1 ≤ e.offset) at (end_some [] log.entries place end (λ k h. absurd (omega arith)) within);
-      there =
-          subst (λ (e : EntryEnd). e.offset ≤ length (stored e.segment)) at (leb-true _ _ passes);
+      there = grind (arith, leb-true);
     }

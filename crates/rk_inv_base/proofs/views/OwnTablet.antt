@@ -1,10 +1,8 @@
 -- What the invariant says of a row depends on what masters have of the row's tablet alone: where that is the same, it holds as it did.
-use Rattle.rk_inv_base.proofs.Words.{arith}
-use Rattle.rk_inv_base.proofs.Words.{◌≡◌, ℕ, List, [], ◌∷◌, Option, Some, None, cond, eqb, refl, sym, ap, subst, ⊎_elim, All}
-use Rattle.rk_inv_base.proofs.Words.{Contains, get, Ended, Member, Node, Completions, Handover, lineage_of, Phase, Rebuilding, Row, Tenure}
-use Rattle.rk_inv_base.proofs.Words.{Body, Got, Pulled, Gather, second_of, Pulling, handed_by, handed_for_grant, is_waiting, is_waiting_at}
-use Rattle.rk_inv_base.proofs.Words.{second_has, AskAgrees, GotAgrees, PulledAgrees, HandedFits, MembersFit}
-use Rattle.rk_inv_base.proofs.Words.{RowIsRebuilt, View, truths, SoundView, cases_eq}
+use Rattle.rk_inv_base.proofs.Words.{arith, ◌≡◌, ℕ, List, [], ◌∷◌, eqb, refl, sym, subst, ⊎_elim, All, Contains, Ended, Member, Node}
+use Rattle.rk_inv_base.proofs.Words.{Completions, Handover, lineage_of, Phase, Rebuilding, Row, Body, Gather, second_of, Pulling, handed_by}
+use Rattle.rk_inv_base.proofs.Words.{handed_for_grant, is_waiting, is_waiting_at, HandedFits, MembersFit, RowIsRebuilt, View, truths}
+use Rattle.rk_inv_base.proofs.Words.{SoundView, cases_eq}
 use Rattle.rk_inv_base.proofs.rows.Apart.{same_number}
 use Rattle.rk_inv_base.proofs.views.ByRows.{row_in, SaysIn, SoundRow}
 use Rattle.rk_inv_base.proofs.views.Lists.{all_by}
@@ -43,16 +41,11 @@ module _ (v : View) (row : Row) where
   abbrev own : View
   own = alone v (seen_at v row.tablet)
 
-  second_own : (o : Option Member) → second_has v.handovers row o ≡ second_has own.handovers row o
-  second_own None = refl
-  second_own (Some member) = refl
-
   granted_own : handed_for_grant row v.handovers v.handed ≡ handed_for_grant row own.handovers v.handed
-  granted_own =
-      ap (λ (h : Option Handover). cond (is_waiting h) (get v.handed row.tablet) None) (second_own (second_of (lineage_of row.phase)))
+  granted_own = grind (arith, is_waiting, second_of, lineage_of)
 
   handed_own : (body : Body) → handed_by row v.handovers body ≡ handed_by row own.handovers body
-  handed_own body = grind (arith, eqb, is_waiting_at, second_own, second_of, lineage_of)
+  handed_own body = grind (arith, eqb, is_waiting_at, second_of, lineage_of)
 
   members_own : (l : List Member) → MembersFit row v.written v.handovers v.pullings v.records v.handed l ≡ MembersFit row v.written own.handovers own.pullings v.records v.handed l
   members_own (source ∷ target ∷ []) = refl
@@ -62,34 +55,18 @@ module _ (v : View) (row : Row) where
   fits_own (source ∷ target ∷ []) = refl
   fits_own _ = refl
 
-  ask_own : (l : List Member) (q : ℕ) (to : Node) (tenure : Tenure) → AskAgrees row v.handovers l q to tenure ≡ AskAgrees row own.handovers l q to tenure
-  ask_own (source ∷ target ∷ []) q to tenure = refl
-  ask_own _ q to tenure = refl
-
-  pulled_own : (l : List Member) (from : Node) (q : ℕ) (pulled : Pulled) → PulledAgrees row v.written v.handovers v.live l from q pulled ≡ PulledAgrees row v.written own.handovers v.live l from q pulled
-  pulled_own (source ∷ target ∷ []) from q pulled = refl
-  pulled_own _ from q pulled = refl
-
-  got_own : (l : List Member) (from : Node) (q : ℕ) (got : Got) → GotAgrees row v.written v.handovers v.live l from q got ≡ GotAgrees row v.written own.handovers v.live l from q got
-  got_own (source ∷ target ∷ []) from q got = refl
-  got_own _ from q got = refl
-
   rebuilt_own : (phase : Phase) → RowIsRebuilt row phase (truths v row) v.logs v.written v.stored v.handovers v.completions v.gathers v.merged v.records v.live ≡ RowIsRebuilt row phase (truths v row) v.logs v.written v.stored own.handovers own.completions own.gathers own.merged v.records v.live
   rebuilt_own (Rebuilding lineage to) = refl
   rebuilt_own _ = refl
 
   says_own : (from to : Node) (body : Body) → SaysIn v row from to body ≡ SaysIn own row from to body
-  says_own from to body = grind (arith, ask_own, lineage_of, pulled_own, got_own)
-
-  -- a statement for another
-  instead : (X Y : Type 0) → X ≡ Y → X → Y
-  instead X Y same = subst (λ (Z : Type 0). Z) same
+  says_own from to body = grind (arith, lineage_of)
 
   to_own : SoundRow v row → SoundRow own row
-  to_own was = grind (arith, granted_own, get, handed_own, instead, members_own, lineage_of, fits_own, rebuilt_own, says_own)
+  to_own was = grind (arith, granted_own, handed_own, members_own, lineage_of, fits_own, rebuilt_own, says_own)
 
   of_own : SoundRow own row → SoundRow v row
-  of_own was = grind (arith, granted_own, get, handed_own, instead, members_own, lineage_of, fits_own, rebuilt_own, says_own)
+  of_own was = grind (arith, granted_own, handed_own, members_own, lineage_of, fits_own, rebuilt_own, says_own)
 
 -- two views are the same but for their rows and what masters have of tablets, and of the row's tablet each master has the same
 pub row_kept : (v now : View) (row : Row) → ((seen : ℕ → SeenTablet) → alone v seen ≡ alone now seen) → ((q : ℕ) → seen_at v row.tablet q ≡ seen_at now row.tablet q) → SoundRow v row → SoundRow now row

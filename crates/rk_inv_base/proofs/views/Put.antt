@@ -1,6 +1,5 @@
 -- What is kept for each number, or by each master of each tablet, where one of them is another now.
-use Rattle.rk_inv_base.proofs.Words.{arith}
-use Rattle.rk_inv_base.proofs.Words.{◌≡◌, ℕ, eqb, refl, eq-eqb, ne_eqb, cases_eq, cond-true, cond-false, put, put2}
+use Rattle.rk_inv_base.proofs.Words.{arith, ◌≡◌, ℕ, eqb, refl, eq-eqb, ne_eqb, cases_eq, cond-true, cond-false, put, put2}
 
 -- what is put is kept, and each other thing as it was
 pub put_here : {X : Type 0} (old : ℕ → X) (number : ℕ) (thing : X) (q : ℕ) → q ≡ number → put old number thing q ≡ thing

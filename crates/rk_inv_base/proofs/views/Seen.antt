@@ -1,6 +1,5 @@
 -- What rows and messages see of a handover: its term, its range and its role, and of a frozen one its counter.
-use Rattle.rk_inv_base.proofs.Words.{arith}
-use Rattle.rk_inv_base.proofs.Words.{◌≡◌, ℕ, true, both_ways, Member, Range, is_serving, Handover, Role, is_absent, Written}
+use Rattle.rk_inv_base.proofs.Words.{arith, ◌≡◌, ℕ, true, both_ways, Member, Range, is_serving, Handover, Role, is_absent, Written}
 use Rattle.rk_inv_base.proofs.Words.{member_truth, is_wanting, HasJoined, HasRebuilt, Post, bond_of, Holds, with_counter}
 use Rattle.rk_transfer.specs.declared.role.Role.TheVariants as roles
 
@@ -29,14 +28,10 @@ pub record AllLook (written written' : ℕ → Written) (handovers handovers' : 
   pub applied : (q : ℕ) → (written' q).applied ≡ (written q).applied
   pub truths : (range : Range) (member : Member) → member_truth written' range member ≡ member_truth written range member
 
--- a role goes on as itself
-pub goes_on_same : (role : Role) → GoesOn role role
-goes_on_same role = assumption
-
 -- a tablet looks as itself
 pub looks_same : (handover : Handover) → LooksAs handover handover
-looks_same handover = assumption (goes_on_same handover.role)
+looks_same handover = grind (arith, handover.role)
 
 -- a tablet that is served looks the same with another counter
 pub counted_looks : (counter : ℕ) (handover : Handover) → is_serving handover.role ≡ true → LooksAs handover (with_counter counter handover)
-counted_looks counter handover serves = grind (arith, both_ways, is_serving, goes_on_same)
+counted_looks counter handover serves = grind (arith, both_ways, is_serving)

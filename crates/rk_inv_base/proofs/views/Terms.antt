@@ -1,7 +1,6 @@
 -- Laws of the part Terms: what a message that is sent, and a tablet that looks the same, keep of it.
-use Rattle.rk_inv_base.proofs.Words.{arith}
-use Rattle.rk_inv_base.proofs.Words.{sym, ◌∙◌, ℕ, List, slice_index_or, NumberMap, meets, Handover, Row, Message}
-use Rattle.rk_inv_base.proofs.Words.{HandoverFits, Terms}
+use Rattle.rk_inv_base.proofs.Words.{arith, sym, ◌∙◌, ℕ, List, slice_index_or, NumberMap, meets, Handover, Row, Message, HandoverFits}
+use Rattle.rk_inv_base.proofs.Words.{Terms}
 use Rattle.rk_inv_base.proofs.Base.{LooksAs}
 
 -- a tablet that looks as before fits beside a row as before

@@ -1,6 +1,5 @@
 -- What a change of one master makes of a view: one equation for each kind of change.
-use Rattle.rk_inv_base.proofs.Words.{arith}
-use Rattle.rk_inv_base.proofs.Words.{◌≡◌, ℕ, List, refl, ◌∙◌, NumberMap, Call, Ended, Held, Handover, Log, Gather, marks_of, Master}
+use Rattle.rk_inv_base.proofs.Words.{arith, ◌≡◌, ℕ, List, refl, ◌∙◌, NumberMap, Call, Ended, Held, Handover, Log, Gather, marks_of, Master}
 use Rattle.rk_inv_base.proofs.Words.{tablet_at, with_tablet, with_pulling, Tablet, Pulling, World, master_at, tablet_in, with_master}
 use Rattle.rk_inv_base.proofs.Words.{Written, written_by, put, put2, role_taken, View, view}
 use Rattle.rk_inv_base.proofs.views.Put.{put_is, put_same, put2_same}

@@ -9,7 +9,7 @@ use Rattle.rk_inv_base.proofs.Words.{outcome_of, post_of, rests}
 use Rattle.rk_inv_base.proofs.rows.Apart.{same_number}
 use Rattle.rk_inv_events.proofs.Words.{All_pairs, each_from_pairs, ends_from_pairs, pairs_from_ends, role_fits, row_in, speaks_serving}
 use Rattle.rk_inv_events.proofs.Words.{by_found}
-use Rattle.rk_inv_events.proofs.events.PostsOf.{rebuilder_keeps}
+use Rattle.rk_inv_events.proofs.events.PostsOf.{has_post, serves_in}
 
 -- ---- completions that tell the end of a call have that end, and no other one of its client
 
@@ -102,7 +102,7 @@ module _ (v : View) (sound : SoundView v) (row : Row) (master : ℕ) (call : Cal
 
   -- nor is it one of a rebuild, since the master serves
   of_rebuild : IsStagedEnd v.rows (rests v) master row.tablet (v.handovers master row.tablet).term (end_of call.client call.seq end) → ⊥
-  of_rebuild staged = grind (arith, same_number, lineage_of, rebuilder_keeps, role_fits)
+  of_rebuild staged = grind (arith, same_number, lineage_of, role_fits, has_post, serves_in, post_of)
 
   pub has_record : HasRecord v.journal call end
   has_record =

@@ -14,9 +14,7 @@ use Rattle.rk_inv_events.proofs.Words.{all_find, find_passes, by_found}
 
 -- a tablet that pulls knows a key by its hash or by its bucket
 known_by : (receives hash bucket : Bool) → receives ≡ true → (not receives || hash || bucket) ≡ true → (bucket ≡ true) ⊎ (hash ≡ true)
-known_by true true bucket is known = inr known
-known_by true false bucket is known = inl known
-known_by false hash bucket is known = absurd (cc is)
+known_by receives hash bucket is known = grind arith
 
 pub has_arrived : (tablet : Tablet) (table : ℕ) (key : List ℕ) → is_known tablet (hash_of key) None ≡ true
     → (items : List Held) (x : Held) → Contains items x → is_of table key x ≡ true → HasArrived tablet.handover.role tablet.pulling items x
@@ -53,11 +51,8 @@ module _ (range : Range) (list : List Entry) (records : List Held) (table : ℕ)
       ((its y (All-contains (IsIn range) (items_of list) y within best.stands)).1 (newest_own (items_of list) table key y is))
       best.of_record
 
-  there_newest : (x : Held) → found table key records ≡ Some x → newest (items_of list) table key ≡ Some x
-  there_newest x is = grind (arith, is_of, find_passes, is_of_parts, newest, items_of, item_in, found_stands)
-
   pub table_found : found table key records ≡ newest (items_of list) table key
-  table_found = grind (arith, found, newest, items_of, there_newest, newest_there)
+  table_found = grind (arith, found, newest, items_of, newest_there, is_of, find_passes, is_of_parts, item_in, found_stands)
 
 -- ---- a target
 

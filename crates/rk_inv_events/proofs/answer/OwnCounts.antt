@@ -3,18 +3,13 @@ use Rattle.std.proofs.Common.{Contains, List, None, Option, Some, arith, drop, f
 use Rattle.std.proofs.Common.{nat_le, nat_lt, refl, slice_get, sym, take, true, ℕ, ◌&&◌, ◌+◌, ◌-◌, ◌∙◌, ◌≡◌}
 use Rattle.rk_entry.specs.declared.entry.Entry.TheVariants as entries
 use Rattle.rk_transfer.specs.declared.role.Role.TheVariants as roles
-use Rattle.rk_inv_base.proofs.Words.{All-contains, Any-from_list_any, Contains-append_left, Entry, HasOwnRange, Held, IsOfRange, Mark}
-use Rattle.rk_inv_base.proofs.Words.{Role, Row, SoundView, View, Written, and_parts, applied_entries, cases_Bool, counting}
-use Rattle.rk_inv_base.proofs.Words.{counts, entries_from, false≢true, has_merged, is_in, is_marked, is_serving, items_in, items_of}
-use Rattle.rk_inv_base.proofs.Words.{log_material, named, number_of, row_of, side_entries, unmarked_from}
+use Rattle.rk_inv_base.proofs.Words.{All-contains, Any-from_list_any, Contains-append_left, Entry, HasOwnRange, Held, IsOfRange, Mark, Role}
+use Rattle.rk_inv_base.proofs.Words.{Row, SoundView, View, Written, and_parts, applied_entries, cases_Bool, counting, counts, entries_from}
+use Rattle.rk_inv_base.proofs.Words.{false≢true, is_in, is_marked, is_serving, items_in, items_of, log_material, named, number_of, row_of}
+use Rattle.rk_inv_base.proofs.Words.{side_entries, unmarked_from}
 use Rattle.rk_inv_base.proofs.logs.MarkedApart.{in_piece, place_of}
 use Rattle.rk_inv_base.proofs.pulls.Joining.{kept_stands, stands_kept}
 use Rattle.rk_inv_events.proofs.Words.{at_place, flat_from, flat_stands, found_stands, front_at, in_one_row, row_in, unmarked_stands}
-
--- a master that merged does not serve
-merged_apart : (role : Role) → has_merged role ≡ true → is_serving role ≡ true → ⊥
-merged_apart (roles.Rebuilding from entry) merged serves = absurd (cc serves)
-merged_apart role merged serves = absurd (cc merged)
 
 module _ (v : View) (row : Row) (master : ℕ) (sound : SoundView v) (has : Contains v.rows row) (lives : v.live master ≡ true) (serves : is_serving (v.handovers master row.tablet).role ≡ true) where
   abbrev w : Written
@@ -22,7 +17,7 @@ module _ (v : View) (row : Row) (master : ℕ) (sound : SoundView v) (has : Cont
 
   -- it marked nothing of the row's tablet
   unmarked_here : (mark : Mark) → Contains w.marks mark → row.tablet ≡ mark.tablet → ⊥
-  unmarked_here mark stands its = grind (arith, row_in, merged_apart)
+  unmarked_here mark stands its = grind (arith, row_in)
 
   -- an item of a piece of another row is not of this one
   of_other : (other : Row) (held : Held) → Contains v.rows other → (row.tablet ≡ other.tablet → ⊥) → IsOfRange other.range (entries.Held held) → is_in row.range held ≡ true → ⊥

@@ -1,19 +1,19 @@
 -- A sound and well formed lane stays sound when a master answers a get: what it tells is what the journal leaves, and the read gets its
 -- record at once.
-use Rattle.std.proofs.Common.{Bool, List, None, Option, Some, [], ap, arith, cond, eq-eqb, false, length, not, position, refl, slice_get}
-use Rattle.std.proofs.Common.{subst, sym, true, ℕ, ◌&&◌, ◌++◌, ◌-◌, ◌||◌, ◌∙◌, ◌∷◌, ◌≡◌}
+use Rattle.std.proofs.Common.{List, None, Option, Some, [], ap, arith, eq-eqb, false, length, not, refl, slice_get, subst, sym, true, ℕ}
+use Rattle.std.proofs.Common.{◌&&◌, ◌++◌, ◌-◌, ◌||◌, ◌∙◌, ◌∷◌, ◌≡◌}
 use Rattle.rk_model.proofs.Places.{slice_get_end}
 use Rattle.rk_model.specs.History.{record_of as entry_record}
 use Rattle.rk_model.specs.Machine.{Entry as MapEntry, gone, live as live_entry, read_of as machine_read}
 use Rattle.rk_types.specs.declared.call.Answer.TheVariants as answers
 use Rattle.rk_types.specs.declared.call.Op.TheVariants as ops
 use Rattle.rk_world.specs.Requests.{read_of}
-use Rattle.rk_inv_base.proofs.Words.{Allowed, Call, Held, IsMaster, IsSound, IsTruth, IsWellFormed, Ledger, Master, MaySend, Message, Op}
-use Rattle.rk_inv_base.proofs.Words.{Outcome, Placed, Reads, Request, RequestFits, Served, Tablet, View, World, answering, base_map}
-use Rattle.rk_inv_base.proofs.Words.{call_of, choice_of, cond-false, cond-true, filled, found, hash_of, is_known, is_mutation}
-use Rattle.rk_inv_base.proofs.Words.{is_of_mutation, items_of, lives, map_after, master_at, never, newest, next_record, option_or, place_of}
-use Rattle.rk_inv_base.proofs.Words.{record_of, staged, state_of, tablet_in, truths, view, with_all_sent, with_all_served, with_ledger}
-use Rattle.rk_inv_base.proofs.Words.{with_marks, with_master, with_mutation, with_record, Row}
+use Rattle.rk_inv_base.proofs.Words.{Call, Held, IsMaster, IsSound, IsTruth, IsWellFormed, Ledger, Master, MaySend, Message, Op, Outcome}
+use Rattle.rk_inv_base.proofs.Words.{Placed, Reads, Request, RequestFits, Served, Tablet, View, World, answering, base_map, call_of}
+use Rattle.rk_inv_base.proofs.Words.{choice_of, cond-false, cond-true, filled, found, hash_of, is_known, is_mutation, is_of_mutation}
+use Rattle.rk_inv_base.proofs.Words.{items_of, lives, map_after, master_at, never, newest, next_record, place_of, record_of, staged}
+use Rattle.rk_inv_base.proofs.Words.{state_of, tablet_in, truths, view, with_all_sent, with_all_served, with_ledger, with_marks}
+use Rattle.rk_inv_base.proofs.Words.{with_master, with_mutation, with_record, Row}
 use Rattle.rk_inv_base.proofs.calls.ReadRecorded.{sound_recorded}
 use Rattle.rk_inv_events.proofs.Words.{MayRead, length_push, row_true, sound_sent, was_read}
 use Rattle.rk_inv_events.proofs.answer.FoundItems.{has_arrived}
@@ -32,9 +32,6 @@ reads_entry never = refl
 reads_entry (live_entry version value) = refl
 reads_entry (gone version) = refl
 
-allowed_get : (entry : MapEntry) (op : Op) (outcome : Outcome) → op ≡ ops.Get → outcome ≡ machine_read entry → Allowed entry op outcome
-allowed_get entry op outcome is told = subst (λ (o : Op). Allowed entry o outcome) (sym is) told
-
 -- ---- its record and its reply
 
 -- a master may tell the outcome of a read that has got the last record
@@ -49,9 +46,7 @@ module _ (v : View) (old : List Placed) (master seen : ℕ) (call : Call) (outco
   read_there i = (not (is_get i) && (eq-eqb call.client call.client refl i) && (eq-eqb call.seq call.seq refl i)) || false
 
   place_is : place_of v.journal served call.client call.seq ≡ Some (length old)
-  place_is = cond-true (was_read served call.client call.seq) (Some (length v.journal - 1))
-      (position (is_of_mutation call.client call.seq) v.journal) read_there ∙ ap (λ (list : List Placed). Some (length list - 1)) journal_is
-      ∙ ap (λ (n : ℕ). Some n) (let longer = length_push old new in omega (arith, longer))
+  place_is = grind (arith, cond-true, was_read, is_of_mutation, read_there, length_push)
 
   stands : slice_get v.journal (length old) ≡ Some new
   stands = ap (λ (list : List Placed). slice_get list (length old)) journal_is ∙ slice_get_end old new
@@ -91,9 +86,7 @@ module _ (w : World) (master client : ℕ) (request : Request) (outcome : Outcom
 
   -- what is found is what the truth leaves
   finds : state_of (master_at w master) (call_of client request) ≡ found request.table request.key (v.records master)
-  finds =
-      ap
-      (λ (b : Bool). option_or (cond b (newest (items_of (staged own)) call.table call.key) None) (found call.table call.key own.records)) is_get
+  finds = grind (arith, newest, items_of, staged, found, is_get)
 
   knows : Knows (view w) sound at.served.row master at.served.has_row alive at.served.serves request.table request.key at.served.in_row
   knows none =
@@ -113,7 +106,7 @@ module _ (w : World) (master client : ℕ) (request : Request) (outcome : Outcom
       ∙ ap read_of (truth.live request.table request.key at.served.in_row) ∙ reads_entry entry
 
   may_read : MayRead (view w) master (call_of client request) request.seen outcome
-  may_read = grind (arith, is_get, at, allowed_get, is_read, tells)
+  may_read = grind (arith, is_get, at, is_read, tells)
 
   -- the master as it was, and the ledger with the record
   abbrev same : World
@@ -127,9 +120,7 @@ module _ (w : World) (master client : ℕ) (request : Request) (outcome : Outcom
       (subst (λ (u : View). MayRead u master call request.seen outcome) (sym (view_unchanged w master)) may_read)
 
   ledger_is : with_marks (with_all_served request.seen w.ledger ((record { call = call_of client request; outcome = outcome }) ∷ [])) [] ≡ recorded
-  ledger_is = ap (λ (l : Ledger). with_marks l [])
-      (cond-false (is_mutation request.op) (with_mutation w.ledger (record { call = call; outcome = outcome })) recorded is_get)
-      ∙ marks_same recorded
+  ledger_is = grind (arith, with_marks, cond-false, is_mutation, with_mutation, is_get, marks_same)
 
   pub sound_read : IsSound (done_as w master client request (Reads outcome))
   sound_read =

@@ -2,11 +2,11 @@
 use Rattle.std.proofs.Common.{arith}
 use Rattle.std.proofs.lemmas.List.Folds.{find_at}
 use Rattle.std.proofs.Common.{Bool, Contains, List, None, Some, [], ap, eq-eqb, eqb-true, find, length, lt-ltb, ltb, position, slice_get}
-use Rattle.std.proofs.Common.{sym, true, ℕ, ◌&&◌, ◌==◌, ◌∙◌, ◌≡◌}
+use Rattle.std.proofs.Common.{sym, true, ℕ, ◌∙◌, ◌≡◌}
 use Rattle.rk_message.specs.declared.message.Body.TheVariants as bodies
 use Rattle.rk_types.specs.declared.call.Answer.TheVariants as answers
 use Rattle.rk_types.specs.declared.node.Node.TheVariants as nodes
-use Rattle.rk_inv_base.proofs.Words.{Call, End, IsMaster, IsSound, IsWellFormed, MaySend, Placed, Repeats, Request, SoundView, Tablet, View}
+use Rattle.rk_inv_base.proofs.Words.{Call, End, IsMaster, IsSound, IsWellFormed, MaySend, Repeats, Request, SoundView, Tablet, View}
 use Rattle.rk_inv_base.proofs.Words.{WasAsked, World, and_from, and_parts, answering, call_of, choice_of, cond-true, false≢true, filled}
 use Rattle.rk_inv_base.proofs.Words.{is_mutation, is_of_mutation, lives, look, master_at, outcome_of, slice_get-get_or, view, with_master}
 use Rattle.rk_inv_base.proofs.Words.{slice_get_within}
@@ -46,10 +46,7 @@ first_one {X} p xs x at passes =
 -- a master may tell the outcome of a mutation of which the journal has the record
 module _ (v : View) (sound : SoundView v) (master : ℕ) (call : Call) (end : End) (has : HasRecord v.journal call end) where
   first : IsFirst (is_of_mutation call.client call.seq) v.journal
-  first = first_one (is_of_mutation call.client call.seq) v.journal has.placed has.stands
-      (and_from (is_mutation has.placed.call.op) ((has.placed.call.client == call.client) && (has.placed.call.seq == call.seq)) has.mutation
-      (and_from (has.placed.call.client == call.client) (has.placed.call.seq == call.seq)
-      (eq-eqb has.placed.call.client call.client has.client) (eq-eqb has.placed.call.seq call.seq has.seq)))
+  first = search (first_one, is_of_mutation, and_from, is_mutation, eq-eqb)
 
   -- the first record of the mutation is the only one
   one_record : (first.first.call.client ≡ call.client) × (first.first.call.seq ≡ call.seq) × (first.first ≡ has.placed)
@@ -62,9 +59,7 @@ module _ (v : View) (sound : SoundView v) (master : ℕ) (call : Call) (end : En
         body = bodies.Reply
             (record { seq = call.seq; stamp = 0; place = 0; answer = answers.Done (outcome_of end) });
       }))
-  may_tell = may_tell_at v master [] (record { call = call; outcome = outcome_of end }) first.place first.first
-      first.place_is first.stands one_record.0 one_record.1
-      (ap (λ (p : Placed). p.outcome) one_record.2 ∙ has.outcome)
+  may_tell = grind (arith, may_tell_at, outcome_of, first, one_record)
 
 module _ (w : World) (master client : ℕ) (request : Request) (end : End) (sound : IsSound w) (formed : IsWellFormed w) (there : IsMaster w.coordinator.masters master)
     (was_asked : WasAsked ((view w).asked client) (view w).journal (call_of client request)) (chose : choice_of (master_at w master) (call_of client request) ≡ Repeats end) (alive : lives w master ≡ true) where

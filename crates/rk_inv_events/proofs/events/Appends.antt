@@ -2,7 +2,7 @@
 -- known to hold whole, at the place up to which it is known to hold it.
 use Rattle.std.proofs.Common.{All, Bool, List, None, Option, Some, [], ap, append-nil, arith, cond, drop, false, find, get_or, inl, inr}
 use Rattle.std.proofs.Common.{le-ltb, leb-true, length, length-take-le, lt-ltb, not, option_map, refl, subst, suc, sym, take}
-use Rattle.std.proofs.Common.{take-append-drop, true, zero, ℕ, ◌++◌, ◌+◌, ◌-◌, ◌<◌, ◌∙◌, ◌∷◌, ◌≡◌, ◌≤◌, ◌⊎◌}
+use Rattle.std.proofs.Common.{take-append-drop, true, zero, ℕ, ◌+◌, ◌-◌, ◌<◌, ◌∙◌, ◌∷◌, ◌≡◌, ◌≤◌, ◌⊎◌}
 use Rattle.rk_message.specs.declared.message.Body.TheVariants as bodies
 use Rattle.rk_types.specs.declared.node.Node.TheVariants as nodes
 use Rattle.rk_inv_base.proofs.Words.{All-cons, All-contains, All-nil, Append, FIRST_SIDE_SEGMENT, IsBackup, IsFromLog, IsKnownBefore}
@@ -105,8 +105,7 @@ from_log log known segment has before within =
     record {
       before = take at segment.bytes;
       behind = [];
-      bytes = has ∙ sym (take-append-drop at segment.bytes)
-          ∙ ap (λ (rest : List ℕ). take at segment.bytes ++ rest) (sym (append-nil (drop at segment.bytes)));
+      bytes = grind (arith, take-append-drop, append-nil, segment.bytes);
       place = length-take-le at segment.bytes (rw has at within);
       in_order = λ some. before;
     }

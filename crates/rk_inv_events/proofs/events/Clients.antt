@@ -11,11 +11,10 @@ use Rattle.rk_world.specs.Refusals.{is_for}
 use Rattle.rk_world.specs.declared.event.Taken.TheVariants as takes
 use Rattle.rk_inv_base.proofs.Words.{All-contains, Answer, AnswerFits, Body, Call, ClientTurn, IsAccepted, IsAfterStart, IsRecordAt}
 use Rattle.rk_inv_base.proofs.Words.{IsSound, LastCall, Located, MayAccept, MayAct, Message, Node, Outcome, Reply, RequestFits, Says}
-use Rattle.rk_inv_base.proofs.Words.{Session, Visited, WasAsked, World, accept, accept_by, accept_refusal, accepting, and_parts, ask}
-use Rattle.rk_inv_base.proofs.Words.{ask_by, ask_refusal, asked_by, asking, asking_by, call_lane, client_added, cond_both, fits_with, get}
-use Rattle.rk_inv_base.proofs.Words.{is_accepted, is_added, is_asked, is_call, is_last, ledger_asked, ledger_requested, ledger_taken}
-use Rattle.rk_inv_base.proofs.Words.{sent_again, session_turn, taking, turn_of, untouched, view, where_true, with_asked}
-use Rattle.rk_inv_base.proofs.Words.{with_ledger, with_sends, world_visited}
+use Rattle.rk_inv_base.proofs.Words.{Session, Visited, WasAsked, World, accept, accept_by, accepting, and_parts, ask, ask_by, ask_refusal}
+use Rattle.rk_inv_base.proofs.Words.{asked_by, asking, asking_by, call_lane, client_added, cond_both, fits_with, get, is_accepted, is_added}
+use Rattle.rk_inv_base.proofs.Words.{is_asked, is_call, is_last, ledger_asked, ledger_requested, ledger_taken, sent_again, session_turn}
+use Rattle.rk_inv_base.proofs.Words.{taking, turn_of, untouched, view, where_true, with_asked, with_ledger, with_sends, world_visited}
 use Rattle.rk_inv_base.proofs.calls.Accepted.{sound_accepted, stands_there}
 use Rattle.rk_inv_base.proofs.calls.CallAsked.{asked_put, sound_asked}
 use Rattle.rk_inv_base.proofs.calls.Come.{sound_come}
@@ -110,11 +109,7 @@ module _ (w : World) (session : Session) (call : Call) (own : call.client ≡ se
   request_fits tablet master = record { was_asked = rw asked (inl of_call); seen = rw asked (λ same. refl) }
 
   requested : (tablet master : ℕ) → IsSound (turned_by (request_of session call tablet master))
-  requested tablet master =
-      let message = request_of session call tablet master in
-      let saved = sound_saved w session.client message sound (record { request = (refl, request_fits tablet master) }) in
-      sound_sent (request_saved w session.client message) message saved
-      (may_request (view (request_saved w session.client message)) session.client (nodes.Master master) _ (request_fits tablet master))
+  requested tablet master = search (sound_saved, request_fits, sound_sent, request_saved, may_request, view)
 
   turned_to : (tablet : ℕ) (owner : Option ℕ) → IsSound (turned_by (turn_to session call tablet owner).message)
   turned_to tablet None = looked_up
@@ -155,9 +150,7 @@ module _ (w : World) (session : Session) (sound : IsSound w) (may : MayAct w.coo
 -- a client takes its answer, where that says that the call was carried out and this lane asked for it
 module _ (w : World) (number : ℕ) (session : Session) (call : Call) (sound : IsSound w) (asked : is_asked w.ledger session call ≡ true) (own : call.client ≡ session.client) where
   pub is_last_there : HasAsked w session call
-  is_last_there = asked_is call session.seen (asked_by w.ledger session.client)
-      (and_parts (is_last call session.seen (asked_by w.ledger session.client)) (not (is_accepted w.ledger.journal session.client call.seq))
-      asked).0
+  is_last_there = grind (arith, asked_is, asked_by, and_parts, is_last, is_accepted)
 
   none_accepted : is_accepted w.ledger.journal session.client call.seq ≡ false
   none_accepted = grind (arith, not-true, and_parts, is_last, asked_by, is_accepted)
@@ -204,9 +197,5 @@ module _ (w : World) (number : ℕ) (session : Session) (sound : IsSound w) (may
       says : Says w.ledger.journal (nodes.Client session.client) message.body
       says = rw (for_client message.to to) at (sound.messages.others number message is)
 
-  accepts_by : (found : Option Message) → get w.wire.messages number ≡ found
-      → IsSound (world_visited w (accept_by w number session (accept_refusal w number session.client found)))
-  accepts_by found is = grind (arith, world_visited, accept_by, accepting, takes_one, where_true, is_added)
-
   pub sound_accepts : IsSound (world_visited w (accept w number session))
-  sound_accepts = accepts_by (get w.wire.messages number) refl
+  sound_accepts = grind (arith, world_visited, accept_by, accepting, takes_one, where_true, is_added)

@@ -1,8 +1,7 @@
 -- A sound and well formed lane stays sound when a tablet is added, when one begins to move or is split, and when crashes are noticed.
-use Rattle.std.proofs.Common.{All, Bool, Contains, IfSome, List, None, Option, Some, [], ap, arith, eq-eqb, filter, fold, map, not}
-use Rattle.std.proofs.Common.{option_map, refl, subst, suc, true, unwrap_or, zero, ℕ, ◌&&◌, ◌++◌, ◌+◌, ◌==◌, ◌∷◌, ◌≡◌, ◌≤◌, sym, ◌∙◌}
+use Rattle.std.proofs.Common.{All, Bool, Contains, IfSome, List, None, Option, Some, [], ap, arith, eq-eqb, filter, fold, map, not, refl}
+use Rattle.std.proofs.Common.{subst, suc, true, unwrap_or, zero, ℕ, ◌&&◌, ◌++◌, ◌+◌, ◌==◌, ◌∷◌, ◌≡◌, ◌≤◌, sym, ◌∙◌}
 use Rattle.rk_entry.specs.declared.entry.Entry.TheVariants as entries
-use Rattle.rk_tablet_map.specs.Rows.{split_fault}
 use Rattle.rk_world.specs.Migrations.{migrate_fault_by, migrate_fault_of}
 use Rattle.rk_world.specs.Notices.{is_named}
 use Rattle.rk_world.specs.Splits.{tablet_split, tablet_split_fault_by, tablet_split_fault_of}
@@ -11,15 +10,15 @@ use Rattle.rk_world.specs.declared.error.StepError.TheVariants as errors
 use Rattle.rk_world.specs.declared.event.Event.TheVariants as events
 use Rattle.rk_inv_base.proofs.Words.{All-append, All-cons, All-contains, All-filter, All-head, All-map, All-nil, All-tail, All-weaker}
 use Rattle.rk_inv_base.proofs.Words.{Coordinator, EachIn, Entry, HasSome, IsFormedEntry, IsFormedMaster, IsFormedRow, IsMaster, IsSound}
-use Rattle.rk_inv_base.proofs.Words.{IsWellFormed, Limits, Master, MayHappen, Owned, Phase, Range, Row, Tablet, World, add_fault}
-use Rattle.rk_inv_base.proofs.Words.{coordinator_notice, crashed_masters, get, has_crashed, is_noticed, limits_of, master_at, migrating}
-use Rattle.rk_inv_base.proofs.Words.{new_master, new_row, no_tablet, notice_one, notice_order, number_of, option_or, phase_noticed}
-use Rattle.rk_inv_base.proofs.Words.{range_in, range_with_len, refusal, row_migrated, row_noticed, row_of, tablet_at, tablet_in}
-use Rattle.rk_inv_base.proofs.Words.{tablet_migrated, view, where_true, with_coordinator, IsInOrder, cond-true}
+use Rattle.rk_inv_base.proofs.Words.{IsWellFormed, Limits, Master, MayHappen, Owned, Phase, Range, Row, Tablet, World, coordinator_notice}
+use Rattle.rk_inv_base.proofs.Words.{crashed_masters, get, has_crashed, is_noticed, limits_of, master_at, migrating, new_master, new_row}
+use Rattle.rk_inv_base.proofs.Words.{no_tablet, notice_one, notice_order, number_of, phase_noticed, range_in, range_with_len, refusal}
+use Rattle.rk_inv_base.proofs.Words.{row_migrated, row_noticed, row_of, tablet_at, tablet_in, tablet_migrated, view, where_true}
+use Rattle.rk_inv_base.proofs.Words.{with_coordinator, IsInOrder, cond-true}
 use Rattle.rk_inv_base.proofs.rows.CrashNoticed.{sound_crash_noticed}
 use Rattle.rk_inv_base.proofs.rows.MigrationBegun.{sound_migrated}
 use Rattle.rk_inv_base.proofs.rows.RowAdded.{sound_added}
-use Rattle.rk_inv_wellformed.proofs.lanes.Events.{does_not_hold, has_no_fault, no_first, no_inner, no_second}
+use Rattle.rk_inv_wellformed.proofs.lanes.Events.{has_no_fault, no_inner, no_second}
 use Rattle.rk_inv_rows.proofs.split.Split.{sound_split}
 use Rattle.rk_inv_events.proofs.Words.{HasSomeIn, MayAdd, MayNotice, all_by, crash_noticed_in, filter_from, found_stands, kept_passes}
 use Rattle.rk_inv_events.proofs.Words.{tablet_added, by_found}
@@ -27,9 +26,7 @@ use Rattle.rk_inv_events.proofs.Words.{tablet_added, by_found}
 -- ---- ranges of a well formed lane are not empty
 
 entry_some : (limits : Limits) (entry : Entry) → IsFormedEntry limits entry → HasSomeIn entry
-entry_some limits (entries.Carried carried) formed = formed.lawful.range.last.least_is
-entry_some limits (entries.Joined joined) formed = formed.lawful.range.last.least_is
-entry_some limits _ formed = tt
+entry_some limits entry formed = grind arith
 
 module _ (w : World) (formed : IsWellFormed w) where
   -- what a new master has, and each that is well formed, each master of the lane has
@@ -53,10 +50,6 @@ module _ (w : World) (formed : IsWellFormed w) where
   rows_some = All-weaker (IsFormedRow (limits_of w)) (λ row. row.range.first ≤ row.range.last) (λ row it. it.range.last.least_is)
       w.coordinator.rows formed.coordinator.rows
 
-  logs_some : (q : ℕ) → All HasSomeIn (master_at w q).log.entries
-  logs_some q = of_master (λ m. All HasSomeIn m.log.entries) q (All-nil HasSomeIn)
-      (λ m is its. All-weaker (IsFormedEntry (limits_of w)) HasSomeIn (entry_some (limits_of w)) m.log.entries its.written)
-
   tablets_some : (q tablet : ℕ) → 1 ≤ (tablet_in w q tablet).handover.term → HasSome (tablet_in w q tablet).handover.range
   tablets_some q tablet = of_tablet (λ t. 1 ≤ t.handover.term → HasSome t.handover.range) q tablet (λ begun. absurd (omega (arith, begun)))
       (λ m its t is begun. (its.tablets tablet t is).range.last.least_is)
@@ -67,23 +60,9 @@ module _ (w : World) (formed : IsWellFormed w) where
 -- ---- a tablet is added
 
 module _ (w : World) (tablet : ℕ) (range : Range) (master : ℕ) (sound : IsSound w) (formed : IsWellFormed w) (may : MayHappen w (events.AddTablet tablet range master)) (none : refusal w (events.AddTablet tablet range master) ≡ None) where
-  no_cause : option_or (where_true (has_crashed w master) (errors.Dead master))
-      (option_map errors.Map (add_fault w.coordinator.rows (new_row tablet range master))) ≡ None
-  no_cause = has_no_fault w (events.AddTablet tablet range master) none
-
   may_add : MayAdd (view w) (new_row tablet range master) master
-  may_add = record {
-    lives = ap not (does_not_hold (has_crashed w master) (errors.Dead master) (no_first _ _ no_cause));
-    there = may.2;
-    fits = no_inner errors.Map (add_fault w.coordinator.rows (new_row tablet range master)) (no_second _ _ no_cause);
-    begins = refl;
-    first_term = refl;
-    some = may.1.last.least_is;
-    entries = logs_some w formed;
-    tablets = tablets_some w formed;
-    orders = orders_some w formed;
-    base = formed.base;
-  }
+  may_add =
+      grind (arith, tablets_some)
 
   pub sound_tablet_added : IsSound (tablet_added w tablet range master)
   sound_tablet_added = sound_added w tablet range master sound may_add
@@ -124,14 +103,7 @@ module _ (w : World) (tablet at new : ℕ) (sound : IsSound w) (none : refusal w
   -- a row that may be split is owned
   halves : (row : Row) → Contains w.coordinator.rows row → (phase : Phase) → row.phase ≡ phase
       → tablet_split_fault_by w.coordinator row phase at new ≡ None → IsSound (tablet_split w row.tablet at new)
-  halves row stands (Owned owner from) is fits = sound_split w row at new sound
-      (record {
-        has_row = stands;
-        owner = owner;
-        from = from;
-        phase_is = is;
-        fits = no_inner moves.Map (split_fault w.coordinator.rows row.tablet at new) fits;
-      })
+  halves row stands (Owned owner from) is fits = search (sound_split, no_inner, row.tablet)
   halves row stands _ is fits = absurd (cc fits)
 
   pub sound_event_split : IsSound (tablet_split w tablet at new)
@@ -205,8 +177,4 @@ module _ (w : World) (master : ℕ) (sound : IsSound w) (formed : IsWellFormed w
       (All-filter (λ m. is_named w.coordinator.rows m && (m == master)) Fits unnoticed each))
 
   pub sound_noticed : IsSound (with_coordinator w (coordinator_notice w.coordinator master (crashed_masters w)))
-  sound_noticed = sound_all_noticed w (notice_order w.coordinator.rows master unnoticed) sound
-      (record {
-        each = in_order;
-        ranges = rows_some w formed;
-      })
+  sound_noticed = search (sound_all_noticed, notice_order, in_order, rows_some)

@@ -1,15 +1,14 @@
 -- What the coordinator may order: each row's duty, and what it tells an owner and a source, says just what its receiver may follow. So a
 -- sound lane stays sound when the coordinator takes its turn, and sends each row's duty.
 use Rattle.std.proofs.Common.{All, Bool, Contains, IfSome, List, None, Option, Some, [], ap, arith, cond, eq-eqb, eqb-true, false, inl, inr}
-use Rattle.std.proofs.Common.{is_some, ne_eqb, refl, subst, sym, true, ℕ, ◌&&◌, ◌==◌, ◌||◌, ◌∙◌, ◌≡◌, ◌≢◌, ◌≤◌}
+use Rattle.std.proofs.Common.{is_some, ne_eqb, refl, sym, true, ℕ, ◌==◌, ◌||◌, ◌∙◌, ◌≡◌, ◌≢◌, ◌≤◌}
 use Rattle.rk_message.specs.declared.message.Body.TheVariants as bodies
 use Rattle.rk_types.specs.declared.node.Node.TheVariants as nodes
-use Rattle.rk_inv_base.proofs.Words.{All-nil, AsksFor, Bystander, Grant, GrantIn, Handed, Handover, HasLineage, HasSource}
-use Rattle.rk_inv_base.proofs.Words.{Holds, InvitedTarget, IsClosing, IsMovingOrOwned, IsOwnedBy, IsOwnedByOther, IsOwner, IsRebuiltBy}
-use Rattle.rk_inv_base.proofs.Words.{IsSound, MaySend, Member, Moving, Opening, OpeningSource, Owned, Owner, Phase, Prepare, Rebuilding}
-use Rattle.rk_inv_base.proofs.Words.{Role, Row, SoundView, View, World, and_parts, bond_of, cases_eq, coordinator_turn, get, get_or}
-use Rattle.rk_inv_base.proofs.Words.{handed_by, handed_for_grant, is_member, is_waiting, is_waiting_at, is_wanting, lineage_of, own_to}
-use Rattle.rk_inv_base.proofs.Words.{post_of, release_to, row_duty, row_of, row_tenure, second_has, second_of, view, with_sends, cond_both}
+use Rattle.rk_inv_base.proofs.Words.{All-nil, AsksFor, Bystander, Grant, GrantIn, Handed, Handover, HasLineage, HasSource, InvitedTarget}
+use Rattle.rk_inv_base.proofs.Words.{IsClosing, IsMovingOrOwned, IsOwnedBy, IsOwnedByOther, IsOwner, IsRebuiltBy, IsSound, MaySend, Member}
+use Rattle.rk_inv_base.proofs.Words.{Moving, Opening, OpeningSource, Owned, Owner, Phase, Prepare, Rebuilding, Row, SoundView, View, World}
+use Rattle.rk_inv_base.proofs.Words.{and_parts, cases_eq, coordinator_turn, get, get_or, handed_by, is_member, is_waiting, is_waiting_at}
+use Rattle.rk_inv_base.proofs.Words.{is_wanting, lineage_of, own_to, post_of, release_to, row_duty, row_of, row_tenure, view, with_sends}
 use Rattle.rk_inv_events.proofs.Words.{SoundRow, role_fits, row_formed, row_in}
 use Rattle.rk_inv_events.proofs.events.RowsApart.{apart_from, below_others, its_range_within, row_found, same_row, within_term}
 use Rattle.rk_inv_events.proofs.events.Sending.{Hands, all_of_each, may_hand, may_send, one_sent, sound_all_sent}
@@ -93,16 +92,12 @@ module _ (v : View) (row : Row) (sound : SoundView v) (stands : Contains v.rows 
 
 -- ---- where a row is owned
 
--- an owner keeps its row's term
-owner_term : (role : Role) (place term own applied : ℕ) → Holds (bond_of (Owner place) role) term own applied → own ≡ term
-owner_term role place term own applied fits = grind arith
-
 module _ (v : View) (row : Row) (sound : SoundView v) (stands : Contains v.rows row) (master from : ℕ) (is : row.phase ≡ Owned master from) where
   post : post_of row.phase master ≡ Owner from
   post = ap (λ (phase : Phase). post_of phase master) is ∙ ap (λ (b : Bool). cond b (Owner from) Bystander) (eq-eqb master master refl)
 
   keeps_term : v.live master ≡ true → (v.handovers master row.tablet).term ≡ row.term
-  keeps_term lives = grind (arith, role_fits, owner_term, post)
+  keeps_term lives = grind (arith, role_fits, post)
 
   -- an Own of the owner
   pub may_own : MaySend v (own_to master row)
@@ -166,17 +161,7 @@ module _ (v : View) (row : Row) (sound : SoundView v) (stands : Contains v.rows 
   -- what the Grant hands over to the row, where its target waits for it
   hands_over : (other : Row) → Contains v.rows other → IfSome (handed_by other v.handovers (bodies.Grant granting)) (Hands v other)
   hands_over other at =
-      let second : Option Handover = second_has v.handovers other (second_of (lineage_of other.phase)) in
-      cond_both (row.tablet == other.tablet && is_waiting_at second row.term) (Some handed) None (λ found. IfSome found (Hands v other))
-      (λ takes.
-      let parts = and_parts (row.tablet == other.tablet) (is_waiting_at second row.term) takes in
-      let here : other ≡ row = same_row v row sound stands other at (sym (eqb-true row.tablet other.tablet parts.0)) in
-      let waiting : is_waiting (second_has v.handovers row (second_of (lineage_of row.phase))) ≡ true =
-      subst (λ (r : Row). is_waiting (second_has v.handovers r (second_of (lineage_of r.phase))) ≡ true) here
-      (waits second row.term parts.1) in
-      let found : handed_for_grant row v.handovers v.handed ≡ Some handed =
-      ap (λ (b : Bool). cond b (get v.handed row.tablet) None) waiting ∙ noted in
-      subst (λ (r : Row). Hands v r handed) (sym here) ((rw found at own.floor_granted), (rw found at own.ends_granted))) (λ none. tt)
+      grind (arith, eqb-true)
 
   may_order_grant : MaySend v (record { from = nodes.Coordinator; to = nodes.Master target; body = bodies.Grant granting })
   may_order_grant =
@@ -208,6 +193,5 @@ module _ (w : World) (row : Row) (sound : IsSound w) (stands : Contains w.coordi
   duty_may (Rebuilding lineage to) is = one_sent (view w) _ (may_order_rebuild (view w) row sound stands lineage to is)
 
 pub sound_coordinator_turn : (w : World) → IsSound w → IsSound (with_sends w (coordinator_turn w.coordinator)).world
-sound_coordinator_turn w sound = sound_all_sent w (coordinator_turn w.coordinator) sound
-    (all_of_each (MaySend (view w)) (λ row. row_duty w.coordinator row row.phase) w.coordinator.rows
-    (λ row stands. duty_may w row sound stands row.phase refl))
+sound_coordinator_turn w sound =
+    search (sound_all_sent, coordinator_turn, all_of_each, view, row_duty, duty_may, w.coordinator, w.coordinator.rows)

@@ -49,10 +49,4 @@ module _ (w : World) (formed : IsWellFormed w) (room : HasRoom w) where
       }
 
   pub sound_crash : (master : ℕ) → IsSound w → lives_another w master ≡ true → IsSound (with_crash w master)
-  sound_crash master sound calm = sound_crashed w master sound
-      (record {
-        may = another_lives master calm;
-        ranges = rows_some w formed;
-        readable = readable;
-        gathered = gathered_few w formed master;
-      })
+  sound_crash master sound calm = search (sound_crashed, another_lives, rows_some, readable, gathered_few)

@@ -1,8 +1,7 @@
 -- What a living master may send on its turn for a tablet: it asks its source for what it lacks, reads the next segment of a rebuild, and tells the
 -- coordinator that it has joined or rebuilt the tablet.
-use Rattle.std.proofs.Common.{arith}
-use Rattle.std.proofs.Common.{All, Contains, List, None, Some, [], ap, eq-eqb, false, filter, inl, inr, is_some, map, not, option_map, refl}
-use Rattle.std.proofs.Common.{sym, true, ℕ, ◌<◌, ◌==◌, ◌∙◌, ◌∷◌, ◌≡◌, ◌≤◌}
+use Rattle.std.proofs.Common.{arith, All, Contains, List, None, Some, [], ap, eq-eqb, false, filter, inl, inr, is_some, map, not}
+use Rattle.std.proofs.Common.{option_map, refl, sym, true, ℕ, ◌<◌, ◌==◌, ◌∙◌, ◌∷◌, ◌≡◌, ◌≤◌}
 use Rattle.rk_message.specs.declared.message.Body.TheVariants as bodies
 use Rattle.rk_transfer.specs.declared.role.Role.TheVariants as roles
 use Rattle.rk_types.specs.declared.node.Node.TheVariants as nodes

@@ -23,8 +23,7 @@ module _ {X : Type 0} where
 
   -- what is put last under a number stays
   pub insert_twice : (pairs : NumberMap X) (number : ℕ) (first last : X) → insert (insert pairs number first) number last ≡ insert pairs number last
-  insert_twice [] number first last =
-      ap (λ (order : Ordering). by_order order ((number, last) ∷ (number, first) ∷ []) ((number, last) ∷ []) ((number, first) ∷ (number, last) ∷ [])) (tied_itself nat_cmp_total number)
+  insert_twice [] number first last = grind (arith, by_order, tied_itself)
   insert_twice (pair ∷ pairs) number first last = go (nat_cmp number pair.0) refl (insert_twice pairs number first last)
     where
       go : (order : Ordering) → nat_cmp number pair.0 ≡ order → insert (insert pairs number first) number last ≡ insert pairs number last

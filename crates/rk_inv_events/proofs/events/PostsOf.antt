@@ -135,9 +135,3 @@ Serves _ role term own = ⊥
 pub serves_in : (post : Post) (role : Role) (term own applied : ℕ) → Fits post role term own applied → is_serving role ≡ true
     → Serves post role term own
 serves_in post role term own applied fits serves = grind arith
-
--- who is to rebuild a row and serves keeps a smaller term
-pub rebuilder_keeps : (lineage : List Member) (to term own applied : ℕ) (role : Role)
-    → Fits (post_of (Rebuilding lineage to) to) role term own applied → is_serving role ≡ true
-    → own < term
-rebuilder_keeps lineage to term own applied role fits serves = grind (arith, has_post, serves_in, post_of)

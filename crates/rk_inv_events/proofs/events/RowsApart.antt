@@ -1,6 +1,5 @@
 -- What is known of one row beside all others: none has its number, and none meets its range; and the row of a tablet.
-use Rattle.std.proofs.Common.{Contains, List, Some, [], ap, arith, eq-eqb, false, is_some, refl, true, ℕ, ⊎_elim, ◌==◌, ◌∙◌, ◌∷◌}
-use Rattle.std.proofs.Common.{◌≡◌, ◌≢◌}
+use Rattle.std.proofs.Common.{Contains, List, Some, [], ap, arith, eq-eqb, false, is_some, refl, true, ℕ, ⊎_elim, ◌==◌, ◌∙◌, ◌∷◌, ◌≡◌, ◌≢◌}
 use Rattle.rk_inv_base.proofs.Words.{IsBelowOthers, IsWithinRows, IsWithinTerm, Row, SoundView, View, has, list_any_at, meets, number_of}
 use Rattle.rk_inv_base.proofs.Words.{order, row_of, cond_both}
 use Rattle.rk_inv_base.proofs.logs.MarkedApart.{apart_either}

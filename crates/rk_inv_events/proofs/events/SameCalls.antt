@@ -1,17 +1,11 @@
 -- Calls that are tested to be one are one, and what an accepted record of a call is by the test.
-use Rattle.std.proofs.Common.{arith}
-use Rattle.std.proofs.Common.{◌≡◌, ◌==◌, ◌&&◌, ℕ, true, List, Contains, bytes_eq, eq-eqb, eqb-true}
-use Rattle.rk_inv_base.proofs.Words.{and_from, and_parts, Any-from_list_any, list_any_at, bytes_eq-Decides, Call, Op, Placed, is_call}
+use Rattle.std.proofs.Common.{arith, ◌≡◌, ◌==◌, ◌&&◌, ℕ, true, List, Contains, bytes_eq, eq-eqb, eqb-true}
+use Rattle.rk_inv_base.proofs.Words.{and_from, and_parts, Any-from_list_any, list_any_at, bytes_eq-Decides, Call, Placed, is_call}
 use Rattle.rk_inv_base.proofs.Words.{is_accepted, is_of_call, IsAccepted}
-use Rattle.rk_world.specs.Calls.{is_op}
-
--- operations
-same_op : (a b : Op) → is_op a b ≡ true → a ≡ b
-same_op a b is = grind (arith, bytes_eq-Decides, and_parts, bytes_eq, eqb-true)
 
 -- calls that are tested to be one are one
 pub same_call : (a b : Call) → is_call a b ≡ true → a ≡ b
-same_call a b is = grind (arith, and_parts, bytes_eq, eqb-true, bytes_eq-Decides, same_op)
+same_call a b is = grind (arith, and_parts, bytes_eq, eqb-true, bytes_eq-Decides)
 
 -- an accepted record that the test finds
 pub record IsFound (journal : List Placed) (client seq : ℕ) : Type 0 where

@@ -70,18 +70,13 @@ pub part_front : (whole stored more : List ℕ) (count : ℕ) → IsFirstPart (s
 part_front whole stored more count front = first_part_more (stored ++ take count more) (stored ++ more) whole
     (record {
       more = drop count more;
-      parts = ap (λ (all : List ℕ). stored ++ all) (sym (take-append-drop count more))
-          ∙ sym (append_assoc stored (take count more) (drop count more));
+      parts = grind (arith, take-append-drop, append_assoc);
     }) front
 
 -- of no bytes none are taken
 none_taken : (count : ℕ) → take {A = ℕ} count [] ≡ []
 none_taken zero = refl
 none_taken (suc count) = refl
-
--- bytes are added only where some came
-pub some_came : (at : ℕ) (bytes stored : List ℕ) → added at bytes stored ≢ [] → bytes ≢ []
-some_came at bytes stored some none = grind (arith, either_way, drop_all)
 
 -- ---- a backup
 
@@ -128,7 +123,7 @@ module _ (w : World) (backup master : ℕ) (append : Append) (segments : Segment
   -- some first part of what is new may be stored
   may_store : (more : List ℕ) → IsFirstPart (stored ++ more) (log_bytes_of w master append.segment) → (more ≢ [] → added append.at append.bytes stored ≢ [])
       → MayStore (view w) master backup append.segment more
-  may_store more goes_on some = grind (arith, known_there, sees, some_came)
+  may_store more goes_on some = grind (arith, known_there, sees, either_way, drop_all)
 
   -- what is new of the bytes
   abbrev new : List ℕ
@@ -270,9 +265,7 @@ module _ (w : World) (number backup reader : ℕ) (read : ReadSegment) (segments
   read_by : (fault : Option ℕ)
       → IsSound (backed_at (with_stored_by w backup (λ it. it) (Some segments)) (read_step backup reader read (log_bytes_of w) (read_called segments read fault))).world
   read_by (Some count) = rw (view_same w backup segments tells) sound
-  read_by None = sound_sent (with_stored_by w backup (λ it. it) (Some segments))
-      (record { from = nodes.Backup backup; to = nodes.Master reader; body = bodies.Copy copy })
-      (rw (view_same w backup segments tells) sound) (rw (view_same w backup segments tells) may_send_copy)
+  read_by None = search (sound_sent, with_stored_by, view_same, may_send_copy)
 
   -- the backup takes the message
   pub sound_read : (fault : Option ℕ)

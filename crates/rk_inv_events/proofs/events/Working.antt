@@ -1,9 +1,9 @@
 -- What a master makes of a message that reaches it, as a change of the lane.
-use Rattle.std.proofs.Common.{Bool, List, None, Option, Some, [], ap, append-nil, cond, eq-eqb, false, refl, subst, sym, true, ℕ, ◌==◌, ◌∙◌}
-use Rattle.std.proofs.Common.{◌≡◌}
-use Rattle.rk_inv_base.proofs.Words.{Body, Handover, IsSound, Ledger, Mark, Master, MaySend, Message, NumberMap, Role, SoundView, Stepped}
-use Rattle.rk_inv_base.proofs.Words.{View, Worked, World, changed, cond-true, cond_both, filled, has_crashed, in_role, lives, losing}
-use Rattle.rk_inv_base.proofs.Words.{master_at, order, seen_in, sending, tablet_in, to_master, view, with_marks, with_master, worked_at}
+use Rattle.std.proofs.Common.{arith, Bool, List, None, Option, Some, [], ap, append-nil, cond, eq-eqb, false, refl, subst, sym, true, ℕ}
+use Rattle.std.proofs.Common.{◌==◌, ◌∙◌, ◌≡◌}
+use Rattle.rk_inv_base.proofs.Words.{Body, Handover, IsSound, Ledger, Mark, Master, MaySend, Message, Role, SoundView, Stepped, View}
+use Rattle.rk_inv_base.proofs.Words.{Worked, World, changed, cond-true, cond_both, filled, has_crashed, in_role, lives, losing, master_at}
+use Rattle.rk_inv_base.proofs.Words.{order, seen_in, sending, tablet_in, to_master, view, with_marks, with_master, worked_at}
 use Rattle.rk_inv_events.proofs.Words.{master_same, put2_same, put_same, sound_sent, view_master}
 use Rattle.rk_inv_events.proofs.events.Pairs.{insert_twice}
 use Rattle.rk_inv_events.specs.orders.Orders.{order_to}
@@ -31,9 +31,7 @@ sound_unchanged w master sound = subst SoundView (sym (view_unchanged w master))
 -- what is put last for a master is there
 pub put_again : (w : World) (master : ℕ) (now : Master) (change : Master → Master)
     → with_master (with_master w master now) master (change (master_at (with_master w master now) master)) ≡ with_master w master (change now)
-put_again w master now change =
-    ap (λ (m : Master). with_master (with_master w master now) master (change m)) (master_same w master now master refl)
-    ∙ ap (λ (masters : NumberMap Master). record w { masters = masters }) (insert_twice w.masters master now (change now))
+put_again w master now change = grind (arith, with_master, master_same, insert_twice)
 
 -- a role that moves at its own term
 pub moved_itself : (term : ℕ) (at : Handover) (to : Option Role) (role : Role) → to ≡ Some role

@@ -1,7 +1,6 @@
 -- A sound and well formed lane stays sound when a living master takes a Grant: where it waits for the tablet at that term, it has in its log
 -- what its source told, and pulls.
-use Rattle.std.proofs.Common.{Contains, List, None, Option, Some, [], ap, arith, eqb-true, false, not, refl, sym, ℕ, ◌==◌, ◌∙◌, ◌∷◌}
-use Rattle.std.proofs.Common.{◌≡◌}
+use Rattle.std.proofs.Common.{Contains, List, None, Option, Some, [], ap, arith, eqb-true, false, not, refl, sym, ℕ, ◌==◌, ◌∙◌, ◌∷◌, ◌≡◌}
 use Rattle.rk_message.specs.declared.message.Body.TheVariants as bodies
 use Rattle.rk_transfer.specs.declared.role.Role.TheVariants as roles
 use Rattle.rk_inv_base.proofs.Words.{Grant, GrantAgrees, GrantIn, Handed, Handover, HasSegmentLeft, IsSound, IsWellFormed, Master, Member}
@@ -27,9 +26,7 @@ record WasWaiting (old : Handover) (counter : ℕ) (role : Role) (new : Handover
   new_is : new ≡ as_granted counter old
 
 was_waiting : (old new : Handover) (counter : ℕ) (role : Role) → in_role (record old { counter = counter }) (role_granted role) ≡ Some new → WasWaiting old counter role new
-was_waiting old new counter (roles.Wanting from) is =
-    let same : as_granted counter old ≡ new = cc is in record { from = from; role_is = refl; new_is = sym same }
-was_waiting old new counter _ is = absurd (cc is)
+was_waiting old new counter role is = grind arith
 
 -- a grant is for the second of two members
 record IsForSecond (lineage : List Member) (handed : Option Handed) (master : ℕ) (grant : Grant) : Type 0 where

@@ -1,19 +1,18 @@
 -- A sound lane stays sound when a living master takes an Own, a Release or a Close: it serves its tablet, gives it up, or closes it, where
 -- the order still applies, and else stays as it is. First what the test of an order tells, and what a master may report where it takes one.
-use Rattle.std.proofs.Common.{Bool, Contains, IfSome, List, None, Option, Some, ap, arith, cond, eq-eqb, eqb-true, false, inl, ltb-true}
-use Rattle.std.proofs.Common.{nat_lt, not, refl, subst, sym, true, unwrap_or, ℕ, ⊎_elim, ◌&&◌, ◌++◌, ◌<◌, ◌==◌, ◌∙◌, ◌≡◌, ◌⊎◌}
+use Rattle.std.proofs.Common.{Contains, IfSome, List, None, Option, Some, ap, arith, eq-eqb, eqb-true, false, inl, ltb-true, nat_lt, not}
+use Rattle.std.proofs.Common.{refl, subst, sym, true, unwrap_or, ℕ, ⊎_elim, ◌&&◌, ◌++◌, ◌<◌, ◌==◌, ◌∙◌, ◌≡◌, ◌⊎◌}
 use Rattle.rk_message.specs.declared.message.Body.TheVariants as bodies
 use Rattle.rk_transfer.specs.declared.role.Role.TheVariants as roles
 use Rattle.rk_types.specs.declared.node.Node.TheVariants as nodes
-use Rattle.rk_inv_base.proofs.Words.{All-contains, All-weaker, AreHandedOver, Bystander, CloseFits, Ended, Handover, HasSource, IsAboveKept}
-use Rattle.rk_inv_base.proofs.Words.{IsKnown, IsNext, IsOf, IsSound, IsStagedEnd, Master, MaySend, Member, Message, Node, Opening}
-use Rattle.rk_inv_base.proofs.Words.{OpeningSource, OwnFits, Phase, Range, ReadyIn, Rebuilding, ReleaseFits, Role, Row, SoundView}
-use Rattle.rk_inv_base.proofs.Words.{Tablet, Tenure, Transfer, TransferIn, View, Worked, World, and_parts, changed, closed, closing}
-use Rattle.rk_inv_base.proofs.Words.{cond_both, ends_of, freezing, frozen, get, handed_by, has_crashed, in_role, is_frozen, is_frozen_at}
-use Rattle.rk_inv_base.proofs.Words.{is_greater, is_opening, lineage_of, list_all, master_at, meets, no_tablet, own_taken, owned, owning}
-use Rattle.rk_inv_base.proofs.Words.{post_of, release_taken, released, releasing, rests, role_closed, sending, speaks, tablet_at}
-use Rattle.rk_inv_base.proofs.Words.{tablet_closed, tablet_in, target_post, to_master, transfer, transferring, truths, view, with_handover}
-use Rattle.rk_inv_base.proofs.Words.{with_master, without_merged, worked_at}
+use Rattle.rk_inv_base.proofs.Words.{All-contains, All-weaker, AreHandedOver, CloseFits, Ended, Handover, HasSource, IsAboveKept, IsKnown}
+use Rattle.rk_inv_base.proofs.Words.{IsNext, IsOf, IsSound, IsStagedEnd, Master, MaySend, Member, Message, Node, Opening, OwnFits, Phase}
+use Rattle.rk_inv_base.proofs.Words.{Range, ReadyIn, Rebuilding, ReleaseFits, Role, Row, SoundView, Tablet, Tenure, Transfer, TransferIn}
+use Rattle.rk_inv_base.proofs.Words.{View, Worked, World, and_parts, changed, closed, closing, cond_both, ends_of, freezing, frozen, get}
+use Rattle.rk_inv_base.proofs.Words.{handed_by, has_crashed, in_role, is_frozen, is_frozen_at, is_greater, is_opening, lineage_of, list_all}
+use Rattle.rk_inv_base.proofs.Words.{master_at, meets, no_tablet, own_taken, owned, owning, post_of, release_taken, released, releasing}
+use Rattle.rk_inv_base.proofs.Words.{rests, role_closed, sending, speaks, tablet_at, tablet_closed, tablet_in, target_post, to_master}
+use Rattle.rk_inv_base.proofs.Words.{transfer, transferring, truths, view, with_handover, with_master, without_merged, worked_at}
 use Rattle.rk_inv_base.proofs.rows.Apart.{same_number}
 use Rattle.rk_inv_base.proofs.roles.Closed.{sound_closed}
 use Rattle.rk_inv_base.proofs.roles.Owned.{sound_owned}
@@ -73,9 +72,7 @@ ready_in phase master term applied place handover role at = grind (arith, has_po
 
 -- the source of a row that opens has its post, and answers for the tablet
 source_speaks : (phase : Phase) (master term : ℕ) (handover : Handover) → is_opening phase ≡ true → HasSource phase master → speaks (post_of phase master) handover term ≡ true
-source_speaks (Opening source sfrom target dfrom) master term handover opens its =
-    ap (λ (b : Bool). speaks (cond b OpeningSource (cond (target == master) (target_post dfrom) Bystander)) handover term) (eq-eqb source master its)
-source_speaks _ master term handover opens its = absurd (cc opens)
+source_speaks phase master term handover opens its = grind (arith, speaks, target_post, eq-eqb)
 
 -- a row that is rebuilt does not open
 opens_not : (phase : Phase) (lineage : List Member) (to : ℕ) → phase ≡ Rebuilding lineage to → is_opening phase ≡ true → ⊥
@@ -169,18 +166,8 @@ record BecomesOwned (old : Handover) (term applied : ℕ) (new : Handover) : Typ
   closed : IsClosed old.role applied
   new_is : new ≡ as_serving old
 
-closed_by : (old new : Handover) (entry applied : ℕ) (test : Bool) → (test ≡ true → entry < applied)
-    → in_role old (cond test (Some roles.Serving) None) ≡ Some new
-    → (entry < applied) × (new ≡ as_serving old)
-closed_by old new entry applied true less is = (less refl, let same : as_serving old ≡ new = cc is in sym same)
-closed_by old new entry applied false less is = absurd (cc is)
-
--- a role that may be owned has its closing entry applied
-role_closed_by : (old new : Handover) (applied : ℕ) (role : Role) → in_role old (role_owned applied role) ≡ Some new → IsClosed role applied × (new ≡ as_serving old)
-role_closed_by old new applied role is = grind (arith, closed_by, nat_lt, ltb-true)
-
 becomes_owned : (old new : Handover) (term applied : ℕ) → owned old term applied ≡ Some new → BecomesOwned old term applied new
-becomes_owned old new term applied is = grind (arith, let_through, in_role, role_owned, closed, role_closed_by, eqb-true)
+becomes_owned old new term applied is = grind (arith, let_through, in_role, role_owned, closed, eqb-true, nat_lt, ltb-true, as_serving)
 
 -- only a frozen role is released
 role_frozen_by : (old new : Handover) (role : Role) → in_role old (role_released role) ≡ Some new → (role ≡ roles.Frozen) × (new ≡ as_released old)

@@ -4,7 +4,7 @@ use Rattle.std.proofs.Common.{All, Contains, List, None, [], ap, arith, false, f
 use Rattle.std.proofs.Common.{◌==◌, ◌∙◌, ◌∷◌, ◌≡◌, ◌≤◌}
 use Rattle.rk_message.specs.declared.message.Body.TheVariants as bodies
 use Rattle.rk_world.specs.Gather.{unread}
-use Rattle.rk_inv_base.proofs.Words.{All-cons, All-nil, Gathered, Handover, HasLineage, HasRoom, IsRebuiltBy, IsSound, IsWellFormed}
+use Rattle.rk_inv_base.proofs.Words.{All-nil, Gathered, Handover, HasLineage, HasRoom, IsRebuiltBy, IsSound, IsWellFormed}
 use Rattle.rk_inv_base.proofs.Words.{LAST_MAIN_SEGMENT, Master, Member, Message, Phase, Rebuild, RebuildFits, Rebuilding, Row, Tablet, View}
 use Rattle.rk_inv_base.proofs.Words.{Worked, World, beginning, changed, cond_both, has_crashed, is_gathering, is_greater, master_at}
 use Rattle.rk_inv_base.proofs.Words.{next_reading, own_member, rebuild_begun, rebuild_taken, tablet_at, to_master, view, worked_at}
@@ -31,8 +31,7 @@ AreFew members = All (λ gathered. length gathered.main ≤ LAST_MAIN_SEGMENT) m
 
 unread_few : (members : List Member) → AreFew (map unread members)
 unread_few [] = All-nil (λ gathered. length gathered.main ≤ LAST_MAIN_SEGMENT)
-unread_few (member ∷ members) =
-    All-cons (λ gathered. length gathered.main ≤ LAST_MAIN_SEGMENT) (unread member) (map unread members) (omega arith) (unread_few members)
+unread_few (member ∷ members) = grind (arith, (unread_few members))
 
 module _ (w : World) (number master : ℕ) (rebuild : Rebuild) (sound : IsSound w) (formed : IsWellFormed w) (lives : has_crashed w master ≡ false) (ordered : IsOrdered w number master (bodies.Rebuild rebuild)) (room : HasRoom w) where
   abbrev v : View

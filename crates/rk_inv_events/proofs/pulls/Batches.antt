@@ -22,9 +22,7 @@ use Rattle.rk_inv_events.specs.pulls.Moves.{MaySealBehind, batch_replayed}
 
 -- tokens that the test says to be one are
 token_is : (a b : Token) → is_token a b ≡ true → a ≡ b
-token_is a b same =
-    let both = and_parts _ _ same in
-    (λ i. record { bucket = eqb-true a.bucket b.bucket both.0 i; skip = eqb-true a.skip b.skip both.1 i })
+token_is a b same = grind (arith, and_parts, eqb-true)
 
 -- ---- what stays of a master that takes a batch
 

@@ -1,15 +1,14 @@
 -- What a target makes of a batch of its source: it replays the items and passes on to the next token; behind the last batch it seals what it
 -- copied, and where it copied nothing it appends its closing entry at once.
-use Rattle.std.proofs.Common.{arith}
-use Rattle.std.proofs.Common.{All, Contains, List, Option, Some, [], ap, fold, inl, inr, length, refl, subst, sym, true, ℕ, ◌++◌, ◌<◌}
+use Rattle.std.proofs.Common.{arith, Contains, List, Option, Some, [], ap, fold, inl, inr, length, refl, subst, sym, true, ℕ, ◌++◌, ◌<◌}
 use Rattle.std.proofs.Common.{◌∙◌, ◌≡◌}
 use Rattle.rk_transfer.specs.declared.role.Role.TheVariants as roles
-use Rattle.rk_inv_base.proofs.Words.{All-nil, BATCH_BYTES, Contains-append_cases, Entry, HasSegmentLeft, Held, IsPulling, IsSound}
-use Rattle.rk_inv_base.proofs.Words.{Master, Member, Range, Row, Tablet, Token, View, World, as_closed, batch_at}
-use Rattle.rk_inv_base.proofs.Words.{closing_appended, closing_entry, is_side_stored, joined, joined_entry, joining_at, joining_by, log_in}
-use Rattle.rk_inv_base.proofs.Words.{master_at, meets, member_truth, next_sides, next_token, passed, pulled_all, replay, sealed_sides}
-use Rattle.rk_inv_base.proofs.Words.{sealing, source_items, tablet_at, tablet_in, token_passed, view, with_entry, with_handover}
-use Rattle.rk_inv_base.proofs.Words.{with_master, with_pulling, with_side_segment, with_tablet}
+use Rattle.rk_inv_base.proofs.Words.{BATCH_BYTES, Contains-append_cases, Entry, HasSegmentLeft, Held, IsPulling, IsSound, Master, Member}
+use Rattle.rk_inv_base.proofs.Words.{Range, Row, Tablet, Token, View, World, as_closed, batch_at, closing_appended, closing_entry}
+use Rattle.rk_inv_base.proofs.Words.{is_side_stored, joined, joined_entry, joining_at, joining_by, log_in, master_at, meets, member_truth}
+use Rattle.rk_inv_base.proofs.Words.{next_sides, next_token, passed, pulled_all, replay, sealed_sides, sealing, source_items, tablet_at}
+use Rattle.rk_inv_base.proofs.Words.{tablet_in, token_passed, view, with_entry, with_handover, with_master, with_pulling, with_side_segment}
+use Rattle.rk_inv_base.proofs.Words.{with_tablet}
 use Rattle.rk_inv_base.proofs.pulls.TokenPassed.{sound_passed}
 use Rattle.rk_inv_tablets.proofs.seal.Sealed.{sealed_is, sound_sealed}
 use Rattle.rk_inv_tablets.specs.seal.Small.{as_joining, as_sealed, side_lists_sealed_in, with_sides}
@@ -118,9 +117,7 @@ module _ (w : World) (sound : IsSound w) (master number : ℕ) (may : MaySealThe
         lives = may.may.lives;
         joining = ap (λ (t : Tablet). t.handover.role) tablet_is;
         room = room_left;
-        stored = subst (All (λ segment. is_side_stored (log_in waiting master) segment ≡ true))
-            (sym (ap (λ (t : Tablet). t.pulling.sealed) tablet_is ∙ none))
-            (All-nil (λ segment. is_side_stored (log_in waiting master) segment ≡ true));
+        stored = grind (arith, is_side_stored, log_in, tablet_is);
         some = subst (λ (range : Range). meets range range ≡ true) (sym (ap (λ (t : Tablet). t.handover.range) tablet_is)) some;
       }))
 

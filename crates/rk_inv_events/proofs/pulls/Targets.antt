@@ -1,6 +1,6 @@
 -- A target that pulls, by its row and its source: what it has of the source's items, what it leaves where it replays items of its source,
 -- and that a sound lane stays sound when a Got reaches it.
-use Rattle.std.proofs.Common.{All, Bool, Contains, List, Some, [], ap, arith, cond, drop, eqb-true, false, filter, flat_map, fold, inl, inr}
+use Rattle.std.proofs.Common.{All, Bool, Contains, List, Some, [], ap, arith, cond, eqb-true, false, filter, flat_map, fold, inl, inr}
 use Rattle.std.proofs.Common.{is_some, not, refl, subst, sym, true, ℕ, ⊎_elim, ◌&&◌, ◌<◌, ◌∙◌, ◌∷◌, ◌≡◌}
 use Rattle.std.specs.List.Sorted.{IsStrictlySortedBy}
 use Rattle.rk_transfer.specs.declared.role.Role.TheVariants as roles
@@ -177,9 +177,7 @@ module _ (v : View) (sound : SoundView v) (row : Row) (source target : Member) (
   done = (rw pulls.lineage_is at (row_done v sound row pulls.has_row)).all
 
   own_stands : (x : Held) → Contains (own (applied_entries w)) x → Contains (own w.entries) x
-  own_stands = flat_among items_in (entries_from row.range target.from (applied_entries w)) (entries_from row.range target.from w.entries)
-      (kept_among (counts row.range) (drop target.from (applied_entries w)) (drop target.from w.entries)
-      (first_stand target.from w.applied w.entries))
+  own_stands = search (flat_among, items_in, entries_from, applied_entries, kept_among, counts, first_stand)
 
   module _ (item : Held) (of_source : Contains (source_items v row source) item) where
     -- its own items are above the source's
@@ -276,8 +274,7 @@ replayed_then w master item items now change first later =
       sound = subst IsSound (put_again w master now change) later.sound;
       records = later.records;
       pullings = later.pullings;
-      view_is = ap view (sym (put_again w master now change)) ∙ later.view_is
-          ∙ ap (λ (v : View). with_items v later.records later.pullings) first.view_is;
+      view_is = grind (arith, view, put_again, later.view_is, later.records, later.pullings, first.view_is);
       still = λ x is. still x (first.still x is);
       found = λ x at.
           ⊎_elim (λ (is : item ≡ x). still x (first.found x (subst (Contains (item ∷ [])) is (first_stands item []))))

@@ -1,7 +1,6 @@
 -- All that is applied of the own entries of a master that rebuilt a row is what counts of its log once the marks of the tablet are gone.
-use Rattle.std.proofs.Common.{arith}
-use Rattle.std.proofs.Common.{All, Contains, List, Some, [], ap, drop, eq-eqb, eqb, le-leb, nat_le, not, refl, slice_get}
-use Rattle.std.proofs.Common.{suc, sym, true, ℕ, ◌+◌, ◌∙◌, ◌∷◌, ◌≡◌, ◌≤◌}
+use Rattle.std.proofs.Common.{arith, All, Contains, List, Some, [], ap, drop, eq-eqb, eqb, le-leb, nat_le, not, refl, slice_get, suc, sym}
+use Rattle.std.proofs.Common.{true, ℕ, ◌+◌, ◌∙◌, ◌∷◌, ◌≡◌, ◌≤◌}
 use Rattle.rk_tablet_map.specs.Phase.{member as member_at}
 use Rattle.rk_inv_base.proofs.Words.{All-contains, Entry, HasSome, Mark, MarkFits, Row, SoundView, View, Written, and_from, applied_entries}
 use Rattle.rk_inv_base.proofs.Words.{applied_from, counting, false≢true, is_mark_of, is_marked, member_truth, named, named_by, side_entries}

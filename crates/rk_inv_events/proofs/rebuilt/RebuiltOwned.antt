@@ -1,42 +1,24 @@
 -- The master that rebuilt a row may own it, once the rebuild is told: what it read is the truth of the row and a first part of its rest, and
 -- the ends of the merge make the records of just that part.
-use Rattle.std.proofs.Common.{arith}
-use Rattle.std.proofs.Common.{All, Bool, Contains, List, Some, [], ap, append-nil, cond, eqb, false, inl, inr, map, refl}
-use Rattle.std.proofs.Common.{subst, sym, true, ℕ, ◌++◌, ◌∙◌, ◌∷◌, ◌≡◌, ◌≤◌, ◌⊎◌}
+use Rattle.std.proofs.Common.{arith, All, Contains, List, Some, [], ap, append-nil, inl, inr, subst, sym, ℕ, ◌++◌, ◌∙◌, ◌∷◌, ◌≡◌, ◌≤◌, ◌⊎◌}
 use Rattle.rk_tablet_map.specs.Phase.{member as member_at}
-use Rattle.rk_inv_base.proofs.Words.{All-contains, All-nil, Any-from_list_any, Carried, Completions, Contains-append_cases}
-use Rattle.rk_inv_base.proofs.Words.{Contains-append_left, Contains-append_right, Ended, Entry, Gather, HasSome, Held, IsKnown}
-use Rattle.rk_inv_base.proofs.Words.{IsRebuildTable, IsTableOf, LastCall, MayTakeRebuilt, Member, Merged, Owned, Phase, Placed, ReachAll}
-use Rattle.rk_inv_base.proofs.Words.{Rebuilding, Role, Row, RowIsRebuilt, SoundView, View, applied_from, as_entries, by_member, call_ends}
-use Rattle.rk_inv_base.proofs.Words.{closing_carried, completions_from, cond-true, ends_of, first_stands, flat_map-append, is_of_lineage}
-use Rattle.rk_inv_base.proofs.Words.{items_in, items_of, material_by, member_material, member_truth, merge, merged_ends, own_place, rests}
-use Rattle.rk_inv_base.proofs.Words.{row_at, stands_cases, told, told_by, truths}
+use Rattle.rk_inv_base.proofs.Words.{All-contains, All-nil, Carried, Completions, Contains-append_cases, Contains-append_left}
+use Rattle.rk_inv_base.proofs.Words.{Contains-append_right, Ended, Entry, HasSome, Held, IsKnown, IsRebuildTable, IsTableOf, LastCall}
+use Rattle.rk_inv_base.proofs.Words.{MayTakeRebuilt, Member, Merged, Owned, Phase, Placed, ReachAll, Rebuilding, Role, Row, RowIsRebuilt}
+use Rattle.rk_inv_base.proofs.Words.{SoundView, View, applied_from, as_entries, by_member, call_ends, closing_carried, completions_from}
+use Rattle.rk_inv_base.proofs.Words.{ends_of, flat_map-append, items_in, items_of, member_material, member_truth, merge, merged_ends}
+use Rattle.rk_inv_base.proofs.Words.{own_place, rests, row_at, stands_cases, told, told_by, truths}
 use Rattle.rk_inv_rows.proofs.lineage.Histories.{history_of}
 use Rattle.rk_inv_rows.proofs.lineage.RebuiltMaterial.{at as rebuilt_here, merged_is}
 use Rattle.rk_inv_logs.proofs.apply.MergedEnds.{mapped}
 use Rattle.rk_inv_logs.specs.read.ReadBack.{IsReadBack, TellInOrder, all_of}
 use Rattle.rk_inv_events.proofs.Words.{MakeRecords, MayOwnRebuilt, TellHistory, all_by, flat_among, journal_with, made_of, marks_taken}
 use Rattle.rk_inv_events.proofs.Words.{now_done, own_done, row_rebuilt, to_flat, truth_from, truth_has_own, truth_has_piece}
+use Rattle.rk_inv_rows.proofs.lineage.RebuiltCounter.{own_list}
 use Rattle.rk_inv_events.proofs.rebuilt.AppliedOwn.{applied_own}
 use Rattle.rk_inv_events.proofs.rebuilt.InPlace.{HasPiece, StandsIn, all_plain, both, in_place}
 use Rattle.rk_inv_events.proofs.rebuilt.Newest.{in_all, table_same}
-use Rattle.rk_inv_events.proofs.rebuilt.Served.{IsServed, all_served, nothing_left}
-
--- the own entries are of all that was gathered
-own_list : (gather : Gather) (own : List Entry) → Contains (by_member gather own) own
-own_list gather own = go (is_of_lineage gather) refl
-  where
-    go : (b : Bool) → is_of_lineage gather ≡ b → Contains (map (λ (member : Member). material_by gather own member.master) gather.lineage ++ cond b [] (own ∷ [])) own
-    go false is =
-        Contains-append_right (map (λ (member : Member). material_by gather own member.master) gather.lineage) (own ∷ []) own
-        (first_stands own [])
-    go true is =
-        let found = Any-from_list_any (λ (member : Member). eqb member.master gather.own) gather.lineage is in
-        let stands : Contains gather.lineage found.1 = (found.0, found.2, found.3) in
-        Contains-append_left (map (λ (member : Member). material_by gather own member.master) gather.lineage) [] own
-        (subst (Contains (map (λ (member : Member). material_by gather own member.master) gather.lineage))
-        (cond-true (eqb found.1.master gather.own) own _ found.4)
-        (mapped (λ (member : Member). material_by gather own member.master) gather.lineage found.1 stands))
+use Rattle.rk_inv_events.proofs.rebuilt.Served.{IsServed, all_served}
 
 -- each end that was read is told by the truth, or by the part of the rest
 module _ (truth part : List Entry) (members : List (List Entry)) (order : TellInOrder truth part members) where
@@ -99,12 +81,11 @@ module _ (v : View) (row : Row) (lineage : List Member) (to place : ℕ) (ends :
   part_served = all_served v.base row.range v.asked own_last (truths v row) back.part back.left v.journal
       (record {
         legal = sound.truth.legal;
-        history = subst (λ (rest : List Entry). TellHistory v.base row.range (truths v row) rest v.journal v.asked) back.split
-            (history_of v row sound taken.has_row);
+        history = grind (arith, truths, history_of, v.base, row.range, v.journal, v.asked, back.split, taken.has_row);
       })
 
   pub whole_tells : TellHistory v.base row.range whole [] (v.journal ++ made) v.asked
-  whole_tells = nothing_left v.base row.range v.asked whole back.left (v.journal ++ made) part_served
+  whole_tells = grind (arith, part_served, append-nil, items_of)
 
   -- ---- what counts of the new owner's log
 

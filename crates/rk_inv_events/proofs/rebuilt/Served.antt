@@ -5,16 +5,15 @@ use Rattle.std.proofs.Common.{inr, not, refl, subst, suc, sym, true, ℕ, ◌&&�
 use Rattle.rk_entry.specs.declared.entry.Entry.TheVariants as entries
 use Rattle.rk_model.specs.History.{record_of as map_record_of}
 use Rattle.rk_overlay.specs.Live.{live as live_items}
-use Rattle.rk_inv_base.proofs.Words.{All-contains, All-head, All-nil, All-push, All-tail, All-weaker, Base, Call, Contains-push, Ended}
-use Rattle.rk_inv_base.proofs.Words.{Entry, Held, IsEntryOf, IsKnown, IsLastAsked, IsLegal, IsLegal-append, IsReached, IsRest, IsStaged}
-use Rattle.rk_inv_base.proofs.Words.{LastCall, Map, Outcome, Placed, Range, TellAll, and_from, base_map, call_end, call_ends, change_of}
-use Rattle.rk_inv_base.proofs.Words.{cond-true, first_stands, has_record, is_mutation, is_record_in, item_end, items_in, items_of}
-use Rattle.rk_inv_base.proofs.Words.{legal_back, legal_push, map_after, map_after-append, map_with, next_record, none_stands, of_key}
-use Rattle.rk_inv_base.proofs.Words.{outcome_of, record_of_last, records_of, refusal_end, stands_cases, tells_of, told, told_by}
-use Rattle.rk_inv_base.proofs.Words.{with_change}
+use Rattle.rk_inv_base.proofs.Words.{All-contains, All-head, All-nil, All-push, All-tail, Base, Call, Contains-push, Ended, Entry, Held}
+use Rattle.rk_inv_base.proofs.Words.{IsEntryOf, IsKnown, IsLastAsked, IsLegal, IsLegal-append, IsReached, IsRest, IsStaged, LastCall, Map}
+use Rattle.rk_inv_base.proofs.Words.{Outcome, Placed, Range, TellAll, and_from, base_map, call_end, call_ends, change_of, cond-true}
+use Rattle.rk_inv_base.proofs.Words.{first_stands, has_record, is_mutation, is_record_in, item_end, items_in, items_of, legal_back}
+use Rattle.rk_inv_base.proofs.Words.{legal_push, map_after, map_after-append, map_with, next_record, none_stands, of_key, outcome_of}
+use Rattle.rk_inv_base.proofs.Words.{record_of_last, records_of, refusal_end, stands_cases, tells_of, told, told_by, with_change}
 use Rattle.rk_inv_base.proofs.calls.Histories.{record_for}
 use Rattle.rk_inv_base.proofs.calls.MoreRecords.{known_still}
-use Rattle.rk_inv_logs.proofs.apply.AppliedCalls.{told_of_key}
+use Rattle.rk_inv_logs.proofs.apply.AppliedCalls.{tell_then, told_of_key}
 use Rattle.rk_inv_logs.proofs.apply.AppliedCounters.{key_floor, low_inserted, tells_its}
 use Rattle.rk_inv_logs.proofs.apply.AppliedRest.{all_staged}
 use Rattle.rk_inv_logs.proofs.apply.AppliedTruth.{live_last}
@@ -37,17 +36,7 @@ pub record HasLeft (asked : ℕ → Option LastCall) (journal : List Placed) (en
 -- entries tell all with one more of them
 tell_with : (range : Range) (journal : List Placed) (entry : Entry) (old now : List Entry) → IsInserted entry old now → TellAll range journal old → TellAll range journal now
 tell_with range journal entry old now put =
-    All-weaker
-    (λ placed. is_record_in range placed ≡ true → is_mutation placed.call.op ≡ true
-    → IsReached (told (of_key placed.call.table placed.call.key old)) placed)
-    (λ placed. is_record_in range placed ≡ true → is_mutation placed.call.op ≡ true
-    → IsReached (told (of_key placed.call.table placed.call.key now)) placed)
-    (λ placed was inside is.
-    let reached = was inside is in record {
-      end = reached.end;
-      stands = told_of_key entry old now put placed.call.table placed.call.key reached.end reached.stands;
-      reaches = reached.reaches;
-    }) journal
+    tell_then range journal old now (λ table key end stands. told_of_key entry old now put table key end stands)
 
 module _ (base : Base) (range : Range) (asked : ℕ → Option LastCall) where
   abbrev Tells : List Entry → List Entry → List Placed → Type 0
@@ -321,7 +310,3 @@ module _ (base : Base) (range : Range) (asked : ℕ → Option LastCall) where
           legal = was.legal;
           history = quiet_served truth (part ++ left) entry journal was.history refl refl (All-nil (IsKnown base journal));
         }))
-
-  -- what is left of a rest is dropped
-  pub nothing_left : (truth left : List Entry) (journal : List Placed) → IsServed truth left journal → Tells truth [] journal
-  nothing_left truth left journal was = grind (arith, append-nil, items_of, map_after, base_map)

@@ -1,18 +1,16 @@
 -- A sound lane stays sound when the coordinator takes a Ready, a Transfer or a Joined. A report does nothing unless it speaks of a row at that
 -- row's term.
-use Rattle.std.proofs.Common.{arith}
-use Rattle.std.proofs.Common.{Bool, Contains, IfSome, List, None, Option, Some, [], ap, cond, eq-eqb, eqb-true, ne_eqb, refl, subst}
+use Rattle.std.proofs.Common.{arith, Bool, Contains, IfSome, List, None, Option, Some, [], ap, cond, eq-eqb, eqb-true, ne_eqb, refl, subst}
 use Rattle.std.proofs.Common.{sym, true, ℕ, ◌&&◌, ◌==◌, ◌∙◌, ◌∷◌, ◌≡◌, ◌≢◌}
 use Rattle.rk_message.specs.declared.message.Body.TheVariants as bodies
 use Rattle.rk_transfer.specs.declared.role.Role.TheVariants as roles
 use Rattle.rk_types.specs.declared.node.Node.TheVariants as nodes
-use Rattle.rk_inv_base.proofs.Words.{All-cons, All-contains, AreHandedOver, Body, Coordinated, Handed, HasSome, Holds, IsOf}
-use Rattle.rk_inv_base.proofs.Words.{IsSound, IsWellFormed, JoinedIn, MaySend, Message, Moving, Opening, Owned, Phase, Ready}
-use Rattle.rk_inv_base.proofs.Words.{ReadyIn, ReadyTarget, Role, Row, SoundView, Tenure, Transfer, TransferIn, View, World, about, and_from}
-use Rattle.rk_inv_base.proofs.Words.{answered, at_term, bond_of, changed_rows, ends_of, get, is_noticed, is_opening, joined_in, number_of}
-use Rattle.rk_inv_base.proofs.Words.{own_to, place_noted, post_of, ready_in, release_to, report, row_at, row_for, row_moved, row_of}
-use Rattle.rk_inv_base.proofs.Words.{row_owned, transfer_in, unanswered, view, with_coordinator, with_ledger, with_rebuilt, with_sends}
-use Rattle.rk_inv_base.proofs.Words.{cond_both}
+use Rattle.rk_inv_base.proofs.Words.{All-cons, All-contains, AreHandedOver, Body, Coordinated, Handed, HasSome, IsOf, IsSound, IsWellFormed}
+use Rattle.rk_inv_base.proofs.Words.{JoinedIn, MaySend, Message, Moving, Opening, Owned, Phase, Ready, ReadyIn, ReadyTarget, Role, Row}
+use Rattle.rk_inv_base.proofs.Words.{SoundView, Tenure, Transfer, TransferIn, View, World, about, and_from, answered, at_term, changed_rows}
+use Rattle.rk_inv_base.proofs.Words.{ends_of, get, is_noticed, is_opening, joined_in, number_of, own_to, place_noted, post_of, ready_in}
+use Rattle.rk_inv_base.proofs.Words.{release_to, report, row_at, row_for, row_moved, row_of, row_owned, transfer_in, unanswered, view}
+use Rattle.rk_inv_base.proofs.Words.{with_coordinator, with_ledger, with_rebuilt, with_sends, cond_both}
 use Rattle.rk_inv_base.proofs.rows.PlaceNoted.{sound_noted}
 use Rattle.rk_inv_base.proofs.rows.TurnedRows.{new_stands}
 use Rattle.rk_inv_rows.proofs.lineage.JoinedTaken.{sound_joined_taken}
@@ -72,20 +70,12 @@ at_phase rows row phase found = rw found (new_stands rows row.tablet row (row_at
 
 -- ---- a target that told its place
 
--- a target that is ready waits at its place
-ready_waits : (role : Role) (place term own applied : ℕ) → Holds (bond_of (ReadyTarget place) role) term own applied → role ≡ roles.Wanting place
-ready_waits (roles.Wanting from) place term own applied fits = ap roles.Wanting fits.1
-ready_waits _ place term own applied fits = absurd fits
-
 module _ (v : View) (row : Row) (sound : SoundView v) (stands : Contains v.rows row) (source sfrom target dfrom : ℕ) (is : row.phase ≡ Opening source sfrom target (Some dfrom)) where
-  waits_term : (v.handovers target row.tablet).term ≡ row.term
-  waits_term = rw is at (row_in v sound row stands).at_term
-
   ready_post : post_of row.phase target ≡ ReadyTarget dfrom
   ready_post = grind (arith, post_of, ne_eqb, row_formed, eq-eqb)
 
   waits : IsWaitingFor v row target dfrom
-  waits = grind (arith, role_fits, waits_term, ready_waits, ready_post)
+  waits = grind (arith, role_fits, ready_post, row_in, at_term)
 
 -- ---- reports
 

@@ -3,9 +3,8 @@
 -- lacks of the key is wanted.
 use Rattle.std.proofs.Common.{ap, not, subst, sym, true, ℕ, ◌≡◌}
 use Rattle.rk_types.specs.declared.call.Answer.TheVariants as answers
-use Rattle.rk_world.specs.Requests.{hash_wanted}
-use Rattle.rk_inv_base.proofs.Words.{Choice, Ignores, IsSound, Master, Redirects, Request, Wants, World, answering, call_of, chosen}
-use Rattle.rk_inv_base.proofs.Words.{hash_of, lives, master_at, to_master, view, with_master, worked_at}
+use Rattle.rk_inv_base.proofs.Words.{Choice, Ignores, IsSound, Redirects, Request, Wants, World, answering, call_of, chosen, hash_of, lives}
+use Rattle.rk_inv_base.proofs.Words.{master_at, to_master, view, with_master, worked_at}
 use Rattle.rk_inv_base.proofs.pulls.HashWanted.{sound_wanted}
 use Rattle.rk_inv_events.proofs.events.Sending.{may_reply}
 use Rattle.rk_inv_events.proofs.events.Working.{reached_or_lost, sound_changed, sound_sending, sound_unchanged}
@@ -32,16 +31,7 @@ module _ (w : World) (master client : ℕ) (request : Request) (sound : IsSound 
   sound_ignored = sound_changed w master request.seen (master_at w master) (sound_unchanged w master sound)
 
   pub sound_redirected : IsSound (done_as w master client request Redirects)
-  sound_redirected =
-      let own = master_at w master in
-      sound_sending w master request.seen own (answering own (call_of client request) (answers.Moved request.tablet)) (sound_unchanged w master sound)
-      (may_reply (view (with_master w master own)) own.number client
-      (record { seq = request.seq; stamp = 0; place = 0; answer = answers.Moved request.tablet }) tt)
+  sound_redirected = search (master_at, sound_sending, answering, call_of, sound_unchanged, may_reply, view, with_master)
 
   pub sound_put_off : (number : ℕ) → IsSound (done_as w master client request (Wants number))
-  sound_put_off number =
-      let own = master_at w master in
-      let now : Master = hash_wanted own number (hash_of request.key) in
-      sound_sending w master request.seen now (answering own (call_of client request) (answers.NotYet request.key)) (sound_wanted w master number (hash_of request.key) sound)
-      (may_reply (view (with_master w master now)) own.number client
-      (record { seq = request.seq; stamp = 0; place = 0; answer = answers.NotYet request.key }) tt)
+  sound_put_off number = search (master_at, hash_of, sound_sending, answering, call_of, sound_wanted, may_reply, view, with_master)

@@ -1,11 +1,11 @@
 -- Where a living master serves a tablet, the row of that tablet ends its lineage with it, and has the range that is served: it is the only
 -- member and has all items, or it was granted the tablet by the first of two. So calls for a key of the range are answered by it.
-use Rattle.std.proofs.Common.{List, Option, Some, [], ap, inl, inr, lt-ltb, refl, true, unwrap_or, ℕ, ◌∙◌, ◌∷◌, ◌≡◌, ◌⊎◌, sym}
+use Rattle.std.proofs.Common.{arith, List, Option, Some, [], ap, inl, inr, lt-ltb, refl, true, unwrap_or, ℕ, ◌∙◌, ◌∷◌, ◌≡◌, ◌⊎◌}
 use Rattle.rk_tablet_map.specs.Phase.{member as member_at}
 use Rattle.rk_inv_base.proofs.Words.{Handover, IsFormed, IsInOrder, IsMaster, IsWellFormed, LastRebuilder, Member, MovingTarget}
-use Rattle.rk_inv_base.proofs.Words.{OnlyRebuilder, OpeningSource, Owner, Phase, Post, Range, Role, Tablet, World, and_parts, get}
-use Rattle.rk_inv_base.proofs.Words.{has_all_items, has_key, is_granted, is_serving, last_of, lineage_of, master_at, no_tablet, post_of}
-use Rattle.rk_inv_base.proofs.Words.{IsSound, lives, serving, tablet_in, view}
+use Rattle.rk_inv_base.proofs.Words.{OnlyRebuilder, OpeningSource, Owner, Phase, Post, Role, Tablet, World, and_parts, get, has_all_items}
+use Rattle.rk_inv_base.proofs.Words.{has_key, is_granted, is_serving, last_of, lineage_of, master_at, no_tablet, post_of, IsSound, lives}
+use Rattle.rk_inv_base.proofs.Words.{serving, tablet_in, view}
 use Rattle.rk_inv_events.proofs.Words.{IsServed, SoundRow, find_is_got, last_member, master_of, present, row_in, serves_key, find_passes}
 use Rattle.rk_inv_events.proofs.events.PostsOf.{Fits, HasPost, Serves, gives, has_post, last_heir, only_heir, owns, serves_in, takes}
 use Rattle.rk_inv_events.proofs.events.RowsApart.{has_row}
@@ -95,8 +95,7 @@ served_at w master table key number tablet sound formed there alive found =
         lives = alive;
         row = its.row;
         has_row = its.stands;
-        in_row = ap (λ (range : Range). has_key range table key) (sym range)
-            ∙ ap (λ (t : Tablet). has_key t.handover.range table key) here ∙ parts.1;
+        in_row = grind (arith, has_key, parts.1);
         last = ends.last;
         is_last = ends.is_last;
         here = ends.here;

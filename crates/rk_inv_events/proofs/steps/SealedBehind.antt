@@ -1,9 +1,8 @@
 -- A target that takes a batch has room to seal behind it, where the lane has room once the batch is taken.
-use Rattle.std.proofs.Common.{Bool, List, None, Option, Some, [], ap, arith, cond, fold, length, refl, true, ℕ, ◌+◌, ◌∙◌, ◌∷◌, ◌≡◌}
-use Rattle.rk_inv_base.proofs.Words.{Handover, HasRoom, Held, IsWellFormed, Master, Pulled, Tablet, World, batch_taken, changed}
-use Rattle.rk_inv_base.proofs.Words.{closing_entry, end, get_same, insert, is_token, items_of, joined, joining_at, joining_by, log_bytes}
-use Rattle.rk_inv_base.proofs.Words.{master_at, pulled_all, sealed_sides, sealing, tablet_at, token_passed, view, with_side_segment}
-use Rattle.rk_inv_base.proofs.Words.{worked_at}
+use Rattle.std.proofs.Common.{Bool, List, [], ap, arith, cond, fold, length, refl, true, ℕ, ◌+◌, ◌∙◌, ◌∷◌, ◌≡◌}
+use Rattle.rk_inv_base.proofs.Words.{HasRoom, Held, IsWellFormed, Master, Pulled, Tablet, World, batch_taken, changed, end, get_same}
+use Rattle.rk_inv_base.proofs.Words.{insert, is_token, items_of, joined, joining_by, log_bytes, master_at, pulled_all, sealed_sides}
+use Rattle.rk_inv_base.proofs.Words.{sealing, tablet_at, token_passed, view, with_side_segment, worked_at}
 use Rattle.rk_inv_wellformed.proofs.bytes.Sizes.{side_bytes}
 use Rattle.rk_inv_events.proofs.Words.{AreSealedThere, length_push, tablet_here, within_sum_of}
 use Rattle.rk_inv_events.proofs.events.Crashing.{segments_left}
@@ -22,19 +21,8 @@ pieces_counted (items ∷ pieces) master =
     let here : length next.log.sides ≡ length master.log.sides + 1 = length_push master.log.sides _ in
     omega (arith, later, here)
 
--- a target that joins cuts no more of them
-closing_sides : (master : Master) (number : ℕ) (tablet : Tablet) (handover : Option Handover) → (closing_entry master number tablet handover).log.sides ≡ master.log.sides
-closing_sides master number tablet None = refl
-closing_sides master number tablet (Some handover) = refl
-
-waiting_sides : (master : Master) (number : ℕ) (tablet : Tablet) (handover : Option Handover) → (joining_at master number tablet handover).log.sides ≡ master.log.sides
-waiting_sides master number tablet None = refl
-waiting_sides master number tablet (Some handover) = refl
-
 pub joined_sides : (master : Master) (number : ℕ) (tablet : Tablet) (sealed : List ℕ) → (joining_by master number tablet sealed).log.sides ≡ master.log.sides
-joined_sides master number tablet [] =
-    closing_sides master number tablet (joined tablet.handover tablet.handover.term (Some (length master.log.entries)))
-joined_sides master number tablet (segment ∷ more) = waiting_sides master number tablet (joined tablet.handover tablet.handover.term None)
+joined_sides master number tablet sealed = grind (arith, joined)
 
 -- ---- a target that takes the last batch
 
@@ -51,12 +39,9 @@ module _ (master : Master) (pulled : Pulled) where
   abbrev pieces : List (List Held)
   pieces = sealed_sides (tablet_at (batch_replayed master pulled) pulled.tenure.tablet).pulling.sides
 
-  same_pieces : sealed_sides (tablet_at (token_passed (batch_replayed master pulled) pulled.tenure.tablet pulled.next) pulled.tenure.tablet).pulling.sides ≡ pieces
-  same_pieces = ap (λ (t : Tablet). sealed_sides t.pulling.sides) (tablet_here replayed tablet _)
-
   -- the side segments that it has then
   sides_then : length (pulled_all passed pulled.tenure.tablet).log.sides ≡ length master.log.sides + length pieces
-  sides_then = grind (arith, sealing, tablet_at, sealed_sides, joined_sides, pieces_counted, same_pieces, keeps_all, items_of)
+  sides_then = grind (arith, sealing, tablet_at, sealed_sides, joined_sides, pieces_counted, keeps_all, items_of, tablet_here)
 
   pub sides_behind : is_token pulled.next end ≡ true → length (batch_taken master pulled.tenure.tablet pulled).log.sides ≡ length master.log.sides + length pieces
   sides_behind last = ap (λ (b : Bool). length (cond b (pulled_all passed tablet) passed).log.sides) last ∙ sides_then

@@ -186,8 +186,7 @@ module _ (w : World) (number : ℕ) (called : Called) (sound : IsSound w) (may :
 -- ---- an event
 
 pub sound_event : (w : World) (event : Event) (called : Called) → IsSound w → MayStep w event called → IsSound (happened w event called).world
-sound_event w (events.AddTablet tablet range master) called sound may =
-    sound_tablet_added w tablet range master sound may.formed may.may may.none
+sound_event w (events.AddTablet tablet range master) called sound may = grind (arith, sound_tablet_added, may.formed, may.may, may.none)
 sound_event w (events.AddClient client) called sound may = sound_added w client sound
 sound_event w (events.Deliver number) called sound may = sound_delivered w number called sound may
 sound_event w (events.Forget number) called sound may = sound_forgotten w number sound

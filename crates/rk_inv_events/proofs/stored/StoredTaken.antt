@@ -33,8 +33,8 @@ use Rattle.rk_inv_base.proofs.logs.LengthTold.{sound_told}
 use Rattle.rk_inv_base.proofs.logs.Shares.{append_nil}
 use Rattle.rk_inv_events.proofs.Words.{Applying, IsFormedSide, MayFreeze, all_in, applying, by_found, entry_applied_in, its_last}
 use Rattle.rk_inv_events.proofs.Words.{master_same, meets_itself, mutation, not-true, order_tail, position_or_len, role_frozen, role_joined}
-use Rattle.rk_inv_events.proofs.Words.{segment_bytes, side_waits, side_waits_in, side_waits_of, sound_closing, sound_frozen, tablet_apart}
-use Rattle.rk_inv_events.proofs.Words.{was_read, with_bytes_few, with_item_of, with_served, within_sum_of, worked_in}
+use Rattle.rk_inv_events.proofs.Words.{segment_bytes, side_waits, side_waits_of, sound_closing, sound_frozen, tablet_apart, was_read}
+use Rattle.rk_inv_events.proofs.Words.{with_bytes_few, with_item_of, with_served, within_sum_of, worked_in}
 use Rattle.rk_inv_events.specs.stored.Small.{MayGoOn, stored_message, with_work}
 use Rattle.rk_inv_events.proofs.events.Pairs.{all_pass, each_found, insert_twice, others_apart}
 use Rattle.rk_inv_events.proofs.events.Working.{moved_itself, put_again, reached_or_lost, sound_unchanged, stays}
@@ -100,10 +100,7 @@ waits_from : (call : Call) (end : Ended) (before : ℕ) (tablets : NumberMap Tab
     ≡ fold (λ (n : ℕ) (entry : ℕ × Tablet). n + side_waits_of entry.1) before tablets
 waits_from call end before [] = refl
 waits_from call end before (entry ∷ tablets) =
-    let same = noted_same call end entry.1 in
-    let changed : List (ℕ × Tablet) = map (λ other. (other.0, noting call end other.1)) tablets in
-    (λ i. fold (λ (n : ℕ) (other : ℕ × Tablet). n + side_waits_of other.1) (before + side_waits_in (same.0 i).role (same.1 i).sealed) changed)
-    ∙ waits_from call end (before + side_waits_of entry.1) tablets
+    grind (arith, (waits_from call end (before + side_waits_of entry.1) tablets))
 
 waits_same : (call : Call) (end : Ended) (tablets : NumberMap Tablet) → side_waits (map (λ entry. (entry.0, noting call end entry.1)) tablets) ≡ side_waits tablets
 waits_same call end tablets = waits_from call end 0 tablets
@@ -130,13 +127,8 @@ entry_told master entry = entry_passes told_passes master entry tt
 pub all_told : (entries : List Entry) (master : Master) → IsTold master (apply_entries master entries)
 all_told entries master = entries_pass told_passes entries master (λ place none inside. tt)
 
-ended_applied : (master : Master) (place : ℕ) (waits : Option Call) (ends : List Ended) → (with_ended master place waits ends).master.applied ≡ master.applied
-ended_applied master place (Some call) (end ∷ ends) = refl
-ended_applied master place _ _ = refl
-
 pub entry_applied_next : (master : Master) (entry : Entry) → (apply_entry master entry).master.applied ≡ master.applied + 1
-entry_applied_next master entry = ap (λ (worked : Worked). worked.master.applied) (apply_is master entry)
-    ∙ ended_applied (passed master entry) master.applied (get master.calls master.applied) (told_by entry)
+entry_applied_next master entry = grind (arith, apply_is, told_by, master.applied, master.calls)
 
 pub all_applied_next : (entries : List Entry) (master : Master) → (apply_entries master entries).master.applied ≡ master.applied + length entries
 all_applied_next [] master = omega arith
@@ -392,8 +384,7 @@ all_go_on w master alive sound (entry ∷ tablets) kept may =
     (record {
       order = order_tail entry tablets may.order;
       some = All-tail HasSome entry tablets may.some;
-      room = subst (λ (m : Master). length (cut m.log.entries) + side_waits tablets < FIRST_SIDE_SEGMENT) (sym here)
-          (omega (arith, may.room, waits, one.few));
+      room = grind (arith, cut, side_waits, here, may.room, one.few);
     }))
 
 -- so do those of a master
@@ -422,9 +413,7 @@ module _ {X : Type 0} (p : X → Bool) (x : X) (behind : List X) (passes : p x �
       omega arith
 
   first_place : (before : List X) → list_any p before ≡ false → position p (before ++ x ∷ behind) ≡ Some (length before)
-  first_place before none = ap (λ (n : ℕ). cond (ltb n (length (before ++ x ∷ behind))) (Some n) None) (place_is before none)
-      ∙ cond-true (ltb (length before) (length (before ++ x ∷ behind))) (Some (length before)) None
-      (lt-ltb (length before) (length (before ++ x ∷ behind)) (omega (arith, length-append before (x ∷ behind))))
+  first_place before none = grind (arith, ltb, place_is, cond-true, lt-ltb, length-append)
 
 -- and what stands there
 got_there : {X : Type 0} (before : List X) (x : X) (behind : List X) → slice_get (before ++ x ∷ behind) (length before) ≡ Some x

@@ -1,19 +1,18 @@
 -- A sound and well formed lane stays sound when a master that lives takes its turn: it asks for batches, and sends messages alone, each of
 -- which may be sent.
-use Rattle.std.proofs.Common.{arith}
-use Rattle.std.proofs.Common.{All, List, None, Option, Some, [], ap, append-nil, false, length, ltb-true, map, nat_lt, not, refl, subst}
-use Rattle.std.proofs.Common.{sym, true, unwrap_or, ℕ, ◌++◌, ◌<◌, ◌∙◌, ◌∷◌, ◌≡◌}
+use Rattle.std.proofs.Common.{arith, All, List, None, Option, Some, [], ap, append-nil, false, length, ltb-true, map, nat_lt, not, refl}
+use Rattle.std.proofs.Common.{subst, sym, true, unwrap_or, ℕ, ◌++◌, ◌<◌, ◌∙◌, ◌∷◌, ◌≡◌}
 use Rattle.rk_message.specs.declared.message.Body.TheVariants as bodies
 use Rattle.rk_transfer.specs.declared.role.Role.TheVariants as roles
 use Rattle.rk_types.specs.declared.node.Node.TheVariants as nodes
 use Rattle.rk_world.specs.MasterTurn.{batch_asked, joined_duty, pull_of, rebuilt_duty, receiving_duty, tenure_at, want_of}
 use Rattle.rk_world.specs.Worked.{then_works}
-use Rattle.rk_inv_base.proofs.Words.{All-append, All-cons, All-head, All-map, All-nil, All-tail, All-weaker, Body}
-use Rattle.rk_inv_base.proofs.Words.{FIRST_SIDE_SEGMENT, IsInOrder, IsSound, IsWellFormed, Ledger, Mark, Master, MaySend, Message, Node}
-use Rattle.rk_inv_base.proofs.Words.{NumberMap, Pulling, Role, Served, Tablet, View, Worked, World, appends, changed, cond_both, cut}
-use Rattle.rk_inv_base.proofs.Words.{duties, filled, from_master, get, get_other, has_crashed, ledger_after, log_in, master_at, master_turn}
-use Rattle.rk_inv_base.proofs.Words.{next_reading, no_tablet, put2, reading_duty, sending, tablet_at, tablet_duty, tablet_in, turned, view}
-use Rattle.rk_inv_base.proofs.Words.{with_all_sent, with_all_served, with_ledger, with_marks, with_master, with_outstanding, worked_at}
+use Rattle.rk_inv_base.proofs.Words.{All-append, All-cons, All-head, All-map, All-nil, All-tail, All-weaker, Body, FIRST_SIDE_SEGMENT}
+use Rattle.rk_inv_base.proofs.Words.{IsInOrder, IsSound, IsWellFormed, Ledger, Master, MaySend, Message, Node, NumberMap, Pulling, Role}
+use Rattle.rk_inv_base.proofs.Words.{Tablet, View, Worked, World, appends, changed, cond_both, cut, duties, filled, from_master, get}
+use Rattle.rk_inv_base.proofs.Words.{get_other, has_crashed, ledger_after, log_in, master_at, master_turn, next_reading, no_tablet, put2}
+use Rattle.rk_inv_base.proofs.Words.{reading_duty, sending, tablet_at, tablet_duty, tablet_in, turned, view, with_all_sent, with_all_served}
+use Rattle.rk_inv_base.proofs.Words.{with_ledger, with_marks, with_master, with_outstanding, worked_at}
 use Rattle.rk_inv_base.proofs.pulls.HashWanted.{sound_asked_for}
 use Rattle.rk_inv_events.proofs.Words.{all_in, asking_batch, batch_asked_in, by_found, either_way, order_tail, view_pulled}
 use Rattle.rk_inv_events.proofs.events.Sending.{MaySendFilled, sound_all_sent}
@@ -54,9 +53,7 @@ sends_then v first next before later =
 module _ (w : World) (master seen : ℕ) (worked : Worked) (only : OnlySends (view (with_master w master worked.master)) worked) where
   -- the ledger stays as it is
   ledger_is : ledger_after w.ledger master seen worked ≡ w.ledger
-  ledger_is = ap (λ (served : List Served). with_marks (with_all_served seen w.ledger served) worked.marked) only.served
-      ∙ ap (λ (marked : List Mark). with_marks w.ledger marked) only.marked
-      ∙ ap (λ (marks : List Mark). record w.ledger { marks = marks }) (append-nil w.ledger.marks)
+  ledger_is = grind (arith, with_marks, with_all_served, append-nil)
 
   -- a lane that is sound with the master after such work is sound once its messages are sent
   pub sound_sends : IsSound (with_master w master worked.master) → IsSound (worked_at w master seen worked).world
@@ -241,12 +238,7 @@ module _ (w : World) (sound : IsSound w) (master : ℕ) (lives : (view w).live m
 
 -- what sends messages alone does so also where other things are pulled
 sends_pulling : (v now : View) (worked : Worked) → ((message : Message) → MaySend v message → MaySend now message) → OnlySends v worked → OnlySends now worked
-sends_pulling v now worked still only = record {
-  sends = All-weaker (MaySendFilled v) (MaySendFilled now)
-      (λ message may journal served. still (filled journal served message) (may journal served)) worked.sends only.sends;
-  served = only.served;
-  marked = only.marked;
-}
+sends_pulling v now worked still only = search (filled, worked.sends, only.sends, only.served, only.marked)
 
 module _ (w : World) (master : ℕ) (sound : IsSound w) (formed : IsWellFormed w) (lives : has_crashed w master ≡ false) (few : length (cut (log_in w master).entries) < FIRST_SIDE_SEGMENT) where
   abbrev own : Master

@@ -10,16 +10,16 @@ use Rattle.rk_overlay.proofs.Folds.{newest_from-none}
 use Rattle.rk_inv_base.proofs.Words.{All-contains, All-contains_itself, All-head, All-tail, Allowed, Any-from_list_any, AreAbove}
 use Rattle.rk_inv_base.proofs.Words.{AreAboveMap, Base, Call, Completion, Completions, Contains-append_cases, Contains-append_left}
 use Rattle.rk_inv_base.proofs.Words.{Contains-append_right, Contains-push, Ended, Entry, Handover, HasArrived, Held, IsEntryOf, IsInOrder}
-use Rattle.rk_inv_base.proofs.Words.{IsLastAsked, IsPlain, IsReached, IsRest, IsServedIn, IsStaged, LastCall, Map, Member, NumberMap, Op}
-use Rattle.rk_inv_base.proofs.Words.{Outcome, Placed, Pulling, Range, ReachAll, Role, Row, SoundView, Tablet, View, Waits, WasAsked}
-use Rattle.rk_inv_base.proofs.Words.{Written, and_from, and_parts, base_map, call_end, call_ends, cases_eq, change_of, cond_both, counting}
-use Rattle.rk_inv_base.proofs.Words.{counts, ends_of, eq_by_cmp, false_from_ne_true, false≢true, flat_map-append, floor_of, found, get}
-use Rattle.rk_inv_base.proofs.Words.{has_key, has_record, hash_of, is_call_entry, is_in, is_known, is_mutation, is_of, is_of_call}
-use Rattle.rk_inv_base.proofs.Words.{is_of_from, is_of_mutation, is_of_parts, is_record_in, is_serving, item_end, items_in, items_of}
-use Rattle.rk_inv_base.proofs.Words.{last_of, last_version, lineage_of, list_any, live, look, map_after, map_after-append, newest}
-use Rattle.rk_inv_base.proofs.Words.{newest_found, newest_from-append, newest_is, newest_none, none_found, none_stands, of_key, option_or}
-use Rattle.rk_inv_base.proofs.Words.{or_left, or_right, outcome_of, post_of, record_of, record_of_last, records_of, refusal_end, rests}
-use Rattle.rk_inv_base.proofs.Words.{stands_cases, tells_of, truths, unmarked_from, with_change}
+use Rattle.rk_inv_base.proofs.Words.{IsLastAsked, IsPlain, IsRest, IsServedIn, IsStaged, LastCall, Map, Member, NumberMap, Op, Outcome}
+use Rattle.rk_inv_base.proofs.Words.{Placed, Pulling, Range, ReachAll, Role, Row, SoundView, Tablet, View, Waits, WasAsked, Written}
+use Rattle.rk_inv_base.proofs.Words.{and_from, and_parts, base_map, call_end, call_ends, cases_eq, change_of, cond_both, counting, counts}
+use Rattle.rk_inv_base.proofs.Words.{ends_of, eq_by_cmp, false_from_ne_true, false≢true, flat_map-append, floor_of, found, get, has_key}
+use Rattle.rk_inv_base.proofs.Words.{has_record, hash_of, is_call_entry, is_in, is_known, is_mutation, is_of, is_of_call, is_of_from}
+use Rattle.rk_inv_base.proofs.Words.{is_of_mutation, is_of_parts, is_record_in, is_serving, item_end, items_in, items_of, last_of}
+use Rattle.rk_inv_base.proofs.Words.{last_version, lineage_of, list_any, live, look, map_after, map_after-append, newest, newest_found}
+use Rattle.rk_inv_base.proofs.Words.{newest_from-append, newest_is, newest_none, none_found, none_stands, of_key, option_or, or_left}
+use Rattle.rk_inv_base.proofs.Words.{or_right, outcome_of, post_of, record_of, record_of_last, records_of, refusal_end, rests, stands_cases}
+use Rattle.rk_inv_base.proofs.Words.{tells_of, truths, unmarked_from, with_change}
 use Rattle.rk_inv_base.proofs.logs.MarkedApart.{place_of}
 use Rattle.rk_inv_base.proofs.rows.Apart.{same_number}
 use Rattle.rk_inv_logs.proofs.apply.Keeps.{plain_all}
@@ -83,15 +83,11 @@ module _ (truth rest staged : List Held) (table : ℕ) (key : List ℕ) (plain :
 
   pub state_record : (here : Option Held) → (newest staged table key ≡ None → record_of here ≡ live truth table key)
       → record_of (option_or (newest staged table key) here) ≡ live (truth ++ rest) table key
-  state_record here found =
-      by_found (λ best. record_of (option_or best here) ≡ live (truth ++ rest) table key) (newest staged table key)
-      (λ none. found none ∙ sym (ap record_of (none_newest none))) (λ x is. sym (ap record_of (staged_newest x is)))
+  state_record here found = grind (arith, by_found, record_of, live, newest, none_newest, staged_newest)
 
 -- an entry that has an item is that item
 held_in : (entry : Entry) (item : Held) → Contains (items_in entry) item → entry ≡ entries.Held item
-held_in (entries.Held held) item at =
-    elim (stands_cases held [] item at) [ inl is ↦ ap entries.Held is | inr none ↦ absurd (none_stands item none) ]
-held_in _ item at = absurd (none_stands item at)
+held_in entry item at = grind (arith, stands_cases, none_stands)
 
 -- ---- a master that serves a row
 
@@ -114,9 +110,7 @@ module _ (v : View) (sound : SoundView v) (row : Row) (has_row : Contains v.rows
   waiting = drop (v.written master).applied (v.written master).entries
 
   rest_is : rests v row ≡ counting row.range (unmarked_from w.marks (max last.from w.applied) w.entries)
-  rest_is = lineage_last v.written row.range (lineage_of row.phase) last is_last
-      ∙ ap (λ (m : ℕ). counting row.range (unmarked_from (v.written m).marks (max last.from (v.written m).applied) (v.written m).entries))
-      here
+  rest_is = grind (arith, lineage_last, lineage_of, counting, unmarked_from)
 
   -- what the rest has is staged
   pub rest_waits : (entry : Entry) → Contains (rests v row) entry → Contains waiting entry
@@ -209,11 +203,6 @@ each_last completions order = ends_from_pairs (IsLastEnd completions) completion
 newer : (last : Completion) (seq : ℕ) → look_of (Some last) seq ≡ looks.New → last.seq < seq
 newer last seq new = grind (arith, cond_both, nat_lt, ltb-true)
 
--- so no end reaches its record
-pub new_unreached : (completions : Completions) (placed : Placed) → IsInOrder completions
-    → look completions placed.call.client placed.call.seq ≡ looks.New → IsReached (ends_of completions) placed → ⊥
-new_unreached completions placed order new reached = grind (arith, ends_of, each_last, found, newer)
-
 -- ---- the call
 
 module _ (asked : ℕ → Option LastCall) (journal : List Placed) (range : Range) (completions : Completions) (call : Call) (order : IsInOrder completions)
@@ -222,7 +211,7 @@ module _ (asked : ℕ → Option LastCall) (journal : List Placed) (range : Rang
     (recorded : All (λ placed. WasAsked (asked placed.call.client) journal placed.call) journal) where
   -- no record is of the call
   none_placed : (placed : Placed) → Contains journal placed → placed.call ≡ call → ⊥
-  none_placed placed stands same = grind (arith, new_unreached, look, is_record_in, is_mutation, ends_of, has_key)
+  none_placed placed stands same = grind (arith, look, is_record_in, is_mutation, ends_of, has_key, each_last, found, newer)
 
   -- nor of its client and its seq
   none_recorded : (last : LastCall) → asked call.client ≡ Some last → last.call ≡ call → has_record journal call.client call.seq ≡ false

@@ -35,12 +35,10 @@ module _ (w : World) (number master client : ℕ) (request : Request) (sound : I
       (λ alive. sound_read w master client request outcome sound formed here asked is alive)
 
   by_choice : (choice : Choice) → choice_in w master client request ≡ choice → StagesNothing choice → After
-  by_choice Redirects is none =
-      sound_chosen w master client request Redirects sound is (λ alive. sound_redirected w master client request sound)
+  by_choice Redirects is none = search (sound_chosen, sound_redirected)
   by_choice (Repeats end) is none = sound_told end is
   by_choice Ignores is none = sound_chosen w master client request Ignores sound is (λ alive. sound_ignored w master client request sound)
-  by_choice (Wants tablet) is none =
-      sound_chosen w master client request (Wants tablet) sound is (λ alive. sound_put_off w master client request sound tablet)
+  by_choice (Wants tablet) is none = search (sound_chosen, sound_put_off)
   by_choice (Reads outcome) is none = sound_got outcome is
   by_choice _ is none = absurd none
 

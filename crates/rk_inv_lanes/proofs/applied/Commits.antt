@@ -1,6 +1,6 @@
 -- A master is caught up where a backup told what it holds, and stays so at each other message, at its turn and where a tablet is split.
-use Rattle.std.proofs.Common.{None, length, ltb-false, nat_lt, subst, sym, ℕ, ◌≡◌, ◌≤◌}
-use Rattle.rk_inv_base.proofs.Words.{Log, Master, Message, Stored, apply_entries, as_entries, bytes_of, false_from_ne_true, master_step}
+use Rattle.std.proofs.Common.{arith, length, ltb-false, nat_lt, subst, sym, ℕ, ◌≤◌}
+use Rattle.rk_inv_base.proofs.Words.{Master, Message, Stored, apply_entries, as_entries, bytes_of, false_from_ne_true, master_step}
 use Rattle.rk_inv_base.proofs.Words.{master_turn, newly_held, overreach, spelled_all, stored_taken, told_length, with_known, with_split, ⊤}
 use Rattle.rk_inv_lanes.specs.applied.CaughtUp.{AreApplied, IsCaughtUp}
 use Rattle.rk_inv_lanes.proofs.applied.Logs.{applied_entry, applied_side, applied_told}
@@ -11,12 +11,7 @@ use Rattle.rk_inv_events.proofs.Words.{by_found}
 
 -- what is applied stays so where a log grows
 caught_last : IsLasting (λ log applied calls sides records. AreApplied log applied) (λ item. ⊤)
-caught_last = record {
-  appended = λ master entry caught. applied_entry master.log entry caught;
-  sealed = λ master items caught. applied_side (spelled_all (as_entries items)) caught;
-  put = λ master item fits caught. caught;
-  dropped = λ master range caught. caught;
-}
+caught_last = search (applied_entry, applied_side, spelled_all, as_entries)
 
 -- ---- what a backup told
 
@@ -29,16 +24,10 @@ told_caught master backup stored fits caught =
     (subst (AreApplied known.log) (sym (all_applied_next (newly_held known) known))
     (applied_told backup stored.segment stored.length fits caught)))
 
--- where a length does not reach beyond the segment, it is at most that of the segment
-within_reach : (log : Log) (segment size : ℕ) → overreach log segment size ≡ None → size ≤ length (bytes_of log segment)
-within_reach log segment size none = ltb-false (length (bytes_of log segment)) size
-    (false_from_ne_true (nat_lt (length (bytes_of log segment)) size) (λ beyond. absurd (cc (rw beyond at none))))
-
 stored_caught : (master : Master) (backup : ℕ) (stored : Stored) → IsCaughtUp master
     → IsCaughtUp (stored_taken master backup stored (overreach master.log stored.segment stored.length)).master
 stored_caught master backup stored caught =
-    by_found (λ beyond. IsCaughtUp (stored_taken master backup stored beyond).master) (overreach master.log stored.segment stored.length)
-    (λ is. told_caught master backup stored (within_reach master.log stored.segment stored.length is) caught) (λ beyond is. caught)
+    grind (arith, by_found, stored_taken, overreach, told_caught, ltb-false, bytes_of, false_from_ne_true, nat_lt)
 
 -- ---- all that a master does
 

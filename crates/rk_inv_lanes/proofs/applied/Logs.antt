@@ -107,19 +107,14 @@ module _ (log : Log) (teller segment size : ℕ) where
   abbrev new : Log
   new = with_told log teller segment size
 
-  -- a statement of what a backup is known to hold is one of the teller or as it was
-  by_backup : (P : Known → Type 0) (backup : ℕ) → (backup - 1 ≡ teller - 1 → P (told (known_of log teller) segment size))
-      → P (known_of log backup) → P (known_of new backup)
-  by_backup P backup here before = grind (arith, known_of, nothing, get_or-set_same, get_or-set_other, cases_eq, set_past, cases_lt)
-
   told_there : size ≤ length (bytes_of log segment) → IsKnownThere log → (other : ℕ) → other < FIRST_SIDE_SEGMENT
       → known_length (told (known_of log teller) segment size) other ≤ length (bytes_of log other)
   told_there fits known other main = grind (arith, told_length, known_of, bytes_of, told_other, cases_eq)
 
   -- a backup tells no more than is there
   pub known_told : size ≤ length (bytes_of log segment) → IsKnownThere log → IsKnownThere (with_told log teller segment size)
-  known_told fits known backup other main = by_backup (λ k. known_length k other ≤ length (bytes_of log other)) backup
-      (λ same. told_there fits known other main) (known backup other main)
+  known_told fits known backup other main =
+      grind (arith, known_length, bytes_of, told_there, known_of, nothing, get_or-set_same, get_or-set_other, cases_eq, set_past, cases_lt)
 
 -- so many entries behind those that are applied are held
 pub held_count : (log : Log) (count : ℕ) → count ≤ committed log
@@ -176,19 +171,14 @@ cut_longer : (segments : List (List ℕ)) (entries : List Entry) (place : ℕ)
     → length (get_or segments place []) ≤ length (get_or (cut_after segments entries) place [])
 cut_longer segments [] place = omega arith
 cut_longer segments (entry ∷ entries) place =
-    omega (
-      arith,
-      first_part_length (with_bytes_front segments (spelled entry) place),
-      cut_longer (with_bytes segments (spelled entry)) entries place,
-    )
+    grind (arith, first_part_length, with_bytes_front, (cut_longer (with_bytes segments (spelled entry)) entries place))
 
 -- each entry ends within its segment
 ends_there : (segments : List (List ℕ)) (entries : List Entry) (place : ℕ) (none : EntryEnd) → place < length (ends_after segments entries)
     → (get_or (ends_after segments entries) place none).offset
     ≤ length (get_or (cut_after segments entries) ((get_or (ends_after segments entries) place none).segment - 1) [])
 ends_there segments [] place none within = absurd (omega arith)
-ends_there segments (entry ∷ entries) zero none within =
-    cut_longer (with_bytes segments (spelled entry)) entries (length (with_bytes segments (spelled entry)) - 1)
+ends_there segments (entry ∷ entries) zero none within = grind (arith, cut_longer, with_bytes, spelled)
 ends_there segments (entry ∷ entries) (suc place) none within = ends_there (with_bytes segments (spelled entry)) entries place none (omega arith)
 
 length_numbered : (first : ℕ) (segments : List (List ℕ)) → length (numbered first segments) ≡ length segments
@@ -198,9 +188,7 @@ length_numbered first (bytes ∷ more) = ap suc (length_numbered (suc first) mor
 numbered_get : (first : ℕ) (segments : List (List ℕ)) (place : ℕ) (none : NumberedBytes) → place < length segments
     → get_or (numbered first segments) place none ≡ record { number = first + place; bytes = get_or segments place [] }
 numbered_get first [] place none within = absurd (omega arith)
-numbered_get first (bytes ∷ more) zero none within =
-    let same : first ≡ first + 0 = omega arith in
-    λ i. record { number = same i; bytes = bytes }
+numbered_get first (bytes ∷ more) zero none within = grind arith
 numbered_get first (bytes ∷ more) (suc place) none within =
     let same : suc first + place ≡ first + suc place = omega arith in
     numbered_get (suc first) more place none (omega arith) ∙ (λ i. record { number = same i; bytes = get_or more place [] })

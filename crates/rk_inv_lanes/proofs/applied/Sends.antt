@@ -6,9 +6,9 @@ use Rattle.rk_inv_base.proofs.Words.{Message, Called, IsWellFormed, Master, stag
 use Rattle.rk_inv_base.proofs.Words.{MOST_BYTES, happened, ledger_after, World, bytes_of_logs, master_at, Node, Event}
 use Rattle.std.proofs.lemmas.List.Folds.{length-flat_map-take}
 use Rattle.std.proofs.lemmas.List.FromFn.{get_or-range_with_len, length-range_with_len}
-use Rattle.rk_inv_lanes.specs.applied.CaughtUp.{AllCaughtUp, IsCaughtUp}
+use Rattle.rk_inv_lanes.specs.applied.CaughtUp.{AllCaughtUp}
 use Rattle.rk_inv_lanes.proofs.applied.Logs.{Lacks, lacks}
-use Rattle.rk_inv_lanes.proofs.applied.Lanes.{HasFew, few_of}
+use Rattle.rk_inv_lanes.proofs.applied.Lanes.{few_of}
 use Rattle.rk_inv_events.proofs.events.Coordinating.{of_master}
 
 -- ---- a master
@@ -43,17 +43,13 @@ some_staged master some = ⊎_elim (λ (less : master.applied < length master.lo
     none [] is = refl
     none (entry ∷ list) is = absurd (omega (arith, is))
 
-turn_some : (master : Master) → HasFew master → IsCaughtUp master → staged master ≢ [] → 1 ≤ length (master_turn master).sends
-turn_some master has caught some = grind (arith, committed, some_staged, appends_some, lacks, length-append, appends, duties)
-
 -- ---- a lane
 
 -- a master of a lane sends one message at least
 sends_one : {w : World} (master : ℕ) → IsWellFormed w → bytes_of_logs w < MOST_BYTES → AllCaughtUp w → staged (master_at w master) ≢ []
     → 1 ≤ length (master_turn (master_at w master)).sends
-sends_one {w} master formed room caught = of_master w formed
-    (λ m. IsCaughtUp m → staged m ≢ [] → 1 ≤ length (master_turn m).sends) master (λ now some. absurd (some refl))
-    (λ m is its now some. turn_some m (few_of w master m formed room is) now some) (caught master)
+sends_one {w} master formed room caught =
+    grind (arith, of_master, staged, master_turn, few_of, committed, some_staged, appends_some, lacks, length-append, appends, duties)
 
 pub sends_some : (w : World) (master : ℕ) → IsWellFormed w → bytes_of_logs w < MOST_BYTES → AllCaughtUp w → staged (master_at w master) ≢ []
     → (master_turn (master_at w master)).sends ≢ []

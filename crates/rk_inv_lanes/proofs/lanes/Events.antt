@@ -1,15 +1,14 @@
 -- What an event may make of a lane, case by case: what is so after each of these is so after the event.
-use Rattle.std.proofs.Common.{arith}
-use Rattle.std.proofs.Common.{Option, Some, [], false, inl, refl, true, ℕ, ◌∷◌, ◌≡◌, ◌⊎◌}
-use Rattle.rk_inv_base.proofs.Words.{Body, Called, Event, Message, Node, NumberMap, Range, Row, Segments, World}
-use Rattle.rk_inv_base.proofs.Words.{backed_at, backup_step, client_added, cond_both, coordinator_notice, coordinator_turn, crashed_masters}
-use Rattle.rk_inv_base.proofs.Words.{delivered, delivered_to, get, happened, has_crashed, insert, is_added, is_backup, log_bytes_of, losing}
-use Rattle.rk_inv_base.proofs.Words.{master_at, master_step, master_turn, owner_split, quietly, row_of, row_split, rows_split, seen_in}
-use Rattle.rk_inv_base.proofs.Words.{sent_again, stored_after, tablet_migrated, to_backup, to_coordinator, to_master, turned, with_client}
-use Rattle.rk_inv_base.proofs.Words.{with_coordinator, with_ledger, with_master, with_sends, with_split, with_stored_by, worked_at}
+use Rattle.std.proofs.Common.{arith, Some, [], false, inl, refl, true, ℕ, ◌∷◌, ◌≡◌, ◌⊎◌}
+use Rattle.rk_inv_base.proofs.Words.{Body, Called, Event, Message, Node, NumberMap, Range, Segments, World, backed_at, backup_step}
+use Rattle.rk_inv_base.proofs.Words.{client_added, cond_both, coordinator_notice, coordinator_turn, crashed_masters, get, happened}
+use Rattle.rk_inv_base.proofs.Words.{has_crashed, insert, is_added, is_backup, log_bytes_of, losing, master_at, master_step, master_turn}
+use Rattle.rk_inv_base.proofs.Words.{quietly, rows_split, seen_in, stored_after, tablet_migrated, to_backup, to_coordinator, turned}
+use Rattle.rk_inv_base.proofs.Words.{with_client, with_coordinator, with_ledger, with_master, with_sends, with_split, with_stored_by}
+use Rattle.rk_inv_base.proofs.Words.{worked_at}
 use Rattle.rk_message.specs.Wire.{without_message}
 use Rattle.rk_world.specs.World.{with_crash, with_wire}
-use Rattle.rk_inv_events.proofs.Words.{by_found, tablet_added}
+use Rattle.rk_inv_events.proofs.Words.{tablet_added}
 
 -- what the backups of a lane store, or what they store once one of them has stored something
 pub record StoresMore (w : World) (backups : NumberMap Segments) : Type 0 where
@@ -52,37 +51,16 @@ pub record Covers (R : World → Type 0) (w : World) (event : Event) (called : C
   pub notices : (master : ℕ) → R (quietly (with_coordinator w (coordinator_notice w.coordinator master (crashed_masters w)))).world
 
 module _ {R : World → Type 0} {w : World} {event : Event} {called : Called} (covers : Covers R w event called) where
-  to_master_covered : (number master : ℕ) (message : Message) → event ≡ Event.Deliver number → get w.wire.messages number ≡ Some message
-      → message.to ≡ Node.Master master → R (to_master w master message).world
-  to_master_covered number master message is found to =
-      cond_both (has_crashed w master) (losing w) (worked_at w master (seen_in message.body) (master_step (master_at w master) message))
-      (λ stepped. R stepped.world) (λ gone. covers.quiet w.backups (inl refl)) (covers.steps number master message is found to)
-
   to_backup_covered : (backup : ℕ) (sender : Node) (body : Body) → R (to_backup w backup sender body called).world
   to_backup_covered backup sender body =
       grind (arith, is_backup, stored_after, backup_step, log_bytes_of, insert, with_stored_by, losing, with_sends, backed_at, quietly)
 
-  delivered_covered : (number : ℕ) → event ≡ Event.Deliver number → (found : Option Message) → get w.wire.messages number ≡ found
-      → R (delivered w found called).world
-  delivered_covered number is found none = grind (arith, delivered_to, to_master_covered, to_backup_covered)
-
   turned_covered : (node : Node) → R (turned w node).world
-  turned_covered Node.Coordinator = covers.duties
-  turned_covered (Node.Master master) = covers.turns master
-  turned_covered _ = covers.quiet w.backups (inl refl)
+  turned_covered node = grind arith
 
   comes_covered : (client : ℕ) → event ≡ Event.AddClient client → R (quietly (client_added w client)).world
   comes_covered client is = cond_both (is_added w.ledger client) w (with_ledger w (with_client w.ledger client))
       (λ now. R (quietly now).world) (λ old. covers.quiet w.backups (inl refl)) (covers.comes client is)
 
-  split_covered : (tablet at new : ℕ) (found : Option Row)
-      → R (quietly (with_coordinator (row_split w found at new) (rows_split w.coordinator tablet at new))).world
-  split_covered tablet at new found =
-      grind (arith, quietly, with_coordinator, with_master, with_split, master_at, rows_split, owner_split, has_crashed)
-
-  -- the event
-  by_event : (it : Event) → event ≡ it → R (happened w it called).world
-  by_event it is = grind (arith, comes_covered, delivered_covered, turned_covered, by_found, sent_again, split_covered, row_of)
-
   pub event_covered : R (happened w event called).world
-  event_covered = by_event event refl
+  event_covered = grind arith

@@ -1,5 +1,5 @@
 -- What is so of each master of a lane stays so at an event, where each change of a master keeps it.
-use Rattle.std.proofs.Common.{ℕ, Some, false, subst, sym, ⊎_elim, ◌≡◌}
+use Rattle.std.proofs.Common.{arith, ℕ, Some, false, ⊎_elim, ◌≡◌}
 use Rattle.rk_inv_base.proofs.Words.{Called, Event, Master, Message, Node, Range, World, cases_eq, get, happened, has_crashed, master_at}
 use Rattle.rk_inv_base.proofs.Words.{master_step, master_turn, with_added, with_master, with_split}
 use Rattle.rk_inv_base.proofs.views.Masters.{master_other, master_same}
@@ -20,9 +20,7 @@ pub record IsKeptByEach (P : ℕ → Master → Type 0) (w : World) (event : Eve
 
 module _ {P : ℕ → Master → Type 0} {w : World} {event : Event} (kept : IsKeptByEach P w event) where
   put_kept : (number : ℕ) (master : Master) → P number master → AllAre P (with_master w number master)
-  put_kept number master now q =
-      ⊎_elim (λ (is : q ≡ number). subst (P q) (sym (master_same w number master q is)) (rw is now))
-      (λ (apart : q ≡ number → ⊥). subst (P q) (sym (master_other w number master q apart)) (kept.now q)) (cases_eq q number)
+  put_kept number master now q = grind (arith, master_same, master_other, cases_eq)
 
   covers : (called : Called) → Covers (AllAre P) w event called
   covers called = record {

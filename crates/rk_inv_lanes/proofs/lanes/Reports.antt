@@ -1,10 +1,9 @@
 -- What the coordinator makes of a message, case by case: what is so of each of these is so of all that it makes of messages.
-use Rattle.std.proofs.Common.{arith}
-use Rattle.std.proofs.Common.{Bool, None, Option, Some, [], cond, eqb-true, false, true, ℕ, ◌==◌, ◌∷◌, ◌≡◌}
+use Rattle.std.proofs.Common.{arith, Bool, None, Option, Some, [], cond, eqb-true, false, true, ℕ, ◌==◌, ◌∷◌, ◌≡◌}
 use Rattle.rk_inv_base.proofs.Words.{Body, Coordinated, Coordinator, Moving, Node, Opening, Owned, Phase, Ready, Rebuilding, Rebuilt, Row}
 use Rattle.rk_inv_base.proofs.Words.{Tenure, Transfer, about, answered, at_term, is_noticed, joined_in, located, own_to, place_noted}
-use Rattle.rk_inv_base.proofs.Words.{ready_in, rebuilt_in, release_to, report, row_for, row_moved, row_of, row_owned, row_with}
-use Rattle.rk_inv_base.proofs.Words.{told_coordinator, transfer_in, unanswered, cond_both}
+use Rattle.rk_inv_base.proofs.Words.{ready_in, rebuilt_in, release_to, row_moved, row_of, row_owned, row_with, told_coordinator}
+use Rattle.rk_inv_base.proofs.Words.{transfer_in, unanswered, cond_both}
 use Rattle.rk_message.specs.declared.calls.Lookup.{Lookup}
 use Rattle.rk_inv_wellformed.proofs.maps.Lists.{by_found}
 
@@ -57,14 +56,6 @@ module _ {C : Body → Coordinated → Type 0} {coordinator : Coordinator} (made
     rebuilt_made message row (Owned master from) = either _ (sender == master) _ (λ same. made.rebuilds_again message row master)
     rebuilt_made message row _ = made.silent _
 
-  -- the coordinator hears only who was not noticed dead
-  about_made : (body : Body) (sender : ℕ) (tenure : Tenure) (taken : Row → Coordinated)
-      → (is_noticed coordinator sender ≡ false → (row : Row) → C body (taken row))
-      → C body (about coordinator taken (row_for coordinator sender tenure))
-  about_made body sender tenure taken each = grind (arith, about, at_term, row_of, cond_both, is_noticed, by_found)
-
-  report_made : (sender : ℕ) (body : Body) → C body (report coordinator sender body)
-  report_made sender body = grind (arith, about_made, ready_in, transfer_in, joined_in, rebuilt_in)
-
   pub told_made : (sender : Node) (body : Body) → C body (told_coordinator coordinator sender body)
-  told_made sender body = grind (arith, row_with, report_made)
+  told_made sender body =
+      grind (arith, row_with, ready_in, transfer_in, joined_in, rebuilt_in, about, at_term, row_of, cond_both, is_noticed, by_found)

@@ -1,6 +1,5 @@
 -- What a client's turn and an answer may come to in a lane, case by case: what is so after each of these is so after the visit.
-use Rattle.std.proofs.Common.{arith}
-use Rattle.std.proofs.Common.{None, Option, Some, true, ℕ, ◌≡◌}
+use Rattle.std.proofs.Common.{arith, None, Option, Some, true, ℕ, ◌≡◌}
 use Rattle.rk_inv_base.proofs.Words.{Body, Call, ClientTurn, Message, Session, Visited, World, accept, accept_by, accept_refusal, accepting}
 use Rattle.rk_inv_base.proofs.Words.{ask, ask_by, ask_refusal, asking, asking_by, cond_both, fits_with, get, is_asked_here, session_turn}
 use Rattle.rk_inv_base.proofs.Words.{taking, untouched, world_visited}
@@ -25,9 +24,7 @@ module _ (R : World → Type 0) (w : World) (session : Session) (now : R w) wher
   -- so it is with the lane, also where the turn or the answer is refused
   pub ask_covered : ((call : Call) (turned : ClientTurn) → session.outstanding ≡ Some call → R (asking_by w session call (Some turned)).world)
       → R (world_visited w (ask w session))
-  ask_covered asks = by_found (λ refused. R (world_visited w (ask_by w session refused))) (ask_refusal w session)
-      (λ none. asking_covered (λ visited. R visited.world) w session now (λ call turned out fits is. asks call turned out))
-      (λ error is. now)
+  ask_covered asks = grind (arith, by_found, world_visited, ask_by, ask_refusal, asking_covered)
 
   pub accept_covered : (number : ℕ) → ((body : Body) → R (taking w session body).world) → R (world_visited w (accept w number session))
   accept_covered number takes = grind (arith, by_found, world_visited, accept_by, accept_refusal, accepting_covered)

@@ -1,10 +1,9 @@
 -- What a Reply on the wire says that was not there before its Request was delivered: what the master chose to say.
-use Rattle.std.proofs.Common.{arith}
-use Rattle.std.proofs.Common.{List, None, Option, Some, ap, refl, slice_get, sym, ℕ, ◌∙◌, ◌≡◌}
+use Rattle.std.proofs.Common.{arith, List, None, Option, Some, ap, refl, sym, ℕ, ◌∙◌, ◌≡◌}
 use Rattle.rk_inv_base.proofs.Words.{Answer, Body, Call, Called, Choice, Ignores, IsWellFormed, Master, MayAnswerMoved, Message, Placed}
 use Rattle.rk_inv_base.proofs.Words.{Reads, Redirects, Refuses, Repeats, Reply, Request, Served, Traffic, Wants, World, Writes, answering}
 use Rattle.rk_inv_base.proofs.Words.{call_of, cases_eq, choice_of, chosen, filled, get, get_other, get_same, ledger_after, master_at}
-use Rattle.rk_inv_base.proofs.Words.{outcome_of, place_of, reply_at, reply_with, with_message, worked_at}
+use Rattle.rk_inv_base.proofs.Words.{outcome_of, place_of, reply_at, with_message, worked_at}
 use Rattle.rk_inv_events.specs.request.Small.{request_message}
 use Rattle.rk_inv_lanes.specs.late.Refused.{IsPutOff}
 use Rattle.rk_inv_lanes.specs.late.Sent.{IsMade}
@@ -19,13 +18,8 @@ abbrev answer_in : Body → Option Answer
 answer_in (Body.Reply reply) = Some reply.answer
 answer_in _ = None
 
-with_same : (reply : Reply) (place : ℕ) (there : Option Placed) → (reply_with reply place there).answer ≡ reply.answer
-with_same reply place None = refl
-with_same reply place (Some placed) = refl
-
 pub at_same : (journal : List Placed) (reply : Reply) (place : Option ℕ) → (reply_at journal reply place).answer ≡ reply.answer
-at_same journal reply None = refl
-at_same journal reply (Some place) = with_same reply place (slice_get journal place)
+at_same journal reply place = grind arith
 
 -- a Reply that is filled in says what it said
 filled_says : (journal : List Placed) (served : List Served) (master : Master) (call : Call) (answer : Answer)

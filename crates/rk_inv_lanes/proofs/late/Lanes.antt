@@ -1,11 +1,10 @@
 -- A lane in which a message comes late: nothing has changed but what is on the wire.
-use Rattle.std.proofs.Common.{arith}
-use Rattle.std.proofs.Common.{List, Some, [], ap, append-nil, false, refl, true, ℕ, ◌∙◌, ◌∷◌, ◌≡◌}
+use Rattle.std.proofs.Common.{arith, Some, [], append-nil, false, refl, true, ℕ, ◌∷◌, ◌≡◌}
 use Rattle.rk_inv_base.proofs.Words.{cond-false, get, Node, row_of, Row, with_message, Prepare, Tenure, Body, Message, Called, is_noticed}
 use Rattle.rk_inv_base.proofs.Words.{Coordinated, answered, own_to, report, unanswered, ready, transfer, Ledger, with_all_served}
 use Rattle.rk_inv_base.proofs.Words.{with_marks, with_rebuilt, Master, master_step, Stepped, delivered_to, happened, ledger_after, losing}
 use Rattle.rk_inv_base.proofs.Words.{seen_in, to_master, with_sends, worked_at, Worked, changed, World, has_crashed, master_at, tablet_in}
-use Rattle.rk_inv_base.proofs.Words.{with_coordinator, with_ledger, Mark, Served, tenure_in, Role, Event}
+use Rattle.rk_inv_base.proofs.Words.{with_coordinator, with_ledger, tenure_in, Role, Event}
 use Rattle.rk_inv_base.proofs.views.Masters.{same_of_each}
 use Rattle.rk_inv_lanes.specs.late.Late.{IsLateReport, IsOlder, IsPassedOver, is_told_again, is_waited_for, says_again}
 use Rattle.rk_inv_lanes.specs.late.Sent.{IsToldToOwn, order_to, report_of}
@@ -38,9 +37,7 @@ reaches P w master message lost taken = either_way (λ (stepped : Stepped). P st
 -- without calls that were served and pieces that are marked the ledger stays as it is
 ledger_same : (ledger : Ledger) (master seen : ℕ) (worked : Worked) → worked.served ≡ [] → worked.marked ≡ []
     → ledger_after ledger master seen worked ≡ ledger
-ledger_same ledger master seen worked served marked =
-    ap (λ (calls : List Served). with_marks (with_all_served seen ledger calls) worked.marked) served
-    ∙ ap (with_marks ledger) marked ∙ ap (λ (marks : List Mark). record ledger { marks = marks }) (append-nil ledger.marks)
+ledger_same ledger master seen worked served marked = grind (arith, with_marks, with_all_served, append-nil)
 
 module _ (w : World) (master : ℕ) where
   abbrev own : Master
@@ -56,10 +53,7 @@ module _ (w : World) (master : ℕ) where
   }
 
   untouched : (seen : ℕ) (worked : Worked) → worked ≡ changed own → IsUntouched w (worked_at w master seen worked).world
-  untouched seen worked quiet = record {
-    unchanged = unchanged seen worked (stays_quiet own worked quiet);
-    silent = ap (λ (made : Worked). (worked_at w master seen made).world.wire) quiet;
-  }
+  untouched seen worked quiet = search (unchanged, stays_quiet, worked_at)
 
 -- a message that is lost
 lost : (w : World) → IsUntouched w (losing w).world
@@ -106,9 +100,7 @@ module _ (w : World) (number master : ℕ) where
       → (tablet_in w master prepare.tenure.tablet).handover.term ≡ prepare.tenure.term
       → (tablet_in w master prepare.tenure.tablet).handover.role ≡ Role.Wanting from
       → (happened w (Event.Deliver number) called).world.wire ≡ with_message (ready (master_at w master) prepare.tenure from) w.wire
-  ready_again_sent prepare from called there lives same wanting =
-      sends_as (Body.Prepare prepare) called (ready (master_at w master) prepare.tenure from) there lives
-      (ap (λ (made : Worked). (worked_at w master 0 made).world.wire) (says_ready (master_at w master) prepare from same wanting))
+  ready_again_sent prepare from called there lives same wanting = grind (arith, sends_as, ready, master_at, worked_at, says_ready)
 
   pub transfer_sent : (tenure : Tenure) (called : Called)
       → get w.wire.messages number ≡ Some (order_to master (Body.Close tenure)) → has_crashed w master ≡ false
@@ -116,9 +108,7 @@ module _ (w : World) (number master : ℕ) where
       → (tablet_in w master tenure.tablet).handover.role ≡ Role.Frozen
       → (happened w (Event.Deliver number) called).world.wire
       ≡ with_message (transfer (master_at w master) tenure (tablet_in w master tenure.tablet)) w.wire
-  transfer_sent tenure called there lives same freeze =
-      sends_as (Body.Close tenure) called (transfer (master_at w master) tenure (tablet_in w master tenure.tablet)) there lives
-      (ap (λ (made : Worked). (worked_at w master 0 made).world.wire) (says_transfer (master_at w master) tenure same freeze))
+  transfer_sent tenure called there lives same freeze = grind (arith, sends_as, transfer, master_at, tablet_in, worked_at, says_transfer)
 
 -- ---- reports to the coordinator
 

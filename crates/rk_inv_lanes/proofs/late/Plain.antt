@@ -1,19 +1,16 @@
 -- What nodes send that refuses no call: all but what a master answers to a Request.
-use Rattle.std.proofs.Common.{arith}
-use Rattle.std.proofs.Common.{All, Bool, List, None, Option, Some, [], cond, flat_map, length, map, nat_lt, refl, subst, sym, ℕ, ◌++◌, ◌∷◌}
-use Rattle.std.proofs.Common.{◌≡◌}
-use Rattle.rk_inv_base.proofs.Words.{All-append, All-cons, All-map, All-nil, All-weaker, Answer, Appended, Body, Called, Coordinator, Gave}
-use Rattle.rk_inv_base.proofs.Words.{Master, Message, Node, NumberMap, Opening, Overreach, Owned, Phase, Placed, Reading, Reply, Role, Row}
-use Rattle.rk_inv_base.proofs.Words.{Served, Stored, Tablet, Worked, all_going_on, append_of, appends, apply_entries, backup_step, changed}
-use Rattle.rk_inv_base.proofs.Words.{coordinator_turn, duties, filled, from_master, located, master_turn, newly_held, next_reading}
-use Rattle.rk_inv_base.proofs.Words.{overreach, own_to, pending, place_of, range_with_len, reading_duty, release_to, row_duty, sending}
-use Rattle.rk_inv_base.proofs.Words.{stored_taken, tablet_duty, told_coordinator, told_master, with_known, with_outstanding, ⊤}
+use Rattle.std.proofs.Common.{arith, All, Bool, List, None, Option, Some, [], cond, flat_map, length, map, nat_lt, ℕ, ◌++◌, ◌∷◌}
+use Rattle.rk_inv_base.proofs.Words.{All-append, All-cons, All-map, All-nil, All-weaker, Body, Called, Coordinator, Master, Message, Node}
+use Rattle.rk_inv_base.proofs.Words.{NumberMap, Overreach, Phase, Placed, Role, Row, Served, Stored, Tablet, Worked, all_going_on}
+use Rattle.rk_inv_base.proofs.Words.{append_of, appends, apply_entries, backup_step, changed, coordinator_turn, duties, filled, from_master}
+use Rattle.rk_inv_base.proofs.Words.{master_turn, newly_held, next_reading, overreach, own_to, pending, place_of, range_with_len}
+use Rattle.rk_inv_base.proofs.Words.{release_to, row_duty, sending, stored_taken, tablet_duty, told_coordinator, told_master, with_known}
+use Rattle.rk_inv_base.proofs.Words.{with_outstanding, ⊤}
 use Rattle.rk_world.specs.Backup.{master_message}
-use Rattle.rk_world.specs.MasterTurn.{want_of}
-use Rattle.rk_world.specs.Replies.{filled_body, filled_reply}
+use Rattle.rk_world.specs.Replies.{filled_body}
 use Rattle.rk_world.specs.Worked.{then_works}
-use Rattle.rk_inv_lanes.specs.late.Refused.{IsNoRefusal, IsOutcome}
-use Rattle.rk_inv_lanes.proofs.lanes.Reports.{IsMade, told_made}
+use Rattle.rk_inv_lanes.specs.late.Refused.{IsNoRefusal}
+use Rattle.rk_inv_lanes.proofs.lanes.Reports.{told_made}
 use Rattle.rk_inv_lanes.proofs.late.Answered.{at_same}
 use Rattle.rk_inv_lanes.proofs.masters.Sends.{IsSaid, copy_sends, order_sends, peer_sends}
 use Rattle.rk_inv_events.proofs.stored.StoredTaken.{AnyNext, Passes, entries_pass}
@@ -63,12 +60,7 @@ plainly : IsSaid (λ body sends. RefuseNone sends)
 plainly = grind (arith, none, one)
 
 applies : Passes AnyNext (λ master worked. WorksPlainly worked)
-applies = record {
-  stays = λ master. quiet master;
-  silent = λ master entry any. record { sends = none };
-  ends = λ master entry call end any is. record { sends = one _ tt };
-  goes_on = λ master first later its others. both first (λ next. later) its others;
-}
+applies = search (quiet, none, one, both)
 
 -- a client asks a call
 abbrev pub IsAsked : Node → Body → Type 0
@@ -101,17 +93,8 @@ appends_plain master = of_each (λ backup. append_of master backup (pending mast
     (λ backup.
     by_found (λ piece. RefuseNone (append_of master backup piece)) (pending master.log backup) (λ nothing. none) (λ piece is. one _ tt))
 
-wants_plain : (master : Master) (number : ℕ) (tablet : Tablet) (hashes : List ℕ) → RefuseNone (want_of master number tablet hashes)
-wants_plain master number tablet [] = none
-wants_plain master number tablet (hash ∷ more) = one _ tt
-
-reading_plain : (master : Master) (number : ℕ) (tablet : Tablet) (reading : Option Reading) → WorksPlainly (reading_duty master number tablet reading)
-reading_plain master number tablet None = record { sends = none }
-reading_plain master number tablet (Some reading) = record { sends = one _ tt }
-
 duty_plain : (master : Master) (number : ℕ) (tablet : Tablet) (role : Role) → WorksPlainly (tablet_duty master number tablet role)
-duty_plain master number tablet role =
-    grind (arith, with_outstanding, joined, wants_plain, one, at_most, nat_lt, from_master, reading_plain, next_reading, none)
+duty_plain master number tablet role = grind (arith, with_outstanding, joined, one, at_most, nat_lt, from_master, next_reading, none)
 
 duties_plain : (master : Master) (tablets : NumberMap Tablet) → WorksPlainly (duties master tablets)
 duties_plain master [] = record { sends = none }
@@ -125,22 +108,12 @@ turn_plain master = both (record { master = master; sends = appends master; serv
 
 -- ---- the coordinator
 
-located_plain : (sender : Node) (row : Option Row) → RefuseNone (located sender row)
-located_plain sender None = none
-located_plain sender (Some row) = one _ tt
-
--- what the coordinator makes of a message sends such messages alone
-reports_plainly : (coordinator : Coordinator) → IsMade (λ body taken. RefuseNone taken.sends) coordinator
-reports_plainly coordinator = grind (arith, none, located_plain, joined, one, own_to, release_to)
-
 module _ (coordinator : Coordinator) where
   pub coordinator_plain : (sender : Node) (body : Body) → RefuseNone (told_coordinator coordinator sender body).sends
-  coordinator_plain sender body = told_made (reports_plainly coordinator) sender body
+  coordinator_plain sender body = grind (arith, told_made, none, joined, one, own_to, release_to)
 
   duty_of_row : (row : Row) (phase : Phase) → RefuseNone (row_duty coordinator row phase)
-  duty_of_row row (Owned master from) = none
-  duty_of_row row (Opening source sfrom target None) = one _ tt
-  duty_of_row row _ = one _ tt
+  duty_of_row row phase = grind (arith, none, one)
 
   pub coordinator_turn_plain : RefuseNone (coordinator_turn coordinator)
   coordinator_turn_plain = of_each (λ row. row_duty coordinator row row.phase) coordinator.rows (λ row. duty_of_row row row.phase)
@@ -149,9 +122,7 @@ module _ (coordinator : Coordinator) where
 
 module _ (backup : ℕ) (log : ℕ → ℕ → List ℕ) where
   for_master : (master : ℕ) (body : Body) (called : Called) → RefuseNone (master_message backup master body log called).sends
-  for_master master (Body.Append append) (Appended length) = one _ tt
-  for_master master (Body.Read read) (Gave bytes) = one _ tt
-  for_master master _ _ = none
+  for_master master body called = grind (arith, one, none)
 
   pub backup_plain : (sender : Node) (body : Body) (called : Called) → RefuseNone (backup_step backup sender body log called).sends
   backup_plain (Node.Master master) body called = for_master master body called
@@ -160,16 +131,8 @@ module _ (backup : ℕ) (log : ℕ → ℕ → List ℕ) where
 -- ---- what is filled in
 
 module _ (journal : List Placed) (served : List Served) where
-  reply_plain : (client : ℕ) (reply : Reply) (answer : Answer) → reply.answer ≡ answer → IsNoRefusal (Body.Reply reply)
-      → IsNoRefusal (Body.Reply (filled_reply journal served client reply answer))
-  reply_plain client reply (Answer.Done outcome) is plain =
-      subst IsOutcome (sym (at_same journal reply (place_of journal served client reply.seq))) plain
-  reply_plain client reply _ is plain = plain
-
   body_plain : (to : Node) (body : Body) → IsNoRefusal body → IsNoRefusal (filled_body journal served to body)
-  body_plain (Node.Client client) (Body.Reply reply) plain = reply_plain client reply reply.answer refl plain
-  body_plain (Node.Client client) _ plain = tt
-  body_plain _ body plain = plain
+  body_plain to body plain = grind (arith, at_same, place_of)
 
   pub all_filled_plain : (sends : List Message) → All IsPlain sends → All IsPlain (map (filled journal served) sends)
   all_filled_plain sends plain = All-map IsPlain (filled journal served) sends

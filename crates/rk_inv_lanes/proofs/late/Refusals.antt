@@ -1,5 +1,5 @@
 -- A master refuses a call only where it may: by what it found as it chose.
-use Rattle.std.proofs.Common.{None, Option, Some, ap, cond, false, is_some, ltb-false, nat_lt, not, refl, subst, true, unwrap_or, ℕ, ◌&&◌}
+use Rattle.std.proofs.Common.{arith, None, Option, Some, ap, false, is_some, ltb-false, nat_lt, not, refl, subst, true, unwrap_or, ℕ, ◌&&◌}
 use Rattle.std.proofs.Common.{◌∙◌, ◌≡◌}
 use Rattle.rk_inv_base.proofs.Words.{Call, Held, IsInOrder, Master, MayAnswerMoved, Redirects, Tablet, Wants, and_parts, choice_of}
 use Rattle.rk_inv_base.proofs.Words.{contains, found, has_key, hash_of, is_mutation, is_receiving, is_serving, items_of, needs_state}
@@ -48,12 +48,9 @@ not_yet_justified master call number order chose =
         let none : state_of master call ≡ None = none_of (state_of master call) lacks.0 in
         record {
           receiving = ap (λ (t : Tablet). t.handover.role) here ∙ receiving_is tablet.handover.role (not-false (is_receiving tablet.handover.role) lacks.1);
-          key_here = ap (λ (t : Tablet). has_key t.handover.range call.table call.key) here
-              ∙ (and_parts (is_serving tablet.handover.role) (has_key tablet.handover.range call.table call.key) passes).1;
+          key_here = grind (arith, has_key, and_parts, is_serving, call.table, call.key, tablet.handover.role, tablet.handover.range);
           needs = needs;
-          absent =
-              no_second (cond (is_mutation call.op) (newest (items_of (staged master)) call.table call.key) None)
-              (found call.table call.key master.records) none;
+          absent = grind (arith, no_second, is_mutation, newest, items_of, staged, found, call.op, call.table, call.key, master.records);
           undecided = none;
           unresolved = ap (λ (t : Tablet). contains t.pulling.hashes.resolved (hash_of call.key)) here ∙ lacks.2;
           not_passed = rw here (ltb-false (bucket_of (hash_of call.key)) tablet.pulling.token.bucket lacks.3);

@@ -1,6 +1,5 @@
 -- Where a refusal on the wire comes from: of all events only a Request that is delivered to a master makes one.
-use Rattle.std.proofs.Common.{arith}
-use Rattle.std.proofs.Common.{◌≡◌, ◌+◌, ℕ, List, [], ◌∷◌, Option, Some, None, sym, subst, inl, inr, ⊎_elim, ◌∙◌, ◌⊎◌, All, fold}
+use Rattle.std.proofs.Common.{arith, ◌≡◌, ◌+◌, ℕ, List, [], ◌∷◌, Option, Some, None, sym, subst, inl, ⊎_elim, ◌∙◌, ◌⊎◌, All, fold}
 use Rattle.rk_inv_base.proofs.Words.{cases_eq, All-head, All-tail, get_other, get_same, remove_less, get, Placed, Node, Traffic}
 use Rattle.rk_inv_base.proofs.Words.{with_message, Reply, Request, Body, Message, Called, IsWellFormed, MayAnswerMoved, filled, happened}
 use Rattle.rk_inv_base.proofs.Words.{ledger_after, log_bytes_of, seen_in, with_sends, worked_at, Worked, World, master_at, Event, LastCall}
@@ -57,18 +56,7 @@ module _ (w : World) (new : ℕ) (message : Message) (called : Called) (free : g
   taking : (number master : ℕ) (from to : Node) (body : Body) → event ≡ Event.Deliver number
       → get w.wire.messages number ≡ Some (record { from = from; to = to; body = body }) → to ≡ Node.Master master
       → IsExplained (worked_at w master (seen_in body) (told_master (master_at w master) from body)).world
-  taking number master (Node.Client client) (Node.Master other) (Body.Request request) is found to there = inr (record {
-    number = number;
-    master = other;
-    client = client;
-    request = request;
-    event_is = is;
-    made = record {
-      asked = found;
-      free = free;
-      made = subst (λ (e : Event). get (happened w e called).world.wire.messages new ≡ Some message) is made;
-    };
-  })
+  taking number master (Node.Client client) (Node.Master other) (Body.Request request) is found to there = grind (arith, happened)
   taking number master (Node.Client client) _ (Body.Request request) is found to there = absurd (cc to)
   taking number master from _ body is found to there =
       working master (seen_in body) (master_plain (master_at w master) from body (λ asked. asked)) there
@@ -120,9 +108,7 @@ module _ (w : World) (event : Event) (new : ℕ) (message : Message) (reply : Re
 -- the requests that the clients of a sound lane may send again are Requests
 request_plain : (asked : ℕ → Option LastCall) (journal : List Placed) (client : ℕ) (from : Node) (body : Body)
     → IsRequest asked journal client from body → IsNoRefusal body
-request_plain asked journal client (Node.Client sender) (Body.Request request) its = tt
-request_plain asked journal client (Node.Client sender) body its = absurd its
-request_plain asked journal client from body its = absurd its
+request_plain asked journal client from body its = grind arith
 
 pub sound_requests : (w : World) → IsSound w → HasPlainRequests w
 sound_requests w sound client request there =

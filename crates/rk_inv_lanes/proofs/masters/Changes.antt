@@ -1,8 +1,7 @@
 -- What is so of a master stays so where a call is chosen for, where what waited goes on, and where a tablet is handed over, if it does when the
 -- log grows, when items go into the records or are dropped from them, and when a tablet is put. So is what is said of the log, of what is
 -- applied of it, of the calls that wait and of the records alone, whatever becomes of the tablets.
-use Rattle.std.proofs.Common.{arith}
-use Rattle.std.proofs.Common.{All, Bool, List, None, Option, Some, [], cond, length, slice_set, ℕ, ◌==◌, ◌∷◌}
+use Rattle.std.proofs.Common.{arith, All, Bool, List, None, Option, Some, [], cond, length, slice_set, ℕ, ◌∷◌}
 use Rattle.rk_inv_base.proofs.Words.{Call, Choice, Entry, Grant, Handover, Held, Log, Master, NumberMap, Prepare, Range, Refuses, Role}
 use Rattle.rk_inv_base.proofs.Words.{Tablet, Tenure, Wants, Worked, Writes, all_going_on, carried_entry, changed, chosen, close_taken}
 use Rattle.rk_inv_base.proofs.Words.{closed, closing, closing_entry, freezing, frozen, going_on_in, granting, is_frozen_at, is_greater}
@@ -90,9 +89,7 @@ module _ {P : Master → Type 0} {Fits : Held → Type 0} {May : Entry → Type 
 
   pub freezing_has : (master : Master) (number : ℕ) (tablet : Tablet) (handover : Option Handover)
       → Few tablet.pulling.sealed tablet.pulling.sides → P master → P (freezing master number tablet handover)
-  freezing_has master number tablet None few has = has
-  freezing_has master number tablet (Some handover) few has =
-      either_way P (is_settled master tablet.handover.range) (lasts.tablet master number _ few has) has
+  freezing_has master number tablet handover few has = grind (arith, either_way, is_settled)
 
   pub closing_entry_has : (master : Master) (number : ℕ) (tablet : Tablet) (handover : Option Handover)
       → Few tablet.pulling.sealed tablet.pulling.sides → P master → P (closing_entry master number tablet handover)
@@ -119,9 +116,7 @@ module _ {P : Master → Type 0} {Fits : Held → Type 0} {May : Entry → Type 
   move_has master number (Some handover) has = lasts.tablet master number _ (lasts.few master number has) has
 
   again_has : (master : Master) (tenure : Tenure) (role : Role) (term : ℕ) → P master → P (ready_again master tenure role term).master
-  again_has master tenure (Role.Wanting from) term has =
-      either_work (term == tenure.term) (sending master (ready master tenure from)) (changed master) has has
-  again_has master tenure _ term has = has
+  again_has master tenure role term has = grind (arith, either_work, sending, ready, changed)
 
   pub prepare_has : (master : Master) (prepare : Prepare) → P master → P (prepare_taken master prepare).master
   prepare_has master prepare has =

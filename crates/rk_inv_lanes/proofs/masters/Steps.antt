@@ -1,18 +1,17 @@
 -- What is so of a master stays so at each message that it takes, where what it replays fits and what it appends may be, and at its turn.
-use Rattle.std.proofs.Common.{arith}
-use Rattle.std.proofs.Common.{All, List, None, Option, Some, [], cond, false, length, nat_lt, true, ℕ, ◌%◌, ◌&&◌, ◌∷◌, Bool, fold, refl}
-use Rattle.std.proofs.Common.{◌≡◌}
-use Rattle.rk_inv_base.proofs.Words.{All-head, All-tail, Body, Call, Choice, CopySegment, Entry, Got, Handover, Held, Master, Member}
-use Rattle.rk_inv_base.proofs.Words.{Merged, Node, NumberMap, Pulled, Range, Rebuild, Refuses, Role, Stored, Tablet, Worked, Writes}
-use Rattle.rk_inv_base.proofs.Words.{as_entries, batch_taken, beginning, begun_from, by_member, call_of, carried, carried_entry, changed}
-use Rattle.rk_inv_base.proofs.Words.{choice_of, cond_both, copy_taken, duties, end, found, got_taken, granted, has_parts, hashes_resolved}
-use Rattle.rk_inv_base.proofs.Words.{is_batch, is_frozen_at, is_greater, is_newer, is_receiving_at, is_token, items_of, joined, joining_at}
-use Rattle.rk_inv_base.proofs.Words.{joining_by, master_turn, merge, merging, next_reading, next_sides, order, overreach, own_material}
-use Rattle.rk_inv_base.proofs.Words.{own_member, owned, peer_message, pulled_all, pulled_taken, range_below, reading_duty, rebuild_begun}
-use Rattle.rk_inv_base.proofs.Words.{rebuild_goes_on, rebuild_taken, rebuilding_on, rebuilt, rebuilt_entry, released, replay, replay_one}
-use Rattle.rk_inv_base.proofs.Words.{sealed_sides, sealing, segment_gathered, stored_taken, tablet_at, tablet_duty, token_passed}
-use Rattle.rk_inv_base.proofs.Words.{told_master, with_all, with_appended, with_begun, with_half, with_others_given_up, with_side_segment}
-use Rattle.rk_inv_base.proofs.Words.{with_split, with_tablet, without_foreign, ⊤}
+use Rattle.std.proofs.Common.{arith, All, List, None, Option, Some, [], cond, false, length, nat_lt, true, ℕ, ◌%◌, ◌&&◌, ◌∷◌, Bool, fold}
+use Rattle.std.proofs.Common.{refl, ◌≡◌}
+use Rattle.rk_inv_base.proofs.Words.{All-head, All-tail, Body, Call, CopySegment, Entry, Got, Handover, Held, Master, Member, Merged, Node}
+use Rattle.rk_inv_base.proofs.Words.{NumberMap, Pulled, Range, Rebuild, Role, Stored, Tablet, Worked, as_entries, batch_taken, beginning}
+use Rattle.rk_inv_base.proofs.Words.{begun_from, by_member, call_of, carried, carried_entry, changed, choice_of, cond_both, copy_taken}
+use Rattle.rk_inv_base.proofs.Words.{duties, end, found, got_taken, granted, has_parts, hashes_resolved, is_batch, is_frozen_at, is_greater}
+use Rattle.rk_inv_base.proofs.Words.{is_newer, is_receiving_at, is_token, items_of, joined, joining_at, joining_by, master_turn, merge}
+use Rattle.rk_inv_base.proofs.Words.{merging, next_reading, next_sides, order, overreach, own_material, own_member, owned, peer_message}
+use Rattle.rk_inv_base.proofs.Words.{pulled_all, pulled_taken, range_below, reading_duty, rebuild_begun, rebuild_goes_on, rebuild_taken}
+use Rattle.rk_inv_base.proofs.Words.{rebuilding_on, rebuilt, rebuilt_entry, released, replay, replay_one, sealed_sides, sealing}
+use Rattle.rk_inv_base.proofs.Words.{segment_gathered, stored_taken, tablet_at, tablet_duty, token_passed, told_master, with_all}
+use Rattle.rk_inv_base.proofs.Words.{with_appended, with_begun, with_half, with_others_given_up, with_side_segment, with_split, with_tablet}
+use Rattle.rk_inv_base.proofs.Words.{without_foreign, ⊤}
 use Rattle.rk_world.specs.Master.{with_call, with_item}
 use Rattle.rk_inv_wellformed.proofs.lanes.Ledgers.{kept_by_fold}
 use Rattle.rk_inv_wellformed.proofs.maps.Lists.{by_found, either_way, fold_keeps_all}
@@ -49,15 +48,9 @@ Makes P May Few master (Node.Backup backup) (Body.Copy copy) =
     awaits master copy ≡ true → MayMerge May (segment_gathered master copy) copy.tenure.tablet
 Makes P May Few master _ _ = ⊤
 
--- so it is where any entry may be appended and any tablet put
-leaves_any : (master : Master) (call : Call) (choice : Choice) → MayLeave AnyEntry master call choice
-leaves_any master call (Writes number value) = tt
-leaves_any master call (Refuses found absent) = tt
-leaves_any master call _ = tt
-
 pub makes_any : {P : About} {Fits : Held → Type 0} → IsLasting P Fits → (master : Master) (sender : Node) (body : Body)
     → Makes (Has P) AnyEntry AnyTablet master sender body
-makes_any lasting master sender body = grind (arith, leaves_any, call_of, choice_of)
+makes_any lasting master sender body = grind (arith, call_of, choice_of, found)
 
 module _ {P : Master → Type 0} {Fits : Held → Type 0} {May : Entry → Type 0} {Few : List ℕ → List (List Held) → Type 0} (lasts : Lasts P Fits May Few) where
   -- ---- items are replayed
@@ -88,8 +81,7 @@ module _ {P : Master → Type 0} {Fits : Held → Type 0} {May : Entry → Type 
       let tablet = tablet_at master number in
       closing_entry_has lasts master number tablet (joined tablet.handover tablet.handover.term (Some (length master.log.entries)))
       (lasts.few master number has) has
-  joining_has master number (segment ∷ more) has =
-      let tablet = tablet_at master number in joining_at_has master number (joined tablet.handover tablet.handover.term None) has
+  joining_has master number (segment ∷ more) has = grind (arith, tablet_at, joining_at_has, joined)
 
   all_pulled_has : (master : Master) (number : ℕ)
       → Few (next_sides master (length (sealed_sides (tablet_at master number).pulling.sides))) ([] ∷ [] ∷ [] ∷ [] ∷ [])
@@ -173,9 +165,7 @@ module _ {P : Master → Type 0} {Fits : Held → Type 0} {May : Entry → Type 
 
   rebuild_has : (master : Master) (rebuild : Rebuild) → MayMerge May (rebuild_begun master rebuild) rebuild.tenure.tablet → P master
       → P (rebuild_taken master rebuild).master
-  rebuild_has master rebuild may has =
-      either_work lasts (is_greater master rebuild.tenure.tablet rebuild.tenure.term rebuild.range) (beginning master rebuild) (changed master)
-      (goes_on_has (rebuild_begun master rebuild) rebuild.tenure.tablet may (begun_has master rebuild has)) has
+  rebuild_has master rebuild may has = grind (arith, either_work, is_greater, beginning, changed, goes_on_has, rebuild_begun, begun_has)
 
   pub copy_has : (master : Master) (copy : CopySegment) → (awaits master copy ≡ true → MayMerge May (segment_gathered master copy) copy.tenure.tablet)
       → P master → P (copy_taken master copy).master
@@ -193,8 +183,7 @@ module _ {P : Master → Type 0} {Fits : Held → Type 0} {May : Entry → Type 
   order_has master (Body.Close tenure) may has = close_has lasts master tenure has
   order_has master (Body.Grant grant) may has =
       granting_has lasts master grant (granted (tablet_at master grant.tenure.tablet).handover grant.tenure.term grant.floor) may has
-  order_has master (Body.Own tenure) may has =
-      owning_has lasts master tenure.tablet (owned (tablet_at master tenure.tablet).handover tenure.term master.applied) has
+  order_has master (Body.Own tenure) may has = grind (arith, owning_has, owned, tablet_at, tenure.tablet, tenure.term, master.applied)
   order_has master (Body.Release tenure) may has =
       releasing_has lasts master tenure.tablet (released (tablet_at master tenure.tablet).handover tenure.term) has
   order_has master (Body.Rebuild rebuild) may has = rebuild_has master rebuild may has

@@ -3,19 +3,17 @@
 use Rattle.std.proofs.Common.{All, Bool, List, None, Option, Some, [], ap, arith, false, length, not, refl, subst, sum_by, sym, true, ℕ}
 use Rattle.std.proofs.Common.{◌+◌, ◌∙◌, ◌∷◌, ◌≡◌, ◌≤◌}
 use Rattle.rk_inv_base.proofs.Words.{All-nil, All-weaker, CopySegment, Entry, Gather, Handover, HasRoom, Held, IsFormedGathered}
-use Rattle.rk_inv_base.proofs.Words.{IsFormedMaster, IsInOrder, IsMaster, IsSound, IsWellFormed, LAST_MAIN_SEGMENT}
-use Rattle.rk_inv_base.proofs.Words.{Master, Merged, NumberMap, Reading, Role, SoundView, Tablet, View, Worked, World, as_entries}
-use Rattle.rk_inv_base.proofs.Words.{by_member, changed, completions_from, cond-false, cond-true, copy_taken, ends_of, get, get_or}
-use Rattle.rk_inv_base.proofs.Words.{has_crashed, has_version, items_of, limits_of, log_bytes, master_at, merge, newest_items}
-use Rattle.rk_inv_base.proofs.Words.{newest_items_are, next_reading, no_tablet, own_material, put2, rebuild_goes_on, rebuild_merged}
-use Rattle.rk_inv_base.proofs.Words.{rebuilding_on, rebuilt_entry, segment_gathered, spelled_of, sum-map, tablet_at, tablet_in, view}
-use Rattle.rk_inv_base.proofs.Words.{with_all, with_appended, with_gathered, with_merged}
+use Rattle.rk_inv_base.proofs.Words.{IsFormedMaster, IsInOrder, IsMaster, IsSound, IsWellFormed, LAST_MAIN_SEGMENT, Master, Merged, Reading}
+use Rattle.rk_inv_base.proofs.Words.{Role, SoundView, Tablet, View, Worked, World, as_entries, by_member, changed, completions_from}
+use Rattle.rk_inv_base.proofs.Words.{cond-false, cond-true, copy_taken, ends_of, get, has_crashed, has_version, items_of, limits_of}
+use Rattle.rk_inv_base.proofs.Words.{log_bytes, master_at, merge, newest_items, newest_items_are, next_reading, own_material, put2}
+use Rattle.rk_inv_base.proofs.Words.{rebuild_goes_on, rebuild_merged, rebuilding_on, segment_gathered, spelled_of, sum-map, tablet_at}
+use Rattle.rk_inv_base.proofs.Words.{tablet_in, view, with_all, with_appended, with_gathered}
 use Rattle.std.proofs.lemmas.List.Kept.{IsStrictlySortedBy-filter}
 use Rattle.rk_entry.proofs.Sizes.{held_spelled}
 use Rattle.rk_overlay.specs.Overlay.{item_cmp}
 use Rattle.rk_world.specs.Formed.{MOST_BASE_CLIENTS}
 use Rattle.rk_world.specs.Limits.{IsFormedCopy}
-use Rattle.rk_world.specs.Master.{unsealed_bytes}
 use Rattle.rk_world.specs.Refusals.{MOST_CLIENTS}
 use Rattle.rk_inv_wellformed.proofs.bytes.EntryBytes.{carried_fits}
 use Rattle.rk_inv_wellformed.proofs.bytes.LogBytes.{bytes_appended, bytes_put}
@@ -53,13 +51,7 @@ pub record CopiesLogged (w : World) (master : ℕ) (copy : CopySegment) : Type 0
 all_bytes : (items : List Held) (master : Master) → log_bytes (with_all master (as_entries items)) ≡ log_bytes master + items_bytes items
 all_bytes [] master = omega (arith, none_bytes)
 all_bytes (item ∷ items) master =
-    omega (
-      arith,
-      all_bytes items (with_appended master (Entry.Held item)),
-      bytes_appended master (Entry.Held item),
-      held_spelled item,
-      first_bytes item items,
-    )
+    grind (arith, with_appended, bytes_appended, held_spelled, first_bytes, (all_bytes items (with_appended master (Entry.Held item))))
 
 -- they leave the tablets as they are
 all_tablets : (list : List Entry) (master : Master) → (with_all master list).tablets ≡ master.tablets
@@ -71,20 +63,7 @@ merged_bytes : (id : ℕ) (master : Master) (merged : Merged) (handover : Handov
     → length (ends_of (completions_from [] merged.ends)) ≤ MOST_CLIENTS + MOST_BASE_CLIENTS
     → log_bytes (rebuild_merged master id (tablet_at master id) merged handover) ≤ log_bytes master + items_bytes merged.copies + LONGEST_LEFT
 merged_bytes id master merged handover order few =
-    let it = tablet_at master id in
-    let copied = with_all master (as_entries merged.copies) in
-    let closed = with_appended copied (rebuilt_entry it merged) in
-    let same : copied.tablets ≡ master.tablets = all_tablets (as_entries merged.copies) master in
-    omega (
-      arith,
-      all_bytes merged.copies master,
-      bytes_appended copied (rebuilt_entry it merged),
-      bytes_put closed id (with_merged it merged handover) (subst (λ (tablets : NumberMap Tablet). IsInOrder tablets) (sym same) order),
-      ap (λ (tablets : NumberMap Tablet). unsealed_bytes (get_or no_tablet tablets id)) same,
-      carried_fits
-          (record { range = it.handover.range; term = it.handover.term; floor = merged.floor; ends = ends_of (completions_from [] merged.ends) })
-          few,
-    )
+    grind (arith, all_tablets, all_bytes, bytes_appended, bytes_put, carried_fits)
 
 -- nothing is copied where there are no more bytes than before
 none_copied : {w : World} {master : ℕ} {copy : CopySegment} → log_bytes (copy_taken (master_at w master) copy).master ≤ log_bytes (master_at w master)
@@ -200,10 +179,7 @@ module _ (w : World) (number backup master : ℕ) (copy : CopySegment) (sound : 
   -- where it does not await the Copy it copies nothing
   taken_logged : (awaited : Bool) → awaits (master_at w master) copy ≡ awaited → CopiesLogged w master copy
   taken_logged true is = by_next is (next_after (master_at w master) copy) refl
-  taken_logged false is =
-      let same : copy_taken (master_at w master) copy ≡ changed (master_at w master) =
-      cond-false (awaits (master_at w master) copy) (rebuild_goes_on now tablet) (changed (master_at w master)) is in
-      none_copied (omega (arith, ap (λ (worked : Worked). log_bytes worked.master) same))
+  taken_logged false is = grind (arith, copy_taken, master_at, changed, cond-false, rebuild_goes_on, none_copied, log_bytes)
 
 -- so it is with each Copy that reaches a living master
 pub copy_logged : {w : World} (number backup : ℕ) {master : ℕ} (copy : CopySegment) → IsSound w → IsWellFormed w → HasRoom w

@@ -32,8 +32,7 @@ all_written w = w.entries ++ flat_map as_entries w.sides
 -- the items of side segments are those of their entries
 side_items : (sides : List (List Held)) → items_of (flat_map as_entries sides) ≡ flat_map (λ items. items) sides
 side_items [] = refl
-side_items (side ∷ sides) =
-    flat_map-append items_in (as_entries side) (flat_map as_entries sides) ∙ (λ i. items_again side i ++ side_items sides i)
+side_items (side ∷ sides) = grind (arith, flat_map-append, items_in, as_entries, items_again, (side_items sides))
 
 -- the items of one side segment stand among those of all
 one_side : (sides : List (List Held)) (place : ℕ) (e : Entry) → Contains (as_entries (slice_index_or sides place [])) e

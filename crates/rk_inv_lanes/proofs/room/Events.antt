@@ -26,7 +26,7 @@ use Rattle.rk_inv_wellformed.proofs.maps.Lists.{by_found}
 use Rattle.rk_inv_lanes.proofs.masters.Changes.{Has, IsLasting, of_lasting}
 use Rattle.rk_inv_lanes.proofs.masters.Items.{OfItems, about, step_has}
 use Rattle.rk_inv_lanes.specs.room.Logged.{AreLogged, HasRecordsOf, IsLogged, logged_by}
-use Rattle.rk_inv_lanes.specs.room.Replayed.{replayed_at, replayed_in, replayed_of, replayed_to}
+use Rattle.rk_inv_lanes.specs.room.Replayed.{replayed_at, replayed_of}
 use Rattle.rk_inv_lanes.proofs.lanes.Masters.{AllAre, IsKeptByEach, each_kept}
 use Rattle.rk_inv_lanes.proofs.masters.Steps.{split_has, turn_has}
 use Rattle.rk_inv_lanes.specs.room.Fits.{IsFitting}
@@ -94,9 +94,7 @@ records_last {Fits} = record {
 pub replayed_is : (w : World) (event : Event) (number master : ℕ) (message : Message) → event ≡ Event.Deliver number
     → get w.wire.messages number ≡ Some message → message.to ≡ Node.Master master → has_crashed w master ≡ false
     → replayed_at w event ≡ replayed_of (master_at w master) message.body
-replayed_is w event number master message is found to lives =
-    ap (replayed_at w) is ∙ ap (replayed_in w) found ∙ ap (λ (node : Node). replayed_to w node message.body) to
-    ∙ cond-false (has_crashed w master) [] (replayed_of (master_at w master) message.body) lives
+replayed_is w event number master message is found to lives = grind (arith, cond-false, has_crashed, master_at)
 
 -- what is so of the log and the records of each master of a lane, crashed ones too, stays so, where what is replayed fits
 event_has : (P : ℕ → OfItems) (Fits : Held → Type 0) → ((master : ℕ) → IsLasting (about (P master)) Fits) → (w : World)
@@ -153,16 +151,10 @@ records_were_logged w event called logged each master =
     (λ master. ((logged master).ordered, (logged master).logged)) event called each master in
     record { ordered = has.0; logged = has.1 }
 
--- where all that is logged before is logged after, records of what was logged before are logged after
-logged_there : (before after : World) → ((item : Held) → IsLogged before item → IsLogged after item)
-    → ((master : ℕ) → HasRecordsOf (IsLogged before) (master_at after master)) → AreLogged after
-logged_there before after grows has master = grind (arith, master_at)
-
 -- so records stay logged
 pub logged_event : (w : World) (event : Event) (called : Called) → AreLogged w → All (IsLogged w) (replayed_at w event)
     → AreLogged (happened w event called).world
-logged_event w event called logged each =
-    logged_there w (happened w event called).world (logged_grows w event called) (records_were_logged w event called logged each)
+logged_event w event called logged each = grind (arith, happened, logged_grows, records_were_logged, master_at)
 
 -- ---- clients
 
@@ -172,8 +164,7 @@ HasThose w masters count backups = w.masters ≡ masters
 
 -- so records are logged there where they are here
 same_logged : (w v : World) → w.masters ≡ v.masters → AreLogged w → AreLogged v
-same_logged w v same logged = logged_there w v
-    (λ item is. record { master = is.master; stands = rw (← same) is.stands }) (λ master. rw (← same) (logged master))
+same_logged w v same logged = grind (arith, master_at)
 
 pub logged_asked : (w : World) (session : Session) → AreLogged w → AreLogged (world_visited w (ask w session))
 logged_asked w session logged = same_logged w (world_visited w (ask w session)) (ask_keeps (HasThose w) w refl session) logged
@@ -231,8 +222,7 @@ module _ (w : World) (number master : ℕ) where
   told_few (Node.Master sender) (Body.Pulled pulled) stands = omega (arith, pulled_within master pulled stands.formed stands.logged)
   told_few (Node.Master sender) (Body.Got message) stands = omega (arith, got_within master message stands.formed stands.logged)
   told_few (Node.Backup backup) (Body.Copy copy) stands =
-      let copied = copy_logged number backup copy stands.sound stands.formed stands.room stands.there stands.lives stands.found in
-      omega (arith, copied.bytes, apart_bytes copied.copies stands.formed copied.apart copied.logged)
+      grind (arith, copy_logged, apart_bytes, stands.sound, stands.formed, stands.room, stands.there, stands.lives, stands.found)
   told_few from (Body.Pulled pulled) stands = omega arith
   told_few from (Body.Got message) stands = omega arith
   told_few from (Body.Copy copy) stands = omega arith

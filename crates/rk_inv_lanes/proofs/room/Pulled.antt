@@ -2,17 +2,16 @@
 -- log and items of its side segments.
 use Rattle.std.proofs.Common.{All, Contains, List, Some, [], arith, drop, false, flat_map, nat_lt, slice_index_or, suc, true, zero, ℕ}
 use Rattle.std.proofs.Common.{⊎_elim, ◌++◌, ◌-◌, ◌∷◌, ◌≡◌}
-use Rattle.rk_inv_base.proofs.Words.{All-nil, BATCH_BYTES, Body, Contains-append_cases, Contains-append_left, Contains-append_right, Entry}
-use Rattle.rk_inv_base.proofs.Words.{Event, FIRST_SIDE_SEGMENT, Got, Held, IsSound, Mark, Member, Node, Pulled, Range, Row, View}
-use Rattle.rk_inv_base.proofs.Words.{World, and_parts, applied_entries, as_entries, at_hash, batch_at, cond_both, counting, counts, get}
-use Rattle.rk_inv_base.proofs.Words.{has_crashed, is_batch, is_receiving_at, is_token, items_in, items_of, log_material, master_at}
-use Rattle.rk_inv_base.proofs.Words.{member_truth, named, none_stands, side_entries, source_items, tablet_in, unmarked_from, view}
-use Rattle.rk_inv_base.proofs.Words.{written_in}
+use Rattle.rk_inv_base.proofs.Words.{BATCH_BYTES, Body, Contains-append_cases, Contains-append_left, Contains-append_right, Entry, Event}
+use Rattle.rk_inv_base.proofs.Words.{FIRST_SIDE_SEGMENT, Got, Held, IsSound, Mark, Member, Node, Pulled, Range, Row, View, World}
+use Rattle.rk_inv_base.proofs.Words.{applied_entries, as_entries, at_hash, batch_at, cond_both, counting, counts, get, has_crashed}
+use Rattle.rk_inv_base.proofs.Words.{is_receiving_at, items_in, items_of, log_material, member_truth, named, none_stands, side_entries}
+use Rattle.rk_inv_base.proofs.Words.{source_items, tablet_in, unmarked_from, view, written_in}
 use Rattle.rk_inv_base.proofs.pulls.Joining.{scanned}
 use Rattle.rk_inv_wellformed.proofs.masters.Pulls.{items_again}
 use Rattle.rk_inv_events.proofs.pulls.Targets.{as_target, batch_stands, got_are, of_some_hash}
 use Rattle.rk_inv_lanes.specs.room.Logged.{IsLogged}
-use Rattle.rk_inv_lanes.specs.room.Replayed.{replayed_at, replayed_in, replayed_of, replayed_to}
+use Rattle.rk_inv_lanes.specs.room.Replayed.{replayed_at, replayed_to}
 use Rattle.rk_inv_events.proofs.pulls.Batches.{pulled_are}
 use Rattle.rk_inv_events.proofs.Words.{all_by, by_found, filter_from, first_stand, flat_among, from_flat, later_stands, to_flat}
 use Rattle.rk_inv_events.proofs.Words.{unmarked_stood}
@@ -112,21 +111,15 @@ module _ (w : World) (sound : IsSound w) (number master : ℕ) (from : Node) (li
       (all_by (IsLogged w) (flat_map (λ hash. at_hash hash items) message.hashes)
       (λ item at. source_logged its.row its.source (of_some_hash items message.hashes item at)))
 
-  -- so what a living master replays of a message is logged
-  of_body : (body : Body) → Stands body → All (IsLogged w) (replayed_of (master_at w master) body)
-  of_body body there =
-      grind (arith, tablet_in, cond_both, is_receiving_at, is_token, items_of, pulled_logged, and_parts, is_batch, got_logged)
-
 -- ---- events
 
 module _ (w : World) (sound : IsSound w) (number : ℕ) where
   -- what its receiver replays of a message is logged
   to_node : (from to : Node) (body : Body) → get w.wire.messages number ≡ Some (record { from = from; to = to; body = body })
       → All (IsLogged w) (replayed_to w to body)
-  to_node from to body there = grind (arith, cond_both, has_crashed, master_at, of_body)
+  to_node from to body there =
+      grind (arith, pulled_logged, got_logged)
 
 -- in a sound lane what is replayed when an event happens is logged
 pub replayed_logged : (w : World) (event : Event) → IsSound w → All (IsLogged w) (replayed_at w event)
-replayed_logged w (Event.Deliver number) sound = by_found (λ found. All (IsLogged w) (replayed_in w found)) (get w.wire.messages number)
-    (λ none. All-nil (IsLogged w)) (λ message. to_node w sound number message.from message.to message.body)
-replayed_logged w event sound = All-nil (IsLogged w)
+replayed_logged w event sound = grind (arith, by_found, to_node)

@@ -1,6 +1,6 @@
 -- How many bytes a target gets by a replay of items that are logged: it takes each of them once at most, so no more than all logs have.
-use Rattle.std.proofs.Common.{◌≡◌, ◌≤◌, ◌+◌, ◌%◌, ◌&&◌, ℕ, Bool, true, false, cond, nat_lt, List, [], ◌∷◌, length, All, Option, Some}
-use Rattle.std.proofs.Common.{refl, sym, ap, ◌∙◌, ⊎_elim, arith, Contains, sum_by, if◌then◌else◌}
+use Rattle.std.proofs.Common.{◌≡◌, ◌≤◌, ◌+◌, ◌%◌, ◌&&◌, ℕ, Bool, true, false, cond, nat_lt, List, [], ◌∷◌, length, All, Some, refl, sym, ap}
+use Rattle.std.proofs.Common.{◌∙◌, ⊎_elim, arith, Contains, sum_by, if◌then◌else◌}
 use Rattle.rk_inv_base.proofs.Words.{cases_Bool, cond-false, cond-true, cond_both, nat_tests, All-head, All-tail, All-weaker, sum-map}
 use Rattle.rk_inv_base.proofs.Words.{sum_by-cons, spelled_of, IsInOrder, Held, spelled_all, order_after, found, is_newer, with_newer}
 use Rattle.rk_inv_base.proofs.Words.{IsInScanOrder, end, is_batch, is_of_parts, Got, Pulled, items_of, IsWellFormed, Master, log_bytes}
@@ -24,21 +24,11 @@ use Rattle.rk_inv_events.proofs.events.Coordinating.{of_master}
 abbrev lacks : List Held → Held → ℕ
 lacks records item = if is_newer item (found item.table item.key records) then spelled_of item else 0
 
--- an item that is newer than another one is newer than what that one is newer than
-newer_still : (item other : Held) (there : Option Held) → is_newer other there ≡ true → is_newer item (Some other) ≡ true
-    → is_newer item there ≡ true
-newer_still item other there newer above = grind (arith, nat_lt, nat_tests)
-
--- what is newer once a newer item was put was newer before
-newer_before : (item put : Held) (records : List Held) → IsInScanOrder records → is_newer put (found put.table put.key records) ≡ true
-    → is_newer item (found item.table item.key (with_newer put records)) ≡ true → is_newer item (found item.table item.key records) ≡ true
-newer_before item put records order newer is =
-    grind (arith, is_of_parts, found, newer_still, is_newer, found_newer, with_newer, found_after, cases_Bool)
-
 -- so no more of it is lacked then
 lacks_less : (item put : Held) (records : List Held) → IsInScanOrder records → is_newer put (found put.table put.key records) ≡ true
     → lacks (with_newer put records) item ≤ lacks records item
-lacks_less item put records order newer = grind (arith, is_newer, found, with_newer, cond_both, spelled_of, newer_before)
+lacks_less item put records order newer =
+    grind (arith, is_newer, found, with_newer, cond_both, spelled_of, is_of_parts, found_newer, found_after, cases_Bool, nat_lt, nat_tests)
 
 -- the bytes of what records lack of a list
 abbrev lacking : List Held → List Held → ℕ
@@ -109,12 +99,6 @@ replay_taken number worker (item ∷ items) master =
     ∙ sym (ap (replay master number worker) some))
     (cases_Bool newer)
 
--- and so does one of the items of their entries
-replay_entries : (number worker : ℕ) (items : List Held) (master : Master)
-    → replay master number worker items ≡ replay master number worker (items_of (as_entries (taken master.records items)))
-replay_entries number worker items master =
-    replay_taken number worker items master ∙ sym (ap (replay master number worker) (items_again (taken master.records items)))
-
 -- ---- at a master of a lane
 
 module _ (w : World) (number : ℕ) (formed : IsWellFormed w) where
@@ -147,8 +131,7 @@ module _ (w : World) (number : ℕ) (formed : IsWellFormed w) where
 replay_where : (test : Bool) (after : Master → Worked) (number worker : ℕ) (items : List Held) (master : Master)
     → cond test (after (replay master number worker items)) (changed master)
     ≡ cond test (after (replay master number worker (items_of (as_entries (taken master.records (cond test items [])))))) (changed master)
-replay_where true after number worker items master = ap after (replay_entries number worker items master)
-replay_where false after number worker items master = refl
+replay_where test after number worker items master = grind (arith, replay_taken, replay, items_again)
 
 -- a Pulled with these entries alone makes the same
 pulled_same : (master : Master) (pulled : Pulled)

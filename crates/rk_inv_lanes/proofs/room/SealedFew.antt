@@ -19,15 +19,10 @@ alone_bytes item = omega (arith, first_bytes item [], none_bytes)
 more_bytes : (items : List Held) (item : Held) → items_bytes (items ++ item ∷ []) ≡ items_bytes items + spelled_of item
 more_bytes items item = omega (arith, items_spelled (items ++ item ∷ []), items_spelled items, sum_pushed items item)
 
--- what it means that a test on two numbers does not hold
-beyond_test : (a b : ℕ) → nat_le a b ≡ false → b < a
-beyond_test a b is = grind (arith, nat_tests)
-
 -- where an item does not fit a segment, it and the items there have more bytes than a segment may have
 beyond_segment : (items : List Held) (item : Held) → nat_le (sum (map spelled_of items) + spelled_of item) SEGMENT_BYTES ≡ false
     → SEGMENT_BYTES < items_bytes items + spelled_of item
-beyond_segment items item is =
-    omega (arith, beyond_test (sum (map spelled_of items) + spelled_of item) SEGMENT_BYTES is, items_spelled items)
+beyond_segment items item is = grind (arith, spelled_of, items_spelled, nat_tests)
 
 -- ---- the side segments of a worker
 
@@ -44,9 +39,7 @@ AreFew less most pieces = SEGMENT_BYTES * length pieces + last_bytes pieces + le
 
 -- there is one where an item was put
 one_at_least : (pieces : List (List Held)) (item : Held) → 1 ≤ length (with_side_item pieces item)
-one_at_least (items ∷ []) item =
-    cond_both (nat_le (sum (map spelled_of items) + spelled_of item) SEGMENT_BYTES) ((items ++ item ∷ []) ∷ []) (items ∷ (item ∷ []) ∷ [])
-    (λ (pieces : List (List Held)). 1 ≤ length pieces) (λ fits. omega arith) (λ beyond. omega arith)
+one_at_least (items ∷ []) item = grind (arith, cond_both, nat_le, spelled_of)
 one_at_least _ item = omega arith
 
 -- the last one behind another one
@@ -110,11 +103,4 @@ cut_few items =
 pub sealed_few : (sides : List (List Held))
     → SEGMENT_BYTES * length (sealed_sides sides) ≤ 2 * sum_by items_bytes (sealed_sides sides) + SEGMENT_BYTES * length sides
 sealed_few [] = omega arith
-sealed_few (side ∷ sides) =
-    omega (
-      arith,
-      cut_few side,
-      sealed_few sides,
-      length-append (cut_items side) (sealed_sides sides),
-      sum_by-append items_bytes (cut_items side) (sealed_sides sides),
-    )
+sealed_few (side ∷ sides) = grind (arith, cut_few, length-append, sealed_sides, sum_by-append, items_bytes, (sealed_few sides))

@@ -12,7 +12,4 @@ pub kept_asked : (w : World) (session : Session) → IsKept w → IsKept (world_
 kept_asked w session kept = record { logged = logged_asked w session kept.logged; fits = fits_asked w session kept.fits }
 
 pub kept_accepted : (w : World) (number : ℕ) (session : Session) → IsKept w → IsKept (world_visited w (accept w number session))
-kept_accepted w number session kept = record {
-  logged = logged_accepted w number session kept.logged;
-  fits = fits_accepted w number session kept.fits;
-}
+kept_accepted w number session kept = search (logged_accepted, fits_accepted, kept.logged, kept.fits)

@@ -98,15 +98,7 @@ entries_bytes list = length-flat_map spelled list ∙ sym (bytes_spelled list)
 sides_bytes : (sides : List (List Held))
     → sum_by (λ (b : List ℕ). length b) (map (λ items. spelled_all (as_entries items)) sides) ≡ sum_by spelled_of (flat_map (λ items. items) sides)
 sides_bytes [] = refl
-sides_bytes (items ∷ sides) =
-    omega (
-      arith,
-      sides_bytes sides,
-      sum_by-cons (λ (b : List ℕ). length b) (spelled_all (as_entries items)) (map (λ items. spelled_all (as_entries items)) sides),
-      sum_by-append spelled_of items (flat_map (λ items. items) sides),
-      items_spelled items,
-      sum-map spelled_of items,
-    )
+sides_bytes (items ∷ sides) = search (sum_by-cons, as_entries, sum_by-append, items_spelled, sum-map, (sides_bytes sides))
 
 -- the items of a master's log have no more bytes than its log
 master_bytes : {limits : Limits} {number : ℕ} {master : Master} → IsFormedMaster limits number master

@@ -1,8 +1,7 @@
 -- In a quiet lane where all backups tell, what the first backup stores of the logs gives back what stands in them, and with it the map.
 use Rattle.std.proofs.Common.{All, Bool, Contains, IfSome, List, None, Option, Some, [], ap, append-nil, arith, drop, eq-eqb, false}
 use Rattle.std.proofs.Common.{flat_map, get_or, is_some, le-ltb, leb-true, length, length-append, length-drop, map, nat_lt, not, refl}
-use Rattle.std.proofs.Common.{slice_get, subst, suc, sym, take, take_all, true, unwrap_or, zero, ℕ, ◌++◌, ◌+◌, ◌-◌, ◌<◌, ◌∙◌, ◌∷◌}
-use Rattle.std.proofs.Common.{◌≡◌, ◌≤◌}
+use Rattle.std.proofs.Common.{slice_get, subst, suc, sym, take, take_all, true, unwrap_or, zero, ℕ, ◌++◌, ◌+◌, ◌-◌, ◌<◌, ◌∙◌, ◌∷◌, ◌≡◌, ◌≤◌}
 use Rattle.rk_inv_base.proofs.Words.{All-contains, All-drop, All-head, All-map, All-tail, EachIn, Entry, EntryEnd, FIRST_SIDE_SEGMENT}
 use Rattle.rk_inv_base.proofs.Words.{Handover, HasRoom, Held, IsBackup, IsLawfulEntry, IsLawfulHeld, IsLog, IsMaster, IsSound, IsTruth}
 use Rattle.rk_inv_base.proofs.Words.{IsWellFormed, Known, LAST_MAIN_SEGMENT, Log, Mark, MarkFits, Master, NumberedBytes, Owned, Phase}

@@ -1,8 +1,7 @@
 -- A wire from which the oldest message is taken off, again and again, is empty once no delivery is left.
-use Rattle.std.proofs.Common.{◌≡◌, ◌≤◌, ◌<◌, ◌+◌, ℕ, List, [], ◌∷◌, length, Option, Some, None, refl, sum_by, arith, subst, sym}
-use Rattle.rk_inv_base.proofs.Words.{IsInOrder, NumberMap, get, Message, Gave, IsWellFormed, world_stepped, stepped_by, World, Event}
+use Rattle.std.proofs.Common.{◌≡◌, ◌≤◌, ◌<◌, ◌+◌, ℕ, List, [], ◌∷◌, length, Some, None, refl, sum_by, arith, subst}
+use Rattle.rk_inv_base.proofs.Words.{IsInOrder, NumberMap, get, Message, IsWellFormed, world_stepped, stepped_by, World}
 use Rattle.rk_message.specs.Wire.{number_at}
-use Rattle.rk_world.specs.Refusals.{wire_fault}
 use Rattle.rk_inv_wellformed.proofs.maps.Maps.{get_first}
 use Rattle.rk_inv_wellformed.proofs.maps.Numbered.{numbered_order}
 use Rattle.rk_inv_lanes.specs.wires.Emptied.{Arrival, arrived, deliveries_left, deliveries_of, emptied, emptied_by, forgotten, taken_off}
@@ -27,9 +26,7 @@ taken_off_fewer w number message arrival order there =
 
 -- the masters stand in order still
 forgotten_order : (w : World) (number : ℕ) → IsInOrder w.masters → IsInOrder (forgotten w number).masters
-forgotten_order w number order =
-    by_found (λ found. IsInOrder (world_stepped w (stepped_by w (Event.Forget number) (Gave None) (wire_fault number found))).masters)
-    (get w.wire.messages number) (λ none. order) (λ message there. order)
+forgotten_order w number order = grind (arith, by_found, world_stepped, stepped_by)
 
 pub taken_off_order : (w : World) (number : ℕ) (message : Message) (arrival : Arrival) → IsInOrder w.masters → get w.wire.messages number ≡ Some message
     → IsInOrder (taken_off w number arrival).masters
@@ -66,9 +63,7 @@ none_oldest (here ∷ messages) sent waits none =
 -- where nothing is on a wire, nothing comes
 stays_silent : (arrivals : List Arrival) (w : World) → number_at 1 w.wire ≡ None → number_at 1 (emptied w arrivals).wire ≡ None
 stays_silent [] w silent = silent
-stays_silent (arrival ∷ arrivals) w silent =
-    subst (λ (oldest : Option ℕ). number_at 1 (emptied (emptied_by w arrival oldest) arrivals).wire ≡ None) (sym silent)
-    (stays_silent arrivals w silent)
+stays_silent (arrival ∷ arrivals) w silent = grind (arith, (stays_silent arrivals w silent))
 
 -- after as many messages as deliveries were left, nothing is on the wire
 silent_after : (arrivals : List Arrival) (w : World) → IsInOrder w.masters → deliveries_left w ≤ length arrivals

@@ -18,8 +18,7 @@ keeping : (master : Master) (body : Body) (worked : Worked) → deliveries_in wo
 keeping master body worked less kept = omega (arith, less, ap (λ (calls : NumberMap Call). length calls) kept)
 
 told_spends : (master : Master) (sender : Node) (body : Body) → Spends (deliveries_of body) master (told_master master sender body)
-told_spends master (Node.Client client) (Body.Request request) =
-    chosen_spends master request.tablet (call_of client request) (choice_of master (call_of client request))
+told_spends master (Node.Client client) (Body.Request request) = grind (arith, chosen_spends, call_of, choice_of, request.tablet)
 told_spends master (Node.Client client) body = keeping master body (changed master) (one_delivery body) refl
 told_spends master Node.Coordinator body =
     keeping master body (order master body) (order_sends fewer master body) (order_has (of_lasting (same_calls master.calls)) master body

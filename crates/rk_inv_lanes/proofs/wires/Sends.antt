@@ -1,7 +1,7 @@
 -- What a master sends, and how many calls wait at it then, when it takes a message: together they come to less than the message itself.
 use Rattle.std.proofs.Common.{◌≡◌, ◌≤◌, ◌<◌, ◌+◌, ℕ, List, [], length, Option, Some, None, ap, arith, sum_by, refl}
 use Rattle.rk_inv_base.proofs.Words.{sum_by-append, NumberMap, Call, Overreach, Body, Message, Stored, apply_entries, newly_held}
-use Rattle.rk_inv_base.proofs.Words.{stored_taken, Master, with_known, chosen, Worked, Choice, Writes, Refuses, ⊤}
+use Rattle.rk_inv_base.proofs.Words.{stored_taken, Master, with_known, chosen, Worked, Choice, ⊤}
 use Rattle.rk_inv_lanes.specs.wires.Emptied.{deliveries_of}
 use Rattle.rk_inv_lanes.proofs.masters.Changes.{IsLasting, all_going_on_has, of_lasting}
 use Rattle.rk_inv_lanes.proofs.wires.Sums.{length_inserted, length_removed}
@@ -27,9 +27,7 @@ same_calls calls = grind arith
 -- ---- a Request
 
 pub chosen_spends : (master : Master) (asked : ℕ) (call : Call) (choice : Choice) → Spends 2 master (chosen master asked call choice)
-chosen_spends master asked call (Writes number value) = omega (arith, length_inserted master.calls (length master.log.entries) call)
-chosen_spends master asked call (Refuses found absent) = omega (arith, length_inserted master.calls (length master.log.entries) call)
-chosen_spends master asked call _ = omega arith
+chosen_spends master asked call choice = grind (arith, length_inserted)
 
 -- ---- a Stored: each call that is answered waits no more
 

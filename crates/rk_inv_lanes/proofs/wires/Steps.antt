@@ -1,17 +1,16 @@
 -- A message that arrives leaves fewer deliveries, in whatever state its lane is.
-use Rattle.std.proofs.Common.{List, None, Option, Some, [], arith, fold, length, refl, unwrap_or, ℕ, ◌+◌, ◌<◌, ◌∷◌, ◌≡◌, ◌≤◌}
-use Rattle.rk_inv_base.proofs.Words.{Backed, Body, Called, Event, IsInOrder, Master, Message, Node, NumberMap, Segments, Session}
-use Rattle.rk_inv_base.proofs.Words.{Stepped, Traffic, Worked, World, backed_at, backup_step, coordinator_step, delivered_to, filled, get}
-use Rattle.rk_inv_base.proofs.Words.{has_crashed, is_backup, ledger_after, log_bytes_of, master_at, master_step, new_master, refusal}
-use Rattle.rk_inv_base.proofs.Words.{remove, seen_in, stepped_by, stored_after, sum_by-cons, to_backup, to_coordinator, to_master}
-use Rattle.rk_inv_base.proofs.Words.{with_coordinator, with_ledger, with_master, with_message, with_rebuilt, with_sends, with_stored_by}
-use Rattle.rk_inv_base.proofs.Words.{worked_at, world_stepped}
+use Rattle.std.proofs.Common.{List, None, Option, Some, [], arith, fold, length, ℕ, ◌+◌, ◌<◌, ◌∷◌, ◌≡◌, ◌≤◌}
+use Rattle.rk_inv_base.proofs.Words.{Backed, Body, Called, Event, IsInOrder, Master, Message, Node, NumberMap, Segments, Session, Stepped}
+use Rattle.rk_inv_base.proofs.Words.{Traffic, World, backed_at, backup_step, coordinator_step, delivered_to, get, is_backup, log_bytes_of}
+use Rattle.rk_inv_base.proofs.Words.{master_at, refusal, remove, stepped_by, stored_after, sum_by-cons, to_backup, to_coordinator}
+use Rattle.rk_inv_base.proofs.Words.{to_master, with_coordinator, with_ledger, with_master, with_message, with_rebuilt, with_stored_by}
+use Rattle.rk_inv_base.proofs.Words.{world_stepped}
 use Rattle.rk_types.proofs.NumberMaps.{in_order_insert}
-use Rattle.rk_inv_wellformed.proofs.maps.MapSums.{size_found, sum_inserted}
+use Rattle.rk_inv_wellformed.proofs.maps.MapSums.{sum_inserted}
 use Rattle.rk_inv_lanes.specs.wires.Emptied.{Accepts, Arrival, Delivers, Loses, arrived, deliveries_left, deliveries_of, forgotten}
 use Rattle.rk_inv_lanes.proofs.wires.Answers.{all_filled_same, backup_less, coordinator_less}
 use Rattle.rk_inv_lanes.proofs.wires.Orders.{master_spends}
-use Rattle.rk_inv_lanes.proofs.wires.Sends.{Spends, deliveries_in, one_delivery}
+use Rattle.rk_inv_lanes.proofs.wires.Sends.{deliveries_in, one_delivery}
 use Rattle.rk_inv_lanes.proofs.wires.Sums.{removed_inserted, removed_none, total}
 use Rattle.rk_inv_wellformed.proofs.maps.Lists.{by_found, either_way}
 use Rattle.rk_inv_lanes.proofs.lanes.Visits.{accept_covered}
@@ -59,46 +58,26 @@ pub record LeavesFewer (w : World) (number brings : ℕ) (now : World) : Type 0 
 same_leaves : (w : World) (number : ℕ) (body : Body) → LeavesFewer w number (deliveries_of body) w
 same_leaves w number body = record { fewer = omega (arith, one_delivery body); order = λ order. order }
 
--- where messages were sent, and no more calls wait
-sends_leave : (w : World) (number brings : ℕ) (messages : List Message) → deliveries_in messages < brings
-    → LeavesFewer w number brings (with_sends w messages).world
-sends_leave w number brings messages less =
-    record { fewer = omega (arith, less, sent_brings number messages w.wire); order = λ order. order }
-
 -- ---- at each receiver
 
 coordinator_leaves : {w : World} {number : ℕ} (message : Message) → LeavesFewer w number (deliveries_of message.body) (to_coordinator w message).world
 coordinator_leaves {w} {number} message =
-    grind (arith, coordinator_step, with_ledger, with_coordinator, with_rebuilt, sends_leave, coordinator_less)
-
--- the calls of a master are those under its number
-calls_found : (number : ℕ) (found : Option Master) → length (unwrap_or found (new_master number [])).calls ≡ size_found (λ (master : Master). length master.calls) found
-calls_found number None = refl
-calls_found number (Some master) = refl
+    grind (arith, coordinator_step, with_ledger, with_coordinator, with_rebuilt, coordinator_less, sent_brings)
 
 -- with a master in its place, its calls are counted in place of those that waited there
 waiting_with : (w : World) (number : ℕ) (master : Master) → IsInOrder w.masters
     → waiting (with_master w number master).masters + length (master_at w number).calls ≡ waiting w.masters + length master.calls
-waiting_with w number master order = grind (arith, sum_inserted, calls_found)
-
--- a master has worked
-master_worked : {w : World} {number : ℕ} (master seen : ℕ) {most : ℕ} (worked : Worked) → IsInOrder w.masters
-    → Spends most (master_at w master) worked → LeavesFewer w number most (worked_at w master seen worked).world
-master_worked {w} {number} master seen worked order spends =
-    grind (arith, ledger_after, with_ledger, with_master, filled, sent_brings, all_filled_same, waiting_with, in_order_insert)
+waiting_with w number master order = grind (arith, sum_inserted)
 
 master_leaves : {w : World} {number : ℕ} (master : ℕ) (message : Message) → IsInOrder w.masters
     → LeavesFewer w number (deliveries_of message.body) (to_master w master message).world
 master_leaves {w} {number} master message order =
-    either_way (λ (stepped : Stepped). LeavesFewer w number (deliveries_of message.body) stepped.world) (has_crashed w master)
-    (record { fewer = (same_leaves w number message.body).fewer; order = λ order. order })
-    (master_worked master (seen_in message.body) (master_step (master_at w master) message) order
-    (master_spends (master_at w master) message))
+    grind (arith, master_spends, sent_brings, all_filled_same, waiting_with, in_order_insert)
 
 -- a backup has worked
 backed_leaves : (w : World) (number : ℕ) (body : Body) (backed : Backed) → deliveries_in backed.sends < deliveries_of body
     → LeavesFewer w number (deliveries_of body) (backed_at w backed).world
-backed_leaves w number body backed less = grind (arith, either_way, same_leaves, sends_leave)
+backed_leaves w number body backed less = grind (arith, either_way, same_leaves, sent_brings)
 
 -- whatever it stores then
 stored_leaves : {w : World} {number : ℕ} (backup : ℕ) (body : Body) (store : Segments → Segments) (stored : Option Segments) (backed : Backed)
@@ -121,8 +100,7 @@ backup_leaves {w} {number} backup sender body called =
 
 receiver_leaves : (w : World) (number : ℕ) (message : Message) (to : Node) (called : Called) → IsInOrder w.masters
     → LeavesFewer w number (deliveries_of message.body) (delivered_to w message to called).world
-receiver_leaves w number message (Node.Client client) called order =
-    record { fewer = (same_leaves w number message.body).fewer; order = λ order. order }
+receiver_leaves w number message (Node.Client client) called order = grind (arith, same_leaves, message.body)
 receiver_leaves w number message Node.Coordinator called order = coordinator_leaves message
 receiver_leaves w number message (Node.Master master) called order = master_leaves master message order
 receiver_leaves w number message (Node.Backup backup) called order = backup_leaves backup message.from message.body called

@@ -31,12 +31,7 @@ module _ {X : Type 0} (size : X → ℕ) where
   pub removed_most : (things : NumberMap X) (number : ℕ) → total size (remove things number) ≤ total size things
   removed_most [] number = omega arith
   removed_most (here ∷ things) number =
-      omega (
-        arith,
-        kept_most (not (eq_by_cmp nat_cmp number here.0)) here (remove things number),
-        removed_most things number,
-        total-cons here things,
-      )
+      grind (arith, kept_most, eq_by_cmp, nat_cmp, remove, total-cons, here.0, (removed_most things number))
 
   -- what was there is missing
   pub removed_there : (things : NumberMap X) (number : ℕ) (thing : X) → get things number ≡ Some thing
@@ -85,13 +80,7 @@ module _ {X : Type 0} (size : X → ℕ) where
 module _ {X : Type 0} where
   pub length_inserted : (things : NumberMap X) (number : ℕ) (thing : X) → length (insert things number thing) ≤ length things + 1
   length_inserted [] number thing = omega arith
-  length_inserted (here ∷ things) number thing =
-      let rest = length_inserted things number thing in
-      elim (nat_cmp number here.0) as (λ o. length (by_order o ((number, thing) ∷ here ∷ things) ((here.0, thing) ∷ things) (here ∷ insert things number thing)) ≤ length (here ∷ things) + 1) [
-        | Less ↦ omega arith
-        | Equal ↦ omega arith
-        | Greater ↦ omega (arith, rest)
-      ]
+  length_inserted (here ∷ things) number thing = grind (arith, nat_cmp, by_order, insert, here.0, (length_inserted things number thing))
 
   ones : (things : NumberMap X) → total (λ _. 1) things ≡ length things
   ones [] = refl

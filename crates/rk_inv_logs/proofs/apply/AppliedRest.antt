@@ -1,5 +1,5 @@
 -- What is staged of a row counts for its range, and is staged still with a record of another client.
-use Rattle.std.proofs.Common.{◌≡◌, ℕ, max, true, List, [], ◌∷◌, ◌++◌, Option, sym, ◌≢◌, All}
+use Rattle.std.proofs.Common.{arith, ◌≡◌, ℕ, true, List, [], ◌∷◌, ◌++◌, Option, sym, ◌≢◌, All}
 use Rattle.rk_inv_base.proofs.Words.{All-cons, All-contains, All-nil, filter_passes, Ended, Placed, Member, Range, Entry, Base, counts}
 use Rattle.rk_inv_base.proofs.Words.{unmarked_from, Written, lineage_rest, LastCall, IsStaged, call_end, call_ends}
 use Rattle.rk_inv_logs.proofs.Words.{all_by, flat_of}
@@ -21,6 +21,5 @@ module _ (base : Base) (journal : List Placed) (asked : ℕ → Option LastCall)
 -- each entry of a rest counts for its range
 pub rest_counts : (written : ℕ → Written) (range : Range) (lineage : List Member) → All (λ entry. counts range entry ≡ true) (lineage_rest written range lineage)
 rest_counts written range [] = All-nil (λ entry. counts range entry ≡ true)
-rest_counts written range (only ∷ []) =
-    let w : Written = written only.master in filter_passes (counts range) (unmarked_from w.marks (max only.from w.applied) w.entries)
+rest_counts written range (only ∷ []) = grind (arith, filter_passes, counts, unmarked_from, only.master, only.from)
 rest_counts written range (first ∷ next ∷ more) = rest_counts written range (next ∷ more)

@@ -5,22 +5,21 @@ use Rattle.std.proofs.Common.{◌≡◌, ℕ, ◌+◌, true, false, List, [], �
 use Rattle.std.proofs.Common.{Contains, All, IfSome, slice_get, slice_index_or, Option, None, ◌++◌, drop, option_map}
 use Rattle.rk_inv_base.proofs.Words.{All-contains, All-cons, All-nil, IfSome_then, get_or_from_slice_get, slice_get_within, get, Ended}
 use Rattle.rk_inv_base.proofs.Words.{Held, Member, Node, Range, Entry, Completions, completions_from, Handover, Role, lineage_of, Phase}
-use Rattle.rk_inv_base.proofs.Words.{Opening, Moving, Rebuilding, Row, known_of, committed, EntryEnd, Transfer, Body, Got, Pulled}
-use Rattle.rk_inv_base.proofs.Words.{CopySegment, Rebuilt, items_in, items_of, by_member, merge, own_place, is_absent, Written}
-use Rattle.rk_inv_base.proofs.Words.{member_material, member_truth, Mark, Merged, MayApply, IsEntryWithin, IsItemWithin, is_wanting}
-use Rattle.rk_inv_base.proofs.Words.{stored_of, CopyIn, GotAgrees, IsOf, JoinedIn, PulledAgrees, RebuiltIn, SaysOf, HasJoined, HasRebuilt}
-use Rattle.rk_inv_base.proofs.Words.{TransferIn, post_of, bond_of, Holds, IsRebuilder, MarkFits, MarkedFit, NeededOf, READ_BACKUP}
-use Rattle.rk_inv_base.proofs.Words.{RowIsRebuilt, merged_place, IsPieceOf, IsBare, IsFound, IsTarget, MembersFit, NamedFit, is_granted}
-use Rattle.rk_inv_base.proofs.Words.{wanted_place, named_items, View, truths, SoundView, CoverOf, LogsOf, Call, NumberMap, Placed, IsKnown}
-use Rattle.rk_inv_base.proofs.Words.{IsStagedEnd, told, IsInScanOrder, Waits, EachIn, AreAboveMap, AreHandedOver, FirstIsDone, HandedFits}
-use Rattle.rk_inv_base.proofs.Words.{Handed, HasItems, OnlyIsUnnamed, ReachAll, TellAll, base_map, beginning_in, ends_of, floor_of}
-use Rattle.rk_inv_base.proofs.Words.{handed_by, handed_for_grant, has_all_items, is_joined_in, joined_from, last_of, list_any, map_after}
-use Rattle.rk_inv_base.proofs.Words.{rests, target_truth, touches, member_given_up}
+use Rattle.rk_inv_base.proofs.Words.{Moving, Rebuilding, Row, known_of, committed, EntryEnd, Body, Got, Pulled, CopySegment, Rebuilt}
+use Rattle.rk_inv_base.proofs.Words.{items_in, items_of, by_member, merge, own_place, is_absent, Written, member_material, member_truth}
+use Rattle.rk_inv_base.proofs.Words.{Mark, Merged, MayApply, IsEntryWithin, IsItemWithin, is_wanting, stored_of, CopyIn, GotAgrees}
+use Rattle.rk_inv_base.proofs.Words.{PulledAgrees, RebuiltIn, SaysOf, HasJoined, HasRebuilt, post_of, bond_of, Holds, IsRebuilder, MarkFits}
+use Rattle.rk_inv_base.proofs.Words.{MarkedFit, NeededOf, READ_BACKUP, RowIsRebuilt, merged_place, IsPieceOf, IsBare, IsFound, IsTarget}
+use Rattle.rk_inv_base.proofs.Words.{MembersFit, NamedFit, is_granted, wanted_place, named_items, View, truths, SoundView, CoverOf, LogsOf}
+use Rattle.rk_inv_base.proofs.Words.{Call, NumberMap, Placed, IsKnown, IsStagedEnd, told, IsInScanOrder, Waits, EachIn, AreAboveMap}
+use Rattle.rk_inv_base.proofs.Words.{AreHandedOver, FirstIsDone, HandedFits, Handed, HasItems, OnlyIsUnnamed, ReachAll, TellAll, base_map}
+use Rattle.rk_inv_base.proofs.Words.{beginning_in, ends_of, floor_of, handed_by, handed_for_grant, has_all_items, is_joined_in, joined_from}
+use Rattle.rk_inv_base.proofs.Words.{last_of, list_any, map_after, rests, target_truth, touches, member_given_up}
 use Rattle.rk_inv_logs.proofs.Words.{all_by, by_master, if_master, part_weaker, rebuilder_weaker, put_by, newer_cases, Bond, Closed, Both}
 use Rattle.rk_inv_logs.proofs.Words.{Either, IsGatherOf, CountsFor, SoundBeside, SoundRow, SpeaksFor, row_in, view_by_rows, TellHistory}
 use Rattle.rk_tablet_map.specs.Phase.{member as member_at}
 use Rattle.rk_inv_base.proofs.views.ByRows.{IsNextOf, staged_as}
-use Rattle.rk_inv_logs.proofs.apply.ItemPut.{found_with, item_cases, item_found, order_with}
+use Rattle.rk_inv_logs.proofs.apply.ItemPut.{found_with, item_cases, item_found}
 use Rattle.rk_inv_rows.proofs.lineage.TargetMaterial.{item_counts}
 use Rattle.rk_inv_logs.specs.apply.Small.{with_item_of, entry_applied, with_one_applied}
 use Rattle.rk_inv_logs.proofs.apply.Members.{HasApplied, StandsBehind, target_applied, IsStill, after_apart, after_here, stands_at}
@@ -30,6 +29,7 @@ use Rattle.rk_entry.specs.declared.entry.Entry.TheVariants as entries
 use Rattle.rk_message.specs.declared.message.Body.TheVariants as bodies
 use Rattle.rk_transfer.specs.declared.role.Role.TheVariants as roles
 use Rattle.rk_inv_logs.proofs.apply.Members as members
+use Rattle.rk_inv_base.proofs.Words.{order_after}
 
 -- ---- data
 
@@ -64,19 +64,10 @@ joined_more (roles.Joining (Some place)) few many more has = let below : place <
 joined_more role few many more has = has
 
 rebuilt_more : (role : Role) (few many place : ℕ) → few ≤ many → HasRebuilt role few place → HasRebuilt role many place
-rebuilt_more (roles.Rebuilding from (Some closing)) few many place more has =
-    let below : closing < few = has.0 in (omega (arith, below, more), has.1)
-rebuilt_more role few many place more has = has
-
-joined_says : (phase : Phase) (handover : Handover) (few many term master : ℕ) → few ≤ many → JoinedIn phase handover few term master → JoinedIn phase handover many term master
-joined_says (Moving source sfrom target dfrom) handover few many term master more says =
-    (says.0, says.1, joined_more handover.role few many more says.2)
-joined_says phase handover few many term master more says = says
+rebuilt_more role few many place more has = grind arith
 
 rebuilt_says : (phase : Phase) (handover : Handover) (ends : List Ended) (few many term master : ℕ) (rebuilt : Rebuilt) → few ≤ many → RebuiltIn phase handover ends few term master rebuilt → RebuiltIn phase handover ends many term master rebuilt
-rebuilt_says (Rebuilding lineage to) handover ends few many term master rebuilt more says =
-    (says.0, says.1, rebuilt_more handover.role few many rebuilt.place more says.2, says.3)
-rebuilt_says phase handover ends few many term master rebuilt more says = says
+rebuilt_says phase handover ends few many term master rebuilt more says = grind (arith, rebuilt_more)
 
 -- ---- what has to be read
 
@@ -277,13 +268,10 @@ module _ (v : View) (b : Applies v) where
   -- ---- records, and the calls that wait
 
   pub ordered_now : (q : ℕ) → IsInScanOrder (now.records q)
-  ordered_now q =
-      of_records IsInScanOrder q (λ at. order_with b.entry (v.records q) (b.sound.records.ordered q)) (λ apart. b.sound.records.ordered q)
+  ordered_now q = grind (arith, of_records, order_after)
 
   pub waits_on : (q number : ℕ) (call : Call) → (now.written q).applied ≤ number → Waits v.rows (v.handovers q) (v.written q) q number call → Waits v.rows (v.handovers q) (now.written q) q number call
-  waits_on q number call behind old =
-      waits_with v.rows v.rows (v.handovers q) (v.written q) (v.written q).marks (now.written q).applied q number call old behind old.unmarked
-      old.has_row
+  waits_on q number call behind old = grind (arith, waits_with)
 
   -- ---- rebuilds
 
@@ -385,14 +373,8 @@ module _ (v : View) (b : Applies v) where
 
   -- ---- messages
 
-  -- a Transfer is of a frozen source
-  transfer_says : (row : Row) (q : ℕ) (transfer : Transfer) (phase : Phase) → TransferIn phase (v.handovers q row.tablet) (v.completions q row.tablet) row.term q transfer → TransferIn phase (v.handovers q row.tablet) (b.kept q row.tablet) row.term q transfer
-  transfer_says row q transfer (Opening source sfrom target dfrom) says = rw (b.frozen q row.tablet says.1.role_is) says
-  transfer_says row q transfer _ says = says
-
   pulled_says : (other : Row) → Contains v.rows other → (lineage : List Member) → lineage_of other.phase ≡ lineage → (from : Node) (master : ℕ) (pulled : Pulled) → PulledAgrees other v.written v.handovers v.live lineage from master pulled → PulledAgrees other now.written v.handovers v.live lineage from master pulled
-  pulled_says other has (source ∷ target ∷ []) is from master pulled agrees =
-      λ here alive its. rw (b.firsts other has source target [] is).truth (agrees here alive its)
+  pulled_says other has (source ∷ target ∷ []) is from master pulled agrees = grind arith
   pulled_says other has _ is from master pulled agrees = agrees
 
   got_says : (other : Row) → Contains v.rows other → (lineage : List Member) → lineage_of other.phase ≡ lineage → (from : Node) (master : ℕ) (got : Got) → GotAgrees other v.written v.handovers v.live lineage from master got → GotAgrees other now.written v.handovers v.live lineage from master got
@@ -404,47 +386,13 @@ module _ (v : View) (b : Applies v) where
   copy_says other copy phase says = grind (arith, part_weaker, known_of, stored_of, needs_same)
 
   says_now : (other : Row) → Contains v.rows other → (from to : Node) (body : Body) → SaysOf other v.logs v.written v.stored v.handovers v.completions v.merged v.live v.handed from to body → SaysOf other v.logs now.written v.stored v.handovers b.kept v.merged v.live v.handed from to body
-  says_now other has from to (bodies.Transfer transfer) says =
-      by_master from
-      (λ q. IsOf other transfer.tenure → TransferIn other.phase (v.handovers q other.tablet) (v.completions q other.tablet) other.term q transfer)
-      (λ q. IsOf other transfer.tenure → TransferIn other.phase (v.handovers q other.tablet) (b.kept q other.tablet) other.term q transfer)
-      (λ q told is. transfer_says other q transfer other.phase (told is)) says
-  says_now other has from to (bodies.Pulled pulled) says = (
-    says.0,
-    if_master to (λ q. PulledAgrees other v.written v.handovers v.live (lineage_of other.phase) from q pulled)
-        (λ q. PulledAgrees other now.written v.handovers v.live (lineage_of other.phase) from q pulled)
-        (λ q. pulled_says other has (lineage_of other.phase) refl from q pulled) says.1,
-  )
-  says_now other has from to (bodies.Got got) says = (
-    says.0,
-    if_master to (λ q. GotAgrees other v.written v.handovers v.live (lineage_of other.phase) from q got)
-        (λ q. GotAgrees other now.written v.handovers v.live (lineage_of other.phase) from q got)
-        (λ q. got_says other has (lineage_of other.phase) refl from q got) says.1,
-  )
-  says_now other has from to (bodies.Joined tenure) says =
-      by_master from (λ q. IsOf other tenure → JoinedIn other.phase (v.handovers q other.tablet) (v.written q).applied other.term q)
-      (λ q. IsOf other tenure → JoinedIn other.phase (v.handovers q other.tablet) (now.written q).applied other.term q)
-      (λ q told is.
-      joined_says other.phase (v.handovers q other.tablet) (v.written q).applied (now.written q).applied other.term q (applied_grows q)
-      (told is)) says
-  says_now other has from to (bodies.Copy copy) says = λ is. copy_says other copy other.phase (says is)
-  says_now other has from to (bodies.Rebuilt rebuilt) says =
-      by_master from
-      (λ q. IsOf other rebuilt.tenure
-      → RebuiltIn other.phase (v.handovers q other.tablet) (v.merged q other.tablet) (v.written q).applied other.term q rebuilt)
-      (λ q. IsOf other rebuilt.tenure
-      → RebuiltIn other.phase (v.handovers q other.tablet) (v.merged q other.tablet) (now.written q).applied other.term q rebuilt)
-      (λ q told is.
-      rebuilt_says other.phase (v.handovers q other.tablet) (v.merged q other.tablet) (v.written q).applied (now.written q).applied
-      other.term q rebuilt (applied_grows q) (told is)) says
-  says_now other has from to _ says = says
+  says_now other has from to body says =
+      grind (arith, by_master, told, if_master, lineage_of, pulled_says, got_says, applied_grows, copy_says, rebuilt_says, joined_more)
 
   -- ---- all rows
 
   done_at : (row : Row) → Contains v.rows row → (lineage : List Member) → lineage_of row.phase ≡ lineage → FirstIsDone v.written row.range lineage → FirstIsDone now.written row.range lineage
-  done_at row has (first ∷ second ∷ more) is done =
-      let still = b.firsts row has first second more is in record { rest = still.rest ∙ done.rest; all = done.all ∙ sym still.truth }
-  done_at row has _ is done = tt
+  done_at row has lineage is done = grind arith
 
   unnamed_at : (range : Range) (lineage : List Member) → OnlyIsUnnamed v.written range lineage → OnlyIsUnnamed now.written range lineage
   unnamed_at range lineage none = grind (arith, of_applied, joined_from, none_from, is_joined_in)

@@ -13,9 +13,10 @@ use Rattle.rk_inv_base.proofs.rows.Apart.{same_number}
 use Rattle.rk_inv_logs.specs.apply.Small.{MayApplyCall, call_applied}
 use Rattle.rk_inv_logs.proofs.apply.Inserted.{IsInserted, inserted_before, inserted_behind}
 use Rattle.rk_inv_logs.proofs.apply.Members.{IsStill, Takes, has_last, next_at, rest_grows, still, takes, truth_grows, truth_still}
-use Rattle.rk_inv_logs.proofs.apply.Stagers.{stager_is}
 use Rattle.rk_types.specs.declared.call.End.TheVariants as ends
 use Rattle.rk_entry.specs.declared.entry.Entry.TheVariants as entries
+use Rattle.rk_inv_base.proofs.Words.{post_of}
+use Rattle.rk_inv_logs.proofs.Words.{quiet_others}
 
 -- ---- a call and its entry
 
@@ -44,9 +45,7 @@ module _ (base : Base) (journal : List Placed) (asked : ℕ → Option LastCall)
   asked_by client seq table key last = grind (arith, has_record)
 
   pub last_asked : (entry : Entry) → IsEntryOf call entry → IsStaged base asked journal entry → IsLastAsked asked journal call.client call.seq call.table call.key
-  last_asked (entries.Held held) own staged = asked_by own.client_is own.seq_is own.table_is own.key_is staged.last
-  last_asked (entries.Refused refused) own staged = asked_by own.client_is own.seq_is own.table_is own.key_is staged
-  last_asked _ own staged = absurd own
+  last_asked entry own staged = grind (arith, asked_by)
 
   -- a refusal leaves the map as it was
   refusal_leaves : (op : Op) (absent : Bool) (found : ℕ) → change_of op (outcome_of (if absent then ends.Absent else ends.Mismatch found)) ≡ None
@@ -150,7 +149,7 @@ module _ (v : View) (a : Applying v) where
   its_range = (row_in v a.sound its_row a.waits.has_row).ranged a.master (inl lives) its_member
 
   pub its_speaker : a.master ≡ speaker_of its_row.phase
-  its_speaker = stager_is its_row a.master (v.handovers a.master its_row.tablet) place its_fits a.waits.may_stage
+  its_speaker = grind (arith, its_fits, cases_eq, speaker_of, post_of, quiet_others)
 
   -- ---- what counts of a row
 
@@ -171,9 +170,7 @@ module _ (v : View) (a : Applying v) where
 
   -- so another row has what it had
   pub truth_beside_row : (other : Row) → Contains v.rows other → (other.tablet ≡ its_row.tablet → ⊥) → truths after other ≡ truths v other
-  truth_beside_row other stands apart =
-      truth_still v.base v.written after.written other.range (lineage_of other.phase) (apart_in other stands)
-      (λ member. still_beside other.range member (λ at. outside other stands apart))
+  truth_beside_row other stands apart = search (truth_still, lineage_of, apart_in, still_beside, outside, other.range, other.phase)
 
   pub rest_beside_row : (other : Row) → Contains v.rows other → (other.tablet ≡ its_row.tablet → ⊥) → rests after other ≡ rests v other
   rest_beside_row other stands apart =
@@ -192,9 +189,7 @@ module _ (v : View) (a : Applying v) where
       (λ last is. (last_takes last is).truth)
 
   pub rest_here : rests v its_row ≡ entry ∷ rests after its_row
-  rest_here =
-      rest_grows v.written after.written its_row.range (lineage_of its_row.phase) a.waits.last (entry ∷ []) a.waits.is_last
-      (last_takes a.waits.last a.waits.is_last).rest
+  rest_here = grind (arith, rest_grows, lineage_of, last_takes)
 
   pub was_history : TellHistory v.base its_row.range (truths v its_row) (entry ∷ rests after its_row) v.journal v.asked
   was_history = rw rest_here at (history_of v its_row a.sound a.waits.has_row)

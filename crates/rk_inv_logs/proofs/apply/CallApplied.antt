@@ -3,21 +3,20 @@ use Rattle.std.proofs.Common.{◌≡◌, ℕ, ◌<◌, Option, true, false, List
 use Rattle.std.proofs.Common.{IfSome, Contains, eqb-true, ◌≤◌, subst, inl, inr, arith, map, if◌then◌else◌, flat_map, eq-eqb, ◌+◌, slice_get}
 use Rattle.std.proofs.Common.{nat_cmp, eqb, ne_eqb, ◌≢◌}
 use Rattle.rk_inv_base.proofs.Words.{All-weaker, All-contains, IfSome_then, Held, Member, Range, Entry, Handover, lineage_of, Phase}
-use Rattle.rk_inv_base.proofs.Words.{Rebuilding, Row, is_of, items_in, items_of, first_of, is_member, last_of}
-use Rattle.rk_inv_base.proofs.Words.{lineage_truth, member_truth, IsAboveAll}
-use Rattle.rk_inv_base.proofs.Words.{post_of}
-use Rattle.rk_inv_base.proofs.Words.{rebuilder_post, target_post, AreApart, HasItems, IsTableOf, has_all_items, View, truths, cond_both}
-use Rattle.rk_inv_base.proofs.Words.{counts, cond-false, cond-true, false≢true, Contains-append_left, Any-from_list_any, get}
-use Rattle.rk_inv_base.proofs.Words.{completions_from, Role, told, told_by, Gather, by_member, is_of_lineage, material_by, unmarked_from}
-use Rattle.rk_inv_base.proofs.Words.{counting, named, side_entries, merge, merged_ends, own_place, is_absent, may_have_staged, Written}
-use Rattle.rk_inv_base.proofs.Words.{member_material, Merged, is_wanting, HandedFits, IsHandedBy, AreAboveMap, AreHandedOver, Ended}
-use Rattle.rk_inv_base.proofs.Words.{IsKnown, IsReached, ReachAll, TellAll, base_map, ends_of, floor_of, handed_by, handed_for_grant}
-use Rattle.rk_inv_base.proofs.Words.{has_key, is_mutation, is_waiting, map_after, noted, rests, second_has, second_of, cases_Bool}
-use Rattle.rk_inv_base.proofs.Words.{eq_by_cmp, NumberMap, get_or, remove, Call, apply_entry, noting, with_applied, with_ended, outcome_of}
-use Rattle.rk_inv_base.proofs.Words.{asked_by, seen_of, with_all_served, with_record, Master, tablet_at, Tablet, no_tablet, Worked, World}
-use Rattle.rk_inv_base.proofs.Words.{log_in, master_at, tablet_in, with_ledger, with_master, put, put2, view, IsSound, SoundView, All-push}
-use Rattle.rk_inv_base.proofs.Words.{AreOneAccepted, AskedOf, EachHasCall, EachIn, IsAfterSeen, IsAfterStart, IsLast, IsLastCall, LastCall}
-use Rattle.rk_inv_base.proofs.Words.{Outcome, Placed, WasAsked, Waits, hash_of, is_covered, lane_of_key, next_record, remove_less}
+use Rattle.rk_inv_base.proofs.Words.{Rebuilding, Row, is_of, items_in, items_of, first_of, is_member, last_of, lineage_truth, member_truth}
+use Rattle.rk_inv_base.proofs.Words.{IsAboveAll, post_of, rebuilder_post, target_post, AreApart, HasItems, IsTableOf, has_all_items, View}
+use Rattle.rk_inv_base.proofs.Words.{truths, cond_both, counts, cond-false, cond-true, false≢true, Contains-append_left, Any-from_list_any}
+use Rattle.rk_inv_base.proofs.Words.{get, completions_from, Role, told, told_by, Gather, by_member, is_of_lineage, material_by}
+use Rattle.rk_inv_base.proofs.Words.{unmarked_from, counting, named, side_entries, merge, merged_ends, own_place, is_absent}
+use Rattle.rk_inv_base.proofs.Words.{may_have_staged, Written, member_material, Merged, is_wanting, HandedFits, IsHandedBy, AreAboveMap}
+use Rattle.rk_inv_base.proofs.Words.{AreHandedOver, Ended, IsKnown, IsReached, ReachAll, TellAll, base_map, ends_of, floor_of, handed_by}
+use Rattle.rk_inv_base.proofs.Words.{handed_for_grant, has_key, is_mutation, is_waiting, map_after, noted, rests, second_has, second_of}
+use Rattle.rk_inv_base.proofs.Words.{cases_Bool, eq_by_cmp, NumberMap, get_or, remove, Call, apply_entry, noting, with_applied, with_ended}
+use Rattle.rk_inv_base.proofs.Words.{outcome_of, asked_by, seen_of, with_all_served, with_record, Master, tablet_at, Tablet, no_tablet}
+use Rattle.rk_inv_base.proofs.Words.{Worked, World, log_in, master_at, tablet_in, with_ledger, with_master, put, put2, view, IsSound}
+use Rattle.rk_inv_base.proofs.Words.{SoundView, All-push, AreOneAccepted, AskedOf, EachHasCall, EachIn, IsAfterSeen, IsAfterStart, IsLast}
+use Rattle.rk_inv_base.proofs.Words.{IsLastCall, LastCall, Outcome, Placed, WasAsked, Waits, hash_of, is_covered, lane_of_key, next_record}
+use Rattle.rk_inv_base.proofs.Words.{remove_less}
 use Rattle.rk_inv_logs.proofs.Words.{put_by, all_by, append_nil, speaker_is, SoundRow, row_in, last_stands, filter_stands, history_of}
 use Rattle.rk_inv_logs.proofs.Words.{flat_of, free_stands, counts_call, ended_call, put2_same, put_same, view_master, SoundBeside}
 use Rattle.rk_inv_logs.proofs.Words.{covered_by, asked_still, got_cases, is_request_still, request_says_still, rising_push, says_still}
@@ -45,12 +44,9 @@ use Rattle.rk_transfer.specs.declared.role.Role.TheVariants as roles
 
 -- ---- who has all of a tablet is the first of its lineage
 
-heir_first : (lineage : List Member) (master term : ℕ) (handover : Handover) → has_all_items (rebuilder_post lineage master) handover term ≡ true → IfSome (first_of lineage) (λ m. m.master ≡ master)
-heir_first lineage master term handover = grind (arith, cond_both, has_all_items, eqb-true)
-
 has_all_first : (phase : Phase) (master term : ℕ) (handover : Handover) → has_all_items (post_of phase master) handover term ≡ true → IfSome (first_of (lineage_of phase)) (λ m. m.master ≡ master)
 has_all_first phase master term handover =
-    grind (arith, cond_both, has_all_items, eqb-true, target_post, place, rebuilder_post, is_member, first_of, heir_first)
+    grind (arith, cond_both, has_all_items, eqb-true, target_post, place, rebuilder_post, is_member, first_of)
 
 module _ (v : View) (a : Applying v) where
   -- the entry is above what its master told of the row
@@ -377,8 +373,7 @@ module _ (v : View) (a : Applying v) where
       let differs : number ≢ place v a = λ same. absurd (omega (arith, same, place_here q at, applied_here q at, behind)) in
       record {
         call = has.call;
-        waits = get_remove (v.calls q) (place v a) number
-            ∙ cond-false (eqb number (place v a)) None (get (v.calls q) number) (ne_eqb number (place v a) differs) ∙ has.waits;
+        waits = grind (arith, get_remove, place, cond-false, eqb, ne_eqb, v.calls, has.waits);
         own = has.own;
       }) (λ apart number e behind stands is free. old number e (omega (arith, behind, applied_grows v (applies v a) q)) stands is free)
 
@@ -460,10 +455,8 @@ module _ (v : View) (a : Applying v) where
 -- what is found of tablets that were changed each
 changed_found : (change : Tablet → Tablet) (tablets : NumberMap Tablet) (number : ℕ) → change no_tablet ≡ no_tablet → get_or no_tablet (map (λ entry. (entry.0, change entry.1)) tablets) number ≡ change (get_or no_tablet tablets number)
 changed_found change [] number same = sym same
-changed_found change (first ∷ tablets) number same = elim (cases_Bool (eq_by_cmp nat_cmp number first.0)) [
-  | inl here ↦ rw here refl
-  | inr other ↦ rw other (changed_found change tablets number same)
-]
+changed_found change (first ∷ tablets) number same =
+    grind (arith, cases_Bool, eq_by_cmp, nat_cmp, first.0, (changed_found change tablets number same))
 
 -- a tablet notes an end, or stays as it is
 notes : (call : Call) (end : Ended) (tablet : Tablet) → is_absent tablet.handover.role ≡ false → has_key tablet.handover.range call.table call.key ≡ true → noting call end tablet ≡ record tablet { completions = noted tablet.completions end }

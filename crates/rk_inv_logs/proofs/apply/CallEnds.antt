@@ -120,11 +120,7 @@ module _ (v : View) (a : Applying v) where
             stands = gone.there;
             reaches = record {
               client = sym gone.client ∙ reached.reaches.client;
-              reached =
-                  inl
-                  (⊎_elim (λ (earlier : placed.call.seq < reached.end.seq). omega (arith, earlier, before))
-                  (λ (same : (placed.call.seq ≡ reached.end.seq) × (outcome_of reached.end.end ≡ placed.outcome)).
-                  omega (arith, same.0, before)) reached.reaches.reached);
+              reached = grind (arith, outcome_of, reached.end.seq, reached.end.end, reached.reaches.reached);
             };
           })
           (λ (same : reached.end ≡ a.end).

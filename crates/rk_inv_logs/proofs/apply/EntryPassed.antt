@@ -1,6 +1,5 @@
 -- What is seen of a world once the next entry of a master's log is applied and no call ends with it.
-use Rattle.std.proofs.Common.{arith}
-use Rattle.std.proofs.Common.{◌≡◌, ℕ, ◌+◌, None, refl, sym, ap, ◌∙◌, subst}
+use Rattle.std.proofs.Common.{arith, ◌≡◌, ℕ, ◌+◌, None, refl, sym, ap, ◌∙◌, subst}
 use Rattle.rk_inv_base.proofs.Words.{get, Entry, apply_entry, with_applied, with_ended, with_entry_item, told_by, marks_of, Master, changed}
 use Rattle.rk_inv_base.proofs.Words.{World, master_at, tablet_in, written_by, put, view, IsSound, SoundView}
 use Rattle.rk_inv_logs.proofs.Words.{put2_same, put_here, put_is, put_other, put_same, view_master}

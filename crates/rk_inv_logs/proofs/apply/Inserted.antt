@@ -4,12 +4,11 @@ use Rattle.std.proofs.Common.{◌≡◌, Bool, List, [], ◌++◌, ap, sym, ◌�
 use Rattle.std.proofs.Common.{◌+◌, ◌≤◌, ◌<◌, max, true, false, ◌∷◌, Some, refl, arith, fold, All, zero, suc, ◌-◌, cond, ◌||◌}
 use Rattle.std.proofs.Common.{length, drop, take, slice_get, drop-drop, length-take-le}
 use Rattle.rk_inv_base.proofs.Words.{Contains-append_cases, Contains-append_left, Contains-append_right, filter-append, Entry, cases_Bool}
-use Rattle.rk_inv_base.proofs.Words.{flat_map-append, All-contains, All-cons, All-head, All-nil, fold-append, Held, filter_kept}
-use Rattle.rk_inv_base.proofs.Words.{filter_left_out, newest_is, newer_item, newest_from-append, with_newer_here, with_newer_other}
-use Rattle.rk_inv_base.proofs.Words.{none_stands, stands_cases, is_of_from, is_of_parts, is_of, newest, none_found, IsPlain, items_in}
-use Rattle.rk_inv_base.proofs.Words.{items_of, floor_by, floor_of, AreAbove, IsAboveAll, first_stands, drop-append-le}
-use Rattle.rk_inv_base.proofs.Words.{get_or_from_slice_get, slice_get_within, list_any, Range, unmarked, unmarked_from, is_marked, counting}
-use Rattle.rk_inv_base.proofs.Words.{counts, material_of, named, named_by, Mark}
+use Rattle.rk_inv_base.proofs.Words.{flat_map-append, All-contains, All-head, fold-append, Held, filter_kept, filter_left_out, newest_is}
+use Rattle.rk_inv_base.proofs.Words.{newer_item, newest_from-append, with_newer_here, with_newer_other, none_stands, stands_cases}
+use Rattle.rk_inv_base.proofs.Words.{is_of_from, is_of_parts, is_of, newest, none_found, IsPlain, items_in, items_of, floor_by, floor_of}
+use Rattle.rk_inv_base.proofs.Words.{AreAbove, IsAboveAll, first_stands, drop-append-le, get_or_from_slice_get, slice_get_within, list_any}
+use Rattle.rk_inv_base.proofs.Words.{Range, unmarked, unmarked_from, is_marked, counting, counts, material_of, named, named_by, Mark}
 use Rattle.rk_inv_logs.proofs.Words.{append_nil, flat_from, flat_of, newest_from-same, newest_from-stays, drop_more, take_more, drop_none}
 use Rattle.rk_inv_logs.proofs.Words.{named_same, unless_marked, unmarked_from_last}
 use Rattle.rk_overlay.specs.Newest.{Found, newest_from, with_newer}
@@ -123,9 +122,7 @@ module _ (entry : Entry) (old new : List Entry) (put : IsInserted entry old new)
   inserted_kept p passes = of_one (more_kept (more_one put) p) (filter_kept p entry [] passes)
 
   pub inserted_out : (p : Entry → Bool) → p entry ≡ false → filter p new ≡ filter p old
-  inserted_out p fails = ap (filter p) put.new_is ∙ filter-append p put.before (entry ∷ put.behind)
-      ∙ ap (λ (l : List Entry). filter p put.before ++ l) (filter_left_out p entry put.behind fails)
-      ∙ sym (ap (filter p) put.old_is ∙ filter-append p put.before put.behind)
+  inserted_out p fails = grind (arith, filter-append, filter_left_out)
 
   -- ---- what is told
 
@@ -162,9 +159,7 @@ height (entries.Carried carried) = carried.floor
 height _ = 0
 
 pub raised : (floor : ℕ) (entry : Entry) → floor_by floor entry ≡ max floor (height entry)
-raised floor (entries.Refused refused) = omega arith
-raised floor (entries.Joined joined) = omega arith
-raised floor _ = refl
+raised floor entry = grind arith
 
 raised_either : (floor : ℕ) (a b : Entry) → floor_by (floor_by floor a) b ≡ floor_by (floor_by floor b) a
 raised_either floor a b = omega (arith, raised (floor_by floor a) b, raised floor a, raised (floor_by floor b) a, raised floor b)
@@ -257,12 +252,9 @@ module _ (old new : List Entry) where
       ap (λ (l : List Held). newest l table key) here
       ∙ newest_moved b h r held (rw old_items at (All-head (IsAboveAll (items_of old)) held [] above)) table key
       ∙ ap (λ (l : List Held). newest l table key) (sym there)
-  newest_inserted (entries.Refused refused) rest put above table key =
-      ap (λ (l : List Held). newest l table key) (without_items (entries.Refused refused) old new rest put refl)
-  newest_inserted (entries.Carried carried) rest put above table key =
-      ap (λ (l : List Held). newest l table key) (without_items (entries.Carried carried) old new rest put refl)
-  newest_inserted (entries.Joined joined) rest put above table key =
-      ap (λ (l : List Held). newest l table key) (without_items (entries.Joined joined) old new rest put refl)
+  newest_inserted (entries.Refused refused) rest put above table key = grind (arith, newest, without_items, entries.Refused)
+  newest_inserted (entries.Carried carried) rest put above table key = grind (arith, newest, without_items, entries.Carried)
+  newest_inserted (entries.Joined joined) rest put above table key = grind (arith, newest, without_items, entries.Joined)
 
   -- items of one key and version are one, still
   pub plain_inserted : (entry : Entry) → IsInserted entry old new → AreNewest old entry → IsPlain (items_of old) → IsPlain (items_of new)
@@ -288,9 +280,7 @@ module _ (old new : List Entry) where
 
 -- the first of what is above a list, and what is above that list with it
 pub above_first : (truth rest : List Entry) (entry : Entry) → AreAbove (items_of truth) (items_of (entry ∷ rest)) → AreNewest truth entry × AreAbove (items_of truth ++ items_in entry) (items_of rest)
-above_first truth rest (entries.Held held) above =
-    (All-cons (IsAboveAll (items_of truth)) held [] above.0 (All-nil (IsAboveAll (items_of truth))), above.1)
-above_first truth rest _ above = (All-nil (IsAboveAll (items_of truth)), rw (append_nil (items_of truth)) above)
+above_first truth rest entry above = grind (arith, items_of, append_nil)
 
 -- so what stands behind an entry that is put in is above all with it
 pub above_inserted : (entry : Entry) (old new rest : List Entry) → IsInserted entry old new → AreAbove (items_of old) (items_of (entry ∷ rest)) → AreAbove (items_of new) (items_of rest)
@@ -344,23 +334,18 @@ module _ (list : List Entry) (place : ℕ) (entry : Entry) (stands : slice_get l
   dropped_next = drop_more list place entry within
       ∙ ap (λ (e : Entry). e ∷ drop (place + 1) list) (get_or_from_slice_get list place entry entry stands)
 
-  length_first : length (take place list) ≡ place
-  length_first = length-take-le place list (omega (arith, within))
-
   -- from a place behind it nothing is there, before and after
   pub nothing_ahead : (from : ℕ) → place < from → drop from (take (place + 1) list) ≡ drop from (take place list)
-  nothing_ahead from ahead = ap (drop from) taken_next ∙ drop_none from (take place list) entry (omega (arith, ahead, length_first))
+  nothing_ahead from ahead = grind (arith, taken_next, drop_none, length-take-le, within)
 
   -- and from one before it the entry comes to the end
   pub from_next : (from : ℕ) → from ≤ place → drop from (take (place + 1) list) ≡ drop from (take place list) ++ entry ∷ []
-  from_next from behind =
-      ap (drop from) taken_next ∙ drop-append-le from (take place list) (entry ∷ []) (omega (arith, behind, length_first))
+  from_next from behind = grind (arith, taken_next, drop-append-le, length-take-le, within)
 
   -- so it comes to the end of those that bear no mark, if it bears none
   pub unmarked_next : (marks : List Mark) (from : ℕ) → from ≤ place → unmarked_from marks from (take (place + 1) list) ≡ unmarked_from marks from (take place list) ++ unless_marked (is_marked marks place) entry
-  unmarked_next marks from behind = ap (unmarked_from marks from) taken_next
-      ∙ unmarked_from_last marks from (take place list) entry (omega (arith, behind, length_first))
-      ∙ ap (λ (n : ℕ). unmarked_from marks from (take place list) ++ unless_marked (is_marked marks n) entry) length_first
+  unmarked_next marks from behind =
+      grind (arith, unmarked_from, taken_next, unmarked_from_last, unless_marked, is_marked, length-take-le, within)
 
   -- and stood first in what was not applied
   pub rest_next : (marks : List Mark) (from : ℕ) → from ≤ place → unmarked_from marks (max from place) list ≡ unless_marked (is_marked marks place) entry ++ unmarked_from marks (max from (place + 1)) list
@@ -374,9 +359,7 @@ module _ (range : Range) (list : List Entry) (entry : Entry) where
   counting_more = inserted_kept entry list (list ++ entry ∷ []) (inserted_last entry list) (counts range)
 
   pub counting_beside : counts range entry ≡ false → counting range (list ++ entry ∷ []) ≡ counting range list
-  counting_beside outside = filter-append (counts range) list (entry ∷ [])
-      ∙ ap (λ (l : List Entry). counting range list ++ l) (filter_left_out (counts range) entry [] outside)
-      ∙ append_nil (counting range list)
+  counting_beside outside = grind (arith, filter-append, counts, counting, filter_left_out, append_nil)
 
   -- the items of side segments stand behind it
   module _ (side : ℕ → List Entry) (names : named_by range entry ≡ []) where

@@ -27,11 +27,6 @@ found_at p (first ∷ items) item is = elim (cases_Bool (p first)) [
 
 -- ---- what is found
 
--- records stay in order
-pub order_with : (entry : Entry) (records : List Held) → IsInScanOrder records → IsInScanOrder (with_item_of entry records)
-order_with (entries.Held held) records order = order_after held records order
-order_with _ records order = order
-
 -- each is the item, or was there
 pub item_cases : (entry : Entry) (records : List Held) (x : Held) → Contains (with_item_of entry records) x → Contains (items_in entry) x ⊎ Contains records x
 item_cases (entries.Held held) records x at =

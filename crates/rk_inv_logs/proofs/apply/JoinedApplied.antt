@@ -117,8 +117,7 @@ module _ (v : View) (master : ℕ) (joined : Joined) (sound : SoundView v) (may 
             let size = ap (λ (l : List Entry). length l) done.all in
             let none : named_it.block ≡ [] = nil_from_length named_it.block (omega (arith, size, named_it.few)) in
             record {
-              truth = named_it.truth ∙ ap (λ (l : List Entry). member_truth v.written row.range first ++ l) none
-                  ∙ append_nil (member_truth v.written row.range first);
+              truth = grind (arith, member_truth, append_nil, named_it.truth, v.written, row.range);
               rest = named_it.rest;
             }
       ]
@@ -150,9 +149,7 @@ module _ (v : View) (master : ℕ) (joined : Joined) (sound : SoundView v) (may 
       rw named_it.is at (item_entry (member_truth v.written row.range first) named_it.item (fit named_it.item named_it.stands))
 
   last_gains : (row : Row) → Contains v.rows row → (lineage : List Member) → AreApart lineage → lineage_of row.phase ≡ lineage → (last : Member) → last_of lineage ≡ Some last → Gains v (with_one_applied v.written master) row last
-  last_gains row has (only ∷ []) apart is last ends =
-      let same : only ≡ last = cc ends in
-      subst (Gains v after row) same (gains_none v after row only (only_still row has only is))
+  last_gains row has (only ∷ []) apart is last ends = grind (arith, gains_none, only_still)
   last_gains row has (first ∷ second ∷ []) apart is last ends = let same : second ≡ last = cc ends in
       subst (Gains v after row) same (elim (either row.range second) [
         | inl still ↦ gains_none v after row second still
@@ -162,8 +159,7 @@ module _ (v : View) (master : ℕ) (joined : Joined) (sound : SoundView v) (may 
             block = named_it.block;
             behind = [];
             old_is = sym (append_nil (member_truth v.written row.range second));
-            now_is = named_it.truth
-                ∙ ap (λ (l : List Entry). member_truth v.written row.range second ++ l) (sym (append_nil named_it.block));
+            now_is = grind (arith, member_truth, append_nil, named_it.truth, v.written, row.range, named_it.block);
           };
           head = [];
           rest_is = sym named_it.rest;

@@ -1,7 +1,6 @@
 -- Truth and rest of a row, where what was applied tells nothing new: a block of entries came into the truth that were there already, or
 -- stood first in the rest, with no item and of no call.
-use Rattle.std.proofs.Common.{arith}
-use Rattle.std.proofs.Common.{◌≡◌, ◌≤◌, List, [], ◌∷◌, ◌++◌, refl, ap, ◌∙◌, subst, inl, inr, ◌⊎◌, All, Contains, flat_map}
+use Rattle.std.proofs.Common.{arith, ◌≡◌, ◌≤◌, List, [], ◌∷◌, ◌++◌, refl, ap, ◌∙◌, subst, inl, inr, ◌⊎◌, All, Contains, flat_map}
 use Rattle.rk_inv_base.proofs.Words.{flat_map-append, All-contains, All-head, All-tail, Contains-append_cases}
 use Rattle.rk_inv_base.proofs.Words.{Contains-append_left, Contains-append_right, Ended, Held, Placed, Entry, none_stands, IsPlain, Base}
 use Rattle.rk_inv_base.proofs.Words.{items_in, items_of, told, told_by, floor_of, IsKnown, AreAbove, call_end, call_ends}

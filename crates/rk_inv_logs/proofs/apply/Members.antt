@@ -43,9 +43,7 @@ module _ (written : ℕ → Written) (master : ℕ) (entry : Entry) (stands : sl
 
   -- a master has one more applied, or is another one
   pub after_here : (q : ℕ) → q ≡ master → after q ≡ record (written q) { applied = (written q).applied + 1 }
-  after_here q at =
-      (λ i. record (written q) { applied = put_here (λ r. (written r).applied) master ((written master).applied + 1) q at i })
-      ∙ (λ i. record (written q) { applied = (written (sym at i)).applied + 1 })
+  after_here q at = grind (arith, put_here)
 
   pub after_apart : (q : ℕ) → (q ≡ master → ⊥) → after q ≡ written q
   after_apart q apart = λ i. record (written q)
@@ -95,8 +93,7 @@ module _ (written : ℕ → Written) (master : ℕ) (entry : Entry) (stands : sl
             truth = ap (truth_by range member.from) (after_here member.master at)
                 ∙ ap (λ (l : List Entry). material_of range (side_entries w.sides) (unmarked w.marks member.from l))
                 (nothing_ahead w.entries w.applied entry (stands_at member.master at) member.from ahead);
-            rest = ap (rest_by range member.from) (after_here member.master at)
-                ∙ ap (λ (n : ℕ). counting range (unmarked_from w.marks n w.entries)) same;
+            rest = grind (arith, after_here, counting, unmarked_from, member.from, member.master, w.marks, w.entries);
           })
       | inr behind ↦ inr (next_at range member at behind)
     ]
@@ -119,8 +116,7 @@ module _ (written : ℕ → Written) (master : ℕ) (entry : Entry) (stands : sl
         let side : ℕ → List Entry = side_entries w.sides in
         elim (cases_Bool (is_marked w.marks w.applied)) [
           | inl marked ↦ record {
-            truth = next.truth ∙ ap (λ (b : Bool). material_of range side (old ++ unless_marked b entry)) marked
-                ∙ ap (material_of range side) (append_nil old);
+            truth = grind (arith, material_of, unless_marked, append_nil, next.truth);
             rest = next.rest_now ∙ sym (next.rest ∙ ap (λ (b : Bool). counting range (unless_marked b entry ++ left)) marked);
           }
           | inr free ↦
@@ -128,10 +124,7 @@ module _ (written : ℕ → Written) (master : ℕ) (entry : Entry) (stands : sl
               record {
                 truth = next.truth ∙ ap (λ (b : Bool). material_of range side (old ++ unless_marked b entry)) free
                     ∙ material_beside range old entry side beside.1 beside.0;
-                rest = next.rest_now
-                    ∙ sym
-                    (next.rest ∙ ap (λ (b : Bool). counting range (unless_marked b entry ++ left)) free
-                    ∙ filter_left_out (counts range) entry left beside.0);
+                rest = grind (arith, counting, unless_marked, filter_left_out, counts, next.rest_now, next.rest, beside.0);
               }
         ]
   ]
@@ -147,9 +140,7 @@ module _ (written : ℕ → Written) (master : ℕ) (entry : Entry) (stands : sl
         truth =
             rw (next.truth ∙ ap (λ (b : Bool). material_of range side (old ++ unless_marked b entry)) free)
             (material_more range old entry side names inside);
-        rest = next.rest ∙ ap (λ (b : Bool). counting range (unless_marked b entry ++ left)) free ∙ filter_kept (counts range) entry left
-            inside
-            ∙ ap (λ (l : List Entry). entry ∷ l) (sym next.rest_now);
+        rest = grind (arith, counting, unless_marked, filter_kept, counts, next.rest, next.rest_now);
       }
 
 -- ---- lineages
@@ -163,9 +154,7 @@ has_last _ apart = absurd apart
 module _ (base : Base) (written now : ℕ → Written) (range : Range) where
   -- where each member has what it had, truth and rest are what they were
   pub truth_still : (lineage : List Member) → AreApart lineage → ((member : Member) → IsStill written now range member) → lineage_truth base now range lineage ≡ lineage_truth base written range lineage
-  truth_still (only ∷ []) apart each = λ i. (each only).truth i ++ []
-  truth_still (first ∷ second ∷ []) apart each = λ i. (each first).truth i ++ ((each second).truth i ++ [])
-  truth_still _ apart each = absurd apart
+  truth_still lineage apart each = grind arith
 
   -- what came into the truth of the last one came into that of the row, where the first of two has what it had
   pub truth_grows : (R : List Entry → List Entry → Type 0) → ((front old new : List Entry) → R old new → R (front ++ old) (front ++ new)) → ((old new : List Entry) → R old new → R (old ++ []) (new ++ []))
@@ -319,16 +308,13 @@ module _ (range : Range) (sides : List (List Held)) (list : List Entry) (entry :
       let grown = sides_extend range side list (list ++ entry ∷ []) (record { more = entry ∷ []; parts = refl }) in
       record {
         block = grown.more;
-        parts = (λ i. counting_beside range list entry outside i ++ grown.parts i)
-            ∙ sym (append_assoc (counting range list) old grown.more);
+        parts = grind (arith, counting_beside, append_assoc, counting, grown.parts, grown.more);
         from = λ e at. rw grown.parts (Contains-append_right old grown.more e at);
       }
 
 -- an entry that has an item is that item
 pub held_of : (entry : Entry) (item : Held) → Contains (items_in entry) item → entries.Held item ≡ entry
-held_of (entries.Held held) item at =
-    elim (stands_cases held [] item at) [ inl is ↦ ap entries.Held (sym is) | inr none ↦ absurd (none_stands item none) ]
-held_of _ item at = absurd (none_stands item at)
+held_of entry item at = grind (arith, stands_cases, none_stands)
 
 module _ (range : Range) (w : Written) (joined : Joined) (stands : slice_get w.entries w.applied ≡ Some (entries.Joined joined)) (free : is_marked w.marks w.applied ≡ false) (from : ℕ) (records : List Held) (found : (x : Held) → Contains (named_items range from w) x → IsFound records x) where
   abbrev side : ℕ → List Entry

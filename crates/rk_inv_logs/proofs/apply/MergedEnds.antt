@@ -28,10 +28,7 @@ reached_noted c end client seq has = elim (cases_Bool (is_later (get c end.clien
         | inl same ↦ record {
           last = new;
           found = get_same c end.client new client same;
-          as_late =
-              let found : get c end.client ≡ Some has.last = ap (get c) (sym same) ∙ has.found in
-              let before = ltb-true has.last.seq end.seq (sym (ap (λ (o : Option Completion). is_later o end.seq) found) ∙ later) in
-              omega (arith, has.as_late, before);
+          as_late = grind (arith, ltb-true, is_later, end.client, has.last, has.found, has.last.seq, end.seq, has.as_late);
         }
         | inr other ↦ record { last = has.last; found = get_other c end.client new client other ∙ has.found; as_late = has.as_late }
       ])
@@ -75,27 +72,26 @@ told_behind first list client seq told = grind (arith, behind_stands)
 -- the last end of a client was there, or is told
 comes_from : (c : Completions) (list : List Ended) (client : ℕ) (last : Completion) → get (completions_from c list) client ≡ Some last → (get c client ≡ Some last) ⊎ IsTold list client last.seq
 comes_from c [] client last is = inl is
-comes_from c (end ∷ list) client last is = elim (comes_from (noted c end) list client last is) [
-  | inl before ↦ elim (cases_Bool (is_later (get c end.client) end.seq)) [
-    | inl later ↦
-        let new : Completion = record { seq = end.seq; end = end.end } in
-        let found = ap (λ (l : Completions). get l client) (sym (noted_later c end later)) ∙ before in
-        elim (cases_eq client end.client) [
-          | inl same ↦
-              let one : new ≡ last = cc (sym (get_same c end.client new client same) ∙ found) in
-              inr
-              (record {
-                end = end;
-                stands = first_stands end list;
-                client_is = sym same;
-                seq_is = ap (λ (x : Completion). x.seq) one;
-              })
-          | inr other ↦ inl (sym (get_other c end.client new client other) ∙ found)
-        ]
-    | inr older ↦ inl (ap (λ (l : Completions). get l client) (sym (noted_older c end older)) ∙ before)
-  ]
-  | inr told ↦ inr (told_behind end list client last.seq told)
-]
+comes_from c (end ∷ list) client last is =
+    grind (
+      arith,
+      noted,
+      cases_Bool,
+      is_later,
+      noted_later,
+      cases_eq,
+      get_same,
+      first_stands,
+      get_other,
+      noted_older,
+      told,
+      told_behind,
+      end.client,
+      end.seq,
+      end.end,
+      last.seq,
+      (comes_from (noted c end) list client last is),
+    )
 
 -- ---- the places of ends
 
@@ -253,10 +249,7 @@ merged_reaches members end at =
     record {
       last = reached.last;
       found = here;
-      as_late =
-          let up : told_it.end.seq ≤ reached.last.seq = reached.as_late in
-          let seq : told_it.end.seq ≡ has.last.seq = told_it.seq_is in
-          let under : end.seq ≤ has.last.seq = has.as_late in omega (arith, up, seq, under);
+      as_late = grind (arith, told_it.end.seq, reached.last.seq, reached.as_late, has.last.seq, told_it.seq_is, end.seq, has.as_late);
     }
 
 -- so noting it once more changes nothing

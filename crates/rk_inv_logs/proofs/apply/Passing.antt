@@ -7,11 +7,11 @@ use Rattle.rk_inv_base.proofs.Words.{Call, Waits, All-contains, All-nil, All-tai
 use Rattle.rk_inv_base.proofs.Words.{lineage_of, Rebuilding, Row, Base, Placed, LastCall, record_of, base_map, items_in, items_of, last_of}
 use Rattle.rk_inv_base.proofs.Words.{told, told_by, counts, of_key, tells_of, own_place, Written, member_rest, member_truth, IsKnown}
 use Rattle.rk_inv_base.proofs.Words.{TellAll, MayApply, AreAboveMap, has_merged, IsFound, named_items, IsStaged, AreApart, call_ends}
-use Rattle.rk_inv_base.proofs.Words.{records_of, View, truths, rests, SoundView, cases_eq, false≢true, IfSome_then, meets, Role}
-use Rattle.rk_inv_base.proofs.Words.{Phase, none_stands, first_of, is_absent, is_wanting, Post, post_of, rebuilder_post, is_granted}
-use Rattle.rk_inv_base.proofs.Words.{HasItems, IsTableOf, has_all_items, All-weaker, ends_of, cases_Bool, All-cons, All-head}
-use Rattle.rk_inv_base.proofs.Words.{Carried, is_marked, FirstIsDone, IsEntryOf, and_parts, Any-from_list_any, number_of, row_of, named_by}
-use Rattle.rk_inv_base.proofs.Words.{Mark, HasOwnRange, IsOfRange, MarkFits, merged_place, EachHasCall}
+use Rattle.rk_inv_base.proofs.Words.{records_of, View, truths, rests, SoundView, cases_eq, false≢true, IfSome_then, meets, Role, Phase}
+use Rattle.rk_inv_base.proofs.Words.{none_stands, first_of, is_absent, is_wanting, Post, post_of, rebuilder_post, is_granted, HasItems}
+use Rattle.rk_inv_base.proofs.Words.{IsTableOf, has_all_items, All-weaker, ends_of, cases_Bool, All-cons, All-head, Carried, is_marked}
+use Rattle.rk_inv_base.proofs.Words.{FirstIsDone, IsEntryOf, and_parts, Any-from_list_any, number_of, row_of, named_by, Mark, HasOwnRange}
+use Rattle.rk_inv_base.proofs.Words.{IsOfRange, MarkFits, EachHasCall}
 use Rattle.rk_inv_logs.proofs.Words.{newest_alike, plain_alike, formed_apart, row_in, all_by, floor_among, TellHistory, heir_post}
 use Rattle.rk_inv_logs.proofs.Words.{begun_lacks, put_by, history_of, SoundBeside, SoundRow, lineage_last, in_one_row, in_piece}
 use Rattle.rk_inv_logs.proofs.Words.{found_stands}
@@ -169,8 +169,7 @@ row_keeps v p row has =
     record {
       more = grown.0;
       head = gains.head;
-      rest_is = rest_grows v.written (with_one_applied v.written p.master) row.range (lineage_of row.phase) last.0 gains.head last.1
-          gains.rest_is;
+      rest_is = grind (arith, rest_grows, lineage_of, v.written, p.master, row.range, row.phase, last.0, gains.head, last.1, gains.rest_is);
       quiet = gains.quiet;
       from = grown.1;
     }
@@ -185,18 +184,6 @@ no_item _ records none = refl
 -- records have the newest of entries with the same items
 table_same : (range : Range) (old now : List Entry) (records : List Held) → items_of now ≡ items_of old → IsTableOf range old records → IsTableOf range now records
 table_same range old now records same table x inside = rw same (table x inside)
-
--- a role that has merged was not granted the tablet, and waits for no grant
-merged_ungranted : (role : Role) → has_merged role ≡ true → is_granted role ≡ false
-merged_ungranted role merged = grind arith
-
-merged_unwanting : (role : Role) → has_merged role ≡ true → is_wanting role ≡ false
-merged_unwanting (roles.Wanting from) merged = absurd (cc merged)
-merged_unwanting role merged = refl
-
-merged_present : (role : Role) → has_merged role ≡ true → is_absent role ≡ false
-merged_present roles.Absent merged = absurd (cc merged)
-merged_present role merged = refl
 
 module _ (v : View) (p : Passing v) where
   abbrev now : View
@@ -257,13 +244,11 @@ module _ (v : View) (p : Passing v) where
 
   -- an item of the row stands behind the target's place: it has none
   target_behind : (other : Row) → Contains v.rows other → (last : Member) → last.master ≡ p.master → is_granted (v.handovers last.master other.tablet).role ≡ true → (from : ℕ) → StandsBehind other.range p.entry from (v.written last.master).applied
-  target_behind other has last at granted from counted x its =
-      grind (arith, beside_or, none_stands, false≢true, merged_ungranted, is_granted)
+  target_behind other has last at granted from counted x its = grind (arith, beside_or, none_stands, false≢true, is_granted)
 
   -- a tablet that the master waits for has none of the item
   bare_records : (r : ℕ) → is_wanting (v.handovers p.master r).role ≡ true → is_absent (v.handovers p.master r).role ≡ false → StaysBare v p.master p.entry r
-  bare_records r wants there from w bare =
-      grind (arith, no_item, false≢true, merged_unwanting, is_wanting, merged_present, meets, counts, bare_with, key_outside)
+  bare_records r wants there from w bare = grind (arith, no_item, false≢true, is_wanting, meets, counts, bare_with, key_outside)
 
   -- ---- all parts
 
@@ -421,16 +406,9 @@ found_row : (o : Option Row) → is_some o ≡ true → (row : Row) × (o ≡ So
 found_row None some = absurd (cc some)
 found_row (Some row) some = (row, refl)
 
--- a role that has merged has a closing entry, of which what holds of it holds
-merged_then : (role : Role) (P : ℕ → Type 0) → has_merged role ≡ true → IfSome (merged_place role) P → (closing : ℕ) × P closing
-merged_then (roles.Rebuilding from (Some closing)) P merged holds = (closing, holds)
-merged_then _ P merged holds = absurd (cc merged)
-
 -- an entry of a rebuild names no side segment
 names_rebuilt : (range other : Range) (entry : Entry) → IsOfRange range entry → named_by other entry ≡ []
-names_rebuilt range other (entries.Refused refused) is = absurd is
-names_rebuilt range other (entries.Joined joined) is = absurd is
-names_rebuilt range other _ is = refl
+names_rebuilt range other entry is = grind arith
 
 module _ (v : View) (master : ℕ) (entry : Entry) (sound : SoundView v) (may : MayApplyMarked v master entry) where
   -- no call waits for it
@@ -453,9 +431,7 @@ module _ (v : View) (master : ℕ) (entry : Entry) (sound : SoundView v) (may : 
       (mark, (found.0, found.2, found.3), leb-true mark.first place parts.0, ltb-true place mark.past parts.1)
 
   its_row : (row : Row) × (row_of v.rows the_mark.0.tablet ≡ Some row)
-  its_row = found_row (row_of v.rows the_mark.0.tablet)
-      (All-contains (λ (mark : Mark). is_some (row_of v.rows mark.tablet) ≡ true) (v.written master).marks the_mark.0
-      (sound.cover.marks master) the_mark.1)
+  its_row = grind (arith, found_row, row_of, the_mark)
 
   row_stands : Contains v.rows its_row.0
   row_stands = found_stands v.rows the_mark.0.tablet its_row.0 its_row.1
@@ -467,9 +443,7 @@ module _ (v : View) (master : ℕ) (entry : Entry) (sound : SoundView v) (may : 
   row_says = row_in v sound its_row.0 row_stands
 
   fits : MarkFits its_row.0 master (v.handovers master its_row.0.tablet) (v.live master) (v.written master) the_mark.0
-  fits =
-      All-contains (λ (m : Mark). m.tablet ≡ its_row.0.tablet → MarkFits its_row.0 master (v.handovers master its_row.0.tablet) (v.live master) (v.written master) m)
-      (v.written master).marks the_mark.0 (row_says.marks master) the_mark.1 same_tablet
+  fits = grind (arith, its_row, the_mark, row_says, same_tablet)
 
   of_range : IsOfRange its_row.0.range entry
   of_range =
@@ -481,7 +455,7 @@ module _ (v : View) (master : ℕ) (entry : Entry) (sound : SoundView v) (may : 
 
   -- its own entries begin before the piece
   begins : own_place (v.handovers master its_row.0.tablet).role ≤ (v.written master).applied
-  begins = grind (arith, its_row, fits, row_says, merged_then, the_mark, same_tablet, own_place)
+  begins = grind (arith, its_row, fits, row_says, the_mark, same_tablet, own_place)
 
   copied : (items_in entry ≡ []) ⊎ IsCopied v master entry
   copied = grind (arith, of_range, its_row, items_in, fits, row_stands, beside, in_one_row, begins)

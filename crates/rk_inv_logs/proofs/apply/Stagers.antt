@@ -2,12 +2,10 @@
 -- Transfer counts.
 use Rattle.std.proofs.Common.{◌≡◌, ℕ, Bool, true, false, ◌&&◌, cond, eqb, List, Some, None, refl, eqb-true}
 use Rattle.std.proofs.Common.{Contains, Option, arith, eq-eqb, ne_eqb}
-use Rattle.rk_inv_base.proofs.Words.{cases_eq, false≢true, and_right, cond-false, Member, Node, Handover, Role, lineage_of, Phase}
-use Rattle.rk_inv_base.proofs.Words.{Row, Transfer, Body, Handed, last_of, second_of, is_absent, is_idle, may_have_staged, handed_by}
-use Rattle.rk_inv_base.proofs.Words.{is_opening, is_waiting, is_waiting_at, is_wanting, second_has, SaysOf, TransferIn, Post}
-use Rattle.rk_inv_base.proofs.Words.{bond_of, post_of, Holds, RoleFits, AreApart, View}
-use Rattle.rk_inv_base.proofs.Words.{rebuilder_post}
-use Rattle.rk_inv_logs.proofs.Words.{contains_cases, IsQuiet, quiet_others, speaker_of, waiting_at}
+use Rattle.rk_inv_base.proofs.Words.{false≢true, and_right, cond-false, Member, Node, Role, lineage_of, Phase, Row, Transfer, Body, Handed}
+use Rattle.rk_inv_base.proofs.Words.{last_of, second_of, is_absent, may_have_staged, handed_by, is_opening, is_waiting, is_waiting_at}
+use Rattle.rk_inv_base.proofs.Words.{is_wanting, second_has, SaysOf, TransferIn, bond_of, Holds, AreApart, View, rebuilder_post}
+use Rattle.rk_inv_logs.proofs.Words.{contains_cases, speaker_of, waiting_at}
 use Rattle.rk_types.specs.declared.node.Node.TheVariants as nodes
 use Rattle.rk_transfer.specs.declared.role.Role.TheVariants as roles
 use Rattle.rk_message.specs.declared.message.Body.TheVariants as bodies
@@ -19,20 +17,9 @@ pub staging_present : (role : Role) → may_have_staged role ≡ true → is_abs
 staging_present roles.Absent stages = absurd (cc)
 staging_present role stages = refl
 
-pub staging_busy : (role : Role) → may_have_staged role ≡ true → is_idle role ≡ false
-staging_busy role stages = grind arith
-
 pub staging_wants : (role : Role) → may_have_staged role ≡ true → is_wanting role ≡ false
 staging_wants (roles.Wanting from) stages = absurd (cc)
 staging_wants role stages = refl
-
--- in a post in which no master serves none has staged calls
-pub quiet_stages : (post : Post) (role : Role) (term own applied : ℕ) → IsQuiet post → Holds (bond_of post role) term own applied → may_have_staged role ≡ true → ⊥
-quiet_stages post role term own applied quiet fits stages = grind arith
-
--- so the master whose calls are staged is the one that speaks
-pub stager_is : (row : Row) (q : ℕ) (handover : Handover) (applied : ℕ) → RoleFits row q handover applied → may_have_staged handover.role ≡ true → q ≡ speaker_of row.phase
-stager_is row q handover applied fits stages = grind (arith, cases_eq, speaker_of, quiet_stages, post_of, quiet_others)
 
 -- ---- who rebuilds
 
@@ -60,14 +47,25 @@ module _ (v : View) (row : Row) (last : Member) (stages : may_have_staged (v.han
 
   pub none_hands : (from to : Node) (body : Body) → Says from to body → AreApart (lineage_of row.phase) → last_of (lineage_of row.phase) ≡ Some last → last.master ≡ speaker_of row.phase → handed_by row v.handovers body ≡ None
   none_hands (nodes.Master sender) to (bodies.Transfer transfer) says apart is speaks =
-      opens_not row.phase sender transfer (eqb transfer.tenure.tablet row.tablet) (eqb transfer.tenure.term row.term)
-      (record { floor = transfer.floor; ends = transfer.ends }) speaks
-      (λ a b. says (record { tablet = eqb-true transfer.tenure.tablet row.tablet a; term = eqb-true transfer.tenure.term row.term b }))
+      grind (arith, opens_not, eqb, eqb-true, transfer.tenure.tablet, transfer.tenure.term, transfer.floor, transfer.ends)
   none_hands (nodes.Client client) to (bodies.Transfer transfer) says apart is speaks = absurd says
   none_hands nodes.Coordinator to (bodies.Transfer transfer) says apart is speaks = absurd says
   none_hands (nodes.Backup backup) to (bodies.Transfer transfer) says apart is speaks = absurd says
   none_hands from to (bodies.Grant grant) says apart is speaks =
-      cond-false _ (Some (record { floor = grant.floor; ends = grant.ends })) None
-      (and_right (eqb grant.tenure.tablet row.tablet) (is_waiting_at (second_has v.handovers row (second_of (lineage_of row.phase))) grant.tenure.term)
-      (waiting_at (second_has v.handovers row (second_of (lineage_of row.phase))) grant.tenure.term (none_waits (lineage_of row.phase) apart is)))
+      grind (
+        arith,
+        cond-false,
+        and_right,
+        eqb,
+        is_waiting_at,
+        second_has,
+        second_of,
+        lineage_of,
+        waiting_at,
+        none_waits,
+        grant.floor,
+        grant.ends,
+        grant.tenure.tablet,
+        grant.tenure.term,
+      )
   none_hands from to _ says apart is speaks = refl

@@ -1,7 +1,7 @@
 -- What ends of calls tell: of staged entries, of calls that wait for their records, of last calls, and of the ends that masters note.
-use Rattle.std.proofs.Common.{◌≡◌, ℕ, false, ◌||◌, eqb, List, [], ◌++◌, Option, ◌∙◌, inl, inr, ◌⊎◌, ◌≢◌, All, Contains, ne_eqb, Bool, true}
-use Rattle.std.proofs.Common.{not, ◌&&◌, ◌∷◌, filter, Some, None, refl, sym, ap, subst, append_assoc, eq-eqb, eqb-true, ◌<◌, ◌≤◌, arith}
-use Rattle.std.proofs.Common.{IfSome, cond, ⊎_elim, nat_cmp, ltb-false}
+use Rattle.std.proofs.Common.{◌≡◌, ℕ, false, eqb, List, [], ◌++◌, Option, ◌∙◌, inl, inr, ◌⊎◌, ◌≢◌, All, Contains, ne_eqb, Bool, true, not}
+use Rattle.std.proofs.Common.{◌∷◌, filter, Some, None, refl, sym, ap, subst, append_assoc, eq-eqb, eqb-true, ◌<◌, ◌≤◌, arith, IfSome, cond}
+use Rattle.std.proofs.Common.{⊎_elim, nat_cmp, ltb-false}
 use Rattle.rk_inv_base.proofs.Words.{and_left, and_right, All-contains, All-head, All-weaker, list_any-append, list_any_none, Ended, Placed}
 use Rattle.rk_inv_base.proofs.Words.{is_mutation, Entry, none_stands, Base, item_end, refusal_end, told, told_by, has_record, is_of_call}
 use Rattle.rk_inv_base.proofs.Words.{is_of_mutation, LastCall, IsKnown, IsLastAsked, IsStaged, call_end, call_ends, and_from, and_parts}
@@ -71,14 +71,8 @@ waiting_from journal client seq asked w = rw w.asked_is
 pub waits_alike : (asked : ℕ → Option LastCall) (journal : List Placed) (a b : Ended) → a.client ≡ b.client → a.seq ≡ b.seq → waits asked journal a ≡ waits asked journal b
 waits_alike asked journal a b client seq = λ i. waits_for journal (client i) (seq i) (asked (client i))
 
--- who has a record, or another last call, waits for none later
-still_not : (e h m : Bool) → (e && not h) ≡ false → (e && not (h || m)) ≡ false
-still_not false h m is = refl
-still_not true true m is = refl
-still_not true false m is = absurd (false≢true (sym is))
-
 pub waits_no_more : (journal more : List Placed) (client seq : ℕ) (asked : Option LastCall) → waits_for journal client seq asked ≡ false → waits_for (journal ++ more) client seq asked ≡ false
-waits_no_more journal more client seq asked is = grind (arith, eqb, list_any-append, is_of_mutation, still_not, has_record)
+waits_no_more journal more client seq asked is = grind (arith, eqb, list_any-append, is_of_mutation, has_record, false≢true)
 
 -- an end makes a record where its call waits for one, and else none
 pub makes_none : (journal : List Placed) (end : Ended) (asked : Option LastCall) → waits_for journal end.client end.seq asked ≡ false → made_by journal end asked ≡ []
@@ -86,9 +80,7 @@ makes_none journal end None is = refl
 makes_none journal end (Some last) is = rw is refl
 
 pub makes_one : (journal : List Placed) (end : Ended) (asked : Option LastCall) (w : IsWaiting journal end.client end.seq asked) → made_by journal end asked ≡ next_record journal w.last.call (outcome_of end.end) w.last.seen ∷ []
-makes_one journal end asked w =
-    rw w.asked_is
-    (rw (ap (waits_for journal end.client end.seq) (sym w.asked_is) ∙ waiting_from journal end.client end.seq asked w) refl)
+makes_one journal end asked w = grind (arith, waiting_from)
 
 -- ---- many
 
@@ -121,10 +113,6 @@ module _ (asked : ℕ → Option LastCall) (journal : List Placed) where
   none_wait (end ∷ ends) all = filter_left_out (waits asked journal) end ends (All-head (λ e. waits asked journal e ≡ false) end ends all)
       ∙ none_wait ends (All-tail (λ e. waits asked journal e ≡ false) end ends all)
 
--- where the record of a mutation stands, its call has one
-has_its : (journal : List Placed) (placed : Placed) (client seq : ℕ) → Contains journal placed → is_mutation placed.call.op ≡ true → placed.call.client ≡ client → placed.call.seq ≡ seq → has_record journal client seq ≡ true
-has_its journal placed client seq stands is client_is seq_is = grind (arith, list_any_at, is_of_mutation, and_from, is_mutation, eq-eqb)
-
 -- no record is of the call of a client with a seq
 abbrev pub HasNone : List Placed → ℕ → ℕ → Type 0
 HasNone journal client seq = (placed : Placed) → Contains journal placed → placed.call.client ≡ client → placed.call.seq ≡ seq → ⊥
@@ -132,13 +120,11 @@ HasNone journal client seq = (placed : Placed) → Contains journal placed → p
 module _ (base : Base) (lane : ℕ) (asked : ℕ → Option LastCall) (journal : List Placed) (last_calls : (client : ℕ) → IfSome (asked client) (IsLastCall base lane client)) (recorded : All (λ placed. WasAsked (asked placed.call.client) journal placed.call) journal) where
   -- a record is of its client's last call, or of an earlier one
   was_asked : (placed : Placed) (client : ℕ) (last : LastCall) → Contains journal placed → placed.call.client ≡ client → asked client ≡ Some last → WasAsked (Some last) journal placed.call
-  was_asked placed client last stands own is =
-      rw (ap asked own ∙ is) at
-      (All-contains (λ (p : Placed). WasAsked (asked p.call.client) journal p.call) journal placed recorded stands)
+  was_asked placed client last stands own is = grind arith
 
   -- an end that is known is of an earlier call, or of the last one, which has a record
   known_cases : (end : Ended) (last : LastCall) → asked end.client ≡ Some last → IsKnown base journal end → (end.seq < last.call.seq) ⊎ ((end.seq ≡ last.call.seq) × (has_record journal end.client end.seq ≡ true))
-  known_cases end last is known = grind (arith, was_asked, has_its, ends_told)
+  known_cases end last is known = grind (arith, was_asked, ends_told, list_any_at, is_of_mutation, and_from, is_mutation, eq-eqb)
 
   pub known_low : (end : Ended) (last : LastCall) → asked end.client ≡ Some last → IsKnown base journal end → end.seq ≤ last.call.seq
   known_low end last is known = elim (known_cases end last is known)
@@ -157,7 +143,8 @@ module _ (base : Base) (lane : ℕ) (asked : ℕ → Option LastCall) (journal :
 
   -- and no record is of a mutation that waits for its own
   pub none_recorded : (client seq : ℕ) (w : IsWaiting journal client seq (asked client)) → is_mutation w.last.call.op ≡ true → HasNone journal client seq
-  none_recorded client seq w mutates placed stands own its = grind (arith, was_asked, false≢true, has_its, is_mutation)
+  none_recorded client seq w mutates placed stands own its =
+      grind (arith, was_asked, false≢true, is_mutation, list_any_at, is_of_mutation, and_from, eq-eqb)
 
 -- an end has gone where another one of its client has come
 pub record IsReplaced (now : List Ended) (end other : Ended) : Type 0 where

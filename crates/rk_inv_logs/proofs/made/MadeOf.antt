@@ -16,7 +16,7 @@ use Rattle.rk_inv_logs.proofs.Words.{not-true, is_same_call, all_by, filter_stan
 use Rattle.rk_inv_logs.proofs.Words.{is_at_own, map_after-same, map_with-same, known_still, flat_from, TellHistory}
 use Rattle.rk_inv_base.proofs.calls.Accepted.{stands_there}
 use Rattle.rk_inv_logs.specs.made.Made.{waits, without_stamp}
-use Rattle.rk_inv_logs.proofs.made.LastCalls.{HasNone, still_unrecorded, IsWaiting, makes_one, waiting_parts, AreOfOthers, still_staged}
+use Rattle.rk_inv_logs.proofs.made.LastCalls.{HasNone, still_unrecorded, IsWaiting, makes_one, waiting_parts, still_staged}
 use Rattle.rk_model.specs.History.{record_of as map_record_of}
 use Rattle.rk_inv_base.proofs.logs.Missed.{map_elsewhere}
 
@@ -60,9 +60,7 @@ pub record AreOfOneCall (a b : Ended) : Type 0 where
   pub seq : a.seq ≡ b.seq
 
 pub one_call : (a b : Ended) → is_same_call a b ≡ true → AreOfOneCall a b
-one_call a b is =
-    let parts = and_parts (eqb a.client b.client) (eqb a.seq b.seq) is in
-    record { client = eqb-true a.client b.client parts.0; seq = eqb-true a.seq b.seq parts.1 }
+one_call a b is = grind (arith, and_parts, eqb, eqb-true)
 
 -- ---- the places of ends at one member
 
@@ -70,10 +68,7 @@ one_call a b is =
 pub placed_append : (all later seen first second : List Ended) → placed_ends all later seen (first ++ second) ≡ placed_ends all later seen first ++ placed_ends all later (seen ++ first) second
 placed_append all later seen [] second = ap (λ (l : List Ended). placed_ends all later l second) (sym (append_nil seen))
 placed_append all later seen (end ∷ first) second =
-    let more = placed_append all later (seen ++ end ∷ []) first second
-    ∙ ap (λ (l : List Ended). placed_ends all later (seen ++ end ∷ []) first ++ placed_ends all later l second)
-    (append_assoc seen (end ∷ []) first) in
-    elim (cases_Bool (is_placed all later seen end)) [ inl is ↦ rw is (ap (λ (l : List Ended). end ∷ l) more) | inr is ↦ rw is more ]
+    grind (arith, placed_ends, append_assoc, cases_Bool, is_placed, (placed_append all later (seen ++ end ∷ []) first second))
 
 -- what is placed stands there, and is outrun by none
 pub record IsPlacedOf (all ends : List Ended) (end : Ended) : Type 0 where
@@ -81,9 +76,7 @@ pub record IsPlacedOf (all ends : List Ended) (end : Ended) : Type 0 where
   pub free : list_any (is_outrun_by end) all ≡ false
 
 placed_free : (all later seen : List Ended) (end : Ended) → is_placed all later seen end ≡ true → list_any (is_outrun_by end) all ≡ false
-placed_free all later seen end is =
-    not-true (list_any (is_outrun_by end) all)
-    (and_parts (not (list_any (is_outrun_by end) all)) (not (list_any (is_same_call end) (later ++ seen))) is).0
+placed_free all later seen end is = grind (arith, not-true, is_outrun_by, and_parts, is_same_call)
 
 pub placed_stands : (all later seen ends : List Ended) (end : Ended) → Contains (placed_ends all later seen ends) end → IsPlacedOf all ends end
 placed_stands all later seen [] end at = absurd (none_stands end at)
@@ -239,11 +232,6 @@ module _ (waits : Ended → Bool) (alike : (a b : Ended) → a.client ≡ b.clie
 
 -- ---- stamps
 
--- records leave the same map without their stamps, and are as lawful
-pub map_unstamped : (start : Map) (list : List Placed) → map_after start (map without_stamp list) ≡ map_after start list
-map_unstamped start [] = refl
-map_unstamped start (placed ∷ list) = map_unstamped (map_with start placed) list
-
 pub legal_unstamped : (start : Map) (list : List Placed) → IsLegal start (map without_stamp list) → IsLegal start list
 legal_unstamped start [] legal = tt
 legal_unstamped start (placed ∷ list) legal = (legal.0, legal_unstamped (map_with start placed) list legal.1)
@@ -311,9 +299,7 @@ module _ (asked : ℕ → Option LastCall) where
   made_unstamped [] (placed ∷ made) zip = absurd zip
   made_unstamped (end ∷ ends) [] zip = absurd zip
   made_unstamped (end ∷ ends) (placed ∷ made) zip =
-      let its = zip.0 in
-      (λ i. record { call = its.call_is i; outcome = its.outcome_is i; stamp = 0; accepted = its.new i } ∷ made_unstamped ends made zip.1 i)
-      ∙ ap (λ (o : Option LastCall). record_of_last end o ++ records_of asked ends) (sym its.asked_is)
+      grind (arith, record_of_last, records_of, zip.0, zip.1, (made_unstamped ends made zip.1))
 
   -- what holds of each end holds so of each record
   pub made_each : (P : Ended → Type 0) (Q : Placed → Type 0) → ((end : Ended) (placed : Placed) → IsMadeOf asked end placed → P end → Q placed) → (ends : List Ended) (made : List Placed) → AllZip (IsMadeOf asked) ends made → All P ends → All Q made
@@ -478,12 +464,7 @@ module _ (base : Base) (range : Range) (journal made : List Placed) (asked : ℕ
             (ap (λ (m : Map). m table key) (map_after-append start journal records)
             ∙ map_after-same (map_after start journal) (map_after start (journal ++ made)) records table key (agree table key inside)
             ∙ ap (λ (m : Map). m table key) (sym (map_after-append start (journal ++ made) records)));
-        staged =
-            all_by (IsStaged base asked (journal ++ made)) rest (λ entry at.
-            let staged = All-contains (IsStaged base asked journal) rest entry was.staged at in
-            still_staged base journal made asked entry
-            (All-weaker (IsEndOfLast asked journal range) (AreOfOthers base journal made asked) other_clients (call_end entry)
-            (entry_ends base asked journal range entry (All-contains (λ e. counts range e ≡ true) rest entry counted at) staged)) staged);
+        staged = grind (arith, all_by, still_staged, other_clients, call_end, entry_ends, counts, was.staged);
         one = was.one;
       }
 

@@ -4,15 +4,15 @@ use Rattle.std.proofs.Common.{◌≡◌, ℕ, ◌<◌, ◌≤◌, Bool, true, fa
 use Rattle.std.proofs.Common.{◌∙◌, subst, ⊎_elim, inl, inr, ◌⊎◌, arith, IfSome, All, AllPairs, Contains, flat_map, eqb-true, ltb-true}
 use Rattle.std.proofs.Common.{slice_get, eq-eqb, lt-ltb}
 use Rattle.rk_inv_base.proofs.Words.{and_parts, false≢true, false_from_ne_true, flat_map-append, All-contains, All-head, All-tail}
-use Rattle.rk_inv_base.proofs.Words.{All-weaker, Contains-append_cases, Contains-append_left, Contains-append_right, filter-append}
-use Rattle.rk_inv_base.proofs.Words.{filter_passes, list_any_none, list_any, Ended, Placed, Entry, filter_kept, none_stands, Base, item_end}
-use Rattle.rk_inv_base.proofs.Words.{refusal_end, told, told_by, ends_by_place, is_outrun_by, placed_ends, LastCall, IsLastCall, WasAsked}
-use Rattle.rk_inv_base.proofs.Words.{IsKnown, IsLastAsked, IsStaged, call_end, call_ends, IsAfterStart, and_from, cases_Bool, cases_lt}
-use Rattle.rk_inv_base.proofs.Words.{All-append, All-contains_itself, list_any_at, ⊤, get, Call, Range, is_mutation, filter_left_out}
-use Rattle.rk_inv_base.proofs.Words.{Completions, completions_from, ended_of, ends_of, ends_told, outcome_of, of_key, tells_of, first_told}
-use Rattle.rk_inv_base.proofs.Words.{merged_ends, has_key, IsReached, Reaches, ReachAll, TellAll, is_record_in, IsLegal-append, legal_back}
-use Rattle.rk_inv_base.proofs.Words.{IsLegal, Map, map_after, lineage_of, Row, base_map, counts, record_of_last, records_of, View, rests}
-use Rattle.rk_inv_base.proofs.Words.{truths, SoundView}
+use Rattle.rk_inv_base.proofs.Words.{Contains-append_cases, Contains-append_left, Contains-append_right, filter-append, filter_passes}
+use Rattle.rk_inv_base.proofs.Words.{list_any_none, list_any, Ended, Placed, Entry, filter_kept, none_stands, Base, item_end, refusal_end}
+use Rattle.rk_inv_base.proofs.Words.{told, told_by, ends_by_place, is_outrun_by, placed_ends, LastCall, IsLastCall, WasAsked, IsKnown}
+use Rattle.rk_inv_base.proofs.Words.{IsLastAsked, IsStaged, call_end, call_ends, IsAfterStart, and_from, cases_Bool, cases_lt, All-append}
+use Rattle.rk_inv_base.proofs.Words.{All-contains_itself, list_any_at, ⊤, get, Call, Range, is_mutation, filter_left_out, Completions}
+use Rattle.rk_inv_base.proofs.Words.{completions_from, ended_of, ends_of, ends_told, outcome_of, of_key, tells_of, first_told, merged_ends}
+use Rattle.rk_inv_base.proofs.Words.{has_key, IsReached, Reaches, ReachAll, TellAll, is_record_in, IsLegal-append, legal_back, IsLegal, Map}
+use Rattle.rk_inv_base.proofs.Words.{map_after, lineage_of, Row, base_map, counts, record_of_last, records_of, View, rests, truths}
+use Rattle.rk_inv_base.proofs.Words.{SoundView}
 use Rattle.rk_inv_logs.proofs.Words.{all_by, filter_stands, append_nil, flat_from, AllZip, known_still, filter_from, made_of, place_there}
 use Rattle.rk_inv_logs.proofs.Words.{AllPairs-cons, in_one_row, TellHistory, MakeRecords, journal_with, history_of}
 use Rattle.rk_inv_logs.specs.read.ReadBack.{TellInOrder, all_of, IsReadBack}
@@ -46,8 +46,7 @@ filter_mapped {X} p f (x ∷ xs) same =
 -- what the entries of members tell, member by member
 told_all_of : (members : List (List Entry)) → told (all_of members) ≡ flat_map told members
 told_all_of [] = refl
-told_all_of (first ∷ members) =
-    flat_map-append told_by first (all_of members) ∙ ap (λ (l : List Ended). told first ++ l) (told_all_of members)
+told_all_of (first ∷ members) = grind (arith, flat_map-append, told_by, told, (told_all_of members))
 
 -- two records of one mutation are one
 one_record : (journal : List Placed) (a b : Placed) → AreOnce journal → Contains journal a → Contains journal b → is_mutation a.call.op ≡ true → a.call.client ≡ b.call.client → a.call.seq ≡ b.call.seq → a ≡ b
@@ -90,9 +89,7 @@ module _ (r : Reads) where
 
   -- the call of an entry that is staged waits
   staged_waits : (end : Ended) {table : ℕ} {key : List ℕ} → IsLastAsked r.asked r.journal end.client end.seq table key → waits r.asked r.journal end ≡ true
-  staged_waits end its =
-      waiting_from r.journal end.client end.seq (r.asked end.client)
-      (record { last = its.last; asked_is = its.asked_is; seq_is = its.seq_is; unrecorded = its.unrecorded })
+  staged_waits end its = grind (arith, waiting_from)
 
   one_waits : (end : Ended) → waits r.asked r.journal end ≡ true → filter (waits r.asked r.journal) (end ∷ []) ≡ end ∷ []
   one_waits end is = filter_kept (waits r.asked r.journal) end [] is
@@ -100,9 +97,7 @@ module _ (r : Reads) where
   entry_waits : (entry : Entry) → IsStaged r.base r.asked r.journal entry → filter (waits r.asked r.journal) (told_by entry) ≡ call_end entry
   entry_waits (entries.Held held) staged = one_waits (item_end held) (staged_waits (item_end held) staged.last)
   entry_waits (entries.Refused refused) staged = one_waits (refusal_end refused) (staged_waits (refusal_end refused) staged)
-  entry_waits (entries.Carried carried) staged = none_wait r.asked r.journal carried.ends
-      (All-weaker (IsKnown r.base r.journal) (λ end. waits r.asked r.journal end ≡ false)
-      waits_not carried.ends staged)
+  entry_waits (entries.Carried carried) staged = grind (arith, none_wait, waits_not, carried.ends)
   entry_waits (entries.Joined joined) staged = refl
 
   -- of what staged entries tell just the ends of their calls wait

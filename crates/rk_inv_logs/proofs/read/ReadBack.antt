@@ -71,10 +71,7 @@ pub record TwoGathered (members : List Gathered) (m n : Member) : Type 0 where
   pub last_is : last.member ≡ n
 
 pub two_gathered : (members : List Gathered) (m n : Member) → map (λ gathered. gathered.member) members ≡ m ∷ n ∷ [] → TwoGathered members m n
-two_gathered (g ∷ h ∷ []) m n is =
-    let first : g.member ≡ m = cc is in
-    let last : h.member ≡ n = cc is in
-    record { first = g; last = h; members_are = refl; first_is = first; last_is = last }
+two_gathered (g ∷ h ∷ []) m n is = grind (arith, g.member, h.member)
 two_gathered _ m n is = absurd (cc is)
 
 -- those of a lineage that another master reads
@@ -162,9 +159,6 @@ module _ (v : View) (t : Taken v) (gathered : Gathered) (there : Contains (v.gat
   parts = counted_parts t.row.range m.from w main (side_read gathered) log
       ∙ ap (λ (l : List Entry). (l ++ marked) ++ sides) (free_parts t.row.range m.from w main (side_read gathered) log)
       ∙ append_assoc (sure ++ part) marked sides ∙ append_assoc sure part (marked ++ sides)
-
-  abbrev truth_of_it : List Entry
-  truth_of_it = member_truth v.written t.row.range gathered.member
 
   -- a marked entry tells nothing that is not told by others, where it tells nothing that is not told by these and by the member
   marked_told : (others front : List Entry) → AreAmong (member_marked v.written t.row.range m) (front ++ member_material v.written t.row.range m) → AreAmong front others → AreAmong (free_part t.row.range m.from w main) others

@@ -1,7 +1,7 @@
 -- Lists of ends and items that tell the same: what is read of a list in parts tells all that the whole does.
 use Rattle.std.proofs.Common.{◌≡◌, ℕ, zero, ◌⊎◌, inl, inr, List, [], ◌∷◌, Option, Some, None, refl, ap, ⊎_elim, arith, Contains, suc, ◌<◌}
 use Rattle.std.proofs.Common.{◌≤◌, true, false, ◌++◌, length, sym, subst, drop, slice_get, take, flat_map, take-append-drop, append_assoc}
-use Rattle.std.proofs.Common.{map, ◌∙◌, All}
+use Rattle.std.proofs.Common.{map, All}
 use Rattle.rk_inv_base.proofs.Words.{cases_eq, Contains-append_right, End, Ended, Held, Contains-append_cases, slice_get_within, Range}
 use Rattle.rk_inv_base.proofs.Words.{Entry, item_end, items_in, items_of, told_by, is_marked, unmarked_from, counts, Written, map-append}
 use Rattle.rk_inv_base.proofs.Words.{flat_map-append, All-contains, All-map, All-weaker, Contains-append_left, told}
@@ -22,9 +22,7 @@ AreTold X = (x y : X) → IsSame x y
 
 -- things that are the same where two parts are
 both : {X Y : Type 0} (x y : X) (a b : Y) → IsSame x y → IsSame a b → ((x ≡ y) × (a ≡ b)) ⊎ (((x ≡ y) × (a ≡ b)) → ⊥)
-both x y a b (inl e) (inl f) = inl (e, f)
-both x y a b (inl e) (inr g) = inr (λ p. g p.1)
-both x y a b (inr g) f = inr (λ p. g p.0)
+both x y a b holds also = grind arith
 
 -- as another thing says it
 as_well : {A B : Type 0} → (A → B) → (B → A) → A ⊎ (A → ⊥) → B ⊎ (B → ⊥)
@@ -56,11 +54,8 @@ numbers_told a b = cases_eq a b
 version_told : (make : ℕ → End) (a b : ℕ) → ((make a ≡ make b) → a ≡ b) → IsSame (make a) (make b)
 version_told make a b inside = as_well (λ (e : a ≡ b). ap make e) inside (numbers_told a b)
 
-pub outcomes_told : AreTold End
-outcomes_told holds also = grind (arith, version_told)
-
 pub ends_told : AreTold Ended
-ends_told a b = grind (arith, both, numbers_told, outcomes_told)
+ends_told a b = grind (arith, both, numbers_told, version_told)
 
 pub items_told : AreTold Held
 items_told a b = go (numbers_told a.table b.table) (numbers_told a.version b.version) (numbers_told a.client b.client)
@@ -251,11 +246,7 @@ module _ (truth rest : List Entry) (before : List (List Entry)) (front part behi
     first = told front;
     behind = told behind;
     after = map told after;
-    split = map-append told before (line ∷ after)
-        ∙ ap (λ (ends : List Ended). map told before ++ ends ∷ map told after)
-        (flat_map-append told_by front (part ++ behind)
-        ∙ ap (λ (ends : List Ended). told front ++ ends) (flat_map-append told_by part behind)
-        ∙ sym (append_assoc (told front) (told part) (told behind)));
+    split = grind (arith, map-append, told, flat_map-append, told_by, append_assoc);
     before_told = All-map (All (Contains (told (truth ++ part)))) told before
         (All-weaker (λ (list : List Entry). AreAmong list (truth ++ part))
         (λ (list : List Entry). All (Contains (told (truth ++ part))) (told list))

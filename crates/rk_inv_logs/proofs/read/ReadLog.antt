@@ -18,6 +18,7 @@ use Rattle.rk_inv_logs.proofs.Words.{cut_groups, all_at, all_groups, main_read, 
 use Rattle.rk_inv_base.proofs.logs.Logs.{first_part_more}
 use Rattle.rk_inv_tablets.proofs.crash.ReadTold.{stands_there}
 use Rattle.rk_entry.specs.declared.entry.Entry.TheVariants as entries
+use Rattle.rk_inv_tablets.proofs.crash.LogRead.{spelled_at, items_at}
 
 -- ---- places
 
@@ -25,10 +26,7 @@ use Rattle.rk_entry.specs.declared.entry.Entry.TheVariants as entries
 pub stands_split : {X : Type 0} (xs ys : List X) (k : ℕ) (x : X) → slice_get (xs ++ ys) k ≡ Some x → (slice_get xs k ≡ Some x) ⊎ ((j : ℕ) × (k ≡ length xs + j) × (slice_get ys j ≡ Some x))
 stands_split [] ys k x at = inr (k, omega arith, at)
 stands_split (y ∷ xs) ys zero x at = inl at
-stands_split (y ∷ xs) ys (suc k) x at = elim (stands_split xs ys k x at) [
-  | inl here ↦ inl here
-  | inr there ↦ let is : k ≡ length xs + there.0 = there.1 in inr (there.0, omega (arith, is), there.2)
-]
+stands_split (y ∷ xs) ys (suc k) x at = grind (arith, (stands_split xs ys k x at))
 
 -- ---- where entries end
 
@@ -40,22 +38,9 @@ pub record EndsAt (segment offset : ℕ) (list : List Entry) (k : ℕ) (end : En
 
 pub end_in : (segment offset : ℕ) (list : List Entry) (k : ℕ) (end : EntryEnd) → slice_get (ends_in segment offset list) k ≡ Some end → EndsAt segment offset list k end
 end_in segment offset [] k end at = absurd (cc at)
-end_in segment offset (entry ∷ list) zero end at =
-    let same : record { segment = segment; offset = offset + length (spelled entry) } ≡ end = cc at in
-    record {
-      segment_is = sym (ap (λ (e : EntryEnd). e.segment) same);
-      offset_is =
-          let is = ap (λ (e : EntryEnd). e.offset) same in
-          omega (arith, is, ap length (spelled_first entry []), length-append (spelled entry) (spelled_all []), ap length spelled_none);
-      within = omega arith;
-    }
+end_in segment offset (entry ∷ list) zero end at = grind (arith, spelled, spelled_first, length-append, spelled_all, spelled_none)
 end_in segment offset (entry ∷ list) (suc k) end at =
-    let later = end_in segment (offset + length (spelled entry)) list k end at in
-    record {
-      segment_is = later.segment_is;
-      offset_is = omega (arith, later.offset_is, ap length (spelled_first entry (take (suc k) list)), length-append (spelled entry) (spelled_all (take (suc k) list)));
-      within = omega (arith, later.within);
-    }
+    grind (arith, spelled, spelled_first, length-append, spelled_all, (end_in segment (offset + length (spelled entry)) list k end at))
 
 pub ends_many : (segment offset : ℕ) (list : List Entry) → length (ends_in segment offset list) ≡ length list
 ends_many segment offset [] = refl
@@ -91,10 +76,6 @@ front_read front behind bytes rest lawful is fits =
 
 -- ---- all segments
 
--- bytes of which some are a first part are some
-front_some : (bytes all more : List ℕ) → all ≡ bytes ++ more → 1 ≤ length bytes → 0 < length all
-front_some bytes all more is some = omega (arith, some, ap length is, length-append bytes more)
-
 module _ (reach : ℕ → ℕ) (stored : ℕ → List ℕ) where
   -- of a segment that spells a group
   module _ (first : ℕ) (group read : List Entry) (lawful : All IsLawfulEntry group) (part : IsPartRead reach stored first group read) where
@@ -124,9 +105,7 @@ module _ (reach : ℕ → ℕ) (stored : ℕ → List ℕ) where
 
   -- a segment that is reached has bytes stored
   reached_some : (segment : ℕ) (group read : List Entry) → IsPartRead reach stored segment group read → 0 < reach segment → stored segment ≡ [] → ⊥
-  reached_some segment group read part some none =
-      let there = front_some part.bytes (stored segment) part.front.more part.front.parts (omega (arith, some, part.enough)) in
-      omega (arith, there, ap length none)
+  reached_some segment group read part some none = grind (arith, length-append)
 
   -- of all segments
   pub reached : (first : ℕ) (groups main : List (List Entry)) → All (All IsLawfulEntry) groups → ArePartsRead reach stored first groups main → ((n : ℕ) → n < first + length main → is_main n ≡ true) → (place : ℕ) (end : EntryEnd) → slice_get (group_ends first groups) place ≡ Some end → 1 ≤ end.offset → end.segment < first + length main → end.offset ≤ reach end.segment → place < length (flat_map (λ list. list) main)
@@ -171,21 +150,7 @@ whole_part whole bytes (x ∷ more) is enough = absurd (omega (arith, enough, ap
 
 -- the segments that an entry names for a range are among those that it names
 pub named_in : (range : Range) (entry : Entry) (n : ℕ) → Contains (named_by range entry) n → Contains (segments_in entry) n
-named_in range (entries.Joined joined) n = cond_both (meets joined.range range) joined.segments []
-    (λ numbers. Contains numbers n → Contains joined.segments n) (λ e at. at) (λ e at. absurd (omega (arith, at.1)))
-named_in range _ n = λ at. at
-
--- ---- bytes of groups
-
-spelled_at : (groups : List (List Entry)) (k : ℕ) → get_or (map spelled_all groups) k [] ≡ spelled_all (get_or groups k [])
-spelled_at [] k = sym spelled_none
-spelled_at (group ∷ groups) zero = refl
-spelled_at (group ∷ groups) (suc k) = spelled_at groups k
-
-items_at : (sides : List (List Held)) (k : ℕ) → get_or (map (λ (items : List Held). spelled_all (as_entries items)) sides) k [] ≡ spelled_all (as_entries (get_or sides k []))
-items_at [] k = sym spelled_none
-items_at (items ∷ sides) zero = refl
-items_at (items ∷ sides) (suc k) = items_at sides k
+named_in range entry n = grind (arith, cond_both, meets)
 
 module _ (log : Log) (w : Written) (stored : ℕ → ℕ → List ℕ) (kept : IsLog log w stored) (backed : IsBackup log READ_BACKUP) (few : length (cut log.entries) < FIRST_SIDE_SEGMENT) where
   abbrev its : ℕ → List ℕ
@@ -393,6 +358,4 @@ module _ (log : Log) (w : Written) (stored : ℕ → ℕ → List ℕ) (kept : I
 
 -- of a member of which nothing is left to read the main segments are passed, and no side segment is left
 pub none_left : (range : Range) (gathered : Gathered) → next_segment range gathered ≡ None → (gathered.main_read ≡ true) × (next_side range gathered ≡ None)
-none_left range gathered = cond_both gathered.main_read (next_side range gathered) (Some (length gathered.main + 1))
-    (λ (next : Option ℕ). next ≡ None → (gathered.main_read ≡ true) × (next_side range gathered ≡ None)) (λ e none. (e, none))
-    (λ e none. absurd (cc none))
+none_left range gathered = grind (arith, cond_both, main_read, next_side)

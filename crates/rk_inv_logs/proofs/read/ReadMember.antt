@@ -36,11 +36,7 @@ module _ (marks : List Mark) where
   unmarked_split : (start n : ℕ) (list : List Entry) → unmarked marks start list ≡ unmarked marks start (take n list) ++ unmarked marks (start + n) (drop n list)
   unmarked_split start zero list = let same : start ≡ start + 0 = omega arith in ap (λ (k : ℕ). unmarked marks k list) same
   unmarked_split start (suc n) [] = refl
-  unmarked_split start (suc n) (entry ∷ list) =
-      let same : suc start + n ≡ start + suc n = omega arith in
-      let later = rw same at (unmarked_split (suc start) n list) in
-      elim (cases_Bool (is_marked marks start))
-      [ inl marked ↦ rw marked later | inr free ↦ rw free (ap (λ (l : List Entry). entry ∷ l) later) ]
+  unmarked_split start (suc n) (entry ∷ list) = grind (arith, cases_Bool, is_marked, (unmarked_split (suc start) n list))
 
   -- from a place on up to another, and from there on
   pub from_split : (from n : ℕ) (list : List Entry) → unmarked_from marks from list ≡ unmarked_from marks from (take n list) ++ unmarked_from marks (max from n) list
@@ -145,17 +141,15 @@ module _ (marks : List Mark) where
   pub counted_split : (range : Range) (start : ℕ) (list : List Entry) → StandBefore range start list → counting range list ≡ counting range (unmarked marks start list) ++ counting range (marked_entries marks start list)
   counted_split range start [] before = refl
   counted_split range start (entry ∷ list) before =
-      let later = counted_split range (suc start) list (stand_later range start entry list before) in
-      elim (cases_Bool (counts range entry)) [
-        | inl inside ↦ elim (cases_Bool (is_marked marks start)) [
-          | inl marked ↦
-              let none = none_free range start entry list before inside marked in
-              rw (marked, inside, none) (ap (λ (l : List Entry). entry ∷ l) (rw none at later))
-          | inr free ↦ rw (free, inside) (ap (λ (l : List Entry). entry ∷ l) later)
-        ]
-        | inr outside ↦
-            elim (cases_Bool (is_marked marks start)) [ inl marked ↦ rw (marked, outside) later | inr free ↦ rw (free, outside) later ]
-      ]
+      grind (
+        arith,
+        stand_later,
+        cases_Bool,
+        counts,
+        is_marked,
+        none_free,
+        (counted_split range (suc start) list (stand_later range start entry list before)),
+      )
 
 -- ---- what counts of entries of a log
 
@@ -202,9 +196,8 @@ unmarked_grow marks from old new grown =
 
 -- so what their side segments have
 pub side_grow : (range : Range) (from : ℕ) (w : Written) (old new : List Entry) → Extends old new → (entry : Entry) → Contains (side_part range from w old) entry → Contains (side_part range from w new) entry
-side_grow range from w old new grown entry at = still_contains (side_part range from w old) (side_part range from w new) entry
-    (sides_extend range (side_entries w.sides) (unmarked_from w.marks from old) (unmarked_from w.marks from new)
-    (unmarked_grow w.marks from old new grown)) at
+side_grow range from w old new grown entry at =
+    search (still_contains, sides_extend, side_entries, unmarked_from, unmarked_grow, w.sides, w.marks)
 
 pub free_grow : (range : Range) (from : ℕ) (w : Written) (old new : List Entry) → Extends old new → (entry : Entry) → Contains (free_part range from w old) entry → Contains (free_part range from w new) entry
 free_grow range from w old new grown entry at =

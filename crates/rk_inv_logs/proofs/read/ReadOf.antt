@@ -92,9 +92,7 @@ module _ (v : View) (t : Taken v) where
 
   -- what the row says of its master
   rebuilt : RowIsRebuilt t.row (Rebuilding t.lineage t.to) (truths v t.row) v.logs v.written v.stored v.handovers v.completions v.gathers v.merged v.records v.live
-  rebuilt =
-      in_phase (λ (p : Phase). RowIsRebuilt t.row p (truths v t.row) v.logs v.written v.stored v.handovers v.completions v.gathers v.merged v.records v.live)
-      its_row.rebuilt
+  rebuilt = grind (arith, in_phase, truths, its_row)
 
   pub rebuilder : IsRebuilderIn v.logs v.written v.stored t.row t.lineage t.to (truths v t.row) (v.handovers t.to t.row.tablet) (v.completions t.to t.row.tablet) (v.gathers t.to t.row.tablet) (v.merged t.to t.row.tablet) (v.records t.to)
   rebuilder = rebuilt.0 t.may.term_is
@@ -173,9 +171,7 @@ before_piece range w mark from entry some last is inside = elim (cases_lt is.pla
 
 -- a place that a mark covers is marked
 marked_here : (marks : List Mark) (mark : Mark) (place : ℕ) → Contains marks mark → mark.first ≤ place → place < mark.past → is_marked marks place ≡ true
-marked_here marks mark place at from before = list_any_at (λ (m : Mark). nat_le m.first place && nat_lt place m.past) marks at.0 mark at.1
-    (ap (λ (m : Mark). nat_le m.first place && nat_lt place m.past) at.2
-    ∙ and_from (nat_le mark.first place) (nat_lt place mark.past) (le-leb mark.first place from) (lt-ltb place mark.past before))
+marked_here marks mark place at from before = grind (arith, list_any_at, nat_le, nat_lt, and_from, le-leb, lt-ltb)
 
 module _ (v : View) (sound : SoundView v) (readable : AreReadable v.logs v.written) (row : Row) (has : Contains v.rows row) (some : row.range.first ≤ row.range.last) (gathered : Gathered) where
   abbrev m : Member

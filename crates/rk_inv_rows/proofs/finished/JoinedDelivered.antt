@@ -1,19 +1,18 @@
 -- A Joined that is taken finishes a migration: what its target has is the records of the source overlaid by its own writes, and the
 -- coordinator gives it the row.
 use Rattle.std.proofs.Common.{◌≡◌, ℕ, ◌+◌, ◌-◌, ◌≤◌, ◌<◌, true, List, [], Some, ◌⊎◌, refl, sym, ap, ◌∙◌, ⊎_elim, arith, inl, inr, length}
-use Rattle.std.proofs.Common.{min, drop, filter, slice_get, take, Contains, flat_map, length-take, ◌&&◌, eqb, leb, ◌++◌, subst, append-nil}
-use Rattle.std.proofs.Common.{Bool, false, cond, ◌∷◌, Option, None, Ok, eq-eqb}
+use Rattle.std.proofs.Common.{min, drop, filter, slice_get, take, Contains, flat_map, length-take, eqb, leb, ◌++◌, subst, append-nil, false}
+use Rattle.std.proofs.Common.{◌∷◌, Option, None, Ok, eq-eqb}
 use Rattle.rk_inv_base.proofs.Words.{cases_lt, drop-take, drop_all, All-contains, Contains-append_cases, Contains-append_left, Held, Range}
 use Rattle.rk_inv_base.proofs.Words.{Entry, is_in, none_stands, items_in, items_of, is_marked, unmarked, unmarked_from, counting, counts}
 use Rattle.rk_inv_base.proofs.Words.{log_material, named, named_by, side_entries, Mark, marked_entries, nat_tests, flat_map-append}
-use Rattle.rk_inv_base.proofs.Words.{Contains-append_right, hash_of, has, Member, lineage_of, Phase, Moving, Rebuilding, Row, live, IsPlain}
+use Rattle.rk_inv_base.proofs.Words.{Contains-append_right, hash_of, Member, lineage_of, Phase, Moving, Rebuilding, Row, live, IsPlain}
 use Rattle.rk_inv_base.proofs.Words.{Written, applied_entries, lineage_truth, member_truth, MayTakeJoined, NamedFit, entries_from}
 use Rattle.rk_inv_base.proofs.Words.{named_items, IsTruth, View, SoundView, get, Node, lawful_turned, changed_rows, row_of, Owned, Body}
-use Rattle.rk_inv_base.proofs.Words.{Message, Called, Gave, is_noticed, row_tenure, Coordinated, about, answered, at_term, coordinator_step}
-use Rattle.rk_inv_base.proofs.Words.{joined_in, own_to, release_to, row_for, row_owned, told_coordinator, unanswered, with_rebuilt, refusal}
-use Rattle.rk_inv_base.proofs.Words.{Stepped, delivered, delivered_to, happened, step, stepped_by, with_sends, World, with_coordinator}
-use Rattle.rk_inv_base.proofs.Words.{with_ledger, written_in, StepError, Event, ByMaster, HasJoined, IsOf, JoinedIn, SaysOf, row_at, view}
-use Rattle.rk_inv_base.proofs.Words.{IsSound}
+use Rattle.rk_inv_base.proofs.Words.{Message, Called, Gave, is_noticed, row_tenure, Coordinated, about, answered, at_term, joined_in}
+use Rattle.rk_inv_base.proofs.Words.{own_to, release_to, row_for, row_owned, told_coordinator, unanswered, with_rebuilt, refusal, Stepped}
+use Rattle.rk_inv_base.proofs.Words.{delivered, delivered_to, happened, step, stepped_by, with_sends, World, with_coordinator, with_ledger}
+use Rattle.rk_inv_base.proofs.Words.{written_in, StepError, Event, ByMaster, HasJoined, IsOf, JoinedIn, SaysOf, row_at, view, IsSound}
 use Rattle.rk_inv_rows.proofs.Words.{behind_at, place_of, filter_from, filter_stands, material_in, IsFinished, marks_none, SoundRow, row_in}
 use Rattle.rk_inv_rows.proofs.Words.{Finishes, own_entries, found_stands, new_stands, stands_found}
 use Rattle.rk_inv_rows.proofs.lineage.Among.{flat_among, from_flat, kept_among, number_from, number_to, taken_from, to_flat}
@@ -91,10 +90,7 @@ module _ (range : Range) (marks : List Mark) (sides : List (List Held)) (from ap
 
   -- where nothing that is marked counts, the own entries do
   own_counts : counting range (marked_entries marks from (drop from list)) ≡ [] → counting range kept ≡ own_ones
-  own_counts none =
-      let part : drop from front ≡ take (applied - from) (drop from list) = first_part from applied list in
-      ap (λ (l : List Entry). counting range (unmarked marks from l)) part ∙ taken_counts range marks from (applied - from) (drop from list) none
-      ∙ ap (counting range) (sym part)
+  own_counts none = search (first_part, counting, unmarked, taken_counts)
 
   pub own_stands : counting range (marked_entries marks from (drop from list)) ≡ [] → (item : Held) → Contains (items_of own_ones) item
       → Contains (items_of (log_material range marks sides from front)) item
@@ -163,9 +159,7 @@ module _ (v : View) (row : Row) (source target : Member) (sound : SoundView v) (
   -- ---- records
 
   was : IsTruth v.base row.range (of_source ++ (of_target ++ [])) v.journal
-  was =
-      subst (λ (p : Phase). IsTruth v.base row.range (lineage_truth v.base v.written row.range (lineage_of p)) v.journal) may.phase_is
-      row_was.truth
+  was = grind (arith, lineage_truth, lineage_of, row_was)
 
   now : IsTruth v.base row.range (of_target ++ []) v.journal
   now = (history v row source.master source.from target.master target.from sound some may).leaves
@@ -183,19 +177,11 @@ module _ (v : View) (row : Row) (source target : Member) (sound : SoundView v) (
       ∙ sym (was.live table key inside) ∙ ap (λ (l : List Held). live l table key) both_are ∙ live_alike both overlaid plain same table key
       ∙ sym (live_of_overlay (items_of of_source) (items_of own) table key)
 
--- a range that has a key is not empty
-has_some : (range : Range) (table hash : ℕ) → has range table hash ≡ true → range.first ≤ range.last
-has_some range table hash inside = go range.table range.first range.last inside
-  where
-    go : (t f l : ℕ) → (eqb t table && leb f hash && leb hash l) ≡ true → f ≤ l
-    go t f l inside = grind (arith, nat_tests)
-
 -- of an empty range there is nothing to tell
 pub finished : (v : View) (row : Row) (source target : Member) → SoundView v → MayTakeJoined v row source.master source.from target.master target.from
     → IsFinished row.range (member_truth v.written row.range source) (member_truth v.written row.range target)
     (entries_from row.range target.from (applied_entries (v.written target.master)))
-finished v row source target sound may table key inside =
-    leaves v row source target sound (has_some row.range table (hash_of key) inside) may table key inside
+finished v row source target sound may table key inside = grind (arith, leaves, hash_of, eqb, leb, nat_tests, row.range)
 
 -- an event that is not refused happened
 pub happened_is : (w : World) (event : Event) (called : Called) (stepped : Stepped) (refused : Option StepError) → stepped_by w event called refused ≡ Ok stepped
@@ -243,20 +229,13 @@ module _ (w : World) (number : ℕ) (message : Message) (row : Row) (source targ
   taken = answered (row_owned w.coordinator row target.master target.from) (own_to target.master row ∷ release_to source.master row ∷ [])
 
   row_is : row_for w.coordinator target.master (row_tenure row) ≡ Some row
-  row_is =
-      ap (λ (noticed : Bool). cond noticed None (at_term (row_tenure row) (row_of w.coordinator.rows row.tablet))) heard
-      ∙ ap (at_term (row_tenure row)) found ∙ ap (λ (same : Bool). cond same (Some row) None) (eq-eqb row.term row.term refl)
-
-  taken_is : coordinator_step w.coordinator message ≡ taken
-  taken_is = grind (arith, told_coordinator, is_told, about, joined_in, row_is, unanswered, eq-eqb)
+  row_is = grind (arith, at_term, row_tenure, row_of, same, eq-eqb)
 
   abbrev coordinated : Coordinated → Stepped
   coordinated made = with_sends (with_ledger (with_coordinator w made.coordinator) (with_rebuilt w.ledger made.rebuilt)) made.sends
 
   delivered_is : happened w (events.Deliver number) (Gave None) ≡ coordinated taken
-  delivered_is =
-      ap (λ (m : Option Message). delivered w m (Gave None)) there ∙ ap (λ (to : Node). delivered_to w message to (Gave None)) for_coordinator
-      ∙ ap coordinated taken_is
+  delivered_is = grind (arith, delivered, delivered_to, told_coordinator, is_told, about, joined_in, row_is, unanswered, eq-eqb)
 
   -- ---- the row after it
 

@@ -1,14 +1,13 @@
 -- A row that moves comes to be owned by one event alone: the delivery of the Joined of its target.
-use Rattle.std.proofs.Common.{arith}
-use Rattle.std.proofs.Common.{◌≡◌, ◌+◌, ℕ, false, cond, List, Option, Some, None, ◌⊎◌, refl, sym, ap, ◌∙◌, ⊎_elim, inl, inr, Ok, is_some}
-use Rattle.std.proofs.Common.{Contains, option_map}
+use Rattle.std.proofs.Common.{arith, ◌≡◌, ◌+◌, ℕ, false, cond, List, Option, Some, None, ◌⊎◌, refl, sym, ap, ◌∙◌, ⊎_elim, inl, inr, Ok}
+use Rattle.std.proofs.Common.{is_some, Contains, option_map}
 use Rattle.rk_inv_base.proofs.Words.{cond_both, false≢true, All-contains, option_or, get, Member, Node, Range, Segments, number_of}
-use Rattle.rk_inv_base.proofs.Words.{add_fault, divided, lower_part, placed, replaced, row_of, upper_part, Phase, Moving, Owned}
-use Rattle.rk_inv_base.proofs.Words.{Row, Message, Backed, Called, backup_step, stored_after, Coordinator, new_row, coordinator_step}
-use Rattle.rk_inv_base.proofs.Words.{told_coordinator, is_added, with_client, master_step, migrating, row_migrated, notice_order, fault_of}
-use Rattle.rk_inv_base.proofs.Words.{refusal, where_true, worn, rows_split_of, Stepped, backed_at, delivered, delivered_to, happened}
-use Rattle.rk_inv_base.proofs.Words.{log_bytes_of, losing, quietly, seen_in, sent_again, step, turned, with_sends, worked_at, World}
-use Rattle.rk_inv_base.proofs.Words.{has_crashed, is_backup, master_at, with_ledger, with_stored_by, Event, IsSound}
+use Rattle.rk_inv_base.proofs.Words.{add_fault, divided, lower_part, placed, replaced, row_of, upper_part, Phase, Moving, Owned, Row}
+use Rattle.rk_inv_base.proofs.Words.{Message, Backed, Called, Coordinator, new_row, coordinator_step, told_coordinator, is_added}
+use Rattle.rk_inv_base.proofs.Words.{with_client, master_step, migrating, row_migrated, notice_order, fault_of, refusal, where_true, worn}
+use Rattle.rk_inv_base.proofs.Words.{rows_split_of, Stepped, backed_at, delivered, delivered_to, happened, losing, seen_in, sent_again}
+use Rattle.rk_inv_base.proofs.Words.{step, turned, with_sends, worked_at, World, has_crashed, master_at, with_ledger, with_stored_by, Event}
+use Rattle.rk_inv_base.proofs.Words.{IsSound}
 use Rattle.rk_inv_rows.proofs.Words.{cut_fault, split_fault, split_rows, Taken, tablet_split_fault_by, tablet_split_fault_of, all_with}
 use Rattle.rk_inv_rows.proofs.Words.{found_stands, stood}
 use Rattle.rk_types.specs.declared.node.Node.TheVariants as nodes
@@ -148,20 +147,9 @@ module _ (w : World) (row : Row) (source target : Member) (sound : IsSound w) (f
   to_node number message called there (nodes.Client client) to = inl as_before
   to_node number message called there nodes.Coordinator to = to_coordinator number message there to
   to_node number message called there (nodes.Master master) to =
-      inl
-      (cond_both (has_crashed w master) (losing w)
-      (worked_at w master (seen_in message.body) (master_step (master_at w master) message)) (λ s. Stays s.world) (λ e. as_before)
-      (λ e. as_before))
+      grind (arith, cond_both, has_crashed, losing, worked_at, seen_in, master_step, master_at, as_before, message.body)
   to_node number message called there (nodes.Backup backup) to =
-      let store : Segments → Segments = λ segments. stored_after segments message.from message.body called in
-      inl
-      (cond_both (is_backup w backup)
-      (backed_at (with_stored_by w backup store (get w.backups backup))
-      (backup_step backup message.from message.body (log_bytes_of w) called)) (quietly w) (λ s. Stays s.world)
-      (λ e.
-      backed (with_stored_by w backup store (get w.backups backup))
-      (backup_step backup message.from message.body (log_bytes_of w) called) (stored_by backup store (get w.backups backup)))
-      (λ e. as_before))
+      grind (arith, stored_by, as_before, message.from, message.body)
 
   deliver : (number : ℕ) (called : Called) → Leaves (events.Deliver number) (happened w (events.Deliver number) called).world
   deliver number called = go (get w.wire.messages number) refl
@@ -181,16 +169,13 @@ module _ (w : World) (row : Row) (source target : Member) (sound : IsSound w) (f
 
   event_leaves : (event : Event) (called : Called) → refusal w event ≡ None → Leaves event (happened w event called).world
   event_leaves (events.AddTablet tablet range master) called none = inl (added tablet range master none)
-  event_leaves (events.AddClient client) called none =
-      inl
-      (cond_both (is_added w.ledger client) w (with_ledger w (with_client w.ledger client)) Stays (λ e. as_before) (λ e. as_before))
+  event_leaves (events.AddClient client) called none = grind (arith, cond_both, is_added, with_ledger, with_client, as_before)
   event_leaves (events.Deliver number) called none = deliver number called
   event_leaves (events.Turn node) called none = inl (turn node)
   event_leaves (events.Again client) called none = inl (again (get w.ledger.requests client))
   event_leaves (events.Migrate tablet to) called none = inl (migrated tablet to)
   event_leaves (events.Split tablet at new) called none = inl (split tablet at new none)
-  event_leaves (events.Notice master) called none =
-      inl (unowned_all_noticed row.tablet coordinator (notice_order coordinator.rows master _) as_before)
+  event_leaves (events.Notice master) called none = grind (arith, unowned_all_noticed, notice_order, as_before)
   event_leaves _ called none = inl as_before
 
   pub only_joined : (event : Event) (called : Called) (stepped : Stepped) (now : Row) (owner from : ℕ) → step w event called ≡ Ok stepped

@@ -1,7 +1,6 @@
 -- What the coordinator makes of its rows: a row that moves comes to be owned by nothing but the Joined of its target.
-use Rattle.std.proofs.Common.{arith}
-use Rattle.std.proofs.Common.{◌≡◌, ◌==◌, ℕ, Bool, true, false, cond, eqb, List, [], ◌∷◌, Option, Some, None, ◌⊎◌, ◌++◌, refl, sym, ap}
-use Rattle.std.proofs.Common.{subst, ◌∙◌, ⊎_elim, inl, inr, fold, IfSome, All, Contains, eq-eqb, eqb-true}
+use Rattle.std.proofs.Common.{arith, ◌≡◌, ◌==◌, ℕ, Bool, true, false, cond, eqb, List, [], ◌∷◌, Option, Some, None, ◌⊎◌, ◌++◌, refl, sym}
+use Rattle.std.proofs.Common.{ap, subst, ◌∙◌, ⊎_elim, inl, inr, fold, IfSome, All, Contains, eq-eqb, eqb-true}
 use Rattle.rk_inv_base.proofs.Words.{cases_Bool, cond_both, false≢true, All-contains, All-map, Member, number_of, IsTabletMap, changed_rows}
 use Rattle.rk_inv_base.proofs.Words.{replaced, row_of, Phase, Moving, Owned, Rebuilding, Row, Ready, Tenure, Transfer, Body}
 use Rattle.rk_inv_base.proofs.Words.{Rebuilt, Coordinator, is_noticed, row_tenure, Coordinated, about, answered, at_term, joined_in, own_to}
@@ -110,8 +109,7 @@ module _ (coordinator : Coordinator) (row : Row) (source target : Member) (apart
       let moves : Rebuilding lineage to ≡ Moving source.master source.from target.master target.from = sym is ∙ phase_of r at same in
       absurd (cc moves)))
       (λ e. unowned)
-  rebuilt_stays sender rebuilt r at (Owned owner from) is =
-      cond_both (sender == owner) (answered coordinator (own_to owner r ∷ [])) (unanswered coordinator) Stays (λ e. unowned) (λ e. unowned)
+  rebuilt_stays sender rebuilt r at (Owned owner from) is = grind (arith, cond_both, answered, own_to, unanswered, unowned)
   rebuilt_stays sender rebuilt r at _ is = unowned
 
   -- what was told of a row at its term
@@ -169,9 +167,7 @@ module _ (coordinator : Coordinator) (row : Row) (source target : Member) (apart
       cond_both (sender == taker) (answered (row_owned coordinator r taker tfrom) (own_to taker r ∷ release_to giver r ∷ [])) (unanswered coordinator)
       (λ made. Stays made ⊎ IsJoined sender (bodies.Joined tenure)) (λ e. joined_moving sender tenure r its giver gfrom taker tfrom is (eqb-true sender taker e))
       (λ e. inl unowned)
-  joined_stays sender tenure r its (Owned owner from) is =
-      cond_both (sender == owner) (answered coordinator (own_to owner r ∷ [])) (unanswered coordinator)
-      (λ made. Stays made ⊎ IsJoined sender (bodies.Joined tenure)) (λ e. inl unowned) (λ e. inl unowned)
+  joined_stays sender tenure r its (Owned owner from) is = grind (arith, cond_both, answered, own_to, unanswered, unowned)
   joined_stays sender tenure r its _ is = inl unowned
 
   -- what a master sent
@@ -181,8 +177,7 @@ module _ (coordinator : Coordinator) (row : Row) (source target : Member) (apart
   reported sender (bodies.Transfer transfer) =
       about_row sender transfer.tenure (λ r. transfer_in coordinator sender transfer r r.phase) _
       (λ r its. inl (transfer_stays sender transfer r r.phase))
-  reported sender (bodies.Joined tenure) =
-      about_row sender tenure (λ r. joined_in coordinator sender r r.phase) _ (λ r its. joined_stays sender tenure r its r.phase refl)
+  reported sender (bodies.Joined tenure) = search (about_row, joined_in, joined_stays)
   reported sender (bodies.Rebuilt rebuilt) =
       about_row sender rebuilt.tenure (λ r. rebuilt_in coordinator sender rebuilt r r.phase) _
       (λ r its. inl (rebuilt_stays sender rebuilt r its.stands r.phase refl))

@@ -6,19 +6,13 @@ use Rattle.rk_entry.specs.declared.entry.Entry.TheVariants as entries
 
 -- a floor is raised to no more than what the entry alone raises one to
 step_within : (floor bound : ℕ) (entry : Entry) → floor ≤ bound → floor_by 1 entry ≤ bound → floor_by floor entry ≤ bound
-step_within floor bound (entries.Refused refused) low one = low
-step_within floor bound (entries.Joined joined) low one = low
-step_within floor bound _ low one = omega (arith, low, one)
+step_within floor bound entry low one = grind arith
 
 step_least : (floor : ℕ) (entry : Entry) → 1 ≤ floor → floor_by 1 entry ≤ floor_by floor entry
-step_least floor (entries.Refused refused) least = least
-step_least floor (entries.Joined joined) least = least
-step_least floor _ least = omega (arith, least)
+step_least floor entry least = grind arith
 
 step_keeps : (floor : ℕ) (entry : Entry) → 1 ≤ floor → 1 ≤ floor_by floor entry
-step_keeps floor (entries.Refused refused) least = least
-step_keeps floor (entries.Joined joined) least = least
-step_keeps floor _ least = omega (arith, least)
+step_keeps floor entry least = grind arith
 
 within_from : (floor bound : ℕ) (list : List Entry) → floor ≤ bound → ((entry : Entry) → Contains list entry → floor_by 1 entry ≤ bound) → fold floor_by floor list ≤ bound
 within_from floor bound [] low each = low

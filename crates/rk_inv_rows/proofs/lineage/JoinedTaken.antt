@@ -1,6 +1,6 @@
 -- The target of a row that moves owns it, once its closing entry is applied: what counts of its log tells all of the row, and the view
 -- stays sound.
-use Rattle.std.proofs.Common.{◌≡◌, ℕ, ◌≤◌, ◌<◌, true, List, [], ◌∷◌, ◌++◌, Option, Some, refl, sym, ap, subst, ◌∙◌, ⊎_elim, arith, inl, inr}
+use Rattle.std.proofs.Common.{◌≡◌, ℕ, ◌≤◌, ◌<◌, true, List, [], ◌∷◌, ◌++◌, Option, Some, sym, ap, subst, ◌∙◌, ⊎_elim, arith, inl, inr}
 use Rattle.std.proofs.Common.{append-nil, append_assoc, All, IfSome, drop, max, take, Contains, flat_map, option_map, slice_index_or, Bool}
 use Rattle.std.proofs.Common.{false, cond, eqb, eqb-true}
 use Rattle.rk_inv_base.proofs.Words.{false≢true, flat_map-append, All-contains, Contains-append_cases, Contains-append_left}
@@ -9,12 +9,11 @@ use Rattle.rk_inv_base.proofs.Words.{Role, lineage_of, Phase, Moving, Rebuilding
 use Rattle.rk_inv_base.proofs.Words.{items_in, items_of, told, told_by, unmarked_from, counts, joined_from, of_key, side_entries, tells_of}
 use Rattle.rk_inv_base.proofs.Words.{floor_of, has_all, Pulling, Written, applied_entries, lineage_rest, lineage_truth, member_material}
 use Rattle.rk_inv_base.proofs.Words.{member_rest, member_truth, TellAll, AreAboveMap, beginning_in, target_truth, HasJoined, MayTakeJoined}
-use Rattle.rk_inv_base.proofs.Words.{HandedFits, HasArrived, HasClosing, IsOutdone, IsReceived, IsTarget, MembersFit, before_closing}
-use Rattle.rk_inv_base.proofs.Words.{beginning_of, closing_joined, copied_items, entries_from, is_granted, joined_place, scan_items}
-use Rattle.rk_inv_base.proofs.Words.{FirstIsDone, KeepTerm, IsTableOf, View, truths, rests, SoundView, IsKnown, Call, All-tail, is_serving}
-use Rattle.rk_inv_base.proofs.Words.{Owned, last_of, World, HasSome, row_at, Bystander, MovingSource, MovingTarget, Owner, Post, Holds}
-use Rattle.rk_inv_base.proofs.Words.{StillCounts, bond_of, post_of, speaks, RoleFits, IsPlaced, HasItems, has_all_items, view, IsSound}
-use Rattle.rk_inv_base.proofs.Words.{has_key}
+use Rattle.rk_inv_base.proofs.Words.{HasArrived, HasClosing, IsOutdone, IsReceived, IsTarget, before_closing, beginning_of, closing_joined}
+use Rattle.rk_inv_base.proofs.Words.{copied_items, entries_from, is_granted, joined_place, scan_items, KeepTerm, IsTableOf, View, truths}
+use Rattle.rk_inv_base.proofs.Words.{rests, SoundView, IsKnown, Call, All-tail, Owned, last_of, World, HasSome, row_at, Bystander}
+use Rattle.rk_inv_base.proofs.Words.{MovingSource, MovingTarget, Owner, Post, Holds, StillCounts, bond_of, post_of, speaks, RoleFits}
+use Rattle.rk_inv_base.proofs.Words.{IsPlaced, HasItems, has_all_items, view, IsSound, has_key}
 use Rattle.rk_inv_rows.proofs.Words.{member as member_at, all_by, marks_none, TellHistory, SoundRow, row_in, MayTakeLineage, MembersAgree}
 use Rattle.rk_inv_rows.proofs.Words.{lineage_taken, row_owned_in}
 use Rattle.rk_sound.specs.Receives.{IsClosedAt}
@@ -36,26 +35,7 @@ pub record JoinedAt (role : Role) (applied : ℕ) : Type 0 where
   pub role_is : role ≡ roles.Joining (Some place)
   pub within : place < applied
 
-pub joined_at : (role : Role) (applied : ℕ) → HasJoined role applied → JoinedAt role applied
-joined_at (roles.Joining (Some place)) applied joined = record { place = place; role_is = refl; within = joined }
-joined_at _ applied joined = absurd joined
-
 -- ---- posts
-
--- a source that gave the tablet away has nothing to do with it
-source_rests : (role : Role) (term own applied : ℕ) → Holds (bond_of MovingSource role) term own applied → Holds (bond_of Bystander role) term own applied
-source_rests roles.Frozen term own applied fits = let same : own ≡ term = fits in omega (arith, same)
-source_rests _ term own applied fits = absurd fits
-
--- a target that has joined owns it
-target_owns : (role : Role) (place term own applied : ℕ) → HasJoined role applied → own ≡ term → Holds (bond_of (Owner place) role) term own applied
-target_owns (roles.Joining (Some entry)) place term own applied joined same = (same, joined)
-target_owns _ place term own applied joined same = absurd joined
-
--- it answered calls before
-joined_serves : (role : Role) (applied : ℕ) → HasJoined role applied → is_serving role ≡ true
-joined_serves (roles.Joining (Some entry)) applied joined = refl
-joined_serves _ applied joined = absurd joined
 
 module _ (v : View) (row : Row) (source sfrom target dfrom : ℕ) (sound : SoundView v) (some : row.range.first ≤ row.range.last) (may : MayTakeJoined v row source sfrom target dfrom) where
   abbrev moving : Phase
@@ -86,7 +66,7 @@ module _ (v : View) (row : Row) (source sfrom target dfrom : ℕ) (sound : Sound
   -- ---- the target
 
   at : JoinedAt taker.role w.applied
-  at = joined_at taker.role w.applied may.joined
+  at = grind arith
 
   in_role : (P : Role → Type 0) → P taker.role → P (roles.Joining (Some at.place))
   in_role P = subst P at.role_is
@@ -95,9 +75,7 @@ module _ (v : View) (row : Row) (source sfrom target dfrom : ℕ) (sound : Sound
   range_is = range_at v sound row may.has_row target may.term_is
 
   target_is : IsTarget row.range source (member_truth v.written row.range first) (member_material v.written row.range first) dfrom w taker pulling (get v.handed row.tablet) (v.records target)
-  target_is =
-      in_phase (λ p. MembersFit row v.written v.handovers v.pullings v.records v.handed (lineage_of p)) row_was.target
-      (ap is_granted at.role_is)
+  target_is = grind (arith, in_phase, lineage_of, row_was, is_granted, at)
 
   abbrev closing : Joined
   closing = record { range = taker.range; term = taker.term; segments = pulling.sealed }
@@ -171,9 +149,7 @@ module _ (v : View) (row : Row) (source sfrom target dfrom : ℕ) (sound : Sound
       kept_among (counts row.range) (drop dfrom (applied_entries w)) (drop dfrom w.entries) (λ e. first_stand dfrom w.applied w.entries e) entry
 
   done : member_material v.written row.range first ≡ from_source
-  done =
-      (in_phase (λ p. FirstIsDone v.written row.range (lineage_of p))
-      row_was.done).all
+  done = grind (arith, in_phase, lineage_of, row_was)
 
   -- an item of its own is above each of the source's
   above_source : (x y : Held) → Contains (items_of (entries_from row.range dfrom w.entries)) x → Contains (items_of from_source) y → y.version < x.version
@@ -273,14 +249,10 @@ module _ (v : View) (row : Row) (source sfrom target dfrom : ℕ) (sound : Sound
       })
 
   live_now : (table : ℕ) (key : List ℕ) → live (items_of now_truth) table key ≡ live (items_of old_truth) table key
-  live_now table key =
-      live_over (items_of from_source) (scan_items from_source) own copies (items_of now_truth) takes_applied both_now plain_old table key
-      ∙ ap (λ (l : List Held). live l table key) (sym (flat_map-append items_in from_source now_truth))
+  live_now table key = grind (arith, live_over, items_of, scan_items, takes_applied, both_now, plain_old, live, flat_map-append, items_in)
 
   live_with : (table : ℕ) (key : List ℕ) → live (items_of (now_truth ++ rest)) table key ≡ live (items_of (old_truth ++ rest)) table key
-  live_with table key =
-      live_over (items_of from_source) (scan_items from_source) all_own copies (items_of (now_truth ++ rest)) takes both_with plain_with table key
-      ∙ ap (λ (l : List Held). live l table key) (sym items_with)
+  live_with table key = grind (arith, live_over, items_of, scan_items, takes, both_with, plain_with, live, items_with)
 
   -- ---- what the source told
 
@@ -291,9 +263,7 @@ module _ (v : View) (row : Row) (source sfrom target dfrom : ℕ) (sound : Sound
   given = record { floor = (v.handovers source row.tablet).counter; ends = ends_of (v.completions source row.tablet) }
 
   given_is : get v.handed row.tablet ≡ Some given
-  given_is =
-      in_phase (λ p. HandedFits row v.handovers v.completions v.handed (lineage_of p)) row_was.handed_on
-      (may.term_is ∙ sym at_term.0)
+  given_is = grind (arith, in_phase, lineage_of, row_was, at_term)
 
   beginning_is : beginning_of taker given ≡ beginning_in row given
   beginning_is i = entries.Carried (record { range = range_is i; term = may.term_is i; floor = given.floor; ends = given.ends })
@@ -318,9 +288,7 @@ module _ (v : View) (row : Row) (source sfrom target dfrom : ℕ) (sound : Sound
   behind_given = beginning_in row given ∷ mine
 
   given_stands : (entry : Entry) → Contains behind_given entry → Contains now_truth entry
-  given_stands entry stands =
-      ⊎_elim (λ (is : beginning_in row given ≡ entry). rw (← is) begins) (λ (later : Contains mine entry). mine_stands entry later)
-      (stands_cases (beginning_in row given) mine entry stands)
+  given_stands entry stands = grind (arith, beginning_in, begins, mine_stands, stands_cases)
 
   -- what is said of a row that moves is said of its target
   of_target : (P : List Entry → Type 0) → IfSome (target_truth v.written v.handed row row.phase) P → P behind_given
@@ -417,14 +385,11 @@ module _ (v : View) (row : Row) (source sfrom target dfrom : ℕ) (sound : Sound
   joined_by : (q : ℕ) → eqb target q ≡ true → HasJoined (v.handovers q row.tablet).role (v.written q).applied
   joined_by q is = rw (← eqb-true target q is) may.joined
 
-  term_by : (q : ℕ) → eqb target q ≡ true → (v.handovers q row.tablet).term ≡ row.term
-  term_by q is = rw (← eqb-true target q is) may.term_is
-
   -- the target is another master than the source, so the source owns nothing
   fits_by : (q : ℕ) (a b : Bool) → eqb target q ≡ b
       → FitsPost q (cond a MovingSource (cond b (MovingTarget dfrom) Bystander))
       → FitsPost q (cond b (Owner dfrom) Bystander)
-  fits_by q a b its held = grind (arith, target_owns, joined_by, term_by, source_rests)
+  fits_by q a b its held = grind (arith, joined_by, eqb-true)
 
   fits : (q : ℕ) → StillCounts (v.live q) (v.handovers q row.tablet).term row.term → RoleFits new q (v.handovers q row.tablet) (v.written q).applied
   fits q counting = grind (arith, fits_by, eqb, in_phase, post_of, row_was)
@@ -432,12 +397,10 @@ module _ (v : View) (row : Row) (source sfrom target dfrom : ℕ) (sound : Sound
   speaks_by : (q : ℕ) (a b : Bool) → eqb target q ≡ b
       → speaks (cond b (Owner dfrom) Bystander) (v.handovers q row.tablet) row.term ≡ true
       → speaks (cond a MovingSource (cond b (MovingTarget dfrom) Bystander)) (v.handovers q row.tablet) row.term ≡ true
-  speaks_by q a b its says = grind (arith, joined_serves, joined_by)
+  speaks_by q a b its says = grind (arith, joined_by)
 
   speaks_no_more : (q : ℕ) → speaks (post_of owned q) (v.handovers q row.tablet) row.term ≡ true → speaks (post_of row.phase q) (v.handovers q row.tablet) row.term ≡ true
-  speaks_no_more q says =
-      ap (λ (p : Phase). speaks (post_of p q) (v.handovers q row.tablet) row.term) may.phase_is
-      ∙ speaks_by q (eqb source q) (eqb target q) refl says
+  speaks_no_more q says = grind (arith, speaks, post_of, speaks_by, eqb)
 
   -- the owner has all items
   full_by : (q : ℕ) (b : Bool) → eqb target q ≡ b → has_all_items (cond b (Owner dfrom) Bystander) (v.handovers q row.tablet) row.term ≡ true → HasItems new v.written (v.records q)

@@ -1,18 +1,17 @@
 -- A row takes another phase at its own term: what is known of both phases then, what each message says of the row, and that a view in
 -- which the tablet passes on stays sound.
-use Rattle.std.proofs.Common.{◌≡◌, ℕ, Bool, true, false, ◌||◌, cond, eqb, List, ◌∷◌, Option, Some, refl, sym, ap, subst, ◌∙◌, ⊎_elim, inl}
-use Rattle.std.proofs.Common.{◌⊎◌, eq-eqb, eqb-true, Contains, ◌≤◌, ◌&&◌, [], None, arith, ◌++◌, IfSome}
+use Rattle.std.proofs.Common.{◌≡◌, ℕ, Bool, true, false, cond, eqb, List, ◌∷◌, Option, Some, refl, sym, ap, ◌∙◌, ⊎_elim, inl, ◌⊎◌, eq-eqb}
+use Rattle.std.proofs.Common.{eqb-true, Contains, ◌&&◌, [], None, arith, ◌++◌, IfSome}
 use Rattle.rk_inv_base.proofs.Words.{false≢true, or_right, NumberMap, Ended, Member, Node, Completions, Handover, Role, lineage_of, Phase}
 use Rattle.rk_inv_base.proofs.Words.{Owned, Opening, Moving, Rebuilding, Row, Grant, Transfer, CopySegment, ReadSegment, Rebuilt, Handed}
 use Rattle.rk_inv_base.proofs.Words.{is_member, names, is_opening, is_wanting, HasSource, HasLineage, IsClosing, IsOnlyRebuilder, IsOwnedBy}
 use Rattle.rk_inv_base.proofs.Words.{IsOwnedByOther, IsOwner, IsRebuiltBy, IsMovingOrOwned, GrantIn, ReadyIn, TransferIn, JoinedIn}
-use Rattle.rk_inv_base.proofs.Words.{RebuiltIn, ReadIn, CopyIn, InvitedTarget, MovingSource, MovingTarget}
-use Rattle.rk_inv_base.proofs.Words.{Owner, Bystander, Post, Holds, bond_of, post_of, KeepTerm, IsFormed, View, SoundView, and_left}
-use Rattle.rk_inv_base.proofs.Words.{and_parts, and_right, cases_Bool, cond-false, false_from_ne_true, get, Prepare, Tenure, Body, Got}
-use Rattle.rk_inv_base.proofs.Words.{Pulled, Rebuild, second_of, handed_by, is_waiting_at, second_has, SaysOf, IsOf, IsOfTarget}
-use Rattle.rk_inv_base.proofs.Words.{PrepareFits, CloseFits, OwnFits, ReleaseFits, RebuildFits, AfterMove, AsksFor, GrantAgrees, AskAgrees}
-use Rattle.rk_inv_base.proofs.Words.{PulledAgrees, GotAgrees, row_at, IsWithinTerm, SentFits, IfSome_then, Call, changed_rows, Message}
-use Rattle.rk_inv_base.proofs.Words.{last_of, AreHandedOver, IsNext, handed_for_grant, RowIsRebuilt, Waits, truths, rests}
+use Rattle.rk_inv_base.proofs.Words.{RebuiltIn, ReadIn, CopyIn, InvitedTarget, Post, Holds, bond_of, post_of, KeepTerm, IsFormed, View}
+use Rattle.rk_inv_base.proofs.Words.{SoundView, and_left, and_parts, and_right, cases_Bool, cond-false, false_from_ne_true, get, Prepare}
+use Rattle.rk_inv_base.proofs.Words.{Tenure, Body, Got, Pulled, Rebuild, second_of, handed_by, is_waiting_at, second_has, SaysOf, IsOf}
+use Rattle.rk_inv_base.proofs.Words.{IsOfTarget, PrepareFits, CloseFits, OwnFits, ReleaseFits, RebuildFits, AfterMove, GrantAgrees}
+use Rattle.rk_inv_base.proofs.Words.{AskAgrees, PulledAgrees, GotAgrees, row_at, IsWithinTerm, SentFits, IfSome_then, Call, changed_rows}
+use Rattle.rk_inv_base.proofs.Words.{Message, last_of, AreHandedOver, IsNext, handed_for_grant, RowIsRebuilt, Waits, truths, rests}
 use Rattle.rk_inv_rows.proofs.Words.{member as member_at, MayTakeLineage, differ, if_master, by_master, turned as changed, of_waiting}
 use Rattle.rk_inv_rows.proofs.Words.{view_replaced, stands_found, row_in, SoundRow, lineage_taken}
 use Rattle.rk_inv_rows.specs.lineage.Passing.{PassesOn}
@@ -75,11 +74,6 @@ pub record HasPassed (v : View) (row : Row) (old new : Phase) : Type 0 where
 post_by : (P : Post → Type 0) (a b : Bool) (one other third : Post) → P one → P other → P third → P (cond a one (cond b other third))
 post_by P a b one other third first second last = grind arith
 
--- an owner does not wait for a grant
-owner_wants : (place term own applied : ℕ) (role : Role) → Holds (bond_of (Owner place) role) term own applied → is_wanting role ≡ true → ⊥
-owner_wants place term own applied (roles.Wanting from) fits wants = fits
-owner_wants place term own applied role fits wants = false≢true wants
-
 module _ (v : View) (row : Row) where
   abbrev terms : ℕ → ℕ
   terms q = (v.handovers q row.tablet).term
@@ -95,40 +89,7 @@ module _ (v : View) (row : Row) where
   begun source sfrom target dfrom at fits = grind (arith, eqb, member_at, post_by, eqb-true)
 
   moved : WhereMoved Passed
-  moved source sfrom target dfrom at fits = record {
-    formed = λ formed. tt;
-    named = λ q there. or_right (eqb source q) (eqb target q) there;
-    member = λ q inside. inl (or_right (eqb source q) (eqb target q || false) inside);
-    second = λ first last more is. absurd (cc is);
-    invited = λ q.
-        post_by (λ post. post ≡ InvitedTarget → ⊥) (eqb source q) (eqb target q) MovingSource (MovingTarget dfrom) Bystander
-        (λ is. absurd (cc is)) (λ is. absurd (cc is)) (λ is. absurd (cc is));
-    owned = λ q none. none;
-    released = λ q none. none;
-    closing = λ q none. absurd none;
-    rebuilds = λ q none. absurd none;
-    only = λ q.
-        post_by (λ post. IsOnlyRebuilder post → terms q ≡ row.term) (eqb source q) (eqb target q) MovingSource (MovingTarget dfrom) Bystander
-        (λ none. absurd none) (λ none. absurd none) (λ none. absurd none);
-    owner = λ q.
-        post_by (λ post. IsOwner post (terms q) row.term → terms q ≡ row.term) (eqb source q) (eqb target q) MovingSource (MovingTarget dfrom)
-        Bystander (λ none. absurd none) (λ none. absurd none) (λ none. absurd none);
-    granted = λ q given grant lives wants granted.
-        let h : Handover = v.handovers q row.tablet in
-        owner_wants dfrom row.term h.term (v.written q).applied h.role
-        (subst (λ (b : Bool). Holds (bond_of (cond b (Owner dfrom) Bystander) h.role) row.term h.term (v.written q).applied)
-        (eq-eqb target q granted.0) (fits q lives)) wants;
-    source = λ q has. tt;
-    moved = tt;
-    opens_not = refl;
-    lineage = λ members. tt;
-    ready = λ h q place. tt;
-    transfer = λ h kept q transfer. tt;
-    joined = λ h applied q told. told.0;
-    rebuilt = λ q ends report none. absurd none;
-    read = λ to read. tt;
-    copy = λ x copy. tt;
-  }
+  moved source sfrom target dfrom at fits = grind (arith, or_right, eqb, post_by, bond_of, eq-eqb, false≢true)
 
   -- a row that may take another lineage has passed
   pub has_passed : (phase : Phase) (handed : NumberMap Handed) → MayTakeLineage v row phase handed → HasPassed v row row.phase phase
@@ -144,13 +105,7 @@ none_rebuilt_by old new master =
     passes_by (λ was is. IsRebuiltBy was master → ⊥) old new (λ source sfrom target dfrom by. by) (λ source sfrom target dfrom by. by)
 
 pub never_rebuilt : (old new : Phase) → PassesOn old new → (lineage : List Member) (to : ℕ) → old ≡ Rebuilding lineage to → ⊥
-never_rebuilt old new =
-    passes_by (λ was is. (lineage : List Member) (to : ℕ) → was ≡ Rebuilding lineage to → ⊥) old new
-    (λ source sfrom target dfrom lineage to is. absurd (cc is)) (λ source sfrom target dfrom lineage to is. absurd (cc is))
-
--- what is asked for a row is not above its term
-pub asked_within : (row : Row) (order : Prepare) → SentFits row (bodies.Prepare order) → AsksFor order row → order.tenure.term ≤ row.term
-asked_within row order fits asks = grind (arith, eqb, eqb-true, differ, cases_Bool)
+never_rebuilt old new = grind (arith, passes_by)
 
 module _ (v : View) (row : Row) (phase : Phase) (handed : NumberMap Handed) (passed : HasPassed v row row.phase phase) where
   abbrev new : Row
@@ -166,7 +121,7 @@ module _ (v : View) (row : Row) (phase : Phase) (handed : NumberMap Handed) (pas
   -- ---- orders
 
   prepare : (q : ℕ) (order : Prepare) → SentFits row (bodies.Prepare order) → PrepareFits row (v.handovers q row.tablet) (v.live q) q order → PrepareFits new (v.handovers q row.tablet) (v.live q) q order
-  prepare q order sent fits = grind (arith, was_of, is_member, lineage_of, asked_within)
+  prepare q order sent fits = grind (arith, was_of, is_member, lineage_of, eqb, eqb-true, differ, cases_Bool)
 
   close : (q : ℕ) (tenure : Tenure) → CloseFits row (v.handovers q row.tablet) (v.live q) q tenure → CloseFits new (v.handovers q row.tablet) (v.live q) q tenure
   close q tenure fits = grind (arith, was_of, post_of)

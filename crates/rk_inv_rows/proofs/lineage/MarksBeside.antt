@@ -1,22 +1,18 @@
 -- What the invariant says of another row, of its lineage and of what is rebuilt and marked of it, stays where the marks of a tablet are
 -- taken away.
-use Rattle.std.proofs.Common.{arith}
-use Rattle.std.proofs.Common.{◌≡◌, ℕ, ◌+◌, ◌≤◌, Bool, true, false, cond, eqb, List, [], ◌∷◌, Option, Some, None, refl, sym, ap}
-use Rattle.std.proofs.Common.{◌∙◌, ⊎_elim, All, IfSome, drop, filter, nat_le, nat_lt, not, slice_get, take, Contains, option_map}
-use Rattle.std.proofs.Common.{eqb-true}
+use Rattle.std.proofs.Common.{arith, ◌≡◌, ℕ, ◌+◌, ◌≤◌, Bool, true, false, eqb, List, [], ◌∷◌, Some, refl, sym, ◌∙◌, ⊎_elim, All, drop}
+use Rattle.std.proofs.Common.{filter, nat_le, nat_lt, not, slice_get, take, Contains, eqb-true}
 use Rattle.rk_inv_base.proofs.Words.{and_parts, cases_Bool, false_from_ne_true, false≢true, All-contains, All-filter, All-weaker}
-use Rattle.rk_inv_base.proofs.Words.{IfSome_then, get, meets, Held, Member, Node, Range, Entry, Handover, lineage_of, Phase, Moving}
-use Rattle.rk_inv_base.proofs.Words.{Rebuilding, Row, known_of, EntryEnd, Body, Got, Pulled, CopySegment, first_of, is_mark_of, is_marked}
-use Rattle.rk_inv_base.proofs.Words.{unmarked, unmarked_from, touches, counting, counts, own_place, Written, member_material, member_truth}
-use Rattle.rk_inv_base.proofs.Words.{Mark, Merged, beginning_in, target_truth, stored_of, CopyIn, GotAgrees, PulledAgrees, SaysOf}
-use Rattle.rk_inv_base.proofs.Words.{HasOwnRange, IsMergedOf, IsOfRange, IsPieceOf, IsRebuilder, MarkFits, MarkedFit, NeededOf, NeedsEnd}
-use Rattle.rk_inv_base.proofs.Words.{READ_BACKUP, RowIsRebuilt, StandsLast, marked_entries, member_given_up, member_marked}
-use Rattle.rk_inv_base.proofs.Words.{member_stored, merged_place, stored_count, IsTarget, MembersFit, NamedFit, FirstIsDone, IsDone}
-use Rattle.rk_inv_base.proofs.Words.{HasItems, IsTableOf, View, SoundView}
+use Rattle.rk_inv_base.proofs.Words.{IfSome_then, get, meets, Held, Member, Node, Entry, Handover, lineage_of, Phase, Moving, Rebuilding}
+use Rattle.rk_inv_base.proofs.Words.{Row, known_of, EntryEnd, Body, Got, Pulled, CopySegment, first_of, is_mark_of, is_marked, unmarked}
+use Rattle.rk_inv_base.proofs.Words.{unmarked_from, touches, counting, counts, own_place, Written, member_material, member_truth, Mark}
+use Rattle.rk_inv_base.proofs.Words.{Merged, beginning_in, target_truth, stored_of, CopyIn, GotAgrees, PulledAgrees, SaysOf, HasOwnRange}
+use Rattle.rk_inv_base.proofs.Words.{IsMergedOf, IsOfRange, IsPieceOf, IsRebuilder, MarkFits, MarkedFit, NeededOf, NeedsEnd, READ_BACKUP}
+use Rattle.rk_inv_base.proofs.Words.{RowIsRebuilt, StandsLast, marked_entries, member_given_up, member_marked, merged_place, stored_count}
+use Rattle.rk_inv_base.proofs.Words.{IsTarget, MembersFit, NamedFit, FirstIsDone, IsDone, HasItems, View, SoundView}
 use Rattle.rk_inv_rows.proofs.Words.{member as member_at, key_outside, all_by, apart_either, place_of, if_master, Misses, none_touches}
 use Rattle.rk_inv_rows.proofs.Words.{one_weaker, part_weaker, filter_stands, marks_taken}
 use Rattle.rk_entry.specs.declared.entry.Entry.TheVariants as entries
-use Rattle.rk_outside.specs.Segments.{bytes_of as copied_bytes}
 use Rattle.rk_sound.specs.Rebuilds.{IsNeeded}
 use Rattle.rk_inv_rows.proofs.lineage.Among.{taken_from}
 use Rattle.rk_inv_rows.proofs.lineage.FewerMarks.{free_counts}
@@ -28,13 +24,7 @@ use Rattle.rk_inv_rows.proofs.lineage.MarksTaken.{truth_kept}
 -- what is kept by two tests is kept by one that asks for both
 both_kept : {X : Type 0} (p keep : X → Bool) (xs : List X) → ((x : X) → p x ≡ true → keep x ≡ true) → filter p (filter keep xs) ≡ filter p xs
 both_kept p keep [] less = refl
-both_kept {X} p keep (x ∷ xs) less = go (p x) (keep x) refl refl (both_kept p keep xs less)
-  where
-    go : (a b : Bool) → p x ≡ a → keep x ≡ b → filter p (filter keep xs) ≡ filter p xs → filter p (cond b (x ∷ filter keep xs) (filter keep xs)) ≡ cond a (x ∷ filter p xs) (filter p xs)
-    go true true is kept later = ap (λ (b : Bool). cond b (x ∷ filter p (filter keep xs)) (filter p (filter keep xs))) is ∙ ap (λ (l : List X). x ∷ l) later
-    go true false is kept later = absurd (false≢true (sym kept ∙ less x is))
-    go false true is kept later = ap (λ (b : Bool). cond b (x ∷ filter p (filter keep xs)) (filter p (filter keep xs))) is ∙ later
-    go false false is kept later = later
+both_kept {X} p keep (x ∷ xs) less = grind (arith, false≢true, (both_kept p keep xs less))
 
 module _ (v : View) (row : Row) (sound : SoundView v) (has_row : Contains v.rows row) (other : Row) (has_other : Contains v.rows other) (unlike : other.tablet ≡ row.tablet → ⊥) (some : other.range.first ≤ other.range.last) where
   abbrev now : View
@@ -58,10 +48,7 @@ module _ (v : View) (row : Row) (sound : SoundView v) (has_row : Contains v.rows
   -- ---- lineages
 
   done_as : (m : Member) → IsDone v.written other.range m → IsDone now.written other.range m
-  done_as m done = record {
-    rest = rest_kept v row sound has_row other has_other unlike some m ∙ done.rest;
-    all = material_as m ∙ done.all ∙ sym (truth_as m);
-  }
+  done_as m done = search (rest_kept, material_as, truth_as, done.rest, done.all)
 
   pub done_beside : (l : List Member) → FirstIsDone v.written other.range l → FirstIsDone now.written other.range l
   done_beside (first ∷ last ∷ more) done = done_as first done
@@ -74,16 +61,11 @@ module _ (v : View) (row : Row) (sound : SoundView v) (has_row : Contains v.rows
   named_beside _ fit = tt
 
   pub target_beside : (phase : Phase) → target_truth now.written v.handed other phase ≡ target_truth v.written v.handed other phase
-  target_beside (Moving source sfrom target dfrom) =
-      ap (λ (t : List Entry). option_map (λ h. beginning_in other h ∷ t) (get v.handed other.tablet)) (truth_as (member_at target dfrom))
+  target_beside (Moving source sfrom target dfrom) = search (beginning_in, truth_as, member_at)
   target_beside _ = refl
 
   pub items_beside : (records : List Held) → HasItems other v.written records → HasItems other now.written records
-  items_beside records = go (first_of (lineage_of other.phase))
-    where
-      go : (o : Option Member) → IfSome o (λ m. IsTableOf other.range (member_truth v.written other.range m) records) → IfSome o (λ m. IsTableOf other.range (member_truth now.written other.range m) records)
-      go None has = tt
-      go (Some m) has = rw (truth_as m) has
+  items_beside records = search (first_of, lineage_of, member_truth, truth_as)
 
   abbrev TargetIn : (ℕ → Written) → (source target : Member) → List Entry → List Entry → Type 0
   TargetIn written source target truth material =
@@ -97,19 +79,14 @@ module _ (v : View) (row : Row) (sound : SoundView v) (has_row : Contains v.rows
   Members written l = MembersFit other written v.handovers v.pullings v.records v.handed l
 
   pub members_beside : (l : List Member) → Members v.written l → Members now.written l
-  members_beside (source ∷ target ∷ []) fit = λ granted.
-      rw (truth_as source, material_as source)
-      (target_as source target (member_truth v.written other.range source) (member_material v.written other.range source) (fit granted))
+  members_beside (source ∷ target ∷ []) fit = search (truth_as, material_as, target_as, member_truth, member_material)
   members_beside _ fit = tt
 
   -- ---- what has to be read
 
-  -- a mark of the row's tablet is none of the other's
-  stays_if : (mark : Mark) → mark.tablet ≡ other.tablet → stays mark ≡ true
-  stays_if mark its = grind (arith, false_from_ne_true, is_mark_of, eqb-true, and_parts, eqb, nat_le)
-
   given_up_as : (m : Member) → member_given_up now.written other m ≡ member_given_up v.written other m
-  given_up_as m = grind (arith, counting, marked_entries, both_kept, eqb, nat_lt, stays_if, eqb-true, and_parts)
+  given_up_as m =
+      grind (arith, counting, marked_entries, both_kept, eqb, nat_lt, eqb-true, and_parts, false_from_ne_true, is_mark_of, nat_le)
 
   -- an entry that counts for the other row bore no mark where it bears none
   free_before : (q place : ℕ) (entry : Entry) → slice_get (v.written q).entries place ≡ Some entry → counts other.range entry ≡ true → is_marked (new_marks q) place ≡ false → is_marked (old_marks q) place ≡ false
@@ -124,9 +101,7 @@ module _ (v : View) (row : Row) (sound : SoundView v) (has_row : Contains v.rows
 
   -- what counts of a first part is the same
   first_counted : (q from count : ℕ) → counting other.range (unmarked_from (new_marks q) from (take count (v.written q).entries)) ≡ counting other.range (unmarked_from (old_marks q) from (take count (v.written q).entries))
-  first_counted q from count =
-      free_counts other.range (old_marks q) (new_marks q) from (drop from (take count (v.written q).entries))
-      (fewer v row sound has_row other has_other unlike some q from (take count (v.written q).entries) (taken_from count (v.written q).entries))
+  first_counted q from count = search (free_counts, fewer, taken_from)
 
   needed_as : (given_up own : List Entry) (q from place : ℕ) (entry : Entry) → IsNeeded other.range given_up own from (now.written q) place entry → IsNeeded other.range given_up own from (v.written q) place entry
   needed_as given_up own q from place entry is =
@@ -136,35 +111,25 @@ module _ (v : View) (row : Row) (sound : SoundView v) (has_row : Contains v.rows
   needs_end given_up own q from end is = search (needed_as given_up own q from is.place is.entry is.needed, is)
 
   pub needed_beside : (l : List Member) (q : ℕ) (end : EntryEnd) → NeededOf other now.written l q end → NeededOf other v.written l q end
-  needed_beside (first ∷ last ∷ []) q end is = (
-    is.0,
-    rw (← material_as first, ← given_up_as first)
-        (needs_end (member_given_up now.written other first) (member_material now.written other.range first) last.master last.from end is.1),
-  )
+  needed_beside (first ∷ last ∷ []) q end is =
+      grind (arith, material_as, given_up_as, needs_end, member_given_up, member_material, is.0, last.master, last.from, is.1)
   needed_beside _ q end none = none
 
   -- ---- what is rebuilt, and marked
-
-  stored_as : (m : Member) → member_stored v.logs now.written v.stored other.range m ≡ member_stored v.logs v.written v.stored other.range m
-  stored_as m = first_counted m.master m.from (stored_count (v.logs m.master) (stored_of v.stored m.master READ_BACKUP))
 
   marked_as : (m : Member) → member_marked now.written other.range m ≡ member_marked v.written other.range m
   marked_as = marked_kept v row sound has_row other has_other unlike some
 
   pub marked_fit_beside : (l : List Member) → MarkedFit v.logs v.written v.stored v.live other.range l → MarkedFit v.logs now.written v.stored v.live other.range l
-  marked_fit_beside l fit = grind (arith, material_as, marked_as, member_marked, stored_as, member_material)
+  marked_fit_beside l fit = grind (arith, material_as, marked_as, member_marked, member_material, first_counted, stored_count, stored_of)
 
   -- a mark of the other's tablet stays
   mark_stands : (q : ℕ) (mark : Mark) → Contains (old_marks q) mark → mark.tablet ≡ other.tablet → Contains (new_marks q) mark
-  mark_stands q mark stands its = filter_stands stays (old_marks q) mark stands (stays_if mark its)
+  mark_stands q mark stands its = grind (arith, filter_stands, false_from_ne_true, is_mark_of, eqb-true, and_parts, eqb, nat_le)
 
   piece_as : (to from entry : ℕ) (handover : Handover) (merged : Merged) → IsPieceOf other.tablet from handover merged (v.written to) entry → IsPieceOf other.tablet from handover merged (now.written to) entry
   piece_as to from entry handover merged piece =
-      search (
-        mark_stands to piece.mark piece.marked piece.tablet_is,
-        All-filter stays (λ mark. mark.tablet ≡ other.tablet → mark ≡ piece.mark) (old_marks to) piece.alone,
-        piece,
-      )
+      search (mark_stands to piece.mark piece.marked piece.tablet_is, All-filter stays (λ mark. mark.tablet ≡ other.tablet → mark ≡ piece.mark) (old_marks to) piece.alone)
 
   abbrev MergedIn : (ℕ → Written) → ℕ → ℕ → List Entry → ℕ → Type 0
   MergedIn written to from own entry =
@@ -207,20 +172,13 @@ module _ (v : View) (row : Row) (sound : SoundView v) (has_row : Contains v.rows
 
   pub rebuilt_beside : (truth : List Entry) (phase : Phase) → RebuiltIn v.written truth phase → RebuiltIn now.written truth phase
   rebuilt_beside truth (Rebuilding l to) fit =
-      let own : Member = member_at to (own_place (v.handovers to other.tablet).role) in (
-        λ at.
-            rw (material_as own) (rebuilder_as l to truth (member_material v.written other.range own) (fit.0 at)),
-        marked_fit_beside l fit.1,
-      )
+      search (member_at, own_place, material_as, rebuilder_as, member_material, marked_fit_beside, fit.0, fit.1)
   rebuilt_beside truth _ fit = tt
 
   -- an entry of a rebuild of the row does not touch the other one
   of_misses : (entry : Entry) → IsOfRange row.range entry → touches other.range entry ≡ false
-  of_misses (entries.Held held) of =
-      key_outside other.range row.range held.table held.key
-      (apart_either row.range other.range (apart v row sound has_row other has_other unlike some)) of
-  of_misses (entries.Carried carried) of =
-      ap (λ (range : Range). meets range other.range) of ∙ apart v row sound has_row other has_other unlike some
+  of_misses (entries.Held held) of = search (key_outside, apart_either, apart, held.table, held.key)
+  of_misses (entries.Carried carried) of = grind (arith, meets, apart)
   of_misses _ of = absurd of
 
   -- so a piece of the other still stands last
@@ -262,25 +220,18 @@ module _ (v : View) (row : Row) (sound : SoundView v) (has_row : Contains v.rows
   Pulls written l from q message = PulledAgrees other written v.handovers v.live l from q message
 
   pulled_as : (l : List Member) (from : Node) (q : ℕ) (message : Pulled) → Pulls v.written l from q message → Pulls now.written l from q message
-  pulled_as (source ∷ target ∷ []) from q message agrees = λ here lives is.
-      rw (truth_as source) (agrees here lives is)
-  pulled_as _ from q message agrees = tt
+  pulled_as l from q message agrees = grind (arith, truth_as)
 
   abbrev Gets : (ℕ → Written) → List Member → Node → ℕ → Got → Type 0
   Gets written l from q message = GotAgrees other written v.handovers v.live l from q message
 
   got_as : (l : List Member) (from : Node) (q : ℕ) (message : Got) → Gets v.written l from q message → Gets now.written l from q message
-  got_as (source ∷ target ∷ []) from q message agrees = λ here lives is.
-      rw (truth_as source) (agrees here lives is)
+  got_as (source ∷ target ∷ []) from q message agrees = search truth_as
   got_as _ from q message agrees = tt
 
   copy_as : (phase : Phase) (copy : CopySegment) → CopyIn other phase v.logs v.written v.stored v.live copy → CopyIn other phase v.logs now.written v.stored v.live copy
-  copy_as (Rebuilding l to) copy said = (
-    said.0,
-    part_weaker (NeededOf other v.written l copy.master) (NeededOf other now.written l copy.master)
-        (known_of (v.logs copy.master) READ_BACKUP) (stored_of v.stored copy.master READ_BACKUP) copy.segment (copied_bytes copy.bytes)
-        (needed_beside l copy.master) said.1,
-  )
+  copy_as (Rebuilding l to) copy said =
+      search (part_weaker, known_of, stored_of, needed_beside, said.0, copy.master, copy.segment, copy.bytes, said.1)
   copy_as _ copy said = tt
 
   abbrev SaysIn : (ℕ → Written) → Node → Node → Body → Type 0

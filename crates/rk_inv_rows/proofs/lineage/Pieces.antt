@@ -67,9 +67,7 @@ NoneCounts range marks place list = counting range (marked_entries marks place l
 
 -- of a first part nothing marked counts either
 first_taken : (range : Range) (marked : Bool) (entry : Entry) (many few : List Entry) → (counting range many ≡ [] → counting range few ≡ []) → counting range (cond marked (entry ∷ many) many) ≡ [] → counting range (cond marked (entry ∷ few) few) ≡ []
-first_taken range true entry many few later none =
-    let parts = first_counts range (counts range entry) entry many refl none in without_first range entry few parts.0 ∙ later parts.1
-first_taken range false entry many few later none = later none
+first_taken range marked entry many few later none = grind (arith, first_counts, counts, without_first)
 
 none_taken : (range : Range) (marks : List Mark) (place n : ℕ) (list : List Entry) → NoneCounts range marks place list → NoneCounts range marks place (take n list)
 none_taken range marks place (suc n) (entry ∷ list) none =
@@ -82,9 +80,7 @@ abbrev CountAs : Range → List Entry → List Entry → Type 0
 CountAs range these those = counting range these ≡ counting range those
 
 first_same : (range : Range) (marked : Bool) (entry : Entry) (gone free list : List Entry) → (counting range gone ≡ [] → CountAs range free list) → counting range (cond marked (entry ∷ gone) gone) ≡ [] → CountAs range (cond marked free (entry ∷ free)) (entry ∷ list)
-first_same range true entry gone free list later none =
-    let parts = first_counts range (counts range entry) entry gone refl none in later parts.1 ∙ sym (without_first range entry list parts.0)
-first_same range false entry gone free list later none = ap (λ (l : List Entry). cond (counts range entry) (entry ∷ l) l) (later none)
+first_same range marked entry gone free list later none = grind (arith, first_counts, counts, without_first)
 
 -- what bears no mark counts as all does
 same_counts : (range : Range) (marks : List Mark) (place : ℕ) (list : List Entry) → NoneCounts range marks place list → CountAs range (unmarked marks place list) list
@@ -114,10 +110,7 @@ unmarked_stood marks place (first ∷ list) entry stands = go (is_marked marks p
 -- and what bears none stands there
 pub unmarked_stands : (marks : List Mark) (place k : ℕ) (list : List Entry) (entry : Entry) → slice_get list k ≡ Some entry → is_marked marks (place + k) ≡ false → Contains (unmarked marks place list) entry
 unmarked_stands marks place k [] entry at free = absurd (cc at)
-unmarked_stands marks place zero (first ∷ list) entry at free =
-    let here : place + 0 ≡ place = omega arith in
-    let is : first ≡ entry = cc at in
-    rw (ap (is_marked marks) (sym here) ∙ free, ← is) (first_stands first (unmarked marks (suc place) list))
+unmarked_stands marks place zero (first ∷ list) entry at free = grind (arith, is_marked, first_stands, unmarked)
 unmarked_stands marks place (suc k) (first ∷ list) entry at free =
     let there : place + suc k ≡ suc place + k = omega arith in
     let later = unmarked_stands marks (suc place) k list entry at (ap (is_marked marks) (sym there) ∙ free) in

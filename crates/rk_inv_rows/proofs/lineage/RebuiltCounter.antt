@@ -24,7 +24,7 @@ abbrev all_of : Gather → List Entry → List Entry
 all_of gather own = flat_map (λ list. list) (by_member gather own)
 
 -- the own entries are of all that was gathered
-own_list : (gather : Gather) (own : List Entry) → Contains (by_member gather own) own
+pub own_list : (gather : Gather) (own : List Entry) → Contains (by_member gather own) own
 own_list gather own = go (is_of_lineage gather) refl
   where
     go : (b : Bool) → is_of_lineage gather ≡ b → Contains (map (λ (member : Member). material_by gather own member.master) gather.lineage ++ cond b [] (own ∷ [])) own

@@ -5,11 +5,10 @@ use Rattle.std.proofs.Common.{⊎_elim, arith, inl, inr, All, IfSome, drop, leng
 use Rattle.std.proofs.Common.{flat_map, eq-eqb, le-leb}
 use Rattle.rk_inv_base.proofs.Words.{and_from, cases_Bool, false_from_ne_true, false≢true, All-contains, Contains-append_cases}
 use Rattle.rk_inv_base.proofs.Words.{Contains-append_left, Contains-append_right, list_any, meets, Ended, Member, Range, Entry, Handover}
-use Rattle.rk_inv_base.proofs.Words.{Role, Phase, Rebuilding, Row, none_stands, is_mark_of, is_marked, unmarked, touches}
-use Rattle.rk_inv_base.proofs.Words.{as_entries, counting, counts, named, named_by, side_entries, has_all, own_place, Written}
-use Rattle.rk_inv_base.proofs.Words.{applied_entries, member_material, member_truth, Mark, HasRebuilt, MayTakeRebuilt, HasOwnRange}
-use Rattle.rk_inv_base.proofs.Words.{IsMergedOf, IsOfRange, IsPieceOf, MarkFits, RowIsRebuilt, closing_carried, merged_place, IsDone, View}
-use Rattle.rk_inv_base.proofs.Words.{truths, SoundView}
+use Rattle.rk_inv_base.proofs.Words.{Role, Phase, Rebuilding, Row, none_stands, is_mark_of, is_marked, unmarked, touches, as_entries}
+use Rattle.rk_inv_base.proofs.Words.{counting, counts, named, named_by, side_entries, has_all, own_place, Written, applied_entries}
+use Rattle.rk_inv_base.proofs.Words.{member_material, member_truth, Mark, HasRebuilt, MayTakeRebuilt, HasOwnRange, IsMergedOf, IsOfRange}
+use Rattle.rk_inv_base.proofs.Words.{IsPieceOf, MarkFits, RowIsRebuilt, closing_carried, merged_place, IsDone, View, truths, SoundView}
 use Rattle.rk_inv_rows.proofs.Words.{member as member_at, in_one_row, one_precedes, behind_at, in_piece, place_of, Misses, none_touches}
 use Rattle.rk_inv_rows.proofs.Words.{any_kept, filter_from, filter_stands, marks_taken, SoundRow, row_in, kept_stands}
 use Rattle.rk_inv_rows.proofs.lineage.Among.{flat_among, from_flat, kept_among, later_all, number_from, number_to, place_in, taken_at}
@@ -29,9 +28,7 @@ pub record RebuiltAt (role : Role) (applied from : ℕ) : Type 0 where
   pub within : entry < applied
 
 pub rebuilt_at : (role : Role) (applied from : ℕ) → HasRebuilt role applied from → RebuiltAt role applied from
-rebuilt_at (roles.Rebuilding own (Some entry)) applied from rebuilt =
-    record { entry = entry; role_is = ap (λ (n : ℕ). roles.Rebuilding n (Some entry)) rebuilt.1; within = rebuilt.0 }
-rebuilt_at _ applied from rebuilt = absurd rebuilt
+rebuilt_at role applied from rebuilt = grind arith
 
 module _ (v : View) (row : Row) (lineage : List Member) (to place : ℕ) (ends : List Ended) (sound : SoundView v) (some : row.range.first ≤ row.range.last) (may : MayTakeRebuilt v row lineage to place ends) where
   abbrev w : Written
@@ -88,10 +85,6 @@ module _ (v : View) (row : Row) (lineage : List Member) (to place : ℕ) (ends :
   pub placed_within : place ≤ length w.entries
   placed_within = grind (arith, in_phase, truths, row_was, in_role, own_place)
 
-  -- a mark of the tablet covers what is applied alone
-  pub taken_applied : (mark : Mark) → Contains w.marks mark → mark.tablet ≡ row.tablet → mark.past ≤ w.applied
-  taken_applied other stands its = grind (arith, at)
-
   -- so all of its own is applied
   pub own_done : IsDone v.written row.range own_member
   own_done = done_settled v.written row.range own_member some settled
@@ -124,14 +117,10 @@ module _ (v : View) (row : Row) (lineage : List Member) (to place : ℕ) (ends :
 
   -- so it counts, and names no side segment
   of_counts : (entry : Entry) → IsOfRange row.range entry → counts row.range entry ≡ true
-  of_counts (entries.Held held) of = of
-  of_counts (entries.Carried carried) of = ap (λ (range : Range). has_all range row.range) of ∙ has_itself row.range
-  of_counts _ of = absurd of
+  of_counts entry of = grind (arith, has_all, has_itself)
 
   of_names : (entry : Entry) → IsOfRange row.range entry → named_by row.range entry ≡ []
-  of_names (entries.Refused refused) of = absurd of
-  of_names (entries.Joined joined) of = absurd of
-  of_names _ of = refl
+  of_names entry of = grind arith
 
   -- ---- what bears no mark now: what bore none, and the piece
 

@@ -1,6 +1,5 @@
 -- What is known of a row where the master that rebuilt it owns it: it took another phase at its own term.
-use Rattle.std.proofs.Common.{◌≡◌, ℕ, true, eqb, List, Option, Some, sym, ap, ◌∙◌}
-use Rattle.std.proofs.Common.{arith, eq-eqb, eqb-true}
+use Rattle.std.proofs.Common.{◌≡◌, ℕ, true, eqb, List, Option, Some, sym, ap, ◌∙◌, arith, eq-eqb, eqb-true}
 use Rattle.rk_inv_base.proofs.Words.{cond_both, false≢true, Ended, Member, Role, Phase, Owned, Rebuilding, Row, Grant, Handed, is_member}
 use Rattle.rk_inv_base.proofs.Words.{or_left, is_wanting, GrantIn, HasRebuilt, MayTakeRebuilt, Bystander}
 use Rattle.rk_inv_base.proofs.Words.{FormerMember, Post, Holds, bond_of, post_of, rebuilder_post, View, SoundView}
@@ -19,18 +18,10 @@ post_by P lineage to q here former bystander = grind (arith, cond_both, eqb, reb
 pub member_here : (lineage : List Member) (to q : ℕ) (role : Role) (term own applied : ℕ) → is_member lineage q ≡ true → Holds (bond_of (post_of (Rebuilding lineage to) q) role) term own applied → eqb to q ≡ true
 member_here lineage to q role term own applied inside fits = grind (arith, eqb, is_member, bond_of, rebuilder_post)
 
--- a Grant that is taken is for a member
-granted_member : (lineage : List Member) (handed : Option Handed) (q : ℕ) (grant : Grant) → GrantIn lineage handed q grant → is_member lineage q ≡ true
-granted_member lineage handed q grant none = grind (arith, eqb, eq-eqb)
-
 -- the place that a role told
 place_told : (role : Role) (applied one other : ℕ) → HasRebuilt role applied one → HasRebuilt role applied other → one ≡ other
 place_told (roles.Rebuilding from (Some entry)) applied one other a b = sym a.1 ∙ b.1
 place_told _ applied one other a b = absurd a
-
-rebuilt_wants : (role : Role) (applied place : ℕ) → HasRebuilt role applied place → is_wanting role ≡ true → ⊥
-rebuilt_wants (roles.Rebuilding from (Some entry)) applied place rebuilt wants = false≢true wants
-rebuilt_wants _ applied place rebuilt wants = absurd rebuilt
 
 module _ (v : View) (row : Row) (lineage : List Member) (to place : ℕ) (ends : List Ended) (sound : SoundView v) (may : MayTakeRebuilt v row lineage to place ends) where
   abbrev old : Phase
@@ -48,7 +39,7 @@ module _ (v : View) (row : Row) (lineage : List Member) (to place : ℕ) (ends :
   -- a Grant is taken by no living member: that one rebuilt
   none_granted : (q : ℕ) (given : Option Handed) (grant : Grant) → v.live q ≡ true → is_wanting (v.handovers q row.tablet).role ≡ true → GrantIn lineage given q grant → ⊥
   none_granted q given grant lives wants granted =
-      grind (arith, bond_of, post_of, row_in, member_here, granted_member, rebuilt_wants, rebuilt_here, eqb-true)
+      grind (arith, bond_of, post_of, row_in, member_here, rebuilt_here, eqb-true, false≢true, eqb, eq-eqb)
 
   pub rebuilt_passes : HasPassed v row row.phase (Owned to place)
   rebuilt_passes = grind (arith, or_left, eqb, is_member, post_by, heir_post, term_here, none_granted, place_told, rebuilt_here, eqb-true)

@@ -1,18 +1,17 @@
 -- A view stays sound when the master that rebuilt a row owns it, where the records that are made of what it told go on lawfully.
-use Rattle.std.proofs.Common.{◌≡◌, ℕ, ◌≤◌, ◌<◌, Bool, true, false, cond, ◌&&◌, eqb, List, [], ◌∷◌, ◌++◌, Option, Some, refl, sym, ap, subst}
-use Rattle.std.proofs.Common.{◌∙◌, ⊎_elim, arith, inl, inr, All, drop, is_some, length, max, nat_le, nat_lt, not, ◌⊎◌, Contains, eq-eqb}
+use Rattle.std.proofs.Common.{◌≡◌, ℕ, ◌≤◌, ◌<◌, Bool, true, false, cond, eqb, List, [], ◌∷◌, ◌++◌, Option, Some, refl, sym, ap, subst, ◌∙◌}
+use Rattle.std.proofs.Common.{⊎_elim, arith, inl, inr, All, drop, is_some, length, max, nat_le, nat_lt, not, ◌⊎◌, Contains, eq-eqb}
 use Rattle.std.proofs.Common.{eqb-true, le-leb, slice_index_or}
-use Rattle.rk_inv_base.proofs.Words.{and_from, cases_Bool, false_from_ne_true, false≢true, All-append, All-cons, All-contains, All-filter}
-use Rattle.rk_inv_base.proofs.Words.{All-nil, All-weaker, IfSome_then, list_any, hash_of, has, Call, Ended, Placed, Member, Node, Range}
-use Rattle.rk_inv_base.proofs.Words.{is_at_parts, Map, is_at, map_after, last_version, is_mutation, Entry, ends_of, Role, lawful_turned}
-use Rattle.rk_inv_base.proofs.Words.{lineage_of, changed_rows, is_covered, row_of, Phase, Owned, Rebuilding, Row, Body, base_map, told}
-use Rattle.rk_inv_base.proofs.Words.{is_member, last_of, is_mark_of, is_marked, touches, of_key, has_key, Mark, AreHandedOver, IsKnown}
-use Rattle.rk_inv_base.proofs.Words.{IsReached, IsStagedEnd, ReachAll, TellAll, is_record_in, AreAboveMap, IsNext, handed_by}
-use Rattle.rk_inv_base.proofs.Words.{handed_for_grant, target_truth, HasRebuilt, IsRebuiltBy, HasSome, MayTakeRebuilt, row_at, Bystander}
-use Rattle.rk_inv_base.proofs.Words.{FormerMember, Owner, Post, Holds, StillCounts, bond_of, post_of, rebuilder_post, speaks, HasOwnRange}
-use Rattle.rk_inv_base.proofs.Words.{MarkFits, IsBare, wanted_place, EachHasCall, OnlyIsUnnamed, Waits, IsPlaced, HasItems, has_all_items}
-use Rattle.rk_inv_base.proofs.Words.{HandoverFits, View, truths, rests, SoundView, CoverOf, LogsOf, RowIsRebuilt, map_after-append}
-use Rattle.rk_inv_base.proofs.Words.{cond_both}
+use Rattle.rk_inv_base.proofs.Words.{and_from, cases_Bool, false_from_ne_true, false≢true, All-append, All-contains, All-filter}
+use Rattle.rk_inv_base.proofs.Words.{IfSome_then, list_any, hash_of, has, Call, Ended, Placed, Member, Node, Range, is_at_parts, Map, is_at}
+use Rattle.rk_inv_base.proofs.Words.{map_after, last_version, is_mutation, Entry, ends_of, Role, lawful_turned, lineage_of, changed_rows}
+use Rattle.rk_inv_base.proofs.Words.{is_covered, row_of, Phase, Owned, Rebuilding, Row, Body, base_map, told, is_member, last_of}
+use Rattle.rk_inv_base.proofs.Words.{is_mark_of, is_marked, touches, of_key, has_key, Mark, AreHandedOver, IsKnown, IsReached, IsStagedEnd}
+use Rattle.rk_inv_base.proofs.Words.{ReachAll, TellAll, is_record_in, AreAboveMap, IsNext, handed_by, handed_for_grant, target_truth}
+use Rattle.rk_inv_base.proofs.Words.{HasRebuilt, IsRebuiltBy, HasSome, MayTakeRebuilt, row_at, Bystander, FormerMember, Owner, Post, Holds}
+use Rattle.rk_inv_base.proofs.Words.{StillCounts, bond_of, post_of, rebuilder_post, speaks, HasOwnRange, MarkFits, IsBare, wanted_place}
+use Rattle.rk_inv_base.proofs.Words.{EachHasCall, OnlyIsUnnamed, Waits, HasItems, has_all_items, HandoverFits, View, truths, rests}
+use Rattle.rk_inv_base.proofs.Words.{SoundView, CoverOf, LogsOf, RowIsRebuilt, map_after-append, cond_both}
 use Rattle.rk_inv_rows.proofs.Words.{member as member_at, turned as changed, in_one_row, same_number, covered_by, differ, all_by, all_in}
 use Rattle.rk_inv_rows.proofs.Words.{Misses, joined_none, map_elsewhere, known_still, says_still, any_kept, filter_from, all_turned}
 use Rattle.rk_inv_rows.proofs.Words.{stands_found, stands_still, TellHistory, MayOwnRebuilt, made_of, rebuilt_taken, cover_replaced}
@@ -29,18 +28,14 @@ use Rattle.rk_inv_rows.proofs.lineage.MarksBeside.{rebuilt_beside, says_beside, 
 use Rattle.rk_inv_rows.proofs.lineage.MarksTaken.{rests_kept, taken_by, truths_kept}
 use Rattle.rk_inv_base.proofs.rows.OtherRows.{all_others}
 use Rattle.rk_inv_rows.proofs.lineage.RebuiltCounter.{next_now}
-use Rattle.rk_inv_rows.proofs.lineage.RebuiltMaterial.{placed_within, settled, taken_applied}
+use Rattle.rk_inv_rows.proofs.lineage.RebuiltMaterial.{placed_within, settled}
 use Rattle.rk_inv_rows.proofs.lineage.LineageSays.{says, HasPassed, member_range}
 use Rattle.rk_inv_rows.proofs.lineage.RebuiltSays.{member_here, rebuilt_passes}
 use Rattle.rk_inv_rows.proofs.lineage.Untouched.{each_misses}
 use Rattle.rk_inv_base.proofs.views.ByRows.{staged_as}
 use Rattle.rk_inv_rows.proofs.lineage.FewerMarks.{waits_with}
 use Rattle.rk_transfer.specs.declared.role.Role.TheVariants as roles
-
--- a master that has rebuilt a tablet fits the post of its owner
-rebuilt_owns : (role : Role) (place term own applied : ℕ) → HasRebuilt role applied place → own ≡ term → Holds (bond_of (Owner place) role) term own applied
-rebuilt_owns (roles.Rebuilding from (Some entry)) place term own applied rebuilt same = (same, (rebuilt.0, rebuilt.1))
-rebuilt_owns _ place term own applied rebuilt same = absurd rebuilt
+use Rattle.rk_inv_rows.proofs.lineage.RebuiltMaterial.{at}
 
 module _ (v : View) (row : Row) (lineage : List Member) (to place : ℕ) (ends : List Ended) (sound : SoundView v) (may : MayOwnRebuilt v row lineage to place ends) where
   -- the records that are made
@@ -118,10 +113,7 @@ module _ (v : View) (row : Row) (lineage : List Member) (to place : ℕ) (ends :
   reach_more r has unlike l = more r has unlike (λ placed. is_mutation placed.call.op ≡ true → IsReached l placed)
 
   hand_more : (r : Row) → Contains v.rows r → (r.tablet ≡ row.tablet → ⊥) → (l : List Ended) → AreHandedOver v.base r.range v.journal l → AreHandedOver v.base r.range journal l
-  hand_more r has unlike l over = record {
-    reached = reach_more r has unlike l over.reached;
-    known = All-weaker _ _ (known_still v.journal made v.base) l over.known;
-  }
+  hand_more r has unlike l over = search (reach_more, known, known_still, over.reached, over.known)
 
   abbrev map_of : List Placed → Map
   map_of = map_after (base_map v.base)
@@ -163,7 +155,7 @@ module _ (v : View) (row : Row) (lineage : List Member) (to place : ℕ) (ends :
   FitsPost q post = Holds (bond_of post (v.handovers q row.tablet).role) row.term (v.handovers q row.tablet).term (v.written q).applied
 
   fits_by : (q : ℕ) (a b : Bool) → eqb to q ≡ a → FitsPost q (cond a (rebuilder_post lineage q) (cond b FormerMember Bystander)) → FitsPost q (cond a (Owner place) Bystander)
-  fits_by q a b is held = grind (arith, rebuilt_owns, rebuilt_here, eqb-true, term_here)
+  fits_by q a b is held = grind (arith, rebuilt_here, eqb-true, term_here)
 
   fitted : (q : ℕ) → StillCounts (v.live q) (v.handovers q row.tablet).term row.term → FitsPost q (post_of (Rebuilding lineage to) q)
   fitted q counting = in_phase (λ p. FitsPost q (post_of p q)) (was.fitting q counting)
@@ -213,9 +205,7 @@ module _ (v : View) (row : Row) (lineage : List Member) (to place : ℕ) (ends :
   -- ---- what waits
 
   missed : All (Misses row.range) (drop (v.written to).applied (v.written to).entries)
-  missed =
-      each_misses row.range (drop (v.written to).applied (v.written to).entries)
-      (settled v row lineage to place ends sound (some_of row has_row) taken)
+  missed = search (each_misses, settled, some_of, has_row)
 
   -- no call waits for the row: of its lineage only the master that rebuilt it lives, and nothing of the range is left to be applied there
   none_waits : (q n : ℕ) (call : Call) → v.live q ≡ true → (wait : Waits v.rows (v.handovers q) (v.written q) q n call) → wait.row ≡ row → ⊥
@@ -236,9 +226,7 @@ module _ (v : View) (row : Row) (lineage : List Member) (to place : ℕ) (ends :
       false≢true (sym none ∙ any)
 
   free_still : (q n : ℕ) → is_marked (v.written q).marks n ≡ false → is_marked (now.written q).marks n ≡ false
-  free_still q n free =
-      false_from_ne_true (is_marked (now.written q).marks n)
-      (λ marked. false≢true (sym free ∙ any_kept (λ m. nat_le m.first n && nat_lt n m.past) stays (v.written q).marks marked))
+  free_still q n free = grind (arith, false_from_ne_true, is_marked, false≢true, any_kept, nat_le, nat_lt)
 
   waits : (q n : ℕ) (call : Call) → v.live q ≡ true → Waits v.rows (v.handovers q) (v.written q) q n call → Waits now.rows (v.handovers q) (now.written q) q n call
   waits q n call lives wait =
@@ -250,13 +238,11 @@ module _ (v : View) (row : Row) (lineage : List Member) (to place : ℕ) (ends :
 
   -- what holds of a mark of the row's tablet
   mark_of : (q : ℕ) (mark : Mark) → Contains (v.written q).marks mark → mark.tablet ≡ row.tablet → MarkFits row q (v.handovers q row.tablet) (v.live q) (v.written q) mark
-  mark_of q mark stands its =
-      All-contains (λ m. m.tablet ≡ row.tablet → MarkFits row q (v.handovers q row.tablet) (v.live q) (v.written q) m) (v.written q).marks mark
-      (was.marks q) stands its
+  mark_of q mark stands its = grind (arith, was)
 
   -- what bore a mark of the tablet at a living master is applied
   applied_there : (q : ℕ) (mark : Mark) → v.live q ≡ true → Contains (v.written q).marks mark → mark.tablet ≡ row.tablet → mark.past ≤ (v.written q).applied
-  applied_there q mark lives stands its = grind (arith, mark_of, in_phase, taken_applied, some_of, has_row)
+  applied_there q mark lives stands its = grind (arith, mark_of, in_phase, some_of, has_row)
 
   found_calls : (q : ℕ) → v.live q ≡ true → EachHasCall (v.calls q) (v.written q) → EachHasCall (v.calls q) (now.written q)
   found_calls q lives each n entry behind stands is_call free =
@@ -300,9 +286,7 @@ module _ (v : View) (row : Row) (lineage : List Member) (to place : ℕ) (ends :
     named = λ q is. was.named q (passed.named q is);
     begun = was.begun;
     formed = tt;
-    placed =
-        All-cons (IsPlaced now.written) (member_at to place) []
-        (placed_within v row lineage to place ends sound (some_of row has_row) taken) (All-nil (IsPlaced now.written));
+    placed = grind (arith, member_at, placed_within, some_of, has_row, now.written);
     sent = λ n m there. let fits = was.sent n m there in record { within = fits.within; below = fits.below };
     fitting = fits;
     ranged = λ q counting. member_range v row owned sound has_row passed q (was.ranged q counting);

@@ -1,7 +1,6 @@
 -- A lane stays sound when a rebuild is taken, where the records that its ends make go on lawfully.
-use Rattle.std.proofs.Common.{arith}
-use Rattle.std.proofs.Common.{◌≡◌, ℕ, Bool, true, false, cond, eqb, List, [], ◌∷◌, ◌++◌, Option, refl, sym, ap, ◌∙◌}
-use Rattle.std.proofs.Common.{append-nil, append_assoc, filter, fold, not, subst}
+use Rattle.std.proofs.Common.{arith, ◌≡◌, ℕ, Bool, eqb, List, [], ◌∷◌, ◌++◌, Option, refl, sym, ap, ◌∙◌, append-nil, append_assoc, filter}
+use Rattle.std.proofs.Common.{fold, not, subst}
 use Rattle.rk_inv_base.proofs.Words.{Ended, Placed, Member, Row, outcome_of, has_record, next_record, Ledger, asked_by, with_ends}
 use Rattle.rk_inv_base.proofs.Words.{is_mark_of, World, LastCall, Mark, view, IsSound, SoundView, marks_of, with_ledger}
 use Rattle.rk_inv_rows.proofs.Words.{MayOwnRebuilt, made_by, made_of, rebuilt_taken_in, row_owned_in}
@@ -29,16 +28,7 @@ all_made ledger (end ∷ ends) =
 -- what two tests keep, they keep in either order
 kept_either : {X : Type 0} (p q : X → Bool) (xs : List X) → filter p (filter q xs) ≡ filter q (filter p xs)
 kept_either p q [] = refl
-kept_either {X} p q (x ∷ xs) = go (p x) (q x) refl refl (kept_either p q xs)
-  where
-    go : (a b : Bool) → p x ≡ a → q x ≡ b → filter p (filter q xs) ≡ filter q (filter p xs) → filter p (cond b (x ∷ filter q xs) (filter q xs)) ≡ filter q (cond a (x ∷ filter p xs) (filter p xs))
-    go true true first second later =
-        ap (λ (b : Bool). cond b (x ∷ filter p (filter q xs)) (filter p (filter q xs))) first
-        ∙ ap (λ (l : List X). x ∷ l) later
-        ∙ sym (ap (λ (b : Bool). cond b (x ∷ filter q (filter p xs)) (filter q (filter p xs))) second)
-    go true false first second later = later ∙ sym (ap (λ (b : Bool). cond b (x ∷ filter q (filter p xs)) (filter q (filter p xs))) second)
-    go false true first second later = ap (λ (b : Bool). cond b (x ∷ filter p (filter q xs)) (filter p (filter q xs))) first ∙ later
-    go false false first second later = later
+kept_either {X} p q (x ∷ xs) = grind (arith, (kept_either p q xs))
 
 pub sound_rebuilt_taken : (w : World) (row : Row) (lineage : List Member) (to place : ℕ) (ends : List Ended) → IsSound w → MayOwnRebuilt (view w) row lineage to place ends → IsSound (rebuilt_taken_in w row to place ends)
 sound_rebuilt_taken w row lineage to place ends sound may =

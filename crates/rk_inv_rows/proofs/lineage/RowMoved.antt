@@ -4,10 +4,10 @@ use Rattle.std.proofs.Common.{inr, append-nil, All, IfSome, filter, Contains, fl
 use Rattle.rk_inv_base.proofs.Words.{cond_both, false≢true, All-cons, All-head, All-nil, get_other, get_same, NumberMap, get, insert}
 use Rattle.rk_inv_base.proofs.Words.{Member, map_after, Entry, is_in, Handover, Role, lineage_of, Phase, Opening, Moving, Row, base_map}
 use Rattle.rk_inv_base.proofs.Words.{Handed, items_of, first_of, of_key, side_entries, floor_of, is_idle, World, lineage_rest}
-use Rattle.rk_inv_base.proofs.Words.{lineage_truth, member_truth, AreHandedOver, ReachAll, TellAll, AreAboveMap, IsNext, beginning_in}
-use Rattle.rk_inv_base.proofs.Words.{is_wanting, target_truth, HasSome, row_at, Bystander, MovingSource, MovingTarget, OpeningSource, Post}
-use Rattle.rk_inv_base.proofs.Words.{ReadyTarget, Holds, StillCounts, bond_of, post_of, speaks, IsBare, is_granted, wanted_place, IsDone}
-use Rattle.rk_inv_base.proofs.Words.{RoleFits, IsPlaced, HasItems, IsTableOf, has_all_items, View, view, truths, rests, IsSound, SoundView}
+use Rattle.rk_inv_base.proofs.Words.{lineage_truth, member_truth, ReachAll, TellAll, AreAboveMap, IsNext, beginning_in, is_wanting}
+use Rattle.rk_inv_base.proofs.Words.{target_truth, HasSome, row_at, Bystander, MovingSource, MovingTarget, OpeningSource, Post, ReadyTarget}
+use Rattle.rk_inv_base.proofs.Words.{Holds, StillCounts, bond_of, post_of, speaks, IsBare, is_granted, wanted_place, IsDone, RoleFits}
+use Rattle.rk_inv_base.proofs.Words.{IsPlaced, HasItems, IsTableOf, has_all_items, View, view, truths, rests, IsSound, SoundView}
 use Rattle.rk_inv_rows.proofs.Words.{member as member_at, MayMove, MayBeLeft, MayTakeLineage, MembersAgree, TellHistory, lineage_taken}
 use Rattle.rk_inv_rows.proofs.Words.{row_moved_in, SoundRow, row_in}
 use Rattle.rk_inv_rows.proofs.lineage.FloorsOf.{floor_among}
@@ -52,10 +52,7 @@ module _ (v : View) (row : Row) (source sfrom target dfrom : ℕ) (given : Hande
   -- ---- the target has nothing
 
   bare : IsBare row.range dfrom (v.written target) (v.records target)
-  bare =
-      rw (← range_at v sound row may.has_row target may.waiting.term_is) (waits_at (v.handovers target row.tablet).role dfrom
-      (λ from. IsBare (v.handovers target row.tablet).range from (v.written target) (v.records target)) may.waiting.role_is
-      (sound.receives.bare target row.tablet))
+  bare = grind (arith, range_at, waits_at)
 
   -- ---- the source has told all
 
@@ -89,18 +86,10 @@ module _ (v : View) (row : Row) (source sfrom target dfrom : ℕ) (given : Hande
   abbrev FitsPost : ℕ → Post → Type 0
   FitsPost q post = Holds (bond_of post (v.handovers q row.tablet).role) row.term (v.handovers q row.tablet).term (v.written q).applied
 
-  source_fits : (q : ℕ) → eqb source q ≡ true → FitsPost q MovingSource
-  source_fits q is = rw (← eqb-true source q is, may.frozen) may.term_is
-
-  target_fits : (q : ℕ) → eqb target q ≡ true → FitsPost q (MovingTarget dfrom)
-  target_fits q is = rw (← eqb-true target q is, may.waiting.role_is) (may.waiting.term_is, refl)
-
   fits_by : (q : ℕ) (a b : Bool) → eqb source q ≡ a → eqb target q ≡ b
       → FitsPost q (cond a OpeningSource (cond b (ReadyTarget dfrom) Bystander))
       → FitsPost q (cond a MovingSource (cond b (MovingTarget dfrom) Bystander))
-  fits_by q true b at its was = source_fits q at
-  fits_by q false true at its was = target_fits q its
-  fits_by q false false at its was = was
+  fits_by q a b at its was = grind (arith, eqb-true)
 
   fits : (q : ℕ) → StillCounts (v.live q) (v.handovers q row.tablet).term row.term → RoleFits new q (v.handovers q row.tablet) (v.written q).applied
   fits q counting = grind (arith, fits_by, eqb, in_phase, post_of, row_was)
@@ -109,9 +98,7 @@ module _ (v : View) (row : Row) (source sfrom target dfrom : ℕ) (given : Hande
   speaks_by h a b says = grind arith
 
   speaks_no_more : (q : ℕ) → speaks (post_of moving q) (v.handovers q row.tablet) row.term ≡ true → speaks (post_of row.phase q) (v.handovers q row.tablet) row.term ≡ true
-  speaks_no_more q says =
-      ap (λ (p : Phase). speaks (post_of p q) (v.handovers q row.tablet) row.term) may.phase_is
-      ∙ speaks_by (v.handovers q row.tablet) (eqb source q) (eqb target q) says
+  speaks_no_more q says = grind (arith, speaks, post_of, speaks_by, eqb)
 
   -- the source has all items, as it had
   full_by : (h : Handover) (a b : Bool) → has_all_items (cond a MovingSource (cond b (MovingTarget dfrom) Bystander)) h row.term ≡ true → has_all_items (cond a OpeningSource (cond b (ReadyTarget dfrom) Bystander)) h row.term ≡ true
@@ -150,15 +137,11 @@ module _ (v : View) (row : Row) (source sfrom target dfrom : ℕ) (given : Hande
 
   -- ---- what is handed over
 
-  -- the source answers calls until then: it speaks
-  speaks_still : speaks (post_of row.phase source) giver row.term ≡ true
-  speaks_still = grind (arith, speaks, post_of, eqb, eq-eqb)
-
   reached : ReachAll row.range v.journal given.ends
-  reached = rw may.ends_are (row_was.answering source (inr may.term_is) speaks_still)
+  reached = grind (arith, row_was, speaks, post_of, eqb, eq-eqb)
 
   next : IsNext (truths v row ++ rests v row) given.floor
-  next = rw may.floor_is (row_was.counted source (inr may.term_is) speaks_still)
+  next = grind (arith, floor_is, row_was, speaks, post_of, eqb, eq-eqb)
 
   -- what the target begins with tells all ends, and is above all versions
   ends : TellAll row.range v.journal (beginning_in new given ∷ [])
@@ -178,9 +161,6 @@ module _ (v : View) (row : Row) (source sfrom target dfrom : ℕ) (given : Hande
   target_is =
       ap (option_map (λ h. beginning_in new h ∷ member_truth v.written row.range last)) given_is
       ∙ ap (λ (l : List Entry). Some (beginning_in new given ∷ l)) (truth_none v.written row.range last some bare.nothing)
-
-  abbrev HandsOver : Handed → Type 0
-  HandsOver h = AreHandedOver v.base row.range v.journal h.ends × IsNext (truths v new ++ rests v new) h.floor
 
   behind : IsNext (truths v new ++ rests v new) given.floor
   behind = let was : floor_of (truths v row ++ rests v row) ≤ given.floor = next in omega (arith, floor, was)

@@ -1,7 +1,6 @@
 -- What counts of the log of a target that has joined: its own items, and those of the side segments that its closing entry names.
-use Rattle.std.proofs.Common.{◌≡◌, ℕ, ◌+◌, ◌-◌, ◌≤◌, ◌<◌, true, false, ◌&&◌, eqb, leb, List, [], ◌∷◌, ◌++◌, Some, sym, ap, subst, ◌∙◌}
-use Rattle.std.proofs.Common.{⊎_elim, arith, inl, inr, drop, filter, slice_get, take, max, ◌⊎◌, Contains, flat_map, drop-drop}
-use Rattle.std.proofs.Common.{take-append-drop}
+use Rattle.std.proofs.Common.{◌≡◌, ℕ, ◌+◌, ◌-◌, ◌≤◌, ◌<◌, true, false, eqb, leb, List, [], ◌∷◌, ◌++◌, Some, sym, ap, subst, ◌∙◌, ⊎_elim}
+use Rattle.std.proofs.Common.{arith, inl, inr, drop, filter, slice_get, take, max, ◌⊎◌, Contains, flat_map, drop-drop, take-append-drop}
 use Rattle.rk_inv_base.proofs.Words.{cond-true, cond_both, nat_tests, drop-take, Contains-append_cases, Contains-append_left}
 use Rattle.rk_inv_base.proofs.Words.{Contains-append_right, filter-append, meets, Held, Range, Entry, Joined, is_in, none_stands}
 use Rattle.rk_inv_base.proofs.Words.{stands_cases, items_in, items_of, is_marked, unmarked, unmarked_from, counting, counts, is_joined_in}
@@ -15,16 +14,10 @@ use Rattle.rk_inv_rows.proofs.lineage.TakenOver.{HasBoth}
 -- ---- ranges
 
 pub meets_itself : (range : Range) → range.first ≤ range.last → meets range range ≡ true
-meets_itself range some = go range.table range.first range.last some
-  where
-    go : (t f l : ℕ) → f ≤ l → (eqb t t && leb f l && leb f l) ≡ true
-    go t f l some = grind (arith, nat_tests)
+meets_itself range some = grind (arith, eqb, leb, nat_tests, range.table, range.first, range.last)
 
 pub has_itself : (range : Range) → has_all range range ≡ true
-has_itself range = go range.table range.first range.last
-  where
-    go : (t f l : ℕ) → (eqb t t && leb f f && leb l l) ≡ true
-    go t f l = grind (arith, nat_tests)
+has_itself range = grind (arith, eqb, leb, nat_tests, range.table, range.first, range.last)
 
 -- ---- entries
 
@@ -99,9 +92,7 @@ module _ (range : Range) (marks : List Mark) (sides : List (List Held)) (from ap
       unmarked_stands marks from found.0 (drop from front) (entries.Joined closing) found.1 (ap (is_marked marks) found.2 ∙ has.free)
 
   numbers_to : (n : ℕ) → Contains closing.segments n → Contains (flat_map (named_by range) kept) n
-  numbers_to n stands =
-      to_flat (named_by range) kept (entries.Joined closing) n closing_kept
-      (rw (cond-true (meets closing.range range) closing.segments [] closes) stands)
+  numbers_to n stands = search (to_flat, named_by, closing_kept, cond-true, meets, closes)
 
   -- no Joined of the range stands behind what is applied
   pub none_behind_applied : joined_from range (max from applied) list ≡ []

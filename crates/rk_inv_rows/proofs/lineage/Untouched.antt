@@ -1,9 +1,9 @@
 -- Parts of a log that do not touch a range: a member that has nothing behind a place, and one whose log ends with nothing of it.
-use Rattle.std.proofs.Common.{◌≡◌, ℕ, zero, suc, ◌≤◌, Bool, true, false, cond, List, [], ◌∷◌, ◌++◌, refl, sym, ap, ◌∙◌, arith, append-nil}
-use Rattle.std.proofs.Common.{drop, fold, max, All, flat_map, take-append-drop}
+use Rattle.std.proofs.Common.{◌≡◌, ℕ, zero, suc, ◌≤◌, Bool, false, cond, List, [], ◌∷◌, ◌++◌, refl, sym, ap, ◌∙◌, arith, append-nil, drop}
+use Rattle.std.proofs.Common.{max, All, take-append-drop}
 use Rattle.rk_inv_base.proofs.Words.{or_parts, flat_map-append, All-nil, All-cons, filter-append, list_any, Member, Range, Entry, is_marked}
-use Rattle.rk_inv_base.proofs.Words.{unmarked, unmarked_from, touches, counting, material_of, named, named_by, side_entries, with_number}
-use Rattle.rk_inv_base.proofs.Words.{Written, applied_entries, member_rest, member_truth, Mark, IsDone}
+use Rattle.rk_inv_base.proofs.Words.{unmarked, unmarked_from, touches, material_of, named, side_entries, with_number, Written}
+use Rattle.rk_inv_base.proofs.Words.{applied_entries, member_rest, member_truth, Mark, IsDone}
 use Rattle.rk_inv_rows.proofs.Words.{Misses, all_names_none, counting_none, drop_missed, material_none, unmarked_missed}
 use Rattle.rk_inv_rows.proofs.lineage.Among.{first_all, later_all}
 
@@ -29,16 +29,12 @@ drop_more range (suc n) (entry ∷ list) more missed = drop_more range n list mo
 
 -- the first of them goes or stays in both
 first_kept : (range : Range) (gone : Bool) (entry : Entry) (short long : List Entry) → HasMissed range short long → HasMissed range (cond gone short (entry ∷ short)) (cond gone long (entry ∷ long))
-first_kept range true entry short long has = has
-first_kept range false entry short long has =
-    record { more = has.more; parts = ap (λ (l : List Entry). entry ∷ l) has.parts; missed = has.missed }
+first_kept range gone entry short long has = grind arith
 
 unmarked_more : (range : Range) (marks : List Mark) (place : ℕ) (list more : List Entry) → All (Misses range) more → HasMissed range (unmarked marks place list) (unmarked marks place (list ++ more))
-unmarked_more range marks place [] more missed =
-    record { more = unmarked marks place more; parts = refl; missed = unmarked_missed range marks place more missed }
+unmarked_more range marks place [] more missed = grind (arith, unmarked, unmarked_missed)
 unmarked_more range marks place (entry ∷ list) more missed =
-    first_kept range (is_marked marks place) entry (unmarked marks (suc place) list) (unmarked marks (suc place) (list ++ more))
-    (unmarked_more range marks (suc place) list more missed)
+    grind (arith, first_kept, is_marked, unmarked, (unmarked_more range marks (suc place) list more missed))
 
 from_more : (range : Range) (marks : List Mark) (from : ℕ) (list more : List Entry) → All (Misses range) more → HasMissed range (unmarked_from marks from list) (unmarked_from marks from (list ++ more))
 from_more range marks from list more missed =
@@ -49,17 +45,7 @@ from_more range marks from list more missed =
 -- the same counts, with the same side segments
 material_same : (range : Range) (side : ℕ → List Entry) (short long : List Entry) → range.first ≤ range.last → HasMissed range short long → material_of range side long ≡ material_of range side short
 material_same range side short long some has =
-    let numbers : flat_map (named_by range) (short ++ has.more) ≡ flat_map (named_by range) short =
-    flat_map-append (named_by range) short has.more
-    ∙ ap (λ (l : List ℕ). flat_map (named_by range) short ++ l) (all_names_none range has.more has.missed)
-    ∙ append-nil (flat_map (named_by range) short) in
-    let counted : counting range (short ++ has.more) ≡ counting range short =
-    filter-append _ short has.more
-    ∙ ap (λ (l : List Entry). counting range short ++ l) (counting_none range has.more some has.missed)
-    ∙ append-nil (counting range short) in
-    ap (material_of range side) has.parts
-    ∙ ap (λ (l : List Entry). l ++ counting range (flat_map side (named range (short ++ has.more)))) counted
-    ∙ ap (λ (l : List ℕ). counting range short ++ counting range (flat_map side (fold with_number [] l))) numbers
+    grind (arith, flat_map-append, all_names_none, append-nil, filter-append, counting_none)
 
 -- ---- members
 
@@ -90,9 +76,7 @@ module _ (written : ℕ → Written) (range : Range) (member : Member) (some : r
   missed = each_misses range (drop member.from w.entries) nothing
 
   pub truth_none : member_truth written range member ≡ []
-  truth_none =
-      material_none range (side_entries w.sides) (unmarked_from w.marks member.from (applied_entries w)) some
-      (unmarked_missed range w.marks member.from (drop member.from (applied_entries w)) (first_all (Misses range) member.from w.applied w.entries missed))
+  truth_none = search (material_none, side_entries, unmarked_from, applied_entries, unmarked_missed, first_all, missed)
 
   pub rest_none : member_rest written range member ≡ []
   rest_none =
@@ -101,7 +85,4 @@ module _ (written : ℕ → Written) (range : Range) (member : Member) (some : r
       (later_all (Misses range) member.from (max member.from w.applied) w.entries (omega arith) missed))
 
   pub names_none : named range (unmarked_from w.marks member.from w.entries) ≡ []
-  names_none =
-      ap (λ (l : List ℕ). fold with_number [] l)
-      (all_names_none range (unmarked_from w.marks member.from w.entries)
-      (unmarked_missed range w.marks member.from (drop member.from w.entries) missed))
+  names_none = search (with_number, all_names_none, unmarked_from, unmarked_missed, missed)

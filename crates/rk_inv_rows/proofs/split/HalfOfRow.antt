@@ -1,19 +1,19 @@
 -- A half of a row has of all that the whole has what is of its range: what counts for it, what that tells, what goes on behind it, and so
 -- what the invariant says of the whole.
-use Rattle.std.proofs.Common.{◌≡◌, ℕ, ◌≤◌, Bool, true, false, arith, eqb, refl, sym, suc, max, cond, List, [], ◌∷◌, ◌++◌, filter}
-use Rattle.std.proofs.Common.{fold, ap, ◌∙◌, drop, nat_lt, slice_index_or, ◌-◌, All, flat_map, ◌<◌, ⊎_elim, bytes_eq, eqb-true, append-nil}
-use Rattle.std.proofs.Common.{Option, ◌≢◌, AllPairs, ◌⊎◌, inl, inr, subst, Contains}
+use Rattle.std.proofs.Common.{◌≡◌, ℕ, ◌≤◌, Bool, true, false, arith, refl, sym, suc, max, cond, List, [], ◌∷◌, ◌++◌, filter, fold, ap, ◌∙◌}
+use Rattle.std.proofs.Common.{drop, nat_lt, slice_index_or, ◌-◌, All, flat_map, ◌<◌, ⊎_elim, append-nil, Option, ◌≢◌, AllPairs, ◌⊎◌, subst}
+use Rattle.std.proofs.Common.{Contains}
 use Rattle.rk_inv_base.proofs.Words.{nat_tests, has, meets, Range, has_all, cond_both, false≢true, All-append, All-cons, All-drop, All-head}
 use Rattle.rk_inv_base.proofs.Words.{All-map, All-nil, All-tail, All-take, All-weaker, filter-append, hash_of, Held, Member, Entry}
 use Rattle.rk_inv_base.proofs.Words.{FIRST_SIDE_SEGMENT, is_marked, unmarked, unmarked_from, as_entries, counting, counts, material_of}
 use Rattle.rk_inv_base.proofs.Words.{named, named_by, side_entries, with_number, Written, applied_entries, member_rest, member_truth, Mark}
-use Rattle.rk_inv_base.proofs.Words.{and_parts, cases_Bool, cond-false, cond-true, All-filter, bytes_eq-Decides, Map, is_in, is_of_parts}
-use Rattle.rk_inv_base.proofs.Words.{is_of, newest, none_found, IsPlain, items_of, of_key, tells_of, floor_by, floor_of, has_key}
-use Rattle.rk_inv_base.proofs.Words.{AreAboveMap, IsNext, AreAbove, IsTableOf, false_from_ne_true, All-contains, Ended, Placed, is_at_parts}
-use Rattle.rk_inv_base.proofs.Words.{IsLegal, is_at, live_after, map_after, Base, base_map, item_end, outcome_of, refusal_end, told}
-use Rattle.rk_inv_base.proofs.Words.{LastCall, TellAll, IsLastAsked, IsRest, IsStaged, call_end, call_ends, record_of_last, records_of}
-use Rattle.rk_inv_base.proofs.Words.{IsTruth, Call, Contains-append_left, Contains-append_right, filter_passes, lineage_of, Phase, Owned}
-use Rattle.rk_inv_base.proofs.Words.{Row, told_by, lineage_rest, lineage_truth, IsKnown, IsOfWholeRows, View, truths, rests, SoundView}
+use Rattle.rk_inv_base.proofs.Words.{cases_Bool, cond-false, cond-true, All-filter, bytes_eq-Decides, Map, is_in, is_of_parts, is_of}
+use Rattle.rk_inv_base.proofs.Words.{newest, none_found, IsPlain, items_of, of_key, floor_by, floor_of, has_key, AreAboveMap, IsNext}
+use Rattle.rk_inv_base.proofs.Words.{AreAbove, IsTableOf, false_from_ne_true, All-contains, Ended, Placed, is_at_parts, IsLegal, is_at}
+use Rattle.rk_inv_base.proofs.Words.{live_after, map_after, Base, base_map, item_end, outcome_of, refusal_end, told, LastCall, TellAll}
+use Rattle.rk_inv_base.proofs.Words.{IsLastAsked, IsRest, IsStaged, call_end, call_ends, record_of_last, records_of, IsTruth, Call}
+use Rattle.rk_inv_base.proofs.Words.{Contains-append_left, Contains-append_right, filter_passes, lineage_of, Phase, Owned, Row, told_by}
+use Rattle.rk_inv_base.proofs.Words.{lineage_rest, lineage_truth, IsKnown, IsOfWholeRows, View, truths, rests, SoundView}
 use Rattle.rk_inv_rows.proofs.Words.{meets_either, IsHalf, IsOfWhole, live as live_items, record_of as live_of, floor_step, kept_stands}
 use Rattle.rk_inv_rows.proofs.Words.{all_by, filter_from, member as member_at, row_in}
 use Rattle.std.proofs.lemmas.List.Kept.{AllPairs-cons}
@@ -37,18 +37,6 @@ module _ (whole half : Range) (is : IsHalf whole half) where
   -- what has all of the whole has all of a half
   pub all_of_half : (a : Range) → has_all a whole ≡ true → has_all a half ≡ true
   all_of_half a all = grind (arith, nat_tests)
-
-  -- and what has all of a half meets it
-  pub all_meets_half : (a : Range) → has_all a half ≡ true → meets a half ≡ true
-  all_meets_half a all = grind (arith, nat_tests)
-
-  -- so where what meets the whole has all of it, a range has all of a half only if it has all of the whole
-  pub all_of_whole : (a : Range) → (meets whole a ≡ true → has_all a whole ≡ true) → has_all a half ≡ true → has_all a whole ≡ true
-  all_of_whole a wholes all = wholes (meets_either a whole (meets_whole a (all_meets_half a all)))
-
-  -- and it meets a half just where it meets the whole
-  pub meets_same : (a : Range) → (meets whole a ≡ true → has_all a whole ≡ true) → meets a half ≡ meets a whole
-  meets_same a wholes = grind (arith, meets, meets_whole, all_meets_half, all_of_half, meets_either)
 
 -- ---- lists
 
@@ -83,18 +71,15 @@ module _ (whole half : Range) (is : IsHalf whole half) where
   -- ---- entries
 
   pub counts_whole : (entry : Entry) → IsOfWhole whole entry → counts half entry ≡ true → counts whole entry ≡ true
-  counts_whole entry of inside = grind (arith, in_whole, hash_of, all_of_whole, false≢true)
+  counts_whole entry of inside = grind (arith, in_whole, hash_of, false≢true, meets_either, meets_whole, nat_tests)
 
   pub counting_half : (list : List Entry) → All (IsOfWhole whole) list → counting half list ≡ counting half (counting whole list)
-  counting_half list all =
-      filter_finer (counts half) (counts whole) list
-      (All-weaker (IsOfWhole whole) (λ entry. counts half entry ≡ true → counts whole entry ≡ true) counts_whole list all)
+  counting_half list all = grind (arith, filter_finer, counts, counts_whole)
 
   -- ---- side segments
 
   names_same : (entry : Entry) → IsOfWhole whole entry → named_by half entry ≡ named_by whole entry
-  names_same (entries.Joined joined) of = ap (λ (b : Bool). cond b joined.segments []) (meets_same whole half is joined.range of)
-  names_same _ of = refl
+  names_same entry of = grind (arith, meets, meets_whole, all_of_half, meets_either, nat_tests)
 
   all_names_same : (list : List Entry) → All (IsOfWhole whole) list → flat_map (named_by half) list ≡ flat_map (named_by whole) list
   all_names_same [] all = refl
@@ -149,43 +134,23 @@ module _ (whole half : Range) (is : IsHalf whole half) where
 pub items_kept : (range : Range) (list : List Entry) → items_of (counting range list) ≡ filter (is_in range) (items_of list)
 items_kept range [] = refl
 items_kept range (entries.Held held ∷ list) =
-    cond_both (counts range (entries.Held held)) (entries.Held held ∷ counting range list) (counting range list)
-    (λ kept. items_of kept ≡ filter (is_in range) (held ∷ items_of list))
-    (λ e.
-    ap (λ (items : List Held). held ∷ items) (items_kept range list)
-    ∙ sym (cond-true (is_in range held) (held ∷ filter (is_in range) (items_of list)) (filter (is_in range) (items_of list)) e))
-    (λ e.
-    items_kept range list
-    ∙ sym (cond-false (is_in range held) (held ∷ filter (is_in range) (items_of list)) (filter (is_in range) (items_of list)) e))
+    grind (arith, cond_both, counts, counting, items_of, is_in, cond-true, cond-false, entries.Held, (items_kept range list))
 items_kept range (entries.Refused refused ∷ list) =
-    cond_both (counts range (entries.Refused refused)) (entries.Refused refused ∷ counting range list) (counting range list)
-    (λ kept. items_of kept ≡ filter (is_in range) (items_of list)) (λ e. items_kept range list) (λ e. items_kept range list)
+    grind (arith, cond_both, counts, counting, items_of, is_in, entries.Refused, (items_kept range list))
 items_kept range (entries.Carried carried ∷ list) =
-    cond_both (counts range (entries.Carried carried)) (entries.Carried carried ∷ counting range list) (counting range list)
-    (λ kept. items_of kept ≡ filter (is_in range) (items_of list)) (λ e. items_kept range list) (λ e. items_kept range list)
+    grind (arith, cond_both, counts, counting, items_of, is_in, entries.Carried, (items_kept range list))
 items_kept range (entries.Joined joined ∷ list) =
-    cond_both (counts range (entries.Joined joined)) (entries.Joined joined ∷ counting range list) (counting range list)
-    (λ kept. items_of kept ≡ filter (is_in range) (items_of list)) (λ e. items_kept range list) (λ e. items_kept range list)
+    grind (arith, cond_both, counts, counting, items_of, is_in, entries.Joined, (items_kept range list))
 
 -- an item of a key in a range is in the range
 in_by_key : (range : Range) (table : ℕ) (key : List ℕ) (item : Held) → is_of table key item ≡ true → has_key range table key ≡ true → is_in range item ≡ true
-in_by_key range table key item its inside =
-    let parts = is_of_parts table key item its in
-    ap (λ (t : ℕ). has_key range t item.key) parts.0 ∙ ap (has_key range table) parts.1 ∙ inside
+in_by_key range table key item its inside = grind (arith, is_of_parts, has_key)
 
 -- the newest item of a key in a range is the newest of those in the range
 pub newest_kept : (range : Range) (table : ℕ) (key : List ℕ) (found : Found) (items : List Held) → has_key range table key ≡ true → newest_from found (filter (is_in range) items) table key ≡ newest_from found items table key
 newest_kept range table key found [] inside = refl
 newest_kept range table key found (item ∷ items) inside =
-    cond_both (is_in range item) (item ∷ filter (is_in range) items) (filter (is_in range) items)
-    (λ kept. newest_from found kept table key ≡ newest_from (with_newer found item) items table key)
-    (λ e. newest_kept range table key (with_newer found item) items inside)
-    (λ e.
-    let other : is_of table key item ≡ false =
-    false_from_ne_true (is_of table key item) (λ its. false≢true (sym e ∙ in_by_key range table key item its inside)) in
-    newest_kept range table key found items inside
-    ∙ newest_from-same found (with_newer found item) items table key
-    (sym (cond-false (is_of table key item) _ (found table key) other)))
+    grind (arith, in_by_key, newest_from-same, (newest_kept range table key (with_newer found item) items inside))
 
 -- items of which two are equal where they are of one key and version
 pub plain_kept : (p : Held → Bool) (items : List Held) → IsPlain items → IsPlain (filter p items)
@@ -208,9 +173,7 @@ above_kept p before (item ∷ items) above =
 -- ---- floors
 
 floor_more : (a b : ℕ) (entry : Entry) → a ≤ b → floor_by a entry ≤ floor_by b entry
-floor_more a b (entries.Refused refused) less = less
-floor_more a b (entries.Joined joined) less = less
-floor_more a b _ less = omega (arith, less)
+floor_more a b entry less = grind arith
 
 floor_kept_from : (p : Entry → Bool) (a b : ℕ) (list : List Entry) → a ≤ b → fold floor_by a (filter p list) ≤ fold floor_by b list
 floor_kept_from p a b [] less = less
@@ -228,15 +191,9 @@ next_kept p list number next =
 -- ---- a half
 
 module _ (whole half : Range) (is : IsHalf whole half) where
-  -- what tells of a key in the half, and counts for the whole, counts for the half
-  tells_in_half : (table : ℕ) (key : List ℕ) → has_key half table key ≡ true → (entry : Entry) → counts whole entry ≡ true → tells_of table key entry ≡ true → counts half entry ≡ true
-  tells_in_half table key inside entry counted tells =
-      grind (arith, in_by_key, and_parts, eqb, bytes_eq, has_key, eqb-true, bytes_eq-Decides, all_of_half, false≢true)
-
   pub of_key_half : (table : ℕ) (key : List ℕ) (list : List Entry) → has_key half table key ≡ true → All (λ entry. counts whole entry ≡ true) list → of_key table key (counting half list) ≡ of_key table key list
   of_key_half table key list inside all =
-      sym (filter_finer (tells_of table key) (counts half) list
-      (All-weaker _ _ (tells_in_half table key inside) list all))
+      grind (arith, filter_finer, bytes_eq-Decides)
 
   -- so floors of its keys are as they were
   pub above_half : (map : Map) (list : List Entry) → All (λ entry. counts whole entry ≡ true) list → AreAboveMap whole map list → AreAboveMap half map (counting half list)
@@ -244,9 +201,7 @@ module _ (whole half : Range) (is : IsHalf whole half) where
 
   -- and the records that its items leave
   pub live_half : (list : List Entry) (table : ℕ) (key : List ℕ) → has_key half table key ≡ true → live_items (items_of (counting half list)) table key ≡ live_items (items_of list) table key
-  live_half list table key inside =
-      ap (λ (items : List Held). live_items items table key) (items_kept half list)
-      ∙ ap live_of (newest_kept half table key none_found (items_of list) inside)
+  live_half list table key inside = search (live_items, items_kept, live_of, newest_kept, none_found, items_of)
 
   -- records that have the newest items of the whole have those of the half
   pub table_half : (list : List Entry) (records : List Held) → IsTableOf whole list records → IsTableOf half (counting half list) records
@@ -355,9 +310,7 @@ later_pairs R x xs pairs = λ i j d less within. pairs (suc i) (suc j) d (omega 
 
 -- an entry has the end of one call at most
 end_cases : (entry : Entry) → (call_end entry ≡ []) ⊎ ((end : Ended) × (call_end entry ≡ end ∷ []))
-end_cases (entries.Held held) = inr (item_end held, refl)
-end_cases (entries.Refused refused) = inr (refusal_end refused, refl)
-end_cases _ = inl refl
+end_cases entry = grind (arith, item_end, refusal_end)
 
 pairs_kept : (R : Ended → Ended → Type 0) (range : Range) (list : List Entry) → AllPairs R (call_ends list) → AllPairs R (call_ends (counting range list))
 pairs_kept R range [] pairs = pairs

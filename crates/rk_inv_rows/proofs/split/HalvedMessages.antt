@@ -1,10 +1,8 @@
 -- The targets and rebuilds of a view whose row is split, and what its messages say.
-use Rattle.std.proofs.Common.{◌≡◌, ℕ, ◌+◌, ◌≤◌, ◌<◌, true, [], ◌∷◌, eqb, sym, ap, ◌∙◌, ⊎_elim, arith, inl, inr, IfSome, All}
-use Rattle.std.proofs.Common.{ne_eqb}
-use Rattle.rk_inv_base.proofs.Words.{cases_eq, cond_both, get, meets, Node, Range, Handover, row_of, Owned, Row}
-use Rattle.rk_inv_base.proofs.Words.{Grant, Prepare, Tenure, Body, Rebuild, is_member, Mark, is_wanting, AsksFor, IsOnlyRebuilder, IsOwner}
-use Rattle.rk_inv_base.proofs.Words.{SaysOf, PrepareFits, CloseFits, GrantAgrees, OwnFits, ReleaseFits, RebuildFits, IsOf, Bystander, Owner}
-use Rattle.rk_inv_base.proofs.Words.{tenure_in, View}
+use Rattle.std.proofs.Common.{◌≡◌, ℕ, ◌+◌, ◌≤◌, ◌<◌, true, [], ◌∷◌, eqb, sym, ap, ◌∙◌, ⊎_elim, arith, inl, inr, IfSome, All, ne_eqb}
+use Rattle.rk_inv_base.proofs.Words.{cases_eq, cond_both, get, meets, Node, Range, Handover, row_of, Owned, Row, Grant, Prepare, Tenure}
+use Rattle.rk_inv_base.proofs.Words.{Body, Rebuild, is_member, Mark, is_wanting, AsksFor, IsOnlyRebuilder, IsOwner, SaysOf, PrepareFits}
+use Rattle.rk_inv_base.proofs.Words.{CloseFits, GrantAgrees, OwnFits, ReleaseFits, RebuildFits, IsOf, Bystander, Owner, tenure_in, View}
 use Rattle.rk_inv_rows.proofs.Words.{all_by, by_master, if_master, IsHalf}
 use Rattle.rk_inv_rows.proofs.split.Splitting.{split_row, Splitting, Halved, row, unknown_new, at_most_row, low_half_of, high_half_of}
 use Rattle.rk_inv_rows.proofs.split.Splitting.{Serves, IsOfHalves, post_now, half_met, no_owner, new_apart, by}

@@ -1,8 +1,7 @@
 -- A view stays sound when an owned row is split in two, and its owner, if it lives, serves both halves: terms and cover, what is staged, the
 -- records and the calls.
-use Rattle.std.proofs.Common.{◌≡◌, ℕ, ◌+◌, ◌≤◌, true, false, Some, refl, sym, ap, ◌∙◌, ⊎_elim, arith, IfSome, is_some, All}
-use Rattle.std.proofs.Common.{Contains, flat_map, Bool, cond, List, [], ◌∷◌, ◌++◌, eqb, leb, ◌⊎◌, inl, inr, drop, filter}
-use Rattle.std.proofs.Common.{max, eq-eqb, slice_index_or}
+use Rattle.std.proofs.Common.{◌≡◌, ℕ, ◌+◌, ◌≤◌, true, false, Some, refl, sym, ap, ◌∙◌, ⊎_elim, arith, IfSome, is_some, All, Contains}
+use Rattle.std.proofs.Common.{flat_map, Bool, cond, List, [], ◌∷◌, ◌++◌, eqb, leb, ◌⊎◌, inl, inr, drop, filter, max, eq-eqb, slice_index_or}
 use Rattle.rk_inv_base.proofs.Words.{cases_eq, false≢true, All-contains, All-weaker, IfSome_then, hash_of, has, meets, Held, Range, Entry}
 use Rattle.rk_inv_base.proofs.Words.{Handover, Role, row_of, Row, Body, has_all, is_absent, HasWholeRows, IsEntryWithin}
 use Rattle.rk_inv_base.proofs.Words.{IsItemWithin, IsOfWholeRows, IsWithinRows, Bystander, Owner, Holds, bond_of, HandoverFits, SentFits}
@@ -164,9 +163,7 @@ module _ (v : View) (cut : Splitting v) (after : Halved v cut) where
   range_within r within hash inside = covered_same v cut r.table hash ∙ within hash inside
 
   half_within : (half : Range) → IsHalf range half → IsWithinRows (rows' v cut) half
-  half_within half is hash inside =
-      covered_same v cut half.table hash
-      ∙ covered_by v.rows (row v cut) half.table hash has_row (in_whole range half is half.table hash inside)
+  half_within half is hash inside = search (covered_same, covered_by, row, in_whole, half.table)
 
   item_within : (item : Held) → IsItemWithin v.rows item → IsItemWithin (rows' v cut) item
   item_within item within = covered_same v cut item.table (hash_of item.key) ∙ within
@@ -182,9 +179,7 @@ module _ (v : View) (cut : Splitting v) (after : Halved v cut) where
   whole r wholes = kept v cut (λ x. meets x.range r ≡ true → has_all r x.range ≡ true) (half_whole (low v cut).range r (low_half v cut) wholes) (half_whole (high v cut).range r (high_half v cut) wholes) wholes
 
   entry_whole : (entry : Entry) → IsOfWholeRows v.rows entry → IsOfWholeRows (rows' v cut) entry
-  entry_whole (entries.Carried carried) wholes = whole carried.range wholes
-  entry_whole (entries.Joined joined) wholes = whole joined.range wholes
-  entry_whole _ wholes = tt
+  entry_whole entry wholes = grind (arith, whole)
 
   pub cover : Cover (rows' v cut) v.written handovers' v.records v.wire
   cover = record {
@@ -217,14 +212,9 @@ module _ (v : View) (cut : Splitting v) (after : Halved v cut) where
 
   -- the counter of the owner is next for the row
   pub owner_next : (q : ℕ) → Serves v cut q → IsNext (truths v (row v cut) ++ rests v (row v cut)) (v.handovers q tablet).counter
-  owner_next q serves =
-      (split_row v cut).counted q (inl serves.0)
-      (ap (λ (b : Bool). speaks (cond b (Owner from) Bystander) (v.handovers q tablet) term) (eq-eqb owner q (sym serves.1)))
+  owner_next q serves = grind (arith, split_row, speaks, eq-eqb)
 
   -- ---- what is staged
-
-  touches_row : (half : Range) → IsHalf range half → (entry : Entry) → touches half entry ≡ true → touches range entry ≡ true
-  touches_row half is entry met = grind (arith, in_whole, hash_of, meets_whole)
 
   joined_row : (half : Range) → IsHalf range half → (entry : Entry) → is_joined_in half entry ≡ true → is_joined_in range entry ≡ true
   joined_row half is (entries.Joined joined) met = meets_whole range half is joined.range met
@@ -240,7 +230,7 @@ module _ (v : View) (cut : Splitting v) (after : Halved v cut) where
       ∙ ap (filter (is_joined_in half)) none
 
   pub idle_half : (half : Range) → IsHalf range half → (q : ℕ) → v.live q ≡ true → eqb owner q ≡ false → list_any (touches half) (drop (v.written q).applied (v.written q).entries) ≡ false
-  idle_half half is q lives away = grind (arith, any_finer, touches, touches_row, split_row, bystander_quiet, bystands)
+  idle_half half is q lives away = grind (arith, any_finer, touches, split_row, bystander_quiet, bystands, in_whole, hash_of, meets_whole)
 
   -- a key of the row is in one of the halves
   in_a_half : (table hash : ℕ) → has range table hash ≡ true → (has (low v cut).range table hash ≡ true) ⊎ (has (high v cut).range table hash ≡ true)
@@ -292,14 +282,10 @@ module _ (v : View) (cut : Splitting v) (after : Halved v cut) where
   -- ---- calls
 
   pub reached_half : (half : Range) → IsHalf range half → (list : List Ended) → ReachAll range v.journal list → ReachAll half v.journal list
-  reached_half half is list all k d within inside =
-      let call : Call = (slice_index_or v.journal k d).call in
-      all k d within (in_whole range half is call.table (hash_of call.key) inside)
+  reached_half half is list all k d within inside = grind (arith, slice_index_or, in_whole, hash_of)
 
   owner_answers : (q : ℕ) → Serves v cut q → ReachAll range v.journal (ends_of (v.completions q tablet))
-  owner_answers q serves =
-      (split_row v cut).answering q (inl serves.0)
-      (ap (λ (b : Bool). speaks (cond b (Owner from) Bystander) (v.handovers q tablet) term) (eq-eqb owner q (sym serves.1)))
+  owner_answers q serves = grind (arith, split_row, speaks, eq-eqb)
 
   pub owner_answers_now : (q n : ℕ) → Serves v cut q → IsOfHalves v cut n → ReachAll range v.journal (ends_of (completions' q n))
   owner_answers_now q n serves its = rw (ends_stay q n serves its) (owner_answers q serves)
@@ -335,9 +321,7 @@ module _ (v : View) (cut : Splitting v) (after : Halved v cut) where
       (ends_of (v.completions q tablet)) (sound.calls.known q tablet serves.0))
 
   known_away : (q n : ℕ) → v.live q ≡ true → Beside v cut q n → All (KnownAt q n) (ends_of (completions' q n))
-  known_away q n lives unlike =
-      rw (completions_away q n unlike) (All-weaker _ _ (end_known q n)
-      (ends_of (v.completions q n)) (sound.calls.known q n lives))
+  known_away q n lives unlike = grind (arith, end_known, ends_of)
 
   pub known_all : (q n : ℕ) → v.live q ≡ true → All (KnownAt q n) (ends_of (completions' q n))
   known_all q n lives =

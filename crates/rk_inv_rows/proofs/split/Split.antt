@@ -1,7 +1,6 @@
 -- A lane stays sound when an owned row is split in two.
-use Rattle.std.proofs.Common.{arith}
-use Rattle.std.proofs.Common.{◌≡◌, ℕ, ◌+◌, true, false, List, Option, Some, None, eqb, is_some, refl, sym, ap, subst, ◌∙◌}
-use Rattle.std.proofs.Common.{⊎_elim, inl, not, eq-eqb}
+use Rattle.std.proofs.Common.{arith, ◌≡◌, ℕ, ◌+◌, true, false, List, Option, Some, None, eqb, is_some, refl, sym, ap, subst, ◌∙◌, ⊎_elim}
+use Rattle.std.proofs.Common.{inl, not, eq-eqb}
 use Rattle.rk_inv_base.proofs.Words.{cases_Bool, cases_eq, cond-false, cond-true, false≢true, or_left, Range, changed_rows, divided}
 use Rattle.rk_inv_base.proofs.Words.{is_split, row_of, Owned, Row, marks_of, Master, tablet_at, with_tablet, range_below, range_from}
 use Rattle.rk_inv_base.proofs.Words.{has_parts, owner_split, with_half, with_halves, with_split, Tablet, World, has_crashed, lives}

@@ -1,7 +1,7 @@
 -- An owned row that is split, with its halves: the rows then, and what masters have of tablets before and after.
-use Rattle.std.proofs.Common.{◌≡◌, ℕ, ◌+◌, ◌-◌, ◌<◌, ◌≤◌, Bool, true, false, cond, ◌||◌, ◌&&◌, List, [], ◌∷◌, Some, None, eqb, leb}
-use Rattle.std.proofs.Common.{refl, sym, ap, subst, ◌∙◌, ⊎_elim, arith, ◌⊎◌, inl, is_some, nat_le, nat_lt, All, Contains, eq-eqb, ne_eqb}
-use Rattle.std.proofs.Common.{leb-true, ltb-true}
+use Rattle.std.proofs.Common.{◌≡◌, ℕ, ◌+◌, ◌-◌, ◌<◌, ◌≤◌, Bool, true, false, cond, ◌||◌, ◌&&◌, List, [], ◌∷◌, Some, None, eqb, leb, refl}
+use Rattle.std.proofs.Common.{sym, ap, subst, ◌∙◌, ⊎_elim, arith, ◌⊎◌, is_some, nat_le, nat_lt, All, Contains, eq-eqb, ne_eqb, leb-true}
+use Rattle.std.proofs.Common.{ltb-true}
 use Rattle.rk_inv_base.proofs.Words.{and_parts, cases_Bool, cases_eq, false≢true, nat_tests, or_left, or_right, All-contains, has, meets}
 use Rattle.rk_inv_base.proofs.Words.{Ended, Range, Completions, Handover, lawful_turned, IsTabletMap, Precedes, is_covered, is_split}
 use Rattle.rk_inv_base.proofs.Words.{lower_part, placed, replaced, row_of, upper_part, Owned, Row, Gather, is_member, is_absent, Pulling}
@@ -170,9 +170,7 @@ module _ (v : View) (cut : Splitting v) where
   -- ---- ranges
 
   within : (range.first < at) × (at ≤ range.last)
-  within =
-      let parts = and_parts (nat_lt range.first at) (nat_le at range.last) splits in
-      (ltb-true range.first at parts.0, leb-true at range.last parts.1)
+  within = grind (arith, and_parts, nat_lt, nat_le, ltb-true, leb-true)
 
   pub low_half : IsHalf range low.range
   low_half = record { table = refl; first = omega arith; last = omega (arith, within.1); some = omega (arith, within.0) }
@@ -272,25 +270,17 @@ module _ (v : View) (cut : Splitting v) where
   owner_fits q serves = grind (arith, bond_of, eq-eqb, split_row)
 
   pub owner_range : (q : ℕ) → Serves q → (v.handovers q tablet).range ≡ range
-  owner_range q serves =
-      split_row.ranged q
-      (inl serves.0) (or_left (eqb owner q) false (eq-eqb owner q (sym serves.1)))
+  owner_range q serves = grind (arith, split_row, or_left, eqb, eq-eqb)
 
   abbrev pub Counts : ℕ → Handover → Type 0
   Counts q h = StillCounts (v.live q) h.term (term + 1)
-
-  -- only a living master counts at the next term
-  pub lives_now : (q own : ℕ) → own ≤ term → StillCounts (v.live q) own (term + 1) → v.live q ≡ true
-  lives_now q own few counts = ⊎_elim (λ (lives : v.live q ≡ true). lives) (λ (same : own ≡ term + 1). absurd (omega (arith, few, same))) counts
 
   -- one that has what it had is no owner
   pub not_owner : (q n : ℕ) → Beside q n → v.live q ≡ true → IsOfHalves n → eqb owner q ≡ false
   not_owner q n unlike lives its = grind (arith, ne_eqb)
 
   pub bystands : (q : ℕ) → v.live q ≡ true → eqb owner q ≡ false → Holds (bond_of Bystander (v.handovers q tablet).role) term (v.handovers q tablet).term (v.written q).applied
-  bystands q lives away =
-      subst (λ (b : Bool). Holds (bond_of (cond b (Owner from) Bystander) (v.handovers q tablet).role) term (v.handovers q tablet).term (v.written q).applied) away
-      (split_row.fitting q (inl lives))
+  bystands q lives away = grind (arith, bond_of, split_row)
 
   pub no_owner : (q : ℕ) → eqb owner q ≡ false → is_member (record { master = owner; from = from } ∷ []) q ≡ true → ⊥
   no_owner q away inside = false≢true (sym (ap (λ (b : Bool). b || false) away) ∙ inside)
@@ -313,13 +303,8 @@ module _ (v : View) (cut : Splitting v) (after : Halved v cut) where
   open cut use {tablet, term, owner, from, new}
   open after use {handovers', halved}
 
-  by_has : (P : Handover → Type 0) (q n : ℕ) (h : Handover) → Has v cut q n h → (Beside v cut q n → P (v.handovers q n)) → AtLow v cut P q n → AtHigh v cut P q n → P h
-  by_has P q n h (Old is unlike) old first second = subst P (sym is) (old unlike)
-  by_has P q n h (Low serves its is) old first second = subst P (sym is) (first serves its)
-  by_has P q n h (High serves its is) old first second = rw is (second serves its)
-
   pub by : (P : Handover → Type 0) (q n : ℕ) → (Beside v cut q n → P (v.handovers q n)) → AtLow v cut P q n → AtHigh v cut P q n → P (handovers' q n)
-  by P q n = by_has P q n (handovers' q n) (halved q n)
+  by P q n = grind arith
 
   -- of another row's tablet it is what it was
   pub of_row : (x : Row) → Contains v.rows x → (x.tablet ≡ tablet → ⊥) → (q : ℕ) → v.handovers q x.tablet ≡ handovers' q x.tablet
@@ -331,4 +316,4 @@ module _ (v : View) (cut : Splitting v) (after : Halved v cut) where
 
   -- what a master is to a half, and has of it
   pub by_post : (P : Post → Handover → Type 0) (q n : ℕ) → IsOfHalves v cut n → AtLow v cut (P (Owner from)) q n → AtHigh v cut (P (Owner from)) q n → AtOther v cut (P Bystander) q n → Counts v cut q (handovers' q n) → P (post_now v cut q) (handovers' q n)
-  by_post P q n its first second old = grind (arith, by, at_most_row, term_none, lives_now, not_owner, eq-eqb)
+  by_post P q n its first second old = grind (arith, by, at_most_row, term_none, not_owner, eq-eqb)

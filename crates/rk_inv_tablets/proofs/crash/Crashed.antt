@@ -1,13 +1,11 @@
 -- A lane stays sound when a master crashes while another one lives: what is said of living masters is said of fewer, and what the dead
 -- one had merged of a rebuild that was not taken tells nothing new.
-use Rattle.std.proofs.Common.{arith}
-use Rattle.std.proofs.Common.{◌≡◌, ◌≤◌, ℕ, true, false, List, [], ◌∷◌, length, refl, sym, ap, ◌∙◌, ⊎_elim, inl, inr, All}
-use Rattle.std.proofs.Common.{Contains, slice_index_or, ◌==◌, eq-eqb, ne_eqb, ◌<◌}
+use Rattle.std.proofs.Common.{arith, ◌≡◌, ◌≤◌, ℕ, true, false, List, [], ◌∷◌, length, refl, sym, ap, ◌∙◌, ⊎_elim, inl, inr, All, Contains}
+use Rattle.std.proofs.Common.{slice_index_or, ◌==◌, eq-eqb, ne_eqb, ◌<◌}
 use Rattle.rk_inv_base.proofs.Words.{cases_Bool, cases_eq, false≢true, or_left, or_right, All-contains, All-weaker, Contains-get_or}
-use Rattle.rk_inv_base.proofs.Words.{list_any-append, Member, Node, lineage_of, Phase, Rebuilding, Row, Body, Got, Pulled, CopySegment}
-use Rattle.rk_inv_base.proofs.Words.{ReadSegment, LAST_MAIN_SEGMENT, is_member, World, has_crashed, lives, PulledAgrees, GotAgrees, ReadIn}
-use Rattle.rk_inv_base.proofs.Words.{CopyIn, MarkFits, MarkedFit, AreApart, IsFormed, put, View, view, IsSound, SoundView}
-use Rattle.rk_inv_base.proofs.Words.{false_from_ne_true, EachIn}
+use Rattle.rk_inv_base.proofs.Words.{list_any-append, Member, Node, lineage_of, Phase, Rebuilding, Row, Body, Got, Pulled, ReadSegment}
+use Rattle.rk_inv_base.proofs.Words.{LAST_MAIN_SEGMENT, is_member, World, has_crashed, lives, PulledAgrees, GotAgrees, ReadIn, MarkFits}
+use Rattle.rk_inv_base.proofs.Words.{MarkedFit, AreApart, IsFormed, put, View, view, IsSound, SoundView, false_from_ne_true, EachIn}
 use Rattle.rk_inv_tablets.proofs.Words.{put_by, put_is, put_other, if_master, MayCrashFormed, CountsFor, SaysIn}
 use Rattle.rk_world.specs.World.{with_crash}
 use Rattle.rk_inv_tablets.specs.crash.Small.{crashed}
@@ -47,13 +45,9 @@ module _ (v : View) (master : ℕ) (sound : SoundView v) (may : MayCrashFormed v
   read_on (Rebuilding lineage by) to read says = (says.0, dead_still read.master says.1)
   read_on _ to read says = tt
 
-  copy_on : (row : Row) (phase : Phase) (copy : CopySegment) → CopyIn row phase v.logs v.written v.stored v.live copy → CopyIn row phase v.logs v.written v.stored now.live copy
-  copy_on row (Rebuilding lineage by) copy says = (dead_still copy.master says.0, says.1)
-  copy_on row _ copy says = tt
-
   -- what a message says of a row it says still
   says_on : (x : Row) (from to : Node) (body : Body) → SaysIn v x from to body → SaysIn now x from to body
-  says_on x from to body says = grind (arith, if_master, lives, lived, pulled_on, lineage_of, got_on, read_on, copy_on)
+  says_on x from to body says = grind (arith, if_master, lives, lived, pulled_on, lineage_of, got_on, read_on, dead_still)
 
   -- ---- rebuilds
 

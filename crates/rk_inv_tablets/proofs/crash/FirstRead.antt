@@ -83,9 +83,7 @@ first_read (first ∷ list) bytes rest lawful is =
         let cons : entries_of bytes ≡ entry ∷ entries_of after = entries_of-cons bytes entry after read in
         record {
           more = others.more;
-          parts =
-              (λ i. same.0 i ∷ others.parts i)
-              ∙ ap (λ (read : List Entry). read ++ others.more) (sym cons);
+          parts = grind (arith, same.0, others.parts, others.more);
           within =
               omega (
                 arith,
@@ -110,10 +108,7 @@ count_in stored segment offset list others = prefix_len (is_stored stored) (ends
 
 -- entries of one segment are stored up to those that end within what is
 stored_in : (stored : ℕ → List ℕ) (segment offset : ℕ) (read more : List Entry) (others : List EntryEnd) → offset + length (spelled_all read) ≤ length (stored segment) → count_in stored segment offset (read ++ more) others ≡ length read + count_in stored segment (offset + length (spelled_all read)) more others
-stored_in stored segment offset [] more others fits =
-    let at : offset ≡ offset + length (spelled_all []) = omega (arith, ap length spelled_none) in
-    let none : (n : ℕ) → n ≡ 0 + n = λ n. omega arith in
-    ap (λ (n : ℕ). count_in stored segment n more others) at ∙ none _
+stored_in stored segment offset [] more others fits = grind (arith, spelled_all, spelled_none)
 stored_in stored segment offset (entry ∷ read) more others fits =
     let next : ℕ = offset + length (spelled entry) in
     let size : length (spelled_all (entry ∷ read)) ≡ length (spelled entry) + length (spelled_all read) =

@@ -44,9 +44,7 @@ pub record AreGroups (segments : List (List ℕ)) (list : List Entry) (places : 
 
 -- one more entry at the end of a group
 ends_push : (segment offset : ℕ) (list : List Entry) (entry : Entry) → ends_in segment offset (list ++ entry ∷ []) ≡ ends_in segment offset list ++ record { segment = segment; offset = offset + length (spelled_all list) + length (spelled entry) } ∷ []
-ends_push segment offset [] entry =
-    let at : offset + length (spelled entry) ≡ offset + length (spelled_all []) + length (spelled entry) = omega (arith, ap length spelled_none) in
-    ap (λ (n : ℕ). record { segment = segment; offset = n } ∷ []) at
+ends_push segment offset [] entry = grind (arith, spelled, spelled_none)
 ends_push segment offset (first ∷ list) entry =
     let next : ℕ = offset + length (spelled first) in
     let at : next + length (spelled_all list) + length (spelled entry) ≡ offset + length (spelled_all (first ∷ list)) + length (spelled entry) =
@@ -57,14 +55,8 @@ ends_push segment offset (first ∷ list) entry =
 
 -- and one more group
 groups_push : (first : ℕ) (groups : List (List Entry)) (group : List Entry) → group_ends first (groups ++ group ∷ []) ≡ group_ends first groups ++ ends_in (first + length groups) 0 group
-groups_push first [] group =
-    let at : first ≡ first + 0 = omega arith in
-    append-nil (ends_in first 0 group) ∙ ap (λ (n : ℕ). ends_in n 0 group) at
-groups_push first (here ∷ groups) group =
-    let at : suc first + length groups ≡ first + suc (length groups) = omega arith in
-    ap (λ (places : List EntryEnd). ends_in first 0 here ++ places)
-    (groups_push (suc first) groups group ∙ ap (λ (n : ℕ). group_ends (suc first) groups ++ ends_in n 0 group) at)
-    ∙ sym (append_assoc (ends_in first 0 here) (group_ends (suc first) groups) (ends_in (first + suc (length groups)) 0 group))
+groups_push first [] group = grind (arith, append-nil)
+groups_push first (here ∷ groups) group = grind (arith, append_assoc, (groups_push (suc first) groups group))
 
 -- some things have a last one
 record HasLast {X : Type 0} (xs : List X) : Type 0 where
@@ -91,9 +83,7 @@ more_last front bytes more =
 
 -- where segments end that have this last one
 end_is : (front : List (List ℕ)) (bytes : List ℕ) (count size : ℕ) → 1 + length front ≡ count → length bytes ≡ size → end_of (front ++ bytes ∷ []) ≡ record { segment = count; offset = size }
-end_is front bytes count size counted sized =
-    let many : length (front ++ bytes ∷ []) ≡ count = omega (arith, counted, length-append front (bytes ∷ [])) in
-    λ i. record { segment = many i; offset = (ap length (last_is front bytes) ∙ sized) i }
+end_is front bytes count size counted sized = grind (arith, length-append, last_is)
 
 module _ (segments : List (List ℕ)) (list : List Entry) (places : List EntryEnd) (entry : Entry) (old : AreGroups segments list places) where
   -- segments with the entry are spelled by groups that have it last
@@ -109,15 +99,9 @@ module _ (segments : List (List ℕ)) (list : List Entry) (places : List EntryEn
       let none : 0 + length (spelled entry) ≡ length (spelled entry) = omega arith in
       record {
         groups = old.groups ++ (entry ∷ []) ∷ [];
-        spelled_are =
-            (λ i. old.spelled_are i ++ sym (spelled_one entry) i ∷ []) ∙ sym (map-append spelled_all old.groups ((entry ∷ []) ∷ []));
-        list_is =
-            flat_map-append (λ (group : List Entry). group) old.groups ((entry ∷ []) ∷ [])
-            ∙ ap (λ (all : List Entry). all ++ entry ∷ []) old.list_is;
-        places_are =
-            groups_push 1 old.groups (entry ∷ [])
-            ∙ (λ i. old.places_are i ++ record { segment = 1 + length old.groups; offset = none i } ∷ [])
-            ∙ ap (λ (end : EntryEnd). places ++ end ∷ []) (sym place);
+        spelled_are = grind (arith, spelled_one, map-append, old.spelled_are, old.groups);
+        list_is = grind (arith, flat_map-append, old.groups, old.list_is);
+        places_are = grind (arith, groups_push, old.groups, old.places_are);
       }
 
   -- or it is of the last one
@@ -148,34 +132,20 @@ module _ (segments : List (List ℕ)) (list : List Entry) (places : List EntryEn
       sym (groups_push 1 parts.front parts.last) ∙ ap (group_ends 1) (sym parts.parts) ∙ old.places_are in
       record {
         groups = parts.front ++ (parts.last ++ entry ∷ []) ∷ [];
-        spelled_are =
-            are ∙ ap (λ (bytes : List ℕ). front ++ bytes ∷ []) (sym whole)
-            ∙ sym (map-append spelled_all parts.front ((parts.last ++ entry ∷ []) ∷ []));
-        list_is =
-            flat_map-append (λ (group : List Entry). group) parts.front ((parts.last ++ entry ∷ []) ∷ [])
-            ∙ ap (λ (more : List Entry). flat_map (λ (group : List Entry). group) parts.front ++ more) (append-nil (parts.last ++ entry ∷ []))
-            ∙ sym (append_assoc (flat_map (λ (group : List Entry). group) parts.front) parts.last (entry ∷ []))
-            ∙ ap (λ (more : List Entry). more ++ entry ∷ []) all;
-        places_are =
-            groups_push 1 parts.front (parts.last ++ entry ∷ [])
-            ∙ ap (λ (more : List EntryEnd). group_ends 1 parts.front ++ more) (ends_push count 0 parts.last entry)
-            ∙ sym (append_assoc (group_ends 1 parts.front) (ends_in count 0 parts.last) _)
-            ∙ (λ i. before i ++ record { segment = count; offset = none i } ∷ [])
-            ∙ ap (λ (end : EntryEnd). places ++ end ∷ []) (sym place);
+        spelled_are = grind (arith, map-append, parts.front, parts.last);
+        list_is = grind (arith, flat_map-append, append-nil, append_assoc, parts.front, parts.last);
+        places_are = grind (arith, groups_push, ends_push, append_assoc, parts.front, parts.last);
       }
 
   with_it : HaveIt (with_bytes segments (spelled entry))
-  with_it =
-      cond_both (has_room segments (spelled entry)) (in_last segments (spelled entry)) (segments ++ spelled entry ∷ []) HaveIt
-      (λ e. behind (room_some segments (spelled entry) e)) (λ e. alone)
+  with_it = grind (arith, cond_both, has_room, spelled, in_last, behind, room_some, alone)
 
 -- groups of the same
 groups_same : (segments : List (List ℕ)) (list list' : List Entry) (places places' : List EntryEnd) → list ≡ list' → places ≡ places' → AreGroups segments list places → AreGroups segments list' places'
 groups_same segments list list' places places' same also old = grind arith
 
 groups_after : (segments : List (List ℕ)) (list : List Entry) (places : List EntryEnd) (more : List Entry) → AreGroups segments list places → AreGroups (cut_after segments more) (list ++ more) (places ++ ends_after segments more)
-groups_after segments list places [] old =
-    groups_same segments list (list ++ []) places (places ++ []) (sym (append-nil list)) (sym (append-nil places)) old
+groups_after segments list places [] old = grind (arith, groups_same, append-nil)
 groups_after segments list places (entry ∷ more) old =
     let now : List (List ℕ) = with_bytes segments (spelled entry) in
     groups_same (cut_after now more) ((list ++ entry ∷ []) ++ more) (list ++ entry ∷ more) ((places ++ end_of now ∷ []) ++ ends_after now more)

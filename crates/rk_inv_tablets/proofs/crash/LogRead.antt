@@ -27,13 +27,13 @@ pub all_at : {X : Type 0} (P : X → Type 0) (groups : List (List X)) (k : ℕ) 
 all_at {X} P groups k all = grind (arith, get_or_past, cases_lt)
 
 -- the bytes of a group
-spelled_at : (groups : List (List Entry)) (k : ℕ) → get_or (map spelled_all groups) k [] ≡ spelled_all (get_or groups k [])
+pub spelled_at : (groups : List (List Entry)) (k : ℕ) → get_or (map spelled_all groups) k [] ≡ spelled_all (get_or groups k [])
 spelled_at [] k = sym spelled_none
 spelled_at (group ∷ groups) zero = refl
 spelled_at (group ∷ groups) (suc k) = spelled_at groups k
 
 -- the bytes of a list of items
-items_at : (sides : List (List Held)) (k : ℕ) → get_or (map (λ (items : List Held). spelled_all (as_entries items)) sides) k [] ≡ spelled_all (as_entries (get_or sides k []))
+pub items_at : (sides : List (List Held)) (k : ℕ) → get_or (map (λ (items : List Held). spelled_all (as_entries items)) sides) k [] ≡ spelled_all (as_entries (get_or sides k []))
 items_at [] k = sym spelled_none
 items_at (items ∷ sides) zero = refl
 items_at (items ∷ sides) (suc k) = items_at sides k

@@ -1,7 +1,7 @@
 -- What a master that crashes had merged of a rebuild tells nothing that is not told by its own unmarked entries, and by those of the other
 -- member that backup 1 stores.
 use Rattle.std.proofs.Common.{◌≡◌, ℕ, zero, ◌<◌, ◌≤◌, true, false, ◌&&◌, eqb, leb, List, [], ◌∷◌, ◌++◌, filter, length, refl, sym, ap}
-use Rattle.std.proofs.Common.{subst, ◌∙◌, ⊎_elim, inl, arith, ◌-◌, drop, nat_lt, not, slice_index_or, take, ◌==◌, All, Contains, flat_map}
+use Rattle.std.proofs.Common.{subst, ◌∙◌, ⊎_elim, arith, ◌-◌, drop, nat_lt, not, slice_index_or, take, ◌==◌, All, Contains, flat_map}
 use Rattle.std.proofs.Common.{eq-eqb}
 use Rattle.rk_inv_base.proofs.Words.{cases_eq, cases_lt, cond_both, false≢true, or_left, or_right, nat_tests, All-append, All-contains}
 use Rattle.rk_inv_base.proofs.Words.{All-contains_itself, Contains-append_left, Contains-append_right, Held, Member, Range, Entry}
@@ -48,29 +48,18 @@ same_test n = eq-eqb n n refl
 
 -- ---- what is read of other members
 
--- the master itself is not
-own_out : (own member : Member) → own ≡ member → not (member.master == own.master) ≡ true → ⊥
-own_out own member same kept =
-    false≢true (sym (ap (λ (m : Member). not (m.master == own.master)) (sym same) ∙ ap not (same_test own.master)) ∙ kept)
-
 -- those of a lineage that are read by a master
 abbrev read_by : ℕ → List Member → List Member
 read_by master lineage = filter (λ member. not (member.master == master)) lineage
 
 none_by_only : (only member : Member) → Contains (read_by only.master (only ∷ [])) member → ⊥
-none_by_only only member at =
-    let kept = kept_stands (λ (m : Member). not (m.master == only.master)) (only ∷ []) member at in
-    own_out only member (one_stands only member kept.0) kept.1
+none_by_only only member at = grind (arith, kept_stands, one_stands, false≢true, same_test)
 
 last_by_first : (first last member : Member) → Contains (read_by first.master (first ∷ last ∷ [])) member → member ≡ last
-last_by_first first last member at =
-    let kept = kept_stands (λ (m : Member). not (m.master == first.master)) (first ∷ last ∷ []) member at in
-    ⊎_elim (λ same. absurd (own_out first member same kept.1)) (λ same. sym same) (two_stand first last member kept.0)
+last_by_first first last member at = grind (arith, kept_stands, two_stand, false≢true, same_test)
 
 first_by_last : (first last member : Member) → Contains (read_by last.master (first ∷ last ∷ [])) member → member ≡ first
-first_by_last first last member at =
-    let kept = kept_stands (λ (m : Member). not (m.master == last.master)) (first ∷ last ∷ []) member at in
-    ⊎_elim (λ same. sym same) (λ same. absurd (own_out last member same kept.1)) (two_stand first last member kept.0)
+first_by_last first last member at = grind (arith, kept_stands, two_stand, false≢true, same_test)
 
 -- ---- side segments
 
@@ -161,15 +150,11 @@ module _ (v : View) (sound : SoundView v) (readable : AreReadable v.logs v.writt
 
   -- what its role is to its post
   role_fits : (lineage : List Member) (q : ℕ) → row.phase ≡ Rebuilding lineage q → v.live q ≡ true → Holds (bond_of (rebuilder_post lineage q) (v.handovers q row.tablet).role) row.term (v.handovers q row.tablet).term (v.written q).applied
-  role_fits lineage q is lives =
-      rw (← (ap (λ (phase : Phase). post_of phase q) is ∙ rebuilder_is lineage q)) ((row_in v sound row has).fitting q
-      (inl lives))
+  role_fits lineage q is lives = grind (arith, post_of, rebuilder_is, row_in)
 
   -- a living member is the one that rebuilds
   pub rebuilds_it : (lineage : List Member) (to q : ℕ) → row.phase ≡ Rebuilding lineage to → is_member lineage q ≡ true → v.live q ≡ true → to ≡ q
-  rebuilds_it lineage to q is member lives =
-      ⊎_elim (λ same. same)
-      (λ other. absurd (former_gone v sound.roles row has lineage to q is lives (λ at. other (sym at)) member)) (cases_eq to q)
+  rebuilds_it lineage to q is member lives = grind (arith, former_gone, cases_eq)
 
   -- what is read of a lineage tells nothing new, where that holds of its own entries and of those that are read of each other member
   module _ (lineage : List Member) (q : ℕ) (is : row.phase ≡ Rebuilding lineage q) (lives : v.live q ≡ true) (others : List Entry) where

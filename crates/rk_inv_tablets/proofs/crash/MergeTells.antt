@@ -1,6 +1,6 @@
 -- What a rebuild merged tells nothing that is not told by what it read: neither its copies nor the entry that closes it.
-use Rattle.std.proofs.Common.{◌≡◌, ◌≤◌, ℕ, zero, List, [], ◌∷◌, ◌++◌, map, fold, Option, Some, None, refl, sym, ap, subst, ◌∙◌, ⊎_elim}
-use Rattle.std.proofs.Common.{arith, All, Contains, not, flat_map}
+use Rattle.std.proofs.Common.{◌≡◌, ◌≤◌, ℕ, zero, List, [], ◌∷◌, ◌++◌, map, fold, Option, Some, None, refl, subst, ⊎_elim, arith, All}
+use Rattle.std.proofs.Common.{Contains, not, flat_map}
 use Rattle.rk_inv_base.proofs.Words.{cond_both, flat_map-append, All-append, All-cons, All-contains, All-filter, All-head, All-map, All-nil}
 use Rattle.rk_inv_base.proofs.Words.{All-tail, All-weaker, Contains-append_left, Contains-append_right, get, insert, Ended, Held, Entry}
 use Rattle.rk_inv_base.proofs.Words.{Completions, completions_from, ended_of, ends_of, is_later, noted, Completion, Handover, newest_items}
@@ -22,9 +22,7 @@ pub record IsToldBy (others : List Entry) (entry : Entry) : Type 0 where
 
 -- a floor that is low stays so by an entry whose own floor is low
 floor_under : (floor bound : ℕ) (entry : Entry) → floor ≤ bound → floor_by 1 entry ≤ bound → floor_by floor entry ≤ bound
-floor_under floor bound (entries.Refused refused) low its = low
-floor_under floor bound (entries.Joined joined) low its = low
-floor_under floor bound _ low its = omega (arith, low, its)
+floor_under floor bound entry low its = grind arith
 
 floors_under : (floor bound : ℕ) (list : List Entry) → floor ≤ bound → All (λ entry. floor_by 1 entry ≤ bound) list → fold floor_by floor list ≤ bound
 floors_under floor bound [] low each = low
@@ -43,9 +41,7 @@ all_told list others each = record {
   ends =
       all_flat (Contains (told others)) told_by list
       (All-weaker (IsToldBy others) (λ e. All (Contains (told others)) (told_by e)) (λ e its. its.ends) list each);
-  floor =
-      floors_under 1 (floor_of others) list (floor_first others)
-      (All-weaker (IsToldBy others) (λ e. floor_by 1 e ≤ floor_of others) (λ e its. its.floor) list each);
+  floor = grind (arith, floors_under, floor_of, floor_first, floor_by);
 }
 
 -- the end of a call that left an item is told where the item stands
@@ -136,9 +132,7 @@ module _ (P : Ended → Type 0) where
 -- what members tell, one after the other
 told_flat : (members : List (List Entry)) → flat_map told members ≡ told (flat_map (λ entries. entries) members)
 told_flat [] = refl
-told_flat (list ∷ later) =
-    ap (λ (ends : List Ended). told list ++ ends) (told_flat later)
-    ∙ sym (flat_map-append told_by list (flat_map (λ entries. entries) later))
+told_flat (list ∷ later) = grind (arith, told, flat_map-append, told_by, (told_flat later))
 
 -- what was read, member by member, in one list
 abbrev pub read_all : List (List Entry) → List Entry
@@ -167,9 +161,7 @@ piece_told own members handover others tells =
 
 -- a floor is as great from a greater one on
 floor_more : (a b : ℕ) (entry : Entry) → a ≤ b → floor_by a entry ≤ floor_by b entry
-floor_more a b (entries.Refused refused) less = less
-floor_more a b (entries.Joined joined) less = less
-floor_more a b _ less = omega (arith, less)
+floor_more a b entry less = grind arith
 
 -- an entry's floor is not above that of all
 floor_stands : (floor : ℕ) (list : List Entry) (entry : Entry) → 1 ≤ floor → Contains list entry → floor_by 1 entry ≤ fold floor_by floor list

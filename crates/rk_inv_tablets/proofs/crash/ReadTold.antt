@@ -25,9 +25,7 @@ side_material range member w = counting range (flat_map (side_entries w.sides) (
 
 -- the segments that an entry names for a range are among those that it names
 named_in : (range : Range) (entry : Entry) (n : ℕ) → Contains (named_by range entry) n → Contains (segments_in entry) n
-named_in range (entries.Joined joined) n =
-    cond_both _ joined.segments [] (λ numbers. Contains numbers n → Contains joined.segments n) (λ e at. at) (λ e at. absurd (omega (arith, at.1)))
-named_in range _ n = λ at. at
+named_in range entry n = grind (arith, cond_both)
 
 -- how many first entries of a member's log backup 1 stores
 abbrev pub count_stored : View → Member → ℕ

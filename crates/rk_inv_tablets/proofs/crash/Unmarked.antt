@@ -63,9 +63,7 @@ taken_extends count list = record { more = drop count list; parts = sym (take-ap
 
 -- what counts of the first ones counts of all
 pub first_among : (marks : List Mark) (range : Range) (from count : ℕ) (list : List Entry) (entry : Entry) → Contains (counting range (unmarked_from marks from (take count list))) entry → Contains (counting range (unmarked_from marks from list)) entry
-first_among marks range from count list entry at =
-    still_contains (counting range (unmarked_from marks from (take count list))) (counting range (unmarked_from marks from list)) entry
-    (counting_extends range marks from (take count list) list (taken_extends count list)) at
+first_among marks range from count list entry at = search (still_contains, counting, unmarked_from, counting_extends, taken_extends)
 
 -- where no Joined of a range stands behind what is applied, an unmarked one is applied
 pub joined_applied : (range : Range) (w : Written) (from : ℕ) → joined_from range (max from w.applied) w.entries ≡ [] → (entry : Entry) → Contains (unmarked_from w.marks from w.entries) entry → is_joined_in range entry ≡ true → Contains (unmarked_from w.marks from (applied_entries w)) entry

@@ -1,21 +1,21 @@
 -- A lane stays sound when a target that waits for a row's tablet is granted it: it speaks for the row from now on, by what its source told,
 -- begins to pull, and does not rebuild the row yet.
-use Rattle.std.proofs.Common.{◌≡◌, ℕ, ◌⊎◌, Bool, true, false, ◌&&◌, cond, eqb, List, [], ◌∷◌, ◌++◌, Option, Some, None, refl, sym, ap, ◌∙◌}
-use Rattle.std.proofs.Common.{subst, ⊎_elim, inl, arith, IfSome, All, Contains, zero, suc, ◌≤◌, length, drop, take, ◌<◌, append-nil, ◌≢◌}
-use Rattle.rk_inv_base.proofs.Words.{and_right, cond-false, cond-true, flat_map-append, All-weaker, Contains-append_left, get, Ended}
-use Rattle.rk_inv_base.proofs.Words.{Member, Carried, Entry, completions_from, ends_of, Handover, lineage_of, Row, Body, Handed, told}
-use Rattle.rk_inv_base.proofs.Words.{told_by, second_of, AreHandedOver, IsKnown, IsStagedEnd, ReachAll, IsNext, handed_by, handed_for_grant}
-use Rattle.rk_inv_base.proofs.Words.{is_waiting, is_waiting_at, is_wanting, second_has, post_of, speaks, StillCounts, View, truths, rests}
-use Rattle.rk_inv_base.proofs.Words.{CallsOf, false≢true, or_from, or_parts, drop-append-le, take-append-le, All-nil, Contains-append_right}
-use Rattle.rk_inv_base.proofs.Words.{list_any_at, list_any, Held, Range, is_in, Grant, items_of, carried_entry, touches, counts}
-use Rattle.rk_inv_base.proofs.Words.{is_joined_in, Tablet, pulling_from, Written, member_material, member_truth, HandedFits, HasArrived}
-use Rattle.rk_inv_base.proofs.Words.{IsBare, IsReceived, IsTarget, MembersFit, NamedFit, entries_from, named_items, scan_items}
-use Rattle.rk_inv_base.proofs.Words.{with_one_more, Phase, Rebuilding, Mark, HasOwnRange, MarkFits, RowIsRebuilt, has_merged}
-use Rattle.rk_inv_base.proofs.Words.{meets, is_member, Master, with_appended, is_absent, without_merged, World, master_at, tablet_in}
-use Rattle.rk_inv_base.proofs.Words.{RoleFits, HandoverFits, view, CoverOf, IsSound, SoundView, target_truth, items_in, is_idle}
-use Rattle.rk_inv_base.proofs.Words.{may_have_staged, IsSettledIn, AreAbove, EachIn, IsRest, IsWithinRows, Message, row_of}
-use Rattle.rk_inv_tablets.proofs.Words.{calls_more, speaker_is, waiting_at, CountsFor, SpeaksFor, named_stays, joined_same, AreBelow}
-use Rattle.rk_inv_tablets.proofs.Words.{own_push, as_granted, applied_within, joins_beside, IsRebuilderIn, all_by, view_by_rows, SoundRow}
+use Rattle.std.proofs.Common.{◌≡◌, ℕ, ◌⊎◌, Bool, true, false, eqb, List, [], ◌∷◌, ◌++◌, Some, None, refl, sym, ap, ◌∙◌, subst, ⊎_elim, inl}
+use Rattle.std.proofs.Common.{arith, IfSome, All, Contains, zero, suc, ◌≤◌, length, drop, take, ◌<◌, append-nil, ◌≢◌}
+use Rattle.rk_inv_base.proofs.Words.{cond-false, cond-true, flat_map-append, All-weaker, Contains-append_left, get, Ended, Member, Carried}
+use Rattle.rk_inv_base.proofs.Words.{Entry, completions_from, ends_of, Handover, lineage_of, Row, Body, Handed, told, told_by, second_of}
+use Rattle.rk_inv_base.proofs.Words.{AreHandedOver, IsKnown, IsStagedEnd, ReachAll, IsNext, handed_by, handed_for_grant, is_waiting}
+use Rattle.rk_inv_base.proofs.Words.{is_wanting, second_has, post_of, speaks, StillCounts, View, truths, rests, CallsOf, false≢true}
+use Rattle.rk_inv_base.proofs.Words.{or_from, or_parts, drop-append-le, take-append-le, All-nil, Contains-append_right, list_any_at}
+use Rattle.rk_inv_base.proofs.Words.{list_any, Held, Range, is_in, Grant, items_of, carried_entry, touches, counts, is_joined_in, Tablet}
+use Rattle.rk_inv_base.proofs.Words.{pulling_from, Written, member_material, member_truth, HandedFits, HasArrived, IsBare, IsReceived}
+use Rattle.rk_inv_base.proofs.Words.{IsTarget, MembersFit, NamedFit, entries_from, named_items, scan_items, with_one_more, Phase}
+use Rattle.rk_inv_base.proofs.Words.{Rebuilding, Mark, HasOwnRange, MarkFits, RowIsRebuilt, has_merged, meets, is_member, Master}
+use Rattle.rk_inv_base.proofs.Words.{with_appended, is_absent, without_merged, World, master_at, tablet_in, RoleFits, HandoverFits, view}
+use Rattle.rk_inv_base.proofs.Words.{CoverOf, IsSound, SoundView, target_truth, items_in, is_idle, may_have_staged, IsSettledIn, AreAbove}
+use Rattle.rk_inv_base.proofs.Words.{EachIn, IsRest, IsWithinRows, Message, row_of}
+use Rattle.rk_inv_tablets.proofs.Words.{calls_more, speaker_is, CountsFor, SpeaksFor, named_stays, joined_same, AreBelow, own_push}
+use Rattle.rk_inv_tablets.proofs.Words.{as_granted, applied_within, joins_beside, IsRebuilderIn, all_by, view_by_rows, SoundRow}
 use Rattle.rk_inv_tablets.proofs.Words.{SoundBeside, put_same, view_master, tablet_apart, tablet_here, terms_look, MayGrantFormed, granted}
 use Rattle.rk_inv_tablets.proofs.Words.{tablet_granted_in, IsBareOf, IsNextOf}
 use Rattle.rk_inv_tablets.proofs.grant.Ends.{carried_next, rising_noted, carried_rest}
@@ -23,7 +23,7 @@ use Rattle.rk_inv_tablets.proofs.grant.Granting.{Granting, entry, master, now, o
 use Rattle.rk_inv_tablets.proofs.grant.Granting.{turned, bare, of_written, ranged, same_term, settled, target_placed, waits, applied_same}
 use Rattle.rk_inv_tablets.proofs.grant.Granting.{by_role, seen_same}
 use Rattle.rk_inv_tablets.proofs.grow.Turned.{of_tablet, seen_apart}
-use Rattle.rk_inv_tablets.proofs.grow.Grown.{truth_same, rests_same, row_cases, material_other, some, SameFirst, rest_other, rebuilds_other}
+use Rattle.rk_inv_tablets.proofs.grow.Grown.{truth_same, rests_same, row_cases, material_other, some, SameFirst, rebuilds_other}
 use Rattle.rk_inv_tablets.proofs.grow.Grown.{marked_more, target_same, placed_more, done_more, says_more, cover_more, found_more, bare_more}
 use Rattle.rk_inv_tablets.proofs.grow.Grown.{rows_more, truths_same, unnamed_more, items_more, known_more, waiting_more}
 use Rattle.rk_table.proofs.Tokens.{passed_first}
@@ -104,9 +104,7 @@ module _ (range : Range) (source : ℕ) (truth material : List Entry) (from : �
     told =
         rw (drop-append-le from w.entries (new ∷ []) ready.placed)
         (Contains-append_right (drop from w.entries) (new ∷ []) new (0, omega arith, refl));
-    early =
-        ap (λ (list : List Entry). list_any (touches range) (drop w.applied list)) (take-append-le from w.entries (new ∷ []) ready.placed)
-        ∙ none_between (touches range) w.applied from w.entries settled;
+    early = grind (arith, touches, take-append-le, none_between, w.applied, w.entries, ready.placed);
     closing =
         joined_same range from w.entries new refl
         ∙ none_filtered (is_joined_in range) (touches range) (joins_beside range) (drop from w.entries) ready.nothing;
@@ -120,22 +118,16 @@ module _ (v : View) (a : Granting v) where
   noted = grind (arith, is_waiting, second_has, second_of, tablet, cond-true, is_wanting, old, told)
 
   pub given : AreHandedOver v.base a.row.range v.journal a.grant.ends
-  given =
-      subst (λ (o : Option Handed). IfSome o (λ h. AreHandedOver v.base a.row.range v.journal h.ends)) noted
-      (row_was v a).ends_granted
+  given = grind (arith, noted, row_was)
 
   low : IsNext (truths v a.row ++ rests v a.row) a.grant.floor
-  low =
-      subst (λ (o : Option Handed). IfSome o (λ h. IsNext (truths v a.row ++ rests v a.row) h.floor)) noted
-      (row_was v a).floor_granted
+  low = grind (arith, truths, rests, noted, row_was)
 
   -- ---- what is handed over
 
   -- of the row nothing is, since its target waits no more and the row does not open
   none_waits : is_waiting (second_has (now v a).handovers a.row (second_of (lineage_of a.row.phase))) ≡ false
-  none_waits =
-      ap (λ (members : List Member). is_waiting (second_has (now v a).handovers a.row (second_of members))) a.may.may.lineage_is
-      ∙ of_handover v a (λ (h : Handover). is_wanting h.role ≡ false) (master v a) a.row.tablet (λ at its. refl) (λ apart. absurd (apart refl refl))
+  none_waits = grind (arith, is_waiting, second_has, now, second_of, of_handover, is_wanting, master, tablet)
 
   pub none_kept : handed_for_grant a.row (now v a).handovers v.handed ≡ None
   none_kept =
@@ -143,15 +135,9 @@ module _ (v : View) (a : Granting v) where
 
   pub none_sent : (body : Body) → handed_by a.row (now v a).handovers body ≡ None
   none_sent (bodies.Transfer transfer) =
-      ap
-      (λ (opens : Bool). cond (opens && eqb transfer.tenure.tablet a.row.tablet && eqb transfer.tenure.term a.row.term)
-      (Some (record { floor = transfer.floor; ends = transfer.ends })) None)
-      (taker v a).moved
+      grind (arith, eqb, tablet, taker, transfer.tenure.tablet, transfer.tenure.term, transfer.floor, transfer.ends)
   none_sent (bodies.Grant grant) =
-      let member = second_has (now v a).handovers a.row (second_of (lineage_of a.row.phase)) in
-      cond-false (eqb grant.tenure.tablet a.row.tablet && is_waiting_at member grant.tenure.term)
-      (Some (record { floor = grant.floor; ends = grant.ends })) None
-      (and_right (eqb grant.tenure.tablet a.row.tablet) (is_waiting_at member grant.tenure.term) (waiting_at member grant.tenure.term none_waits))
+      grind arith
   none_sent _ = refl
 
   -- ---- what is staged
@@ -268,7 +254,7 @@ module _ (v : View) (a : Granting v) where
 
   -- of two members the first one is not the master
   pub first_same : SameFirst v (grow v a) a.row.range (lineage_of a.row.phase)
-  first_same first last others two = grind (arith, master, taker, rest_other, grow, material_other)
+  first_same first last others two = grind (arith, master, taker, grow, material_other)
 
   -- ---- marks
 

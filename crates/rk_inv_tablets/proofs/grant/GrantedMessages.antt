@@ -1,16 +1,14 @@
 -- What messages say of a row whose target is granted its tablet: a Grant is taken by it no more, and no report tells that it waited.
-use Rattle.std.proofs.Common.{◌≡◌, ℕ, false, List, [], ◌∷◌, sym, ◌∙◌, subst}
-use Rattle.rk_inv_base.proofs.Words.{false≢true, get, Ended, Member, Node, Completions, Handover, Role, lineage_of, Phase, Opening, Moving}
-use Rattle.rk_inv_base.proofs.Words.{Rebuilding, Tenure, Transfer, Body, Got, Pulled, Rebuilt, Written, is_opening, AskAgrees, CloseFits}
-use Rattle.rk_inv_base.proofs.Words.{GotAgrees, GrantAgrees, HasJoined, HasRebuilt, IsOf, IsOfTarget, JoinedIn, OwnFits, PrepareFits}
-use Rattle.rk_inv_base.proofs.Words.{PulledAgrees, ReadyIn, RebuildFits, RebuiltIn, ReleaseFits, TransferIn, View, Tablet, IfMaster}
-use Rattle.rk_inv_base.proofs.Words.{ByMaster}
+use Rattle.std.proofs.Common.{arith, ◌≡◌, ℕ, false, List, [], ◌∷◌, sym, ◌∙◌}
+use Rattle.rk_inv_base.proofs.Words.{false≢true, get, Ended, Member, Node, Completions, Handover, Role, lineage_of, Phase, Opening, Tenure}
+use Rattle.rk_inv_base.proofs.Words.{Transfer, Body, Got, Pulled, Rebuilt, Written, is_opening, AskAgrees, CloseFits, GotAgrees}
+use Rattle.rk_inv_base.proofs.Words.{GrantAgrees, IsOfTarget, JoinedIn, OwnFits, PrepareFits, PulledAgrees, ReadyIn, RebuildFits, RebuiltIn}
+use Rattle.rk_inv_base.proofs.Words.{ReleaseFits, TransferIn, View, Tablet, IfMaster, ByMaster}
 use Rattle.rk_inv_tablets.proofs.Words.{by_master, if_master, tablet_seen, SaysIn}
 use Rattle.rk_transfer.specs.declared.role.Role.TheVariants as roles
 use Rattle.rk_message.specs.declared.message.Body.TheVariants as bodies
 use Rattle.rk_inv_tablets.proofs.grant.Granting.{Granting, master, now, old, same_term, tablet, taker, grow, turned}
 use Rattle.rk_inv_tablets.proofs.grow.Grown.{grown}
-use Rattle.rk_inv_tablets.proofs.grow.Turned.{if_turned, by_turned}
 
 -- ---- reports of a master that was granted its tablet
 
@@ -25,14 +23,10 @@ transfer_moved _ before after was is term q transfer moved says = tt
 
 -- a master that waits has neither joined nor rebuilt
 pub joined_waits : (phase : Phase) (before after : Handover) (from applied term q : ℕ) → before.role ≡ roles.Wanting from → JoinedIn phase before applied term q → JoinedIn phase after applied term q
-joined_waits (Moving source sfrom target dfrom) before after from applied term q waits says =
-    absurd (subst (λ (role : Role). HasJoined role applied) waits says.2)
-joined_waits _ before after from applied term q waits says = says
+joined_waits phase before after from applied term q waits says = grind arith
 
 pub rebuilt_waits : (phase : Phase) (before after : Handover) (was is : List Ended) (from applied term q : ℕ) (rebuilt : Rebuilt) → before.role ≡ roles.Wanting from → RebuiltIn phase before was applied term q rebuilt → RebuiltIn phase after is applied term q rebuilt
-rebuilt_waits (Rebuilding lineage to) before after was is from applied term q rebuilt waits says =
-    absurd (subst (λ (role : Role). HasRebuilt role applied rebuilt.place) waits says.2)
-rebuilt_waits _ before after was is from applied term q rebuilt waits says = says
+rebuilt_waits phase before after was is from applied term q rebuilt waits says = grind arith
 
 module _ (v : View) (a : Granting v) where
   -- the view with the entry alone
@@ -44,10 +38,10 @@ module _ (v : View) (a : Granting v) where
 
   -- what is said where a node is a master, where what was said of the tablet as it was is said of it as it is
   for_master : (P : ℕ → Tablet → Type 0) (node : Node) → (P (master v a) (tablet_seen v (master v a) a.row.tablet) → P (master v a) (tablet v a)) → IfMaster node (λ q. P q (tablet_seen v q a.row.tablet)) → IfMaster node (λ q. P q (tablet_seen (now v a) q a.row.tablet))
-  for_master = if_turned v (now v a) (master v a) a.row.tablet (tablet v a) (turned v a)
+  for_master = grind (arith, now, master, tablet, turned, if_master)
 
   from_master : (P : ℕ → Tablet → Type 0) (node : Node) → (P (master v a) (tablet_seen v (master v a) a.row.tablet) → P (master v a) (tablet v a)) → ByMaster node (λ q. P q (tablet_seen v q a.row.tablet)) → ByMaster node (λ q. P q (tablet_seen (now v a) q a.row.tablet))
-  from_master = by_turned v (now v a) (master v a) a.row.tablet (tablet v a) (turned v a)
+  from_master = grind (arith, now, master, tablet, turned, by_master)
 
   of_target : (q : ℕ) (tenure : Tenure) → IsOfTarget a.row ((now v a).handovers q a.row.tablet) tenure → IsOfTarget a.row (v.handovers q a.row.tablet) tenure
   of_target q tenure is = record { tablet = is.tablet; term = is.term ∙ same_term v a q a.row.tablet }
@@ -69,50 +63,26 @@ module _ (v : View) (a : Granting v) where
   says_here from to (bodies.Prepare prepare) says =
       for_master (λ q t. PrepareFits a.row t.handover (v.live q) q prepare) to (λ fits. assumption) says
   says_here from to (bodies.Ready ready) says =
-      from_master (λ q t. IsOf a.row ready.tenure → ReadyIn a.row.phase t.handover a.row.term q ready.place) from
-      (λ told is. ready_moved a.row.phase (old v a) (tablet v a).handover a.row.term (master v a) ready.place (taker v a).moved (told is)) says
+      grind (arith, from_master, ready_moved, old, tablet, master, taker, ready.tenure, ready.place)
   says_here from to (bodies.Close tenure) says =
       for_master (λ q t. CloseFits a.row t.handover (v.live q) q tenure) to (λ fits. assumption) says
   says_here from to (bodies.Transfer transfer) says =
-      from_master (λ q t. IsOf a.row transfer.tenure → TransferIn a.row.phase t.handover t.completions a.row.term q transfer) from
-      (λ told is.
-      transfer_moved a.row.phase (old v a) (tablet v a).handover (v.completions (master v a) a.row.tablet) (tablet v a).completions a.row.term
-      (master v a) transfer (taker v a).moved (told is)) says
+      grind (arith, from_master, transfer_moved, old, tablet, master, taker, transfer.tenure)
   says_here from to (bodies.Grant grant) says = (
     says.0,
     for_master (λ q t. GrantAgrees a.row t.handover (v.live q) (get v.handed a.row.tablet) q grant) to
         (λ agrees. record { reached = agrees.reached; told = λ same lives at waits. absurd (false≢true waits) }) says.1,
   )
-  says_here from to (bodies.Pull pull) says = (
-    says.0,
-    by_master from _ _ (λ q. ask_on (lineage_of a.row.phase) q to pull.tenure) says.1,
-  )
-  says_here from to (bodies.Pulled pulled) says = (
-    says.0,
-    if_master to _ _ (λ q. pulled_on (lineage_of a.row.phase) from q pulled) says.1,
-  )
-  says_here from to (bodies.Want want) says = (
-    says.0,
-    by_master from _ _ (λ q. ask_on (lineage_of a.row.phase) q to want.tenure) says.1,
-  )
-  says_here from to (bodies.Got got) says = (
-    says.0,
-    if_master to _ _ (λ q. got_on (lineage_of a.row.phase) from q got) says.1,
-  )
-  says_here from to (bodies.Joined tenure) says =
-      from_master (λ q t. IsOf a.row tenure → JoinedIn a.row.phase t.handover (written q).applied a.row.term q) from
-      (λ told is.
-      joined_waits a.row.phase (old v a) (tablet v a).handover a.target.from (written (master v a)).applied a.row.term (master v a)
-      a.may.may.waiting (told is)) says
+  says_here from to (bodies.Pull pull) says = grind (arith, by_master, ask_on, lineage_of, says.0, pull.tenure, says.1)
+  says_here from to (bodies.Pulled pulled) says = grind (arith, if_master, pulled_on, lineage_of, says.0, says.1)
+  says_here from to (bodies.Want want) says = grind (arith, by_master, ask_on, lineage_of, says.0, want.tenure, says.1)
+  says_here from to (bodies.Got got) says = grind (arith, if_master, got_on, lineage_of, says.0, says.1)
+  says_here from to (bodies.Joined tenure) says = grind (arith, from_master, joined_waits, old, tablet, master)
   says_here from to (bodies.Own tenure) says =
       for_master (λ q t. OwnFits a.row t.handover (v.live q) q tenure) to (λ fits. assumption) says
   says_here from to (bodies.Release tenure) says =
       for_master (λ q t. ReleaseFits a.row t.handover (v.live q) q tenure) to (λ fits. assumption) says
   says_here from to (bodies.Rebuild rebuild) says =
       for_master (λ q t. RebuildFits a.row t.handover (v.live q) q rebuild) to (λ fits. assumption) says
-  says_here from to (bodies.Rebuilt rebuilt) says =
-      from_master (λ q t. IsOf a.row rebuilt.tenure → RebuiltIn a.row.phase t.handover t.merged_ends (written q).applied a.row.term q rebuilt) from
-      (λ told is.
-      rebuilt_waits a.row.phase (old v a) (tablet v a).handover (v.merged (master v a) a.row.tablet) [] a.target.from (written (master v a)).applied
-      a.row.term (master v a) rebuilt a.may.may.waiting (told is)) says
+  says_here from to (bodies.Rebuilt rebuilt) says = grind (arith, from_master, rebuilt_waits, old, tablet, master, rebuilt.tenure)
   says_here from to _ says = says

@@ -1,13 +1,11 @@
 -- A target is granted its tablet: what is known of its row, what changes at its master, and what stays as it was.
-use Rattle.std.proofs.Common.{◌≡◌, ℕ, ◌≤◌, max, true, false, List, [], ◌∷◌, ◌++◌, length, refl, sym, ap, ◌∙◌, subst, inl, arith, IfSome}
-use Rattle.std.proofs.Common.{drop, All, ◌<◌, eq-eqb, eqb-true, ne_eqb}
-use Rattle.rk_inv_base.proofs.Words.{list_any, Member, Range, Entry, completions_from, Handover, Role, lineage_of, Row}
-use Rattle.rk_inv_base.proofs.Words.{with_entry, Grant, no_gather, carried_entry, last_of, unmarked_from, touches, counting, counts}
-use Rattle.rk_inv_base.proofs.Words.{has_all, is_idle, Tablet, pulling_from, Written, lineage_rest, member_rest, IsBare, wanted_place}
-use Rattle.rk_inv_base.proofs.Words.{with_one_more, View, rests, SoundView, is_absent, stored_count, cases_Bool, cond-true}
-use Rattle.rk_inv_base.proofs.Words.{cond-false, Phase, Moving, Rebuilding, is_member, is_opening, Post}
-use Rattle.rk_inv_base.proofs.Words.{bond_of, post_of}
-use Rattle.rk_inv_base.proofs.Words.{rebuilder_post, Holds, IsFormed}
+use Rattle.std.proofs.Common.{◌≡◌, ℕ, ◌≤◌, max, true, false, List, [], ◌∷◌, ◌++◌, length, refl, sym, ap, ◌∙◌, inl, arith, drop, All, ◌<◌}
+use Rattle.std.proofs.Common.{eq-eqb, eqb-true, ne_eqb}
+use Rattle.rk_inv_base.proofs.Words.{list_any, Member, Range, Entry, completions_from, Handover, Role, lineage_of, Row, with_entry, Grant}
+use Rattle.rk_inv_base.proofs.Words.{no_gather, carried_entry, last_of, unmarked_from, touches, counting, counts, has_all, is_idle, Tablet}
+use Rattle.rk_inv_base.proofs.Words.{pulling_from, Written, lineage_rest, member_rest, IsBare, wanted_place, with_one_more, View, rests}
+use Rattle.rk_inv_base.proofs.Words.{SoundView, is_absent, stored_count, cases_Bool, cond-true, cond-false, Phase, Rebuilding, is_member}
+use Rattle.rk_inv_base.proofs.Words.{is_opening, Post, bond_of, post_of, rebuilder_post, Holds, IsFormed}
 use Rattle.rk_inv_tablets.proofs.Words.{put_by, put2_by, put2_here, put2_other, put_other, applied_within, last_member, rest_inside}
 use Rattle.rk_inv_tablets.proofs.Words.{MayGrantFormed, as_granted, granted, row_in, SoundRow, logs_grown, none_stored, stored_push}
 use Rattle.rk_inv_tablets.proofs.Words.{needed_grown, speaker_of}
@@ -35,16 +33,9 @@ module _ (term own applied from : ℕ) where
   abbrev Takes : Post → Type 0
   Takes post = Holds (bond_of post roles.Receiving) term own applied
 
-  of_moving : (s sfrom t dfrom : ℕ) (source target : Member) → IsFormed (Moving s sfrom t dfrom) → lineage_of (Moving s sfrom t dfrom) ≡ source ∷ target ∷ [] → Waits (post_of (Moving s sfrom t dfrom) target.master) → IsTaker (Moving s sfrom t dfrom) source.master target.master term own applied
-  of_moving s sfrom t dfrom source target formed is waits = grind (arith, post_of, cond-false, ne_eqb, cond-true, eq-eqb)
-
   of_rebuilding : (source target : Member) (to : ℕ) → IsFormed (Rebuilding (source ∷ target ∷ []) to) → Waits (post_of (Rebuilding (source ∷ target ∷ []) to) target.master) → IsTaker (Rebuilding (source ∷ target ∷ []) to) source.master target.master term own applied
   of_rebuilding source target to formed waits =
       grind (arith, is_member, rebuilder_post, last_post, post_of, cond-true, eqb-true, cond-false, second_member, cases_Bool)
-
-  -- a target that waits as the second of two members may take its grant
-  pub waiting_takes : (phase : Phase) (source target : Member) → IsFormed phase → lineage_of phase ≡ source ∷ target ∷ [] → Waits (post_of phase target.master) → IsTaker phase source.master target.master term own applied
-  waiting_takes phase source target formed is waits = grind (arith, of_moving, of_rebuilding, post_of)
 
 -- a grant that the target of a row may take, in a sound view
 pub record Granting (v : View) : Type 0 where
@@ -121,23 +112,15 @@ module _ (v : View) (a : Granting v) where
 
   -- the master may take the grant
   pub taker : IsTaker a.row.phase a.source.master master a.row.term old.term (v.written master).applied
-  taker =
-      waiting_takes a.row.term old.term (v.written master).applied a.target.from a.row.phase a.source a.target
-      row_was.formed a.may.may.lineage_is
-      (rw (← a.may.may.waiting) (row_was.fitting master
-      (inl a.may.may.lives)))
+  taker = grind (arith, row_was, of_rebuilding, post_of, cond-false, ne_eqb, cond-true, eq-eqb)
 
   -- it keeps the row's range
   pub ranged : old.range ≡ a.row.range
-  ranged =
-      row_was.ranged master (inl a.may.may.lives)
-      (last_member (lineage_of a.row.phase) a.target master (ap last_of a.may.may.lineage_is) refl)
+  ranged = grind (arith, row_was, last_member, lineage_of, last_of)
 
   -- the target made ready, and has nothing of its row behind its place
   pub bare : IsBare old.range a.target.from (v.written master) (v.records master)
-  bare =
-      subst (λ (role : Role). IfSome (wanted_place role) (λ from. IsBare old.range from (v.written master) (v.records master))) a.may.may.waiting
-      (a.sound.receives.bare master a.row.tablet)
+  bare = grind (arith, wanted_place)
 
   -- nor anything that is not applied
   pub settled : list_any (touches a.row.range) (drop (v.written master).applied (v.written master).entries) ≡ false

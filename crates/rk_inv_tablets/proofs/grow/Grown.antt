@@ -113,11 +113,6 @@ module _ (v : View) (grow : Growing v) where
       let w : Written = grow.others member.master away i in
       material_of range (side_entries w.sides) (unmarked_from w.marks member.from w.entries)
 
-  pub rest_other : (range : Range) (member : Member) → (member.master ≡ master → ⊥) → member_rest written range member ≡ member_rest v.written range member
-  rest_other range member away i =
-      let w : Written = grow.others member.master away i in
-      counting range (unmarked_from w.marks (max member.from w.applied) w.entries)
-
   -- and a member's place is one of its log
   pub placed_more : (members : List Member) → All (IsPlaced v.written) members → All (IsPlaced written) members
   placed_more members was = grind (arith, length-append)
@@ -167,8 +162,7 @@ module _ (v : View) (grow : Growing v) where
   -- what they have tells no more than before
   pub marked_more : (range : Range) (lineage : List Member) → SameFirst range lineage → MarkedFit v.logs v.written v.stored v.live range lineage → MarkedFit logs written v.stored v.live range lineage
   marked_more range [] same fit = tt
-  marked_more range (only ∷ []) same fit = λ dead.
-      rw (marked_dead range only dead, material_dead range only dead) (fit dead)
+  marked_more range (only ∷ []) same fit = search (marked_dead, material_dead)
   marked_more range (first ∷ last ∷ others) same fit =
       let was : List Entry = member_stored v.logs v.written v.stored range last in
       let new : List Entry = member_stored logs written v.stored range last in
@@ -269,9 +263,7 @@ module _ (v : View) (grow : Growing v) where
 
   -- a mark that fits a row does so still, where its piece stands last
   pub fits_more : (x : Row) (q : ℕ) (mark : Mark) → LeavesRange x.range (v.written q) (written q) → MarkFits x q (v.handovers q x.tablet) (v.live q) (v.written q) mark → MarkFits x q (v.handovers q x.tablet) (v.live q) (written q) mark
-  fits_more x q mark leaves fit =
-      mark_same x q (v.handovers q x.tablet) (v.handovers q x.tablet) (v.live q) (v.written q) (written q) mark refl refl
-      (leaves.behind mark.first fit.behind) fit
+  fits_more x q mark leaves fit = grind (arith, mark_same)
 
   -- and what it marks has its row's range alone
   pub own_range_more : (range : Range) (q : ℕ) (mark : Mark) → Contains (v.written q).marks mark → HasOwnRange range (v.written q).entries mark → HasOwnRange range (written q).entries mark
@@ -293,13 +285,11 @@ module _ (v : View) (grow : Growing v) where
   -- ---- what messages say
 
   pulled_more : (x : Row) (lineage : List Member) (from : Node) (q : ℕ) (pulled : Pulled) → PulledAgrees x v.written v.handovers v.live lineage from q pulled → PulledAgrees x written v.handovers v.live lineage from q pulled
-  pulled_more x (source ∷ target ∷ []) from q pulled agrees = λ here lives is.
-      rw (truth_same x.range source) (agrees here lives is)
+  pulled_more x (source ∷ target ∷ []) from q pulled agrees = search (truth_same, x.range)
   pulled_more x lineage from q pulled agrees = agrees
 
   got_more : (x : Row) (lineage : List Member) (from : Node) (q : ℕ) (got : Got) → GotAgrees x v.written v.handovers v.live lineage from q got → GotAgrees x written v.handovers v.live lineage from q got
-  got_more x (source ∷ target ∷ []) from q got agrees = λ here lives is.
-      rw (truth_same x.range source) (agrees here lives is)
+  got_more x (source ∷ target ∷ []) from q got agrees = search (truth_same, x.range)
   got_more x lineage from q got agrees = agrees
 
   -- no more is needed of a dead master
@@ -407,9 +397,7 @@ module _ (v : View) (grow : Growing v) where
 
   -- an entry of the row's range lies in rows, and is of whole ones
   within_rows : (e : Entry) → IsOfRange row.range e → IsEntryWithin v.rows e
-  within_rows (entries.Held held) of = covered_by v.rows row held.table (hash_of held.key) grow.has_row of
-  within_rows (entries.Carried carried) of = rw of (λ hash has_it. covered_by v.rows row row.range.table hash grow.has_row has_it)
-  within_rows _ of = absurd of
+  within_rows e of = grind (arith, covered_by, hash_of)
 
   whole_row : (x : Row) → Contains v.rows x → meets x.range row.range ≡ true → has_all row.range x.range ≡ true
   whole_row x has met =

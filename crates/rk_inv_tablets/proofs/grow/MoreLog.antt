@@ -1,8 +1,8 @@
 -- A log that has more entries behind those that it had: what is seen of those, and that a range of which none of the new ones is sees what
 -- it saw.
-use Rattle.std.proofs.Common.{◌&&◌, ◌≡◌, ℕ, ◌+◌, ◌<◌, ◌≤◌, ◌⊎◌, Bool, true, false, List, [], ◌∷◌, ◌++◌, filter, fold, length, Option, Some}
-use Rattle.std.proofs.Common.{refl, sym, ap, ◌∙◌, subst, ⊎_elim, inl, inr, arith, All, Contains, slice_get, drop, take, flat_map}
-use Rattle.std.proofs.Common.{append-nil, length-append, length-take, eqb, leb, append_assoc}
+use Rattle.std.proofs.Common.{◌≡◌, ℕ, ◌+◌, ◌<◌, ◌≤◌, ◌⊎◌, Bool, true, false, List, [], ◌∷◌, ◌++◌, filter, fold, length, Option, Some, refl}
+use Rattle.std.proofs.Common.{sym, ap, ◌∙◌, subst, ⊎_elim, inl, inr, arith, All, Contains, slice_get, drop, take, flat_map, append-nil}
+use Rattle.std.proofs.Common.{length-append, length-take, eqb, leb, append_assoc}
 use Rattle.rk_inv_base.proofs.Words.{cases_lt, false≢true, take-append-le, All-cons, All-contains_itself, All-nil, All-push, All-weaker}
 use Rattle.rk_inv_base.proofs.Words.{Contains-append_left, flat_map-append, slice_get_push_cases, list_any, meets, Held, Range, Entry}
 use Rattle.rk_inv_base.proofs.Words.{is_in, Handover, Row, Handed, items_of, is_marked, unmarked_from, touches, counting, counts}
@@ -42,10 +42,7 @@ module _ (range : Range) (source : ℕ) (truth material : List Entry) (from : �
 
 -- a range has all of itself
 pub has_itself : (range : Range) → has_all range range ≡ true
-has_itself range = itself range.table range.first range.last
-  where
-    itself : (t f l : ℕ) → (eqb t t && leb f f && leb l l) ≡ true
-    itself t f l = grind (arith, nat_tests)
+has_itself range = grind (arith, eqb, leb, nat_tests, range.table, range.first, range.last)
 
 -- of the entries from a place on those without a mark are those that were, and some of a row's range behind them
 pub record HasFree (row : Row) (old new : Written) (from : ℕ) : Type 0 where
@@ -206,14 +203,10 @@ joined_more row old new more range from = grind (arith, joined_from, kept_more, 
 module _ (row : Row) (range : Range) (far : meets row.range range ≡ false) where
   -- no entry of the row's range touches the other one
   untouched : (list : List Entry) → All (IsOfRange row.range) list → list_any (touches range) list ≡ false
-  untouched list of =
-      list_any_none (touches range) list
-      (All-weaker _ _ (touches_none row.range range far (apart_either row.range range far)) list of)
+  untouched list of = grind (arith, list_any_none, touches, touches_none, apart_either)
 
   pub touched_more : (old new : Written) → HasMore row old new → (from : ℕ) → list_any (touches range) (drop from old.entries) ≡ false → list_any (touches range) (drop from new.entries) ≡ false
-  touched_more old new more from none =
-      ap (λ (l : List Entry). list_any (touches range) (drop from l)) more.entries
-      ∙ none_more (touches range) from old.entries more.list none (untouched more.list more.inside)
+  touched_more old new more from none = grind (arith, touches, none_more, untouched)
 
 module _ (row : Row) (range : Range) (far : meets row.range range ≡ false) (some : range.first ≤ range.last) where
   -- nor does one count there, or join
@@ -227,11 +220,7 @@ module _ (row : Row) (range : Range) (far : meets row.range range ≡ false) (so
       (All-weaker (IsBeside range) (λ e. counts range e ≡ false) (λ e its. its.uncounted) few (beside few of)))
 
   unnamed : (list few : List Entry) → All (IsOfRange row.range) few → flat_map (named_by range) (list ++ few) ≡ flat_map (named_by range) list
-  unnamed list few of =
-      flat_map-append (named_by range) list few
-      ∙ ap (λ (more : List ℕ). flat_map (named_by range) list ++ more)
-      (all_names_none range few (All-weaker _ _ (touches_none row.range range far (apart_either row.range range far)) few of))
-      ∙ append-nil (flat_map (named_by range) list)
+  unnamed list few of = search (flat_map-append, named_by, all_names_none, touches_none, apart_either, append-nil)
 
   pub leaves_more : (old new : Written) → HasMore row old new → LeavesRange range old new
   leaves_more old new more = record {

@@ -1,12 +1,7 @@
 -- A view in which one master has another tablet of a number than it had: what holds of each tablet.
-use Rattle.std.proofs.Common.{arith}
-use Rattle.std.proofs.Common.{◌≡◌, ℕ, ◌⊎◌, sym}
-use Rattle.rk_inv_base.proofs.Words.{cases_eq, Node, Tablet, ByMaster, IfMaster, View}
-use Rattle.rk_inv_tablets.proofs.Words.{seen_at, by_master, if_master, tablet_seen}
-
--- a tablet is that of a master and a number, or another
-pub here_or_apart : (master number q r : ℕ) → ((q ≡ master) × (r ≡ number)) ⊎ (q ≡ master → r ≡ number → ⊥)
-here_or_apart master number q r = grind (arith, cases_eq)
+use Rattle.std.proofs.Common.{arith, ◌≡◌, ℕ, sym}
+use Rattle.rk_inv_base.proofs.Words.{cases_eq, Tablet, View}
+use Rattle.rk_inv_tablets.proofs.Words.{seen_at, tablet_seen}
 
 -- this master has this of the number now, and all others have what they had
 pub record IsTurned (v now : View) (master number : ℕ) (tablet : Tablet) : Type 0 where
@@ -16,18 +11,11 @@ pub record IsTurned (v now : View) (master number : ℕ) (tablet : Tablet) : Typ
 module _ (v now : View) (master number : ℕ) (tablet : Tablet) (turned : IsTurned v now master number tablet) where
   -- what holds of the tablet at its master, and of each other one as it was, holds of all
   pub of_tablet : (P : ℕ → ℕ → Tablet → Type 0) (q r : ℕ) → P master number tablet → ((q ≡ master → r ≡ number → ⊥) → P q r (tablet_seen v q r)) → P q r (tablet_seen now q r)
-  of_tablet P q r here was = grind (arith, here_or_apart)
+  of_tablet P q r here was = grind (arith, cases_eq)
 
   -- and what was said of it as it was may give what is said of it now
   pub by_turn : (P : ℕ → Tablet → Type 0) (q : ℕ) → (P master (tablet_seen v master number) → P master tablet) → P q (tablet_seen v q number) → P q (tablet_seen now q number)
   by_turn P q gives was = grind (arith, cases_eq)
-
-  -- so it is of what is said where a node is a master
-  pub if_turned : (P : ℕ → Tablet → Type 0) (node : Node) → (P master (tablet_seen v master number) → P master tablet) → IfMaster node (λ q. P q (tablet_seen v q number)) → IfMaster node (λ q. P q (tablet_seen now q number))
-  if_turned P node gives = if_master node _ _ (λ q. by_turn P q gives)
-
-  pub by_turned : (P : ℕ → Tablet → Type 0) (node : Node) → (P master (tablet_seen v master number) → P master tablet) → ByMaster node (λ q. P q (tablet_seen v q number)) → ByMaster node (λ q. P q (tablet_seen now q number))
-  by_turned P node gives = by_master node _ _ (λ q. by_turn P q gives)
 
   -- of another number all have what they had
   pub seen_apart : (q r : ℕ) → (r ≡ number → ⊥) → seen_at v r q ≡ seen_at now r q

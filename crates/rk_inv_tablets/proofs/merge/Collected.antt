@@ -1,16 +1,15 @@
 -- What a rebuild has gathered, once all is, tells no end that the truth or the rest of its row does not tell, and so does what it merges.
 use Rattle.std.proofs.Common.{◌≡◌, ℕ, zero, suc, ◌≤◌, ◌⊎◌, Bool, true, false, cond, List, [], ◌∷◌, ◌++◌, filter, length, None, refl, sym}
 use Rattle.std.proofs.Common.{ap, ◌∙◌, subst, ⊎_elim, inl, inr, arith, ◌==◌, All, not, Contains, eq-eqb, eqb-true, ◌<◌, max, take, flat_map}
-use Rattle.rk_inv_base.proofs.Words.{cond_both, cond-true, false≢true, or_from, All-append, All-contains, All-contains_itself}
-use Rattle.rk_inv_base.proofs.Words.{All-nil, All-weaker, Contains-append_left, Contains-append_right, Ended, Member, Range, Entry}
-use Rattle.rk_inv_base.proofs.Words.{completions_from, ends_of, lineage_of, Phase, Rebuilding, known_of, told, Gather, Gathered}
-use Rattle.rk_inv_base.proofs.Words.{LAST_MAIN_SEGMENT, by_member, counted_of, is_member, unmarked_from, as_entries, counting, own_place}
-use Rattle.rk_inv_base.proofs.Words.{Written, member_material, stored_of}
-use Rattle.rk_inv_base.proofs.Words.{FormerMember, Bystander, Holds, bond_of, post_of, rebuilder_post, IsGathered, MarkedFit, NeededOf}
-use Rattle.rk_inv_base.proofs.Words.{READ_BACKUP, TellNoMore, closing_carried, member_marked, member_stored, AreApart, IsFormed, View}
-use Rattle.rk_inv_base.proofs.Words.{false_from_ne_true, cases_lt, Contains-append_cases, Base, item_end, items_of, told_by, counts}
-use Rattle.rk_inv_base.proofs.Words.{joined_from, named, side_entries, lineage_rest, lineage_truth, member_rest, member_truth}
-use Rattle.rk_inv_base.proofs.Words.{NamedFit, FirstIsDone, OnlyIsUnnamed}
+use Rattle.rk_inv_base.proofs.Words.{cond_both, cond-true, false≢true, or_from, All-append, All-contains, All-contains_itself, All-nil}
+use Rattle.rk_inv_base.proofs.Words.{All-weaker, Contains-append_left, Contains-append_right, Ended, Member, Range, Entry, completions_from}
+use Rattle.rk_inv_base.proofs.Words.{ends_of, lineage_of, Phase, Rebuilding, known_of, told, Gather, Gathered, LAST_MAIN_SEGMENT, by_member}
+use Rattle.rk_inv_base.proofs.Words.{counted_of, is_member, unmarked_from, as_entries, counting, own_place, Written, member_material}
+use Rattle.rk_inv_base.proofs.Words.{stored_of, FormerMember, Bystander, Holds, bond_of, post_of, rebuilder_post, IsGathered, MarkedFit}
+use Rattle.rk_inv_base.proofs.Words.{NeededOf, READ_BACKUP, TellNoMore, closing_carried, member_marked, member_stored, AreApart, IsFormed}
+use Rattle.rk_inv_base.proofs.Words.{View, false_from_ne_true, cases_lt, Contains-append_cases, Base, item_end, items_of, told_by, counts}
+use Rattle.rk_inv_base.proofs.Words.{joined_from, named, side_entries, lineage_rest, lineage_truth, member_rest, member_truth, NamedFit}
+use Rattle.rk_inv_base.proofs.Words.{FirstIsDone, OnlyIsUnnamed}
 use Rattle.rk_inv_tablets.proofs.Words.{member as member_at, kept_stands, each_member, members_by, all_by, former_gone, IsToldIn}
 use Rattle.rk_inv_tablets.proofs.Words.{own_entries, row_in, stands_kept}
 use Rattle.rk_inv_tablets.proofs.crash.MergeTells.{IsToldBy, all_stand_told, all_told, piece_told, read_all, read_told, stands_told}
@@ -148,9 +147,7 @@ module _ (v : View) (range : Range) (lineage : List Member) where
 
   -- what counts of a member tells nothing more
   pub member_told : (m : Member) → Contains lineage m → All (IsToldBy materials) (member_material v.written range m)
-  member_told m has =
-      all_stand_told (member_material v.written range m) materials
-      (λ e at. flat_stands (member_material v.written range) lineage m e has at)
+  member_told m has = search (all_stand_told, member_material, flat_stands)
 
   -- nor does what a backup stores of it
   pub stored_told : (m : Member) → Contains lineage m → All (IsToldBy materials) (member_stored v.logs v.written v.stored range m)

@@ -70,20 +70,11 @@ grows_then old mid new first next = record {
 -- fewer entries have no more main segments
 cut_less : (list more : List Entry) → length (cut list) ≤ length (cut (list ++ more))
 cut_less list [] = subst (λ (all : List Entry). length (cut list) ≤ length (cut all)) (sym (append-nil list)) (omega arith)
-cut_less list (entry ∷ more) =
-    let one = with_bytes_more (cut list) (spelled entry) in
-    let step = ap length (cut_push [] list entry) in
-    let rest = cut_less (list ++ entry ∷ []) more in
-    let same = ap (λ (all : List Entry). length (cut all)) (append_assoc list (entry ∷ []) more) in
-    omega (arith, one, step, rest, same)
+cut_less list (entry ∷ more) = grind (arith, with_bytes_more, cut, spelled, cut_push, append_assoc, (cut_less (list ++ entry ∷ []) more))
 
 -- so a log with more entries grew, where its main segments then are few
 pub grows_more : (log : Log) (list : List Entry) → length (cut (log.entries ++ list)) < FIRST_SIDE_SEGMENT → Grows log (with_entries log list)
-grows_more log [] few =
-    subst (Grows log) (λ i. record log { entries = sym (append-nil log.entries) i }) (record {
-      front = λ n. first_part_same (bytes_of log n) (bytes_of log n) refl;
-      full = λ earlier later before sort filled. refl;
-    })
+grows_more log [] few = grind (arith, append-nil, first_part_same, bytes_of, log.entries)
 grows_more log (entry ∷ list) few =
     let same : (log.entries ++ entry ∷ []) ++ list ≡ log.entries ++ (entry ∷ list) = append_assoc log.entries (entry ∷ []) list in
     let left : length (cut ((log.entries ++ entry ∷ []) ++ list)) < FIRST_SIDE_SEGMENT =
@@ -97,10 +88,7 @@ grows_more log (entry ∷ list) few =
 committed_more : (log : Log) (list : List Entry) → committed log ≤ committed (with_entries log list)
 committed_more log [] = subst (λ (all : Log). committed log ≤ committed all) (λ i. record log { entries = sym (append-nil log.entries) i }) (omega arith)
 committed_more log (entry ∷ list) =
-    let one = committed_entry log entry in
-    let rest = committed_more (with_entry log entry) list in
-    subst (λ (all : Log). committed log ≤ committed all) (λ i. record log { entries = append_assoc log.entries (entry ∷ []) list i })
-    (omega (arith, one, rest))
+    grind (arith, committed_entry, with_entry, committed, append_assoc, log.entries, (committed_more (with_entry log entry) list))
 
 -- every backup is known to hold the side segments that these entries name
 abbrev pub AreStored : Log → List Entry → Type 0

@@ -15,7 +15,6 @@ use Rattle.rk_inv_tablets.proofs.Words.{member as member_at, put2_here, IsRebuil
 use Rattle.rk_inv_tablets.proofs.Words.{IsHeir, heir_post, IsToldIn, CountsFor, SpeaksFor, view_by_rows, SoundRow, SoundBeside}
 use Rattle.rk_inv_tablets.proofs.Words.{still_counts, handed_for_grant_alike, handed_by_alike, cover_looks, terms_looks, role_looks}
 use Rattle.rk_inv_tablets.proofs.Words.{terms_look, IsBareOf, IsNextOf}
-use Rattle.rk_world.specs.Marks.{unmarked as unmarked_entries}
 use Rattle.rk_inv_tablets.proofs.merge.Merging.{Merging, closing, first, free_same, inside, mark, material_same, merged, mine, new, now}
 use Rattle.rk_inv_tablets.proofs.merge.Merging.{of_written, old, own_is, past_is, piece, piece_length, rebuilder, rebuilt, term_is}
 use Rattle.rk_inv_tablets.proofs.merge.Merging.{unmarked, within, rest_same, tablet, turned, row_was, looks, new_role, of_handover, role_is}
@@ -29,7 +28,6 @@ use Rattle.rk_inv_tablets.proofs.grow.Grown.{items_more, waiting_more}
 use Rattle.rk_inv_tablets.proofs.grow.Turned.{of_tablet, seen_apart}
 use Rattle.rk_inv_tablets.proofs.ready.Outside.{second_member, former_behind}
 use Rattle.rk_inv_tablets.proofs.merge.Collected.{collected}
-use Rattle.rk_inv_tablets.proofs.merge.Heirs.{heir_quiet}
 use Rattle.rk_inv_tablets.proofs.merge.MergedMessages.{says_here}
 
 module _ (v : View) (a : Merging v) where
@@ -57,9 +55,7 @@ module _ (v : View) (a : Merging v) where
         alone =
             All-push (λ (m : Mark). m.tablet ≡ a.row.tablet → m ≡ mark v a) w.marks (mark v a)
             (all_by (λ (m : Mark). m.tablet ≡ a.row.tablet → m ≡ mark v a) w.marks (λ m stands its. absurd (unmarked v a m stands its))) (λ its. refl);
-        stands =
-            ap (take (suc (closing v a) - first v a)) (drop-append_seam w.entries (piece v a))
-            ∙ take_all (suc (closing v a) - first v a) (piece v a) (omega (arith, size));
+        stands = grind (arith, closing, first, drop-append_seam, piece, take_all, w.entries);
         last =
             ap (list_any (touches (old v a).range))
             (drop_all (suc (closing v a)) (w.entries ++ piece v a) (omega (arith, size, length-append w.entries (piece v a))));
@@ -135,10 +131,7 @@ module _ (v : View) (a : Merging v) where
         within = omega (arith, term_is v a);
         present = λ lives. term_is v a;
         by_rebuilder = λ its. (phase, term_is v a, refl);
-        behind =
-            ap (list_any (touches a.row.range))
-            (free_same v a a.master (first v a)
-            ∙ ap (λ (list : List Entry). unmarked_entries w.marks (first v a) list) (drop_all (first v a) w.entries (omega arith)));
+        behind = grind (arith, touches, free_same, first, drop_all, a.row.range, a.master, w.marks, w.entries);
       }
 
   -- so what holds of each mark of the row at another master, and of the new one, holds of all
@@ -196,12 +189,9 @@ module _ (v : View) (a : Merging v) where
       (fit granted))
   members_here _ fit = tt
 
-  -- the row's own members, the first of which rebuilds it, do not keep one term
-  terms_differ : (source target : Member) → lineage_of a.row.phase ≡ source ∷ target ∷ [] → source.master ≡ a.master → (v.handovers target.master a.row.tablet).term ≡ (v.handovers source.master a.row.tablet).term → ⊥
-  terms_differ source target two at term = grind (arith, rebuilt, lineage_of, row_was, former_behind, second_member, tablet, term_is)
-
   pub handed_here : (lineage : List Member) → lineage_of a.row.phase ≡ lineage → HandedFits a.row v.handovers v.completions v.handed lineage → HandedFits a.row (now v a).handovers (now v a).completions v.handed lineage
-  handed_here lineage is fit = grind (arith, tablet, looks, of_tablet, now, turned, terms_differ)
+  handed_here lineage is fit =
+      grind (arith, tablet, looks, of_tablet, now, turned, rebuilt, lineage_of, row_was, former_behind, second_member, term_is)
 
   -- what the last of two members names is what it was
   pub names_same : (range : Range) (from q : ℕ) → named_items range from ((now v a).written q) ≡ named_items range from (v.written q)
@@ -230,9 +220,7 @@ module _ (v : View) (a : Merging v) where
 
   -- so it does not speak for it
   quiet : speaks (post_of a.row.phase a.master) (new v a) a.row.term ≡ true → ⊥
-  quiet =
-      heir_quiet (post_of a.row.phase a.master) (new v a) a.row.term (gathers v a).0 (Some (closing v a)) heir
-      (new_role v a (old v a) (gathers v a).1) (term_is v a)
+  quiet = grind (arith, post_of, new, gathers, closing, heir, new_role, old, term_is, is_serving, is_rebuilding, false≢true)
 
   -- an end of the row's truth is known, and one of its rest is staged
   told_known : (end : Ended) → IsToldIn v a.row end → IsKnown v.base v.journal end ⊎ IsStagedEnd v.rows (rests v) a.master a.row.tablet (old v a).term end

@@ -1,23 +1,10 @@
 -- What messages say of a row for which a rebuild merges: no report tells what its master had merged before, and all else looks as it did.
-use Rattle.std.proofs.Common.{arith}
-use Rattle.std.proofs.Common.{◌≡◌, ℕ, List, [], ◌∷◌, None, refl, subst}
-use Rattle.rk_inv_base.proofs.Words.{All-cons, All-head, Ended, Member, Node, Completions, Handover, Role, Phase, Opening, Rebuilding}
-use Rattle.rk_inv_base.proofs.Words.{Transfer, Body, Rebuilt, HasRebuilt, RebuiltIn, TransferIn, View, cases_eq, EachIn, All-nil}
+use Rattle.std.proofs.Common.{arith, ℕ, [], ◌∷◌, refl}
+use Rattle.rk_inv_base.proofs.Words.{All-cons, All-head, Node, Role, Body, Rebuilt, RebuiltIn, View, cases_eq, EachIn, All-nil}
 use Rattle.rk_inv_tablets.proofs.Words.{put2_other, by_master, messages_looks, SaysIn}
 use Rattle.rk_inv_tablets.proofs.merge.Merging.{Merging, gathers, looks, merged, now, rebuilt, role_is, row_was, grow}
 use Rattle.rk_inv_tablets.proofs.grow.Grown.{grown, says_more}
 use Rattle.rk_transfer.specs.declared.role.Role.TheVariants as roles
-
--- of a row that is rebuilt no Transfer says anything
-pub transfer_rebuilds : (phase : Phase) (lineage : List Member) (to : ℕ) → phase ≡ Rebuilding lineage to → (h : Handover) (was is : Completions) (term q : ℕ) (transfer : Transfer) → TransferIn phase h was term q transfer → TransferIn phase h is term q transfer
-transfer_rebuilds (Opening source sfrom target dfrom) lineage to rebuilds h was is term q transfer says = absurd (cc rebuilds)
-transfer_rebuilds _ lineage to rebuilds h was is term q transfer says = tt
-
--- and a master that gathers has told no Rebuilt
-pub rebuilt_gathers : (phase : Phase) (h : Handover) (was is : List Ended) (from applied term q : ℕ) (report : Rebuilt) → h.role ≡ roles.Rebuilding from None → RebuiltIn phase h was applied term q report → RebuiltIn phase h is applied term q report
-rebuilt_gathers (Rebuilding lineage to) h was is from applied term q report role says =
-    absurd (subst (λ (role : Role). HasRebuilt role applied report.place) role says.2)
-rebuilt_gathers _ h was is from applied term q report role says = says
 
 module _ (v : View) (a : Merging v) where
   -- the view with the piece in the log, and with what the master keeps and merged
@@ -32,10 +19,10 @@ module _ (v : View) (a : Merging v) where
 
   -- a master that merged has told no Rebuilt before
   rebuilt_on : (q applied : ℕ) (report : Rebuilt) → RebuiltIn a.row.phase (v.handovers q a.row.tablet) (v.merged q a.row.tablet) applied a.row.term q report → RebuiltIn a.row.phase (v.handovers q a.row.tablet) ((now v a).merged q a.row.tablet) applied a.row.term q report
-  rebuilt_on q applied report says = grind (arith, rebuilt_gathers, merged, now, gathers, role_is, put2_other, cases_eq)
+  rebuilt_on q applied report says = grind (arith, merged, now, gathers, role_is, put2_other, cases_eq)
 
   says_kept : (from to : Node) (body : Body) → SaysIn (grown v (grow v a)) a.row from to body → SaysIn kept a.row from to body
-  says_kept from to body = grind (arith, by_master, transfer_rebuilds, rebuilt, now, rebuilt_on)
+  says_kept from to body = grind (arith, by_master, rebuilt, now, rebuilt_on)
 
   -- each message says of the row what it said
   pub says_here : EachIn (λ n m. SaysIn (now v a) a.row m.from m.to m.body) v.wire

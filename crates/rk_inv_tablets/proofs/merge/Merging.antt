@@ -1,14 +1,14 @@
 -- A rebuild merges what it gathered: what is known of its row and its own entries, what changes at its master, and what stays as it was.
-use Rattle.std.proofs.Common.{◌≡◌, ℕ, suc, ◌+◌, ◌≤◌, true, false, List, [], ◌∷◌, ◌++◌, length, Some, None, refl, sym, ap, ◌∙◌}
-use Rattle.std.proofs.Common.{inl, arith, fold, length-append, All, drop, slice_get, Contains, flat_map, subst, ◌&&◌}
-use Rattle.std.proofs.Common.{append_assoc, ◌==◌, nat_lt, le-ltb, ne_eqb, append-nil}
-use Rattle.rk_inv_base.proofs.Words.{false≢true, length-map, All-contains, Member, Range, Entry, Handover, Role, lineage_of}
-use Rattle.rk_inv_base.proofs.Words.{Rebuilding, Row, is_marked, unmarked_from, as_entries, counting, counts, material_of, named_by}
-use Rattle.rk_inv_base.proofs.Words.{side_entries, with_number, own_place, Written, member_material, member_rest, Mark}
-use Rattle.rk_inv_base.proofs.Words.{Merged, Holds, bond_of, post_of, IsOfRange, RowIsRebuilt, closing_carried, has_merged, View}
-use Rattle.rk_inv_base.proofs.Words.{truths, rests, SoundView, Tablet, completions_from, false_from_ne_true, Phase, and_left, and_right}
-use Rattle.rk_inv_base.proofs.Words.{cond-false, All-weaker, filter-append, Log, with_entry, EntryEnd, NeededOf, given_up_marks}
-use Rattle.rk_inv_base.proofs.Words.{marked_entries, member_given_up, stored_count, cases_eq, is_absent, is_side_stored, All-nil}
+use Rattle.std.proofs.Common.{◌≡◌, ℕ, suc, ◌+◌, ◌≤◌, true, false, List, [], ◌∷◌, ◌++◌, length, Some, None, refl, sym, ap, ◌∙◌, arith, fold}
+use Rattle.std.proofs.Common.{length-append, All, drop, slice_get, Contains, flat_map, subst, ◌&&◌, append_assoc, ◌==◌, nat_lt, le-ltb}
+use Rattle.std.proofs.Common.{ne_eqb, append-nil}
+use Rattle.rk_inv_base.proofs.Words.{false≢true, length-map, All-contains, Member, Range, Entry, Handover, Role, lineage_of, Rebuilding}
+use Rattle.rk_inv_base.proofs.Words.{Row, is_marked, unmarked_from, as_entries, counting, counts, material_of, named_by, side_entries}
+use Rattle.rk_inv_base.proofs.Words.{with_number, own_place, Written, member_material, member_rest, Mark, Merged, Holds, bond_of, post_of}
+use Rattle.rk_inv_base.proofs.Words.{IsOfRange, RowIsRebuilt, closing_carried, has_merged, View, truths, rests, SoundView, Tablet}
+use Rattle.rk_inv_base.proofs.Words.{completions_from, false_from_ne_true, and_left, and_right, cond-false, All-weaker, filter-append, Log}
+use Rattle.rk_inv_base.proofs.Words.{with_entry, EntryEnd, NeededOf, given_up_marks, marked_entries, member_given_up, stored_count}
+use Rattle.rk_inv_base.proofs.Words.{cases_eq, is_absent, is_side_stored, All-nil}
 use Rattle.rk_inv_tablets.proofs.Words.{member as member_at, put_by, put2_by, put2_here, put2_other, applied_within, place_of}
 use Rattle.rk_inv_tablets.proofs.Words.{IsRebuilderIn, LooksAs, looks_same, MayMergeFormed, as_merged, merge_in, merged_view, own_entries}
 use Rattle.rk_inv_tablets.proofs.Words.{piece_entries, piece_mark, with_piece, row_in, SoundRow, put_other, same_number, stored_push}
@@ -109,9 +109,7 @@ module _ (v : View) (a : Merging v) where
 
   -- it fits the master's post
   pub fit : Holds (bond_of (post_of a.row.phase a.master) (roles.Rebuilding gathers.0 None)) a.row.term old.term (v.written a.master).applied
-  fit =
-      rw (← gathers.1) (row_was.fitting a.master
-      (inl a.may.may.lives))
+  fit = grind (arith, gathers, row_was)
 
   -- the row is rebuilt by the master, at its own term
   pub rebuilt : (lineage : List Member) × (a.row.phase ≡ Rebuilding lineage a.master)
@@ -122,9 +120,7 @@ module _ (v : View) (a : Merging v) where
 
   -- what holds of it while it is rebuilt
   pub rebuilt_row : RowIsRebuilt a.row (Rebuilding rebuilt.0 a.master) (truths v a.row) v.logs v.written v.stored v.handovers v.completions v.gathers v.merged v.records v.live
-  rebuilt_row =
-      subst (λ (phase : Phase). RowIsRebuilt a.row phase (truths v a.row) v.logs v.written v.stored v.handovers v.completions v.gathers v.merged v.records v.live)
-      rebuilt.1 row_was.rebuilt
+  rebuilt_row = grind (arith, truths, gathers, rebuilt, row_was)
 
   -- as one that rebuilds
   pub rebuilder : IsRebuilderIn v.logs v.written v.stored a.row rebuilt.0 a.master (truths v a.row) old (v.completions a.master a.row.tablet) (v.gathers a.master a.row.tablet) (v.merged a.master a.row.tablet) (v.records a.master)
@@ -237,13 +233,9 @@ module _ (v : View) (a : Merging v) where
 
 -- a backup stores as many first entries of a log with more
 pub stored_more : (log : Log) (list : List Entry) (stored : ℕ → List ℕ) → stored_count log stored ≤ stored_count (with_entries log list) stored
-stored_more log [] stored =
-    subst (λ (all : Log). stored_count log stored ≤ stored_count all stored) (λ i. record log { entries = sym (append-nil log.entries) i }) (omega arith)
+stored_more log [] stored = grind (arith, stored_count, append-nil, log.entries)
 stored_more log (entry ∷ list) stored =
-    let one = stored_push log entry stored in
-    let rest = stored_more (with_entry log entry) list stored in
-    subst (λ (all : Log). stored_count log stored ≤ stored_count all stored) (λ i. record log { entries = append_assoc log.entries (entry ∷ []) list i })
-    (omega (arith, one, rest))
+    grind (arith, stored_push, with_entry, stored_count, append_assoc, log.entries, (stored_more (with_entry log entry) list stored))
 
 module _ (v : View) (a : Merging v) where
   -- ---- what is needed of others

@@ -1,6 +1,5 @@
 -- What the entries of a rebuild of one range are to another one, and that what a rebuild merges is of its range.
-use Rattle.std.proofs.Common.{◌≡◌, ℕ, Bool, true, false, cond, List, [], ◌∷◌, filter, map, refl, sym, subst, ◌==◌, not, All, Contains}
-use Rattle.std.proofs.Common.{flat_map}
+use Rattle.std.proofs.Common.{arith, ◌≡◌, ℕ, Bool, true, false, cond, List, [], ◌∷◌, filter, map, refl, ◌==◌, not, All, Contains, flat_map}
 use Rattle.rk_inv_base.proofs.Words.{cond_both, All-append, All-cons, All-contains, All-filter, All-head, All-map, All-nil}
 use Rattle.rk_inv_base.proofs.Words.{All-tail, All-weaker, meets, Held, Range, Entry, is_in, Handover, newest_is}
 use Rattle.rk_inv_base.proofs.Words.{newest_items_are, newest_items, items_in, items_of, Gather, Gathered, by_member, counted_of}
@@ -27,9 +26,7 @@ joins_none a b _ of = refl
 
 -- it touches no range that does not meet its own
 pub touches_none : (a b : Range) → meets a b ≡ false → meets b a ≡ false → (e : Entry) → IsOfRange a e → touches b e ≡ false
-touches_none a b apart back (entries.Held held) of = key_outside b a held.table held.key back of
-touches_none a b apart back (entries.Carried carried) of = subst (λ (range : Range). meets range b ≡ false) (sym of) apart
-touches_none a b apart back _ of = absurd of
+touches_none a b apart back e of = grind (arith, key_outside, meets)
 
 -- ---- what counts for a range is of it
 
@@ -78,9 +75,7 @@ by_member_all P gather own mine each =
 
 -- so all that is merged counts for the range of the gather
 pub read_counts : (gather : Gather) (own : List Entry) → All (Counts gather.range) own → All (Counts gather.range) (flat_map (λ list. list) (by_member gather own))
-read_counts gather own mine =
-    by_member_all (Counts gather.range) gather own mine
-    (all_by _ gather.members (λ gathered at. material_counts gather.range (side_read gathered) (main_entries gathered)))
+read_counts gather own mine = search (by_member_all, all_by, material_counts, side_read, main_entries, gather.range, gather.members)
 
 -- the newest items are items
 pub newest_stand : (items : List Held) → All (Contains items) (newest_items items)

@@ -1,7 +1,7 @@
 -- A piece that is appended to a log, and bears a mark: it is not seen where marked entries are left out.
-use Rattle.std.proofs.Common.{◌≡◌, ℕ, zero, suc, ◌+◌, ◌≤◌, ◌<◌, Bool, true, false, ◌&&◌, ◌||◌, cond, leb, ltb, List, [], ◌∷◌, ◌++◌, length}
-use Rattle.std.proofs.Common.{Some, refl, sym, ap, ◌∙◌, ⊎_elim, arith, filter, length-drop, length-take, drop, take, slice_get}
-use Rattle.std.proofs.Common.{flat_map, le-leb, lt-ltb, take_all, ◌-◌}
+use Rattle.std.proofs.Common.{◌≡◌, ℕ, zero, suc, ◌+◌, ◌≤◌, ◌<◌, Bool, true, false, ◌&&◌, cond, leb, ltb, List, [], ◌∷◌, ◌++◌, length, Some}
+use Rattle.std.proofs.Common.{refl, sym, ap, ◌∙◌, ⊎_elim, arith, filter, length-drop, length-take, drop, take, slice_get, flat_map, le-leb}
+use Rattle.std.proofs.Common.{lt-ltb, take_all, ◌-◌}
 use Rattle.rk_inv_base.proofs.Words.{cases_lt, cond-false, cond-true, cond_both, and_left, or_from, or_left, or_parts, or_right}
 use Rattle.rk_inv_base.proofs.Words.{drop-append-le, take-append-le, list_any, Range, Entry, is_marked, unmarked}
 use Rattle.rk_inv_base.proofs.Words.{unmarked_from, counting, counts, named_by, Mark, marked_entries}
@@ -12,16 +12,12 @@ use Rattle.std.proofs.Math.Seq.{drop-append-add, take-append-add}
 
 -- a place before it is marked as it was
 pub marked_before : (marks : List Mark) (mark : Mark) (k : ℕ) → k < mark.first → is_marked (marks ++ mark ∷ []) k ≡ is_marked marks k
-marked_before [] mark k less =
-    or_from (leb mark.first k && ltb k mark.past) false (and_left (leb mark.first k) (ltb k mark.past) (lt-leb mark.first k less)) refl
-marked_before (other ∷ marks) mark k less =
-    ap (λ (b : Bool). (leb other.first k && ltb k other.past) || b) (marked_before marks mark k less)
+marked_before [] mark k less = grind (arith, or_from, leb, ltb, and_left, lt-leb, mark.first, mark.past)
+marked_before (other ∷ marks) mark k less = grind (arith, leb, ltb, other.first, other.past, (marked_before marks mark k less))
 
 -- and one in it is marked
 pub marked_in : (marks : List Mark) (mark : Mark) (k : ℕ) → mark.first ≤ k → k < mark.past → is_marked (marks ++ mark ∷ []) k ≡ true
-marked_in [] mark k from before =
-    or_left (leb mark.first k && ltb k mark.past) false
-    ((λ i. le-leb mark.first k from i && ltb k mark.past) ∙ lt-ltb k mark.past before)
+marked_in [] mark k from before = grind (arith, or_left, leb, ltb, le-leb, lt-ltb, mark.first, mark.past)
 marked_in (other ∷ marks) mark k from before =
     or_right (leb other.first k && ltb k other.past) (is_marked (marks ++ mark ∷ []) k) (marked_in marks mark k from before)
 

@@ -16,8 +16,7 @@ use Rattle.rk_inv_tablets.proofs.crash.MarkedPieces.{row_there}
 pub with_all_is : (master : Master) (list : List Entry) → with_all master list ≡ record master { log = with_entries master.log list }
 with_all_is master [] = λ i. record master { log = record master.log { entries = sym (append-nil master.log.entries) i } }
 with_all_is master (entry ∷ list) =
-    with_all_is (with_appended master entry) list
-    ∙ (λ i. record master { log = record master.log { entries = append_assoc master.log.entries (entry ∷ []) list i } })
+    grind (arith, with_appended, append_assoc, master.log, master.log.entries, (with_all_is (with_appended master entry) list))
 
 module _ (w : World) (master tablet : ℕ) where
   abbrev before : Master

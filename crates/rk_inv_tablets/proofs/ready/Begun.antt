@@ -1,16 +1,15 @@
 -- A lane stays sound when a master begins to rebuild a tablet: it gives up each other tablet there, and outside the lineage it drops its
 -- items of the range; nothing is gathered so far.
-use Rattle.std.proofs.Common.{◌≡◌, ℕ, ◌<◌, Bool, true, false, List, [], ◌∷◌, Option, Some, None, cond, map, refl, sym, ap, ◌∙◌}
-use Rattle.std.proofs.Common.{subst, ⊎_elim, ◌⊎◌, arith, ◌==◌, ◌||◌, filter, is_some, nat_lt, not, slice_index_or, Contains, lt-ltb}
-use Rattle.rk_inv_base.proofs.Words.{cases_eq, cond-true, false≢true, drop_all, All-cons, All-nil, Contains-get_or, meets, Held, Member}
-use Rattle.rk_inv_base.proofs.Words.{Range, order_without, Handover, lineage_of, row_of, Phase, Rebuilding, Row, Known, known_of}
-use Rattle.rk_inv_base.proofs.Words.{EntryEnd, Rebuild, with_others_given_up, is_member, own_member, unmarked, Master, tablet_at}
-use Rattle.rk_inv_base.proofs.Words.{with_tablet, material_of, side_entries, begun_from, rebuild_begun, with_begun, without_foreign, Tablet}
-use Rattle.rk_inv_base.proofs.Words.{World, master_at, tablet_in, with_master, member_material, IsWithinRows, stored_of, IsGathered}
-use Rattle.rk_inv_base.proofs.Words.{NeededOf, READ_BACKUP, IsFormed, HandoverFits, View, truths, view, IsSound, SoundView}
+use Rattle.std.proofs.Common.{◌≡◌, ℕ, ◌<◌, Bool, true, false, List, [], ◌∷◌, Option, Some, None, cond, map, refl, sym, ap, ◌∙◌, subst}
+use Rattle.std.proofs.Common.{⊎_elim, ◌⊎◌, arith, ◌==◌, ◌||◌, filter, is_some, not, slice_index_or, Contains}
+use Rattle.rk_inv_base.proofs.Words.{cases_eq, false≢true, drop_all, Contains-get_or, meets, Held, Member, order_without, Handover}
+use Rattle.rk_inv_base.proofs.Words.{lineage_of, row_of, Phase, Rebuilding, Row, Known, known_of, EntryEnd, Rebuild, with_others_given_up}
+use Rattle.rk_inv_base.proofs.Words.{is_member, own_member, unmarked, Master, with_tablet, material_of, side_entries, begun_from}
+use Rattle.rk_inv_base.proofs.Words.{rebuild_begun, with_begun, Tablet, World, master_at, tablet_in, with_master, member_material}
+use Rattle.rk_inv_base.proofs.Words.{IsWithinRows, stored_of, IsGathered, IsFormed, HandoverFits, View, truths, view, IsSound, SoundView}
 use Rattle.rk_inv_tablets.proofs.Words.{rebuilt as handover_rebuilt, member as member_at, unread, MayBegin, same_number, covered_by, stays}
-use Rattle.rk_inv_tablets.proofs.Words.{stood, IsRebuilderIn, rows_apart, stands_found, as_begun, as_rebuilding, begins_from, begun}
-use Rattle.rk_inv_tablets.proofs.Words.{begun_tablets, items_left, rebuild_begun_in, tablet_seen, row_in}
+use Rattle.rk_inv_tablets.proofs.Words.{stood, IsRebuilderIn, rows_apart, stands_found, as_begun, begins_from, begun, begun_tablets}
+use Rattle.rk_inv_tablets.proofs.Words.{items_left, rebuild_begun_in, tablet_seen, row_in}
 use Rattle.rk_sound.specs.Rebuilds.{AreGathered}
 use Rattle.rk_inv_tablets.proofs.ready.Heirs.{MayBeginBy, begins_by, post_is}
 use Rattle.rk_inv_tablets.proofs.ready.OthersGivenUp.{MayTakeOrder, apart, beside_order, step}
@@ -25,12 +24,9 @@ unread_one : (Needed : EntryEnd → Type 0) (known : Known) (stored : ℕ → Li
 unread_one Needed known stored member = grind (arith, false≢true)
 
 unread_all : (Needed : ℕ → EntryEnd → Type 0) (known : ℕ → Known) (stored : ℕ → ℕ → List ℕ) (members : List Member) → AreGathered Needed known stored (map unread members)
-unread_all Needed known stored [] =
-    All-nil (λ gathered. IsGathered (Needed gathered.member.master) (known gathered.member.master) (stored gathered.member.master) gathered)
+unread_all Needed known stored [] = grind arith
 unread_all Needed known stored (member ∷ members) =
-    All-cons (λ gathered. IsGathered (Needed gathered.member.master) (known gathered.member.master) (stored gathered.member.master) gathered)
-    (unread member) (map unread members)
-    (unread_one (Needed member.master) (known member.master) (stored member.master) member) (unread_all Needed known stored members)
+    grind (arith, unread, unread_one, member.master, (unread_all Needed known stored members))
 
 unread_members : (members : List Member) → map (λ gathered. gathered.member) (map unread members) ≡ members
 unread_members [] = refl
@@ -128,9 +124,7 @@ module _ (v : View) (row : Row) (master : ℕ) (lineage : List Member) (sound : 
       own_is = refl;
       members_are = unread_members (filter (λ member. not (member.master == master)) lineage);
     };
-    read =
-        unread_all (NeededOf row v.written lineage) (λ q. known_of (v.logs q) READ_BACKUP) (λ q. stored_of v.stored q READ_BACKUP)
-        (filter (λ member. not (member.master == master)) lineage);
+    read = grind (arith, unread_all, known_of, stored_of, v.written, v.logs, v.stored);
     placed = begins.placed;
     merged = tt;
     items = record { found = begins.takes.found; come = begins.takes.come };
@@ -206,21 +200,9 @@ module _ (v : View) (row : Row) (master : ℕ) (lineage : List Member) (sound : 
       })
 
 pub view_begun : (v : View) (row : Row) (master : ℕ) (rebuild : Rebuild) → SoundView v → MayBegin v row master rebuild → SoundView (begun v master rebuild)
-view_begun v row master rebuild sound may =
-    let same : order_of row rebuild.lineage ≡ rebuild =
-    (λ i. record {
-      tenure = record { tablet = sym may.tablet_is i; term = sym may.term_is i };
-      range = sym may.range_is i;
-      lineage = rebuild.lineage;
-    }) in
-    rw (← same) (view_begins v row master rebuild.lineage sound (rw same may))
+view_begun v row master rebuild sound may = search (view_begins, rebuild.lineage, may.tablet_is, may.term_is, may.range_is)
 
 -- ---- a world where a master begins to rebuild a tablet
-
--- the master once it has dropped what it has to, by its member of the lineage
-foreign_is : (master : Master) (range : Range) (own : Option Member) → without_foreign master range own ≡ record master { records = items_left master.records range own }
-foreign_is master range (Some member) = refl
-foreign_is master range None = refl
 
 from_is : (w : World) (master : ℕ) (own : Option Member) → begun_from (master_at w master) own ≡ begins_from (view w) master own
 from_is w master (Some member) = refl
@@ -255,27 +237,9 @@ module _ (w : World) (master : ℕ) (rebuild : Rebuild) where
       with_begun (left_alone member) rebuild
       (handover_rebuilt tablet.handover rebuild.tenure.term rebuild.range (begins_from (view w) master member))
 
-  moves_by : (member : Option Member) → was.handover.term < rebuild.tenure.term → taking member (tablet_at (left_alone member) asked) ≡ with_tablet (left_alone member) asked (as_begun (master_at w master).number rebuild (begins_from (view w) master member) was)
-  moves_by member greater =
-      let from : ℕ = begins_from (view w) master member in
-      let new : Handover = as_rebuilding rebuild.tenure.term rebuild.range from was.handover in
-      let stays_own : tablet_at (left_alone member) asked ≡ was = own_at (base member) asked rebuild.range in
-      ap (taking member) stays_own
-      ∙ ap (with_begun (left_alone member) rebuild)
-      (cond-true (nat_lt was.handover.term rebuild.tenure.term) (Some new) None (lt-ltb was.handover.term rebuild.tenure.term greater))
-      ∙ ap
-      (λ (t : Tablet).
-      with_tablet (left_alone member) asked
-      (record (as_begun (master_at w master).number rebuild from t) { handover = new })) stays_own
-
   moves : was.handover.term < rebuild.tenure.term → rebuild_begun (master_at w master) rebuild ≡ begins_by_number (master_at w master).number
   moves greater =
-      let member : Option Member = own_member rebuild.lineage (master_at w master).number in
-      (λ i.
-      let now : Master = with_others_given_up (foreign_is (master_at w master) rebuild.range member i) asked rebuild.range in
-      with_begun now rebuild
-      (handover_rebuilt (tablet_at now asked).handover rebuild.tenure.term rebuild.range (from_is w master member i)))
-      ∙ moves_by member greater
+      grind (arith, own_at)
 
   pub view_begun_in : (master_at w master).number ≡ master → was.handover.term < rebuild.tenure.term → view (rebuild_begun_in w master rebuild) ≡ begun (view w) master rebuild
   view_begun_in numbered greater =

@@ -1,16 +1,14 @@
 -- Each master that is to rebuild a row, of its lineage or not, may begin to: its place, and the records that it has then.
 use Rattle.std.proofs.Common.{◌≡◌, ℕ, ◌<◌, ◌≤◌, Bool, true, false, List, [], ◌∷◌, Option, Some, None, cond, length, refl, sym, ap, ◌∙◌}
-use Rattle.std.proofs.Common.{subst, ⊎_elim, inl, inr, arith, ◌==◌, ◌||◌, IfSome, drop, max, Contains, flat_map, eq-eqb, eqb-true}
-use Rattle.std.proofs.Common.{lt-ltb}
-use Rattle.rk_inv_base.proofs.Words.{both_ways, cond_both, cond-false, false≢true, drop_all, Contains-append_cases}
-use Rattle.rk_inv_base.proofs.Words.{Contains-append_left, get, meets, Held, Member, Range, Entry, without, Handover, Role}
-use Rattle.rk_inv_base.proofs.Words.{lineage_of, Phase, Rebuilding, Row, items_in, items_of, first_of, is_member, own_member, unmarked_from}
-use Rattle.rk_inv_base.proofs.Words.{touches, counting, counts, is_joined_in, joined_from, log_material, material_of, named, named_by}
-use Rattle.rk_inv_base.proofs.Words.{side_entries, is_receiving, Pulling, Written, applied_entries, lineage_truth, member_truth}
-use Rattle.rk_inv_base.proofs.Words.{FirstRebuilder, Holds, LastRebuilder, OnlyRebuilder, Post}
-use Rattle.rk_inv_base.proofs.Words.{bond_of, post_of, rebuilder_post, applied_from, HasClosing, IsBare, IsFound, MembersFit}
-use Rattle.rk_inv_base.proofs.Words.{NamedFit, closing_joined, copied_items, entries_from, is_granted, joined_place, named_items}
-use Rattle.rk_inv_base.proofs.Words.{wanted_place, FirstIsDone, IsDone, OnlyIsUnnamed, AreApart, HasItems, IsTableOf}
+use Rattle.std.proofs.Common.{subst, ⊎_elim, inl, inr, arith, ◌==◌, ◌||◌, IfSome, drop, max, Contains, flat_map, eq-eqb, eqb-true, lt-ltb}
+use Rattle.rk_inv_base.proofs.Words.{both_ways, cond_both, cond-false, false≢true, drop_all, Contains-append_cases, Contains-append_left}
+use Rattle.rk_inv_base.proofs.Words.{get, meets, Held, Member, Range, Entry, without, Handover, Role, lineage_of, Phase, Rebuilding, Row}
+use Rattle.rk_inv_base.proofs.Words.{items_in, items_of, first_of, is_member, own_member, unmarked_from, touches, counting, counts}
+use Rattle.rk_inv_base.proofs.Words.{is_joined_in, joined_from, log_material, material_of, named, named_by, side_entries, is_receiving}
+use Rattle.rk_inv_base.proofs.Words.{Pulling, Written, applied_entries, lineage_truth, member_truth, FirstRebuilder, Holds, LastRebuilder}
+use Rattle.rk_inv_base.proofs.Words.{OnlyRebuilder, Post, bond_of, post_of, rebuilder_post, applied_from, HasClosing, IsBare, IsFound}
+use Rattle.rk_inv_base.proofs.Words.{MembersFit, NamedFit, closing_joined, copied_items, entries_from, is_granted, joined_place}
+use Rattle.rk_inv_base.proofs.Words.{named_items, wanted_place, FirstIsDone, IsDone, OnlyIsUnnamed, AreApart, HasItems, IsTableOf}
 use Rattle.rk_inv_base.proofs.Words.{has_all_items, View, truths, SoundView}
 use Rattle.rk_inv_tablets.proofs.Words.{truth_in, kept_stands, scanned, stands_kept, IsTargetIn, IsOutside, heir_outside, IsHeir, heir_post}
 use Rattle.rk_inv_tablets.proofs.Words.{behind_first, begins_from, items_left, row_in}
@@ -309,9 +307,7 @@ module _ (v : View) (row : Row) (master : ℕ) (sound : SoundView v) (has : Cont
       foreign_begins outside = record {
         takes = outside_takes;
         placed = omega (arith, entries_are);
-        fits =
-            foreign_fits (rebuilder_post lineage master) (length (v.logs master).entries) row.term w.applied
-            (heir_outside lineage master outside) (heir_post lineage master);
+        fits = grind (arith, foreign_fits, rebuilder_post, heir_outside, heir_post, v.logs, row.term, w.applied);
         foreign = λ none. outside;
       }
 

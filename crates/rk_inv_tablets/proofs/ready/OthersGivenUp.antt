@@ -137,9 +137,7 @@ module _ (v : View) (master number term : ℕ) (range : Range) (sound : SoundVie
   other_there r other = grind (arith, tablet_seen, cond_both, meets, given_up, is_absent, second_fails, ne_eqb)
 
   other_apart : (r : ℕ) → (r ≡ number → ⊥) → is_absent (others r).handover.role ≡ false → meets (others r).handover.range range ≡ false
-  other_apart r other there =
-      let both = other_there r other there in
-      ap (λ (h : Handover). meets h.range range) both.0 ∙ both.1
+  other_apart r other there = grind (arith, other_there, meets)
 
   -- two tablets do not meet if neither is absent
   abbrev AreApart : Tablet → Tablet → Type 0

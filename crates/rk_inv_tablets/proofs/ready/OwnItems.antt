@@ -1,6 +1,6 @@
 -- Items of what counts for a range: each is of an entry that bears it, an item of the range or a Joined that names its segment.
-use Rattle.std.proofs.Common.{◌≡◌, ℕ, suc, zero, ◌<◌, ◌+◌, Bool, true, false, ◌||◌, List, [], ◌∷◌, ◌++◌, fold, Some, cond, refl, sym, ap}
-use Rattle.std.proofs.Common.{◌∙◌, ⊎_elim, ◌⊎◌, inl, inr, arith, ◌==◌, slice_get, take, Contains, flat_map, eqb-true, not, filter, All}
+use Rattle.std.proofs.Common.{◌≡◌, ℕ, suc, zero, ◌<◌, ◌+◌, Bool, true, false, ◌||◌, List, [], ◌∷◌, ◌++◌, fold, Some, refl, sym, ap, ◌∙◌}
+use Rattle.std.proofs.Common.{⊎_elim, ◌⊎◌, inl, inr, arith, ◌==◌, slice_get, take, Contains, flat_map, eqb-true, not, filter, All}
 use Rattle.rk_inv_base.proofs.Words.{cond_both, false≢true, or_left, or_right, Contains-append_cases, Contains-append_left}
 use Rattle.rk_inv_base.proofs.Words.{Contains-append_right, Any-from_list_any, meets, Held, Range, is_among, Entry, is_in, items_in}
 use Rattle.rk_inv_base.proofs.Words.{items_of, is_marked, unmarked, counting, counts, is_joined_in, material_of, named, named_by}
@@ -96,9 +96,7 @@ counted_bears range _ item counted at = absurd (omega (arith, at.1))
 
 -- with an item of the range it counts
 held_counts : (range : Range) (entry : Entry) (item : Held) → is_in range item ≡ true → Contains (items_in entry) item → counts range entry ≡ true
-held_counts range (entries.Held held) item inside at =
-    ap (is_in range) (one_stands held item at) ∙ inside
-held_counts range _ item inside at = absurd (omega (arith, at.1))
+held_counts range entry item inside at = grind (arith, is_in, one_stands)
 
 -- one that names a segment is a Joined of the range
 pub names_joined : (range : Range) (entry : Entry) (n : ℕ) → Contains (named_by range entry) n → is_joined_in range entry ≡ true
@@ -187,13 +185,7 @@ at_front (y ∷ xs) (suc n) (suc k) x less at = at_front xs n k x (omega (arith,
 -- an entry that bears no mark stands among those, and each of those does so
 pub unmarked_stands : (marks : List Mark) (place : ℕ) (list : List Entry) (k : ℕ) (e : Entry) → slice_get list k ≡ Some e → is_marked marks (place + k) ≡ false → Contains (unmarked marks place list) e
 unmarked_stands marks place [] k e at bare = absurd (cc at)
-unmarked_stands marks place (first ∷ list) zero e at bare =
-    let same : place + 0 ≡ place = omega arith in
-    let is : first ≡ e = cc at in
-    cond_both (is_marked marks place) (unmarked marks (suc place) list) (first ∷ unmarked marks (suc place) list)
-    (λ (kept : List Entry). Contains kept e)
-    (λ marked. absurd (false≢true (sym bare ∙ ap (is_marked marks) same ∙ marked)))
-    (λ free. (0, omega arith, is))
+unmarked_stands marks place (first ∷ list) zero e at bare = grind (arith, cond_both, is_marked, unmarked, false≢true)
 unmarked_stands marks place (first ∷ list) (suc k) e at bare =
     let same : suc place + k ≡ place + suc k = omega arith in
     let later : Contains (unmarked marks (suc place) list) e =
@@ -245,11 +237,7 @@ all_remain P old new stood all =
 -- nothing that passes a test is left once all that passes it is dropped
 none_passes : {X : Type 0} (test : X → Bool) (xs : List X) → list_any test (filter (λ x. not (test x)) xs) ≡ false
 none_passes test [] = refl
-none_passes {X} test (x ∷ xs) = go (test x) refl (none_passes test xs)
-  where
-    go : (b : Bool) → test x ≡ b → list_any test (filter (λ x. not (test x)) xs) ≡ false → list_any test (cond (not b) (x ∷ filter (λ x. not (test x)) xs) (filter (λ x. not (test x)) xs)) ≡ false
-    go true e later = later
-    go false e later = ap (λ (b : Bool). b || list_any test (filter (λ x. not (test x)) xs)) e ∙ later
+none_passes {X} test (x ∷ xs) = grind (arith, (none_passes test xs))
 
 pub none_left : (range : Range) (records : List Held) → list_any (is_in range) (without range records) ≡ false
 none_left range records = none_passes (is_in range) records

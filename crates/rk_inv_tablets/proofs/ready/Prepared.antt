@@ -1,12 +1,11 @@
 -- A lane stays sound when a master makes ready for a tablet: it drops its items of the range, gives up each other tablet there, and waits.
-use Rattle.std.proofs.Common.{◌≡◌, ℕ, ◌<◌, true, false, List, Some, None, refl, sym, ap, ◌∙◌, subst, ⊎_elim, ◌⊎◌, inl, length}
-use Rattle.std.proofs.Common.{arith, is_some, nat_lt, Contains, lt-ltb}
-use Rattle.rk_inv_base.proofs.Words.{cases_eq, cond-true, drop_all, All-contains, meets, Held, Range}
-use Rattle.rk_inv_base.proofs.Words.{order_without, without, Handover, lineage_of, row_of, Phase, Row, Prepare, tablet_prepared, with_move}
-use Rattle.rk_inv_base.proofs.Words.{with_others_given_up, is_member, Master, tablet_at, touches, with_tablet, without_items, Tablet}
-use Rattle.rk_inv_base.proofs.Words.{with_handover, without_merged, World, log_in, master_at, tablet_in, with_master, AsksFor, Holds}
-use Rattle.rk_inv_base.proofs.Words.{bond_of, post_of, IsBare, RoleFits, HandoverFits, IsBelowOthers, View, view, IsSound, SoundView}
-use Rattle.rk_inv_base.proofs.Words.{false_from_ne_true}
+use Rattle.std.proofs.Common.{◌≡◌, ℕ, ◌<◌, true, false, List, Some, None, refl, sym, ap, ◌∙◌, subst, ⊎_elim, ◌⊎◌, inl, length, arith}
+use Rattle.std.proofs.Common.{is_some, Contains}
+use Rattle.rk_inv_base.proofs.Words.{cases_eq, drop_all, All-contains, meets, Held, Range, order_without, without, Handover, lineage_of}
+use Rattle.rk_inv_base.proofs.Words.{row_of, Phase, Row, Prepare, tablet_prepared, with_others_given_up, is_member, Master, touches}
+use Rattle.rk_inv_base.proofs.Words.{with_tablet, without_items, Tablet, with_handover, without_merged, World, log_in, master_at, tablet_in}
+use Rattle.rk_inv_base.proofs.Words.{with_master, AsksFor, Holds, bond_of, post_of, IsBare, RoleFits, HandoverFits, IsBelowOthers, View}
+use Rattle.rk_inv_base.proofs.Words.{view, IsSound, SoundView, false_from_ne_true}
 use Rattle.rk_inv_tablets.proofs.Words.{MayPrepare, same_number, stays, stood, outside_post, stands_found, as_wanting, prepared}
 use Rattle.rk_inv_tablets.proofs.Words.{prepared_tablets, tablet_prepared_in, tablet_seen}
 use Rattle.rk_inv_tablets.proofs.ready.OwnItems.{none_left}
@@ -160,17 +159,13 @@ module _ (w : World) (master : ℕ) (prepare : Prepare) where
   abbrev left_alone : Master
   left_alone = with_others_given_up (without_items (master_at w master) prepare.range) asked prepare.range
 
-  stays_own : tablet_at left_alone asked ≡ was
-  stays_own = own_at (without_items (master_at w master) prepare.range) asked prepare.range
-
   -- the move applies
   moves : was.handover.term < prepare.tenure.term → tablet_prepared (master_at w master) prepare ≡ with_tablet left_alone asked ready
-  moves greater = grind (arith, with_move, stays_own, cond-true, nat_lt, lt-ltb, with_tablet, without_merged, with_handover, log_in)
+  moves greater =
+      grind (arith, own_at)
 
   pub view_prepared_in : was.handover.term < prepare.tenure.term → view (tablet_prepared_in w master prepare) ≡ prepared (view w) master prepare
-  view_prepared_in greater =
-      ap (λ (m : Master). view (with_master w master m)) (moves greater)
-      ∙ view_taken w master (without prepare.range (master_at w master).records) asked prepare.range ready refl
+  view_prepared_in greater = search (view, with_master, moves, view_taken, without, master_at)
 
 pub sound_prepared : (w : World) (row : Row) (master : ℕ) (prepare : Prepare) → IsSound w → MayPrepare (view w) row master prepare → IsSound (tablet_prepared_in w master prepare)
 sound_prepared w row master prepare sound may =

@@ -1,11 +1,10 @@
 -- A living master that is to rebuild a row, and has not begun to: the records that it has are those with which it may begin.
-use Rattle.std.proofs.Common.{◌≡◌, ℕ, ◌<◌, ◌+◌, Bool, true, false, List, [], ◌||◌, Option, Some, None, refl, sym, ◌∙◌, ◌⊎◌}
-use Rattle.std.proofs.Common.{arith, drop, max, slice_get, Contains, flat_map}
-use Rattle.rk_inv_base.proofs.Words.{false≢true, or_right, All-contains, Held, Range, Entry, is_in, Row, newest_is, newest_none}
-use Rattle.rk_inv_base.proofs.Words.{is_of_from, newest_own, is_of, newest, items_in, items_of, is_marked, unmarked_from, touches}
-use Rattle.rk_inv_base.proofs.Words.{is_joined_in, joined_from, log_material, material_of, named, side_entries, Written, applied_entries}
-use Rattle.rk_inv_base.proofs.Words.{Mark, IsOfRange, applied_from, IsBare, IsFound, named_items, IsTableOf, View, truths}
-use Rattle.rk_inv_base.proofs.Words.{SoundView, false_from_ne_true}
+use Rattle.std.proofs.Common.{◌≡◌, ℕ, ◌<◌, ◌+◌, true, false, List, [], Option, Some, None, refl, sym, ◌∙◌, ◌⊎◌, arith, drop, max, slice_get}
+use Rattle.std.proofs.Common.{Contains, flat_map}
+use Rattle.rk_inv_base.proofs.Words.{false≢true, or_right, All-contains, Held, Range, Entry, is_in, Row, newest_is, newest_none, is_of_from}
+use Rattle.rk_inv_base.proofs.Words.{newest_own, is_of, newest, items_in, items_of, is_marked, unmarked_from, touches, is_joined_in}
+use Rattle.rk_inv_base.proofs.Words.{joined_from, log_material, material_of, named, side_entries, Written, applied_entries, Mark, IsOfRange}
+use Rattle.rk_inv_base.proofs.Words.{applied_from, IsBare, IsFound, named_items, IsTableOf, View, truths, SoundView, false_from_ne_true}
 use Rattle.rk_inv_tablets.proofs.Words.{in_one_row, AreIn, IsIn, behind_at, kept_stands, place_of, row_in}
 use Rattle.rk_overlay.specs.Newest.{IsNewest}
 use Rattle.rk_inv_tablets.proofs.ready.OwnItems.{fails_at, at_place, bears, flat_from, flat_stands, front_at, is_held_in, material_into}
@@ -50,15 +49,9 @@ pub table_comes : (range : Range) (list : List Entry) (records : List Held) (ite
 table_comes range list records item table stands inside =
     (newest_is (items_of list) item.table item.key item ((table item inside).0 stands)).stands
 
-first_of_or : (b : Bool) → (b || false) ≡ true → b ≡ true
-first_of_or true either = refl
-first_of_or false either = either
-
 -- an entry that bears an item of a range touches it
 bears_touches : (range : Range) (e : Entry) → bears range e ≡ true → touches range e ≡ true
-bears_touches range (entries.Held held) is = first_of_or (is_in range held) is
-bears_touches range (entries.Joined joined) is = is
-bears_touches range _ is = absurd (cc)
+bears_touches range e is = grind (arith, is_in)
 
 module _ (v : View) (row : Row) (master : ℕ) (sound : SoundView v) (has : Contains v.rows row) (lives : v.live master ≡ true) (below : (v.handovers master row.tablet).term < row.term) where
   abbrev w : Written
@@ -72,7 +65,7 @@ module _ (v : View) (row : Row) (master : ℕ) (sound : SoundView v) (has : Cont
 
   -- an entry of a piece of another row bears nothing of this one
   of_other : (other : Row) (e : Entry) → Contains v.rows other → (row.tablet ≡ other.tablet → ⊥) → IsOfRange other.range e → bears row.range e ≡ true → ⊥
-  of_other other e stands apart of is = grind (arith, is_in, first_of_or, false≢true, in_one_row)
+  of_other other e stands apart of is = grind (arith, is_in, false≢true, in_one_row)
 
   -- so an entry that bears an item of the row has no mark
   bare_at : (place : ℕ) (e : Entry) → slice_get w.entries place ≡ Some e → bears row.range e ≡ true → is_marked w.marks place ≡ false

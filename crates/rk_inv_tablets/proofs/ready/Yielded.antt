@@ -11,7 +11,7 @@ use Rattle.rk_inv_tablets.proofs.Words.{scan_in, truth_in, put_here, IsRebuilder
 use Rattle.rk_inv_tablets.proofs.Words.{IsNextOf, SoundRow, SoundBeside, waits_for, view_by_rows, formed_apart, all_by}
 use Rattle.rk_inv_base.proofs.roles.ItemsDropped.{has_all_member}
 use Rattle.rk_inv_tablets.proofs.ready.OwnItems.{none_remains}
-use Rattle.rk_inv_tablets.proofs.ready.Outside.{begun_lacks, first_member, outside_lacks, rebuilder_is, second_member, former_behind}
+use Rattle.rk_inv_tablets.proofs.ready.Outside.{begun_lacks, first_member, rebuilder_is, second_member, former_behind}
 use Rattle.rk_inv_tablets.proofs.ready.Yielding.{Begins, IsBeside, Yielding, by, by_row, of_records, of_tablet, yielded}
 use Rattle.rk_inv_tablets.proofs.ready.Yielding.{member_keeps, of_lineage, cover, term_kept, apart_still, member_range, silent}
 use Rattle.rk_inv_tablets.proofs.ready.Yielding.{for_grant_on, by_message_on, settled, end_known, stages}
@@ -35,7 +35,7 @@ module _ (v : View) (a : Yielding v) where
 
   -- the master is not said to have all items of what it yielded
   lacks : (x : Row) → IsBeside v a x → has_all_items (post_of x.phase a.master) (new x) x.term ≡ true → ⊥
-  lacks x beside all = grind (arith, outside_lacks, post_of, outside_post, begun_lacks, rebuilder_post, heir_post, rebuilder_is)
+  lacks x beside all = grind (arith, post_of, outside_post, begun_lacks, rebuilder_post, heir_post, rebuilder_is)
 
   -- a master has all items of a row, in these records, if it is said to
   abbrev HasAll : Row → ℕ → Handover → List Held → Type 0

@@ -1,14 +1,13 @@
 -- The part Messages where a master yields: what a message says of a row it says still.
-use Rattle.std.proofs.Common.{◌≡◌, ℕ, Bool, List, [], ◌∷◌, Option, None, refl, subst, arith, Contains}
+use Rattle.std.proofs.Common.{◌≡◌, ℕ, Bool, List, [], ◌∷◌, Option, None, refl, arith, Contains}
 use Rattle.rk_inv_base.proofs.Words.{get, Member, Node, Completions, Handover, lineage_of, Phase, Moving, Opening, Rebuilding, Row, Grant}
-use Rattle.rk_inv_base.proofs.Words.{Tenure, Transfer, Body, Got, Pulled, Rebuilt, Handed, is_member, AfterMove}
-use Rattle.rk_inv_base.proofs.Words.{AskAgrees, CloseFits, GotAgrees, GrantAgrees, IsMovingOrOwned, IsOf, IsOfTarget, JoinedIn, OwnFits}
-use Rattle.rk_inv_base.proofs.Words.{PrepareFits, PulledAgrees, ReadyIn, RebuildFits, RebuiltIn, ReleaseFits, TransferIn, View, IfMaster}
-use Rattle.rk_inv_base.proofs.Words.{ByMaster}
+use Rattle.rk_inv_base.proofs.Words.{Tenure, Transfer, Body, Got, Pulled, Rebuilt, Handed, is_member, AfterMove, AskAgrees, CloseFits}
+use Rattle.rk_inv_base.proofs.Words.{GotAgrees, GrantAgrees, IsOfTarget, JoinedIn, OwnFits, PrepareFits, PulledAgrees, ReadyIn, RebuildFits}
+use Rattle.rk_inv_base.proofs.Words.{RebuiltIn, ReleaseFits, TransferIn, View, IfMaster, ByMaster}
 use Rattle.rk_inv_tablets.proofs.Words.{by_master, if_master, SaysIn}
 use Rattle.rk_message.specs.declared.message.Body.TheVariants as bodies
 use Rattle.rk_inv_tablets.proofs.ready.Outside.{second_member}
-use Rattle.rk_inv_tablets.proofs.ready.Yielding.{Begins, IsBeside, Yielding, by_row, of_tablet, yielded, member_keeps, of_lineage}
+use Rattle.rk_inv_tablets.proofs.ready.Yielding.{IsBeside, Yielding, by_row, of_tablet, yielded, member_keeps, of_lineage}
 use Rattle.rk_inv_base.proofs.wire.Messages.{prepare_rises, close_rises, release_rises, rebuild_rises}
 
 module _ (v : View) (a : Yielding v) where
@@ -35,9 +34,7 @@ module _ (v : View) (a : Yielding v) where
   ready_on x beside _ place says = tt
 
   transfer_on : (x : Row) → IsBeside v a x → (phase : Phase) → x.phase ≡ phase → (completions : Completions) (transfer : Transfer) → TransferIn phase (old x) completions x.term a.master transfer → TransferIn phase (new x) completions x.term a.master transfer
-  transfer_on x beside (Opening source sfrom target dfrom) is completions transfer says =
-      let e = says.1.term_is in absurd (omega (arith, beside.below, e))
-  transfer_on x beside _ is completions transfer says = tt
+  transfer_on x beside phase is completions transfer says = grind arith
 
   joined_on : (x : Row) → IsBeside v a x → (phase : Phase) → x.phase ≡ phase → (applied : ℕ) → JoinedIn phase (old x) applied x.term a.master → JoinedIn phase (new x) applied x.term a.master
   joined_on x beside (Moving source sfrom target dfrom) is applied says = let e = says.1 in absurd (omega (arith, beside.below, e))
@@ -53,27 +50,20 @@ module _ (v : View) (a : Yielding v) where
   abbrev HasMembers : Row → List Member → Type 0
   HasMembers x lineage = Contains v.rows x × (lineage_of x.phase ≡ lineage)
 
-  -- a row that the master begins to rebuild does not move
-  begins_still : (x : Row) (q : ℕ) (h : Handover) → Begins x q h → IsMovingOrOwned x.phase → ⊥
-  begins_still x q h begins moves = subst IsMovingOrOwned begins.phase_is moves
-
   -- the target of a row has the tablet at the term of a message, if it had it
   of_target : (x : Row) (source target : Member) → HasMembers x (source ∷ target ∷ []) → (q : ℕ) → target.master ≡ q → (tenure : Tenure) → AfterMove x tenure → IsOfTarget x (now.handovers q x.tablet) tenure → IsOfTarget x (v.handovers q x.tablet) tenure
-  of_target x source target has q here tenure moved is = grind (arith, is_member, second_member, begins_still, member_keeps, of_lineage)
+  of_target x source target has q here tenure moved is = grind (arith, is_member, second_member, member_keeps, of_lineage)
 
   ask_on : (x : Row) (lineage : List Member) → HasMembers x lineage → (q : ℕ) (to : Node) (tenure : Tenure) → AfterMove x tenure → AskAgrees x v.handovers lineage q to tenure → AskAgrees x now.handovers lineage q to tenure
-  ask_on x (source ∷ target ∷ []) has q to tenure moved agrees = λ here is.
-      agrees here (of_target x source target has q here tenure moved is)
+  ask_on x (source ∷ target ∷ []) has q to tenure moved agrees = search of_target
   ask_on x _ has q to tenure moved agrees = tt
 
   pulled_on : (x : Row) (lineage : List Member) → HasMembers x lineage → (from : Node) (q : ℕ) (pulled : Pulled) → AfterMove x pulled.tenure → PulledAgrees x v.written v.handovers v.live lineage from q pulled → PulledAgrees x v.written now.handovers v.live lineage from q pulled
-  pulled_on x (source ∷ target ∷ []) has from q pulled moved agrees = λ here lives is.
-      agrees here lives (of_target x source target has q here pulled.tenure moved is)
+  pulled_on x (source ∷ target ∷ []) has from q pulled moved agrees = search (of_target, pulled.tenure)
   pulled_on x _ has from q pulled moved agrees = tt
 
   got_on : (x : Row) (lineage : List Member) → HasMembers x lineage → (from : Node) (q : ℕ) (got : Got) → AfterMove x got.tenure → GotAgrees x v.written v.handovers v.live lineage from q got → GotAgrees x v.written now.handovers v.live lineage from q got
-  got_on x (source ∷ target ∷ []) has from q got moved agrees = λ here lives is.
-      agrees here lives (of_target x source target has q here got.tenure moved is)
+  got_on x (source ∷ target ∷ []) has from q got moved agrees = search (of_target, got.tenure)
   got_on x _ has from q got moved agrees = tt
 
   -- what is said where a node is a master, where what was said of the tablet that the master had is said of what it has
@@ -87,44 +77,26 @@ module _ (v : View) (a : Yielding v) where
   pub says_on : (x : Row) → Contains v.rows x → (from to : Node) (body : Body) → SaysIn v x from to body → SaysIn now x from to body
   says_on x has from to (bodies.Prepare prepare) says =
       for_master (λ q h. PrepareFits x h (v.live q) q prepare) x has to (λ beside. prepare_rises x (old x) (new x) (v.live a.master) a.master beside.grows prepare) says
-  says_on x has from to (bodies.Ready ready) says =
-      from_master (λ q h. IsOf x ready.tenure → ReadyIn x.phase h x.term q ready.place) x has from
-      (λ beside told is. ready_on x beside x.phase ready.place (told is)) says
+  says_on x has from to (bodies.Ready ready) says = grind (arith, from_master, ready_on, ready.tenure, x.phase, x.term, ready.place)
   says_on x has from to (bodies.Close tenure) says =
       for_master (λ q h. CloseFits x h (v.live q) q tenure) x has to (λ beside. close_rises x (old x) (new x) (v.live a.master) a.master beside.grows tenure) says
   says_on x has from to (bodies.Transfer transfer) says =
-      from_master (λ q h. IsOf x transfer.tenure → TransferIn x.phase h (v.completions q x.tablet) x.term q transfer) x has from
-      (λ beside told is. transfer_on x beside x.phase refl (v.completions a.master x.tablet) transfer (told is)) says
+      grind (arith, from_master, transfer_on, transfer.tenure, x.phase, x.tablet, x.term)
   says_on x has from to (bodies.Grant grant) says = (
     says.0,
     for_master (λ q h. GrantAgrees x h (v.live q) (get v.handed x.tablet) q grant) x has to
         (λ beside. grant_on x beside (v.live a.master) (get v.handed x.tablet) grant) says.1,
   )
-  says_on x has from to (bodies.Pull pull) says = (
-    says.0,
-    by_master from _ _ (λ q. ask_on x (lineage_of x.phase) (has, refl) q to pull.tenure says.0) says.1,
-  )
-  says_on x has from to (bodies.Pulled pulled) says = (
-    says.0,
-    if_master to _ _ (λ q. pulled_on x (lineage_of x.phase) (has, refl) from q pulled says.0) says.1,
-  )
-  says_on x has from to (bodies.Want want) says = (
-    says.0,
-    by_master from _ _ (λ q. ask_on x (lineage_of x.phase) (has, refl) q to want.tenure says.0) says.1,
-  )
-  says_on x has from to (bodies.Got got) says = (
-    says.0,
-    if_master to _ _ (λ q. got_on x (lineage_of x.phase) (has, refl) from q got says.0) says.1,
-  )
-  says_on x has from to (bodies.Joined tenure) says =
-      from_master (λ q h. IsOf x tenure → JoinedIn x.phase h (v.written q).applied x.term q) x has from
-      (λ beside told is. joined_on x beside x.phase refl (v.written a.master).applied (told is)) says
+  says_on x has from to (bodies.Pull pull) says = grind (arith, by_master, ask_on, lineage_of, says.0, x.phase, pull.tenure, says.1)
+  says_on x has from to (bodies.Pulled pulled) says = grind (arith, if_master, pulled_on, lineage_of, says.0, x.phase, says.1)
+  says_on x has from to (bodies.Want want) says = grind (arith, by_master, ask_on, lineage_of, says.0, x.phase, want.tenure, says.1)
+  says_on x has from to (bodies.Got got) says = grind (arith, if_master, got_on, lineage_of, says.0, x.phase, says.1)
+  says_on x has from to (bodies.Joined tenure) says = grind (arith, from_master, joined_on, x.phase, x.term)
   says_on x has from to (bodies.Own tenure) says =
       for_master (λ q h. OwnFits x h (v.live q) q tenure) x has to (λ beside. own_on x beside (v.live a.master) tenure) says
   says_on x has from to (bodies.Release tenure) says =
       for_master (λ q h. ReleaseFits x h (v.live q) q tenure) x has to (λ beside. release_rises x (old x) (new x) (v.live a.master) a.master beside.grows tenure) says
   says_on x has from to (bodies.Rebuild rebuild) says =
       for_master (λ q h. RebuildFits x h (v.live q) q rebuild) x has to (λ beside. rebuild_rises x (old x) (new x) (v.live a.master) a.master beside.grows rebuild) says
-  says_on x has from to (bodies.Rebuilt rebuilt) says =
-      by_master from _ _ (λ q told is. rebuilt_on x.phase x has q (v.written q).applied rebuilt (told is)) says
+  says_on x has from to (bodies.Rebuilt rebuilt) says = grind (arith, by_master, rebuilt_on, x.phase)
   says_on x has from to _ says = says

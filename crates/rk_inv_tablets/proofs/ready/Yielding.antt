@@ -1,17 +1,16 @@
 -- Yielding: a living master yields what it has of tablets to an order of a greater term. Of one tablet it takes a new role, in which it
 -- waits for the tablet or begins to rebuild it; it gives up others, and may drop items. So are calls, counters and rests then.
-use Rattle.std.proofs.Common.{◌≡◌, ℕ, ◌<◌, ◌≤◌, true, false, List, Some, None, refl, sym, ◌∙◌, ⊎_elim, ◌⊎◌, arith, is_some, All, Contains}
-use Rattle.std.proofs.Common.{Bool, ◌∷◌, ◌&&◌, Option, cond, eqb, ap, subst, inl, inr, IfSome, drop}
+use Rattle.std.proofs.Common.{◌≡◌, ℕ, ◌<◌, ◌≤◌, true, false, List, None, refl, sym, ◌∙◌, ⊎_elim, ◌⊎◌, arith, is_some, All, Contains, ap}
+use Rattle.std.proofs.Common.{inl, inr, IfSome, drop}
 use Rattle.rk_inv_base.proofs.Words.{cases_eq, false≢true, meets, Ended, Held, Member, is_in, IsInScanOrder, Handover, lineage_of, row_of}
-use Rattle.rk_inv_base.proofs.Words.{Phase, Moving, Opening, Rebuilding, Row, Gather, is_member, is_absent, Pulling, Tablet, IsItemWithin}
-use Rattle.rk_inv_base.proofs.Words.{IsWithinRows, is_wanting, KeepTerm, RoleFits, HandoverFits, View, truths, CoverOf, SoundView, and_left}
-use Rattle.rk_inv_base.proofs.Words.{both_ways, list_any, is_serving, Role, Body, Handed, second_of, touches, is_idle, may_have_staged}
-use Rattle.rk_inv_base.proofs.Words.{IsKnown, IsStagedEnd, handed_by, handed_for_grant, is_waiting, is_waiting_at, second_has, post_of}
-use Rattle.rk_inv_base.proofs.Words.{rebuilder_post, speaks, rests}
+use Rattle.rk_inv_base.proofs.Words.{Phase, Rebuilding, Row, Gather, is_member, is_absent, Pulling, Tablet, IsItemWithin, IsWithinRows}
+use Rattle.rk_inv_base.proofs.Words.{is_wanting, KeepTerm, RoleFits, HandoverFits, View, truths, CoverOf, SoundView, both_ways, list_any}
+use Rattle.rk_inv_base.proofs.Words.{is_serving, Role, Body, Handed, second_of, touches, is_idle, may_have_staged, IsKnown, IsStagedEnd}
+use Rattle.rk_inv_base.proofs.Words.{handed_by, handed_for_grant, is_waiting, second_has, post_of, rebuilder_post, speaks, rests}
 use Rattle.rk_inv_tablets.proofs.Words.{put_by, put_here, put_other, IsRebuilderIn, IsBareOf, tablets_taken, outside_post, heir_post}
 use Rattle.rk_inv_tablets.proofs.Words.{row_in}
 use Rattle.rk_inv_tablets.proofs.ready.OwnItems.{all_remain}
-use Rattle.rk_inv_tablets.proofs.ready.Outside.{is_quiet, begun_silent, outside_idle, quiet_silent, rebuilder_is, second_member}
+use Rattle.rk_inv_tablets.proofs.ready.Outside.{is_quiet, begun_silent, outside_idle, rebuilder_is, second_member}
 use Rattle.rk_inv_base.proofs.views.ByRows.{staged_as}
 use Rattle.rk_transfer.specs.declared.role.Role.TheVariants as roles
 
@@ -99,19 +98,6 @@ SaidIn P w q r = P q (w.handovers q r) (w.pullings q r) (w.gathers q r) (w.merge
 abbrev pub SaidOf : Said → ℕ → Tablet → Type 0
 SaidOf P q tablet = P q tablet.handover tablet.pulling tablet.gather tablet.merged_ends
 
--- where less is given, what held of it holds
-less_given : (P : Handed → Type 0) (was is : Bool) (given : Option Handed) → (is ≡ true → was ≡ true) → IfSome (cond was given None) P → IfSome (cond is given None) P
-less_given P was false given less old = tt
-less_given P was true given less old = subst (λ (b : Bool). IfSome (cond b given None) P) (less refl) old
-
-and_less : (a b c : Bool) → (c ≡ true → b ≡ true) → (a && c) ≡ true → (a && b) ≡ true
-and_less true b c less both = less both
-and_less false b c less both = absurd (cc)
-
--- a role in which nothing may be staged is not one in which something may
-idle_stages : (role : Role) → is_idle role ≡ true → may_have_staged role ≡ true → ⊥
-idle_stages role idle stages = grind arith
-
 module _ (v : View) (a : Yielding v) where
   abbrev pub yielded : View
   yielded = tablets_taken v a.master a.records a.tablets
@@ -144,9 +130,7 @@ module _ (v : View) (a : Yielding v) where
 
   -- those who have to keep the row's term do
   keep_term : (phase : Phase) (before after : ℕ → ℕ) (term : ℕ) → ((q : ℕ) → before q ≡ term → after q ≡ term) → KeepTerm phase before term → KeepTerm phase after term
-  keep_term (Opening source sfrom target (Some dfrom)) before after term same at = same target at
-  keep_term (Moving source sfrom target dfrom) before after term same at = (same source at.0, same target at.1)
-  keep_term _ before after term same at = tt
+  keep_term phase before after term same at = grind arith
 
   -- a member of the lineage has the row's range
   pub member_range : (x : Row) → IsBeside x → is_member (lineage_of x.phase) a.master ≡ true → (a.tablets x.tablet).handover.range ≡ x.range
@@ -204,32 +188,19 @@ module _ (v : View) (a : Yielding v) where
   waited : (x : Row) → Contains v.rows x → (q : ℕ) → is_member (lineage_of x.phase) q ≡ true → is_wanting (now.handovers q x.tablet).role ≡ true → is_wanting (v.handovers q x.tablet).role ≡ true
   waited x has q member waits = grind (arith, is_wanting, both_ways, member_keeps)
 
-  waited_at : (x : Row) → Contains v.rows x → (q term : ℕ) → is_member (lineage_of x.phase) q ≡ true → is_waiting_at (Some (now.handovers q x.tablet)) term ≡ true → is_waiting_at (Some (v.handovers q x.tablet)) term ≡ true
-  waited_at x has q term member waits = grind (arith, is_waiting_at, false≢true, and_left, is_wanting, member_keeps)
-
-  second_waited : (x : Row) → Contains v.rows x → (lineage : List Member) → lineage_of x.phase ≡ lineage → is_waiting (second_has now.handovers x (second_of lineage)) ≡ true → is_waiting (second_has v.handovers x (second_of lineage)) ≡ true
-  second_waited x has (source ∷ target ∷ more) is waits =
-      waited x has target.master (of_lineage x (source ∷ target ∷ more) is target.master (second_member source target more)) waits
-  second_waited x has _ is waits = waits
-
-  second_waited_at : (x : Row) (term : ℕ) → Contains v.rows x → (lineage : List Member) → lineage_of x.phase ≡ lineage → is_waiting_at (second_has now.handovers x (second_of lineage)) term ≡ true → is_waiting_at (second_has v.handovers x (second_of lineage)) term ≡ true
-  second_waited_at x term has (source ∷ target ∷ more) is waits =
-      waited_at x has target.master term (of_lineage x (source ∷ target ∷ more) is target.master (second_member source target more)) waits
-  second_waited_at x term has _ is waits = waits
-
   -- and what is handed over was handed over before
   pub for_grant_on : (P : Handed → Type 0) (x : Row) → Contains v.rows x → IfSome (handed_for_grant x v.handovers v.handed) P → IfSome (handed_for_grant x now.handovers v.handed) P
-  for_grant_on P x has = grind (arith, less_given, is_waiting, second_has, second_of, lineage_of, second_waited)
+  for_grant_on P x has = grind (arith, is_waiting, second_has, second_of, lineage_of, waited, of_lineage, second_member)
 
   pub by_message_on : (P : Handed → Type 0) (x : Row) → Contains v.rows x → (body : Body) → IfSome (handed_by x v.handovers body) P → IfSome (handed_by x now.handovers body) P
-  by_message_on P x has body = grind (arith, is_waiting_at, second_has, second_of, lineage_of, less_given, eqb, and_less, second_waited_at)
+  by_message_on P x has body =
+      grind (arith, second_member, member_keeps)
 
   -- ---- who answers
 
   -- the master answers for nothing that it yielded
   pub silent : (x : Row) → IsBeside x → speaks (post_of x.phase a.master) (new x) x.term ≡ true → ⊥
-  silent x beside says =
-      grind (arith, quiet_silent, post_of, outside_post, begun_silent, rebuilder_post, heir_post, is_serving, rebuilder_is)
+  silent x beside says = grind (arith, post_of, outside_post, begun_silent, rebuilder_post, heir_post, is_serving, rebuilder_is)
 
   -- an end that is kept is known as before
   pub end_known : (q r : ℕ) (end : Ended) → IsKnown v.base v.journal end ⊎ IsStagedEnd v.rows (rests v) q r (v.handovers q r).term end → IsKnown v.base v.journal end ⊎ IsStagedEnd v.rows (rests v) q r (now.handovers q r).term end
@@ -249,13 +220,11 @@ module _ (v : View) (a : Yielding v) where
 
   -- so outside the lineage nothing was staged
   idled : (x : Row) → Contains v.rows x → IsBeside x → is_member (lineage_of x.phase) a.master ≡ false → is_idle (old x).role ≡ true
-  idled x has beside outside =
-      outside_idle (post_of x.phase a.master) (old x).role x.term (old x).term (v.written a.master).applied
-      (outside_post x.phase a.master outside) beside.below (fitted x has)
+  idled x has beside outside = grind (arith, outside_idle, post_of, outside_post, fitted)
 
   pub settled : (x : Row) → Contains v.rows x → IsBeside x → is_idle (new x).role ≡ true → list_any (touches x.range) (drop (v.written a.master).applied (v.written a.master).entries) ≡ false
   settled x has beside idles = grind (arith, row_in, idled, both_ways, is_idle)
 
   -- where something may be staged, it may be still
   pub stages : (x : Row) → Contains v.rows x → IsBeside x → may_have_staged (old x).role ≡ true → may_have_staged (new x).role ≡ true
-  stages x has beside staged = grind (arith, idle_stages, idled, may_have_staged)
+  stages x has beside staged = grind (arith, idled, may_have_staged)

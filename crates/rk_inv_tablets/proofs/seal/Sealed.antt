@@ -1,7 +1,7 @@
 -- A lane stays sound when a target that has pulled all seals its side lists: its master cuts them into side segments, which have what
 -- the target copied, and the target joins.
-use Rattle.std.proofs.Common.{◌≡◌, ℕ, ◌+◌, ◌-◌, ◌<◌, true, List, [], ◌∷◌, ◌++◌, fold, length, map, refl, sym, ap, ◌∙◌, subst, inl, arith}
-use Rattle.std.proofs.Common.{append_assoc, length-append, nat_le, nat_lt, slice_index_or, sum, All, Contains, flat_map, le-ltb, append-nil}
+use Rattle.std.proofs.Common.{◌≡◌, ℕ, ◌+◌, ◌-◌, ◌<◌, true, List, [], ◌∷◌, ◌++◌, fold, length, refl, sym, ap, ◌∙◌, subst, inl, arith}
+use Rattle.std.proofs.Common.{append_assoc, length-append, nat_le, nat_lt, slice_index_or, All, Contains, flat_map, le-ltb, append-nil}
 use Rattle.rk_inv_base.proofs.Words.{cond-false, cond_both, get_or_append_left, get_or_push, length-map, flat_map-append, All-contains}
 use Rattle.rk_inv_base.proofs.Words.{range_with_len, hash_of, spelled_of, Held, Member, spelled_all, Entry, FIRST_SIDE_SEGMENT, is_in, Role}
 use Rattle.rk_inv_base.proofs.Words.{number_of, Row, items_in, items_of, Master, tablet_at, with_side_segment, with_tablet, as_entries}
@@ -11,8 +11,7 @@ use Rattle.rk_inv_base.proofs.Words.{MembersFit, is_granted, View, view, IsSound
 use Rattle.rk_inv_tablets.proofs.Words.{covered_by, IsIn, truth_in, IsSecond, joining_second, scanned, all_by, tablet_apart, tablet_here}
 use Rattle.rk_inv_tablets.proofs.Words.{put_here, put_same, put2_same, found_stands, view_master, MaySealThere, as_joining, as_sealed}
 use Rattle.rk_inv_tablets.proofs.Words.{sealed, side_lists_sealed_in, sides_cut, with_side_items, with_sides, row_in, items_again}
-use Rattle.rk_types.specs.declared.held.TheConstants.{SEGMENT_BYTES}
-use Rattle.rk_world.specs.SideLogs.{cut_items, with_side_item}
+use Rattle.rk_world.specs.SideLogs.{with_side_item}
 use Rattle.rk_inv_tablets.proofs.seal.SidesCut.{view_sides_cut}
 use Rattle.rk_inv_tablets.proofs.seal.SidesJoined.{HaveCopies, fits_joining, view_sides_joined}
 use Rattle.rk_transfer.specs.declared.role.Role.TheVariants as roles
@@ -27,35 +26,22 @@ all_of lists = flat_map (λ items. items) lists
 -- one more item goes to the end
 placed_last : (lists : List (List Held)) (item : Held) → all_of (with_side_item lists item) ≡ all_of lists ++ item ∷ []
 placed_last [] item = refl
-placed_last (items ∷ []) item =
-    cond_both (nat_le (sum (map spelled_of items) + spelled_of item) SEGMENT_BYTES) ((items ++ item ∷ []) ∷ []) (items ∷ (item ∷ []) ∷ [])
-    (λ now. all_of now ≡ (items ++ []) ++ item ∷ [])
-    (λ e. append-nil (items ++ item ∷ []) ∙ ap (λ (list : List Held). list ++ item ∷ []) (sym (append-nil items)))
-    (λ e. ap (λ (list : List Held). list ++ item ∷ []) (sym (append-nil items)))
-placed_last (items ∷ next ∷ more) item =
-    ap (λ (list : List Held). items ++ list) (placed_last (next ∷ more) item)
-    ∙ sym (append_assoc items (all_of (next ∷ more)) (item ∷ []))
+placed_last (items ∷ []) item = grind (arith, cond_both, nat_le, spelled_of, append-nil)
+placed_last (items ∷ next ∷ more) item = grind (arith, append_assoc, (placed_last (next ∷ more) item))
 
 -- so all of a worker's are there
 cut_all : (lists : List (List Held)) (items : List Held) → all_of (fold with_side_item lists items) ≡ all_of lists ++ items
 cut_all lists [] = sym (append-nil (all_of lists))
-cut_all lists (item ∷ items) =
-    cut_all (with_side_item lists item) items
-    ∙ ap (λ (list : List Held). list ++ items) (placed_last lists item)
-    ∙ append_assoc (all_of lists) (item ∷ []) items
+cut_all lists (item ∷ items) = grind (arith, placed_last, append_assoc, (cut_all (with_side_item lists item) items))
 
 -- and of all workers
 sealed_all : (sides : List (List Held)) → all_of (sealed_sides sides) ≡ all_of sides
 sealed_all [] = refl
-sealed_all (items ∷ sides) =
-    flat_map-append (λ (list : List Held). list) (cut_items items) (sealed_sides sides)
-    ∙ (λ i. cut_all [] items i ++ sealed_all sides i)
+sealed_all (items ∷ sides) = grind (arith, flat_map-append, sealed_sides, cut_all, (sealed_all sides))
 
 items_all : (lists : List (List Held)) → items_of (flat_map as_entries lists) ≡ all_of lists
 items_all [] = refl
-items_all (items ∷ lists) =
-    flat_map-append items_in (as_entries items) (flat_map as_entries lists)
-    ∙ (λ i. items_again items i ++ items_all lists i)
+items_all (items ∷ lists) = grind (arith, flat_map-append, items_in, as_entries, items_again, (items_all lists))
 
 -- the next side segments have these items
 next_have : (sides lists : List (List Held)) (next : ℕ) → next ≡ FIRST_SIDE_SEGMENT + length sides → flat_map (side_entries (sides ++ lists)) (range_with_len next (length lists)) ≡ flat_map as_entries lists
@@ -133,27 +119,15 @@ module _ (v : View) (row : Row) (master : ℕ) (sound : SoundView v) (has_row : 
   copies = grind (arith, length-map, spelled_all, as_entries, put_here, with_side_items, items_of, next_have, items_all, sealed_all)
 
   pub view_sealed : SoundView (sealed v master row.tablet)
-  view_sealed =
-      view_sides_joined (sides_cut v master lists) row master (range_with_len next (length lists)) (view_sides_cut v master lists sound within may.there)
-      has_row may.may.lives may.may.receiving may.may.pulled copies
+  view_sealed = search (view_sides_joined, sides_cut, view_sides_cut, within, copies)
 
 -- ---- the world
 
 -- a master that cuts side segments, one after the other
 cut_folded : (m : Master) (lists : List (List Held)) → fold with_side_segment m lists ≡ record m { log = with_sides m.log lists; sides = m.sides ++ lists }
-cut_folded m [] = λ i. record m {
-  log = record m.log { sides = sym (append-nil m.log.sides) i };
-  sides = sym (append-nil m.sides) i;
-}
+cut_folded m [] = grind (arith, append-nil, m.log, m.log.sides, m.sides)
 cut_folded m (items ∷ lists) =
-    let bytes : List ℕ = spelled_all (as_entries items) in
-    cut_folded (with_side_segment m items) lists
-    ∙ (λ i. record m {
-      log = record m.log {
-        sides = append_assoc m.log.sides (bytes ∷ []) (map (λ (items : List Held). spelled_all (as_entries items)) lists) i;
-      };
-      sides = append_assoc m.sides (items ∷ []) lists i;
-    })
+    grind (arith, append_assoc, (cut_folded (with_side_segment m items) lists))
 
 pub sealed_is : (w : World) (master number : ℕ) → view (side_lists_sealed_in w master number) ≡ sealed (view w) master number
 sealed_is w master number =

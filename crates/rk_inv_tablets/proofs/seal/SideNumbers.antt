@@ -1,6 +1,6 @@
 -- No Joined names a side segment that is not there, so with more side segments what counts is the same.
-use Rattle.std.proofs.Common.{◌≡◌, ℕ, suc, ◌+◌, ◌<◌, true, List, [], ◌∷◌, ◌++◌, filter, length, refl}
-use Rattle.std.proofs.Common.{ap, ◌∙◌, arith, drop, nat_lt, All, flat_map, lt-ltb}
+use Rattle.std.proofs.Common.{◌≡◌, ℕ, suc, ◌+◌, ◌<◌, true, List, [], ◌∷◌, ◌++◌, length, refl, ap, ◌∙◌, arith, drop, nat_lt, All, flat_map}
+use Rattle.std.proofs.Common.{lt-ltb}
 use Rattle.rk_inv_base.proofs.Words.{cases_lt, cond-true, cond_both, false≢true, get_or_append_left, length-map, All-cons, All-drop}
 use Rattle.rk_inv_base.proofs.Words.{All-head, All-nil, All-push, All-tail, All-take, All-weaker, Held, Range}
 use Rattle.rk_inv_base.proofs.Words.{spelled_all, Entry, FIRST_SIDE_SEGMENT, is_in, is_whole, Log, is_side_stored, items_of}
@@ -83,16 +83,10 @@ module _ (log : Log) (w : Written) (stored : ℕ → ℕ → List ℕ) (kept : I
 
   -- what counts of all, and of what is applied
   pub material_kept : (range : Range) (from : ℕ) → log_material range w.marks (w.sides ++ lists) from w.entries ≡ log_material range w.marks w.sides from w.entries
-  material_kept range from =
-      let free : List Entry = unmarked_from w.marks from w.entries in
-      ap (λ (list : List Entry). counting range free ++ counting range list)
-      (named_kept range free (free_named w.marks from w.entries kept.named))
+  material_kept range from = search (unmarked_from, counting, named_kept, free_named, named)
 
   pub truth_kept : (range : Range) (from : ℕ) → log_material range w.marks (w.sides ++ lists) from (applied_entries w) ≡ log_material range w.marks w.sides from (applied_entries w)
-  truth_kept range from =
-      let free : List Entry = unmarked_from w.marks from (applied_entries w) in
-      ap (λ (list : List Entry). counting range free ++ counting range list)
-      (named_kept range free (free_named w.marks from (applied_entries w) first_named))
+  truth_kept range from = search (unmarked_from, applied_entries, counting, named_kept, free_named, first_named)
 
   pub applied_kept : (range : Range) (from : ℕ) → applied_from range from more ≡ applied_from range from w
   applied_kept range from =
@@ -102,6 +96,4 @@ module _ (log : Log) (w : Written) (stored : ℕ → ℕ → List ℕ) (kept : I
 
   -- and the items that are named
   pub items_kept : (range : Range) (from : ℕ) → named_items range from more ≡ named_items range from w
-  items_kept range from =
-      ap (λ (list : List Entry). filter (is_in range) (items_of list))
-      (named_kept range (unmarked_from w.marks from w.entries) (free_named w.marks from w.entries kept.named))
+  items_kept range from = search (is_in, items_of, named_kept, unmarked_from, free_named, named)

@@ -1,13 +1,13 @@
 -- A view stays sound when masters cut more side segments, whose items lie in rows: nothing names them, and no target has sealed them.
-use Rattle.std.proofs.Common.{◌≡◌, ℕ, cond, List, [], ◌∷◌, ◌++◌, refl, sym, ap, ◌∙◌, subst, arith, slice_index_or, All, flat_map}
-use Rattle.std.proofs.Common.{append-nil, IfSome, true, true}
+use Rattle.std.proofs.Common.{◌≡◌, ℕ, List, [], ◌∷◌, ◌++◌, refl, sym, ap, ◌∙◌, subst, arith, slice_index_or, All, flat_map, append-nil}
+use Rattle.std.proofs.Common.{IfSome, true, true}
 use Rattle.rk_inv_base.proofs.Words.{length-map, flat_map-append, All-append, All-nil, IfSome_then, get, Held, Member, Node, Range}
-use Rattle.rk_inv_base.proofs.Words.{spelled_all, Entry, Handover, Role, lineage_of, Phase, Rebuilding, Row, known_of, EntryEnd, Body}
-use Rattle.rk_inv_base.proofs.Words.{items_of, first_of, as_entries, side_entries, own_place, is_receiving, Written}
-use Rattle.rk_inv_base.proofs.Words.{member_material, member_truth, IsItemWithin, IsLog, LogSays, stored_of, MarkedFit, NeededOf}
-use Rattle.rk_inv_base.proofs.Words.{READ_BACKUP, RowIsRebuilt, member_given_up, IsTarget, MembersFit, NamedFit, copied_items, wanted_place}
-use Rattle.rk_inv_base.proofs.Words.{FirstIsDone, OnlyIsUnnamed, Waits, View, truths, rests, put, CoverOf, LogsOf, SoundParts, SoundView}
-use Rattle.rk_inv_base.proofs.Words.{AreAboveMap, EachIn, HasItems, MarkFits, base_map, has_all_items, map_after, post_of, target_truth}
+use Rattle.rk_inv_base.proofs.Words.{spelled_all, Entry, Handover, lineage_of, Phase, Rebuilding, Row, known_of, EntryEnd, Body, items_of}
+use Rattle.rk_inv_base.proofs.Words.{first_of, as_entries, side_entries, own_place, is_receiving, Written, member_material, member_truth}
+use Rattle.rk_inv_base.proofs.Words.{IsItemWithin, IsLog, LogSays, stored_of, MarkedFit, NeededOf, READ_BACKUP, RowIsRebuilt}
+use Rattle.rk_inv_base.proofs.Words.{member_given_up, IsTarget, MembersFit, NamedFit, wanted_place, FirstIsDone, OnlyIsUnnamed, Waits, View}
+use Rattle.rk_inv_base.proofs.Words.{truths, rests, put, CoverOf, LogsOf, SoundParts, SoundView, AreAboveMap, EachIn, HasItems, MarkFits}
+use Rattle.rk_inv_base.proofs.Words.{base_map, has_all_items, map_after, post_of, target_truth}
 use Rattle.rk_inv_tablets.proofs.Words.{member as member_at, target_truth_same, truth_by, truth_is, calls_more, piece_grown, messages_looks}
 use Rattle.rk_inv_tablets.proofs.Words.{rebuilder_weaker, put_by, put_here, put_is, put_other, IsRebuilderIn, roles_looks, AllLook}
 use Rattle.rk_inv_tablets.proofs.Words.{looks_same, AreSealedThere, sides_cut, with_side_items, with_sides, IsBareOf}
@@ -62,8 +62,7 @@ module _ (v : View) (lists : ℕ → List (List Held)) (sound : SoundView v) (wi
   -- ---- logs
 
   says_on : (from to : Node) (body : Body) → LogSays v.logs v.stored from to body → LogSays more.logs v.stored from to body
-  says_on (nodes.Master q) (nodes.Backup backup) (bodies.Append append) piece =
-      piece_grown (v.logs q) (with_sides (v.logs q) (lists q)) (known_of (v.logs q) backup) append (grows_sides (v.logs q) (lists q)) piece
+  says_on (nodes.Master q) (nodes.Backup backup) (bodies.Append append) piece = search (piece_grown, with_sides, known_of, grows_sides)
   says_on _ _ _ says = says
 
   logs : LogsOf more
@@ -83,8 +82,7 @@ module _ (v : View) (lists : ℕ → List (List Held)) (sound : SoundView v) (wi
   -- ---- what is staged
 
   done_on : (range : Range) (lineage : List Member) → FirstIsDone v.written range lineage → FirstIsDone more.written range lineage
-  done_on range (first ∷ last ∷ others) done =
-      record { rest = done.rest; all = material_same range first ∙ done.all ∙ sym (truth_same range first) }
+  done_on range (first ∷ last ∷ others) done = search (material_same, truth_same, done.rest, done.all)
   done_on range _ done = tt
 
   unnamed_on : (range : Range) (lineage : List Member) → OnlyIsUnnamed v.written range lineage → OnlyIsUnnamed more.written range lineage
@@ -122,10 +120,7 @@ module _ (v : View) (lists : ℕ → List (List Held)) (sound : SoundView v) (wi
   marked_on : (range : Range) (lineage : List Member) → MarkedFit v.logs v.written v.stored v.live range lineage → MarkedFit more.logs more.written v.stored v.live range lineage
   marked_on range [] fit = tt
   marked_on range (only ∷ []) fit = λ dead. rw (material_same range only) (fit dead)
-  marked_on range (first ∷ last ∷ others) fit = (
-    λ dead. rw (material_same range first) (fit.0 dead),
-    λ dead. rw (material_same range first, material_same range last) (fit.1 dead),
-  )
+  marked_on range (first ∷ last ∷ others) fit = search (material_same, fit.0, fit.1)
 
   abbrev IsRebuiltIn : View → Row → Phase → Type 0
   IsRebuiltIn w x phase =
@@ -137,11 +132,6 @@ module _ (v : View) (lists : ℕ → List (List Held)) (sound : SoundView v) (wi
 
   -- ---- targets
 
-  -- what a target copied has what it had, where the side segments that it sealed were there
-  copied_same : (q tablet : ℕ) (role : Role) → copied_items role (v.pullings q tablet) ((v.written q).sides ++ lists q) ≡ copied_items role (v.pullings q tablet) (v.written q).sides
-  copied_same q tablet role =
-      ap (λ (list : List Entry). cond (is_receiving role) (flat_map (λ items. items) (v.pullings q tablet).sides) (items_of list)) (there q tablet)
-
   -- a target by what it has written, and what counts of its source and is applied there
   abbrev IsTargetBy : Row → Member → Member → Written → List Entry → List Entry → Type 0
   IsTargetBy x source target w truth material =
@@ -149,14 +139,10 @@ module _ (v : View) (lists : ℕ → List (List Held)) (sound : SoundView v) (wi
       (get v.handed x.tablet) (v.records target.master)
 
   target_on : (x : Row) (source target : Member) (truth material : List Entry) → IsTargetBy x source target (v.written target.master) truth material → IsTargetBy x source target (more.written target.master) truth material
-  target_on x source target truth material was =
-      let received = rw (← copied_same target.master x.tablet (v.handovers target.master x.tablet).role) at was.received in
-      assumption
+  target_on x source target truth material was = grind (arith, is_receiving, items_of)
 
   members_on : (x : Row) (lineage : List Member) → MembersFit x v.written v.handovers v.pullings v.records v.handed lineage → MembersFit x more.written v.handovers v.pullings v.records v.handed lineage
-  members_on x (source ∷ target ∷ []) fit = λ granted.
-      rw (truth_same x.range source, material_same x.range source)
-      (target_on x source target (member_truth v.written x.range source) (member_material v.written x.range source) (fit granted))
+  members_on x (source ∷ target ∷ []) fit = search (truth_same, material_same, target_on, member_truth, member_material, x.range)
   members_on x _ fit = tt
 
   named_on : (range : Range) (lineage : List Member) → NamedFit v.written range lineage → NamedFit more.written range lineage

@@ -1,11 +1,11 @@
 -- What a log with more side segments keeps: what backups store of it are first parts still, and what it has written is read as before.
 use Rattle.std.proofs.Common.{◌≡◌, ℕ, suc, ◌+◌, ◌-◌, ◌<◌, ◌≤◌, true, false, List, [], ◌∷◌, ◌++◌, length, map, Option, Some, None, refl, sym}
 use Rattle.std.proofs.Common.{ap, ◌∙◌, ⊎_elim, arith, ◌≢◌, ◌==◌, IfSome}
-use Rattle.rk_inv_base.proofs.Words.{cases_lt, false≢true, map-append, find-append, IfSome_then, list_all, option_map_or}
-use Rattle.rk_inv_base.proofs.Words.{option_or, Ended, Held, Member, Range, NumberedBytes, spelled_all, Entry, FIRST_SIDE_SEGMENT}
-use Rattle.rk_inv_base.proofs.Words.{Completions, Handover, Row, cut, Known, is_whole, Log, bytes_of, is_side_stored, known_of, numbered}
-use Rattle.rk_inv_base.proofs.Words.{segment_of, side_segments, EntryEnd, Gather, as_entries, own_place, Written, IsFirstPart, IsLog}
-use Rattle.rk_inv_base.proofs.Words.{segments_in, IsMergedOf, IsRebuilder, NeedsEnd, merged_place}
+use Rattle.rk_inv_base.proofs.Words.{cases_lt, false≢true, map-append, find-append, IfSome_then, option_or, Ended, Held, Member, Range}
+use Rattle.rk_inv_base.proofs.Words.{NumberedBytes, spelled_all, Entry, FIRST_SIDE_SEGMENT, Completions, Handover, Row, cut, Known}
+use Rattle.rk_inv_base.proofs.Words.{is_whole, Log, bytes_of, is_side_stored, known_of, numbered, segment_of, side_segments, EntryEnd}
+use Rattle.rk_inv_base.proofs.Words.{Gather, as_entries, own_place, Written, IsFirstPart, IsLog, segments_in, IsMergedOf, IsRebuilder}
+use Rattle.rk_inv_base.proofs.Words.{NeedsEnd, merged_place}
 use Rattle.rk_inv_tablets.proofs.Words.{copy_grown, Grows, bytes_in, first_part_same, found_in, numbered_at, numbered_before, numbered_past}
 use Rattle.rk_inv_tablets.proofs.Words.{with_side_items, with_sides}
 use Rattle.rk_inv_tablets.proofs.seal.SideNumbers.{applied_kept, items_kept}
@@ -57,11 +57,6 @@ module _ (log : Log) (lists : List (List Held)) where
   front_of None (Some segment) another = first_part_same segment.bytes segment.bytes refl
   front_of None None another = record { more = bytes_in another; parts = refl }
 
-  -- where one was found before it has its bytes
-  same_of : (one other another : Option NumberedBytes) → (one ≡ None → other ≡ None → another ≡ None) → bytes_in (option_or one (option_or other another)) ≡ bytes_in (option_or one other)
-  same_of None None another none = ap bytes_in (none refl refl)
-  same_of _ _ another none = refl
-
   -- a number that is not that of a main segment is not below one that is
   none_main : (earlier later : ℕ) → 1 ≤ earlier → earlier < later → main earlier ≡ None → main later ≡ None
   none_main earlier later some before none =
@@ -73,22 +68,11 @@ module _ (log : Log) (lists : List (List Held)) where
       numbered_past later 1 (cut log.entries) (omega (arith, past, before, some)))
       (cases_lt (earlier - 1) (length (cut log.entries)))
 
-  full_at : (earlier later : ℕ) → earlier < later → bytes_of log later ≢ [] → bytes_of grown earlier ≡ bytes_of log earlier
-  full_at earlier later before filled =
-      grind (arith, bytes_now, same_of, numbered_before, found_in, bytes_in, none_main, numbered_past, cases_lt)
-
   pub grows_sides : Grows log (with_sides log lists)
-  grows_sides = grind (arith, found_in, bytes_now, front_of, full_at)
-
-  -- a side segment that every backup is known to hold is so still
-  still_stored : (found another : Option NumberedBytes) → option_map_or (λ segment. list_all (λ known. is_whole known segment) log.known) found false ≡ true → option_map_or (λ segment. list_all (λ known. is_whole known segment) log.known) (option_or found another) false ≡ true
-  still_stored None another stored = absurd (false≢true stored)
-  still_stored (Some segment) another stored = stored
+  grows_sides = grind (arith, found_in, bytes_now, front_of, numbered_before, bytes_in, none_main, numbered_past, cases_lt)
 
   side_stored : (number : ℕ) → is_side_stored log number ≡ true → is_side_stored grown number ≡ true
-  side_stored number stored =
-      ap (λ (found : Option NumberedBytes). option_map_or (λ segment. list_all (λ known. is_whole known segment) log.known) found false) (side_now number)
-      ∙ still_stored (side number) (new number) stored
+  side_stored number stored = grind (arith, is_whole, side_now, false≢true)
 
   pub log_sides : (w : Written) (stored : ℕ → ℕ → List ℕ) → IsLog log w stored → IsLog (with_sides log lists) (with_side_items w lists) stored
   log_sides w stored old = grind (arith, copy_grown, known_of, grows_sides, map-append, spelled_all, as_entries, side_stored, segments_in)
@@ -97,9 +81,7 @@ module _ (log : Log) (lists : List (List Held)) where
 
 -- nothing more has to be read of a master with more side segments
 pub needs_sides : (range : Range) (given_up own : List Entry) (from : ℕ) (w : Written) (lists : List (List Held)) (end : EntryEnd) → NeedsEnd range given_up own from (with_side_items w lists) end → NeedsEnd range given_up own from w end
-needs_sides range given_up own from w lists end needs =
-    let needed = needs.needed in
-    record { place = needs.place; entry = needs.entry; needed = assumption; ends_there = needs.ends_there }
+needs_sides range given_up own from w lists end needs = grind arith
 
 -- ---- a master that rebuilds
 

@@ -1,17 +1,17 @@
 -- A view stays sound when a target that has pulled all takes what it copied from side segments, and joins.
-use Rattle.std.proofs.Common.{◌≡◌, ℕ, ◌<◌, true, List, [], ◌∷◌, Option, None, refl, sym, ap, ◌∙◌, subst, ⊎_elim, inl, inr, arith}
-use Rattle.std.proofs.Common.{drop, nat_lt, slice_index_or, take, Contains, flat_map, lt-ltb, All, Some, false}
-use Rattle.rk_inv_base.proofs.Words.{Contains-append_left, IfSome_then, get, Held, Member, Range, Entry, end, passed, is_serving, Handover}
-use Rattle.rk_inv_base.proofs.Words.{lineage_of, Phase, Rebuilding, Row, Handed, items_of, side_entries, is_idle, is_rebuilding}
-use Rattle.rk_inv_base.proofs.Words.{may_have_staged, Pulling, Written, applied_entries, member_material, member_truth, is_wanting, Post}
-use Rattle.rk_inv_base.proofs.Words.{MovingTarget, LastRebuilder, Holds, bond_of, post_of, has_merged, HandedFits, HasArrived}
-use Rattle.rk_inv_base.proofs.Words.{HasClosing, IsHandedBy, IsTarget, MembersFit, before_closing, beginning_of, closing_joined}
-use Rattle.rk_inv_base.proofs.Words.{copied_items, entries_from, is_granted, joined_place, scan_items, wanted_place, Role, View, truths}
-use Rattle.rk_inv_base.proofs.Words.{rests, SoundView, Call, MarkFits, Message, has_all_items, is_absent, is_member}
+use Rattle.std.proofs.Common.{◌≡◌, ℕ, ◌<◌, true, List, [], ◌∷◌, Option, None, refl, sym, ap, ◌∙◌, ⊎_elim, inl, inr, arith, nat_lt}
+use Rattle.std.proofs.Common.{slice_index_or, take, Contains, flat_map, lt-ltb, All, Some, false}
+use Rattle.rk_inv_base.proofs.Words.{Contains-append_left, get, Held, Member, Range, Entry, end, passed, is_serving, Handover, lineage_of}
+use Rattle.rk_inv_base.proofs.Words.{Phase, Rebuilding, Row, Handed, items_of, side_entries, is_idle, is_rebuilding, may_have_staged}
+use Rattle.rk_inv_base.proofs.Words.{Pulling, Written, applied_entries, member_material, member_truth, is_wanting, Post, Holds, bond_of}
+use Rattle.rk_inv_base.proofs.Words.{post_of, has_merged, HandedFits, HasArrived, IsHandedBy, IsTarget, MembersFit, before_closing}
+use Rattle.rk_inv_base.proofs.Words.{beginning_of, closing_joined, copied_items, entries_from, is_granted, joined_place, scan_items}
+use Rattle.rk_inv_base.proofs.Words.{wanted_place, Role, View, truths, rests, SoundView, Call, MarkFits, Message, has_all_items, is_absent}
+use Rattle.rk_inv_base.proofs.Words.{is_member}
 use Rattle.rk_inv_tablets.proofs.Words.{AreAlike, handed_by_alike, handed_for_grant_alike, speaks_alike, still_counts, calls_alike}
 use Rattle.rk_inv_tablets.proofs.Words.{cover_looks, stands_kept, put2_by, put2_other, IsRebuilderIn, mark_same, IsBareOf, role_looks}
-use Rattle.rk_inv_tablets.proofs.Words.{terms_look, AllLook, GoesOn, all_items_same, terms_looks, as_joining, as_sealed, sides_joined}
-use Rattle.rk_inv_tablets.proofs.Words.{row_in, waits_for, CountsFor, SoundBeside, SoundRow, SpeaksFor, view_by_rows, looks_same}
+use Rattle.rk_inv_tablets.proofs.Words.{terms_look, AllLook, all_items_same, terms_looks, as_joining, as_sealed, sides_joined, row_in}
+use Rattle.rk_inv_tablets.proofs.Words.{waits_for, CountsFor, SoundBeside, SoundRow, SpeaksFor, view_by_rows, looks_same}
 use Rattle.rk_types.specs.declared.hashing.TheConstants.{BUCKETS}
 use Rattle.rk_table.proofs.InOrder.{bucket_below_end}
 use Rattle.rk_table.specs.Order.{item_bucket}
@@ -27,13 +27,7 @@ use Rattle.rk_inv_base.proofs.views.ByRows.{IsRebuiltIn}
 
 -- a post that takes a target that pulls takes one that joins
 pub fits_joining : (post : Post) (term own applied : ℕ) → Holds (bond_of post roles.Receiving) term own applied → Holds (bond_of post (roles.Joining None)) term own applied
-fits_joining (MovingTarget from) term own applied holds = holds
-fits_joining (LastRebuilder from) term own applied holds = holds
-fits_joining _ term own applied holds = absurd holds
-
--- so it goes on as it was
-joins_goes_on : GoesOn roles.Receiving (roles.Joining None)
-joins_goes_on = grind (arith, fits_joining)
+fits_joining post term own applied holds = grind arith
 
 -- ---- a target
 
@@ -82,13 +76,9 @@ module _ (range : Range) (source : ℕ) (truth material : List Entry) (from : �
           (λ (its : Contains items item × HasArrived (roles.Joining None) (as_sealed numbers pulling) items item). inr (its.0, arrived item its.0)) come);
     };
     above = was.above;
-    told =
-        IfSome_then handed was.told
-        (λ e told.
-        subst (λ (role : Role). Contains (drop from (before_closing (joined_place role) w.entries)) (beginning_of h e)) receiving told);
+    told = grind (arith, before_closing, joined_place, beginning_of, was.told, w.entries);
     early = was.early;
-    closing =
-        subst (λ (role : Role). HasClosing (joined_place role) (closing_joined h pulling.sealed) range from w.entries) receiving was.closing;
+    closing = grind (arith, joined_place, closing_joined, pulling.sealed, w.entries, was.closing);
   }
 
 -- ---- the view
@@ -119,7 +109,7 @@ module _ (v : View) (row : Row) (master : ℕ) (numbers : List ℕ) (sound : Sou
 
   joins_as : (h : Handover) → h.role ≡ roles.Receiving → StaysAs h (as_joining h)
   joins_as h is =
-      grind (arith, joins_goes_on, is_serving, is_rebuilding, is_wanting, is_idle, has_merged, is_granted, may_have_staged, wanted_place)
+      grind (arith, is_serving, is_rebuilding, is_wanting, is_idle, has_merged, is_granted, may_have_staged, wanted_place, fits_joining)
 
   -- each tablet stays as it was
   each : (q r : ℕ) → StaysAs (v.handovers q r) (now.handovers q r)
@@ -249,13 +239,4 @@ module _ (v : View) (row : Row) (master : ℕ) (numbers : List ℕ) (sound : Sou
       )
 
   pub view_sides_joined : SoundView now
-  view_sides_joined =
-      view_by_rows now beside
-      (rows_but_one v now row sound has_row (λ seen. refl)
-      (λ q r other i. record {
-        handover = sym (put2_other v.handovers master number (as_joining old) q r (λ at its. other its)) i;
-        completions = v.completions q r;
-        pulling = sym (put2_other v.pullings master number (as_sealed numbers (v.pullings master number)) q r (λ at its. other its)) i;
-        gather = v.gathers q r;
-        merged = v.merged q r;
-      }) here)
+  view_sides_joined = search (view_by_rows, beside, rows_but_one, put2_other, as_joining, as_sealed, here)

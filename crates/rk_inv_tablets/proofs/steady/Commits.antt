@@ -1,9 +1,8 @@
 -- What targets have sealed stays there where a master applies entries, and where what waited goes on.
-use Rattle.std.proofs.Common.{arith}
-use Rattle.std.proofs.Common.{ℕ, List, [], ◌∷◌, Option, None, Some}
-use Rattle.rk_inv_base.proofs.Words.{get, Call, Ended, Entry, noted, joined, Overreach, Stored, apply_entries, apply_entry}
-use Rattle.rk_inv_base.proofs.Words.{newly_held, noting, stored_taken, told_length, with_applied, with_ended, with_entry_item, told_by}
-use Rattle.rk_inv_base.proofs.Words.{Master, with_known, has_key, is_absent, Tablet, with_handover, all_going_on, going_on_in}
+use Rattle.std.proofs.Common.{arith, ℕ, List, [], ◌∷◌, Option, None, Some}
+use Rattle.rk_inv_base.proofs.Words.{Call, Ended, Entry, noted, joined, Overreach, Stored, apply_entries, apply_entry, newly_held, noting}
+use Rattle.rk_inv_base.proofs.Words.{stored_taken, told_length, with_applied, with_ended, with_entry_item, told_by, Master, with_known}
+use Rattle.rk_inv_base.proofs.Words.{has_key, is_absent, Tablet, with_handover, all_going_on, going_on_in}
 use Rattle.rk_inv_tablets.proofs.Words.{fold_keeps_all}
 use Rattle.rk_inv_tablets.proofs.steady.Sealed.{IsSealedUnder, Seals, each_under, seals_with_tablet}
 use Rattle.rk_inv_wellformed.proofs.masters.Changes.{going_on_in_is}
@@ -18,14 +17,12 @@ module _ (count : ℕ) where
   noting_sealed call end tablet sealed = grind (arith, is_absent, has_key, noted)
 
   ended_seals : (master : Master) (place : ℕ) (call : Option Call) (ends : List Ended) → Seals count master → Seals count (with_ended master place call ends).master
-  ended_seals master place (Some call) (end ∷ ends) seals =
-      (seals.0, each_under count (λ entry. noting call end entry.1) master.tablets (λ entry sealed. noting_sealed call end entry.1 sealed) seals.1)
+  ended_seals master place (Some call) (end ∷ ends) seals = search (each_under, noting, noting_sealed, seals.0, master.tablets, seals.1)
   ended_seals master place _ _ seals = seals
 
   entry_seals : (master : Master) (entry : Entry) → Seals count master → Seals count (apply_entry master entry).master
   entry_seals master entry seals =
-      ended_seals (with_applied (with_entry_item master entry)) master.applied (get master.calls master.applied) (told_by entry)
-      (entry_item_seals master entry seals)
+      search (ended_seals, with_applied, with_entry_item, told_by, entry_item_seals, master.applied, master.calls)
 
   entries_seal : (list : List Entry) (master : Master) → Seals count master → Seals count (apply_entries master list).master
   entries_seal [] master seals = seals
@@ -46,8 +43,7 @@ module _ (count : ℕ) where
 
   told_seals : (master : Master) (backup : ℕ) (stored : Stored) → Seals count master → Seals count (told_length master backup stored).master
   told_seals master backup stored seals =
-      let known = with_known master backup stored.segment stored.length in
-      all_going_on_seals (apply_entries known (newly_held known)).master (entries_seal (newly_held known) known seals)
+      search (with_known, all_going_on_seals, apply_entries, newly_held, entries_seal, stored.segment, stored.length)
 
   pub stored_seals : (master : Master) (backup : ℕ) (stored : Stored) (beyond : Option Overreach) → Seals count master → Seals count (stored_taken master backup stored beyond).master
   stored_seals master backup stored None seals = told_seals master backup stored seals

@@ -1,6 +1,5 @@
 -- What targets have sealed stays there where a master takes a message that hands a tablet over.
-use Rattle.std.proofs.Common.{arith}
-use Rattle.std.proofs.Common.{◌&&◌, ◌==◌, ℕ, cond, not, [], length, Option, None, Some}
+use Rattle.std.proofs.Common.{arith, ◌&&◌, ◌==◌, ℕ, cond, not, [], length, Option, None, Some}
 use Rattle.rk_inv_base.proofs.Words.{All-nil, meets, Range, completions_from, closed, granted, owned, prepared, released, Handover, Role}
 use Rattle.rk_inv_base.proofs.Words.{Grant, Prepare, Tenure, carried_entry, close_taken, closing, given_up, grant_taken, granting}
 use Rattle.rk_inv_base.proofs.Words.{is_greater, own_taken, owning, prepare_taken, preparing, ready, ready_again, release_taken, releasing}
@@ -20,18 +19,11 @@ module _ (count : ℕ) where
   given_up_sealed number range entry sealed = grind (arith, meets, given_up)
 
   pub others_given_up_seal : (master : Master) (number : ℕ) (range : Range) → Seals count master → Seals count (with_others_given_up master number range)
-  others_given_up_seal master number range seals = (
-    seals.0,
-    each_under count
-        (λ entry. cond (not (entry.0 == number) && meets entry.1.handover.range range) (given_up entry.1) entry.1)
-        master.tablets (given_up_sealed number range) seals.1,
-  )
+  others_given_up_seal master number range seals = search (each_under, meets, given_up, given_up_sealed, seals.0, master.tablets, seals.1)
 
   move_seals : (master : Master) (number : ℕ) (handover : Option Handover) → Seals count master → Seals count (with_move master number handover)
   move_seals master number None seals = seals
-  move_seals master number (Some handover) seals =
-      seals_with_tablet count master number (without_merged (with_handover (tablet_at master number) handover)) seals
-      (sealed_at count master number seals)
+  move_seals master number (Some handover) seals = search (seals_with_tablet, without_merged, with_handover, tablet_at, sealed_at)
 
   module _ (master : Master) (seals : Seals count master) where
     -- ---- ready

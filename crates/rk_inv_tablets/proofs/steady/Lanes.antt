@@ -1,16 +1,14 @@
 -- Each backup of a lane tells what it stores, and what targets have sealed is there: in a new lane, after each event, and after a
 -- client's turn or answer.
-use Rattle.std.proofs.Common.{◌≡◌, ◌≤◌, ◌&&◌, ℕ, true, [], length, Option, None, Some, refl, ap, arith, is_some, nat_le}
-use Rattle.std.proofs.Common.{unwrap_or}
-use Rattle.rk_inv_base.proofs.Words.{cases_eq, nat_tests, All-nil, get_other, get_same, IsInOrder, NumberMap, get, get_or, insert, Range}
-use Rattle.rk_inv_base.proofs.Words.{Segments, Called, no_segments, accept, ask, Session, IsWellFormed, Master, new_master, tablet_at}
-use Rattle.rk_inv_base.proofs.Words.{with_tablet, master_step, master_turn, range_below, range_from, AllTell, world_visited, has_parts}
-use Rattle.rk_inv_base.proofs.Words.{with_half, with_halves, with_split, happened, with_added, World, master_at, new_world, with_master}
-use Rattle.rk_inv_base.proofs.Words.{Event}
+use Rattle.std.proofs.Common.{◌≡◌, ◌≤◌, ◌&&◌, ℕ, true, [], length, Option, None, Some, refl, ap, arith, is_some, nat_le, unwrap_or}
+use Rattle.rk_inv_base.proofs.Words.{cases_eq, nat_tests, All-nil, get_other, get_same, IsInOrder, get, get_or, Range, Segments, Called}
+use Rattle.rk_inv_base.proofs.Words.{no_segments, accept, ask, Session, IsWellFormed, Master, new_master, tablet_at, with_tablet}
+use Rattle.rk_inv_base.proofs.Words.{master_step, master_turn, range_below, range_from, AllTell, world_visited, has_parts, with_half}
+use Rattle.rk_inv_base.proofs.Words.{with_halves, with_split, happened, with_added, World, master_at, new_world, with_master, Event}
 use Rattle.rk_inv_tablets.proofs.Words.{master_other, master_same}
 use Rattle.rk_transfer.specs.declared.role.Role.TheVariants as roles
 use Rattle.rk_inv_base.proofs.views.Fresh.{each_fresh, found_within}
-use Rattle.rk_inv_tablets.proofs.steady.Sealed.{IsSealedAt, SealsThere, each_from_there, either_seals, sealed_at, seals_there}
+use Rattle.rk_inv_tablets.proofs.steady.Sealed.{IsSealedAt, SealsThere, either_seals, sealed_at, seals_there}
 use Rattle.rk_inv_tablets.proofs.steady.Sealed.{seals_with_tablet, there_from_each}
 use Rattle.rk_inv_tablets.proofs.steady.Steps.{step_there}
 use Rattle.rk_inv_tablets.proofs.steady.Turns.{turn_seals}
@@ -23,11 +21,8 @@ use Rattle.rk_inv_tablets.specs.steady.Steady.{AllSealedThere}
 abbrev Tell : Part
 Tell masters count backups = (backup : ℕ) → (nat_le 1 backup && nat_le backup count) ≡ true → is_some (get backups backup) ≡ true
 
-told_with : (backups : NumberMap Segments) (number : ℕ) (segments : Segments) (backup : ℕ) → is_some (get backups backup) ≡ true → is_some (get (insert backups number segments) backup) ≡ true
-told_with backups number segments backup told = grind (arith, get_same, get_other, cases_eq)
-
 tell_kept : (w : World) → AllTell w → IsKept Tell w
-tell_kept w tell = grind (arith, told_with)
+tell_kept w tell = grind (arith, get_same, get_other, cases_eq)
 
 at_least_one : (backup last : ℕ) → (nat_le 1 backup && nat_le backup last) ≡ true → 1 ≤ backup
 at_least_one backup last there = grind (arith, nat_tests)
@@ -81,7 +76,7 @@ module _ (master : Master) (there : SealsThere master) where
 
 module _ (w : World) (sealed : AllSealedThere w) where
   put_sealed : (number : ℕ) (master : Master) → SealsThere master → AllSealedThere (with_master w number master)
-  put_sealed number master there q = grind (arith, master_same, each_from_there, master_other, cases_eq)
+  put_sealed number master there q = grind (arith, master_same, master_other, cases_eq, sealed_at)
 
   -- the tablets of a master of a well formed lane are in order
   order_at : IsWellFormed w → (number : ℕ) → IsInOrder (master_at w number).tablets

@@ -1,13 +1,11 @@
 -- What targets have sealed is there where a target takes what it pulled, and also where it seals its side lists.
-use Rattle.std.proofs.Common.{◌<◌, ◌+◌, ◌&&◌, ℕ, All, List, [], ◌∷◌, length, fold, arith, ◌%◌}
-use Rattle.rk_inv_base.proofs.Words.{range_with_len, Held, Token, Node, FIRST_SIDE_SEGMENT, found, is_newer, end, got, is_batch}
-use Rattle.rk_inv_base.proofs.Words.{Got, Pull, Pulled, Want, items_of, Master, tablet_at, with_side_segment, batch_taken, got_taken}
-use Rattle.rk_inv_base.proofs.Words.{hashes_resolved, is_token, item_replayed, joining_by, next_sides, pull_taken, pulled_all, pulled_taken}
-use Rattle.rk_inv_base.proofs.Words.{replay, replay_one, sealing, token_passed, want_taken, with_pulled, with_pulling, is_frozen_at}
-use Rattle.rk_inv_base.proofs.Words.{is_receiving_at, sealed_sides, Tablet, with_handover, changed}
+use Rattle.std.proofs.Common.{◌<◌, ◌+◌, ℕ, All, List, [], ◌∷◌, length, fold, arith, ◌%◌}
+use Rattle.rk_inv_base.proofs.Words.{range_with_len, Held, Token, Node, FIRST_SIDE_SEGMENT, end, got, Got, Pull, Pulled, Want, items_of}
+use Rattle.rk_inv_base.proofs.Words.{Master, tablet_at, with_side_segment, batch_taken, got_taken, hashes_resolved, is_token, joining_by}
+use Rattle.rk_inv_base.proofs.Words.{next_sides, pull_taken, pulled_all, pulled_taken, replay, replay_one, sealing, token_passed}
+use Rattle.rk_inv_base.proofs.Words.{want_taken, with_pulling, is_frozen_at, is_receiving_at, sealed_sides, Tablet, with_handover, changed}
 use Rattle.rk_inv_tablets.proofs.Words.{kept_by_fold}
 use Rattle.rk_priority.specs.Hashes.{no_hashes}
-use Rattle.rk_world.specs.Master.{with_item}
 use Rattle.rk_inv_wellformed.proofs.masters.Turns.{range_within}
 use Rattle.rk_inv_tablets.proofs.steady.Sealed.{IsSealedUnder, Seals, SealsThere, either_seals, either_works, sealed_at, seals_there}
 use Rattle.rk_inv_tablets.proofs.steady.Sealed.{seals_with_tablet, sides_added}
@@ -29,38 +27,21 @@ module _ (count : ℕ) where
 
   one_seals : (number worker : ℕ) (master : Master) (item : Held) → Seals count master → Seals count (replay_one number worker master item)
   one_seals number worker master item seals =
-      either_seals count (is_newer item (found item.table item.key master.records)) (item_replayed number worker master item) master
-      (seals_with_tablet count (with_item master item) number
-      (with_pulling (tablet_at master number) (with_pulled (tablet_at master number).pulling worker item)) seals
-      (sealed_at count master number seals)) seals
+      search (either_seals, seals_with_tablet, sealed_at)
 
   replay_seals : (master : Master) (number worker : ℕ) (items : List Held) → Seals count master → Seals count (replay master number worker items)
   replay_seals master number worker items seals =
       kept_by_fold (Seals count) (replay_one number worker) (λ now item kept. one_seals number worker now item kept) items master seals
 
   token_seals : (master : Master) (number : ℕ) (next : Token) → Seals count master → Seals count (token_passed master number next)
-  token_seals master number next seals =
-      let tablet = tablet_at master number in
-      seals_with_tablet count master number
-      (with_pulling tablet (record tablet.pulling { token = next; batches = tablet.pulling.batches + 1 })) seals
-      (sealed_at count master number seals)
+  token_seals master number next seals = search (tablet_at, seals_with_tablet, with_pulling, sealed_at)
 
   resolved_seals : (master : Master) (number : ℕ) (hashes : List ℕ) → Seals count master → Seals count (hashes_resolved master number hashes)
-  resolved_seals master number hashes seals =
-      let tablet = tablet_at master number in
-      seals_with_tablet count master number
-      (with_pulling tablet (record tablet.pulling { hashes = got tablet.pulling.hashes hashes })) seals
-      (sealed_at count master number seals)
+  resolved_seals master number hashes seals = search (tablet_at, seals_with_tablet, with_pulling, got, sealed_at)
 
   pub got_seals : (master : Master) (message : Got) → Seals count master → Seals count (got_taken master message).master
   got_seals master message seals =
-      let tablet = tablet_at master message.tenure.tablet in
-      let now = replay master message.tenure.tablet 0 (items_of message.entries) in
-      either_works count
-      (is_receiving_at tablet message.tenure.term && is_batch tablet.pulling.hashes.outstanding message.hashes)
-      (changed (hashes_resolved now message.tenure.tablet message.hashes)) (changed master)
-      (resolved_seals now message.tenure.tablet message.hashes
-      (replay_seals master message.tenure.tablet 0 (items_of message.entries) seals)) seals
+      search (either_works, resolved_seals, replay_seals)
 
   -- ---- side segments
 

@@ -1,11 +1,9 @@
 -- What targets have sealed stays there where a master rebuilds a tablet.
-use Rattle.std.proofs.Common.{◌==◌, ◌&&◌, ℕ, [], length, Option, None, Some}
-use Rattle.rk_inv_base.proofs.Words.{All-nil, Member, Range, carried, rebuilt, Handover, CopySegment, Rebuild, by_member, is_awaited}
-use Rattle.rk_inv_base.proofs.Words.{next_reading, is_greater, with_others_given_up, own_member, Master, tablet_at, with_all, with_appended}
-use Rattle.rk_inv_base.proofs.Words.{as_entries, merge, begun_from, beginning, copy_taken, merging, own_material, rebuild_begun}
-use Rattle.rk_inv_base.proofs.Words.{rebuild_goes_on, rebuild_taken, rebuilding_on, rebuilt_entry, segment_gathered, with_begun}
-use Rattle.rk_inv_base.proofs.Words.{with_gathered, with_merged, without_foreign, is_gathering, Tablet, pulling_from, changed, Merged}
-use Rattle.rk_inv_base.proofs.Words.{Reading}
+use Rattle.std.proofs.Common.{ℕ, [], length, Option, None, Some}
+use Rattle.rk_inv_base.proofs.Words.{All-nil, Member, Range, carried, Handover, CopySegment, Rebuild, by_member, next_reading, is_greater}
+use Rattle.rk_inv_base.proofs.Words.{Master, tablet_at, with_all, with_appended, as_entries, merge, beginning, copy_taken, merging}
+use Rattle.rk_inv_base.proofs.Words.{own_material, rebuild_begun, rebuild_goes_on, rebuild_taken, rebuilding_on, rebuilt_entry, with_begun}
+use Rattle.rk_inv_base.proofs.Words.{with_merged, without_foreign, Tablet, pulling_from, changed, Merged, Reading}
 use Rattle.rk_inv_tablets.proofs.Words.{gather_begun}
 use Rattle.rk_world.specs.Rebuilds.{merged_at}
 use Rattle.rk_inv_tablets.proofs.steady.Handovers.{others_given_up_seal}
@@ -27,10 +25,7 @@ module _ (count : ℕ) where
 
   rebuilding_seals : (master : Master) (number : ℕ) (reading : Option Reading) → Seals count master → Seals count (rebuilding_on master number reading).master
   rebuilding_seals master number (Some reading) seals = seals
-  rebuilding_seals master number None seals =
-      let tablet = tablet_at master number in
-      merged_seals master number tablet
-      (merge (own_material master tablet) (by_member tablet.gather (own_material master tablet))) seals (sealed_at count master number seals)
+  rebuilding_seals master number None seals = search (tablet_at, merged_seals, merge, own_material, by_member, sealed_at)
 
   goes_on_seals : (master : Master) (number : ℕ) → Seals count master → Seals count (rebuild_goes_on master number).master
   goes_on_seals master number seals = rebuilding_seals master number (next_reading (tablet_at master number).gather) seals
@@ -56,12 +51,7 @@ module _ (count : ℕ) where
 
   begun_seals : (master : Master) (rebuild : Rebuild) → Seals count master → Seals count (rebuild_begun master rebuild)
   begun_seals master rebuild seals =
-      let own = own_member rebuild.lineage master.number in
-      let number = rebuild.tenure.tablet in
-      let now = with_others_given_up (without_foreign master rebuild.range own) number rebuild.range in
-      with_begun_seals now rebuild (rebuilt (tablet_at now number).handover rebuild.tenure.term rebuild.range (begun_from master own))
-      (others_given_up_seal count (without_foreign master rebuild.range own) number rebuild.range
-      (foreign_seals master rebuild.range own seals))
+      search (with_begun_seals, others_given_up_seal, foreign_seals)
 
   pub rebuild_seals : (master : Master) (rebuild : Rebuild) → Seals count master → Seals count (rebuild_taken master rebuild).master
   rebuild_seals master rebuild seals =
@@ -72,11 +62,4 @@ module _ (count : ℕ) where
 
   pub copy_seals : (master : Master) (copy : CopySegment) → Seals count master → Seals count (copy_taken master copy).master
   copy_seals master copy seals =
-      let number = copy.tenure.tablet in
-      let tablet = tablet_at master number in
-      either_works count
-      (is_gathering tablet.handover.role && (tablet.handover.term == copy.tenure.term)
-      && is_awaited (next_reading tablet.gather) copy.master copy.segment)
-      (rebuild_goes_on (segment_gathered master copy) number) (changed master)
-      (goes_on_seals (segment_gathered master copy) number
-      (seals_with_tablet count master number (with_gathered tablet copy) seals (sealed_at count master number seals))) seals
+      search (either_works, goes_on_seals, seals_with_tablet, sealed_at)

@@ -3,17 +3,12 @@ use Rattle.std.proofs.Common.{ℕ}
 use Rattle.rk_inv_base.proofs.Words.{hash_of, Call, Request, Master, tablet_at, call_of, choice_of, chosen, counted_up, item_of}
 use Rattle.rk_inv_base.proofs.Words.{request_taken, with_staged, Choice, Wants, Writes}
 use Rattle.rk_entry.specs.declared.entry.Entry.TheVariants as entries
-use Rattle.rk_world.specs.Requests.{with_wanted}
 use Rattle.rk_inv_tablets.proofs.steady.Sealed.{Seals, sealed_at, seals_with_tablet}
 
 module _ (count : ℕ) (master : Master) (seals : Seals count master) where
   chosen_seals : (asked : ℕ) (call : Call) (choice : Choice) → Seals count (chosen master asked call choice).master
-  chosen_seals asked call (Wants number) =
-      seals_with_tablet count master number (with_wanted (tablet_at master number) (hash_of call.key)) seals (sealed_at count master number seals)
-  chosen_seals asked call (Writes number value) =
-      seals_with_tablet count
-      (with_staged master call (entries.Held (item_of call (tablet_at master number).handover.counter value)))
-      number (counted_up (tablet_at master number)) seals (sealed_at count master number seals)
+  chosen_seals asked call (Wants number) = search (seals_with_tablet, tablet_at, hash_of, sealed_at, call.key)
+  chosen_seals asked call (Writes number value) = search (seals_with_tablet, with_staged, item_of, tablet_at, counted_up, sealed_at)
   chosen_seals asked call _ = seals
 
   pub request_seals : (client : ℕ) (request : Request) → Seals count (request_taken master client request).master

@@ -1,6 +1,6 @@
 -- What a master's tablets have sealed is below a count of side segments, and stays so at its small changes.
-use Rattle.std.proofs.Common.{◌≡◌, ◌<◌, ◌≤◌, ◌+◌, ℕ, Bool, true, false, cond, All, List, [], ◌∷◌, length, map, fold, Option, None, Some}
-use Rattle.std.proofs.Common.{refl, subst, arith, length-append, unwrap_or}
+use Rattle.std.proofs.Common.{◌≡◌, ◌<◌, ◌+◌, ℕ, Bool, true, false, cond, All, List, [], ◌∷◌, length, map, fold, Option, None, Some, refl}
+use Rattle.std.proofs.Common.{subst, arith, length-append, unwrap_or}
 use Rattle.rk_inv_base.proofs.Words.{All-map, All-nil, All-weaker, IsInOrder, NumberMap, get, Held, spelled_all, Entry, FIRST_SIDE_SEGMENT}
 use Rattle.rk_inv_base.proofs.Words.{Master, tablet_at, with_all, with_appended, with_side_segment, with_tablet, as_entries, Tablet}
 use Rattle.rk_inv_base.proofs.Words.{no_tablet, Worked}
@@ -29,23 +29,13 @@ seals_there count master seals = rw seals.0 seals.1
 
 -- ---- more side segments
 
-tablet_under_more : (less more : ℕ) (tablet : Tablet) → less ≤ more → IsSealedUnder less tablet → IsSealedUnder more tablet
-tablet_under_more less more tablet within sealed =
-    All-weaker (λ number. number < FIRST_SIDE_SEGMENT + less) (λ number. number < FIRST_SIDE_SEGMENT + more)
-    (λ number below. omega (arith, within, below)) tablet.pulling.sealed sealed
-
-pub under_more : (less more : ℕ) (tablets : NumberMap Tablet) → less ≤ more → AreSealedUnder less tablets → AreSealedUnder more tablets
-under_more less more tablets within each = All-weaker _ _ (λ entry sealed. tablet_under_more less more entry.1 within sealed) tablets each
-
 -- one more side segment
 side_added : (count : ℕ) (master : Master) (items : List Held) → Seals count master → Seals (count + 1) (with_side_segment master items)
-side_added count master items seals = grind (arith, length-append, spelled_all, as_entries, under_more)
+side_added count master items seals = grind (arith, length-append, spelled_all, as_entries)
 
 -- more side segments, one after the other
 pub sides_added : (sides : List (List Held)) (count : ℕ) (master : Master) → Seals count master → Seals (count + length sides) (fold with_side_segment master sides)
-sides_added [] count master seals =
-    let same : count ≡ count + 0 = omega arith in
-    rw (← same) seals
+sides_added [] count master seals = grind arith
 sides_added (items ∷ sides) count master seals =
     let same : count + 1 + length sides ≡ count + length (items ∷ sides) = omega arith in
     rw (← same) (sides_added sides (count + 1) (with_side_segment master items) (side_added count master items seals))
@@ -100,6 +90,3 @@ there_from_each master order at =
     All_pairs (λ (q : ℕ) (t : Tablet). IsSealedUnder (length master.log.sides) t) master.tablets order
     (λ q tablet found.
     subst (λ (o : Option Tablet). IsSealedUnder (length master.log.sides) (unwrap_or o no_tablet)) found (at q))
-
-pub each_from_there : (master : Master) → SealsThere master → IsSealedAt master
-each_from_there master there tablet = sealed_at (length master.log.sides) master tablet (refl, there)

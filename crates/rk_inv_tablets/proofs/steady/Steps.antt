@@ -1,6 +1,5 @@
 -- What targets have sealed is there once a master took a message, whatever it says.
-use Rattle.std.proofs.Common.{arith}
-use Rattle.std.proofs.Common.{ℕ}
+use Rattle.std.proofs.Common.{arith, ℕ}
 use Rattle.rk_inv_base.proofs.Words.{Node, overreach, Body, Message, Master, backup_message, client_message, master_step, order}
 use Rattle.rk_inv_base.proofs.Words.{peer_message, told_master, Worked}
 use Rattle.rk_message.specs.declared.message.Body.TheVariants as bodies
@@ -16,8 +15,7 @@ module _ (count : ℕ) (master : Master) (seals : Seals count master) where
   there worked kept = seals_there count worked.master kept
 
   client_there : (client : ℕ) (body : Body) → SealsThere (client_message master client body).master
-  client_there client (bodies.Request request) =
-      there (client_message master client (bodies.Request request)) (request_seals count master seals client request)
+  client_there client (bodies.Request request) = search (there, client_message, request_seals, bodies.Request)
   client_there client _ = seals_there count master seals
 
   order_there : (body : Body) → SealsThere (order master body).master

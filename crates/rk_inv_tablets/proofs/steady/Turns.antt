@@ -1,7 +1,6 @@
 -- What targets have sealed stays there at a master's turn.
 use Rattle.std.proofs.Common.{ℕ, [], ◌∷◌}
-use Rattle.rk_inv_base.proofs.Words.{All-head, All-tail, NumberMap, Master, duties, master_turn, tablet_duty, with_outstanding}
-use Rattle.rk_inv_base.proofs.Words.{Tablet}
+use Rattle.rk_inv_base.proofs.Words.{All-head, All-tail, NumberMap, Master, duties, master_turn, tablet_duty, with_outstanding, Tablet}
 use Rattle.rk_inv_tablets.proofs.steady.Sealed.{AreSealedUnder, IsSealedUnder, Seals, seals_with_tablet}
 use Rattle.rk_inv_wellformed.proofs.masters.Turns.{duty_is}
 

@@ -1,13 +1,10 @@
 -- What each event and each client keeps of a lane's masters and backups, where each of the parts keeps it.
-use Rattle.std.proofs.Common.{arith}
-use Rattle.std.proofs.Common.{◌+◌, ℕ, true, false, cond, Option, None, Some}
-use Rattle.rk_inv_base.proofs.Words.{NumberMap, insert, Call, Node, Range, Segments, row_of, Phase, Row, Body, Message, Backed}
-use Rattle.rk_inv_base.proofs.Words.{Called, backup_step, stored_after, accept, accept_by, accepting, ask, ask_by, asking, asking_by}
-use Rattle.rk_inv_base.proofs.Words.{fits_with, is_asked_here, taking, untouched, ClientTurn, Session, session_turn, is_added, with_client}
-use Rattle.rk_inv_base.proofs.Words.{Master, master_step, master_turn, accept_refusal, ask_refusal, world_visited, owner_split, row_split}
-use Rattle.rk_inv_base.proofs.Words.{with_split, backed_at, client_added, delivered, delivered_to, happened, log_bytes_of, losing, quietly}
-use Rattle.rk_inv_base.proofs.Words.{seen_in, sent_again, to_backup, to_master, turned, with_added, with_sends, worked_at, World}
-use Rattle.rk_inv_base.proofs.Words.{has_crashed, is_backup, master_at, with_ledger, with_master, with_stored_by, Event}
+use Rattle.std.proofs.Common.{arith, ◌+◌, ℕ, true, false, cond, Option, None, Some}
+use Rattle.rk_inv_base.proofs.Words.{NumberMap, insert, Call, Node, Range, Segments, row_of, Phase, Row, Message, Backed, Called, accept}
+use Rattle.rk_inv_base.proofs.Words.{accept_by, ask, ask_by, asking, asking_by, fits_with, is_asked_here, taking, untouched, Session}
+use Rattle.rk_inv_base.proofs.Words.{session_turn, is_added, with_client, Master, master_step, master_turn, accept_refusal, ask_refusal}
+use Rattle.rk_inv_base.proofs.Words.{world_visited, owner_split, row_split, with_split, backed_at, happened, losing, sent_again, turned}
+use Rattle.rk_inv_base.proofs.Words.{with_added, with_sends, World, has_crashed, master_at, with_ledger, with_master, with_stored_by, Event}
 use Rattle.rk_types.specs.declared.node.Node.TheVariants as nodes
 
 -- something of a lane's masters and of how many backups there are and what they store
@@ -30,9 +27,6 @@ pub record IsKept (P : Part) (w : World) : Type 0 where
 -- ---- events
 
 module _ (P : Part) (w : World) (kept : IsKept P w) where
-  to_master_keeps : (master : ℕ) (message : Message) → Has P (to_master w master message).world
-  to_master_keeps master message = grind (arith, has_crashed, losing, worked_at, seen_in, master_step, master_at)
-
   backed_keeps : (v : World) (answer : Backed) → Has P v → Has P (backed_at v answer).world
   backed_keeps v answer has =
       elim (answer.lost) as (λ b. Has P (cond b (losing v) (with_sends v answer.sends)).world) [ true ↦ has | false ↦ has ]
@@ -41,19 +35,6 @@ module _ (P : Part) (w : World) (kept : IsKept P w) where
   stored_keeps backup store None = kept.now
   stored_keeps backup store (Some segments) = kept.stores backup (store segments)
 
-  to_backup_keeps : (backup : ℕ) (sender : Node) (body : Body) (called : Called) → Has P (to_backup w backup sender body called).world
-  to_backup_keeps backup sender body called =
-      grind (arith, with_stored_by, stored_after, backup_step, log_bytes_of, is_backup, backed_at, quietly, backed_keeps, stored_keeps)
-
-  delivered_keeps : (found : Option Message) (called : Called) → Has P (delivered w found called).world
-  delivered_keeps None called = kept.now
-  delivered_keeps (Some message) called = go message.to
-    where
-      go : (to : Node) → Has P (delivered_to w message to called).world
-      go (nodes.Master master) = to_master_keeps master message
-      go (nodes.Backup backup) = to_backup_keeps backup message.from message.body called
-      go _ = kept.now
-
   turned_keeps : (node : Node) → Has P (turned w node).world
   turned_keeps (nodes.Master master) = kept.turns master
   turned_keeps _ = kept.now
@@ -61,9 +42,6 @@ module _ (P : Part) (w : World) (kept : IsKept P w) where
   sent_keeps : (found : Option Message) → Has P (sent_again w found).world
   sent_keeps None = kept.now
   sent_keeps (Some message) = kept.now
-
-  client_keeps : (client : ℕ) → Has P (client_added w client)
-  client_keeps client = grind (arith, is_added, with_ledger, with_client)
 
   owner_keeps : (tablet at new term : ℕ) (phase : Phase) → Has P (owner_split w tablet phase at new term)
   owner_keeps tablet at new term phase = grind (arith, has_crashed, with_master, with_split, master_at)
@@ -74,25 +52,18 @@ module _ (P : Part) (w : World) (kept : IsKept P w) where
 
   -- each event keeps it
   pub event_keeps : (event : Event) (called : Called) → Has P (happened w event called).world
-  event_keeps event called = grind (arith, client_keeps, delivered_keeps, turned_keeps, sent_keeps, split_keeps, row_of)
+  event_keeps event called = grind (arith, turned_keeps, sent_keeps, split_keeps, row_of, is_added, with_ledger, with_client)
 
 -- ---- clients
 
 module _ (P : Part) (w : World) (now : Has P w) where
-  asking_by_keeps : (session : Session) (call : Call) (turned : Option ClientTurn) → Has P (asking_by w session call turned).world
-  asking_by_keeps session call None = now
-  asking_by_keeps session call (Some turned) = now
-
   asking_keeps : (session : Session) (call : Option Call) → Has P (asking w session call).world
-  asking_keeps session call = grind (arith, fits_with, asking_by, session_turn, untouched, asking_by_keeps)
+  asking_keeps session call = grind (arith, fits_with, asking_by, session_turn, untouched)
 
   -- a client's turn keeps it
   pub ask_keeps : (session : Session) → Has P (world_visited w (ask w session))
   ask_keeps session = grind (arith, ask_refusal, world_visited, ask_by, asking_keeps)
 
-  accepting_keeps : (session : Session) (found : Option Message) → Has P (accepting w session found).world
-  accepting_keeps session found = grind (arith, is_asked_here, taking, untouched)
-
   -- and so does an answer
   pub accept_keeps : (number : ℕ) (session : Session) → Has P (world_visited w (accept w number session))
-  accept_keeps number session = grind (arith, accept_refusal, world_visited, accept_by, accepting_keeps)
+  accept_keeps number session = grind (arith, accept_refusal, world_visited, accept_by, is_asked_here, taking, untouched)

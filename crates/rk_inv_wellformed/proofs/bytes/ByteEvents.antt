@@ -1,12 +1,11 @@
 -- The bytes of all logs of a lane rise by each event at most threefold, by an entry, and by what the event brings; so they fit after each
 -- event that brings few.
 use Rattle.std.proofs.Common.{◌≡◌, ◌≤◌, ◌<◌, ◌+◌, ◌*◌, ℕ, Option, None, [], refl, arith}
-use Rattle.rk_inv_wellformed.proofs.Words.{Node, Range, row_of, Row, Message, Called, backup_step, IsWellFormed, is_added, limits_of}
-use Rattle.rk_inv_wellformed.proofs.Words.{Master, log_bytes, new_master, tablet_at, master_step, master_turn, MayHappen, MayTurn}
-use Rattle.rk_inv_wellformed.proofs.Words.{comes_anyway, refusal, HasRoom, MOST_BYTES, row_split, with_split, Stepped, happened}
-use Rattle.rk_inv_wellformed.proofs.Words.{log_bytes_of, quietly, sent_again, tablet_added, turned, with_added, World, bytes_of_logs}
-use Rattle.rk_inv_wellformed.proofs.Words.{master_at, with_master, Event, LONGEST_LEFT, MOST_BROUGHT, brought, brought_by, Role}
-use Rattle.rk_inv_wellformed.proofs.Words.{client_added}
+use Rattle.rk_inv_wellformed.proofs.Words.{Node, Range, Row, Called, backup_step, IsWellFormed, limits_of, Master, log_bytes, new_master}
+use Rattle.rk_inv_wellformed.proofs.Words.{tablet_at, master_step, master_turn, MayHappen, MayTurn, comes_anyway, refusal, HasRoom}
+use Rattle.rk_inv_wellformed.proofs.Words.{MOST_BYTES, row_split, with_split, Stepped, happened, log_bytes_of, quietly, tablet_added}
+use Rattle.rk_inv_wellformed.proofs.Words.{turned, with_added, World, bytes_of_logs, master_at, with_master, Event, LONGEST_LEFT}
+use Rattle.rk_inv_wellformed.proofs.Words.{MOST_BROUGHT, brought, brought_by, Role}
 use Rattle.rk_inv_wellformed.specs.Brought.{most_after}
 use Rattle.rk_inv_wellformed.proofs.bytes.LogBytes.{bytes_with_tablet, unsealed_at_most}
 use Rattle.rk_inv_wellformed.proofs.bytes.StepBytes.{split_bytes, told_bytes}
@@ -14,7 +13,7 @@ use Rattle.rk_inv_wellformed.proofs.bytes.TurnBytes.{turn_bytes}
 use Rattle.rk_inv_wellformed.proofs.lanes.Events.{comes_fresh}
 use Rattle.rk_inv_wellformed.proofs.lanes.Works.{delivered_is, split_is}
 use Rattle.rk_inv_wellformed.proofs.lanes.Worlds.{formed_limits, master_of}
-use Rattle.rk_inv_wellformed.proofs.maps.{by_found, either_way, sum_put, within_or, numbered_order}
+use Rattle.rk_inv_wellformed.proofs.maps.{either_way, sum_put, within_or, numbered_order}
 
 -- ---- a master changes
 
@@ -83,19 +82,13 @@ split_logs w found at new formed = split_is (λ now. bytes_of_logs now ≤ 3 * b
 
 -- ---- clients
 
-come_bytes : (w : World) (client : ℕ) → bytes_of_logs (client_added w client) ≡ bytes_of_logs w
-come_bytes w client = either_way (λ (now : World). bytes_of_logs now ≡ bytes_of_logs w) (is_added w.ledger client) refl refl
-
-again_bytes : (w : World) (request : Option Message) → bytes_of_logs (sent_again w request).world ≡ bytes_of_logs w
-again_bytes w request = by_found (λ found. bytes_of_logs (sent_again w found).world ≡ bytes_of_logs w) request (λ none. refl) (λ message is. refl)
-
 -- ---- every event
 
 -- how many bytes all logs have at most after an event that is not refused
 pub bytes_rise : (w : World) (event : Event) (called : Called) → MayHappen w event → refusal w event ≡ None → IsWellFormed w → HasRoom w
     → bytes_of_logs (happened w event called).world ≤ most_after w event
 bytes_rise w event called may none formed room =
-    grind (arith, added_bytes, stays, client_added, come_bytes, delivered_bytes, turned_bytes, sent_again, again_bytes, split_logs, row_of)
+    grind (arith, added_bytes, delivered_bytes, turned_bytes, split_logs)
 
 -- so they fit after one that brings few
 pub bytes_event : (w : World) (event : Event) (called : Called) → MayHappen w event → refusal w event ≡ None → brought w event ≤ MOST_BROUGHT

@@ -1,12 +1,11 @@
 -- What is spelled of lawful entries are bytes, and the entries that are read of a first part of a spelling are among those spelled.
-use Rattle.std.proofs.Common.{◌≡◌, ◌<◌, ◌+◌, ◌/◌, ◌||◌, ◌^◌, ℕ, zero, suc, Bool, false, List, [], ◌∷◌, ◌++◌, All, length}
-use Rattle.std.proofs.Common.{Option, None, Some, IfSome, Result, Ok, Err, refl, ap, subst, sym, ◌∙◌, append_assoc, arith, lit<}
-use Rattle.std.proofs.Common.{mod-lt, w8, w16, w32, w64, position, nat_lt, not}
-use Rattle.rk_inv_wellformed.proofs.Words.{byte_len, get_or_past, cases_lt, cond-true, cond_both, nat_tests, All-append}
-use Rattle.rk_inv_wellformed.proofs.Words.{All-cons, All-head, All-nil, All-tail, value_fault, Ended, Range, LONGEST_KEY}
-use Rattle.rk_inv_wellformed.proofs.Words.{LONGEST_VALUE, kind_of, IsLawfulEntry, Entry, key_fault, End, is_marked, lt-ltb, not-true}
-use Rattle.rk_inv_wellformed.proofs.Words.{Width, byte_at, bytes_high_first, position_or_len, bad_byte, text_fault, FIRST_TEXT_BYTE}
-use Rattle.rk_inv_wellformed.proofs.Words.{LAST_TEXT_BYTE, fields_bytes, item_value_bytes}
+use Rattle.std.proofs.Common.{◌≡◌, ◌<◌, ◌+◌, ◌/◌, ◌^◌, ℕ, zero, suc, Bool, false, List, [], ◌∷◌, ◌++◌, All, length, Option, None, Some}
+use Rattle.std.proofs.Common.{IfSome, Result, Ok, Err, refl, ap, subst, sym, ◌∙◌, append_assoc, arith, lit<, mod-lt, w8, w16, w32, w64}
+use Rattle.std.proofs.Common.{position, nat_lt, not}
+use Rattle.rk_inv_wellformed.proofs.Words.{byte_len, get_or_past, cases_lt, cond-true, cond_both, nat_tests, All-append, All-cons, All-head}
+use Rattle.rk_inv_wellformed.proofs.Words.{All-nil, All-tail, value_fault, Ended, Range, LONGEST_KEY, LONGEST_VALUE, kind_of, IsLawfulEntry}
+use Rattle.rk_inv_wellformed.proofs.Words.{Entry, key_fault, End, is_marked, lt-ltb, not-true, Width, byte_at, bytes_high_first}
+use Rattle.rk_inv_wellformed.proofs.Words.{position_or_len, bad_byte, text_fault, fields_bytes, item_value_bytes}
 use Rattle.rk_log.proofs.CutLaws.{spelled_none}
 use Rattle.rk_entry.proofs.EntryLaws.{entry_takes, one_spelled}
 use Rattle.rk_entry.proofs.StandLaws.{entries_of-cons, entries_of-none}
@@ -37,8 +36,7 @@ byte_is (suc place) n = mod-lt (n / 256 ^ suc place) (lit< tt)
 
 digits_bytes : (count n : ℕ) → AreBytes (bytes_high_first count n)
 digits_bytes zero n = All-nil _
-digits_bytes (suc count) n =
-    All-cons (λ byte. byte < 256) (byte_at count n) (bytes_high_first count n) (byte_is count n) (digits_bytes count n)
+digits_bytes (suc count) n = grind (arith, byte_at, bytes_high_first, byte_is, (digits_bytes count n))
 
 number_are : (w : Width) (n : ℕ) → AreBytes (number_bytes w n)
 unfolding number_bytes
@@ -55,17 +53,8 @@ none_passes p (x ∷ xs) none = cond_both (not (p x)) (1 + position_or_len p xs)
 none_found : (p : ℕ → Bool) (xs : List ℕ) → position p xs ≡ None → All (λ x. p x ≡ false) xs
 none_found p xs none = grind (arith, none_passes, position_or_len, cond-true, lt-ltb)
 
--- a byte of a text
-text_byte : (byte : ℕ) → (nat_lt byte FIRST_TEXT_BYTE || nat_lt LAST_TEXT_BYTE byte) ≡ false → byte < 256
-text_byte byte is = grind (arith, nat_tests)
-
--- where no byte is bad all are bytes
-none_bad : (bytes : List ℕ) → bad_byte bytes ≡ None → AreBytes bytes
-none_bad bytes none place other within =
-    text_byte _ (none_found (λ byte. nat_lt byte FIRST_TEXT_BYTE || nat_lt LAST_TEXT_BYTE byte) bytes none place other within)
-
 text_bytes : (shortest longest : ℕ) (bytes : List ℕ) → text_fault shortest longest bytes ≡ None → AreBytes bytes
-text_bytes shortest longest bytes none = grind (arith, nat_lt, bad_byte, none_bad)
+text_bytes shortest longest bytes none = grind (arith, nat_lt, bad_byte, none_found, nat_tests)
 
 -- ---- entries
 

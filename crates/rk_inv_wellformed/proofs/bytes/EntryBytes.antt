@@ -1,8 +1,7 @@
 -- Each entry that a master leaves of its own fits a segment: an item, a refusal, what a target was granted or a rebuild merged.
-use Rattle.std.proofs.Common.{IfSome, ◌≡◌, ◌≤◌, ◌+◌, ℕ, List, length, Option, None, Some, arith}
-use Rattle.rk_inv_wellformed.proofs.Words.{value_fault, Held, SEGMENT_BYTES, LONGEST_VALUE, spelled_count, kind_of, spelled}
-use Rattle.rk_inv_wellformed.proofs.Words.{Entry, MOST_BASE_CLIENTS, MOST_CLIENTS, key_fault, text_within, is_marked, Refused, mark_count}
-use Rattle.rk_entry.specs.Lengths.{value_count}
+use Rattle.std.proofs.Common.{IfSome, ◌≡◌, ◌≤◌, ◌+◌, ℕ, length, None, arith}
+use Rattle.rk_inv_wellformed.proofs.Words.{value_fault, Held, SEGMENT_BYTES, spelled_count, kind_of, spelled, Entry, MOST_BASE_CLIENTS}
+use Rattle.rk_inv_wellformed.proofs.Words.{MOST_CLIENTS, key_fault, text_within, is_marked, Refused, mark_count}
 use Rattle.rk_entry.specs.declared.entry.Carried.{Carried}
 use Rattle.rk_entry.specs.declared.kind.Kind.{Kind}
 use Rattle.rk_inv_wellformed.proofs.maps.{either_way}
@@ -15,14 +14,9 @@ FitsSegment entry = length (spelled entry) ≤ SEGMENT_BYTES
 pub mark_few : (kind : Kind) → mark_count kind ≤ 1
 mark_few kind = either_way (λ (n : ℕ). n ≤ 1) (is_marked kind) (omega arith) (omega arith)
 
--- the value of an item, with its length, has no more bytes than the longest one
-value_few : (value : Option (List ℕ)) → IfSome value (λ value. value_fault value ≡ None) → value_count value ≤ 4 + LONGEST_VALUE
-value_few None fits = omega arith
-value_few (Some value) fits = omega (arith, (text_within 0 LONGEST_VALUE value fits).1)
-
 -- an item whose key and value are within their limits
 pub held_fits : (held : Held) → key_fault held.key ≡ None → IfSome held.value (λ value. value_fault value ≡ None) → FitsSegment (Entry.Held held)
-held_fits held key value = grind (arith, spelled_count, mark_few, kind_of, text_within, value_few)
+held_fits held key value = grind (arith, spelled_count, mark_few, kind_of, text_within)
 
 -- a refusal whose key is within its limits
 pub refused_fits : (refused : Refused) → key_fault refused.key ≡ None → FitsSegment (Entry.Refused refused)

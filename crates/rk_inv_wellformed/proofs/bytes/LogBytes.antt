@@ -1,7 +1,6 @@
 -- How many bytes a master's segments and side logs have after a step: where nothing is appended no more than before, and an entry more
 -- where one is.
-use Rattle.std.proofs.Common.{◌≡◌, ◌≤◌, ◌+◌, ◌==◌, ◌&&◌, ℕ, cond, not, List, [], ◌∷◌, length, map, sum, refl, sym, subst, arith}
-use Rattle.std.proofs.Common.{Bool}
+use Rattle.std.proofs.Common.{◌≡◌, ◌≤◌, ◌+◌, ◌==◌, ◌&&◌, ℕ, cond, not, List, [], ◌∷◌, length, map, sum, refl, sym, subst, arith, Bool}
 use Rattle.rk_inv_wellformed.proofs.Words.{sum-map, sum_by-append, sum_by-cons, IsInOrder, meets, Held, Range, spelled_all, spelled}
 use Rattle.rk_inv_wellformed.proofs.Words.{Entry, given_up, with_others_given_up, Master, log_bytes, tablet_at, unsealed_bytes}
 use Rattle.rk_inv_wellformed.proofs.Words.{with_appended, with_tablet, as_entries, Pulling, Tablet, no_tablet, pulling_from, changed_each}

@@ -1,15 +1,14 @@
 -- How many bytes a master has after it took a batch, or the items that it asked for first: no more than before and what came, and an entry
 -- that closes where all has come.
-use Rattle.std.proofs.Common.{◌≡◌, ◌≤◌, ◌+◌, ◌%◌, ◌&&◌, ℕ, List, [], ◌∷◌, ◌++◌, fold, length, map, nat_le, sum, refl, sym, subst, ap}
-use Rattle.std.proofs.Common.{arith, length-append, slice_index_or, slice_set, sum_by, flat_map}
-use Rattle.rk_inv_wellformed.proofs.Words.{cases_lt, sum-map, sum_by-append, sum_by-cons, in_order_insert, spelled_of, IsInOrder}
-use Rattle.rk_inv_wellformed.proofs.Words.{NumberMap, get_or, Held, SEGMENT_BYTES, Token, held_spelled, spelled, Entry, found, is_newer}
-use Rattle.rk_inv_wellformed.proofs.Words.{Got, Pulled, items_of, Master, log_bytes, tablet_at, unsealed_bytes, with_item}
-use Rattle.rk_inv_wellformed.proofs.Words.{with_side_segment, with_tablet, as_entries, replay, token_passed, with_pulling, sealed_sides}
-use Rattle.rk_inv_wellformed.proofs.Words.{Tablet, no_tablet, with_handover, joined_entry, Worked, got, is_batch, no_hashes, end}
-use Rattle.rk_inv_wellformed.proofs.Words.{batch_taken, got_taken, is_token, item_replayed, joining_by, next_sides, pulled_all}
-use Rattle.rk_inv_wellformed.proofs.Words.{pulled_taken, replay_one, sealing, with_pulled, is_receiving_at, with_side_item, with_appended}
-use Rattle.rk_inv_wellformed.proofs.Words.{set_past, sum_by-set}
+use Rattle.std.proofs.Common.{◌≡◌, ◌≤◌, ◌+◌, ◌%◌, ◌&&◌, ℕ, List, [], ◌∷◌, ◌++◌, fold, length, map, nat_le, sum, refl, sym, subst, ap, arith}
+use Rattle.std.proofs.Common.{length-append, slice_index_or, sum_by, flat_map}
+use Rattle.rk_inv_wellformed.proofs.Words.{cases_lt, sum-map, sum_by-append, sum_by-cons, in_order_insert, spelled_of, IsInOrder, NumberMap}
+use Rattle.rk_inv_wellformed.proofs.Words.{get_or, Held, SEGMENT_BYTES, Token, held_spelled, spelled, Entry, found, is_newer, Got, Pulled}
+use Rattle.rk_inv_wellformed.proofs.Words.{items_of, Master, log_bytes, tablet_at, unsealed_bytes, with_item, with_side_segment}
+use Rattle.rk_inv_wellformed.proofs.Words.{with_tablet, as_entries, replay, token_passed, with_pulling, sealed_sides, Tablet, no_tablet}
+use Rattle.rk_inv_wellformed.proofs.Words.{with_handover, joined_entry, Worked, got, is_batch, no_hashes, end, batch_taken, got_taken}
+use Rattle.rk_inv_wellformed.proofs.Words.{is_token, item_replayed, joining_by, next_sides, pulled_all, pulled_taken, replay_one, sealing}
+use Rattle.rk_inv_wellformed.proofs.Words.{with_pulled, is_receiving_at, with_side_item, with_appended, set_past, sum_by-set}
 use Rattle.rk_entry.specs.Entries.{spelled_all}
 use Rattle.rk_inv_wellformed.proofs.bytes.LogBytes.{bytes_appended, bytes_put, none_pulled}
 use Rattle.rk_inv_wellformed.proofs.bytes.TurnBytes.{CLOSING_BYTES, joined_short}
@@ -41,21 +40,14 @@ entry_bytes entry list = length-append (spelled entry) (flat_map spelled list)
 -- the items among entries have no more bytes than the entries
 pub items_few : (list : List Entry) → items_bytes (items_of list) ≤ length (spelled_all list)
 items_few [] = omega arith
-items_few (Entry.Held held ∷ list) =
-    omega (arith, first_bytes held (items_of list), held_spelled held, items_few list, entry_bytes (Entry.Held held) list)
+items_few (Entry.Held held ∷ list) = grind (arith, first_bytes, items_of, held_spelled, entry_bytes, (items_few list))
 items_few (entry ∷ list) = omega (arith, items_few list, entry_bytes entry list)
 
 -- ---- a replay
 
--- a worker has an item more, where there is that worker
-worker_bytes : (sides : List (List Held)) (worker : ℕ) (item : Held)
-    → sum_by items_bytes (slice_set sides worker (slice_index_or sides worker [] ++ item ∷ [])) ≤ sum_by items_bytes sides + spelled_of item
-worker_bytes sides worker item = grind (arith, sum_by-set, slice_index_or, last_bytes, set_past, cases_lt)
-
 tablet_pulled : (tablet : Tablet) (worker : ℕ) (item : Held)
     → unsealed_bytes (with_pulling tablet (with_pulled tablet.pulling worker item)) ≤ unsealed_bytes tablet + spelled_of item
-tablet_pulled tablet worker item =
-    omega (arith, worker_bytes tablet.pulling.sides worker item, sum-map {X = List Held})
+tablet_pulled tablet worker item = grind (arith, sum-map, sum_by-set, slice_index_or, last_bytes, set_past, cases_lt, tablet.pulling.sides)
 
 -- a master whose tablets are in order, with no more than so many bytes
 pub record HasBytes (bytes : ℕ) (master : Master) : Type 0 where

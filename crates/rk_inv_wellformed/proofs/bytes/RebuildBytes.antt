@@ -3,18 +3,18 @@
 use Rattle.std.proofs.Common.{◌≡◌, ◌≤◌, ◌+◌, ◌==◌, ◌&&◌, ℕ, Bool, true, cond, not, List, [], ◌∷◌, length, Option, None, Some, refl, sym}
 use Rattle.std.proofs.Common.{ap, ◌∙◌, arith, w64, option_map, nat_lt, unwrap_or, eq-eqb, false, ◌++◌, filter, map}
 use Rattle.std.proofs.Common.{subst, ⊎_elim, Contains, bytes_eq, flat_map, sum_by, Less, Greater}
-use Rattle.rk_inv_wellformed.proofs.Words.{cond-true, in_order_changed, spelled_of, IsInOrder, NumberMap, get, get_or, meets, Held}
-use Rattle.rk_inv_wellformed.proofs.Words.{Member, Range, held_spelled, IsNumber, Entry, completions_from, ends_of, Handover}
-use Rattle.rk_inv_wellformed.proofs.Words.{CopySegment, Rebuild, IsFormedMaster, MOST_BASE_CLIENTS, by_member, is_awaited, next_reading}
-use Rattle.rk_inv_wellformed.proofs.Words.{given_up, is_greater, with_others_given_up, IsFormedCopy, IsFormedRebuild, Limits, own_member}
-use Rattle.rk_inv_wellformed.proofs.Words.{Master, log_bytes, tablet_at, unsealed_bytes, with_all, with_appended, as_entries, merge}
-use Rattle.rk_inv_wellformed.proofs.Words.{MOST_CLIENTS, is_gathering, Tablet, no_tablet, pulling_from, changed, Merged, gather_begun}
-use Rattle.rk_inv_wellformed.proofs.Words.{LONGEST_LEFT, copied_bytes, cond_both, Worked, flat_map-append, All-contains_itself}
-use Rattle.rk_inv_wellformed.proofs.Words.{All-contains, All-filter, sum-map, sum_by-append, sum_by-cons, ⊤, spelled_all, newest_is}
-use Rattle.rk_inv_wellformed.proofs.Words.{items_of, Gathered, newest_items_are, newest_items, Gather, counted_of, is_of_lineage}
-use Rattle.rk_inv_wellformed.proofs.Words.{material_by, side_read, unread, material_of, copies_of, has_version, list_all, is_above}
-use Rattle.rk_inv_wellformed.proofs.Words.{Contains-append_cases, Contains-append_left, Contains-append_right, filter-append}
-use Rattle.rk_inv_wellformed.proofs.Words.{filter_passes, list_any_at, ordering_reverse, item_cmp, items_in, counted}
+use Rattle.rk_inv_wellformed.proofs.Words.{cond-true, in_order_changed, spelled_of, IsInOrder, NumberMap, get, get_or, meets, Held, Member}
+use Rattle.rk_inv_wellformed.proofs.Words.{Range, held_spelled, IsNumber, Entry, completions_from, ends_of, Handover, CopySegment, Rebuild}
+use Rattle.rk_inv_wellformed.proofs.Words.{IsFormedMaster, MOST_BASE_CLIENTS, by_member, is_awaited, next_reading, given_up, is_greater}
+use Rattle.rk_inv_wellformed.proofs.Words.{with_others_given_up, IsFormedCopy, IsFormedRebuild, Limits, own_member, Master, log_bytes}
+use Rattle.rk_inv_wellformed.proofs.Words.{tablet_at, unsealed_bytes, with_all, with_appended, as_entries, merge, MOST_CLIENTS}
+use Rattle.rk_inv_wellformed.proofs.Words.{is_gathering, Tablet, no_tablet, pulling_from, changed, Merged, gather_begun, LONGEST_LEFT}
+use Rattle.rk_inv_wellformed.proofs.Words.{copied_bytes, cond_both, Worked, flat_map-append, All-contains_itself, All-contains, All-filter}
+use Rattle.rk_inv_wellformed.proofs.Words.{sum-map, sum_by-append, sum_by-cons, ⊤, spelled_all, newest_is, items_of, Gathered}
+use Rattle.rk_inv_wellformed.proofs.Words.{newest_items_are, newest_items, Gather, counted_of, material_by, side_read, unread, material_of}
+use Rattle.rk_inv_wellformed.proofs.Words.{copies_of, has_version, list_all, is_above, Contains-append_cases, Contains-append_left}
+use Rattle.rk_inv_wellformed.proofs.Words.{Contains-append_right, filter-append, filter_passes, list_any_at, ordering_reverse, item_cmp}
+use Rattle.rk_inv_wellformed.proofs.Words.{items_in, counted}
 use Rattle.std.proofs.lemmas.List.Kept.{IsStrictlySortedBy-filter}
 use Rattle.std.proofs.lemmas.Map.Views.{All-after_first}
 use Rattle.std.proofs.lemmas.Slice.Eq.{bytes_eq-Decides}
@@ -25,8 +25,7 @@ use Rattle.std.proofs.lemmas.List.Filters.{sum_by-filter_both}
 use Rattle.rk_world.specs.Rebuilds as rebuilds
 use Rattle.rk_inv_wellformed.proofs.bytes.EntryBytes.{carried_fits}
 use Rattle.rk_inv_wellformed.proofs.bytes.LogBytes.{bytes_appended, bytes_given_up, pulls_none}
-use Rattle.rk_inv_wellformed.proofs.bytes.PullBytes.{HasBytes, first_bytes, items_bytes, more_has, put_has, same_has, items_few}
-use Rattle.rk_inv_wellformed.proofs.bytes.PullBytes.{none_bytes}
+use Rattle.rk_inv_wellformed.proofs.bytes.PullBytes.{HasBytes, first_bytes, items_bytes, more_has, put_has, same_has, items_few, none_bytes}
 use Rattle.rk_inv_wellformed.proofs.maps.{by_found, found_changed, either_way, fold_keeps}
 use Rattle.rk_inv_wellformed.proofs.masters.Handovers.{one_stood}
 use Rattle.rk_inv_wellformed.proofs.masters.Rebuilding.{begins, few_ends, formed_gathered, merge_formed}
@@ -114,10 +113,6 @@ order_apart (item ∷ items) order = (
   order_apart items order.1,
 )
 
--- an item that stands among items has its version there
-own_has : (items : List Held) (item : Held) → Contains items item → has_version items item ≡ true
-own_has items item stands = grind (arith, list_any_at, bytes_eq, eq-eqb, bytes_eq-Decides)
-
 -- whether an item is no own one
 abbrev is_foreign : List Held → Held → Bool
 is_foreign own item = not (has_version own item)
@@ -150,8 +145,7 @@ foreign_few own list =
 
 -- the own ones have none
 foreign_none : (list : List Entry) → foreign_bytes (items_of list) list ≡ 0
-foreign_none list = ap (λ (items : List Held). sum_by spelled_of items)
-    (none_kept (is_foreign (items_of list)) (items_of list) (λ item stands. ap not (own_has (items_of list) item stands)))
+foreign_none list = grind (arith, spelled_of, none_kept, items_of, list_any_at, bytes_eq, eq-eqb, bytes_eq-Decides)
 
 -- of all members they have what they have of each
 foreign_all : (own : List Held) (lists : List (List Entry)) → foreign_bytes own (flat_map (λ list. list) lists) ≡ sum_by (foreign_bytes own) lists
@@ -163,11 +157,7 @@ foreign_all own (list ∷ lists) =
 foreign_some : (own : List Held) (range : Range) (p : Gathered → Bool) (members : List Gathered)
     → foreign_bytes own (flat_map (counted_of range) (filter p members)) ≤ foreign_bytes own (flat_map (counted_of range) members)
 foreign_some own range p [] = omega arith
-foreign_some own range p (member ∷ members) =
-    let all = foreign_append own (counted_of range member) (flat_map (counted_of range) members) in
-    let some = foreign_append own (counted_of range member) (flat_map (counted_of range) (filter p members)) in
-    either_way (λ (kept : List Gathered). foreign_bytes own (flat_map (counted_of range) kept) ≤ foreign_bytes own (flat_map (counted_of range) (member ∷ members)))
-    (p member) (omega (arith, foreign_some own range p members, all, some)) (omega (arith, foreign_some own range p members, all))
+foreign_some own range p (member ∷ members) = grind (arith, foreign_append, counted_of, either_way, (foreign_some own range p members))
 
 module _ (gather : Gather) (own : List Entry) where
   -- the bytes of what was read and counts
@@ -184,16 +174,10 @@ module _ (gather : Gather) (own : List Entry) where
   foreign_lineage (member ∷ lineage) =
       omega (arith, foreign_by member.master, foreign_lineage lineage, sum_by-cons {X = List Entry}, sum_by-cons {X = Member})
 
-  foreign_outside : sum_by (foreign_bytes (items_of own)) (cond (is_of_lineage gather) [] (own ∷ [])) ≡ 0
-  foreign_outside = either_way (λ (lists : List (List Entry)). sum_by (foreign_bytes (items_of own)) lists ≡ 0) (is_of_lineage gather)
-      refl (omega (arith, sum_by-cons (foreign_bytes (items_of own)) own [], foreign_none own))
-
   -- the copies that a merge makes of its own entries and of what it read
   pub copies_within : items_bytes (copies_of (items_of own) (items_of (flat_map (λ list. list) (by_member gather own)))) ≤ copied_bytes gather
   copies_within =
-      let lists = map (λ member. material_by gather own member.master) gather.lineage in
-      let all = items_of (flat_map (λ list. list) (by_member gather own)) in
-      omega (arith, items_spelled, sum-map {X = Held}, copies_few (items_of own) all, foreign_all, sum_by-append {X = List Entry}, foreign_lineage gather.lineage, foreign_outside)
+      grind (arith, items_spelled, sum-map, copies_few, foreign_all, sum_by-append, foreign_lineage, foreign_none)
 
 -- ---- a rebuild that begins
 
@@ -208,8 +192,7 @@ unread_counts range (member ∷ members) =
 
 none_copied : (list : List Entry) (lineage : List Member) → list ≡ [] → sum_by (λ member. length (spelled_all list)) lineage ≡ 0
 none_copied list [] is = refl
-none_copied list (member ∷ lineage) is =
-    omega (arith, sum_by-cons {X = Member}, ap (λ (l : List Entry). length (spelled_all l)) is, none_bytes, none_copied list lineage is)
+none_copied list (member ∷ lineage) is = grind (arith, sum_by-cons, spelled_all, none_bytes, (none_copied list lineage is))
 
 -- a rebuild that begins has nothing to copy
 pub begun_copies : (range : Range) (lineage : List Member) (own : ℕ) → copied_bytes (gather_begun range lineage own) ≡ 0
@@ -236,8 +219,7 @@ all_tablets list master = fold_keeps (λ (now : Master). now.tablets ≡ master.
 merging_has : {bytes : ℕ} (id : ℕ) {master : Master} (merged : Merged) (moved : Option Handover)
     → length (ends_of (completions_from [] merged.ends)) ≤ MOST_CLIENTS + MOST_BASE_CLIENTS → HasBytes bytes master
     → HasBytes (bytes + items_bytes merged.copies + LONGEST_LEFT) (rebuilds.merging master id (tablet_at master id) merged moved).master
-merging_has {bytes} id merged None few has =
-    more_has bytes (bytes + items_bytes merged.copies + LONGEST_LEFT) (omega arith) has
+merging_has {bytes} id merged None few has = grind (arith, more_has, items_bytes, merged.copies)
 merging_has {bytes} id {master} merged (Some handover) few has =
     let it = tablet_at master id in
     let copied = with_all master (as_entries merged.copies) in

@@ -1,7 +1,6 @@
 -- How great a log is: it has no more entries than bytes.
 use Rattle.std.proofs.Common.{◌≡◌, ◌≤◌, ◌<◌, ◌^◌, ℕ, List, [], ◌∷◌, length, ap, sym, ◌∙◌, arith, w64, sum_by}
-use Rattle.rk_inv_wellformed.proofs.Words.{sum_by-cons, IsNumber, spelled, Entry, cut, Master, log_bytes, MOST_BYTES}
-use Rattle.rk_inv_wellformed.proofs.Words.{spelled_some}
+use Rattle.rk_inv_wellformed.proofs.Words.{sum_by-cons, IsNumber, spelled, Entry, cut, Master, log_bytes, MOST_BYTES, spelled_some}
 use Rattle.std.proofs.lemmas.List.Concat.{concat_is, length-flat_map}
 use Rattle.rk_entry.specs.Entries.{spelled_all}
 use Rattle.rk_log.proofs.CutLaws.{cut_whole}

@@ -1,8 +1,7 @@
 -- What a master of a well formed lane appends when it takes a message can be spelled, whether or not its log has room for it.
 use Rattle.std.proofs.Common.{◌==◌, ℕ, All, IfSome, arith, inl}
-use Rattle.rk_inv_wellformed.proofs.Words.{Node, IsLawfulEntry, role_granted, Grant, Body, CopySegment, Rebuild}
-use Rattle.rk_inv_wellformed.proofs.Words.{IsFormedMaster, IsFormedBody, IsFormedGrant, Limits, limits_of, Master}
-use Rattle.rk_inv_wellformed.proofs.Words.{tablet_at, Tablet, World, master_at}
+use Rattle.rk_inv_wellformed.proofs.Words.{Node, IsLawfulEntry, role_granted, Grant, Body, CopySegment, Rebuild, IsFormedMaster}
+use Rattle.rk_inv_wellformed.proofs.Words.{IsFormedBody, IsFormedGrant, Limits, limits_of, Master, tablet_at, Tablet, World, master_at}
 use Rattle.rk_inv_wellformed.specs.Appended.{GrantSpells, StandsOn}
 use Rattle.rk_world.specs.Handovers as handing
 use Rattle.rk_world.specs.Rebuilds as rebuilds
@@ -36,9 +35,7 @@ module _ (limits : Limits) (number : ℕ) (master : Master) (grant : Grant) (are
 
 module _ (w : World) (master number : ℕ) (from to : Node) where
   wide_limits : {body : Body} → StandsOn w master number from to body → AreLimits (raised (limits_of w))
-  wide_limits stands =
-      let are = formed_limits w stands.formed stands.room in
-      assumption
+  wide_limits stands = grind (arith, formed_limits)
 
   says : {body : Body} → StandsOn w master number from to body → IsFormedBody (limits_of w) from body
   says {body} stands = (stands.formed.wire.each number (record { from = from; to = to; body = body }) stands.found).says

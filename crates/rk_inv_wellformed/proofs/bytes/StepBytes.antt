@@ -5,11 +5,10 @@ use Rattle.rk_inv_wellformed.proofs.Words.{cond_both, hash_of, IsInOrder, Call, 
 use Rattle.rk_inv_wellformed.proofs.Words.{overreach, Grant, Prepare, Tenure, Body, IsFormedMaster, IsFormedBody, IsFormedGrant, Limits}
 use Rattle.rk_inv_wellformed.proofs.Words.{Master, is_settled, log_bytes, tablet_at, unsealed_bytes, with_tablet, without_items}
 use Rattle.rk_inv_wellformed.proofs.Words.{backup_message, client_message, order, peer_message, told_master, IsLawfulCall, range_below}
-use Rattle.rk_inv_wellformed.proofs.Words.{range_from, call_of, choice_of, chosen, counted_up, item_of, with_staged, with_wanted}
-use Rattle.rk_inv_wellformed.proofs.Words.{is_frozen_at, MOST_BYTES, has_parts, with_half, with_halves, with_split, Tablet, pulling_from}
-use Rattle.rk_inv_wellformed.proofs.Words.{with_handover, without_merged, freezing, Worked, Choice, Wants, Writes, Refuses, granted}
-use Rattle.rk_inv_wellformed.proofs.Words.{owned, prepared, released, refusal_of, LONGEST_LEFT, brought_by, Entry, with_call, pull_taken}
-use Rattle.rk_inv_wellformed.proofs.Words.{want_taken}
+use Rattle.rk_inv_wellformed.proofs.Words.{range_from, call_of, choice_of, chosen, with_wanted, is_frozen_at, MOST_BYTES, has_parts}
+use Rattle.rk_inv_wellformed.proofs.Words.{with_half, with_halves, with_split, Tablet, pulling_from, with_handover, without_merged}
+use Rattle.rk_inv_wellformed.proofs.Words.{freezing, Worked, Choice, Wants, Writes, Refuses, granted, owned, prepared, released, refusal_of}
+use Rattle.rk_inv_wellformed.proofs.Words.{LONGEST_LEFT, brought_by, with_call, pull_taken, want_taken}
 use Rattle.rk_world.specs.Handovers as handovers
 use Rattle.rk_inv_wellformed.proofs.bytes.EntryBytes.{carried_fits, held_fits, refused_fits}
 use Rattle.rk_inv_wellformed.proofs.bytes.LogBytes.{bytes_appended, bytes_given_up, bytes_with_tablet, pulls_none, unsealed_at_most}
@@ -28,9 +27,7 @@ same_unsealed master id tablet few = omega (arith, few, bytes_with_tablet master
 
 -- a tablet freezes, or stays
 freezing_bytes : (master : Master) (id : ℕ) (tablet : Tablet) (moved : Option Handover) → log_bytes (freezing master id tablet moved) ≤ log_bytes master + unsealed_bytes tablet
-freezing_bytes master id tablet None = omega arith
-freezing_bytes master id tablet (Some handover) = either_way (λ (now : Master). log_bytes now ≤ log_bytes master + unsealed_bytes tablet)
-    (is_settled master tablet.handover.range) (bytes_with_tablet master id (with_handover tablet handover)) (omega arith)
+freezing_bytes master id tablet moved = grind (arith, either_way, log_bytes, unsealed_bytes, is_settled, bytes_with_tablet, with_handover)
 
 module _ (master : Master) (below : log_bytes master < MOST_BYTES) where
   -- what a master may have after a step that brings nothing
@@ -53,30 +50,15 @@ module _ (master : Master) (below : log_bytes master < MOST_BYTES) where
   chosen_fits limits asked {call} (Wants id) lawful formed =
       omega (arith, below, same_unsealed master id (with_wanted (tablet_at master id) (hash_of call.key)) (unsealed_at_most master id))
   chosen_fits limits asked {call} (Writes id value) lawful formed =
-      let item = item_of call (tablet_at master id).handover.counter value in
-      omega (
-        arith,
-        below,
-        bytes_with_tablet (with_staged master call (Entry.Held item)) id (counted_up (tablet_at master id)),
-        bytes_appended (with_call master call) (Entry.Held item),
-        held_fits item lawful.key formed.1,
-        unsealed_at_most master id,
-      )
+      grind (arith, bytes_with_tablet, bytes_appended, held_fits, unsealed_at_most)
   chosen_fits limits asked {call} (Refuses found absent) lawful formed =
-      omega (
-        arith,
-        below,
-        bytes_appended (with_call master call) (refusal_of call found absent),
-        refused_fits (record { table = call.table; found = found; client = call.client; seq = call.seq; absent = absent; key = call.key }) lawful.key,
-      )
+      grind (arith, bytes_appended, with_call, refusal_of, refused_fits, call.table, call.client, call.seq, call.key, lawful.key)
   chosen_fits limits asked _ lawful formed = kept
 
   -- ---- handovers
 
   moved_fits : (now : Master) (id : ℕ) (moved : Option Handover) → log_bytes now ≤ log_bytes master → BytesFit (handovers.with_move now id moved)
-  moved_fits now id None few = omega (arith, few, below)
-  moved_fits now id (Some handover) few =
-      omega (arith, few, below, same_unsealed now id (without_merged (with_handover (tablet_at now id) handover)) (unsealed_at_most now id))
+  moved_fits now id moved few = grind (arith, same_unsealed, without_merged, with_handover, tablet_at, unsealed_at_most)
 
   again_fits : (tenure : Tenure) (role : Role) (term : ℕ) → BytesFit (handovers.ready_again master tenure role term).master
   again_fits tenure (Role.Wanting from) term = either_way WorkedFits (term == tenure.term) kept kept
@@ -105,13 +87,8 @@ module _ (master : Master) (below : log_bytes master < MOST_BYTES) where
         unsealed_at_most master id,
       )
 
-  transferring_fits : (now : Master) (tenure : Tenure) → BytesFit now → BytesFit (handovers.transferring now tenure).master
-  transferring_fits now tenure fits = either_way WorkedFits (is_frozen_at (tablet_at now tenure.tablet) tenure.term) fits fits
-
   close_fits : (tenure : Tenure) → BytesFit (handovers.close_taken master tenure).master
-  close_fits tenure =
-      transferring_fits (handovers.closing master tenure.tablet (closed (tablet_at master tenure.tablet).handover tenure.term)) tenure
-      (closing_fits tenure.tablet (closed (tablet_at master tenure.tablet).handover tenure.term))
+  close_fits tenure = grind (arith, closed, tablet_at, closing_fits, either_way, is_frozen_at)
 
   granting_fits : {limits : Limits} {grant : Grant} (moved : Option Handover) → AreLimits limits → IsFormedGrant limits grant → BytesFit (handovers.granting master grant moved).master
   granting_fits None are told = kept
@@ -149,10 +126,8 @@ module _ (master : Master) (below : log_bytes master < MOST_BYTES) where
   order_fits (Body.Close tenure) are formed says = close_fits tenure
   order_fits (Body.Grant grant) are formed says =
       granting_fits (granted (tablet_at master grant.tenure.tablet).handover grant.tenure.term grant.floor) are says
-  order_fits (Body.Own tenure) are formed says =
-      owning_fits tenure.tablet (owned (tablet_at master tenure.tablet).handover tenure.term master.applied)
-  order_fits (Body.Release tenure) are formed says =
-      releasing_fits tenure.tablet (released (tablet_at master tenure.tablet).handover tenure.term)
+  order_fits (Body.Own tenure) are formed says = grind (arith, owning_fits, owned, tablet_at, tenure.tablet, tenure.term)
+  order_fits (Body.Release tenure) are formed says = grind (arith, releasing_fits, released, tablet_at, tenure.tablet, tenure.term)
   order_fits (Body.Rebuild rebuild) are formed says =
       omega (
         arith,

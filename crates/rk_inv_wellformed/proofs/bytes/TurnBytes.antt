@@ -4,12 +4,11 @@ use Rattle.std.proofs.Common.{not, map, List, ◌&&◌, ◌≡◌, ◌≤◌, �
 use Rattle.std.proofs.Common.{subst, ◌∙◌, ⊎_elim, arith, sum_by, slice_index_or}
 use Rattle.rk_inv_wellformed.proofs.Words.{cases_eq, length-map, All-head, All-tail, sum-map, sum_by-cons, in_order_insert}
 use Rattle.rk_inv_wellformed.proofs.Words.{in_order_changed, IsInOrder, NumberMap, get, Call, Ended, Held, spelled_count, spelled_all}
-use Rattle.rk_inv_wellformed.proofs.Words.{kind_of, spelled, Entry, Role, Overreach, Stored, apply_entries, apply_entry, newly_held}
-use Rattle.rk_inv_wellformed.proofs.Words.{noting, stored_taken, with_applied, with_ended, with_entry_item, with_noted, told_by}
-use Rattle.rk_inv_wellformed.proofs.Words.{IsFormedMaster, IsFormedSide, side_waits, Limits, Master, log_bytes, tablet_at, unsealed_bytes}
-use Rattle.rk_inv_wellformed.proofs.Words.{with_tablet, with_known, order, duties, master_turn, with_outstanding, as_entries}
-use Rattle.rk_inv_wellformed.proofs.Words.{has_key, is_absent, Tablet, with_handover, all_going_on, going_on_in, joined_entry}
-use Rattle.rk_inv_wellformed.proofs.Words.{side_waits_in, with_appended}
+use Rattle.rk_inv_wellformed.proofs.Words.{kind_of, spelled, Entry, Role, Overreach, Stored, apply_entries, apply_entry, newly_held, noting}
+use Rattle.rk_inv_wellformed.proofs.Words.{stored_taken, with_applied, with_ended, with_entry_item, with_noted, told_by, IsFormedMaster}
+use Rattle.rk_inv_wellformed.proofs.Words.{IsFormedSide, side_waits, Limits, Master, log_bytes, tablet_at, unsealed_bytes, with_tablet}
+use Rattle.rk_inv_wellformed.proofs.Words.{with_known, order, duties, master_turn, with_outstanding, as_entries, has_key, is_absent, Tablet}
+use Rattle.rk_inv_wellformed.proofs.Words.{with_handover, all_going_on, going_on_in, joined_entry, side_waits_in, with_appended}
 use Rattle.rk_types.specs.Held.{spelled_of}
 use Rattle.rk_inv_wellformed.proofs.bytes.EntryBytes.{mark_few}
 use Rattle.rk_inv_wellformed.proofs.bytes.LogBytes.{bytes_appended, bytes_put, bytes_changed}
@@ -190,14 +189,9 @@ sides_long (items ∷ sides) all =
       sum_by-cons (λ (b : List ℕ). length b) (spelled_all (as_entries items)) rest,
     )
 
--- a master has those bytes for each of its side segments
-side_segments_long : {limits : Limits} {number : ℕ} {master : Master} → IsFormedMaster limits number master
-    → SHORTEST_ITEM * length master.log.sides ≤ log_bytes master
-side_segments_long {master} formed = grind (arith, sides_long, spelled, side_bytes, length-map, spelled_all, as_entries)
-
 -- so what a backup told lets a well formed master have at most three times the bytes that it had
 pub stored_thrice : {limits : Limits} {number : ℕ} {master : Master} (backup : ℕ) (stored : Stored) (over : Option Overreach)
     → IsFormedMaster limits number master
     → log_bytes (stored_taken master backup stored over).master ≤ 3 * log_bytes master
 stored_thrice {master} backup stored over formed =
-    omega (arith, formed.waited, side_segments_long formed, stored_bytes master backup stored over formed.tablets_order)
+    grind (arith, stored_bytes, sides_long, spelled, side_bytes, length-map, spelled_all, as_entries, formed.waited, formed.tablets_order)

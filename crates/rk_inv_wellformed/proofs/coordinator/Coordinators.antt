@@ -1,34 +1,29 @@
 -- What the coordinator makes of a message, of its turn and of a tablet that begins to move, is added or split: where the coordinator is well
 -- formed, it stays so, all that it sends is well formed, and what its rows covered is covered; and so is the master of such a tablet.
-use Rattle.std.proofs.Common.{◌≡◌, ◌≤◌, ◌+◌, ℕ, w8, w32, w64, Bool, ◌==◌, List, [], ◌∷◌, All, IfSome, find, length, Option, None, Some}
-use Rattle.std.proofs.Common.{refl, arith, true, false, cond, is_some, nat_le, nat_lt, sym, ap, subst, unwrap_or}
-use Rattle.std.proofs.Common.{leb-true, ltb-true}
-use Rattle.rk_inv_wellformed.proofs.Words.{All-cons, All-nil, recursion_from_All, AllByRecursion, each_insert}
-use Rattle.rk_inv_wellformed.proofs.Words.{in_order_insert, get_or, has, Member, Node, Range, IsLawfulRange, IsNumber, add_fault, row_of}
-use Rattle.rk_inv_wellformed.proofs.Words.{Phase, Moving, Opening, Owned, Rebuilding, Row, IsLawfulBody, Tenure, Body, Message, Rebuilt}
-use Rattle.rk_inv_wellformed.proofs.Words.{Coordinator, with_row, coordinator_step, coordinator_turn, IsFormedCoordinator, IsFormedRow}
-use Rattle.rk_inv_wellformed.proofs.Words.{AreOfDistinctClients, IsFormedBody, IsFormedEnd, IsFormedMember, IsFormedMessage}
-use Rattle.rk_inv_wellformed.proofs.Words.{IsFormedTenure, IsThere, Limits, tablet_migrated, IsMaster, World, member, row_with, Ready}
-use Rattle.rk_inv_wellformed.proofs.Words.{Transfer, Handed, is_noticed, Coordinated, about, joined_in, located, question, ready_in}
-use Rattle.rk_inv_wellformed.proofs.Words.{rebuilt_in, report, row_duty, row_for, told_again, told_coordinator, transfer_in}
-use Rattle.rk_inv_wellformed.proofs.Words.{IsFormedHanded, IsWellFormed, limits_of, IsFormedNumber, and_parts, nat_tests, get, new_row}
-use Rattle.rk_inv_wellformed.proofs.Words.{IsFormedMaster, IsFormedTablet, Master, tablet_at, range_below, refusal, where_true, has_parts}
-use Rattle.rk_inv_wellformed.proofs.Words.{rows_split, with_half, with_halves, with_split, with_added, Tablet, no_tablet, has_crashed}
-use Rattle.rk_inv_wellformed.proofs.Words.{number_of, changed_rows, split_fault, split_rows, Role, StepError, Event, IsFormedGathered}
-use Rattle.rk_inv_wellformed.proofs.Words.{cond_both, IsLawfulOwner, IsAnyRange, from_coordinator, owner_of, row_tenure, with_handed}
-use Rattle.rk_inv_wellformed.proofs.Words.{with_phase, answered, at_term, own_to, release_to, unanswered, IsFormedTransfer, migrating}
-use Rattle.rk_inv_wellformed.proofs.Words.{row_migrated, rows_split_of, tablet_split_fault, tablet_split_fault_by, tablet_split_fault_of}
-use Rattle.rk_inv_wellformed.proofs.Words.{with_rows_split}
-use Rattle.rk_message.specs.Rebuilding.{IsLawfulMember}
-use Rattle.rk_world.specs.declared.error.MoveError.{MoveError}
+use Rattle.std.proofs.Common.{◌≡◌, ◌≤◌, ◌+◌, ℕ, w32, w64, Bool, ◌==◌, List, [], ◌∷◌, All, IfSome, find, length, Option, None, Some, refl}
+use Rattle.std.proofs.Common.{arith, true, false, cond, is_some, nat_le, nat_lt, sym, ap, subst, unwrap_or, leb-true, ltb-true}
+use Rattle.rk_inv_wellformed.proofs.Words.{All-cons, All-nil, recursion_from_All, each_insert, in_order_insert, get_or, has, Node, Range}
+use Rattle.rk_inv_wellformed.proofs.Words.{IsLawfulRange, IsNumber, add_fault, row_of, Phase, Moving, Opening, Owned, Rebuilding, Row}
+use Rattle.rk_inv_wellformed.proofs.Words.{IsLawfulBody, Tenure, Body, Message, Rebuilt, Coordinator, with_row, coordinator_step}
+use Rattle.rk_inv_wellformed.proofs.Words.{coordinator_turn, IsFormedCoordinator, IsFormedRow, AreOfDistinctClients, IsFormedBody}
+use Rattle.rk_inv_wellformed.proofs.Words.{IsFormedEnd, IsFormedMember, IsFormedMessage, IsFormedTenure, IsThere, Limits, tablet_migrated}
+use Rattle.rk_inv_wellformed.proofs.Words.{IsMaster, World, member, row_with, Ready, Transfer, Handed, is_noticed, Coordinated, about}
+use Rattle.rk_inv_wellformed.proofs.Words.{joined_in, located, ready_in, rebuilt_in, report, row_duty, row_for, told_again}
+use Rattle.rk_inv_wellformed.proofs.Words.{told_coordinator, transfer_in, IsFormedHanded, IsWellFormed, limits_of, IsFormedNumber}
+use Rattle.rk_inv_wellformed.proofs.Words.{and_parts, nat_tests, get, new_row, IsFormedMaster, IsFormedTablet, Master, tablet_at}
+use Rattle.rk_inv_wellformed.proofs.Words.{range_below, refusal, where_true, has_parts, rows_split, with_half, with_halves, with_split}
+use Rattle.rk_inv_wellformed.proofs.Words.{with_added, Tablet, no_tablet, has_crashed, number_of, changed_rows, split_fault, split_rows}
+use Rattle.rk_inv_wellformed.proofs.Words.{Role, StepError, Event, cond_both, IsLawfulOwner, IsAnyRange, from_coordinator, owner_of}
+use Rattle.rk_inv_wellformed.proofs.Words.{row_tenure, with_handed, with_phase, answered, at_term, own_to, release_to, unanswered}
+use Rattle.rk_inv_wellformed.proofs.Words.{IsFormedTransfer, migrating, row_migrated, rows_split_of, tablet_split_fault}
+use Rattle.rk_inv_wellformed.proofs.Words.{tablet_split_fault_of, with_rows_split}
 use Rattle.rk_inv_wellformed.proofs.coordinator.Rows.{AreFormedRows, AreTermsUpTo, Cover, IsFormedPhase, all_found, all_placed}
 use Rattle.rk_inv_wellformed.proofs.coordinator.Rows.{covered_changed, covered_placed, formed_changed_rows, formed_placed}
 use Rattle.rk_inv_wellformed.proofs.coordinator.Rows.{phase_of_formed, terms_below, terms_changed, IsKnown, covered_split_rows}
 use Rattle.rk_inv_wellformed.proofs.coordinator.Rows.{formed_split_rows, known_changed, known_split, lawful_below, lawful_from}
 use Rattle.rk_inv_wellformed.proofs.coordinator.Rows.{placed_has, term_changed, terms_split_rows}
-use Rattle.rk_inv_wellformed.proofs.masters.Work.{number_fits, tenure_fits, AreLimits}
+use Rattle.rk_inv_wellformed.proofs.masters.Work.{tenure_fits, AreLimits}
 use Rattle.rk_inv_wellformed.proofs.lanes.Worlds.{terms_within}
-use Rattle.rk_inv_wellformed.proofs.masters.Handovers.{ends_are_lawful}
 use Rattle.rk_inv_wellformed.proofs.maps.{all_flat, by_found, either_way, found_has, each_or}
 use Rattle.rk_inv_wellformed.proofs.lanes.Events.{has_no_fault, no_inner, no_second}
 use Rattle.rk_inv_wellformed.proofs.masters.Changes.{formed_with_tablet}
@@ -93,24 +88,12 @@ pub record HasTenure (limits : Limits) (row : Row) : Type 0 where
 
 -- its tenure
 formed_tenure : {limits : Limits} {row : Row} → HasTenure limits row → IsFormedTenure limits (row_tenure row)
-formed_tenure {limits} {row} stood =
-    let term : IsFormedNumber limits row.term = omega (arith, stood.formed.term, stood.term) in
-    assumption
+formed_tenure {limits} {row} stood = grind arith
 
 module _ (limits : Limits) (are : AreLimits limits) where
-  -- a master that is there
-  fits_master : (least : ℕ) {master : ℕ} → least ≤ 1 → IsMaster limits.masters master → IsNumber w8 least master
-  fits_master least few there = omega (arith, there, are)
-
   -- an owner that is there, if there is one
   lawful_owner : (owner : Option ℕ) → IfSome owner (IsMaster limits.masters) → IsLawfulOwner owner
-  lawful_owner None there = tt
-  lawful_owner (Some owner) there = fits_master 1 (omega arith) there
-
-  -- the members of a lineage
-  lawful_lineage : (lineage : List Member) → All (IsFormedMember limits) lineage → AllByRecursion IsLawfulMember lineage
-  lawful_lineage lineage members = recursion_from_All IsLawfulMember lineage
-      (λ place other within. (fits_master 0 (omega arith) (members place other within).master, (members place other within).from))
+  lawful_owner owner there = grind arith
 
   -- ---- what the coordinator sends
 
@@ -124,15 +107,11 @@ module _ (limits : Limits) (are : AreLimits limits) where
 
   -- a master is told that it owns a tablet
   formed_own : {master : ℕ} {row : Row} → IsMaster limits.masters master → HasTenure limits row → IsFormedMessage limits (own_to master row)
-  formed_own {master} {row} there stood =
-      let tenure = formed_tenure stood in
-      sent_to (Node.Master master) (Body.Own (row_tenure row)) there (tenure_fits are tenure) tenure
+  formed_own {master} {row} there stood = grind (arith, formed_tenure, sent_to, row_tenure, tenure_fits)
 
   -- or that another one owns it
   formed_release : {master : ℕ} {row : Row} → IsMaster limits.masters master → HasTenure limits row → IsFormedMessage limits (release_to master row)
-  formed_release {master} {row} there stood =
-      let tenure = formed_tenure stood in
-      sent_to (Node.Master master) (Body.Release (row_tenure row)) there (tenure_fits are tenure) tenure
+  formed_release {master} {row} there stood = grind (arith, formed_tenure, sent_to, row_tenure, tenure_fits)
 
   -- the answer to a look-up
   formed_located : (sender : Node) (found : Option Row) → IsThere limits sender → IfSome found (HasTenure limits) → All (IsFormedMessage limits) (located sender found)
@@ -279,15 +258,10 @@ module _ (limits : Limits) (coordinator : Coordinator) (may : MaySend limits coo
       (λ row stood there. rebuilt_answers sender message row.phase lawful.place (assumption) stood there)
   report_answers sender _ lawful says = no_answer
 
-  -- what a client sent
-  question_answers : (client : ℕ) (body : Body) → IsThere limits (Node.Client client) → Answers limits coordinator (question coordinator client body)
-  question_answers client body there = grind (arith, same_answer, located, row_with, formed_located, found_row, has, by_found, no_answer)
-
   -- by its sender
   told_answers : (sender : Node) (body : Body) → IsThere limits sender → IsLawfulBody body → IsFormedBody limits sender body → Answers limits coordinator (told_coordinator coordinator sender body)
-  told_answers (Node.Client client) body there lawful says = question_answers client body there
-  told_answers (Node.Master master) body there lawful says = report_answers master body lawful says
-  told_answers _ body there lawful says = no_answer
+  told_answers sender body there lawful says =
+      grind (arith, report_answers, no_answer, same_answer, located, row_with, formed_located, found_row, has, by_found)
 
 -- what a well formed coordinator, whose terms have stood, makes of a well formed message
 pub formed_coordinator_step : {limits : Limits} {coordinator : Coordinator} {message : Message} → AreLimits limits → IsFormedCoordinator limits coordinator → HasRowRoom limits coordinator → IsFormedMessage limits message → Answers limits coordinator (coordinator_step coordinator message)
@@ -304,37 +278,10 @@ module _ (limits : Limits) (coordinator : Coordinator) (may : MaySend limits coo
       record { floor = omega (arith, some); told = record { each = All-nil _; rising = tt } } in
       each_or (λ number handed. IsFormedHanded limits handed) _ coordinator.handed tablet nothing may.formed.handed
 
-  -- the message of a duty
-  duty_sent : {to : ℕ} (body : Body) → IsMaster limits.masters to → IsLawfulBody body → IsFormedBody limits Node.Coordinator body → All (IsFormedMessage limits) (from_coordinator (Node.Master to) body ∷ [])
-  duty_sent {to} body there lawful says = only_message limits may.are
-      (sent_to limits may.are (Node.Master to) body there lawful says)
-
   -- what it does for a row
   formed_duty : {row : Row} (phase : Phase) → HasTenure limits row → IsFormedPhase limits phase → All (IsFormedMessage limits) (row_duty coordinator row phase)
-  formed_duty (Owned master from) stood there = All-nil _
-  formed_duty {row} (Opening source sfrom target None) stood there =
-      let tenure = formed_tenure stood in
-      duty_sent (Body.Prepare (record { tenure = row_tenure row; range = row.range })) there.1.master
-      (tenure_fits may.are tenure, any_range stood.formed.range) (tenure, stood.formed.range)
-  formed_duty {row} (Opening source sfrom target (Some dfrom)) stood there =
-      let tenure = formed_tenure stood in
-      duty_sent (Body.Close (row_tenure row)) there.0.master (tenure_fits may.are tenure) tenure
-  formed_duty {row} (Moving source sfrom target dfrom) stood there =
-      let tenure = formed_tenure stood in
-      let handed = get_or (record { floor = 1; ends = [] }) coordinator.handed row.tablet in
-      let told = handed_is_formed row.tablet (omega (arith, stood.term, stood.formed.term)) in
-      duty_sent (Body.Grant (record { tenure = row_tenure row; source = source; floor = handed.floor; ends = handed.ends })) there.1.master (
-        tenure_fits may.are tenure,
-        fits_master limits may.are 0 (omega arith) there.0.master,
-        number_fits 0 handed.floor may.are (omega arith) told.floor.last,
-        ends_are_lawful limits handed.ends told.told.each,
-      )
-      (assumption there)
-  formed_duty {row} (Rebuilding lineage to) stood there =
-      let tenure = formed_tenure stood in
-      duty_sent (Body.Rebuild (record { tenure = row_tenure row; range = row.range; lineage = lineage })) there.1
-      (record { tenure = tenure_fits may.are tenure; range = any_range stood.formed.range; lineage = lawful_lineage limits may.are lineage there.0 })
-      (assumption there)
+  formed_duty phase stood there =
+      grind (arith, handed_is_formed, recursion_from_All)
 
 -- what a well formed coordinator, whose terms have stood, sends on its turn
 pub formed_coordinator_turn : {limits : Limits} {coordinator : Coordinator} → AreLimits limits → IsFormedCoordinator limits coordinator → HasRowRoom limits coordinator → All (IsFormedMessage limits) (coordinator_turn coordinator)
@@ -395,11 +342,6 @@ module _ (limits : Limits) (coordinator : Coordinator) (formed : IsFormedCoordin
 
 -- ---- the rows
 
--- a split that is not refused is one that the rows allow
-rows_allow : (coordinator : Coordinator) (row : Row) (phase : Phase) (at new : ℕ) → tablet_split_fault_by coordinator row phase at new ≡ None → split_fault coordinator.rows row.tablet at new ≡ None
-rows_allow coordinator row (Owned master from) at new none = no_inner MoveError.Map (split_fault coordinator.rows row.tablet at new) none
-rows_allow coordinator row _ at new none = absurd (cc none)
-
 module _ (limits : Limits) (coordinator : Coordinator) (formed : IsFormedCoordinator limits coordinator) where
   -- a row that is found is split
   with_rows_split_changes : (tablet : ℕ) (row : Row) (at new : ℕ) → row_of coordinator.rows tablet ≡ Some row → split_fault coordinator.rows row.tablet at new ≡ None → IsNumber w32 1 new → IsFormedChange limits coordinator (with_rows_split coordinator row at new)
@@ -429,7 +371,7 @@ module _ (limits : Limits) (coordinator : Coordinator) (formed : IsFormedCoordin
   -- a tablet is split, where that is not refused
   pub formed_rows_split : (tablet at new : ℕ) → tablet_split_fault coordinator tablet at new ≡ None → IsNumber w32 1 new → IsFormedChange limits coordinator (rows_split coordinator tablet at new)
   formed_rows_split tablet at new none number =
-      grind (arith, by_found, tablet_split_fault_of, rows_split_of, row_of, with_rows_split_changes, rows_allow)
+      grind (arith, by_found, tablet_split_fault_of, rows_split_of, row_of, with_rows_split_changes, no_inner, split_fault)
 
 -- the term that both rows have then has stood, where those of all rows have
 pub split_term_stood : (limits : Limits) (coordinator : Coordinator) (tablet at new : ℕ) (row : Row) → row_of coordinator.rows tablet ≡ Some row → HasRowRoom limits (rows_split coordinator tablet at new) → IsFormedNumber limits (row.term + 1)
@@ -451,9 +393,7 @@ split_term_stood limits coordinator tablet at new row found room = record {
 
 -- and 1 has stood where a new row has
 pub one_has_stood : (limits : Limits) (coordinator : Coordinator) (row : Row) → row.term ≡ 1 → HasRowRoom limits (with_row coordinator row) → 1 ≤ limits.top
-one_has_stood limits coordinator row first room =
-    let below : row.term ≤ limits.top = placed_has (λ r. r.term ≤ limits.top) row coordinator.rows room.terms in
-    omega arith
+one_has_stood limits coordinator row first room = grind (arith, placed_has)
 
 -- ---- the master
 
@@ -465,9 +405,7 @@ serving_formed {limits} {source} lawful term counter =
 
 -- a half of a tablet, under its own number or a new one
 half_is_formed : {limits : Limits} {number half : ℕ} {tablet : Tablet} {range : Range} {term : ℕ} → IsNumber w32 1 half → IsLawfulRange range → IsFormedNumber limits term → IsFormedTablet limits number tablet → IsFormedTablet limits half (with_half tablet range term)
-half_is_formed {limits} {tablet} {range} {term} is lawful stood old =
-    formed_tablet (with_half tablet range term) is (serving_formed lawful stood old.counter)
-    (assumption (old, All-nil (IsFormedGathered limits), All-nil (IsFormedEnd limits), none_twice))
+half_is_formed {limits} {tablet} {range} {term} is lawful stood old = grind (arith, formed_tablet, with_half, serving_formed, none_twice)
 
 -- a tablet that is not known has no parts
 nothing_parts : (at : ℕ) → has_parts no_tablet.handover.range at ≡ false

@@ -3,13 +3,12 @@
 use Rattle.std.proofs.Common.{◌≡◌, ◌≤◌, ◌<◌, ◌+◌, ℕ, zero, suc, Bool, true, false, not, cond, ◌==◌, ◌&&◌, ◌||◌, List, [], ◌∷◌, ◌++◌, All}
 use Rattle.std.proofs.Common.{IfSome, length, filter, find, get_or, fold, map, Option, None, Some, refl, sym, ap, subst, ◌∙◌, arith}
 use Rattle.std.proofs.Common.{unwrap_or, length-append, ne_eqb}
-use Rattle.rk_inv_wellformed.proofs.Words.{All-append, All-filter, All-head, All-map, All-push, All-tail}
-use Rattle.rk_inv_wellformed.proofs.Words.{length-range_with_len, AllByRecursion, range_with_len, numbers, has, Member, IsTabletMap}
-use Rattle.rk_inv_wellformed.proofs.Words.{is_covered, Phase, Moving, Opening, Owned, Rebuilding, Row, Coordinator, IsFormedCoordinator}
-use Rattle.rk_inv_wellformed.proofs.Words.{IsFormedRow, IsWellFormed, IsFormedMember, Limits, coordinator_notice, IsMaster, World}
-use Rattle.rk_inv_wellformed.proofs.Words.{crashed_masters, has_crashed, member, Precedes, is_noticed, SomeLives, cond_both}
-use Rattle.rk_inv_wellformed.proofs.Words.{filter_passes, list_any_none, lowest_left, is_named, next_rebuilder, notice_one, notice_order}
-use Rattle.rk_inv_wellformed.proofs.Words.{phase_noticed, row_noticed}
+use Rattle.rk_inv_wellformed.proofs.Words.{All-append, All-filter, All-head, All-map, All-push, All-tail, length-range_with_len}
+use Rattle.rk_inv_wellformed.proofs.Words.{AllByRecursion, range_with_len, numbers, has, Member, IsTabletMap, is_covered, Phase, Moving}
+use Rattle.rk_inv_wellformed.proofs.Words.{Opening, Owned, Rebuilding, Row, Coordinator, IsFormedCoordinator, IsFormedRow, IsWellFormed}
+use Rattle.rk_inv_wellformed.proofs.Words.{IsFormedMember, Limits, coordinator_notice, IsMaster, World, crashed_masters, has_crashed}
+use Rattle.rk_inv_wellformed.proofs.Words.{member, Precedes, is_noticed, SomeLives, cond_both, filter_passes, list_any_none, lowest_left}
+use Rattle.rk_inv_wellformed.proofs.Words.{is_named, next_rebuilder, notice_one, notice_order, phase_noticed, row_noticed}
 use Rattle.rk_inv_wellformed.proofs.coordinator.Rows.{AreTermsUpTo, Cover, IsFormedPhase, formed_at_phase, one_named, phase_of_formed}
 use Rattle.rk_inv_wellformed.proofs.coordinator.Rows.{terms_below, two_named}
 use Rattle.rk_inv_wellformed.proofs.maps.{by_found, filter_few, range_within, found_has}
@@ -55,21 +54,11 @@ some_where P false x other it has = has
 -- the phase of a row, where it changes
 phase_is_formed : (limits : Limits) (coordinator : Coordinator) (dead : ℕ) (phase : Phase) → IsMaster limits.masters dead → IsMaster limits.masters (lowest_left coordinator) → IsFormedPhase limits phase → IfSome (phase_noticed coordinator dead phase) (IsFormedPhase limits)
 phase_is_formed limits coordinator dead (Owned master from) gone lowest there =
-    some_where (IsFormedPhase limits) (master == dead) (Rebuilding (member dead from ∷ []) (lowest_left coordinator)) None
-    (one_named limits (member dead from) (record { master = gone; from = there.from }), lowest, omega arith)
-    tt
+    grind (arith, some_where, member, lowest_left, one_named, there.from)
 phase_is_formed limits coordinator dead (Opening source sfrom target dfrom) gone lowest there =
-    some_where (IsFormedPhase limits) (source == dead) (Rebuilding (member dead sfrom ∷ []) (lowest_left coordinator)) _
-    (one_named limits (member dead sfrom) (record { master = gone; from = there.0.from }), lowest, omega arith)
-    (some_where (IsFormedPhase limits) (target == dead) (Rebuilding (member source sfrom ∷ []) source) None
-    (one_named limits (member source sfrom) there.0, there.0.master, omega arith)
-    tt)
+    grind (arith, some_where, member, lowest_left, one_named, there.0.from, there.0, there.0.master)
 phase_is_formed limits coordinator dead (Moving source sfrom target dfrom) gone lowest there =
-    some_where (IsFormedPhase limits) (source == dead) (Rebuilding (member dead sfrom ∷ member target dfrom ∷ []) target) _
-    (two_named limits (member dead sfrom) (member target dfrom) (record { master = gone; from = there.0.from }) there.1, there.1.master, omega arith)
-    (some_where (IsFormedPhase limits) (target == dead) (Rebuilding (member source sfrom ∷ member dead dfrom ∷ []) source) None
-    (two_named limits (member source sfrom) (member dead dfrom) there.0 (record { master = gone; from = there.1.from }), there.0.master, omega arith)
-    tt)
+    grind (arith, some_where, member, two_named, there.0.from, there.1, there.1.master, there.0, there.1.from, there.0.master)
 phase_is_formed limits coordinator dead (Rebuilding lineage to) gone lowest there =
     some_where (IsFormedPhase limits) (to == dead) (Rebuilding lineage (next_rebuilder coordinator lineage)) None
     (there.0, next_is_there limits coordinator lineage there.0 lowest, there.2) tt
@@ -89,13 +78,8 @@ record Stays (change : Row → Row) : Type 0 where
 -- what precedes others precedes them then
 precedes_changed : (change : Row → Row) (row : Row) (rows : List Row) → Stays change → AllByRecursion (Precedes row) rows → AllByRecursion (Precedes (change row)) (map change rows)
 precedes_changed change row [] stays all = tt
-precedes_changed change row (first ∷ rest) stays all = (
-  record {
-    smaller = omega (arith, stays.tablet row, stays.tablet first, all.0.smaller);
-    apart = rw (stays.range row, stays.range first) all.0.apart;
-  },
-  precedes_changed change row rest stays all.1,
-)
+precedes_changed change row (first ∷ rest) stays all =
+    grind (arith, stays.tablet, all.0.smaller, stays.range, all.0.apart, all.1, (precedes_changed change row rest stays all.1))
 
 -- a map stays one
 map_changed : (change : Row → Row) (rows : List Row) → Stays change → IsTabletMap rows → IsTabletMap (map change rows)
@@ -187,10 +171,7 @@ module _ (limits : Limits) (w : World) (living : ℕ) (there : IsMaster limits.m
   notices_are_formed : (order : List ℕ) {coordinator : Coordinator} → coordinator.masters ≡ limits.masters → All (IsGone limits w) order
       → All (λ master. has_crashed w master ≡ true) coordinator.noticed → IsFormedCoordinator limits coordinator
       → IsNoticed limits w (length order) coordinator (fold notice_one coordinator order)
-  notices_are_formed [] {coordinator} same all noticed formed =
-      let terms : (most : ℕ) → AreTermsUpTo most coordinator.rows → AreTermsUpTo (most + 0) coordinator.rows =
-      λ most below. terms_below most (most + 0) coordinator.rows (omega arith) below in
-      assumption
+  notices_are_formed [] {coordinator} same all noticed formed = grind (arith, terms_below, coordinator.rows)
   notices_are_formed (dead ∷ rest) {coordinator} same all noticed formed =
       let first = notice_one_is_formed same (All-head (IsGone limits w) dead rest all) noticed formed in
       let later = notices_are_formed rest same (All-tail (IsGone limits w) dead rest all) first.noticed first.formed in
@@ -225,14 +206,7 @@ order_has P rows dead list all =
 -- the parts of a list by two tests have no more elements than it
 parts_shorter : (a b : ℕ → Bool) (list : List ℕ) → length (filter (λ n. not (a n)) list) + (length (filter (λ n. a n && not (b n)) list) + length (filter (λ n. a n && b n) list)) ≤ length list
 parts_shorter a b [] = omega arith
-parts_shorter a b (first ∷ rest) =
-    go (a first) (b first) (filter (λ n. not (a n)) rest) (filter (λ n. a n && not (b n)) rest) (filter (λ n. a n && b n) rest)
-    (parts_shorter a b rest)
-  where
-    go : (p q : Bool) (xs ys zs : List ℕ) → length xs + (length ys + length zs) ≤ length rest → length (cond (not p) (first ∷ xs) xs) + (length (cond (p && not q) (first ∷ ys) ys) + length (cond (p && q) (first ∷ zs) zs)) ≤ suc (length rest)
-    go true true xs ys zs shorter = omega arith
-    go true false xs ys zs shorter = omega arith
-    go false q xs ys zs shorter = omega arith
+parts_shorter a b (first ∷ rest) = grind (arith, (parts_shorter a b rest))
 
 -- the order has no more masters than are noticed
 order_shorter : (rows : List Row) (dead : ℕ) (list : List ℕ) → length (notice_order rows dead list) ≤ length list

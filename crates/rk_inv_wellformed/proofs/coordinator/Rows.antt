@@ -61,9 +61,8 @@ known_by first rest tablet later = cond_both _ _ _ (λ (found : Option Row). is_
 -- a row that is placed is there
 pub known_placed : (row : Row) (rows : List Row) → IsKnown (placed row rows) row.tablet
 known_placed row [] = known_by row [] row.tablet (λ apart. absurd (eqb-false row.tablet row.tablet apart refl))
-known_placed row (first ∷ rest) = either_way (λ (now : List Row). IsKnown now row.tablet) (nat_le row.tablet first.tablet)
-    (known_by row (first ∷ rest) row.tablet (λ apart. absurd (eqb-false row.tablet row.tablet apart refl)))
-    (known_by first (placed row rest) row.tablet (λ apart. known_placed row rest))
+known_placed row (first ∷ rest) =
+    grind (arith, either_way, nat_le, known_by, eqb-false, placed, row.tablet, first.tablet, (known_placed row rest))
 
 -- a row in the place of another one leaves all tablets known
 known_replaced : (new : Row) (tablet : ℕ) (rows : List Row) (other : ℕ) → new.tablet ≡ tablet → IsKnown rows other → IsKnown (replaced tablet new rows) other
@@ -154,10 +153,8 @@ phase_of_formed {limits} {row} formed = go row.phase formed.named formed.few
 -- and what such a phase names
 phase_named : (limits : Limits) (phase : Phase) → IsFormedPhase limits phase → All (IsFormedMember limits) (named_in phase) × (length (lineage_of phase) ≤ 2)
 phase_named limits (Owned master from) there = (one_named limits (member master from) there, omega arith)
-phase_named limits (Opening source sfrom target dfrom) there =
-    (two_named limits (member source sfrom) (member target (unwrap_or dfrom 0)) there.0 there.1, omega arith)
-phase_named limits (Moving source sfrom target dfrom) there =
-    (two_named limits (member source sfrom) (member target dfrom) there.0 there.1, omega arith)
+phase_named limits (Opening source sfrom target dfrom) there = grind (arith, two_named, member, there.0, there.1)
+phase_named limits (Moving source sfrom target dfrom) there = grind (arith, two_named, member, there.0, there.1)
 phase_named limits (Rebuilding lineage to) there =
     (All-push (IsFormedMember limits) lineage (member to 0) there.0 (record { master = there.1; from = omega arith }), there.2)
 
@@ -185,9 +182,7 @@ formed_changed_rows {limits} {rows} tablet term phase first there formed =
 
 -- they cover what they covered
 pub covered_changed : (rows : List Row) (tablet term : ℕ) (phase : Phase) → Cover (changed_rows rows tablet term phase) rows
-covered_changed rows tablet term phase =
-    by_found (λ found. Cover (turned found rows tablet term phase) rows) (row_of rows tablet) (λ none table hash covered. covered)
-    (λ row found table hash covered. covered_replaced row (at_phase row term phase) tablet rows table hash found refl ∙ covered)
+covered_changed rows tablet term phase = grind (arith, by_found, row_of, covered_replaced)
 
 -- and their terms stay below what bounds the new one too
 pub terms_changed : (most : ℕ) (rows : List Row) (tablet term : ℕ) (phase : Phase) → term ≤ most → AreTermsUpTo most rows → AreTermsUpTo most (changed_rows rows tablet term phase)
@@ -197,9 +192,7 @@ terms_changed most rows tablet term phase below all =
 
 -- all tablets are known that were
 pub known_changed : (rows : List Row) (tablet term : ℕ) (phase : Phase) (other : ℕ) → IsKnown rows other → IsKnown (changed_rows rows tablet term phase) other
-known_changed rows tablet term phase other known =
-    by_found (λ found. IsKnown (turned found rows tablet term phase) other) (row_of rows tablet) (λ none. known)
-    (λ row found. known_replaced (at_phase row term phase) tablet rows other (number_of rows tablet row found) known)
+known_changed rows tablet term phase other known = grind (arith, by_found, row_of, known_replaced, number_of)
 
 -- where the tablet is known, its new term is one that they have
 pub term_changed : (most : ℕ) (rows : List Row) (tablet term : ℕ) (phase : Phase) → IsKnown rows tablet → AreTermsUpTo most (changed_rows rows tablet term phase) → term ≤ most
@@ -263,8 +256,7 @@ formed_split_rows limits rows tablet at new number none formed =
 -- they cover what they covered
 pub covered_split_rows : (rows : List Row) (tablet at new : ℕ) → split_fault rows tablet at new ≡ None → Cover (split_rows rows tablet at new) rows
 covered_split_rows rows tablet at new none table hash covered =
-    by_found (λ found. is_covered (divided found rows tablet at new) table hash ≡ true) (row_of rows tablet) (λ nothing. covered)
-    (λ row found. covered_split rows tablet at new row table hash found (split_is_free rows tablet at new row found none).splits ∙ covered)
+    grind (arith, by_found, is_covered, divided, row_of, covered_split, split_is_free)
 
 -- and no term is greater than before
 pub terms_split_rows : (most : ℕ) (rows : List Row) (tablet at new : ℕ) → AreTermsUpTo most rows → AreTermsUpTo most (split_rows rows tablet at new)

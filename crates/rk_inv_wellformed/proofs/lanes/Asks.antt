@@ -1,28 +1,24 @@
 -- What a client sends on its turn is well formed, and its session may act after its turn and after each answer; and a lane stays well formed
 -- when a client asks there and when it takes an answer.
-use Rattle.std.proofs.Common.{◌≡◌, ◌≤◌, ◌++◌, ℕ, Bool, true, false, ◌||◌, ◌&&◌, [], ◌∷◌, All, Option, None, Some, is_some, refl, sym, ap}
-use Rattle.std.proofs.Common.{subst, ◌∙◌, slice_get, IfSome, Ok, not, unwrap_or, ◌==◌, eqb-true, ◌<◌, max, List}
-use Rattle.std.proofs.Common.{arith, filter, w64}
-use Rattle.rk_inv_wellformed.proofs.Words.{and_parts, cases_eq, All-cons, All-nil, get_other, get_same, get, Call, Body}
-use Rattle.rk_inv_wellformed.proofs.Words.{Message, Visited, accept, ask, ClientTurn, Session, session_accept, IsFormedLedger}
-use Rattle.rk_inv_wellformed.proofs.Words.{IsWellFormed, Ledger, asked_by, is_added, seen_of, IsFormedMessage, Limits, limits_of}
-use Rattle.rk_inv_wellformed.proofs.Words.{IsLawfulCall, MayAct, where_true, worn, HasRoom, with_sends, World, with_all_sent, with_ledger}
-use Rattle.rk_inv_wellformed.proofs.Words.{LastCall, Taken, accept_by, accepting, ask_by, asking, asking_by, fits_with}
-use Rattle.rk_inv_wellformed.proofs.Words.{is_asked_here, ledger_asked, ledger_requested, ledger_taken, untouched, call_lane, range_of}
-use Rattle.rk_inv_wellformed.proofs.Words.{turn_by, IsFormedLast, with_accepted, with_asked, accept_refusal, ask_refusal, worn_session}
-use Rattle.rk_inv_wellformed.proofs.Words.{cond_both, All-append, All-filter, All-push, All-set, meets, Answer, Outcome, Node}
-use Rattle.rk_inv_wellformed.proofs.Words.{IsLawfulBody, IsClient, IsFormedBody, IsMaster, MOST_NUMBER, Reply, IsCached, not-false}
-use Rattle.rk_inv_wellformed.proofs.Words.{is_asked, is_call, is_last, is_next, turn_of, MOST_REQUESTS, accepted_by, accepted_of}
-use Rattle.rk_inv_wellformed.proofs.Words.{answer_accepted, done, has_call, located_accepted, looking_up, owned_range, ranges_in}
-use Rattle.rk_inv_wellformed.proofs.Words.{receipt_of, requesting, turn_to, with_range, without_range, Accepted, is_accepted}
-use Rattle.rk_inv_wellformed.proofs.Words.{IsAfterStart}
+use Rattle.std.proofs.Common.{◌≡◌, ◌≤◌, ◌++◌, ℕ, Bool, true, false, ◌||◌, [], ◌∷◌, All, Option, None, Some, refl, sym, ap, subst, ◌∙◌}
+use Rattle.std.proofs.Common.{slice_get, IfSome, Ok, not, eqb-true, ◌<◌, max, List, arith, filter, w64}
+use Rattle.rk_inv_wellformed.proofs.Words.{and_parts, cases_eq, All-cons, All-nil, get_other, get_same, get, Call, Body, Message, Visited}
+use Rattle.rk_inv_wellformed.proofs.Words.{accept, ask, ClientTurn, Session, session_accept, IsFormedLedger, IsWellFormed, Ledger, asked_by}
+use Rattle.rk_inv_wellformed.proofs.Words.{is_added, seen_of, IsFormedMessage, Limits, limits_of, IsLawfulCall, MayAct, where_true, worn}
+use Rattle.rk_inv_wellformed.proofs.Words.{HasRoom, with_sends, World, with_all_sent, with_ledger, LastCall, Taken, accept_by, accepting}
+use Rattle.rk_inv_wellformed.proofs.Words.{ask_by, asking, asking_by, fits_with, is_asked_here, ledger_asked, ledger_requested}
+use Rattle.rk_inv_wellformed.proofs.Words.{ledger_taken, untouched, call_lane, range_of, turn_by, IsFormedLast, with_accepted, with_asked}
+use Rattle.rk_inv_wellformed.proofs.Words.{accept_refusal, ask_refusal, worn_session, cond_both, All-append, All-filter, All-push, All-set}
+use Rattle.rk_inv_wellformed.proofs.Words.{meets, Answer, Outcome, Node, IsLawfulBody, IsClient, IsFormedBody, IsMaster, MOST_NUMBER, Reply}
+use Rattle.rk_inv_wellformed.proofs.Words.{IsCached, not-false, is_asked, is_call, is_last, is_next, turn_of, answer_accepted, done}
+use Rattle.rk_inv_wellformed.proofs.Words.{has_call, located_accepted, looking_up, owned_range, ranges_in, receipt_of, requesting}
+use Rattle.rk_inv_wellformed.proofs.Words.{with_range, without_range, Accepted, is_accepted, IsAfterStart}
 use Rattle.rk_message.specs.declared.calls.Located.{Located}
 use Rattle.rk_inv_wellformed.proofs.lanes.Events.{does_not_hold, no_second}
 use Rattle.rk_inv_wellformed.proofs.lanes.Ledgers.{formed_accepted, formed_asked, formed_requested, last_stamp_accepted}
 use Rattle.rk_inv_wellformed.proofs.lanes.Works.{top_rises, formed_after_change}
 use Rattle.rk_inv_wellformed.proofs.lanes.Worlds.{HasClientsOf, added_is_client, kept_with_all_sent, kept_with_ledger, more_limits}
-use Rattle.rk_inv_wellformed.proofs.lanes.Worlds.{counters_in, seen_within, stamps_seen, terms_in, top_is_limit, formed_as}
-use Rattle.rk_inv_wellformed.proofs.lanes.Worlds.{formed_standing}
+use Rattle.rk_inv_wellformed.proofs.lanes.Worlds.{counters_in, seen_within, stamps_seen, terms_in, top_is_limit, formed_as, formed_standing}
 use Rattle.rk_inv_wellformed.proofs.maps.{all_in_map, by_found, either_way, all_at, found_has}
 use Rattle.rk_inv_wellformed.proofs.masters.Work.{from_zero64, hash_fits}
 
@@ -73,15 +69,9 @@ module _ (limits : Limits) (session : Session) (within : MayActWithin limits ses
   formed_request : {located : Located} {master : ℕ} → IsCached limits.masters located → IsMaster limits.masters master → IsFormedTurn limits (requesting session call located.tablet master)
   formed_request {located} cached there = grind (arith, w64, from_zero64)
 
-  formed_to : {located : Located} (owner : Option ℕ) → IsCached limits.masters located → IfSome owner (IsMaster limits.masters) → IsFormedTurn limits (turn_to session call located.tablet owner)
-  formed_to None cached there = formed_lookup
-  formed_to (Some master) cached there = formed_request cached there
-
   -- the turn of a client with this call, by the range that it cached
   pub formed_turn : (found : Option Located) → IfSome found (IsCached limits.masters) → IsFormedTurn limits (turn_by session call found)
-  formed_turn None cached = formed_lookup
-  formed_turn (Some located) cached =
-      either_way (IsFormedTurn limits) (session.requests == MOST_REQUESTS) formed_lookup (formed_to located.owner cached cached.owner)
+  formed_turn found cached = grind (arith, formed_lookup, either_way, formed_request)
 
 -- ---- answers
 
@@ -116,16 +106,9 @@ module _ (limits : Limits) (session : Session) (may : MayAct limits.masters sess
   acts_answered call reply (Answer.Moved tablet) = acts_without limits.masters session may call
   acts_answered call reply (Answer.NotYet key) = may
 
-  acts_by : (from : Node) (call : Call) (body : Body) → IsLawfulBody body → IsFormedBody limits from body → MayAct limits.masters (accepted_by session call body).session
-  acts_by from call body lawful says = grind (arith, acts_located, either_way, acts_answered)
-
-  acts_of : (from : Node) (outstanding : Option Call) (body : Body) → IsLawfulBody body → IsFormedBody limits from body → MayAct limits.masters (accepted_of session outstanding body).session
-  acts_of from None body lawful says = may
-  acts_of from (Some call) body lawful says = acts_by from call body lawful says
-
   -- a session may act once it took what a well formed message says
   pub acts_accepted : (from : Node) (body : Body) → IsLawfulBody body → IsFormedBody limits from body → MayAct limits.masters (session_accept session body).session
-  acts_accepted from body lawful says = acts_of from session.outstanding body lawful says
+  acts_accepted from body lawful says = grind (arith, acts_located, either_way, acts_answered)
 
 -- what becomes of a lane and a session is well formed
 pub record IsFormedVisit (w : World) (visited : Visited) : Type 0 where
@@ -148,15 +131,9 @@ record HasSeen (ledger : Ledger) (client seen : ℕ) : Type 0 where
   found : get ledger.clients client ≡ Some (Some last)
   seen_is : last.seen ≡ seen
 
--- a client with a last call stands in the map
-found_asked : (clients : Option (Option LastCall)) (last : LastCall) → unwrap_or clients None ≡ Some last → clients ≡ Some (Some last)
-found_asked None last is = absurd (cc is)
-found_asked (Some asked) last is = ap Some is
-
 -- a call that was asked was asked with what its client had seen
 seen_where_asked : (ledger : Ledger) (session : Session) (call : Call) → is_asked ledger session call ≡ true → HasSeen ledger session.client session.seen
-seen_where_asked ledger session call asked =
-    grind (arith, by_found, asked_by, is_last, found_asked, eqb-true, and_parts, is_call, is_accepted)
+seen_where_asked ledger session call asked = grind (arith, by_found, asked_by, is_last, eqb-true, and_parts, is_call, is_accepted)
 
 -- so it is once the call was asked
 seen_asked : (ledger : Ledger) (session : Session) (call : Call) → HasSeen (ledger_asked ledger session call) session.client session.seen
@@ -167,10 +144,6 @@ seen_asked ledger session call = asked_is (λ now. HasSeen now session.client se
       found = get_same ledger.clients session.client (Some (now_asked session call)) session.client refl;
       seen_is = refl;
     })
-
--- who was added is added once the call was asked
-added_asked : (ledger : Ledger) (session : Session) (call : Call) → HasClientsOf (ledger_asked ledger session call) ledger
-added_asked ledger session call client added = grind (arith, asked_is, is_added, get_same, get_other, cases_eq)
 
 -- the clients stay when a request is saved
 pub clients_requested : (ledger : Ledger) (client : ℕ) (message : Message) (body : Body) → (ledger_requested ledger client message body).clients ≡ ledger.clients
@@ -198,9 +171,7 @@ module _ (w : World) (session : Session) (call : Call) (turned : ClientTurn) whe
   after_asking = (with_sends (with_ledger w asked_ledger) (turned.message ∷ [])).world
 
   asked_has : HasClientsOf asked_ledger w.ledger
-  asked_has client added = subst (λ clients. is_some (get clients client) ≡ true)
-      (sym (clients_requested (ledger_asked w.ledger session call) session.client turned.message turned.message.body))
-      (added_asked w.ledger session call client added)
+  asked_has client added = grind (arith, clients_requested, ledger_asked, asked_is, is_added, get_same, get_other, cases_eq)
 
   -- within the limits after it the session may act
   acts_within : is_added w.ledger session.client ≡ true → MayAct w.coordinator.masters session → HasRoom after_asking → MayActWithin (limits_of after_asking) session
@@ -250,9 +221,7 @@ formed_asking {w} {session} may start none room formed = go session.outstanding 
     last call is fitting new = record {
       lawful = subst (λ o. IfSome o IsLawfulCall) is may.call;
       own = (subst (λ o. IfSome o (λ call. (call.client ≡ session.client) × (call.seq ≡ session.last))) is may.own).0;
-      here = eqb-true (call_lane call) w.lane
-          (and_parts (call_lane call == w.lane) (is_next w.ledger session call (asked_by w.ledger session.client))
-          (or_second (is_asked w.ledger session call) (call_lane call == w.lane && is_next w.ledger session call (asked_by w.ledger session.client)) fitting new)).0;
+      here = grind (arith, eqb-true, call_lane, and_parts, is_next, asked_by, or_second, is_asked, w.lane, w.ledger, session.client);
       after = subst (λ o. IfSome o (IsAfterStart w.base)) is start;
     }
 

@@ -1,12 +1,12 @@
 -- What a backup answers is well formed: the entries that a copy spells are those of a log.
 use Rattle.std.proofs.Common.{◌≡◌, ◌-◌, ◌==◌, ℕ, suc, List, [], ◌∷◌, ◌++◌, All, length, Option, None, Some, refl, ap, subst, sym, ◌∙◌}
 use Rattle.std.proofs.Common.{arith, eqb-true}
-use Rattle.rk_inv_wellformed.proofs.Words.{cond_both, All-append, All-cons, All-head, All-map, All-nil, All-push}
-use Rattle.rk_inv_wellformed.proofs.Words.{All-set, All-tail, Held, Node, entries_of, IsLawfulEntry, spelled, Entry, cut}
-use Rattle.rk_inv_wellformed.proofs.Words.{segments, IsLawfulBody, Body, Called, backup_step, IsFormedMaster, IsFormedBody, IsFormedEntry}
-use Rattle.rk_inv_wellformed.proofs.Words.{IsFormedHeld, IsFormedMessage, IsThere, Limits, Master, as_entries, IsMaster, MayCome}
-use Rattle.rk_inv_wellformed.proofs.Words.{cut_after, has_room, in_last, last_of, with_bytes, numbered, ReadSegment, Append}
-use Rattle.rk_inv_wellformed.proofs.Words.{append_step, master_message, read_step, option_map_or, segment_of, common_front, copied}
+use Rattle.rk_inv_wellformed.proofs.Words.{cond_both, All-append, All-cons, All-head, All-map, All-nil, All-push, All-set, All-tail, Held}
+use Rattle.rk_inv_wellformed.proofs.Words.{Node, entries_of, IsLawfulEntry, spelled, Entry, cut, segments, IsLawfulBody, Body, Called}
+use Rattle.rk_inv_wellformed.proofs.Words.{backup_step, IsFormedMaster, IsFormedBody, IsFormedEntry, IsFormedHeld, IsFormedMessage, IsThere}
+use Rattle.rk_inv_wellformed.proofs.Words.{Limits, Master, as_entries, IsMaster, MayCome, cut_after, has_room, in_last, last_of, with_bytes}
+use Rattle.rk_inv_wellformed.proofs.Words.{numbered, ReadSegment, Append, append_step, read_step, option_map_or, segment_of, common_front}
+use Rattle.rk_inv_wellformed.proofs.Words.{copied}
 use Rattle.rk_outside.specs.Segments.{bytes_of as read_bytes}
 use Rattle.rk_entry.specs.Entries.{spelled_all}
 use Rattle.rk_log.proofs.CutLaws.{spelled_none, spelled_push}
@@ -121,11 +121,6 @@ module _ (limits : Limits) (backup : ℕ) (are : AreLimits limits) (there : IsTh
   read_formed : (master : ℕ) (read : ReadSegment) (log : Segments) (called : Called) → IsMaster limits.masters master → IsFormedBody limits (Node.Master master) (Body.Read read) → IsLawfulBody (Body.Read read) → SpellFormed limits log → All (IsFormedMessage limits) (read_step backup master read log called).sends
   read_formed master read log called from says lawful spells = grind (arith, spelled, copied_spells)
 
-  from_master_formed : {master : ℕ} (body : Body) (log : Segments) (called : Called) → IsMaster limits.masters master → IsFormedBody limits (Node.Master master) body → IsLawfulBody body → MayCome called → SpellFormed limits log → All (IsFormedMessage limits) (master_message backup master body log called).sends
-  from_master_formed body log called from says lawful may spells = grind (arith, append_formed, read_formed)
-
   -- what a backup makes of a well formed message
   pub formed_backup_step : (sender : Node) (body : Body) (log : Segments) (called : Called) → IsThere limits sender → IsFormedBody limits sender body → IsLawfulBody body → MayCome called → SpellFormed limits log → All (IsFormedMessage limits) (backup_step backup sender body log called).sends
-  formed_backup_step (Node.Master master) body log called from says lawful may spells =
-      from_master_formed body log called from says lawful may spells
-  formed_backup_step _ body log called from says lawful may spells = All-nil _
+  formed_backup_step sender body log called from says lawful may spells = grind (arith, append_formed, read_formed)

@@ -1,7 +1,7 @@
 -- A lane stays well formed when a message is forgotten, a client comes, a master crashes while another one is left, and when a request is
 -- sent again.
-use Rattle.std.proofs.Common.{◌≡◌, ◌<◌, ℕ, Bool, true, false, ◌||◌, [], ◌∷◌, ◌++◌, length, Option, None, Some}
-use Rattle.std.proofs.Common.{refl, subst, ◌∙◌, arith, option_map, nat_eq, nat_le, not, ◌&&◌, leb-false}
+use Rattle.std.proofs.Common.{◌≡◌, ◌<◌, ℕ, Bool, true, false, [], ◌∷◌, ◌++◌, length, Option, None, Some, refl, subst, arith, option_map}
+use Rattle.std.proofs.Common.{nat_eq, nat_le, not, ◌&&◌, leb-false}
 use Rattle.rk_inv_wellformed.proofs.Words.{and_parts, cases_eq, All-cons, All-nil, list_any-append, nat_eq_equiv}
 use Rattle.rk_inv_wellformed.proofs.Words.{range_with_len, option_or, get_other, get_same, get, without_message, Called, IsWellFormed}
 use Rattle.rk_inv_wellformed.proofs.Words.{is_added, with_client, IsFormedMessage, limits_of, MayHappen, MOST_CLIENTS, WORN_NUMBER}
@@ -105,9 +105,7 @@ left_after w master another =
     record {
       master = other;
       there = omega (arith, range_within 1 w.coordinator.masters place other within, is);
-      lives = list_any-append (λ dead. nat_eq dead other) w.crashed (master ∷ [])
-          ∙ or_from (has_crashed w other) (nat_eq master other || false) (not-true (has_crashed w other) parts.0)
-          (or_from (nat_eq master other) false (nat_eq_equiv.symm master other ∙ not-true (nat_eq other master) parts.1) refl);
+      lives = grind (arith, list_any-append, nat_eq, or_from, has_crashed, not-true, nat_eq_equiv, w.crashed, parts.0, parts.1);
     }
 
 -- it stays so when a master crashes while another one lives

@@ -1,8 +1,8 @@
 -- The ledger stays well formed when served calls and ends get their records, when a record is accepted, and when a client comes,
 -- asks or has a request saved.
 use Rattle.std.proofs.Common.{◌≡◌, ◌≤◌, ◌<◌, ℕ, zero, suc, ◌+◌, true, false, cond, List, [], ◌∷◌, ◌++◌, length, fold, All, Option, None}
-use Rattle.std.proofs.Common.{Some, is_some, refl, sym, ap, ◌∙◌, arith, slice_get, slice_set, IfSome, not, ◌&&◌, ◌==◌, w32, nat_cmp}
-use Rattle.std.proofs.Common.{length-set, Bool}
+use Rattle.std.proofs.Common.{Some, is_some, refl, ap, ◌∙◌, arith, slice_get, slice_set, IfSome, not, ◌&&◌, ◌==◌, w32, nat_cmp, length-set}
+use Rattle.std.proofs.Common.{Bool}
 use Rattle.rk_inv_wellformed.proofs.Words.{length_push, All-push, All-set, each_insert, in_order_insert, NumberMap, IsInOrder, get}
 use Rattle.rk_inv_wellformed.proofs.Words.{insert, Call, Ended, Outcome, IsNumber, Message, Rebuilt, outcome_of, IsFormedLedger}
 use Rattle.rk_inv_wellformed.proofs.Words.{last_stamp, Ledger, asked_by, is_added, seen_of, with_client, with_rebuilt, IsFormedMessage}
@@ -46,9 +46,7 @@ stamps_pushed journal placed greater are =
 -- the last stamp stays when a record is accepted
 last_accepted : (stamp : ℕ) (journal : List Placed) (place : ℕ) (placed : Placed) → slice_get journal place ≡ Some placed → last_stamp_from stamp (slice_set journal place (as_accepted placed)) ≡ last_stamp_from stamp journal
 last_accepted stamp [] place placed found = absurd (cc found)
-last_accepted stamp (first ∷ rest) zero placed found =
-    let is : first ≡ placed = cc found in
-    ap (λ (one : Placed). last_stamp_from one.stamp rest) (sym is)
+last_accepted stamp (first ∷ rest) zero placed found = grind (arith, last_stamp_from)
 last_accepted stamp (first ∷ rest) (suc place) placed found = last_accepted first.stamp rest place placed found
 
 pub last_stamp_accepted : (journal : List Placed) (place : ℕ) (found : Option Placed) → slice_get journal place ≡ found → last_stamp (accepted_at journal place found) ≡ last_stamp journal

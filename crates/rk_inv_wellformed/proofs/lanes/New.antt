@@ -1,6 +1,5 @@
 -- A new lane is well formed and has room, and a new session may act, also once it asked its next call.
-use Rattle.std.proofs.Common.{◌≡◌, ◌≤◌, ℕ, List, [], ◌∷◌, map, replicate, sum, All, refl}
-use Rattle.std.proofs.Common.{subst, arith, w32, flat_map}
+use Rattle.std.proofs.Common.{◌≡◌, ◌≤◌, ℕ, List, [], ◌∷◌, map, replicate, sum, All, refl, subst, arith, w32, flat_map}
 use Rattle.rk_inv_wellformed.proofs.Words.{All-cons, All-map, All-nil, sum_by-cons, range_with_len, EachIn, IsInOrder, IsNumber}
 use Rattle.rk_inv_wellformed.proofs.Words.{IsInScanOrder, MOST_BACKUPS, Session, IsFormedMaster, IsWellFormed, Limits, limits_of, Master}
 use Rattle.rk_inv_wellformed.proofs.Words.{log_bytes, new_master, IsLawfulCall, MOST_MASTERS, MayAct, HasRoom, counters_of, Op, Known}
@@ -24,9 +23,7 @@ none_in_order = tt
 -- new masters have no bytes
 no_bytes_in : (known : List Known) (list : List ℕ) → sum (map (λ entry. log_bytes entry.1) (with_numbers (λ number. new_master number known) list)) ≡ 0
 no_bytes_in known [] = refl
-no_bytes_in known (number ∷ list) =
-    let first : log_bytes (new_master number known) ≡ 0 = refl in
-    omega (arith, first, no_bytes_in known list, sum_by-cons (λ (n : ℕ). n) (log_bytes (new_master number known)) (map (λ entry. log_bytes entry.1) (with_numbers (λ number. new_master number known) list)))
+no_bytes_in known (number ∷ list) = grind (arith, log_bytes, new_master, sum_by-cons, with_numbers, (no_bytes_in known list))
 
 -- a new master is well formed
 pub new_is_formed : (limits : Limits) (number : ℕ) → IsFormedMaster limits number (new_master number (replicate limits.backups nothing))

@@ -1,5 +1,5 @@
 -- Well formed lanes stay well formed: every event, every turn and answer of a client, and so every run, as long as the numbers fit.
-use Rattle.std.proofs.Common.{◌≡◌, ◌+◌, ℕ, w32, true, List, [], ◌∷◌, All, None, refl, subst, sym}
+use Rattle.std.proofs.Common.{arith, ◌≡◌, ◌+◌, ℕ, w32, true, List, [], ◌∷◌, All, None, refl, subst, sym}
 use Rattle.rk_inv_wellformed.proofs.Words.{All-head, Node, Range, IsNumber, row_of, Called, Coordinator, new_row, with_row}
 use Rattle.rk_inv_wellformed.proofs.Words.{coordinator_step, IsFormedRow, IsWellFormed, named_in, IsFormedMember, limits_of}
 use Rattle.rk_inv_wellformed.proofs.Words.{tablet_migrated, coordinator_notice, IsMaster, MayCome, MayHappen, refusal, HasRoom, Accepts}
@@ -129,8 +129,7 @@ formed_event w (Event.Forget number) called may come calm none room after_room f
 formed_event w (Event.Turn node) called may come calm none room after_room formed = formed_turned node may room formed after_room
 formed_event w (Event.Again client) called may come calm none room after_room formed = formed_again client called formed
 formed_event w (Event.Migrate tablet to) called may come calm none room after_room formed = formed_migrated tablet may formed
-formed_event w (Event.Split tablet at new) called may come calm none room after_room formed =
-    formed_split w tablet at new may none formed
+formed_event w (Event.Split tablet at new) called may come calm none room after_room formed = grind (arith, formed_split)
 formed_event w (Event.Crash master) called may come calm none room after_room formed = formed_crashed master called may calm formed
 formed_event w (Event.Notice master) called may come calm none room after_room formed =
     formed_notice master (crash_came w master none) formed
@@ -141,10 +140,8 @@ formed_event w (Event.Notice master) called may come calm none room after_room f
 pub formed_after : {w : World} (happening : Happening) → MayOccur w happening → IsCalmHappening w happening → HasRoom w → HasRoom (after w happening) → IsWellFormed w → IsWellFormed (after w happening)
 formed_after {w} (Happens event called) may calm room after_room formed = formed_after_event w event called
     (λ none fits. formed_event w event called may.0 may.1 calm none room fits formed) after_room formed
-formed_after {w} (Asks session) may calm room after_room formed =
-    (formed_asks w session may (record { formed = formed; room = room })).formed
-formed_after {w} (Accepts number session) may calm room after_room formed =
-    (formed_accepts w number session may (record { formed = formed; room = room })).formed
+formed_after {w} (Asks session) may calm room after_room formed = grind (arith, formed_asks)
+formed_after {w} (Accepts number session) may calm room after_room formed = grind (arith, formed_accepts)
 
 -- the first world of a run has room where each has
 first_has_room : (w : World) (list : List Happening) → AllHaveRoom w list → HasRoom w

@@ -5,10 +5,9 @@ use Rattle.rk_inv_wellformed.proofs.Words.{get_same, Segments, Message, Rebuilt,
 use Rattle.rk_inv_wellformed.proofs.Words.{IsWellFormed, last_stamp, Ledger, is_added, with_rebuilt, IsFormedMessage, Limits, limits_of}
 use Rattle.rk_inv_wellformed.proofs.Words.{Master, IsMaster, MOST_CLIENTS, filled, HasRoom, MOST_NUMBER, Stepped, backed_at, losing}
 use Rattle.rk_inv_wellformed.proofs.Words.{quietly, with_sends, worked_at, Worked, World, master_at, with_all_sent, with_coordinator}
-use Rattle.rk_inv_wellformed.proofs.Words.{with_ledger, with_master, with_top, ledger_after, All-nil, NumberMap, get, insert, Node}
-use Rattle.rk_inv_wellformed.proofs.Words.{Called, IsThere, backup_step, stored_after, delivered, delivered_to, log_bytes_of, seen_in}
-use Rattle.rk_inv_wellformed.proofs.Words.{master_step, has_crashed, is_backup, with_stored_by, owner_split, row_split, with_split}
-use Rattle.rk_inv_wellformed.proofs.Words.{Owned, Row, brought_by, limits_at, to_coordinator}
+use Rattle.rk_inv_wellformed.proofs.Words.{with_ledger, with_master, with_top, ledger_after, All-nil, NumberMap, get, Node, Called, IsThere}
+use Rattle.rk_inv_wellformed.proofs.Words.{backup_step, delivered, delivered_to, log_bytes_of, seen_in, master_step, has_crashed}
+use Rattle.rk_inv_wellformed.proofs.Words.{owner_split, row_split, with_split, Owned, Row, brought_by, limits_at, to_coordinator}
 use Rattle.rk_inv_wellformed.specs.Brought.{brought_in, brought_to}
 use Rattle.rk_inv_wellformed.proofs.lanes.Ledgers.{clients_rebuilt, clients_served, formed_ledger_after, formed_rebuilt}
 use Rattle.rk_inv_wellformed.proofs.lanes.More.{IsMore, more_coordinator, more_master, more_master_number, more_messages, more_self}
@@ -32,17 +31,9 @@ module _ (w : World) (called : Called) (formed : IsWellFormed w) (P : ℕ → Wo
   received_is message (Node.Client client) is told = loses 0
   received_is message Node.Coordinator is told = coordinates message told
   received_is message (Node.Master master) is told =
-      either_way (λ (stepped : Stepped). P (brought_by (master_at w master) message.body) stepped.world) (has_crashed w master) (loses _)
-      (works message master (subst (IsThere (limits_of w)) is told.to) told)
+      grind (arith, either_way, brought_by, master_at, has_crashed, limits_of, message.body, told.to)
   received_is message (Node.Backup backup) is told =
-      let there = subst (IsThere (limits_of w)) is told.to in
-      let backed = backup_step backup message.from message.body (log_bytes_of w) called in
-      let store : Segments → Segments = λ segments. stored_after segments message.from message.body called in
-      either_way (λ (stepped : Stepped). P 0 stepped.world) (is_backup w backup)
-      (by_found (λ found. P 0 (backed_at (with_stored_by w backup store found) backed).world) (get w.backups backup)
-      (λ none. backs message backup w.backups there told)
-      (λ segments some. backs message backup (insert w.backups backup (store segments)) there told))
-      (loses 0)
+      grind arith
 
   pub delivered_is : (number : ℕ) → P (brought_in w (get w.wire.messages number)) (delivered w (get w.wire.messages number) called).world
   delivered_is number = by_found (λ found. P (brought_in w found) (delivered w found called).world) (get w.wire.messages number) (λ none. loses 0)
@@ -109,9 +100,7 @@ module _ (w : World) (number seen : ℕ) (worked : Worked) where
 
   -- its limits are wider
   pub more_worked : IsMore (limits_of w) (limits_of after_work)
-  more_worked = more_limits w w.coordinator (ledger_after w.ledger number seen worked) after_work.top refl
-      (same_clients w.ledger (ledger_after w.ledger number seen worked) same_after)
-      (top_rises (with_all_sent now_worked filled_sends))
+  more_worked = grind (arith, more_limits, ledger_after, same_clients, same_after, top_rises, with_all_sent)
 
   -- and the world after it is well formed, where the work of a well formed master is within limits in which that has room
   pub formed_worked : IsMaster w.coordinator.masters number
@@ -161,9 +150,7 @@ module _ (w : World) (coordinator : Coordinator) (rebuilt : Option Rebuilt) (sen
 
   -- its limits are wider
   pub more_coordinated : w.coordinator.masters ≡ coordinator.masters → IsMore (limits_of w) (limits_of after_coordinated)
-  more_coordinated same = more_limits w coordinator (with_rebuilt w.ledger rebuilt) after_coordinated.top same
-      (same_clients w.ledger (with_rebuilt w.ledger rebuilt) (clients_rebuilt w.ledger rebuilt))
-      (top_rises (with_all_sent now_coordinated sends))
+  more_coordinated same = grind (arith, more_limits, with_rebuilt, same_clients, clients_rebuilt, top_rises, with_all_sent)
 
   -- and the world after it is well formed
   pub formed_coordinated : MayCoordinate (limits_of after_coordinated) w coordinator → All (IsFormedMessage (limits_of after_coordinated)) sends → IsWellFormed w → IsWellFormed after_coordinated

@@ -2,19 +2,17 @@
 -- keeps to the limits that its greatest number gives it is well formed.
 use Rattle.std.proofs.Common.{◌≡◌, ◌≤◌, ◌<◌, ℕ, suc, max, true, false, List, [], ◌∷◌, ◌++◌, length, map, All, Option, Some, is_some}
 use Rattle.rk_inv_wellformed.proofs.Words.{length-map}
-use Rattle.std.proofs.Common.{refl, subst, ◌∙◌, arith, nat_eq, unwrap_or, flat_map, length-append, ◌+◌, fold, None}
-use Rattle.std.proofs.Common.{slice_get, w64}
+use Rattle.std.proofs.Common.{refl, subst, ◌∙◌, arith, nat_eq, unwrap_or, flat_map, length-append, ◌+◌, fold, None, slice_get, w64}
 use Rattle.rk_inv_wellformed.proofs.Words.{All-push, All-weaker, list_any-append, list_any, range_with_len, each_insert, hash_of, EachIn}
-use Rattle.rk_inv_wellformed.proofs.Words.{get, numbers, is_among, is_covered, Row, MOST_BACKUPS, Traffic, Message}
-use Rattle.rk_inv_wellformed.proofs.Words.{Coordinator, IsFormedCoordinator, IsFormedLedger, IsFormedMaster, IsFormedWire, IsWellFormed}
+use Rattle.rk_inv_wellformed.proofs.Words.{get, numbers, is_among, is_covered, Row, MOST_BACKUPS, Traffic, Message, Coordinator}
+use Rattle.rk_inv_wellformed.proofs.Words.{IsFormedCoordinator, IsFormedLedger, IsFormedMaster, IsFormedWire, IsWellFormed}
 use Rattle.rk_inv_wellformed.proofs.Words.{MOST_BASE_CLIENTS, last_stamp, Ledger, is_added, seen_of, IsClient, IsFormedMessage, Limits}
 use Rattle.rk_inv_wellformed.proofs.Words.{limits_of, Master, log_bytes, new_master, IsMaster, MOST_MASTERS, MOST_CLIENTS, HasRoom}
 use Rattle.rk_inv_wellformed.proofs.Words.{MOST_NUMBER, World, counters_of, has_crashed, master_at, standing, with_all_sent}
-use Rattle.rk_inv_wellformed.proofs.Words.{with_coordinator, with_crash, with_ledger, with_master, with_top, with_wire}
-use Rattle.rk_inv_wellformed.proofs.Words.{greatest, each_weaker, MOST_BYTES, All-map, in_order_insert, Answer, Node, IsNumber}
-use Rattle.rk_inv_wellformed.proofs.Words.{IsLawfulBody, without_message, Body, IsFormedBody, filled, Served, each_less, in_order_remove}
-use Rattle.rk_inv_wellformed.proofs.Words.{remove_less, remove, Placed, with_message, Reply, cases_Bool, or_left, or_right, base_clients}
-use Rattle.rk_inv_wellformed.proofs.Words.{limits_at, IsLawfulReply, filled_body, filled_reply, place_of, reply_at, reply_with}
+use Rattle.rk_inv_wellformed.proofs.Words.{with_coordinator, with_crash, with_ledger, with_master, with_top, with_wire, greatest}
+use Rattle.rk_inv_wellformed.proofs.Words.{each_weaker, MOST_BYTES, All-map, in_order_insert, Answer, IsNumber, without_message, filled}
+use Rattle.rk_inv_wellformed.proofs.Words.{Served, each_less, in_order_remove, remove_less, remove, Placed, with_message, Reply, cases_Bool}
+use Rattle.rk_inv_wellformed.proofs.Words.{or_left, or_right, base_clients, limits_at, IsLawfulReply, filled_reply, place_of, reply_with}
 use Rattle.std.proofs.lemmas.Option.{slice_get_within}
 use Rattle.rk_inv_wellformed.proofs.lanes.More.{IsMore, more_coordinator, more_ledger, more_master, more_master_number, more_wire}
 use Rattle.rk_inv_wellformed.proofs.maps.{all_in_map, below_greatest, within_sum_of, all_back, all_before, all_front, all_given, by_found}
@@ -64,31 +62,13 @@ filled_with journal reply place (Some placed) found are room lawful =
       lawful.3,
     )
 
-filled_at : {journal : List Placed} (reply : Reply) (place : Option ℕ) → AreStamps journal → last_stamp journal < MOST_NUMBER → IsLawfulReply reply → IsLawfulReply (reply_at journal reply place)
-filled_at reply None are room lawful = lawful
-filled_at {journal} reply (Some place) are room lawful =
-    filled_with journal reply place (slice_get journal place) refl are room lawful
-
 module _ (journal : List Placed) (served : List Served) (are : AreStamps journal) (room : last_stamp journal < MOST_NUMBER) where
   lawful_reply : (client : ℕ) (reply : Reply) (answer : Answer) → IsLawfulReply reply → IsLawfulReply (filled_reply journal served client reply answer)
-  lawful_reply client reply (Answer.Done outcome) lawful =
-      filled_at reply (place_of journal served client reply.seq) are room lawful
-  lawful_reply client reply _ lawful = lawful
-
-  lawful_body : (to : Node) (body : Body) → IsLawfulBody body → IsLawfulBody (filled_body journal served to body)
-  lawful_body (Node.Client client) (Body.Reply reply) lawful = lawful_reply client reply reply.answer lawful
-  lawful_body (Node.Client client) body lawful = lawful
-  lawful_body to body lawful = lawful
-
-  says_body : (limits : Limits) (from to : Node) (body : Body) → IsFormedBody limits from body → IsFormedBody limits from (filled_body journal served to body)
-  says_body limits from (Node.Client client) (Body.Reply reply) says = says
-  says_body limits from (Node.Client client) body says = says
-  says_body limits from to body says = says
+  lawful_reply client reply answer lawful = grind (arith, place_of, filled_with)
 
   -- a message stays well formed when stamp and place are filled in
   pub formed_filled : (limits : Limits) (message : Message) → IsFormedMessage limits message → IsFormedMessage limits (filled journal served message)
-  formed_filled limits message formed =
-      assumption (lawful_body message.to message.body formed.lawful, says_body limits message.from message.to message.body formed.says)
+  formed_filled limits message formed = grind (arith, lawful_reply, message.to, message.body, formed.lawful, message.from, formed.says)
 
   -- and so do all messages
   pub all_filled : (limits : Limits) (messages : List Message) → All (IsFormedMessage limits) messages → All (IsFormedMessage limits) (map (filled journal served) messages)

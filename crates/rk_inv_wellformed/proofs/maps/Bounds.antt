@@ -1,6 +1,6 @@
 -- What holds of all numbers of lists and of maps by number holds of each: none is above the greatest, and none above the sum.
 use Rattle.std.proofs.Common.{◌≡◌, ◌≤◌, ℕ, max, List, [], ◌∷◌, map, fold, sum, All, Some, sym, ap, subst, arith, sum_by, nat_cmp, Option}
-use Rattle.rk_inv_wellformed.proofs.Words.{All-cons, All-nil, sum-map, sum_by-cons, eq_by_cmp, NumberMap, get, greatest}
+use Rattle.rk_inv_wellformed.proofs.Words.{All-nil, sum-map, sum_by-cons, eq_by_cmp, NumberMap, get, greatest}
 use Rattle.rk_inv_wellformed.proofs.maps.Lists.{either_way, fold_keeps_all}
 use Rattle.rk_inv_wellformed.proofs.maps.Maps.{each_from_pairs}
 
@@ -12,9 +12,7 @@ start_below start (first ∷ rest) = omega (arith, start_below (max start first)
 
 each_below : (start : ℕ) (numbers : List ℕ) → All (λ n. n ≤ fold max start numbers) numbers
 each_below start [] = All-nil _
-each_below start (first ∷ rest) =
-    All-cons (λ n. n ≤ fold max (max start first) rest) first rest (omega (arith, start_below (max start first) rest))
-    (each_below (max start first) rest)
+each_below start (first ∷ rest) = grind (arith, start_below, (each_below (max start first) rest))
 
 -- no number is above the greatest
 pub below_greatest : (numbers : List ℕ) → All (λ n. n ≤ greatest numbers) numbers

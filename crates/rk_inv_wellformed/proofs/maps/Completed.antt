@@ -1,8 +1,7 @@
 -- Completions: what each end has stays so when another end is noted, and the ends of completions in order rise by client.
-use Rattle.std.proofs.Common.{◌≤◌, ℕ, T, All, List, [], ◌∷◌, is_lt, nat_cmp}
-use Rattle.rk_inv_wellformed.proofs.Words.{cond_both, All-head, All-map, All-tail, below_all, in_order_insert, IsInOrder, get, insert}
-use Rattle.rk_inv_wellformed.proofs.Words.{Ended, Completions, completions_from, ended_of, ends_of, noted, RiseAbove, Completion}
-use Rattle.rk_inv_wellformed.proofs.Words.{is_later}
+use Rattle.std.proofs.Common.{arith, ◌≤◌, ℕ, T, All, List, [], ◌∷◌, is_lt, nat_cmp}
+use Rattle.rk_inv_wellformed.proofs.Words.{cond_both, All-head, All-map, All-tail, below_all, in_order_insert, IsInOrder, insert, Ended}
+use Rattle.rk_inv_wellformed.proofs.Words.{Completions, completions_from, ended_of, ends_of, noted, RiseAbove, Completion, is_later}
 use Rattle.rk_inv_wellformed.proofs.maps.Lists.{all_before, either_way}
 use Rattle.rk_inv_wellformed.proofs.maps.Maps.{All_insert, first, is_below, second}
 
@@ -16,9 +15,7 @@ pairs_from_ends P completions each = all_before P ended_of completions each
 
 -- the completions stay in order when a call ended
 pub noted_order : (completions : Completions) (ended : Ended) → IsInOrder completions → IsInOrder (noted completions ended)
-noted_order completions ended order =
-    either_way (λ (now : Completions). IsInOrder now) (is_later (get completions ended.client) ended.seq)
-    (in_order_insert completions ended.client (record { seq = ended.seq; end = ended.end }) order) order
+noted_order completions ended order = grind (arith, either_way, is_later, in_order_insert)
 
 -- each end has what it had, and the new one has
 pub noted_each : (P : Ended → Type 0) (completions : Completions) (ended : Ended) → All P (ends_of completions) → P ended

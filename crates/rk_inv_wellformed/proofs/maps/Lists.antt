@@ -83,9 +83,7 @@ filter_few p xs = omega (arith, length-filter_both p (λ x. not (p x)) (λ x. re
 
 -- numbers that count up from one on are at least that, and below the one behind the last
 pub range_within : (start count : ℕ) → All (λ n. (start ≤ n) × (n < start + count)) (range_with_len start count)
-range_within start count place other within =
-    let below : place < count = omega (arith, within, length-range_with_len start count) in
-    omega (arith, below, get_or-range_with_len start count place other below)
+range_within start count place other within = grind (arith, length-range_with_len, get_or-range_with_len)
 
 -- what each step of a fold keeps, the fold keeps
 pub fold_keeps : {A B : Type 0} (P : B → Type 0) (f : B → A → B) (xs : List A) (b : B) → P b → ((b : B) (a : A) → P b → P (f b a)) → P (fold f b xs)
@@ -112,8 +110,7 @@ all_at P (x ∷ xs) (suc place) none it all = all_at P xs place none it (All-tai
 -- what gives at most one of each gives no more than there are
 pub one_of_each : {X Y : Type 0} (give : X → List Y) (list : List X) → ((x : X) → length (give x) ≤ 1) → length (flat_map give list) ≤ length list
 one_of_each give [] one = omega arith
-one_of_each give (first ∷ rest) one =
-    omega (arith, one first, one_of_each give rest one, length-append (give first) (flat_map give rest))
+one_of_each give (first ∷ rest) one = grind (arith, length-append, (one_of_each give rest one))
 
 -- things whose numbers rise are no more than there are numbers between the least and the greatest
 pub few_rising : {X : Type 0} (number : X → ℕ) (Rise : List X → Type 0)

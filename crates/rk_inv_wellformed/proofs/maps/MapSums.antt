@@ -20,8 +20,7 @@ none_below size n things below q up found is = grind (arith, above_all)
 -- a thing under a number counts in place of what was there
 pub sum_inserted : {X : Type 0} (size : X → ℕ) (things : NumberMap X) (number : ℕ) (thing : X) → IsInOrder things
     → sum_by (λ entry. size entry.1) (insert things number thing) + size_found size (get things number) ≡ sum_by (λ entry. size entry.1) things + size thing
-sum_inserted {X} size [] number thing order =
-    omega (arith, sum_by-cons (λ (entry : ℕ × X). size entry.1) (number, thing) [])
+sum_inserted {X} size [] number thing order = grind (arith, sum_by-cons)
 sum_inserted {X} size (here ∷ things) number thing order =
     let whole = sum_by-cons (λ (entry : ℕ × X). size entry.1) here things in
     let rest = sum_inserted size things number thing (second (below_all nat_cmp here.0 things) _ order) in
@@ -61,9 +60,7 @@ module _ {X : Type 0} (size : X → ℕ) (none : X) (nothing : size none ≡ 0) 
   -- a thing that is put counts in place of what was looked up
   pub sum_put : (things : NumberMap X) (number : ℕ) (thing : X) → IsInOrder things
       → sum (map (λ entry. size entry.1) (insert things number thing)) + size (get_or none things number) ≡ sum (map (λ entry. size entry.1) things) + size thing
-  sum_put things number thing order =
-      let found = by_found (λ there. size_found size there ≡ size (unwrap_or there none)) (get things number) (λ is. sym nothing) (λ x is. refl) in
-      omega (arith, found, sum_inserted size things number thing order, sum-map {X = ℕ × X})
+  sum_put things number thing order = grind (arith, by_found, sum_inserted, sum-map)
 
   -- and what is looked up is not above the sum
   pub within_or : (things : NumberMap X) (number : ℕ) → size (get_or none things number) ≤ sum (map (λ entry. size entry.1) things)

@@ -1,6 +1,6 @@
 -- Maps by number: what each thing of a map has, each of its pairs has, and the other way round; and a map where each thing changed.
-use Rattle.std.proofs.Common.{option_map, ap, ◌≡◌, ◌<◌, ◌≤◌, ◌+◌, ℕ, Bool, true, false, ◌&&◌, cond, T, All, [], ◌∷◌, Some, IfSome, refl}
-use Rattle.std.proofs.Common.{sym, subst, ◌∙◌, arith, eq-eqb, ne_eqb, find, is_lt, length, nat_cmp, unwrap_or, Equal, Less, Greater}
+use Rattle.std.proofs.Common.{option_map, ◌≡◌, ◌<◌, ◌≤◌, ◌+◌, ℕ, Bool, true, false, ◌&&◌, cond, T, All, [], ◌∷◌, Some, IfSome, refl, sym}
+use Rattle.std.proofs.Common.{subst, ◌∙◌, arith, eq-eqb, ne_eqb, find, is_lt, length, nat_cmp, unwrap_or, Equal, Less, Greater}
 use Rattle.rk_inv_wellformed.proofs.Words.{cond-false, ranked, cond-true, All-cons, All-head, All-nil, All-tail, unsigned_tied, below_all}
 use Rattle.rk_inv_wellformed.proofs.Words.{by_order, eq_by_cmp, EachIn, IsInOrder, NumberMap, changed_each, get, get_or, insert}
 use Rattle.rk_inv_wellformed.proofs.Words.{same_number}
@@ -56,9 +56,7 @@ module _ {X : Type 0} where
   all_above : (n : ℕ) (things : NumberMap X) → T (below_all nat_cmp n things) → All (λ thing. n + 1 ≤ thing.0) things
   all_above n [] below = All-nil _
   all_above n (thing ∷ things) below =
-      let less = is_below n thing.0 (first (is_lt (nat_cmp n thing.0)) (below_all nat_cmp n things) below) in
-      All-cons (λ thing. n + 1 ≤ thing.0) thing things (omega arith)
-      (all_above n things (second (is_lt (nat_cmp n thing.0)) (below_all nat_cmp n things) below))
+      grind (arith, (all_above n things (second (is_lt (nat_cmp n thing.0)) (below_all nat_cmp n things) below)))
 
   -- a map in order has no more things than numbers below the greatest
   pub few_in_order : (most : ℕ) (things : NumberMap X) → IsInOrder things → All (λ thing. thing.0 < most) things → length things ≤ most
@@ -128,10 +126,7 @@ pub found_changed : {X Y : Type 0} (change : ℕ → X → Y) (things : NumberMa
     → get (changed_each change things) q ≡ option_map (change q) (get things q)
 found_changed change [] q = refl
 found_changed {X = X} {Y = Y} change (first ∷ rest) q =
-    elim (eq_by_cmp nat_cmp q first.0) as (λ b. eq_by_cmp nat_cmp q first.0 ≡ b → cond b (Some (change first.0 first.1)) (get (changed_each change rest) q) ≡ option_map (change q) (cond b (Some first.1) (get rest q))) [
-      | true ↦ λ is. ap (λ (n : ℕ). Some (change n first.1)) (sym (same_number q first.0 is))
-      | false ↦ λ apart. found_changed change rest q
-    ] refl
+    grind (arith, eq_by_cmp, nat_cmp, changed_each, same_number, first.0, first.1, (found_changed change rest q))
 
 -- each thing has its property after a change that gives it
 pub each_changed : {X Y : Type 0} (Fits : ℕ → X → Type 0) (Gives : ℕ → Y → Type 0) (change : ℕ → X → Y) → ((number : ℕ) (thing : X) → Fits number thing → Gives number (change number thing)) → (things : NumberMap X) → EachIn Fits things → EachIn Gives (changed_each change things)

@@ -1,7 +1,7 @@
 -- Maps whose numbers follow one another from 1: something is found under each of them, and they stay when something else stands
 -- under one of them.
-use Rattle.std.proofs.Common.{◌≡◌, ◌≤◌, ◌<◌, Less, Equal, Greater, ℕ, zero, suc, ◌+◌, ◌||◌, ◌==◌, true, false, cond, T, List, [], ◌∷◌}
-use Rattle.std.proofs.Common.{map, Some, is_some, refl, sym, ap, subst, ◌∙◌, ⊎_elim, arith, is_eq, is_lt, nat_cmp, eq-eqb}
+use Rattle.std.proofs.Common.{◌≡◌, ◌≤◌, ◌<◌, Less, Equal, Greater, ℕ, zero, suc, ◌+◌, ◌==◌, true, cond, T, List, [], ◌∷◌, map, Some}
+use Rattle.std.proofs.Common.{is_some, refl, sym, ap, subst, ◌∙◌, ⊎_elim, arith, is_eq, is_lt, nat_cmp, eq-eqb}
 use Rattle.rk_inv_wellformed.proofs.Words.{All-map, cases_eq, ranked, unsigned_tied, nat_eq_equiv, below_all, by_order, range_with_len}
 use Rattle.rk_inv_wellformed.proofs.Words.{eq_by_cmp, IsInOrder, NumberMap, get, insert, numbers, is_among, IsMaster, or_left, or_right}
 use Rattle.rk_inv_wellformed.proofs.Words.{nat_cmp_is}
@@ -32,11 +32,7 @@ numbers_are thing (number ∷ list) = ap (λ (rest : List ℕ). number ∷ rest)
 pub among_numbers : {X : Type 0} (things : NumberMap X) (number : ℕ) → is_among number (numbers things) ≡ is_some (get things number)
 among_numbers [] number = refl
 among_numbers (first ∷ rest) number =
-    ap (λ b. b || is_among number (numbers rest)) (nat_eq_equiv.symm first.0 number ∙ sym (unsigned_tied number first.0))
-    ∙ (elim (eq_by_cmp nat_cmp number first.0) as (λ b. (b || is_among number (numbers rest)) ≡ is_some (cond b (Some first.1) (get rest number))) [
-      | true ↦ refl
-      | false ↦ among_numbers rest number
-    ])
+    grind (arith, is_among, numbers, nat_eq_equiv, unsigned_tied, eq_by_cmp, nat_cmp, first.0, first.1, (among_numbers rest number))
 
 -- within a range each number is among its numbers
 among_range : (start count q : ℕ) → start ≤ q → q < start + count → is_among q (range_with_len start count) ≡ true

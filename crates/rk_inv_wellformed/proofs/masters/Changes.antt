@@ -3,15 +3,14 @@
 use Rattle.std.proofs.Common.{◌≡◌, ◌≤◌, ◌<◌, ◌+◌, ◌-◌, ℕ, All, List, [], ◌∷◌, ◌++◌, length, flat_map, filter, not, sym, ap, subst, ◌∙◌}
 use Rattle.std.proofs.Common.{arith, length-append, length-set, ◌==◌, ◌&&◌, Bool, false, true, cond, if◌then◌else◌, refl, w32}
 use Rattle.std.proofs.Common.{unwrap_or, Option, None, Some, nat_lt}
-use Rattle.rk_inv_wellformed.proofs.Words.{flat_map-append, get_or_past, cases_lt, cond_both, All-append, All-cons}
-use Rattle.rk_inv_wellformed.proofs.Words.{All-filter, All-nil, All-push, All-set, each_insert, in_order_insert, EachIn}
-use Rattle.rk_inv_wellformed.proofs.Words.{IsInOrder, NumberMap, insert, Call, Held, Range, spelled_all, Entry, IsInScanOrder}
-use Rattle.rk_inv_wellformed.proofs.Words.{IsFormedCall, IsFormedMaster, IsFormedSide, IsFormedTablet, side_waits, side_waits_of}
-use Rattle.rk_inv_wellformed.proofs.Words.{IsFormedEntry, IsFormedHeld, Limits, Master, tablet_at, with_all, with_appended, with_item}
-use Rattle.rk_inv_wellformed.proofs.Words.{with_known, with_side_segment, with_tablet, without_items, as_entries, with_staged, Tablet}
-use Rattle.rk_inv_wellformed.proofs.Words.{nothing, known_of, in_order_changed, changed_each, get, meets, IsNumber, Handover, given_up}
-use Rattle.rk_inv_wellformed.proofs.Words.{with_others_given_up, is_absent, no_tablet, with_handover, without_merged, Role, IsFormedEnd}
-use Rattle.rk_inv_wellformed.proofs.Words.{IsFormedGathered, recursion_from_All, spelled_count, frozen}
+use Rattle.rk_inv_wellformed.proofs.Words.{flat_map-append, get_or_past, cases_lt, cond_both, All-append, All-cons, All-filter, All-nil}
+use Rattle.rk_inv_wellformed.proofs.Words.{All-push, All-set, each_insert, in_order_insert, EachIn, IsInOrder, NumberMap, insert, Call}
+use Rattle.rk_inv_wellformed.proofs.Words.{Held, Range, spelled_all, Entry, IsInScanOrder, IsFormedCall, IsFormedMaster, IsFormedSide}
+use Rattle.rk_inv_wellformed.proofs.Words.{IsFormedTablet, side_waits, side_waits_of, IsFormedEntry, IsFormedHeld, Limits, Master}
+use Rattle.rk_inv_wellformed.proofs.Words.{tablet_at, with_all, with_appended, with_item, with_known, with_side_segment, with_tablet}
+use Rattle.rk_inv_wellformed.proofs.Words.{without_items, as_entries, with_staged, Tablet, nothing, known_of, in_order_changed}
+use Rattle.rk_inv_wellformed.proofs.Words.{changed_each, get, meets, IsNumber, Handover, given_up, with_others_given_up, is_absent}
+use Rattle.rk_inv_wellformed.proofs.Words.{no_tablet, with_handover, without_merged, Role, recursion_from_All, spelled_count, frozen}
 use Rattle.rk_inv_wellformed.proofs.Words.{in_role, joined, role_frozen, role_joined, all_going_on, closing_entry, freezing, going_on_in}
 use Rattle.rk_inv_wellformed.proofs.Words.{is_sealed_stored, joined_entry, is_settled, joining_at, role_closed, role_granted, role_owned}
 use Rattle.rk_inv_wellformed.proofs.Words.{role_released, map-append, order_after, order_without, is_in, with_newer, without, is_before}
@@ -160,9 +159,7 @@ tablet_there {limits} {master} tablet there formed =
 pub formed_moved : {limits : Limits} {number : ℕ} {tablet : Tablet} {handover : Handover} → IsNumber w32 1 number
     → IsFormedHandover limits tablet.pulling.source handover → IsFormedRest limits tablet
     → IsFormedTablet limits number (without_merged (with_handover tablet handover))
-formed_moved {limits} {tablet} {handover} is new rest =
-    formed_tablet (without_merged (with_handover tablet handover)) is new
-    (assumption (rest, All-nil (IsFormedGathered limits), All-nil (IsFormedEnd limits), none_twice))
+formed_moved {limits} {tablet} {handover} is new rest = grind (arith, formed_tablet, without_merged, with_handover, none_twice)
 
 -- a tablet that is given up
 formed_given_up : {limits : Limits} {number : ℕ} {tablet : Tablet} → IsFormedTablet limits number tablet → IsFormedTablet limits number (given_up tablet)
@@ -194,9 +191,7 @@ formed_others_given_up {limits} {master} tablet range formed =
 -- what holds where no move is made, and of each role that it may lead to, holds of a move that is made where a test holds
 pub moved_is : (P : Option Handover → Type 0) (test : Bool) (handover : Handover) (role : Option Role) → P None
     → ((r : Role) → role ≡ Some r → P (Some (record handover { role = r }))) → P (cond test (in_role handover role) None)
-moved_is P true handover None none some = none
-moved_is P true handover (Some r) none some = some r refl
-moved_is P false handover role none some = none
+moved_is P test handover role none some = grind arith
 
 -- a role after a move, and that the role before was not Absent
 pub record IsAfter (role r after : Role) : Type 0 where
@@ -207,11 +202,6 @@ pub record IsAfter (role r after : Role) : Type 0 where
 pub after_close : (role r : Role) → role_closed role ≡ Some r → IsAfter role r Role.Closing
 after_close role r is = grind arith
 
--- after a freeze
-after_freeze : (role r : Role) → role_frozen role ≡ Some r → IsAfter role r Role.Frozen
-after_freeze Role.Closing r is = record { now = cc is; there = refl }
-after_freeze _ r is = absurd (cc is)
-
 -- after a grant
 pub after_grant : (role r : Role) → role_granted role ≡ Some r → IsAfter role r Role.Receiving
 after_grant (Role.Wanting from) r is = record { now = cc is; there = refl }
@@ -219,19 +209,10 @@ after_grant _ r is = absurd (cc is)
 
 -- after a join
 after_join : (entry : Option ℕ) (role r : Role) → role_joined entry role ≡ Some r → IsAfter role r (Role.Joining entry)
-after_join entry Role.Receiving r is = record { now = cc is; there = refl }
-after_join (Some place) (Role.Joining None) r is = record { now = cc is; there = refl }
-after_join _ _ r is = absurd (cc is)
-
--- after the owner was told: its closing entry stands below what is applied
-owned_where : (below : Bool) (r : Role) → cond below (Some Role.Serving) None ≡ Some r → r ≡ Role.Serving
-owned_where true r is = cc is
-owned_where false r is = absurd (cc is)
+after_join entry role r is = grind arith
 
 pub after_own : (applied : ℕ) (role r : Role) → role_owned applied role ≡ Some r → IsAfter role r Role.Serving
-after_own applied (Role.Joining (Some entry)) r is = record { now = owned_where (nat_lt entry applied) r is; there = refl }
-after_own applied (Role.Rebuilding from (Some entry)) r is = record { now = owned_where (nat_lt entry applied) r is; there = refl }
-after_own applied _ r is = absurd (cc is)
+after_own applied role r is = grind (arith, nat_lt)
 
 -- after a release
 pub after_release : (role r : Role) → role_released role ≡ Some r → IsAfter role r Role.Absent
@@ -246,17 +227,13 @@ module _ (P : Master → Type 0) (master : Master) (id : ℕ) (tablet : Tablet) 
   pub freezing_is : (handover : Handover) (term : ℕ)
       → ((r : Role) → r ≡ Role.Frozen → P (with_tablet master id (with_handover tablet (record handover { role = r }))))
       → P (freezing master id tablet (frozen handover term))
-  freezing_is handover term freezes = moved_is (λ moved. P (freezing master id tablet moved)) (handover.term == term) handover
-      (role_frozen handover.role) stays
-      (λ r is. either_way P (is_settled master tablet.handover.range) (freezes r (after_freeze handover.role r is).now) stays)
+  freezing_is handover term freezes = grind (arith, moved_is, freezing, role_frozen, either_way, is_settled)
 
   -- a target may append its closing entry
   pub closing_is : (place : ℕ)
       → ((r : Role) → r ≡ Role.Joining (Some place) → P (closing_appended master id tablet (record tablet.handover { role = r })))
       → P (closing_entry master id tablet (joined tablet.handover tablet.handover.term (Some place)))
-  closing_is place closes = moved_is (λ moved. P (closing_entry master id tablet moved)) (tablet.handover.term == tablet.handover.term)
-      tablet.handover (role_joined (Some place) tablet.handover.role) stays
-      (λ r is. closes r (after_join (Some place) tablet.handover.role r is).now)
+  closing_is place closes = grind (arith, moved_is, closing_entry, role_joined, after_join)
 
   -- or join without it
   pub joining_is : ((r : Role) → r ≡ Role.Joining None → P (with_tablet master id (with_handover tablet (record tablet.handover { role = r }))))

@@ -1,14 +1,13 @@
 -- What a master makes of what a backup tells is well formed: what every backup holds by then is applied, and what waited goes on.
-use Rattle.std.proofs.Common.{◌≡◌, ◌≤◌, ◌<◌, ◌+◌, ℕ, not, ◌&&◌, All, List, [], ◌∷◌, length, take, Option, None}
-use Rattle.std.proofs.Common.{Some, refl, sym, ap, subst, arith, length-drop, length-take, IfSome}
-use Rattle.rk_inv_wellformed.proofs.Words.{All-take, cond_both, All-drop, All-head, All-tail, in_order_changed}
-use Rattle.rk_inv_wellformed.proofs.Words.{NumberMap, changed_each, get, Call, Ended, Held, Entry, Overreach, Stored, apply_entries}
-use Rattle.rk_inv_wellformed.proofs.Words.{apply_entry, newly_held, noting, stored_taken, with_applied, with_ended, with_entry_item}
-use Rattle.rk_inv_wellformed.proofs.Words.{with_noted, outcome_of, told_by, IsFormedCall, IsFormedMaster, IsFormedTablet, side_waits}
-use Rattle.rk_inv_wellformed.proofs.Words.{side_waits_of, IsFormedEnd, IsFormedEntry, IsFormedHeld, Limits, Master, with_known, IsMaster}
-use Rattle.rk_inv_wellformed.proofs.Words.{has_key, is_absent, Tablet, all_going_on, changed, each_less, in_order_remove, remove_less}
-use Rattle.rk_inv_wellformed.proofs.Words.{remove, Refused, committed, Answer, ended_call, without_call, end_of_item, item_end}
-use Rattle.rk_inv_wellformed.proofs.Words.{refusal_end, IsFormedRefused}
+use Rattle.std.proofs.Common.{◌≡◌, ◌≤◌, ◌<◌, ◌+◌, ℕ, All, List, [], ◌∷◌, length, take, Option, None, Some, refl, sym, ap, subst, arith}
+use Rattle.std.proofs.Common.{length-drop, length-take, IfSome}
+use Rattle.rk_inv_wellformed.proofs.Words.{All-take, cond_both, All-drop, All-head, All-tail, in_order_changed, NumberMap, changed_each}
+use Rattle.rk_inv_wellformed.proofs.Words.{get, Call, Ended, Held, Entry, Overreach, Stored, apply_entries, apply_entry, newly_held, noting}
+use Rattle.rk_inv_wellformed.proofs.Words.{stored_taken, with_applied, with_ended, with_entry_item, with_noted, outcome_of, told_by}
+use Rattle.rk_inv_wellformed.proofs.Words.{IsFormedCall, IsFormedMaster, IsFormedTablet, side_waits, side_waits_of, IsFormedEnd}
+use Rattle.rk_inv_wellformed.proofs.Words.{IsFormedEntry, Limits, Master, with_known, IsMaster, has_key, is_absent, Tablet, all_going_on}
+use Rattle.rk_inv_wellformed.proofs.Words.{changed, each_less, in_order_remove, remove_less, remove, committed, Answer, ended_call}
+use Rattle.rk_inv_wellformed.proofs.Words.{without_call, end_of_item, item_end, refusal_end}
 use Rattle.rk_inv_wellformed.proofs.masters.Work.{formed_answering, AreLimits, IsFormedWork, WorkFits, formed_changed, formed_more}
 use Rattle.rk_inv_wellformed.proofs.masters.Work.{formed_then, formed_told}
 use Rattle.rk_inv_wellformed.proofs.maps.{by_found, either_way, All_pairs, each_changed, found_each}
@@ -19,19 +18,9 @@ use Rattle.rk_inv_wellformed.proofs.masters.Tablets.{formed_noting, waits_change
 
 -- ---- what entries tell
 
--- how the call that left an item ended
-pub item_end_formed : {limits : Limits} {held : Held} → IsFormedHeld limits held → IsFormedEnd limits (item_end held)
-item_end_formed {limits} {held} formed =
-    by_found (λ value. IsFormedEnd limits (record (item_end held) { end = end_of_item held.version value })) held.value
-    (λ none. assumption formed) (λ value is. assumption formed)
-
--- how a refused call ended
-pub refusal_end_formed : {limits : Limits} {refused : Refused} → IsFormedRefused limits refused → IsFormedEnd limits (refusal_end refused)
-refusal_end_formed {limits} {refused} formed = grind (arith, either_way, refusal_end)
-
 -- the ends that a well formed entry tells
 pub told_formed : (limits : Limits) (entry : Entry) → IsFormedEntry limits entry → All (IsFormedEnd limits) (told_by entry)
-told_formed limits entry formed = grind (arith, item_end, item_end_formed, refusal_end, refusal_end_formed)
+told_formed limits entry formed = grind (arith, item_end, refusal_end, by_found, end_of_item, either_way)
 
 -- ---- small changes of a commit
 
@@ -53,9 +42,7 @@ item_stays master _ = record { log = refl; applied = refl }
 -- one more entry is applied, where there is one
 formed_with_applied : {limits : Limits} {number : ℕ} {master : Master} → IsFormedMaster limits number master
     → master.applied < length master.log.entries → IsFormedMaster limits number (with_applied master)
-formed_with_applied {master} formed more =
-    let applied : master.applied + 1 ≤ length master.log.entries = omega arith in
-    assumption
+formed_with_applied {master} formed more = grind arith
 
 -- a call at a place waits no more
 formed_without_call : {limits : Limits} {number : ℕ} {master : Master} (place : ℕ) → IsFormedMaster limits number master
@@ -64,17 +51,10 @@ formed_without_call {limits} {master} place formed = formed_with_calls (remove m
     (in_order_remove master.calls place formed.calls_order) (each_less (IsFormedCall limits (length master.log.entries))
     (remove master.calls place) master.calls (remove_less master.calls place) formed.calls)
 
--- it waits for as many side segments
-noting_waits : (call : Call) (end : Ended) (tablet : Tablet) → side_waits_of (noting call end tablet) ≤ side_waits_of tablet
-noting_waits call end tablet = either_way (λ (now : Tablet). side_waits_of now ≤ side_waits_of tablet)
-    (not (is_absent tablet.handover.role) && has_key tablet.handover.range call.table call.key)
-    (omega arith) (omega arith)
-
 -- and so do all tablets
 pub noted_waits : (call : Call) (end : Ended) (tablets : NumberMap Tablet)
     → side_waits (changed_each (λ number tablet. noting call end tablet) tablets) ≤ side_waits tablets
-noted_waits call end tablets =
-    waits_changed (λ number tablet. noting call end tablet) (λ number tablet. noting_waits call end tablet) tablets
+noted_waits call end tablets = grind (arith, waits_changed, noting, either_way, side_waits_of, is_absent, has_key)
 
 -- each tablet that has the key of a call notes its end
 formed_with_noted : {limits : Limits} {number : ℕ} {master : Master} (call : Call) {end : Ended} → IsFormedMaster limits number master

@@ -27,9 +27,7 @@ one_stood limits n stood = omega arith
 pub formed_begun : {limits : Limits} (source : ℕ) (handover : Handover) {term : ℕ} {range : Range} (role : Role)
     → IsFormedNumber limits handover.counter → IsFormedNumber limits term → IsLawfulRange range → IsNumber w64 0 (place_in role)
     → is_receiving role ≡ false → IsFormedHandover limits source (record handover { role = role; term = term; range = range })
-formed_begun {limits} source handover role counter new lawful place still =
-    let source_is : is_receiving role ≡ true → IsMaster limits.masters source = λ receives. absurd (cc (receives, still)) in
-    assumption
+formed_begun {limits} source handover role counter new lawful place still = grind (arith, is_receiving)
 
 -- ---- Prepare
 
@@ -130,9 +128,8 @@ module _ (limits : Limits) (number : ℕ) (master : Master) (tenure : Tenure) (t
 
   -- a source that is frozen at this term tells it
   formed_transferring : AreLimits limits → IsMaster limits.masters number → IsFormedWork limits number 1 (handing.transferring master tenure)
-  formed_transferring are there = cond_both _ _ _ (IsFormedWork limits number 1)
-      (λ is. formed_sending formed (transfer_is_formed are there (tablet_there tenure.tablet (role_there is_frozen refl it.handover.role _ is) formed)))
-      (λ other. formed_changed formed)
+  formed_transferring are there =
+      grind (arith, cond_both, formed_sending, transfer_is_formed, tablet_there, role_there, is_frozen, formed_changed)
 
   -- a master that takes an Own
   pub formed_own : IsFormedWork limits number 1 (handing.own_taken master tenure)

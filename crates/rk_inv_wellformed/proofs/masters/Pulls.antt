@@ -1,12 +1,12 @@
 -- A source that answers pulls and a target that replays what it pulled stay well formed, and what the source sends is.
-use Rattle.std.proofs.Common.{◌≡◌, ◌≤◌, ◌<◌, ◌-◌, ◌==◌, ◌^◌, ℕ, nat_le, List, [], ◌∷◌, ◌++◌, All, length, Option, None, Some, refl, ap}
-use Rattle.std.proofs.Common.{subst, sym, arith, length-append, w64, flat_map}
+use Rattle.std.proofs.Common.{◌≡◌, ◌≤◌, ◌<◌, ◌-◌, ◌^◌, ℕ, nat_le, List, [], ◌∷◌, ◌++◌, All, length, refl, ap, subst, sym, arith}
+use Rattle.std.proofs.Common.{length-append, w64, flat_map}
 use Rattle.rk_inv_wellformed.proofs.Words.{All-append, All-cons, All-drop, All-filter, All-head, All-nil, All-tail, AllByRecursion}
 use Rattle.rk_inv_wellformed.proofs.Words.{spelled_of, Held, Token, Node, IsLawfulEntry, IsNumber, IsInScanOrder, IsLawfulToken, Message}
 use Rattle.rk_inv_wellformed.proofs.Words.{Pull, Want, items_of, IsFormedMaster, IsFormedHeld, IsFormedMessage, IsFormedTenure, IsThere}
 use Rattle.rk_inv_wellformed.proofs.Words.{Limits, Master, tablet_at, as_entries, IsMaster, Tablet, from_master, Body, cond_both, last_or}
 use Rattle.rk_inv_wellformed.proofs.Words.{order_live, at_hash, is_live_in, item_bucket, batch_at, batch_of, left, next_token, passed}
-use Rattle.rk_inv_wellformed.proofs.Words.{rest_at, token_before, token_of}
+use Rattle.rk_inv_wellformed.proofs.Words.{rest_at, token_before}
 use Rattle.rk_table.proofs.InOrder.{bucket_below_end, rises_in_order}
 use Rattle.rk_table.proofs.Tokens.{passed_and_left}
 use Rattle.rk_pull.specs.declared.batches.TheConstants.{BATCH_BYTES}
@@ -38,23 +38,15 @@ each_batch P limit (item ∷ items) all = All-cons P item _ (All-head P item ite
 
 batch_few : (limit : ℕ) (items : List Held) → length (batch_of limit items) ≤ length items
 batch_few limit [] = omega arith
-batch_few limit (item ∷ items) = either_way (λ (rest : List Held). length (item ∷ rest) ≤ length (item ∷ items)) (nat_le limit (spelled_of item))
-    (omega arith) (omega (arith, batch_few (limit - spelled_of item) items))
+batch_few limit (item ∷ items) = grind (arith, either_way, nat_le, spelled_of, (batch_few (limit - spelled_of item) items))
 
 -- what is left at a token are items of the list
 each_left : (P : Held → Type 0) (token : Token) (items : List Held) → All P items → All P (left token items)
 each_left P token items all =
     All-append P _ _ (All-drop P token.skip _ (All-filter _ P items all)) (All-filter _ P items all)
 
--- a token that stands behind so many items can be spelled
-token_behind_fits : (last : Option Held) (done : List Held) → length done < 2 ^ 30 → IsLawfulToken (token_of last done)
-token_behind_fits None done few = omega arith
-token_behind_fits (Some item) done few =
-    omega (arith, few, bucket_below_end item, filter_few (λ other. item_bucket other == item_bucket item) done)
-
 token_fits : (rest done : List Held) → length done < 2 ^ 30 → IsLawfulToken (token_before rest done)
-token_fits [] done few = omega arith
-token_fits (item ∷ rest) done few = token_behind_fits (last_or None done) done few
+token_fits rest done few = grind (arith, last_or, bucket_below_end, filter_few, item_bucket)
 
 -- the token that a scan answers can be spelled
 next_fits : (token : Token) (limit : ℕ) (items : List Held) → IsInScanOrder items → length items < 2 ^ 30 → IsLawfulToken (next_token token limit items)

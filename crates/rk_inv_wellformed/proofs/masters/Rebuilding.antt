@@ -1,8 +1,8 @@
 -- A master that rebuilds a tablet stays well formed: when it begins, when it gathers a segment, and when it merges; and what it merges of
 -- well formed entries is: its copies, its ends and its floor.
-use Rattle.std.proofs.Common.{◌≡◌, ◌≤◌, ◌<◌, ◌+◌, ◌==◌, ◌&&◌, ℕ, false, true, if◌then◌else◌, List, [], ◌∷◌, ◌++◌, filter, map, All}
-use Rattle.std.proofs.Common.{length, Option, None, Some, IfSome, refl, subst, sym, ◌∙◌, ⊎_elim, arith, nat_lt, w64, not, flat_map}
-use Rattle.std.proofs.Common.{eq-eqb, ◌-◌, slice_index_or}
+use Rattle.std.proofs.Common.{◌≡◌, ◌≤◌, ◌<◌, ◌+◌, ◌==◌, ◌&&◌, ℕ, false, true, if◌then◌else◌, List, [], ◌∷◌, ◌++◌, filter, map, All, length}
+use Rattle.std.proofs.Common.{Option, None, Some, IfSome, refl, subst, sym, ⊎_elim, arith, nat_lt, w64, not, flat_map, eq-eqb, ◌-◌}
+use Rattle.std.proofs.Common.{slice_index_or}
 use Rattle.rk_inv_wellformed.proofs.Words.{cond_both, length_push, All-filter, All-head, All-map, All-nil, All-push, All-tail}
 use Rattle.rk_inv_wellformed.proofs.Words.{each_insert, Ended, Member, Range, entries_of, IsNumber, Entry, completions_from, ends_of}
 use Rattle.rk_inv_wellformed.proofs.Words.{role_carried, Handover, Role, CopySegment, Rebuild, items_of, IsFormedGathered, IsFormedMaster}
@@ -106,9 +106,7 @@ floor_first list = fold_keeps (λ floor. 1 ≤ floor) floor_by list 1 (omega ari
 
 -- where the entries are well formed it is at most one above the greatest number
 floor_within_by : (limits : Limits) (floor : ℕ) (entry : Entry) → floor ≤ limits.top + 1 → IsFormedEntry limits entry → floor_by floor entry ≤ limits.top + 1
-floor_within_by limits floor (Entry.Held held) below formed = omega (arith, formed)
-floor_within_by limits floor (Entry.Carried carried) below formed = omega (arith, formed)
-floor_within_by limits floor _ below formed = below
+floor_within_by limits floor entry below formed = grind arith
 
 pub floor_within : (limits : Limits) (list : List Entry) → All (IsFormedEntry limits) list → floor_of list ≤ limits.top + 1
 floor_within limits list formed =
@@ -346,10 +344,6 @@ module _ (limits : Limits) (number : ℕ) (master : Master) (rebuild : Rebuild) 
 
 -- ---- Rebuild and Copy
 
--- a number that is not greater than another one and not it is below it
-below_or_not : (n limit : ℕ) → (n ≡ limit → ⊥) → (n ≤ limit → n < limit)
-below_or_not n limit apart within = omega arith
-
 -- a master that takes a Rebuild
 pub formed_rebuild : {small limits : Limits} {number : ℕ} {master : Master} {rebuild : Rebuild} → IsMore small limits → AreLimits limits
     → IsFormedRebuild small rebuild → IsFormedMaster small number master → IsNumber w64 0 (length master.log.entries)
@@ -361,9 +355,7 @@ formed_rebuild {small} {limits} {number} {master} {rebuild} more are told formed
 
 -- after a main segment was read another one may follow, unless it was the last that there can be
 one_more : (main : List (List Entry)) (list : List Entry) → length main < LAST_MAIN_SEGMENT → (length main + 1 == LAST_MAIN_SEGMENT) ≡ false → length (main ++ list ∷ []) < LAST_MAIN_SEGMENT
-one_more main list below apart =
-    let differs : length main + 1 ≡ LAST_MAIN_SEGMENT → ⊥ = λ same. absurd (cc (sym apart ∙ eq-eqb (length main + 1) LAST_MAIN_SEGMENT same)) in
-    omega (arith, length_push main list, below_or_not (length main + 1) LAST_MAIN_SEGMENT differs (omega arith))
+one_more main list below apart = grind (arith, eq-eqb, length_push)
 
 -- a member of which a segment was read
 segment_formed : {limits : Limits} {gathered : Gathered} (segment : ℕ) (bytes : Option (List ℕ)) → All (IsFormedEntry limits) (entries_of (bytes_of bytes)) → IsFormedGathered limits gathered → IsFormedGathered limits (with_segment gathered segment bytes)

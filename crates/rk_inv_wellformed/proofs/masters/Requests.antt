@@ -77,16 +77,10 @@ read_formed : (limits : Limits) (live : Option (ℕ × List ℕ)) → IsFormedLi
 read_formed limits None formed = tt
 read_formed limits (Some found) formed = (from_zero64 formed.fits, formed.value)
 
--- the version of what is there
-version_formed : (limits : Limits) (live : Option (ℕ × List ℕ)) → IsFormedLive limits live
-    → IsNumber w64 0 (version_of live) × (version_of live ≤ limits.top)
-version_formed limits None formed = omega arith
-version_formed limits (Some found) formed = (from_zero64 formed.fits, formed.version)
-
 operation_formed : {limits : Limits} (master : Master) {number : ℕ} (op : Op) (live : Option (ℕ × List ℕ))
     → IsFormedTablet limits number (tablet_at master number) → IsLawfulOp op → IsFormedLive limits live
     → IsFormedChoice limits master (operation number op live)
-operation_formed {limits} master op live there lawful formed = grind (arith, read_formed, cond_both, version_of, version_formed)
+operation_formed {limits} master op live there lawful formed = grind (arith, read_formed, cond_both, version_of, from_zero64)
 
 -- the end that is known of a call
 look_formed : (limits : Limits) (completions : Completions) (client seq : ℕ) (end : End) → All (IsFormedEnd limits) (ends_of completions)

@@ -1,19 +1,17 @@
 -- A target that replays what it pulled stays well formed; and one that has pulled all seals its side logs: the side segments that it makes
 -- are well formed, and so is the master then.
-use Rattle.std.proofs.Common.{◌≡◌, ◌≤◌, ◌<◌, ◌+◌, ◌%◌, ◌&&◌, ◌^◌, ℕ, Bool, false, true, List, [], ◌∷◌, ◌++◌, fold, map, sum}
-use Rattle.std.proofs.Common.{All, length, length-append, None, refl, ap, subst, sym, arith, w32, w64, sum_by, nat_eq, ne_eqb, leb-true}
-use Rattle.std.proofs.Common.{length-set, ◌∙◌, slice_index_or}
-use Rattle.rk_inv_wellformed.proofs.Words.{cond_both, length_push, All-append, All-cons, All-head, All-nil, All-push}
-use Rattle.rk_inv_wellformed.proofs.Words.{All-tail, length-range_with_len, sum-map, sum_by-cons, range_with_len}
-use Rattle.rk_inv_wellformed.proofs.Words.{Held, SEGMENT_BYTES, held_spelled, IsNumber, FIRST_SIDE_SEGMENT}
-use Rattle.rk_inv_wellformed.proofs.Words.{Role, IsLawfulToken, Got, Pulled, items_of, IsFormedMaster, IsFormedPulling}
-use Rattle.rk_inv_wellformed.proofs.Words.{IsFormedTablet, side_waits, IsFormedHeld, Limits, Master, log_bytes, tablet_at}
-use Rattle.rk_inv_wellformed.proofs.Words.{with_side_segment, as_entries, replay, token_passed, with_pulling, is_receiving, sealed_sides}
-use Rattle.rk_inv_wellformed.proofs.Words.{Pulling, Tablet, closing_entry, Hashes, got, is_batch, no_hashes, end, AreSideSegments}
-use Rattle.rk_inv_wellformed.proofs.Words.{batch_taken, got_taken, hashes_resolved, is_token, joining_at, joining_by, next_sides}
-use Rattle.rk_inv_wellformed.proofs.Words.{pulled_all, pulled_taken, sealing, is_receiving_at, cut_items, with_side_item, Entry, All-set}
-use Rattle.rk_inv_wellformed.proofs.Words.{Token, found, is_newer, with_tablet, item_replayed, replay_one, with_pulled}
-use Rattle.rk_inv_wellformed.proofs.Words.{spelled_all, length-le-bytes}
+use Rattle.std.proofs.Common.{◌≡◌, ◌≤◌, ◌<◌, ◌+◌, ◌%◌, ◌&&◌, ℕ, Bool, false, true, List, [], ◌∷◌, ◌++◌, fold, map, sum, All, length}
+use Rattle.std.proofs.Common.{length-append, None, refl, ap, subst, sym, arith, w64, nat_eq, ne_eqb, leb-true, length-set, ◌∙◌}
+use Rattle.std.proofs.Common.{slice_index_or}
+use Rattle.rk_inv_wellformed.proofs.Words.{cond_both, length_push, All-append, All-cons, All-head, All-nil, All-push, All-tail}
+use Rattle.rk_inv_wellformed.proofs.Words.{length-range_with_len, sum-map, sum_by-cons, range_with_len, Held, SEGMENT_BYTES, held_spelled}
+use Rattle.rk_inv_wellformed.proofs.Words.{IsNumber, Role, IsLawfulToken, Got, Pulled, items_of, IsFormedMaster, IsFormedPulling}
+use Rattle.rk_inv_wellformed.proofs.Words.{IsFormedTablet, side_waits, IsFormedHeld, Limits, Master, tablet_at, with_side_segment}
+use Rattle.rk_inv_wellformed.proofs.Words.{as_entries, replay, token_passed, with_pulling, is_receiving, sealed_sides, Pulling, Tablet}
+use Rattle.rk_inv_wellformed.proofs.Words.{closing_entry, Hashes, got, is_batch, no_hashes, end, AreSideSegments, batch_taken, got_taken}
+use Rattle.rk_inv_wellformed.proofs.Words.{hashes_resolved, is_token, joining_at, joining_by, next_sides, pulled_all, pulled_taken, sealing}
+use Rattle.rk_inv_wellformed.proofs.Words.{is_receiving_at, cut_items, with_side_item, Entry, All-set, Token, found, is_newer, with_tablet}
+use Rattle.rk_inv_wellformed.proofs.Words.{item_replayed, replay_one, with_pulled, spelled_all, length-le-bytes}
 use Rattle.std.proofs.lemmas.List.FromFn.{get_or-range_with_len}
 use Rattle.std.proofs.lemmas.Map.Keys.{IsDistinct-from_apart}
 use Rattle.std.specs.List.{IsDistinct}
@@ -21,7 +19,6 @@ use Rattle.rk_types.specs.Held.{spelled_of}
 use Rattle.rk_inv_wellformed.proofs.bytes.Bytes.{spelled_cons}
 use Rattle.rk_log.proofs.CutLaws.{spelled_none}
 use Rattle.rk_inv_wellformed.proofs.bytes.EntryBytes.{held_fits, FitsSegment}
-use Rattle.rk_inv_wellformed.proofs.bytes.Sizes.{side_bytes}
 use Rattle.rk_inv_wellformed.proofs.maps.{range_within, all_given, by_found, either_way, all_at, all_flat, fold_keeps, fold_keeps_all}
 use Rattle.rk_inv_wellformed.proofs.masters.Changes.{formed_with_side_segment, formed_with_tablet, formed_with_waiting, formed_with_item}
 use Rattle.rk_inv_wellformed.proofs.masters.Changes.{tablet_there, closing_is, formed_closed, joining_is}
@@ -149,9 +146,6 @@ formed_with_sides {limits} {number} pieces {master} all formed =
 
 -- ---- the numbers of side segments
 
-numbers_fit : (first count : ℕ) → FIRST_SIDE_SEGMENT ≤ first → first + count ≤ 2 ^ 32 → All (IsNumber w32 FIRST_SIDE_SEGMENT) (range_with_len first count)
-numbers_fit first count least fits place other within = omega (arith, range_within first count place other within, least, fits)
-
 numbers_distinct : (first count : ℕ) → IsDistinct nat_eq (range_with_len first count)
 numbers_distinct first count = IsDistinct-from_apart nat_eq (range_with_len first count) (λ i j d before within.
     let below : j < count = omega (arith, within, length-range_with_len first count) in
@@ -215,17 +209,7 @@ module _ (limits : Limits) (number id : ℕ) (master : Master) where
 
   numbers_formed : IsFormedAt limits number id master → HasRoomFor limits (pulled_all master id) → AreSideSegments numbers
   numbers_formed formed room =
-      let same : (pulled_all master id).log.sides ≡ now.log.sides = joined_sides sealed id (tablet_at sealed id) (tablet_at sealed id).pulling.sealed in
-      let few : length now.log.sides ≤ sum_by (λ (b : List ℕ). length b) now.log.sides = length-le-bytes now.log.sides (λ k within. ((now_formed formed).sides k [] within).some) in
-      let bytes : sum_by (λ (b : List ℕ). length b) now.log.sides ≤ log_bytes (pulled_all master id) =
-      subst (λ (sides : List (List ℕ)). sum_by (λ (b : List ℕ). length b) sides ≤ log_bytes (pulled_all master id)) same
-      (side_bytes (pulled_all master id)) in
-      let fits : FIRST_SIDE_SEGMENT + length master.log.sides + length pieces ≤ 2 ^ 32 =
-      omega (arith, few, bytes, room.bytes, sides_counted pieces master) in
-      record {
-        each = numbers_fit (FIRST_SIDE_SEGMENT + length master.log.sides) (length pieces) (omega arith) fits;
-        distinct = numbers_distinct (FIRST_SIDE_SEGMENT + length master.log.sides) (length pieces);
-      }
+      grind (arith, length-le-bytes, now_formed, sides_counted, numbers_distinct, range_within)
 
   -- the side segments that it waits for then are new ones
   sealed_few : IsFormedAt limits number id master
@@ -287,9 +271,7 @@ got_wanted : (hashes : Hashes) (given : List ℕ) → All (IsNumber w64 0) hashe
 got_wanted hashes given all = cond_both _ _ _ (λ (h : Hashes). All (IsNumber w64 0) h.wanted) (λ is. all) (λ other. all)
 
 got_outstanding : (hashes : Hashes) (given : List ℕ) → All (IsNumber w64 0) hashes.outstanding → All (IsNumber w64 0) (got hashes given).outstanding
-got_outstanding hashes given all =
-    cond_both (is_batch hashes.outstanding given) (record { resolved = hashes.resolved ++ hashes.outstanding; outstanding = []; wanted = hashes.wanted }) hashes
-    (λ (h : Hashes). All (IsNumber w64 0) h.outstanding) (λ is. All-nil _) (λ other. all)
+got_outstanding hashes given all = grind (arith, cond_both, is_batch, w64)
 
 -- the hashes that were asked for have come
 formed_resolved : {limits : Limits} {number id : ℕ} {master : Master} (hashes : List ℕ) → IsFormedAt limits number id master → IsFormedMaster limits number (hashes_resolved master id hashes)

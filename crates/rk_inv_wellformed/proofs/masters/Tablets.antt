@@ -116,9 +116,7 @@ formed_with_handover formed new = assumption
 -- the counter of a tablet rises by one
 pub formed_counted_up : {limits : Limits} {number : ℕ} {tablet : Tablet} → IsFormedTablet limits number tablet → tablet.handover.counter < limits.top
     → IsFormedTablet limits number (counted_up tablet)
-formed_counted_up {limits} {tablet} formed below =
-    let counter : IsFormedNumber limits (tablet.handover.counter + 1) = omega (arith, formed.counter) in
-    assumption
+formed_counted_up {limits} {tablet} formed below = grind arith
 
 -- a tablet that notes the end of a call
 pub formed_noting : {limits : Limits} {number : ℕ} {tablet : Tablet} {end : Ended} → IsFormedTablet limits number tablet → IsFormedEnd limits end

@@ -105,9 +105,7 @@ module _ (limits : Limits) (number : ℕ) (master : Master) (are : AreLimits lim
   -- what is sent to a backup
   append_formed : (backup : ℕ) (piece : Option PlacedBytes) → (1 ≤ backup) × (backup ≤ limits.backups) → IfSome piece IsToldPiece
       → All (IsFormedMessage limits) (append_of master backup piece)
-  append_formed backup None is told = All-nil (IsFormedMessage limits)
-  append_formed backup (Some piece) is told = All-cons (IsFormedMessage limits) (append_to master backup piece) []
-      (sent (Node.Backup backup) _ is (told.segment, told.at) told.ends) (All-nil (IsFormedMessage limits))
+  append_formed backup piece is told = grind (arith, append_to, sent)
 
   -- what is sent to the backups, where each segment can be told
   appends_formed : All IsTold (segments master.log) → All (IsFormedMessage limits) (appends master)
@@ -169,8 +167,7 @@ module _ (limits : Limits) (number : ℕ) (master : Master) (are : AreLimits lim
       → (is_receiving role ≡ true → IsMaster limits.masters tablet.pulling.source) → IsFormedWork limits number 2 (tablet_duty master id tablet role)
   duty_formed id tablet Role.Receiving is held place source = receiving_formed id tablet is held (source refl)
   duty_formed id tablet (Role.Joining (Some entry)) is held place source =
-      either_way (IsFormedWork limits number 2) (nat_lt entry master.applied)
-      (tells Node.Coordinator _ tt (tenure_fits are (its_tenure id tablet held)) (its_tenure id tablet held)) (formed_changed formed)
+      grind (arith, either_way, nat_lt, tells, tenure_fits, formed_changed)
   duty_formed id tablet (Role.Rebuilding from None) is held place source =
       reading_formed id tablet held (next_reading tablet.gather) (next_formed limits tablet.gather.range tablet.gather.members held.gathered)
   duty_formed id tablet (Role.Rebuilding from (Some entry)) is held place source = rebuilt_formed id tablet held entry place
@@ -199,13 +196,8 @@ duty_is P master id tablet role stays asks = grind (arith, either_way, nat_lt, b
 
 -- ---- the turn
 
--- what is sent to the backups is no more than one message for each
-append_one : (master : Master) (backup : ℕ) (piece : Option PlacedBytes) → length (append_of master backup piece) ≤ 1
-append_one master backup None = omega arith
-append_one master backup (Some piece) = omega arith
-
 appends_few : (master : Master) → length (appends master) ≤ length master.log.known
-appends_few master = grind (arith, one_of_each, append_of, pending, append_one, length-range_with_len)
+appends_few master = grind (arith, one_of_each, append_of, pending, length-range_with_len)
 
 -- the number of a tablet can be spelled, so there are not too many
 tablets_few : {limits : Limits} {number : ℕ} {master : Master} → IsFormedMaster limits number master → length master.tablets ≤ 2 ^ 32

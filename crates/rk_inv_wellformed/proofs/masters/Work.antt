@@ -1,13 +1,12 @@
 -- What a master makes of a message or of its turn, when that is well formed: the master after it and all that it sends are, and it sends
 -- and serves no more than is told. Numbers up to the greatest fit their widths, and so do what messages of a master tell.
-use Rattle.std.proofs.Common.{◌≤◌, ◌<◌, ◌+◌, ◌^◌, ◌⊎◌, ℕ, List, [], length, length-append, All, refl, arith, ◌≡◌, ◌∷◌, ◌%◌, ◌*◌, sym}
-use Rattle.std.proofs.Common.{subst, lit<, mod-lt, bit_xor, w32, w64}
-use Rattle.rk_inv_wellformed.proofs.Words.{All-append, All-nil, MOST_BACKUPS, Message, IsFormedMaster, MOST_BASE_CLIENTS}
-use Rattle.rk_inv_wellformed.proofs.Words.{IsFormedMessage, Limits, Master, log_bytes, MOST_MASTERS, MOST_CLIENTS, MOST_BYTES}
-use Rattle.rk_inv_wellformed.proofs.Words.{MOST_NUMBER, Worked, changed, sending, counters_of, HasRoomIn, Served, Answer, Call, Node}
-use Rattle.rk_inv_wellformed.proofs.Words.{IsNumber, IsLawfulBody, Tenure, Body, IsFormedBody, IsFormedNumber, IsFormedTenure, IsThere}
-use Rattle.rk_inv_wellformed.proofs.Words.{IsLawfulCall, IsMaster, from_master, HASH_PRIME, HASH_START, IsLawfulAnswer, IsLawfulTenure}
-use Rattle.rk_inv_wellformed.proofs.Words.{then_works, answering}
+use Rattle.std.proofs.Common.{◌≤◌, ◌<◌, ◌+◌, ◌^◌, ◌⊎◌, ℕ, List, [], length, length-append, All, refl, arith, ◌≡◌, ◌∷◌, ◌%◌, ◌*◌, sym, subst}
+use Rattle.std.proofs.Common.{lit<, mod-lt, bit_xor, w64}
+use Rattle.rk_inv_wellformed.proofs.Words.{All-append, All-nil, MOST_BACKUPS, Message, IsFormedMaster, MOST_BASE_CLIENTS, IsFormedMessage}
+use Rattle.rk_inv_wellformed.proofs.Words.{Limits, Master, log_bytes, MOST_MASTERS, MOST_CLIENTS, MOST_BYTES, MOST_NUMBER, Worked, changed}
+use Rattle.rk_inv_wellformed.proofs.Words.{sending, counters_of, HasRoomIn, Served, Answer, Call, Node, IsNumber, IsLawfulBody, Tenure}
+use Rattle.rk_inv_wellformed.proofs.Words.{Body, IsFormedBody, IsFormedNumber, IsFormedTenure, IsThere, IsLawfulCall, IsMaster, from_master}
+use Rattle.rk_inv_wellformed.proofs.Words.{HASH_PRIME, HASH_START, IsLawfulAnswer, IsLawfulTenure, then_works, answering}
 use Rattle.rk_types.specs.Hashing.{hash_of}
 use Rattle.rk_inv_wellformed.proofs.maps.{fold_keeps}
 
@@ -94,10 +93,6 @@ counted_fits {n} are formed = number_fits 1 n are formed.first formed.last
 pub from_zero64 : {n : ℕ} → IsNumber w64 1 n → IsNumber w64 0 n
 from_zero64 formed = record { least_is = omega arith; fits = formed.fits }
 
--- and so it is of numbers of four bytes
-pub from_zero32 : {n : ℕ} → IsNumber w32 1 n → IsNumber w32 0 n
-from_zero32 formed = record { least_is = omega arith; fits = formed.fits }
-
 -- the hash of a key fits eight bytes
 pub hash_fits : (key : List ℕ) → IsNumber w64 0 (hash_of key)
 unfolding hash_of
@@ -110,7 +105,7 @@ hash_fits key = record {
 
 -- a tenure that is well formed can be spelled
 pub tenure_fits : {limits : Limits} {tenure : Tenure} → AreLimits limits → IsFormedTenure limits tenure → IsLawfulTenure tenure
-tenure_fits are formed = (from_zero32 formed.tablet, from_zero64 (counted_fits are formed.term))
+tenure_fits are formed = grind (arith, from_zero64, counted_fits, formed.tablet, formed.term)
 
 -- ---- messages
 

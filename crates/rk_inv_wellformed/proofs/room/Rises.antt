@@ -10,8 +10,7 @@ use Rattle.rk_inv_wellformed.proofs.Words.{Served, with_message, next_record, wi
 use Rattle.rk_inv_wellformed.proofs.Words.{with_served, ledger_after}
 use Rattle.rk_inv_wellformed.proofs.lanes.Ledgers.{ended_is, ended_keeps, served_is, clients_rebuilt, clients_served, last_pushed}
 use Rattle.rk_inv_wellformed.proofs.lanes.Works.{after_coordinated, after_work}
-use Rattle.rk_inv_wellformed.proofs.lanes.Worlds.{counters_in, seen_within, sent_within, stamp_within, stamps_seen, terms_in}
-use Rattle.rk_inv_wellformed.proofs.lanes.Worlds.{terms_within}
+use Rattle.rk_inv_wellformed.proofs.lanes.Worlds.{counters_in, seen_within, sent_within, stamp_within, stamps_seen, terms_in, terms_within}
 use Rattle.rk_inv_wellformed.proofs.maps.{all_in_map, greatest_within, all_back, all_flat, all_given, by_found, All_insert}
 
 -- what holds of each thing of a map, and of another one, holds of each with that one too

@@ -86,9 +86,7 @@ coordinator_fits {w} low {message} told =
     (terms_below w.top (w.top + 1) taken.coordinator.rows (omega arith) answers.room.terms))
 
 sends_fit : {w : World} (messages : List Message) → IsWellFormed w → w.top < WORN_NUMBER → length messages ≤ MOST_AT_ONCE → (with_sends w messages).world.top < MOST_NUMBER
-sends_fit {w} messages formed low few =
-    most_fits w.top (with_sends w messages).world.top 0 0 (length messages) low (omega arith) (omega arith) few
-    (omega (arith, top_after_sends w formed messages))
+sends_fit {w} messages formed low few = grind (arith, most_fits, with_sends, top_after_sends)
 
 backed_fits : {w : World} (backed : Backed) → IsWellFormed w → w.top < WORN_NUMBER → length backed.sends ≤ 1 → (backed_at w backed).world.top < MOST_NUMBER
 backed_fits {w} backed formed low few = either_way (λ (stepped : Stepped). stepped.world.top < MOST_NUMBER) backed.lost
@@ -227,11 +225,9 @@ with_number number fits = assumption
 -- whatever happens, the numbers of a lane fit after it
 pub number_after : {w : World} (happening : Happening) → MayOccur w happening → IsCalmHappening w happening → IsWellFormed w → HasRoom w → (after w happening).top < MOST_NUMBER
 number_after {w} (Happens event called) may calm formed room =
-    by_found (λ refused. (world_stepped w (stepped_by w event called refused)).top < MOST_NUMBER) (refusal w event)
-    (λ none. room_event w event called may.0 may.1 calm none formed room) (λ error some. room.number)
+    grind (arith, by_found, world_stepped, stepped_by, refusal, room_event, may.0, may.1, room.number)
 number_after {w} (Asks session) may calm formed room = (formed_asks w session may (record { formed = formed; room = room })).room.number
-number_after {w} (Accepts number session) may calm formed room =
-    (formed_accepts w number session may (record { formed = formed; room = room })).room.number
+number_after {w} (Accepts number session) may calm formed room = grind (arith, formed_accepts)
 
 -- each world of a calm run has room where its logs fit
 pub room_run : (w : World) (list : List Happening) → MayAllOccur w list → IsCalm w list → IsWellFormed w → w.top < MOST_NUMBER → AllLogsFit w list → AllHaveRoom w list

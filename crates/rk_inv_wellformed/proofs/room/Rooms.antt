@@ -11,19 +11,14 @@ use Rattle.rk_inv_wellformed.proofs.maps.{by_found, either_way}
 use Rattle.rk_inv_wellformed.proofs.room.Rises.{HaveSeen, KeepsTo, all_inserted, keeps_to_more, keeps_to_top, keeps_with_ledger}
 use Rattle.rk_inv_wellformed.proofs.room.Rises.{keeps_with_sent, top_within}
 
--- a session that is not worn has not seen a stamp that is too great
-seen_fits : (session : Session) (outstanding : Option Call) → worn_session session outstanding ≡ None → session.seen < WORN_NUMBER
-seen_fits session None none = not_too_great WORN_NUMBER session.seen none
-seen_fits session (Some call) none =
-    not_too_great WORN_NUMBER session.seen (no_second (too_great WORN_NUMBER call.seq) (too_great WORN_NUMBER session.seen) none)
-
 -- where a client's turn is not refused, neither its session nor the lane is worn
 record IsFreshTurn (w : World) (session : Session) : Type 0 where
   lane : IsFresh w
   seen : session.seen < WORN_NUMBER
 
 fresh_turn : (w : World) (session : Session) → ask_refusal w session ≡ None → IsFreshTurn w session
-fresh_turn w session none = grind (arith, not_worn, no_first, worn, worn_session, seen_fits, no_second, no_inner, where_true, is_added)
+fresh_turn w session none =
+    grind (arith, not_worn, no_first, worn, worn_session, no_second, no_inner, where_true, is_added, not_too_great, too_great)
 
 -- the journal stays when a call is asked
 journal_asked : (ledger : Ledger) (session : Session) (call : Call) → (ledger_asked ledger session call).journal ≡ ledger.journal

@@ -2,14 +2,13 @@
 -- messages, serve few calls and tell few ends.
 use Rattle.std.proofs.Common.{◌≤◌, ◌<◌, ◌+◌, ◌^◌, ◌&&◌, ◌%◌, ℕ, All, List, length, length-append, Option, None, Some, arith, IfSome, inl}
 use Rattle.std.proofs.Common.{[], ◌∷◌, fold}
-use Rattle.rk_inv_wellformed.proofs.Words.{All-from_recursion, cond_both, Node, Phase, Opening, Row, overreach, Body, Rebuilt}
-use Rattle.rk_inv_wellformed.proofs.Words.{Called, backup_step, Coordinator, coordinator_turn, IsFormedCoordinator, IsFormedMaster}
-use Rattle.rk_inv_wellformed.proofs.Words.{IsTabletMap, MOST_BASE_CLIENTS, IsFormedHeld, Limits}
-use Rattle.rk_inv_wellformed.proofs.Words.{Master, tablet_at, MOST_CLIENTS, Worked, Appended, master_message, row_duty, Precedes, Message}
-use Rattle.rk_inv_wellformed.proofs.Words.{Served, Stored, Overreach, apply_entries, newly_held, stored_taken, with_known, IsLawfulToken}
-use Rattle.rk_inv_wellformed.proofs.Words.{Pulled, items_of, pulled_taken, batch_taken, changed, is_receiving_at, is_token, replay}
-use Rattle.rk_inv_wellformed.proofs.Words.{token_passed, end, IsMaster, IsFormedMessage, master_step, All-map, Held, NumberMap}
-use Rattle.rk_inv_wellformed.proofs.Words.{with_side_segment, with_tablet, sealed_sides, Tablet, no_tablet, all_going_on}
+use Rattle.rk_inv_wellformed.proofs.Words.{All-from_recursion, cond_both, Node, Phase, Opening, Row, overreach, Body, Rebuilt, Called}
+use Rattle.rk_inv_wellformed.proofs.Words.{backup_step, Coordinator, coordinator_turn, IsFormedCoordinator, IsFormedMaster, IsTabletMap}
+use Rattle.rk_inv_wellformed.proofs.Words.{MOST_BASE_CLIENTS, IsFormedHeld, Limits, Master, tablet_at, MOST_CLIENTS, Worked, row_duty}
+use Rattle.rk_inv_wellformed.proofs.Words.{Precedes, Message, Served, Stored, Overreach, apply_entries, newly_held, stored_taken}
+use Rattle.rk_inv_wellformed.proofs.Words.{with_known, IsLawfulToken, Pulled, items_of, pulled_taken, batch_taken, changed, is_receiving_at}
+use Rattle.rk_inv_wellformed.proofs.Words.{is_token, replay, token_passed, end, IsMaster, IsFormedMessage, master_step, All-map, Held}
+use Rattle.rk_inv_wellformed.proofs.Words.{NumberMap, with_side_segment, with_tablet, sealed_sides, Tablet, no_tablet, all_going_on}
 use Rattle.rk_inv_wellformed.proofs.Words.{going_on_in, joining_by, pulled_all, sealing, counters_of}
 use Rattle.rk_inv_wellformed.proofs.bytes.Sizes.{entries_few}
 use Rattle.rk_inv_wellformed.proofs.coordinator.Coordinators.{IsTaken}
@@ -157,9 +156,7 @@ module _ (limits : Limits) (number : ℕ) (master : Master) (there : IsMaster li
 
 -- a rebuild that it takes tells no more ends than there are clients
 pub ends_few : {limits : Limits} (rebuilt : Option Rebuilt) → AreLimits limits → IfSome rebuilt (IsTaken limits) → ends_in rebuilt ≤ MOST_CLIENTS + MOST_BASE_CLIENTS
-ends_few None are taken = omega arith
-ends_few {limits} (Some rebuilt) are taken =
-    omega (arith, are, once_few rebuilt.ends limits.clients taken.once (λ place other within. (taken.ends place other within).client))
+ends_few rebuilt are taken = grind (arith, once_few)
 
 duty_one : (coordinator : Coordinator) (row : Row) (phase : Phase) → length (row_duty coordinator row phase) ≤ 1
 duty_one coordinator row (Opening source sfrom target None) = omega arith
@@ -186,12 +183,6 @@ coordinator_turn_few {limits} {coordinator} formed =
 
 -- ---- a backup
 
-message_few : (backup master : ℕ) (body : Body) (log : ℕ → ℕ → List ℕ) (called : Called) → length (master_message backup master body log called).sends ≤ 1
-message_few backup master (Body.Append append) log (Appended length) = omega arith
-message_few backup master (Body.Read read) log (Appended length) = omega arith
-message_few backup master _ log _ = omega arith
-
 -- a backup answers a message with one at most
 pub backup_step_few : (backup : ℕ) (sender : Node) (body : Body) (log : ℕ → ℕ → List ℕ) (called : Called) → length (backup_step backup sender body log called).sends ≤ 1
-backup_step_few backup (Node.Master master) body log called = message_few backup master body log called
-backup_step_few backup _ body log called = omega arith
+backup_step_few backup sender body log called = grind arith

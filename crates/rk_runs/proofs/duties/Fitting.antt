@@ -1,30 +1,21 @@
 -- The outstanding call of a client fits its lane: it was asked there last, or it comes next.
-use Rattle.std.proofs.Common.{◌≡◌, ◌+◌, ◌<◌, ℕ, Bool, true, false, not, List, Option, Some, length, refl, ap}
-use Rattle.std.proofs.Common.{subst, ◌∙◌, arith, Contains, IfSome, bytes_eq, nat_lt, eq-eqb, lt-ltb}
-use Rattle.rk_inv_base.proofs.Words.{and_from, or_left, or_right, All-contains, bytes_eq-Decides, Call, Op, Placed, Answered, fits_with}
-use Rattle.rk_inv_base.proofs.Words.{is_asked, is_call, is_last, Session, call_lane, Cluster, lane_at, session_at, is_accepted, asked_by}
-use Rattle.rk_inv_base.proofs.Words.{World, LastCall, IsAccepted, IsLastCall}
-use Rattle.rk_world.specs.Calls.{is_next, is_op}
+use Rattle.std.proofs.Common.{◌≡◌, ◌+◌, ◌<◌, ℕ, Bool, true, false, not, Option, Some, length, refl, ap, subst, ◌∙◌, arith, Contains, IfSome}
+use Rattle.std.proofs.Common.{bytes_eq, nat_lt, eq-eqb, lt-ltb}
+use Rattle.rk_inv_base.proofs.Words.{and_from, All-contains, bytes_eq-Decides, Call, Placed, Answered, fits_with, is_call, is_last, Session}
+use Rattle.rk_inv_base.proofs.Words.{call_lane, Cluster, lane_at, session_at, is_accepted, asked_by, World, LastCall, IsAccepted}
+use Rattle.rk_inv_base.proofs.Words.{IsLastCall}
+use Rattle.rk_world.specs.Calls.{is_next}
 use Rattle.rk_inv_events.proofs.events.SameCalls.{accepted_found, found_accepted}
-use Rattle.rk_runs.specs.history.Agreement.{Agrees, IsLastKnown, IsOutstanding, IsToldBy, waiting}
+use Rattle.rk_runs.specs.history.Agreement.{Agrees, IsLastKnown, IsOutstanding, IsToldBy}
 use Rattle.rk_runs.proofs.history.Clusters.{IsGood, IsGoodLane, ledgers_of}
 use Rattle.rk_runs.proofs.history.Receipts.{seqs_within}
 
 -- ---- a call is tested to be itself
 
-bytes_same : (bytes : List ℕ) → bytes_eq bytes bytes ≡ true
-bytes_same bytes = (bytes_eq-Decides bytes bytes).1 refl
-
-op_same : (op : Op) → is_op op op ≡ true
-op_same op = grind (arith, bytes_same, and_from, eq-eqb)
-
-call_same : (call : Call) → is_call call call ≡ true
-call_same call = grind (arith, and_from, bytes_eq, eq-eqb, bytes_same, op_same)
-
 -- the last call is one that is this
 last_same : (call : Call) (session : Session) (last : LastCall) → IsOutstanding session last → session.outstanding ≡ Some call
     → is_last call session.seen (Some last) ≡ true
-last_same call session last is out = grind (arith, and_from, is_call, call_same, eq-eqb)
+last_same call session last is out = grind (arith, and_from, is_call, eq-eqb, bytes_eq, bytes_eq-Decides)
 
 module _ (Steady : World → Type 0) (masters : ℕ) (cluster : Cluster) (good : IsGood Steady masters cluster) (lane client : ℕ) (within : lane < length cluster.lanes) (call : Call) (out : (session_at cluster client).outstanding ≡ Some call) (here : call_lane call ≡ lane) where
   abbrev w : World
@@ -41,9 +32,7 @@ module _ (Steady : World → Type 0) (masters : ℕ) (cluster : Cluster) (good :
 
   -- the call comes after all that were answered
   seq_is : call.seq ≡ length session.receipts + 1
-  seq_is =
-      (subst (λ (o : Option Call). IfSome o (λ c. (c.client ≡ client) × (c.seq ≡ session.last))) out agrees.outstanding).1
-      ∙ agrees.last ∙ ap (λ (o : Option Call). length session.receipts + waiting o) out
+  seq_is = grind (arith, agrees)
 
   -- so it comes after each call of its client whose record is accepted
   accepted_before : (placed : Placed) → Contains w.ledger.journal placed → placed.accepted ≡ true → placed.call.client ≡ client → placed.call.seq < call.seq
@@ -74,13 +63,10 @@ module _ (Steady : World → Type 0) (masters : ℕ) (cluster : Cluster) (good :
       and_from (nat_lt last.call.seq call.seq) _ (lt-ltb last.call.seq call.seq before)
       (subst (λ (c : ℕ). is_accepted w.ledger.journal c last.call.seq ≡ true) is.own (accepted_found w.ledger.journal last.call accepted))
 
-  comes_next : (last : Option LastCall) → asked_by w.ledger session.client ≡ last → is_next w.ledger session call last ≡ true → fits_with w session call ≡ true
-  comes_next last is next = grind (arith, or_right, is_asked, call_lane, asked_by, and_from, eq-eqb, lane_good)
-
   fits_last : (last : Option LastCall) → asked_by w.ledger session.client ≡ last → IsLastKnown w.ledger.journal session last → IfSome last (IsLastCall w.base w.lane session.client)
       → fits_with w session call ≡ true
   fits_last last is known own =
-      grind (arith, comes_next, next_after, or_left, is_asked, call_lane, asked_by, and_from, is_last, last_same, not_accepted)
+      grind (arith, next_after, last_same, not_accepted, eq-eqb)
 
   pub fits : fits_with w session call ≡ true
   fits = grind (arith, fits_last, asked_by, agrees, lane_good)

@@ -1,12 +1,12 @@
 -- What goes on in a lane: who was added there is added still, and no fewer messages were sent, whatever happens.
-use Rattle.std.proofs.Common.{◌≡◌, ◌+◌, ℕ, Bool, true, false, List, [], ◌∷◌, fold, map, Option, Some, None, refl, sym, ap, ◌∙◌}
-use Rattle.std.proofs.Common.{⊎_elim, arith, is_some}
+use Rattle.std.proofs.Common.{◌≡◌, ◌+◌, ℕ, Bool, true, false, List, [], ◌∷◌, fold, Option, Some, None, refl, sym, ap, ◌∙◌, ⊎_elim, arith}
+use Rattle.std.proofs.Common.{is_some}
 use Rattle.rk_inv_base.proofs.Words.{cases_eq, cond_both, none-some, get_other, get_same, NumberMap, get, insert, Call, Traffic}
-use Rattle.rk_inv_base.proofs.Words.{with_message, Body, Message, Called, accept, ask, asking_by, is_asked, ledger_asked}
-use Rattle.rk_inv_base.proofs.Words.{ledger_requested, ledger_taken, ClientTurn, Session, coordinator_step, Ledger, is_added, with_asked}
-use Rattle.rk_inv_base.proofs.Words.{with_rebuilt, refusal, filled, world_stepped, world_visited, ledger_after, seen_in, step, stepped_by}
-use Rattle.rk_inv_base.proofs.Words.{with_sends, worked_at, Worked, World, with_coordinator, with_ledger, with_master, StepError, Event}
-use Rattle.rk_inv_base.proofs.Words.{LastCall, backup_step, coordinator_turn, log_bytes_of, master_at, master_step, master_turn}
+use Rattle.rk_inv_base.proofs.Words.{with_message, Body, Message, Called, accept, ask, asking_by, is_asked, ledger_asked, ledger_taken}
+use Rattle.rk_inv_base.proofs.Words.{ClientTurn, Session, coordinator_step, Ledger, is_added, with_asked, with_rebuilt, refusal}
+use Rattle.rk_inv_base.proofs.Words.{world_stepped, world_visited, seen_in, step, stepped_by, with_sends, worked_at, Worked, World}
+use Rattle.rk_inv_base.proofs.Words.{with_coordinator, with_ledger, StepError, Event, LastCall, backup_step, coordinator_turn, log_bytes_of}
+use Rattle.rk_inv_base.proofs.Words.{master_at, master_step, master_turn}
 use Rattle.rk_world.specs.declared.event.Taken.{Taken}
 use Rattle.rk_world.specs.Client.{session_accept}
 use Rattle.rk_inv_wellformed.proofs.lanes.Asks.{clients_requested}
@@ -35,10 +35,7 @@ sent_there (message ∷ messages) wire there = sent_there messages (with_message
 
 sends_no_fewer : (messages : List Message) (wire : Traffic) → SendsNoFewer wire (fold (λ now message. with_message message now) wire messages)
 sends_no_fewer [] wire = record { sent = omega arith; there = λ more. absurd (omega (arith, more)) }
-sends_no_fewer (message ∷ messages) wire = record {
-  sent = omega (arith, sent_all wire (message ∷ messages));
-  there = λ more. sent_there messages (with_message message wire) (message_there message wire);
-}
+sends_no_fewer (message ∷ messages) wire = grind (arith, sent_all, sent_there, with_message, message_there)
 
 same_wire : (before after : Traffic) → after.sent ≡ before.sent → SendsNoFewer before after
 same_wire before after same = record { sent = omega (arith, same); there = λ more. absurd (omega (arith, same, more)) }
@@ -50,9 +47,7 @@ same_clients before after same client added = ap (λ (clients : NumberMap (Optio
 
 -- one more client, or another last call of one
 more_clients : (clients : NumberMap (Option LastCall)) (one client : ℕ) (last : Option LastCall) → is_some (get clients client) ≡ true → is_some (get (insert clients one last) client) ≡ true
-more_clients clients one client last added =
-    ⊎_elim (λ (is : client ≡ one). ap is_some (get_same clients one last client is))
-    (λ (apart : client ≡ one → ⊥). ap is_some (get_other clients one last client apart) ∙ added) (cases_eq client one)
+more_clients clients one client last added = grind (arith, get_same, get_other, cases_eq)
 
 -- ---- lanes
 
@@ -73,9 +68,7 @@ module _ (w : World) (forgets : Bool) where
 
   worked_on : (master seen : ℕ) (worked : Worked) → GoesOn forgets w (worked_at w master seen worked).world
   worked_on master seen worked =
-      let ledger = ledger_after w.ledger master seen worked in
-      sends_on (with_ledger (with_master w master worked.master) ledger) (map (filled ledger.journal worked.served) worked.sends) refl
-      (same_clients w.ledger ledger (clients_served w.ledger seen worked.served))
+      search (sends_on, clients_served)
 
 -- ---- events
 
@@ -129,11 +122,7 @@ module _ (w : World) where
 
   asking_on : (session : Session) (call : Call) (turn : ClientTurn) → GoesOn false w (asking_by w session call (Some turn)).world
   asking_on session call turn =
-      let asked = ledger_asked w.ledger session call in
-      let saved = ledger_requested asked session.client turn.message turn.message.body in
-      sends_on w false (with_ledger w saved) (turn.message ∷ []) refl
-      (λ client added.
-      same_clients asked saved (clients_requested asked session.client turn.message turn.message.body) client (asked_on session call client added))
+      search (sends_on, clients_requested, asked_on)
 
   -- a client's turn
   pub asked_turn_on : (session : Session) → GoesOn false w (world_visited w (ask w session))

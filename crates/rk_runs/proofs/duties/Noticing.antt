@@ -1,13 +1,11 @@
 -- Once one crash is noticed, each master that has crashed was noticed, until the next one crashes.
-use Rattle.std.proofs.Common.{◌≡◌, ◌==◌, ◌≤◌, ◌<◌, ◌+◌, ℕ, zero, suc, Bool, true, false, List, [], ◌∷◌, ◌++◌, fold, Option, Some}
-use Rattle.std.proofs.Common.{None, refl, sym, ap, subst, ◌∙◌, ⊎_elim, append-nil, append_assoc, arith, filter, not, eq-eqb}
-use Rattle.std.proofs.Common.{eqb-true}
-use Rattle.rk_inv_base.proofs.Words.{and_from, cases_eq, false≢true, or_left, or_right, All-contains}
-use Rattle.rk_inv_base.proofs.Words.{Any-from_list_any, list_any-append, list_any, range_with_len, row_of, Row, Called}
-use Rattle.rk_inv_base.proofs.Words.{accept, ask, Session, Coordinator, is_noticed, told_coordinator, IsWellFormed, migrating}
-use Rattle.rk_inv_base.proofs.Words.{row_migrated, tablet_migrated, coordinator_notice, notice_one, notice_order, IsMaster, refusal}
-use Rattle.rk_inv_base.proofs.Words.{world_stepped, world_visited, rows_split, rows_split_of, happened, step, stepped_by, World}
-use Rattle.rk_inv_base.proofs.Words.{crashed_masters, has_crashed, new_world, Event}
+use Rattle.std.proofs.Common.{◌≡◌, ◌==◌, ◌≤◌, ◌<◌, ◌+◌, ℕ, zero, suc, Bool, true, false, List, [], ◌∷◌, ◌++◌, fold, refl, sym, ap, subst}
+use Rattle.std.proofs.Common.{◌∙◌, ⊎_elim, append-nil, append_assoc, arith, filter, not, eq-eqb, eqb-true}
+use Rattle.rk_inv_base.proofs.Words.{and_from, cases_eq, false≢true, or_left, or_right, All-contains, Any-from_list_any, list_any-append}
+use Rattle.rk_inv_base.proofs.Words.{list_any, range_with_len, row_of, Row, Called, accept, ask, Session, Coordinator, is_noticed}
+use Rattle.rk_inv_base.proofs.Words.{told_coordinator, IsWellFormed, migrating, tablet_migrated, coordinator_notice, notice_one}
+use Rattle.rk_inv_base.proofs.Words.{notice_order, IsMaster, refusal, world_stepped, world_visited, rows_split, happened, step, stepped_by}
+use Rattle.rk_inv_base.proofs.Words.{World, crashed_masters, has_crashed, new_world, Event}
 use Rattle.rk_inv_base.proofs.pulls.Joining.{stands_kept}
 use Rattle.std.proofs.Common.{Contains}
 use Rattle.rk_inv_base.proofs.Words.{list_any_at}
@@ -21,9 +19,6 @@ use Rattle.rk_runs.proofs.duties.Walks.{EventKeeps, IsKept, Part, accept_keeps, 
 -- whether a master is among these
 abbrev is_in : List ℕ → ℕ → Bool
 is_in list master = list_any (λ other. other == master) list
-
-in_left : (xs ys : List ℕ) (master : ℕ) → is_in xs master ≡ true → is_in (xs ++ ys) master ≡ true
-in_left xs ys master inside = list_any-append (λ (other : ℕ). other == master) xs ys ∙ or_left (is_in xs master) (is_in ys master) inside
 
 in_right : (xs ys : List ℕ) (master : ℕ) → is_in ys master ≡ true → is_in (xs ++ ys) master ≡ true
 in_right xs ys master inside = list_any-append (λ (other : ℕ). other == master) xs ys ∙ or_right (is_in xs master) (is_in ys master) inside
@@ -60,7 +55,7 @@ noticed_after coordinator (dead ∷ order) =
 
 -- the order of the notices leaves nobody out
 in_order : (rows : List Row) (dead : ℕ) (crashed : List ℕ) (master : ℕ) → is_in crashed master ≡ true → is_in (notice_order rows dead crashed) master ≡ true
-in_order rows dead crashed master inside = grind (arith, in_left, in_filter, in_right, and_from)
+in_order rows dead crashed master inside = grind (arith, in_filter, in_right, and_from, list_any-append, or_left)
 
 module _ (w : World) where
   abbrev order : ℕ → List ℕ
@@ -68,9 +63,7 @@ module _ (w : World) where
 
   -- who was noticed before is noticed then
   noticed_still : (dead master : ℕ) → is_noticed w.coordinator master ≡ true → is_noticed (coordinator_notice w.coordinator dead (crashed_masters w)) master ≡ true
-  noticed_still dead master was =
-      subst (λ (list : List ℕ). is_in list master ≡ true) (sym (noticed_after w.coordinator (order dead)))
-      (in_left w.coordinator.noticed (order dead) master was)
+  noticed_still dead master was = grind (arith, noticed_after, list_any-append, or_left)
 
   module _ (formed : IsWellFormed w) where
     -- a master that has crashed is one of the lane's
@@ -95,13 +88,6 @@ module _ (w : World) where
 
 -- ---- until the next crash
 
-migrated_same : (coordinator : Coordinator) (found : Option Row) (to : ℕ) → (row_migrated coordinator found to).noticed ≡ coordinator.noticed
-migrated_same coordinator found to = grind (arith, migrating)
-
-split_same : (coordinator : Coordinator) (found : Option Row) (at new : ℕ) → (rows_split_of coordinator found at new).noticed ≡ coordinator.noticed
-split_same coordinator None at new = refl
-split_same coordinator (Some row) at new = refl
-
 -- each of these was noticed
 abbrev AreNoticed : Part
 AreNoticed crashed coordinator = (master : ℕ) → is_in crashed master ≡ true → is_noticed coordinator master ≡ true
@@ -111,7 +97,7 @@ module _ (w : World) (all : AllNoticed w) where
   same coordinator is master crashed = ap (λ (list : List ℕ). is_in list master) is ∙ all master crashed
 
   kept : IsKept AreNoticed w
-  kept = grind (arith, same, told_coordinator, told_same, tablet_migrated, migrated_same, row_of, rows_split, split_same, noticed_still)
+  kept = grind (arith, same, told_coordinator, told_same, tablet_migrated, row_of, rows_split, noticed_still, migrating)
 
   comes : (event : Event) → is_crash event ≡ false → EventKeeps AreNoticed w event
   comes event calm = grind arith

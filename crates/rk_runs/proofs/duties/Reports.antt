@@ -1,6 +1,5 @@
 -- What the coordinator takes gives no row to a master that was noticed dead, since it does not hear one; and it notices none.
-use Rattle.std.proofs.Common.{arith}
-use Rattle.std.proofs.Common.{◌≡◌, ℕ, List, Option, Some, None, refl, All}
+use Rattle.std.proofs.Common.{arith, ◌≡◌, ℕ, List, Option, Some, None, refl, All}
 use Rattle.rk_inv_base.proofs.Words.{Node, changed_rows, row_of, Phase, Row, Body, Coordinator, told_coordinator}
 use Rattle.rk_tablet_map.specs.Rows.{turned}
 use Rattle.rk_inv_wellformed.proofs.coordinator.Rows.{all_replaced}
@@ -30,9 +29,7 @@ keeps P coordinator now at_phase = grind arith
 
 -- no row comes to be owned by a master that was noticed dead
 pub told_free : (coordinator : Coordinator) → NoDeadOwner coordinator → (sender : Node) (body : Body) → NoDeadOwner (told_coordinator coordinator sender body).coordinator
-told_free coordinator free sender body =
-    told_made (keeps (λ rows noticed. AreNotOwnedBy noticed rows) coordinator free
-    (λ row phase new. changed_free coordinator.noticed coordinator.rows row.tablet row.term phase new free)) sender body
+told_free coordinator free sender body = grind (arith, told_made, keeps, changed_free)
 
 -- and nobody is noticed
 pub told_same : (coordinator : Coordinator) (sender : Node) (body : Body) → (told_coordinator coordinator sender body).coordinator.noticed ≡ coordinator.noticed

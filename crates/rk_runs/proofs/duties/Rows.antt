@@ -1,13 +1,11 @@
 -- No event gives a row to a master that was noticed dead.
-use Rattle.std.proofs.Common.{arith}
-use Rattle.std.proofs.Common.{◌≡◌, ◌==◌, ℕ, true, false, List, [], ◌∷◌, ◌++◌, fold, Option, Some, None, refl, sym, ap}
-use Rattle.std.proofs.Common.{◌∙◌, All, option_map, ne_eqb}
+use Rattle.std.proofs.Common.{arith, ◌≡◌, ◌==◌, ℕ, true, false, List, [], ◌∷◌, ◌++◌, fold, Option, Some, None, refl, sym, ap, ◌∙◌, All}
+use Rattle.std.proofs.Common.{option_map, ne_eqb}
 use Rattle.rk_inv_base.proofs.Words.{cases_Bool, false≢true, All-contains, All-map, All-nil, All-weaker, list_any-append, list_any_none}
-use Rattle.rk_inv_base.proofs.Words.{Range, add_fault, changed_rows, divided, lower_part, replaced, row_of, upper_part, Phase}
-use Rattle.rk_inv_base.proofs.Words.{Row, Called, accept, ask, Session, Coordinator, is_noticed}
-use Rattle.rk_inv_base.proofs.Words.{new_row, migrating, row_migrated, notice_one, notice_order, phase_noticed, row_noticed, refusal}
-use Rattle.rk_inv_base.proofs.Words.{where_true, world_stepped, world_visited, rows_split_of, step, stepped_by, World, crashed_masters}
-use Rattle.rk_inv_base.proofs.Words.{has_crashed, new_world, StepError, Event}
+use Rattle.rk_inv_base.proofs.Words.{Range, add_fault, changed_rows, divided, lower_part, replaced, row_of, upper_part, Phase, Row, Called}
+use Rattle.rk_inv_base.proofs.Words.{accept, ask, Session, Coordinator, is_noticed, new_row, migrating, notice_one, notice_order}
+use Rattle.rk_inv_base.proofs.Words.{phase_noticed, row_noticed, refusal, where_true, world_stepped, world_visited, rows_split_of, step}
+use Rattle.rk_inv_base.proofs.Words.{stepped_by, World, crashed_masters, has_crashed, new_world, StepError, Event}
 use Rattle.std.proofs.lemmas.Bool.{eqb-false}
 use Rattle.rk_tablet_map.specs.Rows.{split_rows}
 use Rattle.rk_inv_wellformed.proofs.lanes.Events.{does_not_hold, has_no_fault, no_first}
@@ -23,13 +21,9 @@ module _ (coordinator : Coordinator) (dead : ℕ) where
   abbrev marked : Coordinator
   marked = record coordinator { noticed = coordinator.noticed ++ dead ∷ [] }
 
-  -- another master that was not noticed is not noticed then
-  still_heard : (master : ℕ) → is_noticed coordinator master ≡ false → (master == dead) ≡ false → is_noticed marked master ≡ false
-  still_heard master heard apart = grind (arith, ne_eqb, eqb-false, list_any-append)
-
   -- each row is rebuilt, or stays as it is
   row_free : (row : Row) (phase : Phase) → row.phase ≡ phase → IsNotOwnedBy coordinator.noticed phase → IsNotOwnedBy marked.noticed (row_noticed row (phase_noticed marked dead phase)).phase
-  row_free row phase is heard = grind (arith, cases_Bool, still_heard)
+  row_free row phase is heard = grind (arith, cases_Bool, ne_eqb, eqb-false, list_any-append)
 
   notice_free : NoDeadOwner coordinator → NoDeadOwner (notice_one coordinator dead)
   notice_free free =
@@ -45,9 +39,6 @@ notices_free (dead ∷ order) coordinator free = notices_free order (notice_one 
 -- ---- a tablet moves, or is split
 
 module _ (coordinator : Coordinator) (free : NoDeadOwner coordinator) where
-  migrated_free : (found : Option Row) (to : ℕ) → NoDeadOwner (row_migrated coordinator found to)
-  migrated_free found to = grind (arith, migrating, changed_free)
-
   abbrev HasNone : Row → Type 0
   HasNone row = IsNotOwnedBy coordinator.noticed row.phase
 
@@ -77,7 +68,7 @@ HasFreeRows crashed coordinator = NoDeadOwner coordinator
 
 module _ (w : World) (free : IsFree w) where
   kept : IsKept HasFreeRows w
-  kept = grind (arith, told_free, migrated_free, row_of, split_free, notices_free, notice_order, is_noticed, crashed_masters)
+  kept = grind (arith, told_free, row_of, split_free, notices_free, notice_order, is_noticed, crashed_masters, migrating, changed_free)
 
   -- a client's turn
   pub asked_free : (session : Session) → IsFree (world_visited w (ask w session))

@@ -1,6 +1,6 @@
 -- Runs of a new cluster: its clients do their duties, and no row is owned by a master that was noticed dead.
-use Rattle.std.proofs.Common.{◌≡◌, ◌+◌, ◌<◌, ◌≤◌, ℕ, true, List, [], ◌∷◌, Option, None, Some, length, sym, subst, arith, Err, Ok, Result}
-use Rattle.rk_inv_base.proofs.Words.{length-map-range_with_len, hash_of, get, Call, LANES, MOST_BACKUPS, Visited, accept, ask, Session}
+use Rattle.std.proofs.Common.{◌≡◌, ◌+◌, ◌<◌, ◌≤◌, ℕ, true, List, [], ◌∷◌, Some, length, sym, subst, arith, Err, Ok, Result}
+use Rattle.rk_inv_base.proofs.Words.{length-map-range_with_len, hash_of, Call, LANES, MOST_BACKUPS, Visited, accept, ask, Session}
 use Rattle.rk_inv_base.proofs.Words.{call_lane, Accepts, Asks, Calls, Cluster, Happens, Joins, Occurrence, called_by_client, cluster_after}
 use Rattle.rk_inv_base.proofs.Words.{cluster_run, cluster_stepped, cluster_visited, joined_by, lane_at, new_cluster, session_at, IsRun}
 use Rattle.rk_inv_base.proofs.Words.{is_added, MOST_MASTERS, world_stepped, world_visited, Stepped, step, World, new_world, StepError}
@@ -39,22 +39,10 @@ module _ (P : World → Type 0) (kept : IsKeptByLanes P) (masters : ℕ) where
       go : (result : Result Stepped StepError) → (lane < length cluster.lanes → P (world_stepped (lane_at cluster lane) result)) → EachLane P (cluster_stepped cluster lane result)
       go (Ok stepped) new = each_lane P cluster lane stepped.world new each
       go (Err error) new = each
-  occurs_keeps cluster good each (Joins client) = go (get cluster.sessions client)
-    where
-      go : (found : Option Session) → EachLane P (joined_by cluster client found)
-      go None = each
-      go (Some session) = each
-  occurs_keeps cluster good each (Calls client table key op) = go (get cluster.sessions client)
-    where
-      go : (found : Option Session) → EachLane P (called_by_client cluster client table key op found)
-      go None = each
-      go (Some session) = each
-  occurs_keeps cluster good each (Asks lane client) =
-      visits_keep cluster lane client (ask (lane_at cluster lane) (session_at cluster client))
-      (λ there. kept.asks (lane_at cluster lane) (session_at cluster client) (each lane there)) each
-  occurs_keeps cluster good each (Accepts lane number client) =
-      visits_keep cluster lane client (accept (lane_at cluster lane) number (session_at cluster client))
-      (λ there. kept.accepts (lane_at cluster lane) number (session_at cluster client) (each lane there)) each
+  occurs_keeps cluster good each (Joins client) = grind (arith, joined_by, cluster.sessions)
+  occurs_keeps cluster good each (Calls client table key op) = grind (arith, called_by_client, cluster.sessions)
+  occurs_keeps cluster good each (Asks lane client) = grind (arith, visits_keep, ask, lane_at, session_at)
+  occurs_keeps cluster good each (Accepts lane number client) = grind (arith, visits_keep, accept, lane_at, session_at)
 
   run_keeps : (cluster : Cluster) (list : List Occurrence) → IsGood Lasts masters cluster → IsRun cluster list → EachLane P cluster → EachLane P (cluster_run cluster list)
   run_keeps cluster [] good run each = each

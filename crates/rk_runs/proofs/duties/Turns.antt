@@ -1,9 +1,8 @@
 -- The coordinator's turn: it sends a message for each row that is not owned.
-use Rattle.std.proofs.Common.{◌≡◌, ◌≤◌, ◌<◌, ℕ, false, List, [], ◌∷◌, length, None, refl, ap, ◌∙◌, ⊎_elim}
-use Rattle.std.proofs.Common.{arith, All, Contains, Err, ◌≢◌, flat_map, length-append}
-use Rattle.rk_inv_base.proofs.Words.{Event, Node, false≢true, All-contains, Phase, Owned, Opening, Row, Message, Called}
-use Rattle.rk_inv_base.proofs.Words.{Coordinator, coordinator_turn, row_duty, worn, happened, step, stepped_by, World, has_crashed}
-use Rattle.rk_inv_base.proofs.Words.{StepError}
+use Rattle.std.proofs.Common.{◌≡◌, ◌≤◌, ◌<◌, ℕ, false, List, [], ◌∷◌, length, refl, ap, ◌∙◌, ⊎_elim, arith, All, Contains, Err, ◌≢◌}
+use Rattle.std.proofs.Common.{flat_map, length-append}
+use Rattle.rk_inv_base.proofs.Words.{Event, Node, false≢true, All-contains, Phase, Owned, Row, Message, Called, Coordinator}
+use Rattle.rk_inv_base.proofs.Words.{coordinator_turn, row_duty, worn, happened, step, stepped_by, World, has_crashed, StepError}
 use Rattle.rk_world.specs.Quiet.{IsOwnedLive}
 use Rattle.rk_inv_wellformed.proofs.room.Rises.{sent_all}
 use Rattle.rk_inv_base.proofs.rows.Apart.{contains_cases}
@@ -15,9 +14,7 @@ use Rattle.rk_runs.specs.duties.Worn.{IsWorn}
 
 -- there is a message for such a row
 duty_sends : (coordinator : Coordinator) (row : Row) (phase : Phase) → is_owned phase ≡ false → 1 ≤ length (row_duty coordinator row phase)
-duty_sends coordinator row (Owned master from) unowned = absurd (cc unowned)
-duty_sends coordinator row (Opening source sfrom target None) unowned = omega arith
-duty_sends coordinator row _ unowned = omega arith
+duty_sends coordinator row phase unowned = grind arith
 
 duties_send : (coordinator : Coordinator) (rows : List Row) (row : Row) → Contains rows row → is_owned row.phase ≡ false
     → 1 ≤ length (flat_map (λ (r : Row). row_duty coordinator r r.phase) rows)

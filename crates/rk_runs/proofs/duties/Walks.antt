@@ -1,6 +1,5 @@
 -- What each event and each client keeps of a lane's coordinator and of who has crashed, where each change of these keeps it.
-use Rattle.std.proofs.Common.{arith}
-use Rattle.std.proofs.Common.{ℕ, List, [], ◌++◌, ◌∷◌}
+use Rattle.std.proofs.Common.{arith, ℕ, List, [], ◌++◌, ◌∷◌}
 use Rattle.rk_inv_base.proofs.Words.{Body, Called, Coordinator, Event, Node, Session, World, accept, ask, coordinator_notice}
 use Rattle.rk_inv_base.proofs.Words.{crashed_masters, happened, new_row, rows_split, tablet_migrated, told_coordinator, world_visited, ⊤}
 use Rattle.rk_world.specs.Coordinator.{with_row}

@@ -20,15 +20,11 @@ pub record ChangesAt (before after : ℕ → Ledger) (lane : ℕ) (new : Ledger)
   pub others : (q : ℕ) → (q ≡ lane → ⊥) → after q ≡ before q
 
 pub at_lane : (before after : ℕ → Ledger) (lane : ℕ) (new : Ledger) → ChangesAt before after lane new → (P : Ledger → Type 0) (q : ℕ) → (q ≡ lane → P new) → ((q ≡ lane → ⊥) → P (before q)) → P (after q)
-at_lane before after lane new changes P q here other =
-    ⊎_elim (λ (is : q ≡ lane). subst P (sym (ap after is ∙ changes.here)) (here is))
-    (λ (apart : q ≡ lane → ⊥). subst P (sym (changes.others q apart)) (other apart)) (cases_eq q lane)
+at_lane before after lane new changes P q here other = grind (arith, cases_eq)
 
 -- what was known of a last call is known where the records that are accepted are so still
 known_on : (before after : List Placed) (session : Session) (last : Option LastCall) → ((call : Call) → IsAccepted before call → IsAccepted after call) → IsLastKnown before session last → IsLastKnown after session last
-known_on before after session None on known = tt
-known_on before after session (Some last) on known =
-    ⊎_elim (λ (accepted : IsAccepted before last.call). inl (on last.call accepted)) (λ (out : IsOutstanding session last). inr out) known
+known_on before after session last on known = grind arith
 
 -- each accepted record of a journal stands at its place in another one
 abbrev StaysIn : List Placed → List Placed → Type 0
@@ -50,9 +46,7 @@ module _ (before after : ℕ → Ledger) (lane : ℕ) (new : Ledger) (changes : 
   recorded_on = grind (arith, at_lane)
 
   told_on : (client : ℕ) (receipts : List Receipt) → AreTold receipts client lane new.journal → ((q : ℕ) → AreTold receipts client q (before q).journal) → (q : ℕ) → AreTold receipts client q (after q).journal
-  told_on client receipts here told q =
-      at_lane before after lane new changes (λ ledger. AreTold receipts client q ledger.journal) q
-      (λ is. subst (λ (l : ℕ). AreTold receipts client l new.journal) (sym is) here) (λ apart. told q)
+  told_on client receipts here told q = grind (arith, at_lane)
 
   -- a session that stays as it was agrees still, where its receipts tell of the new journal, and its last call there is known
   agrees_on : (client : ℕ) (session : Session) → Agrees before client session → AreTold session.receipts client lane new.journal → IsLastKnown new.journal session (asked_by new client) → Agrees after client session

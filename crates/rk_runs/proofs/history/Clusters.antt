@@ -2,9 +2,8 @@
 -- That events keep lanes sound is an argument here.
 use Rattle.std.proofs.Common.{◌≡◌, ℕ, ◌<◌, Option, length, refl, sym, ap, subst, ⊎_elim, arith, IfSome, unwrap_or, w32, get_or-set_other}
 use Rattle.std.proofs.Common.{get_or-set_same, length-set}
-use Rattle.rk_inv_base.proofs.Words.{cases_eq, get_other, get_same, NumberMap, no_base, Session, new_session, Cluster}
-use Rattle.rk_inv_base.proofs.Words.{lane_at, session_at, with_lane, with_session, IsWellFormed, Ledger, MayAct, HasRoom, World}
-use Rattle.rk_inv_base.proofs.Words.{new_world, IsSound}
+use Rattle.rk_inv_base.proofs.Words.{cases_eq, get_other, get_same, NumberMap, no_base, Session, new_session, Cluster, lane_at, session_at}
+use Rattle.rk_inv_base.proofs.Words.{with_lane, with_session, IsWellFormed, Ledger, MayAct, HasRoom, World, new_world, IsSound}
 use Rattle.rk_entry.specs.Numbers.{IsNumber}
 use Rattle.rk_runs.specs.history.Agreement.{Agrees}
 use Rattle.rk_runs.proofs.history.Agreeing.{ChangesAt}
@@ -65,9 +64,6 @@ module _ (cluster : Cluster) (client : ℕ) (session : Session) where
   pub session_here : session_at (with_session cluster client session) client ≡ session
   session_here = ap (λ (o : Option Session). unwrap_or o (new_session client)) (get_same cluster.sessions client session client refl)
 
-  pub session_other : (c : ℕ) → (c ≡ client → ⊥) → session_at (with_session cluster client session) c ≡ session_at cluster c
-  session_other c apart = ap (λ (o : Option Session). unwrap_or o (new_session c)) (get_other cluster.sessions client session c apart)
-
   -- what holds of each session
   pub each_session : (P : ℕ → Session → Type 0) → P client session → ((c : ℕ) → (c ≡ client → ⊥) → P c (session_at cluster c)) → (c : ℕ) → P c (session_at (with_session cluster client session) c)
-  each_session P here other c = grind (arith, session_at, with_session, session_here, session_other, cases_eq)
+  each_session P here other c = grind (arith, session_at, with_session, session_here, cases_eq, new_session, get_other)

@@ -1,6 +1,5 @@
 -- In a run a row that moves comes to be owned by an event that finishes its migration.
-use Rattle.std.proofs.Common.{arith}
-use Rattle.std.proofs.Common.{◌≡◌, ℕ, Some, None, sym, subst, ◌∙◌, Ok}
+use Rattle.std.proofs.Common.{arith, ◌≡◌, ℕ, Some, None, sym, subst, ◌∙◌, Ok}
 use Rattle.rk_inv_base.proofs.Words.{get, Member, Node, row_of, Moving, Owned, Row, Message, Called, Gave, refusal, Stepped, delivered}
 use Rattle.rk_inv_base.proofs.Words.{delivered_to, happened, step, stepped_by, World, Event, IsSound}
 use Rattle.rk_inv_rows.proofs.finished.JoinedDelivered.{finishes}

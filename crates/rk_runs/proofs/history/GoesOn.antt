@@ -1,13 +1,11 @@
 -- What an event makes of a lane: its journal gets more records at most, none of which is accepted, and what clients asked stays.
-use Rattle.std.proofs.Common.{arith}
-use Rattle.std.proofs.Common.{◌≡◌, ℕ, false, List, [], ◌∷◌, ◌++◌, Option, Some, None, refl, ap, ◌∙◌, append-nil, append_assoc}
+use Rattle.std.proofs.Common.{arith, ◌≡◌, ℕ, false, List, [], ◌∷◌, ◌++◌, Option, Some, None, refl, ap, ◌∙◌, append-nil, append_assoc}
 use Rattle.std.proofs.Common.{filter, fold, is_some, not, unwrap_or, All}
-use Rattle.rk_inv_base.proofs.Words.{All-append, All-cons, All-nil, get, Call, Ended, Outcome, Placed, row_of, Row, Rebuilt}
-use Rattle.rk_inv_base.proofs.Words.{Called, Coordinator, is_noticed, coordinator_step, next_record, Ledger, asked_by, seen_of}
-use Rattle.rk_inv_base.proofs.Words.{with_all_served, with_client, with_ends, with_marks, with_rebuilt, with_record, master_step}
-use Rattle.rk_inv_base.proofs.Words.{master_turn, migrating, row_migrated, notice_one, notice_order, rows_split_of, happened}
-use Rattle.rk_inv_base.proofs.Words.{ledger_after, seen_in, worked_at, Worked, World, crashed_masters, master_at, Event, LastCall, Mark}
-use Rattle.rk_inv_base.proofs.Words.{Served}
+use Rattle.rk_inv_base.proofs.Words.{All-append, All-cons, All-nil, get, Call, Ended, Outcome, Placed, row_of, Row, Rebuilt, Called}
+use Rattle.rk_inv_base.proofs.Words.{Coordinator, is_noticed, coordinator_step, next_record, Ledger, asked_by, seen_of, with_all_served}
+use Rattle.rk_inv_base.proofs.Words.{with_client, with_ends, with_marks, with_rebuilt, with_record, master_step, master_turn, migrating}
+use Rattle.rk_inv_base.proofs.Words.{row_migrated, notice_one, notice_order, rows_split_of, happened, ledger_after, seen_in, worked_at}
+use Rattle.rk_inv_base.proofs.Words.{Worked, World, crashed_masters, master_at, Event, LastCall, Mark, Served}
 use Rattle.rk_world.specs.Ledger.{with_end, with_served}
 use Rattle.rk_inv_wellformed.proofs.lanes.Ledgers.{ended_is, kept_by_fold, served_is}
 use Rattle.rk_inv_base.proofs.calls.Come.{asked_same}
@@ -42,9 +40,7 @@ module _ (client : ℕ) where
       }
 
   one_served : (start ledger : Ledger) (seen : ℕ) (served : Served) → Grows client start ledger → Grows client start (with_served seen ledger served)
-  one_served start ledger seen served grows =
-      served_is (Grows client start) seen ledger served grows (recorded start ledger served.call served.outcome seen grows)
-      (recorded start ledger served.call served.outcome (seen_of (asked_by ledger served.call.client)) grows)
+  one_served start ledger seen served grows = grind (arith, served_is, recorded, seen_of, asked_by)
 
   marked : (start ledger : Ledger) (marks : List Mark) → Grows client start ledger → Grows client start (record ledger { marks = marks })
   marked start ledger marks grows = grind arith
@@ -57,9 +53,7 @@ module _ (client : ℕ) where
       (same_ledger ledger ledger refl refl))
 
   one_ended : (start ledger : Ledger) (end : Ended) → Grows client start ledger → Grows client start (with_end ledger end)
-  one_ended start ledger end grows =
-      ended_is (Grows client start) ledger end grows
-      (λ asked is. recorded start ledger asked.call _ asked.seen grows)
+  one_ended start ledger end grows = grind (arith, ended_is, recorded)
 
   rebuilt_grows : (ledger : Ledger) (rebuilt : Option Rebuilt) → Grows client ledger (with_rebuilt ledger rebuilt)
   rebuilt_grows ledger None = same_ledger ledger ledger refl refl
@@ -100,12 +94,7 @@ module _ (w : World) where
   as_it_was after lane base masters ledger = grind (arith, same_ledger, asked_by)
 
   worked_on : (master seen : ℕ) (worked : Worked) → GoesOn w (worked_at w master seen worked).world
-  worked_on master seen worked = record {
-    lane_is = refl;
-    base_is = refl;
-    masters_are = refl;
-    ledger = λ client. worked_grows client w.ledger master seen worked;
-  }
+  worked_on master seen worked = search worked_grows
 
 -- a client that is not there asked nothing before
 never_asked : (found : Option (Option LastCall)) → is_some found ≡ false → unwrap_or found None ≡ None

@@ -1,6 +1,5 @@
 -- The good lanes of a cluster: their journals are lawful, and legal.
-use Rattle.std.proofs.Common.{arith}
-use Rattle.std.proofs.Common.{ℕ, map, slice_index_or, List, [], length, refl, subst, suc, sym, zero, ◌<◌, ◌∷◌, ◌≡◌}
+use Rattle.std.proofs.Common.{arith, ℕ, map, slice_index_or, List, [], length, refl, subst, suc, sym, zero, ◌<◌, ◌∷◌, ◌≡◌}
 use Rattle.rk_inv_base.proofs.Words.{All-nil, Base, Cluster, HasOwnKeys, IsLegal, IsRisingAbove, World, base_map, cases_lt, get_or_past}
 use Rattle.rk_inv_base.proofs.Words.{journal_of, lane_at, new_world, none-some}
 use Rattle.rk_model.specs.History.{empty_map}

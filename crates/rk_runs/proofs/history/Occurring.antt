@@ -1,7 +1,6 @@
 -- A good cluster stays good at all that occurs in it, where events keep lanes sound.
-use Rattle.std.proofs.Common.{arith}
-use Rattle.std.proofs.Common.{◌≡◌, ℕ, ◌<◌, Bool, true, false, cond, List, Option, Some, None, length, refl, sym, ap, subst, ◌∙◌, ⊎_elim}
-use Rattle.std.proofs.Common.{◌≤◌, IfSome, Ok, unwrap_or, w32, option_map}
+use Rattle.std.proofs.Common.{arith, ◌≡◌, ℕ, ◌<◌, Bool, true, false, cond, List, Option, Some, None, length, refl, sym, ap, subst, ◌∙◌}
+use Rattle.std.proofs.Common.{⊎_elim, ◌≤◌, IfSome, Ok, unwrap_or, w32, option_map}
 use Rattle.rk_inv_base.proofs.Words.{cases_lt, get_or_past, IfSome_then, get, Call, Op, Message, Called, Visited, accept, accept_by}
 use Rattle.rk_inv_base.proofs.Words.{accepting, ask_by, asking, is_asked_here, taking, untouched, Session, call_lane, new_session}
 use Rattle.rk_inv_base.proofs.Words.{Accepts, Asks, Calls, Cluster, Happens, Joins, Occurrence, called_by_client, cluster_after}
@@ -11,7 +10,7 @@ use Rattle.rk_inv_base.proofs.Words.{new_world, StepError, Event, LastCall}
 use Rattle.rk_world.specs.declared.event.Taken.{Taken}
 use Rattle.rk_entry.specs.Numbers.{IsNumber}
 use Rattle.rk_world.specs.Calls.{asked_by_session}
-use Rattle.rk_world.specs.Client.{busy, next_call, session_calling, with_next_call}
+use Rattle.rk_world.specs.Client.{next_call, session_calling}
 use Rattle.rk_world.specs.Cluster.{ClusterMay, KeepsCalm}
 use Rattle.rk_world.specs.ClusterRuns.{ReplicasTell}
 use Rattle.rk_world.specs.Premises.{IsLawfulCall, MayCome}
@@ -69,15 +68,7 @@ module _ (Steady : World → Type 0) (masters : ℕ) (events_keep : EventsKeep S
   calling : (client : ℕ) (session : Session) (table : ℕ) (key : List ℕ) (op : Op) → Agrees (ledgers_of cluster) client session → IsGoodSession masters client session → IsLawfulCall (next_call session table key op) → (out : Option Call) → session.outstanding ≡ out
       → IsGood Steady masters (with_session cluster client (session_calling session table key op (option_map (λ (call : Call). call.seq) out)))
   calling client session table key op agrees acts lawful None idle =
-      let number : IsNumber w32 1 client = subst (IsNumber w32 1) agrees.own lawful.client in
-      let busy_is : busy session ≡ None = ap (option_map (λ (call : Call). call.seq)) idle in
-      gets client (with_next_call session table key op) (agrees_calling (ledgers_of cluster) client session agrees table key op idle)
-      (record {
-        acts = λ n.
-            subst (λ (o : Option ℕ). MayAct masters (session_calling session table key op o)) busy_is
-            (may_act_calling masters session table key op lawful (acts.acts n));
-        lawful = number;
-      })
+      grind (arith, w32, gets, agrees_calling, ledgers_of, may_act_calling, agrees.own, lawful.client, acts.acts)
   calling client session table key op agrees acts lawful (Some call) idle = gets client session agrees acts
 
   pub calls : (client table : ℕ) (key : List ℕ) (op : Op) → IsLawfulCall (next_call (session_at cluster client) table key op) → (found : Option Session) → get cluster.sessions client ≡ found → IsGood Steady masters (called_by_client cluster client table key op found)

@@ -1,8 +1,8 @@
 -- Receipts that are numbered from 1 on, and whose stamps rise.
-use Rattle.std.proofs.Common.{◌≡◌, ℕ, zero, suc, ◌+◌, ◌<◌, ◌≤◌, Bool, true, false, ◌&&◌, ◌||◌, eqb, ltb, List, [], ◌∷◌, ◌++◌, Some, cond}
-use Rattle.std.proofs.Common.{refl, sym, ap, ◌∙◌, ⊎_elim, arith, map, filter, length, slice_get, All, Contains}
-use Rattle.rk_inv_base.proofs.Words.{nat_tests, All-cons, All-filter, All-head, All-map, All-nil, All-tail, All-weaker}
-use Rattle.rk_inv_base.proofs.Words.{get_or_from_slice_get, none-some, slice_get-get_or, slice_get_within, Receipt, Answered, Line}
+use Rattle.std.proofs.Common.{◌≡◌, ℕ, zero, suc, ◌+◌, ◌<◌, ◌≤◌, Bool, true, false, eqb, ltb, List, [], ◌∷◌, ◌++◌, Some, cond, refl, sym, ap}
+use Rattle.std.proofs.Common.{◌∙◌, ⊎_elim, arith, map, filter, length, slice_get, All, Contains}
+use Rattle.rk_inv_base.proofs.Words.{nat_tests, All-filter, All-head, All-map, All-nil, All-tail, All-weaker, get_or_from_slice_get}
+use Rattle.rk_inv_base.proofs.Words.{none-some, slice_get-get_or, slice_get_within, Receipt, Answered, Line}
 use Rattle.rk_model.specs.Merged.{IsInOrder, is_before}
 use Rattle.rk_model.proofs.Order.{before-asymmetric}
 use Rattle.rk_model.specs.Ordered.{IsNumberedFrom, answer_of, told_by}
@@ -61,10 +61,7 @@ numbered_push seq (first ∷ receipts) receipt numbered next = (numbered.0, numb
 -- each stamp of receipts is above the one from which they rise
 pub stamps_above : (stamp : ℕ) (receipts : List Receipt) → AreRisingAbove stamp receipts → All (λ receipt. stamp < receipt.stamp) receipts
 stamps_above stamp [] rising = All-nil _
-stamps_above stamp (first ∷ receipts) rising =
-    All-cons (λ (r : Receipt). stamp < r.stamp) first receipts rising.0
-    (All-weaker (λ (r : Receipt). first.stamp < r.stamp) (λ (r : Receipt). stamp < r.stamp) (λ r above. omega (arith, above, rising.0)) receipts
-    (stamps_above first.stamp receipts rising.1))
+stamps_above stamp (first ∷ receipts) rising = grind (arith, rising.0, first.stamp, rising.1, (stamps_above first.stamp receipts rising.1))
 
 -- one more receipt, with a greater stamp
 pub rising_push : (stamp : ℕ) (receipts : List Receipt) (receipt : Receipt) → AreRisingAbove stamp receipts → stamp < receipt.stamp → All (λ other. other.stamp < receipt.stamp) receipts → AreRisingAbove stamp (receipts ++ receipt ∷ [])
@@ -78,10 +75,7 @@ rising_push stamp (first ∷ receipts) receipt rising above below = (
 
 -- so the answers that receipts tell are in order
 later_stamp : (a b : Answered) → a.stamp < b.stamp → comes_before a b ≡ true
-later_stamp a b above = go a.stamp b.stamp a.lane b.lane above
-  where
-    go : (s t l m : ℕ) → s < t → (ltb s t || (eqb s t && ltb l m)) ≡ true
-    go s t l m above = grind (arith, nat_tests)
+later_stamp a b above = grind (arith, ltb, eqb, nat_tests, a.stamp, b.stamp, a.lane, b.lane)
 
 pub told_in_order : (stamp : ℕ) (receipts : List Receipt) → AreRisingAbove stamp receipts → AreInOrder (map told_by receipts)
 told_in_order stamp [] rising = tt

@@ -80,11 +80,7 @@ module _ (masters backups : ℕ) (few : masters ≤ MOST_MASTERS) (backed : 1 �
   start = new_cluster masters backups
 
   pub lasts_start : (lane : ℕ) → Lasts (new_world lane masters backups)
-  lasts_start lane = (
-    record { tell = tell_new lane masters backups; sealed = sealed_new lane masters backups },
-    all_new lane masters backups,
-    kept_new lane masters backups,
-  )
+  lasts_start lane = search (tell_new, sealed_new, all_new, kept_new)
 
   pub good_after : (list : List Occurrence) → IsRun start list → IsGood Lasts masters (cluster_run start list)
   good_after list run =

@@ -1,12 +1,12 @@
 -- A record of a journal stays for ever: whatever occurs in a cluster, it stands at its place, but that it may be accepted.
 use Rattle.std.proofs.Common.{◌≡◌, ℕ, List, [], ◌∷◌, ◌++◌, Option, Some, None, length, refl, sym, subst, ◌∙◌}
 use Rattle.std.proofs.Common.{arith, slice_get, get_or-set_other, length-set}
-use Rattle.rk_inv_base.proofs.Words.{cases_eq, cases_lt, get_or_past, none-some, get, Call, Placed, slice_get_front, Body, Message}
-use Rattle.rk_inv_base.proofs.Words.{Called, accept_by, accepting, ask_by, asking, is_asked, ledger_asked, ledger_requested, ledger_taken}
-use Rattle.rk_inv_base.proofs.Words.{Session, Accepts, Asks, Calls, Cluster, Happens, Joins, Occurrence, called_by_client, cluster_after}
-use Rattle.rk_inv_base.proofs.Words.{cluster_run, cluster_stepped, cluster_visited, joined_by, lane_at, session_at, with_lane}
-use Rattle.rk_inv_base.proofs.Words.{accepted_at, Ledger, with_asked, accept_refusal, ask_refusal, refusal, happened, stepped_by, World}
-use Rattle.rk_inv_base.proofs.Words.{new_world, StepError, Event, NumberMap, Visited}
+use Rattle.rk_inv_base.proofs.Words.{get_or_past, get, Call, Placed, slice_get_front, Body, Message, Called, accept_by, accepting, ask_by}
+use Rattle.rk_inv_base.proofs.Words.{asking, is_asked, ledger_asked, ledger_requested, ledger_taken, Session, Accepts, Asks, Calls, Cluster}
+use Rattle.rk_inv_base.proofs.Words.{Happens, Joins, Occurrence, called_by_client, cluster_after, cluster_run, cluster_stepped}
+use Rattle.rk_inv_base.proofs.Words.{cluster_visited, joined_by, lane_at, session_at, with_lane, accepted_at, Ledger, with_asked}
+use Rattle.rk_inv_base.proofs.Words.{accept_refusal, ask_refusal, refusal, happened, stepped_by, World, StepError, Event, NumberMap}
+use Rattle.rk_inv_base.proofs.Words.{Visited}
 use Rattle.rk_world.specs.Client.{session_accept}
 use Rattle.rk_world.specs.declared.event.Taken.{Taken}
 use Rattle.rk_inv_base.proofs.calls.SameRecords.{accepted_same, record_after}
@@ -79,11 +79,6 @@ module _ (w : World) (session : Session) where
 
 -- ---- clusters
 
--- one lane is another
-lane_stays : (cluster : Cluster) (lane : ℕ) (w : World) → StandsStill (lane_at cluster lane).ledger.journal w.ledger.journal → RecordsStay cluster (with_lane cluster lane w)
-lane_stays cluster lane w stays q =
-    grind (arith, lane_at, with_lane, lane_here, get_or_past, new_world, none-some, cases_lt, get_or-set_other, still_itself, cases_eq)
-
 -- a cluster later: its records stay, and it has as many lanes
 record Stays (before after : Cluster) : Type 0 where
   records : RecordsStay before after
@@ -94,7 +89,8 @@ all_stay cluster = record { records = λ lane. still_itself (lane_at cluster lan
 
 with_lane_stays : (cluster : Cluster) (lane : ℕ) (w : World) → StandsStill (lane_at cluster lane).ledger.journal w.ledger.journal
     → Stays cluster (with_lane cluster lane w)
-with_lane_stays cluster lane w stays = record { records = lane_stays cluster lane w stays; lanes = length-set cluster.lanes lane w }
+with_lane_stays cluster lane w stays =
+    grind (arith, length-set, lane_here, get_or_past, get_or-set_other, still_itself)
 
 -- so it is, whoever has which session
 with_sessions : {cluster after : Cluster} (sessions : NumberMap Session) → Stays cluster after → Stays cluster (record after { sessions = sessions })

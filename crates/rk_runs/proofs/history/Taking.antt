@@ -1,12 +1,10 @@
 -- What a client makes of a message of a sound lane, case by case: what is so of each of these is so of all that it makes of messages.
-use Rattle.std.proofs.Common.{arith}
-use Rattle.std.proofs.Common.{ℕ, Bool, IfSome, List, None, Option, Some, cond, eqb-true, false, refl, subst, sym, true, ◌==◌, ◌≡◌}
+use Rattle.std.proofs.Common.{arith, ℕ, Bool, IfSome, List, None, Option, Some, cond, eqb-true, false, refl, subst, sym, true, ◌==◌, ◌≡◌}
 use Rattle.rk_inv_base.proofs.Words.{Answer, Body, Call, IsRecordAt, IsSound, Located, MayAct, Message, Node, Outcome, Placed}
 use Rattle.rk_inv_base.proofs.Words.{Reply, Says, Session, Visited, World, accepting, call_lane, get, is_asked, ledger_taken, taking}
 use Rattle.rk_inv_base.proofs.Words.{untouched, with_ledger, accept_refusal, is_added, where_true}
 use Rattle.rk_world.specs.Calls.{asked_by_session}
-use Rattle.rk_world.specs.Client.{Accepted, accepted_by, accepted_of, answer_accepted, done, has_call, ignoring, with_range}
-use Rattle.rk_world.specs.Client.{without_range}
+use Rattle.rk_world.specs.Client.{Accepted, accepted_by, accepted_of, answer_accepted, done, ignoring, with_range, without_range}
 use Rattle.rk_world.specs.Refusals.{is_for}
 use Rattle.rk_world.specs.declared.event.Taken.{Taken}
 use Rattle.rk_inv_events.proofs.events.Clients.{for_client}
@@ -38,9 +36,7 @@ module _ {T : Body → Accepted → Type 0} {journal : List Placed} {session : S
   by_range located false = takes.ignores _
 
   pub taken_by : (body : Body) → Says journal (Node.Client session.client) body → T body (accepted_by session call body)
-  taken_by (Body.Reply reply) says = by_answer reply reply.answer refl says (reply.seq == call.seq) refl
-  taken_by (Body.Located located) says = by_range located (has_call call located)
-  taken_by body says = takes.ignores body
+  taken_by body says = grind (arith, by_answer, by_range)
 
 -- a lane and a session once the session has made this of what a message says
 abbrev pub took : World → Body → Accepted → Visited

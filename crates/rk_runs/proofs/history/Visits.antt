@@ -1,22 +1,18 @@
 -- Sessions and ledgers agree still when a client takes its turn in a lane, or an answer.
-use Rattle.std.proofs.Common.{arith}
-use Rattle.std.proofs.Common.{◌≡◌, ℕ, ◌<◌, Bool, true, false, cond, List, Option, Some, None, refl, sym, ap, subst, ◌∙◌, IfSome}
-use Rattle.std.proofs.Common.{not, slice_get, slice_set}
-use Rattle.rk_inv_base.proofs.Words.{Node, and_parts, All-contains, Call, Outcome, Placed, Located, Reply, Body, Message, asking}
-use Rattle.rk_inv_base.proofs.Words.{asking_by, fits_with, is_asked, is_last, ledger_requested, ledger_taken, taking, untouched}
-use Rattle.rk_inv_base.proofs.Words.{ClientTurn, Session, call_lane, session_turn, turn_of, accepted_at, as_accepted, is_accepted, Ledger}
-use Rattle.rk_inv_base.proofs.Words.{asked_by, with_asked, World, LastCall, IsLastCall, MayAccept, IsRecordAt, Says, IsAfterSeen, view}
-use Rattle.rk_inv_base.proofs.Words.{IsSound}
+use Rattle.std.proofs.Common.{arith, ◌≡◌, ℕ, ◌<◌, Bool, true, false, cond, List, Option, Some, None, refl, sym, ap, subst, ◌∙◌, IfSome, not}
+use Rattle.std.proofs.Common.{slice_get, slice_set}
+use Rattle.rk_inv_base.proofs.Words.{Node, and_parts, All-contains, Call, Outcome, Placed, Located, Reply, Body, Message, asking, asking_by}
+use Rattle.rk_inv_base.proofs.Words.{fits_with, is_asked, is_last, ledger_requested, ledger_taken, taking, untouched, ClientTurn, Session}
+use Rattle.rk_inv_base.proofs.Words.{call_lane, session_turn, turn_of, accepted_at, as_accepted, is_accepted, Ledger, asked_by, with_asked}
+use Rattle.rk_inv_base.proofs.Words.{World, LastCall, IsLastCall, MayAccept, IsRecordAt, Says, IsAfterSeen, view, IsSound}
 use Rattle.rk_world.specs.declared.event.Taken.{Taken}
-use Rattle.rk_world.specs.Client.{accepted_of, done, range_of, turn_by, with_range}
-use Rattle.rk_world.specs.Client.{without_range}
+use Rattle.rk_world.specs.Client.{done, range_of, turn_by, with_range, without_range}
 use Rattle.rk_world.specs.Ledger.{with_accepted}
 use Rattle.rk_inv_base.proofs.calls.CallAsked.{asked_put}
 use Rattle.rk_inv_base.proofs.views.Put.{put_here, put_other}
 use Rattle.rk_inv_events.proofs.events.Clients.{asked_is, is_last_there, may_accept}
 use Rattle.rk_runs.specs.history.Agreement.{Agrees}
-use Rattle.rk_runs.proofs.history.Agreeing.{ChangesAt, IsAnswer, agrees_answered, agrees_asked, agrees_beside, agrees_grown}
-use Rattle.rk_runs.proofs.history.Agreeing.{agrees_looking}
+use Rattle.rk_runs.proofs.history.Agreeing.{ChangesAt, IsAnswer, agrees_answered, agrees_asked, agrees_beside, agrees_grown, agrees_looking}
 use Rattle.rk_runs.proofs.history.GoesOn.{same_ledger}
 use Rattle.rk_runs.proofs.history.Taking.{IsTaken, taken_by}
 use Rattle.rk_runs.proofs.history.Receipts.{stands_at}
@@ -31,10 +27,7 @@ pub record AgreeAfter (before after : ℕ → Ledger) (client : ℕ) (session : 
 module _ (before after : ℕ → Ledger) (lane client : ℕ) (session : Session) (agrees : Agrees before client session) where
   -- nothing of a ledger changed, as far as it is seen
   unchanged : (ledger : Ledger) → ChangesAt before after lane ledger → ledger.journal ≡ (before lane).journal → ((c : ℕ) → asked_by ledger c ≡ asked_by (before lane) c) → AgreeAfter before after client session
-  unchanged ledger changes journal asked = record {
-    own = agrees_grown before after lane ledger changes client session agrees (same_ledger client (before lane) ledger journal (asked client));
-    others = λ c other apart fits. agrees_grown before after lane ledger changes c other fits (same_ledger c (before lane) ledger journal (asked c));
-  }
+  unchanged ledger changes journal asked = search (agrees_grown, same_ledger)
 
   -- a session that asked may look elsewhere
   turned_on : (ledgers : ℕ → Ledger) → Agrees ledgers client session → (call : Call) (found : Option Located) → Agrees ledgers client (turn_by session call found).session
@@ -205,6 +198,4 @@ module _ (before after : ℕ → Ledger) (lane client : ℕ) (session : Session)
 
   pub agree_taking : (body : Body) → Says w.ledger.journal (Node.Client session.client) body → ChangesAt before after lane (taking w session body).world.ledger
       → AgreeAfter before after client (taking w session body).session
-  agree_taking body says changes =
-      subst (λ (o : Option Call). AgreeAfter before after client (accepted_of session o body).session) (sym is_out)
-      (taken_by takes body says (subst (λ (o : Option Call). ChangesAt before after lane (ledger_taken w.ledger body (accepted_of session o body).taken)) is_out changes))
+  agree_taking body says changes = grind (arith, taken_by, takes, ledger_taken)

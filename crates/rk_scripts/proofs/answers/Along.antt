@@ -1,10 +1,7 @@
 -- What clients say along occurrences: part by part, and as `all_acted` has it.
-use Rattle.std.proofs.Common.{arith}
-use Rattle.std.proofs.Common.{◌≡◌, ℕ, List, [], ◌∷◌, ◌++◌, Option, Result, Ok, Err, refl, sym, ap, ◌∙◌, append-nil}
-use Rattle.std.proofs.Common.{append_assoc}
-use Rattle.rk_scripts.proofs.Words.{Said, accept, ask, Cluster, Occurrence, cluster_after}
-use Rattle.rk_scripts.proofs.Words.{cluster_run, lane_at, session_at, step, StepError, acted, all_acted, came_in, going_on, said_in}
-use Rattle.rk_scripts.proofs.Words.{came_is, said_along}
+use Rattle.std.proofs.Common.{arith, ◌≡◌, ℕ, List, [], ◌∷◌, ◌++◌, Option, refl, sym, ap, ◌∙◌, append-nil, append_assoc}
+use Rattle.rk_scripts.proofs.Words.{Said, accept, ask, Cluster, Occurrence, cluster_after, cluster_run, lane_at, session_at, step, acted}
+use Rattle.rk_scripts.proofs.Words.{all_acted, going_on, said_in, came_is, said_along}
 
 -- along one list and then another, what is said is that along the first, and then that along the second in the cluster that it made
 pub said_joins : (start : Cluster) (before after : List Occurrence)
@@ -16,21 +13,12 @@ said_joins start (occurrence ∷ before) after =
     ap (λ (said : List Said). first ++ said) (said_joins next before after)
     ∙ sym (append_assoc first (said_along next before) (said_along (cluster_run next before) after))
 
--- what was said by an answer is what is said along the occurrence, if that came
-answered_said : {T : Type 0} (cluster : Cluster) (occurrence : Occurrence) (answer : Result T StepError) (said : List Said) → (acted cluster occurrence).said ≡ said
-    → ((error : StepError) → answer ≡ Err error → said ≡ []) → said ≡ said_along cluster (came_in occurrence answer)
-answered_said cluster occurrence (Ok answer) said is none =
-    sym (append-nil said) ∙ ap (λ (first : List Said). first ++ []) (sym is)
-answered_said cluster occurrence (Err error) said is none = none error refl
-
-one_said : (cluster : Cluster) (occurrence : Occurrence) → (acted cluster occurrence).said ≡ said_along cluster (acted cluster occurrence).came
-one_said cluster occurrence = grind (arith, answered_said, step, lane_at, ask, session_at, accept, said_in)
-
 then_said : (cluster : Cluster) (occurrence : Occurrence) (later : List Occurrence) (worn : Option ℕ)
     → ((next : Cluster) → (all_acted next later).said ≡ said_along next (all_acted next later).came)
     → (going_on (acted cluster occurrence) worn (λ next. all_acted next later)).said
     ≡ said_along cluster (going_on (acted cluster occurrence) worn (λ next. all_acted next later)).came
-then_said cluster occurrence later worn rest = grind (arith, acted, all_acted, one_said, said_along, came_is, said_joins)
+then_said cluster occurrence later worn rest =
+    grind (arith, acted, all_acted, said_along, came_is, said_joins, step, lane_at, ask, session_at, accept, said_in, append-nil)
 
 -- what clients said where occurrences were to come is what they said along those that came
 pub came_said : (cluster : Cluster) (occurrences : List Occurrence)

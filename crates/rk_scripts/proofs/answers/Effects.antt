@@ -1,5 +1,5 @@
 -- What a command writes is a piece of text, and what clients said in it is what they said along the command's occurrences.
-use Rattle.std.proofs.Common.{◌≡◌, ℕ, List, [], ◌∷◌, Option, None, Some, refl, sym, ap}
+use Rattle.std.proofs.Common.{arith, ◌≡◌, ℕ, List, [], ◌∷◌, Option, None, Some, refl, sym, ap}
 use Rattle.rk_scripts.proofs.Words.{none-some, Said, Cluster, Occurrence, Acted, all_acted, Fate, number_of, Code, Course, course_of}
 use Rattle.rk_scripts.proofs.Words.{error_of, moved_all, SettleError, Command, Effect, Refuses, Stop, Wears, carried, carried_by, effect}
 use Rattle.rk_scripts.proofs.Words.{effect_within, refused_by, settled, settled_by, shown, stop_of, dump_code, where_code, Piece}
@@ -96,8 +96,7 @@ module _ (cluster : Cluster) where
   -- ---- all commands
 
   effect_writes : (command : Command) (fates : List Fate) → IsWriting command cluster (effect cluster command fates)
-  effect_writes (Command.Where tablet) fates =
-      shown_writes (Command.Where tablet) (where_code cluster tablet) (Where cluster tablet) refl (refl, refl)
+  effect_writes (Command.Where tablet) fates = grind (arith, where_code)
   effect_writes (Command.Dump tablet) fates = shown_writes (Command.Dump tablet) (dump_code cluster tablet) (Dump cluster tablet) refl (refl, refl)
   effect_writes Command.History fates = shown_writes Command.History None (History cluster) refl (refl, refl)
   effect_writes command fates = effect_by cluster fates (IsWriting command cluster) (refuses command) (carried_writes command as_said)

@@ -1,7 +1,6 @@
 -- A script's text is made of pieces, and the replies in them are the clients' receipts at the end.
-use Rattle.std.proofs.Common.{arith}
-use Rattle.std.proofs.Common.{◌≡◌, ℕ, List, [], ◌∷◌, ◌++◌, map, Option, refl, sym, ap, subst, ◌∙◌, ◌⊎◌, inl, inr, ⊎_elim}
-use Rattle.std.proofs.Common.{append-nil, append_assoc}
+use Rattle.std.proofs.Common.{arith, ◌≡◌, ℕ, List, [], ◌∷◌, ◌++◌, map, Option, refl, sym, ap, ◌∙◌, ◌⊎◌, inl, ⊎_elim, append-nil}
+use Rattle.std.proofs.Common.{append_assoc}
 use Rattle.rk_scripts.proofs.Words.{filter-append, Said, NoMemory, Refused, ReplicaFault, Cluster, Occurrence, cluster_run, new_cluster}
 use Rattle.rk_scripts.proofs.Words.{runs_join, Fate, Numbered, Effect, Fails, Pauses, Refuses, Stop, Wears, effect_within, Played, Setting}
 use Rattle.rk_scripts.proofs.Words.{behind, cluster_by, continued, first_fates, how_many, other_fates, played_in, played_part, refused_at}
@@ -59,11 +58,9 @@ refused_speaks left line code cluster = record {
 behind_speaks : (first : Numbered) (others : List Numbered) (start : Cluster) (it : Effect) (later : Played) → it.cluster ≡ cluster_run start it.occurred
     → HasWritten first.command start it → IsSpoken others it.cluster later → IsSpoken (first ∷ others) start (behind (it.text ∷ []) it.occurred later)
 behind_speaks first others start it later from written spoken = record {
-  from =
-      spoken.from ∙ ap (λ (cluster : Cluster). cluster_run cluster later.occurred) from ∙ sym (runs_join start it.occurred later.occurred);
+  from = grind (arith, cluster_run, runs_join, spoken.from, later.occurred, it.occurred);
   pieces = written.piece ∷ spoken.pieces;
-  text = ap (λ (text : List ℕ). text ∷ later.pieces) written.text
-      ∙ ap (λ (texts : List (List ℕ)). piece_text written.piece ∷ texts) spoken.text;
+  text = grind (arith, piece_text, later.pieces, written.text, written.piece, spoken.text);
   silent = spoken.silent;
   said = said_joins start it.occurred later.occurred
       ∙ ap (λ (cluster : Cluster). said_along start it.occurred ++ said_along cluster later.occurred) (sym from)
@@ -72,17 +69,7 @@ behind_speaks first others start it later from written spoken = record {
       ∙ sym (append_assoc (piece_said written.piece) (pieces_said spoken.pieces) spoken.silent)
       ∙ ap (λ (said : List Said). said ++ spoken.silent) (sym (flat_map-cons piece_said written.piece spoken.pieces));
   all = spoken.all;
-  in_order =
-      inr (record {
-        first = first;
-        others = others;
-        commands_are = refl;
-        here = it.occurred;
-        later = later.occurred;
-        occurred_is = refl;
-        of = written.of;
-        goes_on = subst (λ (next : Cluster). AreInOrder spoken.pieces others next later.occurred) from spoken.in_order;
-      });
+  in_order = grind (arith, it.occurred, later.occurred, written.of, spoken.pieces, spoken.in_order);
 }
 
 -- one that ends at a command with nothing written; what clients said at it is silent

@@ -1,12 +1,11 @@
 -- The replies that clients said are their receipts.
-use Rattle.std.proofs.Common.{arith}
-use Rattle.std.proofs.Common.{◌≡◌, ℕ, List, [], ◌∷◌, ◌++◌, map, Option, None, Some, refl, sym, ap, subst, ◌∙◌, ⊎_elim, append-nil}
+use Rattle.std.proofs.Common.{arith, ◌≡◌, ℕ, List, [], ◌∷◌, ◌++◌, map, Option, None, Some, refl, sym, ap, subst, ◌∙◌, ⊎_elim, append-nil}
 use Rattle.std.proofs.Common.{append_assoc, Err, Ok, Result, unwrap_or}
-use Rattle.rk_scripts.proofs.Words.{cases_eq, filter-append, NumberMap, get, get_or, get_other, get_same, Said, StepError, accept_by}
-use Rattle.rk_scripts.proofs.Words.{accepting, ask_by, asking, Session, busy, new_session, session_calling, Accepts, Asks, Calls, Cluster}
-use Rattle.rk_scripts.proofs.Words.{Happens, Joins, Occurrence, called_by_client, cluster_after, cluster_run, cluster_stepped}
-use Rattle.rk_scripts.proofs.Words.{cluster_visited, joined_by, lane_at, new_cluster, session_at, with_lane, with_session, accept_refusal}
-use Rattle.rk_scripts.proofs.Words.{ask_refusal, Stepped, step, acted, said_in, is_reply_to, replies_to, said_along, told_by, told_to}
+use Rattle.rk_scripts.proofs.Words.{cases_eq, filter-append, get, get_other, get_same, Said, StepError, accept_by, accepting, ask_by}
+use Rattle.rk_scripts.proofs.Words.{asking, Session, busy, new_session, session_calling, Accepts, Asks, Calls, Cluster, Happens, Joins}
+use Rattle.rk_scripts.proofs.Words.{Occurrence, called_by_client, cluster_after, cluster_run, cluster_stepped, cluster_visited, joined_by}
+use Rattle.rk_scripts.proofs.Words.{lane_at, new_cluster, session_at, with_lane, with_session, accept_refusal, ask_refusal, Stepped, step}
+use Rattle.rk_scripts.proofs.Words.{acted, said_in, is_reply_to, replies_to, said_along, told_by, told_to}
 use Rattle.rk_scripts.proofs.answers.Telling.{IsOwn, Tells, accepting_tells, asking_tells, calling_tells}
 
 -- each client's session is its own
@@ -29,9 +28,7 @@ module _ (before now : Cluster) (client : ℕ) (after : Session) (said : List Sa
   session_here other is = ap (λ (found : Option Session). unwrap_or found (new_session other)) (get_same now.sessions client after other is)
 
   session_beside : (other : ℕ) → (other ≡ client → ⊥) → session_at (with_session now client after) other ≡ session_at before other
-  session_beside other apart =
-      ap (λ (found : Option Session). unwrap_or found (new_session other)) (get_other now.sessions client after other apart)
-      ∙ ap (λ (sessions : NumberMap Session). get_or (new_session other) sessions other) same
+  session_beside other apart = grind (arith, new_session, get_other)
 
   hears_told : Hears before (with_session now client after) said
   hears_told = record {

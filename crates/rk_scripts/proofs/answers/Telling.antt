@@ -12,8 +12,8 @@ use Rattle.rk_types.specs.declared.call.Outcome.{Outcome}
 use Rattle.rk_types.specs.declared.history.Receipt.{Receipt}
 use Rattle.rk_message.specs.declared.calls.Located.{Located}
 use Rattle.rk_message.specs.declared.calls.Reply.{Reply}
-use Rattle.rk_world.specs.Client.{Accepted, accepted_by, accepted_of, answer_accepted, done, has_call, ignoring}
-use Rattle.rk_world.specs.Client.{range_of, turn_by, turn_of, turn_to, with_range}
+use Rattle.rk_world.specs.Client.{Accepted, accepted_by, accepted_of, answer_accepted, done, has_call, ignoring, range_of, turn_by, turn_of}
+use Rattle.rk_world.specs.Client.{with_range}
 use Rattle.rk_cluster.specs.Acted.{last_receipt, reply_of, said_by, said_of}
 
 -- a session is a client's own, and so is its outstanding call
@@ -64,12 +64,8 @@ calling_tells client session table key op busy own = grind (arith, append-nil, t
 -- ---- turns
 
 module _ (session : Session) (call : Call) where
-  to_keeps : (tablet : ℕ) (owner : Option ℕ) → Keeps session (turn_to session call tablet owner).session
-  to_keeps tablet None = record { client_is = refl; receipts_are = refl; call_is = refl }
-  to_keeps tablet (Some master) = record { client_is = refl; receipts_are = refl; call_is = refl }
-
   turn_keeps : (found : Option Located) → Keeps session (turn_by session call found).session
-  turn_keeps found = grind (arith, to_keeps)
+  turn_keeps found = grind arith
 
 module _ (w : World) (session : Session) where
   turned_keeps : (call : Call) (out : Option Call) → Keeps session (asking_by w session call (turn_of session out)).session
@@ -114,11 +110,8 @@ module _ (client : ℕ) (session : Session) (call : Call) (own : IsOwn client se
   answered_tells : (reply : Reply) (answer : Answer)
       → Tells client session (answer_accepted session call reply answer).session (Said-of (answer_accepted session call reply answer))
   answered_tells reply (Answer.Done outcome) = done_tells reply outcome
-  answered_tells reply (Answer.Moved tablet) = tells_none client session
-      (answer_accepted session call reply (Answer.Moved tablet)).session (Said.Moved call.client call.seq tablet ∷ []) own
-      (record { client_is = refl; receipts_are = refl; call_is = refl }) (λ other. refl)
-  answered_tells reply (Answer.NotYet key) =
-      quiet_tells client session (Said.NotYet call.client call.seq key ∷ []) own (λ other. refl)
+  answered_tells reply (Answer.Moved tablet) = search tells_none
+  answered_tells reply (Answer.NotYet key) = search quiet_tells
 
   by_tells : (body : Body) → Tells client session (accepted_by session call body).session (Said-of (accepted_by session call body))
   by_tells (Body.Located located) =

@@ -1,10 +1,8 @@
 -- Occurrences that are allowed at any time go on with a run.
-use Rattle.std.proofs.Common.{arith}
-use Rattle.std.proofs.Common.{◌≡◌, ℕ, ◌<◌, List, [], ◌∷◌, Option, Some, None, Result, Ok, Err, sym, subst, IfSome, All}
+use Rattle.std.proofs.Common.{arith, ◌≡◌, ℕ, ◌<◌, List, [], ◌∷◌, Option, Some, None, sym, subst, IfSome, All}
 use Rattle.rk_scripts.proofs.Words.{All-head, All-nil, All-tail, Call, Ended, LANES, accept, ask, Accepts, Asks, Calls, Cluster, Happens}
-use Rattle.rk_scripts.proofs.Words.{Joins, Occurrence, cluster_after, lane_at, session_at, MayHappen, step, World, new_world}
-use Rattle.rk_scripts.proofs.Words.{StepError, Event, acted, all_acted, came_in, going_on, deliver_in_makes, Fate, IsAllowed, IsNoCrash}
-use Rattle.rk_scripts.proofs.Words.{came_is}
+use Rattle.rk_scripts.proofs.Words.{Joins, Occurrence, cluster_after, lane_at, session_at, MayHappen, step, World, new_world, Event, acted}
+use Rattle.rk_scripts.proofs.Words.{all_acted, deliver_in_makes, Fate, IsAllowed, IsNoCrash, came_is}
 use Rattle.rk_world.specs.Base.{Base, no_base}
 use Rattle.rk_world.specs.Premises.{IsAfterStart}
 use Rattle.rk_world.specs.Runs.{IsCalmEvent}
@@ -55,8 +53,7 @@ module _ (masters backups : ℕ) where
     calm = tt;
     told = tt;
   }
-  allowed_may cluster (Accepts lane number client) allowed told reached =
-      record { may = lane_there masters backups cluster reached lane allowed; calm = tt; told = tt }
+  allowed_may cluster (Accepts lane number client) allowed told reached = search lane_there
 
   -- occurrences of this kind go on with a run, where replicas answer what they store
   pub allowed_on : (cluster : Cluster) (list : List Occurrence) → All (IsAllowed masters) list → AreToldFrom cluster list → GoesOn masters backups cluster list
@@ -65,26 +62,14 @@ module _ (masters backups : ℕ) where
       (allowed_may cluster occurrence (All-head (IsAllowed masters) occurrence later allowed) told.0)
       (allowed_on (cluster_after cluster occurrence) later (All-tail (IsAllowed masters) occurrence later allowed) told.1)
 
-  -- one that came goes on with a run
-  answered_on : {T : Type 0} (cluster : Cluster) (occurrence : Occurrence) (answer : Result T StepError) → (IsReached masters backups cluster → MayBe masters backups cluster occurrence)
-      → GoesOn masters backups cluster (came_in occurrence answer)
-  answered_on cluster occurrence (Ok answer) may = one_on masters backups cluster occurrence [] may (none_on masters backups (cluster_after cluster occurrence))
-  answered_on cluster occurrence (Err error) may = none_on masters backups cluster
-
   first_on : (cluster : Cluster) (occurrence : Occurrence) → (IsReached masters backups cluster → MayBe masters backups cluster occurrence) → GoesOn masters backups cluster (acted cluster occurrence).came
-  first_on cluster occurrence may = grind (arith, answered_on, step, lane_at, ask, session_at, accept, one_on, none_on, cluster_after)
-
-  then_on : (cluster : Cluster) (occurrence : Occurrence) (later : List Occurrence) (worn : Option ℕ) → GoesOn masters backups cluster (acted cluster occurrence).came
-      → GoesOn masters backups (acted cluster occurrence).cluster (all_acted (acted cluster occurrence).cluster later).came
-      → GoesOn masters backups cluster (going_on (acted cluster occurrence) worn (λ next. all_acted next later)).came
-  then_on cluster occurrence later worn first rest = grind (arith, all_on, acted, all_acted, came_is)
+  first_on cluster occurrence may = grind (arith, step, lane_at, ask, session_at, accept, one_on, none_on, cluster_after)
 
   -- those go on with a run that come of one that may occur, and of those behind it
   pub came_first : (cluster : Cluster) (occurrence : Occurrence) (later : List Occurrence) → (IsReached masters backups cluster → MayBe masters backups cluster occurrence)
       → GoesOn masters backups (acted cluster occurrence).cluster (all_acted (acted cluster occurrence).cluster later).came
       → GoesOn masters backups cluster (all_acted cluster (occurrence ∷ later)).came
-  came_first cluster occurrence later may rest =
-      then_on cluster occurrence later (acted cluster occurrence).worn (first_on cluster occurrence may) rest
+  came_first cluster occurrence later may rest = grind (arith, acted, first_on, all_on, all_acted, came_is)
 
   -- so do those that come of some that call no replica
   pub came_on : (cluster : Cluster) (list : List Occurrence) → All (IsFree masters) list → GoesOn masters backups cluster (all_acted cluster list).came

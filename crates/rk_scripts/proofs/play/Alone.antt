@@ -1,6 +1,5 @@
 -- Where no count of a replica rose no call has failed.
-use Rattle.std.proofs.Common.{◌≡◌, ◌<◌, ℕ, List, [], ◌∷◌, All, length, map, replicate, Option, IfSome}
-use Rattle.std.proofs.Common.{refl, ap, arith}
+use Rattle.std.proofs.Common.{◌≡◌, ◌<◌, ℕ, List, [], ◌∷◌, All, length, map, replicate, Option, IfSome, refl, ap, arith}
 use Rattle.rk_scripts.proofs.Words.{All-head, Fate, Kept, faultless}
 use Rattle.rk_cluster.proofs.Faults.{is_of_it, times_both}
 use Rattle.rk_cluster.specs.Faults.{Counts, GoOn, MOST_COUNT, RoseBy, times_lost}

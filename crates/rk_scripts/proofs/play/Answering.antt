@@ -3,7 +3,7 @@ use Rattle.std.proofs.Common.{◌≡◌, ◌≤◌, ◌<◌, ◌++◌, ◌∙◌
 use Rattle.std.proofs.Common.{sym, ap, subst, arith, cond, length-append, eq-eqb}
 use Rattle.rk_scripts.proofs.Words.{option_map_or, and_from, get, SEGMENT_BYTES, Node, Segments, NumberedBytes, Log, bytes_of, known_of}
 use Rattle.rk_scripts.proofs.Words.{segment_of, segments, Body, Message, Called, called_by, IsWellFormed, limits_of, IsMaster, IsTold}
-use Rattle.rk_scripts.proofs.Words.{HasRoom, told_for, World, backup_at, Event, IsSound}
+use Rattle.rk_scripts.proofs.Words.{HasRoom, World, backup_at, Event, IsSound}
 use Rattle.rk_outside.specs.Segments.{bytes_of as stored_bytes, with_part}
 use Rattle.rk_log.specs.Log.{IsBackup, segment_bytes}
 use Rattle.rk_backup.specs.Accepts.{added}
@@ -12,7 +12,6 @@ use Rattle.rk_world.specs.Backup.{Appended, Failed, append_called, append_taken,
 use Rattle.rk_world.specs.Limits.{IsFormedMessage, IsThere}
 use Rattle.rk_world.specs.Premises.{MayCome}
 use Rattle.rk_world.specs.Room.{MOST_BYTES}
-use Rattle.rk_world.specs.Step.{told_by_replica, told_to}
 use Rattle.rk_world.specs.World.{log_in}
 use Rattle.rk_sound.specs.Logs.{IsFirstPart, IsFromLog, LogSays}
 use Rattle.rk_inv_wellformed.proofs.bytes.Segments.{IsTold as CanBeTold, segments_told}
@@ -98,18 +97,6 @@ module _ (w : World) (sound : IsSound w) (formed : IsWellFormed w) (room : HasRo
   called_comes message backup (Node.Master master) _ fault from_is body_is to_is number found = tt
   called_comes message backup _ body fault from_is body_is to_is number found = tt
 
-  to_comes : (message : Message) (to : Node) (fault : Option ℕ) → message.to ≡ to → (number : ℕ) → get w.wire.messages number ≡ Some message → MayCome (told_to w message to fault)
-  to_comes message (Node.Backup backup) fault is number found = called_comes message backup message.from message.body fault refl refl is number found
-  to_comes message _ fault is number found = tt
-
-  found_comes : (number : ℕ) (found : Option Message) (fault : Option ℕ) → get w.wire.messages number ≡ found → MayCome (told_for w found fault)
-  found_comes number None fault is = tt
-  found_comes number (Some message) fault is = to_comes message message.to fault refl number is
-
-  by_replica : (event : Event) (fault : Option ℕ) → MayCome (told_by_replica w event fault)
-  by_replica (Event.Deliver number) fault = found_comes number (get w.wire.messages number) fault refl
-  by_replica _ fault = tt
-
   -- what a replica that tells what it stores answers may come
   pub told_comes : (event : Event) (called : Called) → IsTold w event called → MayCome called
-  told_comes event called answer = subst MayCome (sym answer.told) (by_replica event answer.fault)
+  told_comes event called answer = grind (arith, called_comes, answer.told, answer.fault)

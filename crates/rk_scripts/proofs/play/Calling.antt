@@ -1,8 +1,8 @@
 -- A client's call goes on with a run, unless a code refuses it.
 use Rattle.std.proofs.Common.{◌≡◌, ℕ, ◌<◌, ◌≤◌, ◌-◌, ◌^◌, ◌||◌, not, nat_le, false, List, [], ◌∷◌, length, Option, Some, None, is_some}
-use Rattle.std.proofs.Common.{unwrap_or, refl, sym, subst, arith, w32, sum_by, leb-false}
-use Rattle.rk_scripts.proofs.Words.{get, Call, Op, IsNumber, Session, new_session, Calls, Cluster, session_at, code_where, first_code}
-use Rattle.rk_scripts.proofs.Words.{calls_asked, has_table, is_client, rows_of, Limit, Unknown, acted, all_acted, IsGood}
+use Rattle.std.proofs.Common.{unwrap_or, refl, arith, w32, sum_by, leb-false}
+use Rattle.rk_scripts.proofs.Words.{get, Call, Op, Session, new_session, Calls, Cluster, session_at, code_where, first_code, calls_asked}
+use Rattle.rk_scripts.proofs.Words.{has_table, is_client, rows_of, Limit, Unknown, acted, all_acted, IsGood}
 use Rattle.std.proofs.lemmas.List.Sums.{get_or-le-sum_by, sum-map}
 use Rattle.rk_script.proofs.Widths.{HasVersion}
 use Rattle.rk_script.specs.Lawful.{HasLawfulValue, MayBeAsked}
@@ -21,9 +21,7 @@ use Rattle.rk_scripts.proofs.play.Tests.{passes}
 
 -- an operation is lawful where its value and its version are
 lawful_op : (operation : Op) → HasLawfulValue operation → HasVersion operation → IsLawfulOp operation
-lawful_op (Op.Put bytes) value version = value
-lawful_op (Op.CondPut expected bytes) value version = (record { least_is = omega arith; fits = omega (arith, version) }, value)
-lawful_op _ value version = tt
+lawful_op operation value version = grind arith
 
 -- no client asked more calls than all did
 module _ (cluster : Cluster) where
@@ -58,8 +56,7 @@ module _ (masters backups : ℕ) (cluster : Cluster) (client table : ℕ) (key :
       let last = agrees.last in
       let none = none_waits mine.outstanding idle in
       record {
-        client = subst (λ (number : ℕ). IsNumber w32 1 number) (sym agrees.own)
-            (record { least_is = asked.client_is; fits = omega (arith, client_fits) });
+        client = grind (arith, w32, agrees.own, asked.client_is);
         seq = record { least_is = omega arith; fits = omega (arith, receipts, few, last, none) };
         table = record { least_is = asked.table_is; fits = omega (arith, table_fits) };
         key = asked.key_is;

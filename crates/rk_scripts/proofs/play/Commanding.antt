@@ -1,11 +1,11 @@
 -- What occurs at a command of a script goes on with a run.
 use Rattle.std.proofs.Common.{◌≡◌, ℕ, ◌<◌, ◌≤◌, ◌==◌, ◌||◌, nat_le, nat_lt, not, Bool, true, false, List, [], ◌∷◌, ◌++◌, length, map}
 use Rattle.std.proofs.Common.{Option, None, Some, if◌then◌else◌, refl, arith, ◌-◌, ◌^◌, w32, All, flat_map, leb-false}
-use Rattle.rk_scripts.proofs.Words.{mod-lt, All-append, All-cons, All-filter, All-map, All-nil, All-weaker, hash_of, Call, LANES, IsNumber}
-use Rattle.rk_scripts.proofs.Words.{number_at, Body, row_of, Gave, Session, call_lane, Asks, Cluster, Joins, Occurrence, lane_at, Master}
-use Rattle.rk_scripts.proofs.Words.{IsMaster, MayHappen, IsTold, World, live_masters, new_world, Event, code_where, first_code, all_lanes}
+use Rattle.rk_scripts.proofs.Words.{All-append, All-cons, All-filter, All-map, All-nil, All-weaker, Call, LANES, IsNumber, number_at}
+use Rattle.rk_scripts.proofs.Words.{row_of, Gave, Session, call_lane, Asks, Cluster, Joins, Occurrence, lane_at, Master, IsMaster}
+use Rattle.rk_scripts.proofs.Words.{MayHappen, IsTold, World, live_masters, new_world, Event, code_where, first_code, all_lanes}
 use Rattle.rk_scripts.proofs.Words.{calls_asked, has_table, is_dead, is_master, is_tablet, lanes_without, rows_of, client_makes, in_lane}
-use Rattle.rk_scripts.proofs.Words.{in_lanes, request_lane, Crashed, Limit, TooLate, Unknown, IsNoCrash, Node}
+use Rattle.rk_scripts.proofs.Words.{in_lanes, Crashed, Limit, TooLate, Unknown, IsNoCrash, Node}
 use Rattle.std.proofs.lemmas.Bool.{or_parts}
 use Rattle.rk_cluster.specs.Codes.{MOST_TABLES, MOST_TABLETS, migrate_code, notice_code, split_code, table_code}
 use Rattle.rk_cluster.specs.Looks.{has_dead_owner, has_inside, is_owned, is_owner, owner_at, tables_of}
@@ -18,11 +18,6 @@ use Rattle.rk_scripts.proofs.play.Masters.{names_masters}
 use Rattle.rk_scripts.proofs.play.Reaching.{IsReached}
 use Rattle.rk_scripts.proofs.play.Tests.{master_there, passes}
 use Rattle.rk_inv_wellformed.proofs.maps.Lists.{all_before}
-
--- the lane of a request is there
-pub request_there : (body : Body) → request_lane body < LANES
-request_there (Body.Request request) = mod-lt (hash_of request.key) (omega arith)
-request_there body = omega arith
 
 module _ (masters backups : ℕ) (cluster : Cluster) (reached : IsReached masters backups cluster) where
   abbrev Allowed : List Occurrence → Type 0

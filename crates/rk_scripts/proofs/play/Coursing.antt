@@ -1,5 +1,5 @@
 -- What occurs in the course of a settling command goes on with a run.
-use Rattle.std.proofs.Common.{ℕ, List, [], ◌∷◌, sym, subst}
+use Rattle.std.proofs.Common.{arith, ℕ, List, [], ◌∷◌, sym, subst}
 use Rattle.rk_scripts.proofs.Words.{Cluster, IsRun, run_on, Fate, move_is, Course, moved, moved_all, AreTasks}
 use Rattle.rk_scripts.proofs.play.Allowed.{allowed_on}
 use Rattle.rk_scripts.proofs.play.Masters.{names_masters}
@@ -24,8 +24,7 @@ module _ (masters backups : ℕ) (start : Cluster) (reached : IsReached masters 
       allowed_on masters backups course.cluster move.occurrences lawful.0 (move.told is.are) there in
       record {
         from = moved_from start course fate is.from;
-        run = subst (IsRun start) (sym move.occurred)
-            (run_on start course.occurred move.occurrences is.run (subst (λ (cluster : Cluster). IsRun cluster move.occurrences) is.from on));
+        run = grind (arith, run_on, move.occurred, course.occurred, move.occurrences, is.run, is.from);
         are = lawful.1;
       }
 

@@ -1,11 +1,10 @@
 -- Where no call of a replica fails the script alone decides a run: moves that are left once a command is over, or stops, change nothing.
-use Rattle.std.proofs.Common.{◌≡◌, ℕ, zero, suc, ◌+◌, List, [], ◌∷◌, ◌++◌, replicate, Option, None, Some, refl}
-use Rattle.std.proofs.Common.{sym, ap, subst, ◌∙◌, arith}
+use Rattle.std.proofs.Common.{◌≡◌, ℕ, zero, suc, ◌+◌, List, [], ◌∷◌, ◌++◌, replicate, Option, None, Some, refl, sym, ap, subst, ◌∙◌, arith}
 use Rattle.rk_scripts.proofs.Words.{none-some, NoMemory, Cluster, Fate, Kept, Code, advance, advance_code, priority_code, serve_code}
-use Rattle.rk_scripts.proofs.Words.{Course, course_of, error_of, moved, moved_all, moved_by, priority, serve, settle, SettleError, Command}
-use Rattle.rk_scripts.proofs.Words.{Numbered, Effect, Pauses, Stop, carried, effect, effect_within, is_full, only_fate, reach_of}
-use Rattle.rk_scripts.proofs.Words.{refused_by, settled, settled_by, stop_of, Played, behind, cluster_by, continued, faultless, first_fates}
-use Rattle.rk_scripts.proofs.Words.{other_fates, played_in, played_part}
+use Rattle.rk_scripts.proofs.Words.{Course, course_of, error_of, moved, moved_all, moved_by, priority, serve, settle, Command, Numbered}
+use Rattle.rk_scripts.proofs.Words.{Effect, Pauses, Stop, carried, effect, effect_within, is_full, only_fate, reach_of, refused_by, settled}
+use Rattle.rk_scripts.proofs.Words.{settled_by, Played, behind, cluster_by, continued, faultless, first_fates, other_fates, played_in}
+use Rattle.rk_scripts.proofs.Words.{played_part}
 use Rattle.std.proofs.lemmas.List.{replicate-append-replicate}
 use Rattle.rk_settle.proofs.Lossless.{stands_still}
 use Rattle.rk_scripts.proofs.play.Openings.{opening}
@@ -22,13 +21,8 @@ Stands course = moved course Kept ≡ course
 abbrev IsOver : Effect → Type 0
 IsOver it = it.stop ≡ Some Pauses → ⊥
 
-stops_still : (course : Course) (found : Option SettleError) → error_of course ≡ found → (stop_of found ≡ Pauses → ⊥) → Stands course
-stops_still course None is stops = absurd (stops refl)
-stops_still course (Some error) is stops = stands_still course error is
-
 over_by : {T : Type 0} (course : Course) (left : List T) → (left ≡ [] → Stands course) → IsOver (settled_by course left) → Stands course
-over_by course [] none over = none refl
-over_by course (task ∷ left) none over = stops_still course (error_of course) refl (λ pauses. over (ap Some pauses))
+over_by course left none over = grind (arith, error_of, stands_still)
 
 -- where no task is left, too
 none_left : (course : Course) → course.tasks ≡ [] → Stands course
@@ -74,13 +68,10 @@ module _ (cluster : Cluster) (first second : ℕ) where
 
   effect_same : (command : Command) → Same (λ count. effect cluster command (replicate count Kept))
   effect_same (Command.Serve client) one two = settled_same (serve_code cluster client) (course_of cluster (serve cluster client)) one two
-  effect_same (Command.Advance tablet reach) one two =
-      settled_same (advance_code cluster tablet (reach_of reach)) (course_of cluster (advance cluster tablet (reach_of reach))) one two
+  effect_same (Command.Advance tablet reach) one two = grind (arith, settled_same, advance_code, reach_of, course_of, advance)
   effect_same (Command.Priority tablet) one two = settled_same (priority_code cluster tablet) (course_of cluster (priority cluster tablet)) one two
   effect_same Command.Settle one two = settled_same None (course_of cluster (settle cluster)) one two
-  effect_same (Command.Deliver lane place) one two =
-      ap (λ (fate : Fate). carried cluster (codes.place_code cluster lane place) (makes.deliver_makes cluster lane place fate))
-      (only_kept first ∙ sym (only_kept second))
+  effect_same (Command.Deliver lane place) one two = grind (arith, carried, only_kept)
   effect_same command one two = refl
 
   within_same : (command : Command) → Same (λ count. effect_within cluster command (replicate count Kept))
@@ -110,9 +101,7 @@ others_are (count ∷ moves) = refl
 
 -- a command that pauses ends a run for want of memory
 pauses_not : (line : ℕ) (it : Effect) (stop : Option Stop) (rest : Cluster → Played) → Ended (continued line it stop rest) → stop ≡ Some Pauses → ⊥
-pauses_not line it None rest ended is = absurd (none-some Pauses is)
-pauses_not line it (Some Pauses) rest ended is = ended refl
-pauses_not line it _ rest ended is = absurd (cc is)
+pauses_not line it stop rest ended is = grind (arith, none-some)
 
 continued_same : (line : ℕ) (it : Effect) (stop : Option Stop) (rest other : Cluster → Played) → Ended (continued line it stop rest) → Ended (continued line it stop other)
     → (Ended (rest it.cluster) → Ended (other it.cluster) → rest it.cluster ≡ other it.cluster) → continued line it stop rest ≡ continued line it stop other

@@ -1,10 +1,9 @@
 -- What is so of a run of a script, or of two with other fates of the calls of replicas: it is where it is so of what is played in a new cluster,
 -- with as many masters and backups as there may be, and of a run that ends before any command.
-use Rattle.std.proofs.Common.{◌≡◌, ℕ, List, [], ◌∷◌, Option, None, Some, Result, Ok, Err, if◌then◌else◌, refl, subst}
-use Rattle.std.proofs.Common.{arith, take, All}
-use Rattle.rk_scripts.proofs.Words.{All-head, All-nil, All-tail, NoMemory, Fate, number_of, IsLawfulCommand, script_of, Command}
-use Rattle.rk_scripts.proofs.Words.{Numbered, ParseError, Played, Setting, cluster_by, first_commands, opened_by, played_from, played_in}
-use Rattle.rk_scripts.proofs.Words.{played_of, played_part, refused_at, set_once, unset}
+use Rattle.std.proofs.Common.{◌≡◌, ℕ, List, [], ◌∷◌, Option, Result, Ok, Err, if◌then◌else◌, refl, subst, arith, take, All}
+use Rattle.rk_scripts.proofs.Words.{All-head, All-tail, NoMemory, Fate, number_of, IsLawfulCommand, script_of, Command, Numbered}
+use Rattle.rk_scripts.proofs.Words.{ParseError, Played, Setting, cluster_by, first_commands, opened_by, played_from, played_in, played_of}
+use Rattle.rk_scripts.proofs.Words.{played_part, refused_at, set_once, unset}
 use Rattle.std.proofs.lemmas.List.Elements.{All-take}
 use Rattle.rk_script.proofs.LawfulLemmas.{script_of-lawful}
 use Rattle.rk_script.proofs.Widths.{HasWidthsAt, script_of-widths}
@@ -24,9 +23,7 @@ first_read count (Ok all) are commands is =
     let same : take count all ≡ commands = cc is in
     subst (λ (list : List Numbered). All IsLawful list × All HasWidthsAt list) same
     (All-take IsLawful count all (are all refl).0, All-take HasWidthsAt count all (are all refl).1)
-first_read count (Err fault) are commands is =
-    let none : [] ≡ commands = cc is in
-    subst (λ (list : List Numbered). All IsLawful list × All HasWidthsAt list) none (All-nil IsLawful, All-nil HasWidthsAt)
+first_read count (Err fault) are commands is = grind arith
 
 -- nothing was asked for
 unset_may : IsSetting unset
@@ -67,6 +64,4 @@ module _ (R : List Numbered → Played → Played → Type 0) (fates others : Li
 
   -- so it is of a part of a script
   pub opening : (script : List ℕ) (part : Option ℕ) → R (acting_in part script) (played_part part script fates) (played_part part script others)
-  opening script None = from_read (script_of script) (λ commands is. (script_of-lawful script commands is, script_of-widths script commands is))
-  opening script (Some count) = from_read (first_commands count (script_of script))
-      (first_read count (script_of script) (λ commands is. (script_of-lawful script commands is, script_of-widths script commands is)))
+  opening script part = grind (arith, from_read, script_of, script_of-lawful, script_of-widths, first_commands, first_read)

@@ -1,7 +1,6 @@
 -- The cluster at the end of a script played is what occurred made of a new one, with as many masters and backups as there may be; and what
 -- occurred is a run.
-use Rattle.std.proofs.Common.{arith}
-use Rattle.std.proofs.Common.{◌≡◌, ◌≤◌, ℕ, List, [], ◌∷◌, Option, None, Some, refl, sym, ap, subst, ◌∙◌, All}
+use Rattle.std.proofs.Common.{arith, ◌≡◌, ◌≤◌, ℕ, List, [], ◌∷◌, Option, None, Some, refl, sym, ap, subst, ◌∙◌, All}
 use Rattle.rk_scripts.proofs.Words.{All-head, All-tail, MOST_BACKUPS, Cluster, Occurrence, cluster_run, new_cluster, MOST_MASTERS, Fate}
 use Rattle.rk_scripts.proofs.Words.{runs_join, Numbered, Effect, Refuses, Stop, effect_within, Played, Setting, behind, cluster_by}
 use Rattle.rk_scripts.proofs.Words.{continued, first_fates, how_many, other_fates, played_in, played_part, refused_at, stopped_at, IsRun}

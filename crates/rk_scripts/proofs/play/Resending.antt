@@ -1,15 +1,13 @@
 -- A client's last request is sent again and delivered: this calls no replica, since no backup stores what a client sends.
 use Rattle.std.proofs.Common.{◌≡◌, ℕ, ◌+◌, ◌<◌, List, [], ◌∷◌, length, Option, None, Some, Result, Ok, Err, refl, sym, subst, arith, IfSome}
 use Rattle.std.proofs.Common.{get_or-set_same}
-use Rattle.rk_scripts.proofs.Words.{get, get_same, LANES, Placed, Node, Segments, HasSentNumbers, Body, Message, Gave, called_by, Cluster}
-use Rattle.rk_scripts.proofs.Words.{cluster_stepped, lane_at, session_at, refusal, world_stepped, Stepped, sent_again, step, stepped_by}
-use Rattle.rk_scripts.proofs.Words.{told_for, World, backup_at, new_world, StepError, LastCall, view, IsSound, acted, all_acted, in_lane}
-use Rattle.rk_scripts.proofs.Words.{request_lane, Event}
-use Rattle.rk_world.specs.Step.{told_to}
+use Rattle.rk_scripts.proofs.Words.{get, get_same, LANES, Placed, Node, HasSentNumbers, Body, Message, Gave, Cluster, cluster_stepped}
+use Rattle.rk_scripts.proofs.Words.{lane_at, session_at, refusal, world_stepped, Stepped, sent_again, step, stepped_by, told_for, World}
+use Rattle.rk_scripts.proofs.Words.{backup_at, new_world, StepError, LastCall, view, IsSound, acted, all_acted, in_lane, request_lane}
+use Rattle.rk_scripts.proofs.Words.{Event}
 use Rattle.rk_sound.specs.Asked.{IsRequest}
-use Rattle.rk_cluster.specs.Makes.{again_by, again_in, again_makes}
+use Rattle.rk_cluster.specs.Makes.{again_in, again_makes}
 use Rattle.rk_scripts.proofs.play.Allowed.{allowed_may, came_first}
-use Rattle.rk_scripts.proofs.play.Commanding.{request_there}
 use Rattle.rk_scripts.proofs.play.Reaching.{GoesOn, lane_good, lane_there, none_on}
 
 -- ---- what a client sends calls no replica
@@ -23,24 +21,13 @@ IsOfClient node = ⊥
 abbrev ByClient : Option Message → Type 0
 ByClient found = IfSome found (λ it. IsOfClient it.from)
 
-stores_none : (segments : Segments) (from : Node) (body : Body) (fault : Option ℕ) → IsOfClient from → called_by segments from body fault ≡ Gave None
-stores_none segments (Node.Client client) body fault of = refl
-stores_none segments _ body fault of = absurd of
-
-none_to : (w : World) (message : Message) (to : Node) (fault : Option ℕ) → IsOfClient message.from → told_to w message to fault ≡ Gave None
-none_to w message (Node.Backup backup) fault of = stores_none (backup_at w backup) message.from message.body fault of
-none_to w message _ fault of = refl
-
 none_for : (w : World) (found : Option Message) (fault : Option ℕ) → ByClient found → told_for w found fault ≡ Gave None
-none_for w None fault of = refl
-none_for w (Some message) fault of = none_to w message message.to fault of
+none_for w found fault of = grind (arith, backup_at)
 
 -- ---- what is sent again is of a client
 
 by_client : (asked : ℕ → Option LastCall) (journal : List Placed) (client : ℕ) (from : Node) (body : Body) → IsRequest asked journal client from body → IsOfClient from
-by_client asked journal client (Node.Client sender) (Body.Request request) is = tt
-by_client asked journal client (Node.Client sender) body is = absurd is
-by_client asked journal client from body is = absurd is
+by_client asked journal client from body is = grind arith
 
 module _ (w : World) (sound : IsSound w) (numbered : HasSentNumbers w.wire) (client : ℕ) where
   -- nothing has the next number
@@ -90,9 +77,5 @@ module _ (masters backups : ℕ) (cluster : Cluster) (client : ℕ) where
       (none_on masters backups last)))
       reached
 
-  again_by_on : (found : Option Message) → GoesOn masters backups cluster (all_acted cluster (again_by cluster client found)).came
-  again_by_on None = none_on masters backups cluster
-  again_by_on (Some message) = again_in_on (request_lane message.body) (request_there message.body)
-
   pub again_on : GoesOn masters backups cluster (all_acted cluster (again_makes cluster client)).came
-  again_on = again_by_on (session_at cluster client).request
+  again_on = grind (arith, session_at, none_on, again_in_on, request_lane)

@@ -1,5 +1,5 @@
 -- What is so at each step of a run of a new cluster.
-use Rattle.std.proofs.Common.{ℕ, List, [], ◌∷◌}
+use Rattle.std.proofs.Common.{arith, ℕ, List, [], ◌∷◌}
 use Rattle.rk_scripts.proofs.Words.{Called, Cluster, Happens, Occurrence, cluster_after, lane_at, IsRun, Event, IsGoodLane, Lasts}
 use Rattle.rk_inv_lanes.proofs.late.Sources.{each_moved, each_not_yet, sound_requests}
 use Rattle.rk_runs.proofs.history.Finishing.{finished_by}
@@ -14,10 +14,8 @@ module _ (masters backups : ℕ) where
   -- each lane is sound at each cluster that is passed
   pub all_sound : (cluster : Cluster) (list : List Occurrence) → IsReached masters backups cluster → IsRun cluster list → AtEachCluster HasSoundLanes cluster list
   all_sound cluster [] reached run = λ lane inside. (lane_good masters backups cluster reached lane inside).sound
-  all_sound cluster (occurrence ∷ later) reached run = (
-    (λ lane inside. (lane_good masters backups cluster reached lane inside).sound),
-    all_sound (cluster_after cluster occurrence) later (next_reached cluster occurrence later reached run) run.3,
-  )
+  all_sound cluster (occurrence ∷ later) reached run =
+      grind (arith, lane_good, next_reached, (all_sound (cluster_after cluster occurrence) later (next_reached cluster occurrence later reached run) run.3))
 
   -- what is so of each event that comes to a good lane is so at each step
   module _ (Holds : (cluster : Cluster) (occurrence : Occurrence) → Type 0)

@@ -1,9 +1,9 @@
 -- Where no call of a replica fails no command stops because replicas failed.
-use Rattle.std.proofs.Common.{◌≡◌, ℕ, List, [], ◌∷◌, replicate, zero, suc, Option, None, Some, refl, sym, subst}
-use Rattle.rk_scripts.proofs.Words.{ReplicaFault, Cluster, Occurrence, Acted, all_acted, Fate, Kept, Code, IsWell, moved_well, well_other}
-use Rattle.rk_scripts.proofs.Words.{Course, course_of, error_of, moved, moved_all, SettleError, Command, Numbered, Effect, Fails, Stop}
-use Rattle.rk_scripts.proofs.Words.{carried, carried_by, effect_within, settled, settled_by, shown, stop_of, Played, cluster_by, continued}
-use Rattle.rk_scripts.proofs.Words.{faultless, first_fates, other_fates, played_in, played_part}
+use Rattle.std.proofs.Common.{arith, ◌≡◌, ℕ, List, [], ◌∷◌, replicate, zero, suc, Option, Some, sym, subst}
+use Rattle.rk_scripts.proofs.Words.{ReplicaFault, Cluster, Occurrence, all_acted, Fate, Kept, Code, IsWell, moved_well, well_other, Course}
+use Rattle.rk_scripts.proofs.Words.{course_of, error_of, moved, moved_all, SettleError, Command, Numbered, Effect, Fails, Stop, carried}
+use Rattle.rk_scripts.proofs.Words.{effect_within, stop_of, Played, cluster_by, continued, faultless, first_fates, other_fates, played_in}
+use Rattle.rk_scripts.proofs.Words.{played_part}
 use Rattle.rk_scripts.proofs.play.Deciding.{first_are, first_moves, other_moves, others_are}
 use Rattle.rk_scripts.proofs.play.Openings.{opening}
 use Rattle.rk_scripts.proofs.play.Kinds.{command_by}
@@ -30,30 +30,11 @@ abbrev NoFailure : Effect → Type 0
 NoFailure it = IsFailure it.stop → ⊥
 
 module _ (cluster : Cluster) where
-  carried_by_other : (it : Acted) (worn : Option ℕ) → NoFailure (carried_by it worn)
-  carried_by_other it None fails = fails
-  carried_by_other it (Some number) fails = fails
-
   carried_other : (code : Option Code) (list : List Occurrence) → NoFailure (carried cluster code list)
-  carried_other (Some code) list fails = fails
-  carried_other None list fails = carried_by_other (all_acted cluster list) (all_acted cluster list).worn fails
-
-  settled_by_other : {T : Type 0} (course : Course) (left : List T) → IsWell course → NoFailure (settled_by course left)
-  settled_by_other course [] is fails = fails
-  settled_by_other course (task ∷ left) is fails = error_other course (error_of course) refl is fails
-
-  settled_other : (code : Option Code) (start : Course) (count : ℕ) → IsWell start → NoFailure (settled cluster code (moved_all start (replicate count Kept)))
-  settled_other (Some code) start count well fails = fails
-  settled_other None start count well fails =
-      let course : Course = moved_all start (replicate count Kept) in settled_by_other course course.tasks (all_well start count well) fails
-
-  shown_other : (code : Option Code) (text : List ℕ) → NoFailure (shown cluster code text)
-  shown_other (Some code) text fails = fails
-  shown_other None text fails = fails
+  carried_other code list fails = grind (arith, all_acted)
 
   within_other : (command : Command) (count : ℕ) → NoFailure (effect_within cluster command (replicate count Kept))
-  within_other command count = command_by cluster (replicate count Kept) NoFailure (λ code fails. fails) carried_other
-      (λ code tasks. settled_other code (course_of cluster tasks) count (record { none = refl; well = refl })) shown_other command
+  within_other command count = grind (arith, command_by, carried_other, course_of, moved_all, all_well, error_other, error_of)
 
 -- ---- a run
 
@@ -62,9 +43,7 @@ abbrev IsUnfailing : Played → Type 0
 IsUnfailing it = it.status ≡ ReplicaFault → ⊥
 
 continued_other : (line : ℕ) (it : Effect) (stop : Option Stop) (rest : Cluster → Played) → (IsFailure stop → ⊥) → IsUnfailing (rest it.cluster) → IsUnfailing (continued line it stop rest)
-continued_other line it None rest other later is = later is
-continued_other line it (Some (Fails rounds)) rest other later is = other tt
-continued_other line it _ rest other later is = absurd (cc is)
+continued_other line it stop rest other later is = grind arith
 
 in_other : (all : List Numbered) (moves : List ℕ) (cluster : Cluster) → IsUnfailing (played_in all (faultless moves) cluster)
 in_other [] moves cluster = λ is. absurd (cc is)

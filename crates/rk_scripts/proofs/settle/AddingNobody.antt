@@ -1,16 +1,15 @@
 -- No task of a settling command adds a client, whatever it unfolds into.
-use Rattle.std.proofs.Common.{arith}
-use Rattle.std.proofs.Common.{◌++◌, ◌≡◌, ◌==◌, ℕ, zero, suc, Bool, true, false, List, [], ◌∷◌, filter, map, Option, None, Some}
+use Rattle.std.proofs.Common.{arith, ◌++◌, ◌≡◌, ◌==◌, ℕ, zero, suc, Bool, true, false, List, [], ◌∷◌, filter, map, Option, None, Some}
 use Rattle.std.proofs.Common.{if◌then◌else◌, refl, subst, inr, slice_index_or, flat_map}
-use Rattle.rk_scripts.proofs.Words.{Course, numbers, Call, Node, Traffic, number_at, row_of, Phase, Moving, Opening, Row, Role, known_owner}
-use Rattle.rk_scripts.proofs.Words.{looks_up, Session, Asks, Cluster, lane_at, session_at, World, live_masters, tablet_in}
-use Rattle.rk_scripts.proofs.Words.{is_lost_at_backup, is_client, deliver_in_makes, in_lane, clients_in, advance, advance_tasks, freeze_by}
-use Rattle.rk_scripts.proofs.Words.{reach_between, reach_phase, reach_row, reaches_to, is_at_limit, with_tasks, hand_by, is_number_off}
-use Rattle.rk_scripts.proofs.Words.{oldest_after, sent_after, sort_tasks, hasten_phase, hasten_row, priority, wants_first, is_short_of}
-use Rattle.rk_scripts.proofs.Words.{is_at_rest, ask_exchange, commit_tasks, hear_tasks, is_staged_by, request_by, serve_by, try_tasks}
-use Rattle.rk_scripts.proofs.Words.{was_moved, empty_by, lane_numbers, lane_tasks, notice_by, settle, turns_of, unnoticed, asks, forgets}
-use Rattle.rk_scripts.proofs.Words.{takes_turn, turn_exchange, unfolded, reach_tasks, call_lane, occurring, Reach, Begun, Finished, Frozen}
-use Rattle.rk_scripts.proofs.Words.{Granted, Event}
+use Rattle.rk_scripts.proofs.Words.{Course, numbers, Call, Node, Traffic, number_at, row_of, Phase, Moving, Row, Role, known_owner}
+use Rattle.rk_scripts.proofs.Words.{looks_up, Session, Cluster, lane_at, session_at, World, live_masters, tablet_in, is_lost_at_backup}
+use Rattle.rk_scripts.proofs.Words.{is_client, deliver_in_makes, in_lane, clients_in, advance, advance_tasks, freeze_by, reach_between}
+use Rattle.rk_scripts.proofs.Words.{reach_row, reaches_to, is_at_limit, with_tasks, hand_by, is_number_off, oldest_after, sent_after}
+use Rattle.rk_scripts.proofs.Words.{sort_tasks, hasten_phase, hasten_row, priority, wants_first, is_short_of, is_at_rest, ask_exchange}
+use Rattle.rk_scripts.proofs.Words.{commit_tasks, hear_tasks, is_staged_by, request_by, serve_by, try_tasks, was_moved, empty_by}
+use Rattle.rk_scripts.proofs.Words.{lane_numbers, lane_tasks, notice_by, settle, turns_of, unnoticed, asks, forgets, takes_turn}
+use Rattle.rk_scripts.proofs.Words.{turn_exchange, unfolded, reach_tasks, call_lane, occurring, Reach, Begun, Finished, Frozen, Granted}
+use Rattle.rk_scripts.proofs.Words.{Event}
 use Rattle.rk_settle.specs.Serve.{MOST_TRIES}
 use Rattle.rk_settle.specs.Settle.{settling_tasks}
 use Rattle.rk_scripts.proofs.settle.OwnTasks.{Each, Goes, IsOwn, deliver_own, each_own, joined_own, none_left, occurs, one_of_own, stays}
@@ -72,14 +71,10 @@ module _ (n : ℕ) (all : AllOwn n) where
   turned lane node course fate rest own = happens lane (Event.Turn node) tt course rest own
 
   delivered : (lane number : ℕ) → Later (delivers lane number)
-  delivered lane number course fate rest own =
-      occurs (IsOwn n) course rest own (deliver_in_makes course.cluster lane number fate) (is_lost_at_backup course.cluster lane number fate)
-      (deliver_own course.cluster lane number fate)
+  delivered lane number course fate rest own = search (occurs, deliver_in_makes, is_lost_at_backup, deliver_own, course.cluster)
 
   asks_once : (lane client : ℕ) → Later (asks lane client)
-  asks_once lane client course fate rest own =
-      occurs (IsOwn n) course rest own (if is_client course.cluster client then Asks lane client ∷ [] else []) false
-      (where_of_own (is_client course.cluster client) (Asks lane client) tt)
+  asks_once lane client course fate rest own = search (occurs, is_client, where_of_own, course.cluster)
 
   begun : Later begins
   begun course fate rest own = grind (arith, is_at_limit, with_tasks, stays, unfolds)
@@ -136,26 +131,17 @@ module _ (n : ℕ) (all : AllOwn n) where
   next_brought lane tablet true source target Granted = (exchanges lane _ Node.Coordinator, (exchanges lane _ Node.Coordinator, tt))
   next_brought lane tablet false source target Granted = (exchanges lane _ Node.Coordinator, tt)
   next_brought lane tablet opening source target Finished = (exchanges lane _ (Node.Master target), tt)
-  next_brought lane tablet opening source target reach =
-      (begun, (exchanges lane _ (Node.Master target), (ended, (reached lane tablet reach, tt))))
-
-  next_phased : (lane tablet : ℕ) (phase : Phase) (reach : Reach) → Each Later (reach_phase lane tablet phase reach)
-  next_phased lane tablet (Opening source sfrom target dfrom) reach = next_brought lane tablet true source target reach
-  next_phased lane tablet (Moving source sfrom target dfrom) reach = next_brought lane tablet false source target reach
-  next_phased lane tablet phase reach = tt
+  next_brought lane tablet opening source target reach = search (begun, exchanges, ended, reached)
 
   next_row : (lane tablet : ℕ) (found : Option Row) (reach : Reach) → Each Later (reach_row lane tablet found reach)
-  next_row lane tablet None reach = tt
-  next_row lane tablet (Some row) reach = next_phased lane tablet row.phase reach
+  next_row lane tablet found reach = grind (arith, next_brought)
 
   next_hastened : (w : World) (lane tablet : ℕ) (phase : Phase) → Each Later (hasten_phase w lane tablet phase)
-  next_hastened w lane tablet (Moving source sfrom target dfrom) =
-      where_own Later (wants_first (tablet_in w target tablet)) _ [] (exchanges lane _ (Node.Master target), tt) tt
+  next_hastened w lane tablet (Moving source sfrom target dfrom) = search (where_own, wants_first, tablet_in, exchanges)
   next_hastened w lane tablet phase = tt
 
   next : AllOwn (suc n)
-  next _ (Exchanging cluster lane topic node) =
-      (turned lane node, (sorting lane topic (lane_at cluster lane).wire.sent (lane_at cluster lane).wire.sent, tt))
+  next _ (Exchanging cluster lane topic node) = search (turned, sorting, lane_at)
   next _ (Asking cluster lane client) = (
     asks_once lane client,
     (sorting_as lane _ (lane_at cluster lane).wire.sent (lane_at cluster lane).wire.sent (slice_index_or (unfolded cluster (ask_exchange lane client)) 1 begins) refl, tt),
@@ -171,11 +157,7 @@ module _ (n : ℕ) (all : AllOwn n) where
   next _ (Handing wire lane topic (Some number)) = (delivered lane number, (forgotten lane number, (sorting lane topic number wire.sent, tt)))
   next _ (Noticing lane None) = tt
   next _ (Noticing lane (Some master)) = (λ course fate rest own. happens lane (Event.Notice master) tt course rest own, (noticed lane, tt))
-  next _ (Rounding cluster) = where_own Later (is_at_rest cluster) [] _ tt (
-    begun,
-    joined_own Later _ _ (joined_own Later (flat_map lane_tasks (lane_numbers cluster)) (ends ∷ []) (next_lanes (lane_numbers cluster)) (ended, tt))
-        (settled, tt),
-  )
+  next _ (Rounding cluster) = search (where_own, is_at_rest, begun, joined_own, lane_tasks, lane_numbers, ends, next_lanes, ended, settled)
   next _ (Turning lane clients live) =
       joined_own Later (map (asks lane) clients) _ (each_own Later (asks lane) clients (asks_once lane))
       (turned lane Node.Coordinator, each_own Later (λ (master : ℕ). takes_turn lane (Node.Master master)) live (λ master. turned lane (Node.Master master)))
@@ -200,12 +182,9 @@ module _ (n : ℕ) (all : AllOwn n) where
       (begun, (exchanges lane _ (Node.Master asked), (ended, (committed lane client asked, tt)))) tt
   next _ (Hastening w lane tablet None) = tt
   next _ (Hastening w lane tablet (Some row)) = next_hastened w lane tablet row.phase
-  next _ (Advancing w lane tablet reach) =
-      where_own Later (is_short_of w tablet reach) _ [] (each_own Later _ (reaches_to reach) (reached lane tablet)) tt
-  next _ (Reaching w lane tablet reach) =
-      where_own Later (is_short_of w tablet reach) _ [] (next_row lane tablet (row_of w.coordinator.rows tablet) reach) tt
-  next _ (Freezing lane tablet source Role.Closing) =
-      (begun, (exchanges lane _ (Node.Master source), (ended, (frozen lane tablet source, tt))))
+  next _ (Advancing w lane tablet reach) = search (where_own, is_short_of, each_own, reaches_to, reached)
+  next _ (Reaching w lane tablet reach) = grind (arith, where_own, is_short_of, next_row, row_of, w.coordinator.rows)
+  next _ (Freezing lane tablet source Role.Closing) = search (begun, exchanges, ended, frozen)
   next _ (Freezing lane tablet source role) = tt
   next _ (Serves client None) = tt
   next _ (Serves client (Some call)) = (λ course fate rest own. opens course rest own (Trying (session_at course.cluster client) (call_lane call) client 1), tt)

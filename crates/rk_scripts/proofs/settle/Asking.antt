@@ -106,8 +106,7 @@ module _ (s : Setting) (lane : ℕ) (inside : lane < LANES) where
       (added_after course.cluster (Asks lane client) (has_session course.cluster client there) comes.sane.added)
       (λ next at fresh. record {
         left = at.tasks_are;
-        changes = subst (ChangesLane lane (world_visited w (ask w session)) course.cluster) (sym at.cluster_is)
-            (visited_changes course.cluster lane (omega (arith, inside, eight s course comes.sane)) client (ask w session));
+        changes = grind (arith, world_visited, ask, visited_changes, eight, course.cluster, at.cluster_is, comes.sane);
         fresh = fresh_turn w session fresh;
         more = sends_more course client comes.sane has fresh;
       })

@@ -1,13 +1,12 @@
 -- Each client with a session was added in each lane after a command of a script too; and where the run does not stop at it, the clients of
 -- each lane are those with sessions.
-use Rattle.std.proofs.Common.{arith}
-use Rattle.std.proofs.Common.{◌≡◌, ◌++◌, ◌==◌, ℕ, List, [], ◌∷◌, map, length, All, Option, None, Some, refl, flat_map}
-use Rattle.rk_scripts.proofs.Words.{All-append, All-cons, All-nil, Call, number_at, Message, Session, call_lane, Asks, Calls, Cluster}
-use Rattle.rk_scripts.proofs.Words.{Joins, Occurrence, lane_at, session_at, Master, live_masters, Event, Acted, acted, all_acted, going_on}
+use Rattle.std.proofs.Common.{arith, ◌≡◌, ◌++◌, ◌==◌, ℕ, List, [], ◌∷◌, map, All, Option, None, Some, refl, flat_map}
+use Rattle.rk_scripts.proofs.Words.{All-append, All-cons, All-nil, Call, number_at, Message, Session, call_lane, Asks, Cluster, Joins}
+use Rattle.rk_scripts.proofs.Words.{Occurrence, lane_at, session_at, Master, live_masters, Event, Acted, acted, all_acted, going_on}
 use Rattle.rk_scripts.proofs.Words.{all_lanes, lanes_without, Fate, Code, advance, advance_code, priority_code, serve_code, Course}
 use Rattle.rk_scripts.proofs.Words.{course_of, moved_all, priority, serve, settle, Command, Effect, carried, carried_by, effect}
-use Rattle.rk_scripts.proofs.Words.{effect_within, only_fate, reach_of, refused_by, settled, settled_by, shown, dump_code, dump_text}
-use Rattle.rk_scripts.proofs.Words.{where_code, where_text, AreAdded, added_after, Node}
+use Rattle.rk_scripts.proofs.Words.{effect_within, only_fate, reach_of, refused_by, settled, shown, dump_code, dump_text, where_code}
+use Rattle.rk_scripts.proofs.Words.{where_text, AreAdded, added_after, Node}
 use Rattle.rk_scripts.proofs.settle.Joining.{client_own}
 use Rattle.rk_scripts.proofs.settle.OwnClients.{AddsNobody}
 use Rattle.rk_scripts.proofs.settle.OwnCourses.{advance_own, moves_own, priority_own, serve_own, settle_own}
@@ -21,8 +20,7 @@ use Rattle.rk_cluster.specs.Makes as makes
 
 lanes_of_own : (lanes : List ℕ) (event : Event) → AddsNobody event → All IsOfOwn (makes.in_lanes lanes event)
 lanes_of_own [] event nobody = All-nil IsOfOwn
-lanes_of_own (lane ∷ lanes) event nobody =
-    All-cons IsOfOwn (makes.in_lane lane event) (makes.in_lanes lanes event) nobody (lanes_of_own lanes event nobody)
+lanes_of_own (lane ∷ lanes) event nobody = grind (arith, (lanes_of_own lanes event nobody))
 
 placed_of_own : (cluster : Cluster) (lane : ℕ) (fate : Fate) (found : Option ℕ) → All IsOfOwn (makes.deliver_by cluster lane fate found)
 placed_of_own cluster lane fate None = All-nil IsOfOwn
@@ -38,14 +36,11 @@ asks_of_own lane client (Some call) = where_of_own (call_lane call == lane) (Ask
 
 all_ask_of_own : (lane : ℕ) (sessions : List (ℕ × Session)) → All IsOfOwn (flat_map (λ entry. makes.asks_in lane entry.0 entry.1) sessions)
 all_ask_of_own lane [] = All-nil IsOfOwn
-all_ask_of_own lane (entry ∷ sessions) =
-    All-append IsOfOwn (makes.asks_in lane entry.0 entry.1) (flat_map (λ other. makes.asks_in lane other.0 other.1) sessions)
-    (asks_of_own lane entry.0 entry.1.outstanding) (all_ask_of_own lane sessions)
+all_ask_of_own lane (entry ∷ sessions) = grind (arith, asks_of_own, entry.0, entry.1, entry.1.outstanding, (all_ask_of_own lane sessions))
 
 masters_of_own : (lane : ℕ) (masters : List (ℕ × Master)) → All IsOfOwn (map (λ entry. makes.in_lane lane (Event.Turn (Node.Master entry.0))) masters)
 masters_of_own lane [] = All-nil IsOfOwn
-masters_of_own lane (entry ∷ masters) = All-cons IsOfOwn (makes.in_lane lane (Event.Turn (Node.Master entry.0)))
-    (map (λ other. makes.in_lane lane (Event.Turn (Node.Master other.0))) masters) tt (masters_of_own lane masters)
+masters_of_own lane (entry ∷ masters) = grind (arith, entry.0, (masters_of_own lane masters))
 
 turn_of_own : (cluster : Cluster) (lane : ℕ) → All IsOfOwn (makes.turn_makes cluster lane)
 turn_of_own cluster lane =
@@ -96,14 +91,12 @@ module _ (cluster : Cluster) (own : HasOwnClients cluster) where
   -- one that makes events, of which none adds a client
   carried_own : (code : Option Code) (list : List Occurrence) → All IsOfOwn list → Leaves (carried cluster code list)
   carried_own (Some code) list of_own = leaves (carried cluster (Some code) list) own
-  carried_own None list of_own =
-      leaves (carried cluster None list) (carried_by_own list (all_acted cluster list).worn (own_all cluster list own of_own))
+  carried_own None list of_own = search (leaves, carried, carried_by_own, all_acted, own_all)
 
   -- the one that gives a client a session
   joined_by_worn : (client : ℕ) (worn : Option ℕ) → (all_acted cluster (makes.client_makes cluster client)).worn ≡ worn
       → codes.client_code cluster client ≡ None → Leaves (carried_by (all_acted cluster (makes.client_makes cluster client)) worn)
-  joined_by_worn client None is none =
-      leaves (carried_by (all_acted cluster (makes.client_makes cluster client)) None) (client_own cluster client own none is)
+  joined_by_worn client None is none = search (leaves, carried_by, all_acted, client_own)
   joined_by_worn client (Some number) is none =
       record { added = worn_added client (all_lanes cluster) cluster number (own_added cluster own) is; own = λ goes. absurd (cc goes) }
 
@@ -111,14 +104,9 @@ module _ (cluster : Cluster) (own : HasOwnClients cluster) where
   joined_own client (Some code) is = leaves (carried cluster (Some code) (makes.client_makes cluster client)) own
   joined_own client None is = joined_by_worn client (all_acted cluster (makes.client_makes cluster client)).worn refl is
 
-  settled_by_own : {Task : Type 0} (course : Course) (left : List Task) → HasOwnClients course.cluster → HasOwnClients (settled_by course left).cluster
-  settled_by_own course [] after = after
-  settled_by_own course (task ∷ left) after = after
-
   -- one that settles
   settled_own : (code : Option Code) (course : Course) → HasOwnClients course.cluster → Leaves (settled cluster code course)
-  settled_own (Some code) course after = leaves (settled cluster (Some code) course) own
-  settled_own None course after = leaves (settled cluster None course) (settled_by_own course course.tasks after)
+  settled_own code course after = grind (arith, leaves, settled)
 
   -- one that shows something
   shown_own : (code : Option Code) (text : List ℕ) → Leaves (shown cluster code text)
@@ -128,43 +116,22 @@ module _ (cluster : Cluster) (own : HasOwnClients cluster) where
   -- ---- each command
 
   effect_own : (command : Command) (fates : List Fate) → Leaves (effect cluster command fates)
-  effect_own (Command.Table table master) fates =
-      carried_own (codes.table_code cluster table master) (makes.table_makes cluster table master)
-      (lanes_of_own (all_lanes cluster) (Event.AddTablet (makes.next_tablet cluster) (makes.whole_table table) master) tt)
+  effect_own (Command.Table table master) fates = grind (arith, carried_own, lanes_of_own, all_lanes)
   effect_own (Command.Client client) fates = joined_own client (codes.client_code cluster client) refl
-  effect_own (Command.Call client table key op) fates =
-      carried_own (codes.call_code cluster client table) (makes.call_makes client table key op) (one_of_own (Calls client table key op) tt)
-  effect_own (Command.Serve client) fates =
-      settled_own (serve_code cluster client) (moved_all (course_of cluster (serve cluster client)) fates)
-      (moves_own fates (course_of cluster (serve cluster client))
-      (record { own = own; left = serve_own (length fates) client (session_at cluster client).outstanding }))
-  effect_own (Command.Repeat client) fates =
-      carried_own (codes.again_code cluster client) (makes.again_makes cluster client) (again_of_own cluster client (session_at cluster client).request)
-  effect_own (Command.Migrate tablet master) fates =
-      carried_own (codes.migrate_code cluster tablet master) (makes.migrate_makes cluster tablet master)
-      (lanes_of_own (lanes_without cluster tablet master) (Event.Migrate tablet master) tt)
+  effect_own (Command.Call client table key op) fates = grind (arith, carried_own, one_of_own)
+  effect_own (Command.Serve client) fates = search (settled_own, serve_code, moved_all, course_of, serve, moves_own, serve_own, session_at)
+  effect_own (Command.Repeat client) fates = grind (arith, carried_own, again_of_own, session_at)
+  effect_own (Command.Migrate tablet master) fates = grind (arith, carried_own, lanes_of_own, lanes_without)
   effect_own (Command.Advance tablet reach) fates =
-      settled_own (advance_code cluster tablet (reach_of reach)) (moved_all (course_of cluster (advance cluster tablet (reach_of reach))) fates)
-      (moves_own fates (course_of cluster (advance cluster tablet (reach_of reach)))
-      (record { own = own; left = advance_own (length fates) cluster tablet (reach_of reach) }))
-  effect_own (Command.Priority tablet) fates =
-      settled_own (priority_code cluster tablet) (moved_all (course_of cluster (priority cluster tablet)) fates)
-      (moves_own fates (course_of cluster (priority cluster tablet)) (record { own = own; left = priority_own (length fates) cluster tablet }))
-  effect_own (Command.Split tablet hash) fates =
-      carried_own (codes.split_code cluster tablet hash) (makes.split_makes cluster tablet hash)
-      (lanes_of_own (all_lanes cluster) (Event.Split tablet hash (makes.next_tablet cluster)) tt)
+      search (settled_own, advance_code, reach_of, moved_all, course_of, advance, moves_own, advance_own)
+  effect_own (Command.Priority tablet) fates = search (settled_own, priority_code, moved_all, course_of, priority, moves_own, priority_own)
+  effect_own (Command.Split tablet hash) fates = grind (arith, carried_own, lanes_of_own, all_lanes)
   effect_own (Command.Turn lane) fates = carried_own None (makes.turn_makes cluster lane) (turn_of_own cluster lane)
-  effect_own (Command.Deliver lane place) fates =
-      carried_own (codes.place_code cluster lane place) (makes.deliver_makes cluster lane place (only_fate fates))
-      (placed_of_own cluster lane (only_fate fates) (number_at place (lane_at cluster lane).wire))
-  effect_own (Command.Forget lane place) fates = carried_own (codes.place_code cluster lane place)
-      (makes.forget_makes cluster lane place) (forgotten_of_own lane (number_at place (lane_at cluster lane).wire))
-  effect_own (Command.Crash master) fates =
-      carried_own (codes.crash_code cluster master) (makes.crash_makes cluster master) (lanes_of_own (all_lanes cluster) (Event.Crash master) tt)
-  effect_own (Command.Notice master) fates =
-      carried_own (codes.notice_code cluster master) (makes.notice_makes cluster master) (lanes_of_own (all_lanes cluster) (Event.Notice master) tt)
-  effect_own Command.Settle fates = settled_own None (moved_all (course_of cluster (settle cluster)) fates)
-      (moves_own fates (course_of cluster (settle cluster)) (record { own = own; left = settle_own (length fates) cluster }))
+  effect_own (Command.Deliver lane place) fates = grind (arith, carried_own, only_fate, placed_of_own, number_at, lane_at)
+  effect_own (Command.Forget lane place) fates = grind (arith, carried_own, forgotten_of_own, number_at, lane_at)
+  effect_own (Command.Crash master) fates = grind (arith, carried_own, lanes_of_own, all_lanes)
+  effect_own (Command.Notice master) fates = grind (arith, carried_own, lanes_of_own, all_lanes)
+  effect_own Command.Settle fates = search (settled_own, moved_all, course_of, settle, moves_own, settle_own)
   effect_own (Command.Where tablet) fates = shown_own (where_code cluster tablet) (where_text cluster tablet)
   effect_own (Command.Dump tablet) fates = shown_own (dump_code cluster tablet) (dump_text cluster tablet)
   effect_own command fates = leaves (effect cluster command fates) own

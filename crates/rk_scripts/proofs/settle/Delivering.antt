@@ -1,11 +1,11 @@
 -- A message of a lane is delivered and forgotten: it is taken off the wire, and the other lanes are as they were.
 use Rattle.std.proofs.Common.{◌≡◌, ◌<◌, ℕ, Bool, true, false, cond, List, [], ◌∷◌, length, Option, None, Some, is_some, refl, sym, ap}
-use Rattle.std.proofs.Common.{subst, ◌∙◌, arith, option_map, true≢false}
-use Rattle.rk_scripts.proofs.Words.{option_or, get, LANES, Node, Message, StepError, Called, Gave, accept, Accepts, Cluster, Happens}
-use Rattle.rk_scripts.proofs.Words.{Occurrence, lane_at, session_at, refusal, step, stepped_by, World, acted, worn_in, is_lost_at_backup}
-use Rattle.rk_scripts.proofs.Words.{is_client, deliver_in_makes, delivery, delivery_of, has_receiver, Fate, Kept, Course, occurrence_error}
-use Rattle.rk_scripts.proofs.Words.{occurring, forgets, Arrival, Loses, arrived, forgotten, taken_off, AreAdded, added_after, Event}
-use Rattle.rk_world.specs.Refusals.{address_fault, delivery_fault}
+use Rattle.std.proofs.Common.{subst, ◌∙◌, arith, true≢false}
+use Rattle.rk_scripts.proofs.Words.{get, LANES, Node, Message, Called, Gave, accept, Accepts, Cluster, Happens, Occurrence, lane_at}
+use Rattle.rk_scripts.proofs.Words.{session_at, refusal, step, stepped_by, World, acted, worn_in, is_lost_at_backup, is_client}
+use Rattle.rk_scripts.proofs.Words.{deliver_in_makes, delivery, delivery_of, has_receiver, Fate, Kept, Course, occurrence_error, occurring}
+use Rattle.rk_scripts.proofs.Words.{forgets, Arrival, Loses, arrived, forgotten, taken_off, AreAdded, added_after, Event}
+use Rattle.rk_world.specs.Refusals.{address_fault}
 use Rattle.rk_cluster.specs.Replicas.{answer_of}
 use Rattle.rk_inv_lanes.specs.wires.Emptied.{Accepts as takes, Delivers as reaches}
 use Rattle.rk_runs.specs.duties.Added.{MayGetSession}
@@ -17,17 +17,13 @@ use Rattle.rk_scripts.proofs.settle.Worn.{fresh_event}
 
 -- ---- what is worn does not depend on what the call of a replica comes to
 
-step_worn : (w : World) (number : ℕ) (called other : Called) → worn_in (step w (Event.Deliver number) called) ≡ worn_in (step w (Event.Deliver number) other)
-step_worn w number called other = grind (arith, refusal, worn_in, stepped_by)
-
 -- what a replica answers that a delivery calls
 abbrev answered : Cluster → ℕ → ℕ → Fate → Called
 answered cluster lane number fate = answer_of cluster lane (Event.Deliver number) fate
 
 delivery_worn : (cluster : Cluster) (lane number : ℕ) (fate other : Fate) (to : Node)
     → (acted cluster (delivery cluster lane number fate to)).worn ≡ (acted cluster (delivery cluster lane number other to)).worn
-delivery_worn cluster lane number fate other (Node.Client client) = refl
-delivery_worn cluster lane number fate other _ = step_worn (lane_at cluster lane) number (answered cluster lane number fate) (answered cluster lane number other)
+delivery_worn cluster lane number fate other to = grind (arith, lane_at, refusal, worn_in, stepped_by)
 
 -- ---- what a delivery makes
 
@@ -55,9 +51,7 @@ record HasArrived (lane number : ℕ) (w : World) (to : Node) (before after : Cl
 -- an event that is delivered in a lane that is not worn
 delivered_fresh : (w : World) (number : ℕ) (message : Message) (called : Called) → get w.wire.messages number ≡ Some message → address_fault number message.to ≡ None
     → worn_in (step w (Event.Deliver number) called) ≡ None → refusal w (Event.Deliver number) ≡ None
-delivered_fresh w number message called found addressed fresh =
-    ap (λ (o : Option ℕ). option_or (option_map StepError.Worn o) (delivery_fault number (get w.wire.messages number))) (fresh_event w (Event.Deliver number) called refl fresh)
-    ∙ ap (delivery_fault number) found ∙ addressed
+delivered_fresh w number message called found addressed fresh = grind (arith, fresh_event)
 
 delivery_arrives : (cluster : Cluster) (lane number : ℕ) (message : Message) (fate : Fate) → lane < length cluster.lanes → (to : Node) → message.to ≡ to
     → get (lane_at cluster lane).wire.messages number ≡ Some message → (acted cluster (delivery cluster lane number fate to)).worn ≡ None
@@ -123,9 +117,7 @@ module _ (s : Setting) (lane : ℕ) (inside : lane < LANES) (number : ℕ) (rest
           (delivery_adds course.cluster lane number fate message.to there comes.sane.added)
           (λ next at fresh. record {
             left = at.tasks_are;
-            arrives =
-                subst (HasArrived lane number (lane_at course.cluster lane) message.to course.cluster) (sym at.cluster_is)
-                (delivery_arrives course.cluster lane number message fate (omega (arith, inside, eight s course comes.sane)) message.to refl found fresh);
+            arrives = grind (arith, lane_at, delivery_arrives, eight, course.cluster, message.to, at.cluster_is, comes.sane);
           })
       go false away =
           still_move s before course (delivers lane number) rest rest (Arrives (lane_at course.cluster lane) message.to course.cluster) comes are

@@ -2,19 +2,19 @@
 -- staged at one.
 use Rattle.std.proofs.Common.{◌≡◌, ◌==◌, ◌||◌, ◌<◌, ℕ, Bool, true, false, cond, not, List, [], ◌∷◌, All, filter, length, Option, None, Some}
 use Rattle.std.proofs.Common.{refl, sym, ap, subst, ◌∙◌, inl, inr, ⊎_elim, arith, ◌⊎◌, unwrap_or, option_map, nat_cmp, eq-eqb, eqb-true}
-use Rattle.rk_scripts.proofs.Words.{list_all, list_any, option_or, eq_by_cmp, and_from, false≢true, or_left, or_right, All-head, All-tail}
-use Rattle.rk_scripts.proofs.Words.{same_number, NumberMap, get, numbers, Node, Entry, Phase, Owned, Row}
-use Rattle.rk_scripts.proofs.Words.{Traffic, StepError, Called, Coordinator, IsWellFormed, Master, new_master, staged, IsOwnedLive, refusal}
-use Rattle.rk_scripts.proofs.Words.{where_true, worn, HasRoom, world_stepped, happened, step, stepped_by, World, has_crashed, live_masters}
-use Rattle.rk_scripts.proofs.Words.{master_at, has_applied_all, has_owners, is_owned_live, All_pairs, masters_in_order, AllCaughtUp}
-use Rattle.rk_scripts.proofs.Words.{wire_counts, AllNoticed, NoDeadOwner, Event}
+use Rattle.rk_scripts.proofs.Words.{list_all, option_or, eq_by_cmp, and_from, false≢true, or_left, or_right, All-head, All-tail}
+use Rattle.rk_scripts.proofs.Words.{same_number, NumberMap, get, numbers, Node, Entry, Phase, Owned, Row, Traffic, StepError, Called}
+use Rattle.rk_scripts.proofs.Words.{Coordinator, IsWellFormed, Master, new_master, staged, IsOwnedLive, refusal, where_true, worn, HasRoom}
+use Rattle.rk_scripts.proofs.Words.{world_stepped, happened, step, stepped_by, World, has_crashed, live_masters, master_at, has_applied_all}
+use Rattle.rk_scripts.proofs.Words.{has_owners, is_owned_live, All_pairs, masters_in_order, AllCaughtUp, wire_counts, AllNoticed}
+use Rattle.rk_scripts.proofs.Words.{NoDeadOwner, Event}
 use Rattle.rk_runs.proofs.duties.Turns.{disowned_sends}
 use Rattle.rk_scripts.proofs.settle.Noticing.{is_in}
-use Rattle.rk_scripts.proofs.settle.Turning.{IsTurned, turn_turned, turned_itself}
+use Rattle.rk_scripts.proofs.settle.Turning.{IsTurned, turn_turned}
 
 -- a turn, if it is not refused
 pub stepped_turned : (w : World) (node : Node) (called : Called) → IsTurned w (world_stepped w (step w (Event.Turn node) called))
-stepped_turned w node called = grind (arith, refusal, world_stepped, stepped_by, turn_turned, turned_itself)
+stepped_turned w node called = grind (arith, refusal, world_stepped, stepped_by, turn_turned)
 
 -- a wire on which more was sent is not as it was
 no_more : (before after : Traffic) → after ≡ before → before.sent < after.sent → ⊥
@@ -51,9 +51,7 @@ coordinator_quiet w called free noticed fresh same = go (has_owners w) refl
 
 -- a turn leaves the owners as they are
 pub owners_kept : (w now : World) → IsTurned w now → has_owners w ≡ true → has_owners now ≡ true
-owners_kept w now turned owned =
-    ap (λ (crashed : List ℕ). has_owners (record now { crashed = crashed })) turned.crashed
-    ∙ ap (λ (coordinator : Coordinator). has_owners (record now { crashed = w.crashed; coordinator = coordinator })) turned.coordinator ∙ owned
+owners_kept w now turned owned = grind (arith, has_owners)
 
 -- ---- masters
 
@@ -91,9 +89,7 @@ waits_first w master lives = grind (arith, staged, new_master, is_in, numbers, l
 
 -- a turn leaves what is staged
 pub waits_kept : (w now : World) (coming : List ℕ) → IsTurned w now → Waits w coming → Waits now coming
-waits_kept w now coming turned waits master lives =
-    subst (λ (list : List Entry). (list ≡ []) ⊎ (is_in master coming ≡ true)) (sym (turned.staged_is master))
-    (waits master (ap (λ (crashed : List ℕ). list_any (λ (other : ℕ). other == master) crashed) (sym turned.crashed) ∙ lives))
+waits_kept w now coming turned waits master lives = grind (arith, is_in)
 
 -- where a master sends nothing on its turn, nothing is staged there
 pub master_waits : (w : World) (number : ℕ) (coming : List ℕ) (called : Called) → IsWellFormed w → HasRoom w → AllCaughtUp w → worn w ≡ None

@@ -4,26 +4,25 @@ use Rattle.std.proofs.Common.{◌≡◌, ◌≢◌, ◌<◌, ◌≤◌, ◌==◌
 use Rattle.std.proofs.Common.{All, Option, None, Some, refl, sym, ap, subst, ◌∙◌, append_assoc, inl, inr, ⊎_elim, arith, ◌⊎◌, Contains}
 use Rattle.std.proofs.Common.{IfSome, unwrap_or, flat_map, eq-eqb, eqb-true, le-ltb, lt-ltb, ne_eqb}
 use Rattle.rk_scripts.proofs.Words.{list_all, and_from, cases_eq, cases_lt, cond-false, cond-true, false≢true, or_left, or_right}
-use Rattle.rk_scripts.proofs.Words.{All-append, All-cons, All-contains, All-head, All-nil, All-tail, IsInOrder, get, get_or, meets, Placed}
-use Rattle.rk_scripts.proofs.Words.{Grant, Prepare, completions_from, Message, row_of, Phase, Owned, Opening, Moving, Row}
-use Rattle.rk_scripts.proofs.Words.{closed, frozen, granted, in_role, role_closed, role_frozen, role_granted, Handover, Role, Coordinator}
-use Rattle.rk_scripts.proofs.Words.{is_noticed, coordinator_step, coordinator_turn, carried_entry, close_taken, closing, grant_taken}
-use Rattle.rk_scripts.proofs.Words.{granting, prepare_taken, preparing, ready, ready_again, transfer, Master, is_settled, new_master}
-use Rattle.rk_scripts.proofs.Words.{tablet_at, with_appended, with_tablet, filled, is_frozen, is_frozen_at, Tablet, no_tablet, pulling_from}
+use Rattle.rk_scripts.proofs.Words.{All-append, All-cons, All-contains, All-head, All-nil, All-tail, IsInOrder, get_or, meets, Placed}
+use Rattle.rk_scripts.proofs.Words.{Grant, Prepare, completions_from, Message, row_of, Phase, Opening, Moving, Row, closed, frozen, granted}
+use Rattle.rk_scripts.proofs.Words.{in_role, role_closed, role_frozen, role_granted, Handover, Role, Coordinator, is_noticed}
+use Rattle.rk_scripts.proofs.Words.{coordinator_step, coordinator_turn, carried_entry, close_taken, closing, grant_taken, granting}
+use Rattle.rk_scripts.proofs.Words.{prepare_taken, preparing, ready, ready_again, transfer, Master, is_settled, new_master, tablet_at}
+use Rattle.rk_scripts.proofs.Words.{with_appended, with_tablet, filled, is_frozen, is_frozen_at, Tablet, no_tablet, pulling_from}
 use Rattle.rk_scripts.proofs.Words.{with_handover, without_merged, freezing, Worked, changed, sending, World, has_crashed, lives, master_at}
-use Rattle.rk_scripts.proofs.Words.{tablet_in, Holds, MovingSource, bond_of, post_of, is_joining, is_target, is_on, All_pairs, IsGoodLane}
-use Rattle.rk_scripts.proofs.Words.{Lasts, found_stands, Node, Body}
+use Rattle.rk_scripts.proofs.Words.{tablet_in, Holds, bond_of, post_of, is_joining, is_target, is_on, All_pairs, IsGoodLane, Lasts}
+use Rattle.rk_scripts.proofs.Words.{found_stands, Node, Body}
 use Rattle.std.specs.List.{AllByRecursion}
 use Rattle.rk_done.specs.Completions.{ends_of}
-use Rattle.rk_tablet_map.specs.Rows.{IsTabletMap, Precedes, replaced, turned}
+use Rattle.rk_tablet_map.specs.Rows.{IsTabletMap, Precedes, replaced}
 use Rattle.rk_message.specs.declared.handover.Ready.{Ready}
 use Rattle.rk_message.specs.declared.handover.Transfer.{Transfer}
 use Rattle.rk_world.specs.Coordinator.{Handed, from_coordinator, row_tenure, with_phase}
-use Rattle.rk_world.specs.CoordinatorStep.{Coordinated, about, at_term, place_noted, ready_in, report, row_moved, transfer_in, unanswered}
-use Rattle.rk_world.specs.CoordinatorStep.{row_duty, row_for}
+use Rattle.rk_world.specs.CoordinatorStep.{Coordinated, about, place_noted, ready_in, report, row_moved, transfer_in, unanswered, row_duty}
+use Rattle.rk_world.specs.CoordinatorStep.{row_for}
 use Rattle.rk_world.specs.Handovers.{is_above, tablet_closed, transferring}
 use Rattle.rk_sound.specs.Posts.{InvitedTarget, MovingTarget, OpeningSource, Post, target_post}
-use Rattle.rk_sound.specs.Rows.{IsFormed}
 use Rattle.rk_sound.specs.Terms.{HandoverFits}
 use Rattle.rk_inv_base.proofs.rows.RowAdded.{meets_turned}
 use Rattle.rk_scripts.proofs.settle.ExchangeTasks.{Topic, close_topic, grant_topic, hand_topic, readiness}
@@ -77,19 +76,13 @@ one_off : (topic : Topic) (message : Message) → is_on topic message.body ≡ f
 one_off topic message is = All-cons (λ (m : Message). is_on topic m.body ≡ false) message [] is (All-nil _)
 
 ready_others : (coordinator : Coordinator) (tablet : ℕ) (row : Row) (phase : Phase) → (row.tablet ≡ tablet → ⊥) → AreOff (readiness tablet) (row_duty coordinator row phase)
-ready_others coordinator tablet row (Owned master from) apart = All-nil _
-ready_others coordinator tablet row (Opening source sfrom target None) apart = one_off (readiness tablet) _ (ne_eqb row.tablet tablet apart)
-ready_others coordinator tablet row _ apart = one_off (readiness tablet) _ refl
+ready_others coordinator tablet row phase apart = grind (arith, one_off, readiness, ne_eqb)
 
 close_others : (coordinator : Coordinator) (tablet : ℕ) (row : Row) (phase : Phase) → (row.tablet ≡ tablet → ⊥) → AreOff (close_topic tablet) (row_duty coordinator row phase)
-close_others coordinator tablet row (Owned master from) apart = All-nil _
-close_others coordinator tablet row (Opening source sfrom target (Some dfrom)) apart = one_off (close_topic tablet) _ (ne_eqb row.tablet tablet apart)
-close_others coordinator tablet row _ apart = one_off (close_topic tablet) _ refl
+close_others coordinator tablet row phase apart = grind (arith, one_off, close_topic, ne_eqb)
 
 hand_others : (coordinator : Coordinator) (tablet : ℕ) (row : Row) (phase : Phase) → (row.tablet ≡ tablet → ⊥) → AreOff (hand_topic tablet) (row_duty coordinator row phase)
-hand_others coordinator tablet row (Owned master from) apart = All-nil _
-hand_others coordinator tablet row (Opening source sfrom target (Some dfrom)) apart = one_off (hand_topic tablet) _ (ne_eqb row.tablet tablet apart)
-hand_others coordinator tablet row _ apart = one_off (hand_topic tablet) _ refl
+hand_others coordinator tablet row phase apart = grind (arith, one_off, hand_topic, ne_eqb)
 
 grant_others : (coordinator : Coordinator) (tablet : ℕ) (row : Row) (phase : Phase) → (row.tablet ≡ tablet → ⊥) → AreOff (grant_topic tablet) (row_duty coordinator row phase)
 grant_others coordinator tablet row phase apart = grind (arith, one_off, grant_topic, ne_eqb)
@@ -109,9 +102,7 @@ replaced_found (first ∷ rows) tablet old new found is = go (first.tablet == ta
 -- a row in another phase
 pub phase_found : (coordinator : Coordinator) (row : Row) (phase : Phase) → row_of coordinator.rows row.tablet ≡ Some row
     → row_of (with_phase coordinator row phase).rows row.tablet ≡ Some (record row { phase = phase })
-phase_found coordinator row phase found =
-    subst (λ (o : Option Row). row_of (turned o coordinator.rows row.tablet row.term phase) row.tablet ≡ Some (record row { phase = phase })) (sym found)
-    (replaced_found coordinator.rows row.tablet row (record row { phase = phase }) found refl)
+phase_found coordinator row phase found = grind (arith, row_of, replaced_found)
 
 -- ---- handovers
 
@@ -148,11 +139,7 @@ module _ (masters lane : ℕ) (w : World) (good : IsGoodLane Lasts masters lane 
 
   -- the tablets of a master stand in order
   tablets_order : (m : ℕ) → IsInOrder (master_at w m).tablets
-  tablets_order m = go (get w.masters m) refl
-    where
-      go : (it : Option Master) → get w.masters m ≡ it → IsInOrder (unwrap_or it (new_master m [])).tablets
-      go None is = tt
-      go (Some there) is = (good.formed.masters m there is).tablets_order
+  tablets_order m = grind (arith, new_master)
 
   -- what a master has of this one
   abbrev pub kept : ℕ → Handover
@@ -161,27 +148,15 @@ module _ (masters lane : ℕ) (w : World) (good : IsGoodLane Lasts masters lane 
   pub fitted : (m : ℕ) (post : Post) → has_crashed w m ≡ false → post_of row.phase m ≡ post → Holds (bond_of post (kept m).role) row.term (kept m).term (master_at w m).applied
   fitted m post living is = grind (arith, bond_of, master_at, lives, tablet_in, stands)
 
-  opening_apart : (source sfrom target : ℕ) (dfrom : Option ℕ) → row.phase ≡ Opening source sfrom target dfrom → source ≢ target
-  opening_apart source sfrom target dfrom is =
-      subst IsFormed is (All-contains (λ (r : Row). IsFormed r.phase) w.coordinator.rows row good.sound.rows.formed stands)
-
-  pub moving_apart : (source sfrom target dfrom : ℕ) → row.phase ≡ Moving source sfrom target dfrom → source ≢ target
-  moving_apart source sfrom target dfrom is =
-      subst IsFormed is (All-contains (λ (r : Row). IsFormed r.phase) w.coordinator.rows row good.sound.rows.formed stands)
-
   source_post : (source sfrom target : ℕ) (dfrom : Option ℕ) → row.phase ≡ Opening source sfrom target dfrom → post_of row.phase source ≡ OpeningSource
   source_post source sfrom target dfrom is =
       ap (λ (p : Phase). post_of p source) is ∙ cond-true (source == source) OpeningSource _ (eq-eqb source source refl)
 
   pub invited_post : (source sfrom target : ℕ) (dfrom : Option ℕ) → row.phase ≡ Opening source sfrom target dfrom → post_of row.phase target ≡ target_post dfrom
-  invited_post source sfrom target dfrom is = ap (λ (p : Phase). post_of p target) is
-      ∙ (cond-false (source == target) OpeningSource _ (ne_eqb source target (opening_apart source sfrom target dfrom is))
-      ∙ cond-true (target == target) (target_post dfrom) _ (eq-eqb target target refl))
+  invited_post source sfrom target dfrom is = grind (arith, post_of, cond-false, ne_eqb, cond-true, eq-eqb, stands)
 
   pub moving_post : (source sfrom target dfrom : ℕ) → row.phase ≡ Moving source sfrom target dfrom → post_of row.phase target ≡ MovingTarget dfrom
-  moving_post source sfrom target dfrom is = ap (λ (p : Phase). post_of p target) is
-      ∙ (cond-false (source == target) MovingSource _ (ne_eqb source target (moving_apart source sfrom target dfrom is))
-      ∙ cond-true (target == target) (MovingTarget dfrom) _ (eq-eqb target target refl))
+  moving_post source sfrom target dfrom is = grind (arith, post_of, cond-false, ne_eqb, cond-true, eq-eqb, stands)
 
   lies : IsTabletMap w.coordinator.rows
   lies = good.sound.rows.apart
@@ -199,9 +174,7 @@ module _ (masters lane : ℕ) (w : World) (good : IsGoodLane Lasts masters lane 
 
   -- what a master that lives tells of the row is of the row
   row_told : (m : ℕ) → has_crashed w m ≡ false → row_for w.coordinator m (row_tenure row) ≡ Some row
-  row_told m living =
-      cond-false (is_noticed w.coordinator m) None (at_term (row_tenure row) (row_of w.coordinator.rows row.tablet)) (unnoticed m living)
-      ∙ (ap (at_term (row_tenure row)) found ∙ cond-true (row.term == row.term) (Some row) None (eq-eqb row.term row.term refl))
+  row_told m living = grind (arith, cond-false, is_noticed, row_of, unnoticed, cond-true, eq-eqb)
 
   -- ---- the target makes ready
 

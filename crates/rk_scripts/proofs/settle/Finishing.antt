@@ -1,11 +1,11 @@
 -- A command ends where its course goes on until it is done. Commands do the same in each lane, one after the other.
 use Rattle.std.proofs.Common.{◌≡◌, ◌<◌, ◌+◌, ℕ, zero, suc, List, [], ◌∷◌, map, Option, None, refl, ap, ◌∙◌, inl, ⊎_elim, arith}
 use Rattle.rk_scripts.proofs.Words.{range_with_len, LANES, Cluster, cluster_run, new_cluster, Code, SettlingCommand, Course, course_of}
-use Rattle.rk_scripts.proofs.Words.{AreTasks, lane_numbers, NamesMasters, AlwaysEnds, EndsUnlessRefused, after_moves}
+use Rattle.rk_scripts.proofs.Words.{AreTasks, lane_numbers, NamesMasters, AlwaysEnds, EndsUnlessRefused}
 use Rattle.rk_scripts.proofs.play.Masters.{names_masters}
 use Rattle.rk_scripts.proofs.play.Reaching.{reached_eight}
 use Rattle.rk_scripts.proofs.settle.Exchanging.{HasLeft}
-use Rattle.rk_scripts.proofs.settle.Going.{Comes, Goes, IsDone, comes_here, goes_done, goes_on}
+use Rattle.rk_scripts.proofs.settle.Going.{Comes, Goes, comes_here, goes_done, goes_on}
 use Rattle.rk_scripts.proofs.settle.Rounds.{Never}
 use Rattle.rk_scripts.proofs.settle.Setting.{IsSane, Setting}
 use Rattle.rk_scripts.proofs.settle.Tasks.{Task}
@@ -20,9 +20,7 @@ pub ends_unless : (code : Cluster → Option Code) (command : SettlingCommand) �
 ends_unless code command lawful goes masters backups before adversary few backed few_backups run added allowed =
     record {
       moves = there.moves;
-      over = ⊎_elim (λ (done : IsDone (after_moves adversary there.moves (beginning s command))). done)
-          (λ (never : Comes s s.start (after_moves adversary there.moves (beginning s command)) × Never (after_moves adversary there.moves (beginning s command))). absurd never.1)
-          there.is;
+      over = grind arith;
     }
   where
     s : Setting

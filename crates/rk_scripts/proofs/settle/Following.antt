@@ -1,9 +1,9 @@
 -- What follows on a cluster in the course of a command: no fewer messages were sent in each lane, and where each master that has crashed was
 -- noticed in a lane, each one still is.
-use Rattle.std.proofs.Common.{◌≡◌, ◌≤◌, ℕ, false, List, [], ◌∷◌, All, Option, None, Some, length, refl, ◌∙◌, arith}
-use Rattle.rk_scripts.proofs.Words.{All-head, All-tail, get, LANES, accept, ask, Session, Accepts, Asks, Calls, Cluster, Happens, Joins}
-use Rattle.rk_scripts.proofs.Words.{Occurrence, cluster_after, cluster_run, joined_by, lane_at, session_at, world_stepped, world_visited}
-use Rattle.rk_scripts.proofs.Words.{step, World, Event, IsAllowed, IsNoCrash, lanes_stay, AllNoticed}
+use Rattle.std.proofs.Common.{◌≡◌, ◌≤◌, ℕ, false, List, [], ◌∷◌, All, length, refl, ◌∙◌, arith}
+use Rattle.rk_scripts.proofs.Words.{All-head, All-tail, LANES, accept, ask, Accepts, Asks, Calls, Cluster, Happens, Joins, Occurrence}
+use Rattle.rk_scripts.proofs.Words.{cluster_after, cluster_run, joined_by, lane_at, session_at, world_stepped, world_visited, step, World}
+use Rattle.rk_scripts.proofs.Words.{Event, IsAllowed, IsNoCrash, lanes_stay, AllNoticed}
 use Rattle.rk_runs.proofs.duties.Going.{answer_on, asked_turn_on, stepped_on}
 use Rattle.rk_runs.proofs.duties.Noticing.{accepted_noticed, asked_noticed, stepped_noticed}
 use Rattle.rk_runs.specs.duties.Owners.{is_crash}
@@ -14,15 +14,12 @@ pub record FollowsIn (w now : World) : Type 0 where
   pub sent : w.wire.sent ≤ now.wire.sent
   pub noticed : AllNoticed w → AllNoticed now
 
-lane_itself : (w : World) → FollowsIn w w
-lane_itself w = record { sent = omega arith; noticed = λ all. all }
-
 -- a cluster that follows on another
 abbrev pub Follows : Cluster → Cluster → Type 0
 Follows before after = (q : ℕ) → FollowsIn (lane_at before q) (lane_at after q)
 
 pub follows_itself : (cluster : Cluster) → Follows cluster cluster
-follows_itself cluster q = lane_itself (lane_at cluster q)
+follows_itself cluster q = grind (arith, lane_at)
 
 pub follows_on : (a b c : Cluster) → Follows a b → Follows b c → Follows a c
 follows_on a b c first second q =
@@ -30,8 +27,7 @@ follows_on a b c first second q =
 
 -- one lane has changed
 changed_follows : (lane : ℕ) (w : World) (before after : Cluster) → ChangesLane lane w before after → FollowsIn (lane_at before lane) w → Follows before after
-changed_follows lane w before after changes follows =
-    each_still (λ q now. FollowsIn (lane_at before q) now) lane w before after changes follows (λ q apart. lane_itself (lane_at before q))
+changed_follows lane w before after changes follows = grind (arith, each_still, lane_at)
 
 -- what is no crash is tested to be none
 calm : (event : Event) → IsNoCrash event → is_crash event ≡ false
@@ -45,11 +41,7 @@ module _ (masters : ℕ) where
       changed_follows lane (world_stepped w (step w event called)) cluster (cluster_after cluster (Happens lane event called))
       (stepped_changes cluster lane (omega (arith, allowed.0, eight)) (step w event called))
       (record { sent = (stepped_on w event called).wire.sent; noticed = λ all. stepped_noticed w all event called (calm event allowed.1) })
-  occurred_follows cluster (Joins client) eight allowed = joined (get cluster.sessions client)
-    where
-      joined : (found : Option Session) → Follows cluster (joined_by cluster client found)
-      joined None = follows_itself cluster
-      joined (Some session) = follows_itself cluster
+  occurred_follows cluster (Joins client) eight allowed = grind (arith, joined_by, follows_itself, cluster.sessions)
   occurred_follows cluster (Calls client table key op) eight allowed = absurd allowed
   occurred_follows cluster (Asks lane client) eight allowed =
       let w : World = lane_at cluster lane in

@@ -1,7 +1,6 @@
 -- Courses that go on until something holds, or until they are done.
-use Rattle.std.proofs.Common.{arith}
-use Rattle.std.proofs.Common.{◌≡◌, ℕ, zero, suc, Bool, List, [], ◌∷◌, Option, None, Some, is_some, refl, sym, ap, subst, ◌∙◌, inl, inr}
-use Rattle.std.proofs.Common.{⊎_elim, ◌⊎◌}
+use Rattle.std.proofs.Common.{arith, ◌≡◌, ℕ, zero, suc, Bool, List, [], ◌∷◌, Option, None, Some, is_some, refl, sym, ap, subst, ◌∙◌, inl}
+use Rattle.std.proofs.Common.{inr, ⊎_elim, ◌⊎◌}
 use Rattle.rk_scripts.proofs.Words.{none-some, Cluster, Occurrence, acted, going_on, Course, moved_by, occurrence_error, occurring}
 use Rattle.rk_scripts.proofs.Words.{occurring_by, SettleError, AreAdded, Stops, after_moves}
 use Rattle.rk_settle.specs.Course.{error_by}
@@ -95,9 +94,7 @@ module _ (s : Setting) where
   pub still_move : (before : Cluster) (course : Course) (task : Task) (rest later : List Task) (P : Course → Type 0) → Comes before course → course.tasks ≡ task ∷ rest
       → IsAt course.cluster later (moved_by course (s.adversary course) (task ∷ rest))
       → ((next : Course) → IsAt course.cluster later next → P next) → Goes before course P
-  still_move before course task rest later P comes are moves holds =
-      one_move before course (task ∷ rest) P comes are
-      (λ none. (subst AreAdded (sym moves.cluster_is) comes.sane.added, holds (moved_by course (s.adversary course) (task ∷ rest)) moves))
+  still_move before course task rest later P comes are moves holds = grind (arith, one_move, moved_by)
 
   -- one thing occurs, unless its lane is worn
   pub occurs_move : (before : Cluster) (course : Course) (task : Task) (rest : List Task) (occurrence : Occurrence) (failed : Bool) (P : Course → Type 0) → Comes before course

@@ -20,8 +20,7 @@ module _ (s : Setting) (lane : ℕ) (inside : lane < LANES) (rest : List Task) w
 
   hastened_phase : (w : World) (tablet : ℕ) (phase : Phase) (before : Cluster) (course : Course) → Comes s before course
       → course.tasks ≡ hasten_phase w lane tablet phase ++ rest → Goes s before course (HasLeft rest)
-  hastened_phase w tablet (Moving source sfrom target dfrom) before course comes are =
-      maybe_exchanging (wants_first (tablet_in w target tablet)) _ (Node.Master target) before course comes are
+  hastened_phase w tablet (Moving source sfrom target dfrom) before course comes are = search (maybe_exchanging, wants_first, tablet_in)
   hastened_phase w tablet phase before course comes are = goes_here s before course (HasLeft rest) comes are
 
   hastened_row : (w : World) (tablet : ℕ) (found : Option Row) (before : Cluster) (course : Course) → Comes s before course

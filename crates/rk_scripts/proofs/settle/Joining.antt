@@ -1,7 +1,6 @@
 -- A client that gets a session is added in each lane first: each has room for it, since it has as many clients as there are sessions.
-use Rattle.std.proofs.Common.{◌≡◌, ◌≤◌, ◌<◌, ◌+◌, ◌&&◌, ℕ, zero, suc, false, nat_le, not, List, [], ◌∷◌, ◌++◌, length, Option}
-use Rattle.std.proofs.Common.{Some, None, refl, sym, subst, ◌∙◌, ⊎_elim, arith, Ok, Result, is_some, leb-false, leb-true}
-use Rattle.std.proofs.Common.{get_or-set_other, length-set}
+use Rattle.std.proofs.Common.{◌≡◌, ◌≤◌, ◌<◌, ◌+◌, ℕ, zero, suc, false, nat_le, List, [], ◌∷◌, ◌++◌, length, Option, Some, None, refl, sym}
+use Rattle.std.proofs.Common.{subst, ◌∙◌, ⊎_elim, arith, Ok, Result, is_some, leb-false, leb-true, get_or-set_other, length-set}
 use Rattle.rk_scripts.proofs.Words.{range_with_len, cases_lt, cond-false, IsInOrder, get, insert, numbers, in_order_insert, Gave}
 use Rattle.rk_scripts.proofs.Words.{Session, new_session, Cluster, Joins, Occurrence, cluster_stepped, joined_by, lane_at, with_lane}
 use Rattle.rk_scripts.proofs.Words.{is_added, where_true, worn, Stepped, quietly, step, stepped_by, World, new_world, with_ledger, with_top}
@@ -19,14 +18,10 @@ use Rattle.rk_scripts.proofs.settle.SameNumbers.{as_many, found_alike, insert_al
 -- ---- a client is added in a lane
 
 module _ (w : World) (client : ℕ) (strange : is_added w.ledger client ≡ false) (few : length w.ledger.clients < MOST_CLIENTS) where
-  -- the lane is not too full
-  not_too_many : where_true (not (is_added w.ledger client) && nat_le MOST_CLIENTS (length w.ledger.clients)) StepError.TooMany ≡ None
-  not_too_many = grind (arith, is_added, nat_le, where_true, leb-true)
-
   -- so the client is added, unless the lane is worn
   comes : worn_in (step w (Event.AddClient client) (Gave None)) ≡ None
       → step w (Event.AddClient client) (Gave None) ≡ Ok (quietly (with_ledger w (with_client w.ledger client)))
-  comes = grind (arith, worn, where_true, is_added, nat_le, not_too_many, worn_in, stepped_by, quietly, with_ledger, cond-false)
+  comes = grind (arith, worn, where_true, is_added, nat_le, worn_in, stepped_by, quietly, with_ledger, cond-false, leb-true)
 
 -- ---- one lane after the other
 
@@ -87,9 +82,7 @@ module _ (client : ℕ) where
       → length cluster.sessions < MOST_CLIENTS → IsAddedBefore first cluster
       → (all_acted cluster (in_lanes (range_with_len first count) (Event.AddClient client) ++ Joins client ∷ [])).worn ≡ None
       → HasOwnClients (all_acted cluster (in_lanes (range_with_len first count) (Event.AddClient client) ++ Joins client ∷ [])).cluster
-  adds zero first cluster all order strange few added fresh =
-      let last : first ≡ length cluster.lanes = omega (arith, all) in
-      joins cluster (get cluster.sessions client) refl strange order (subst (λ (n : ℕ). IsAddedBefore n cluster) last added)
+  adds zero first cluster all order strange few added fresh = grind (arith, joins, cluster.lanes, cluster.sessions)
   adds (suc count) first cluster all order strange few added fresh =
       let w : World = lane_at cluster first in
       let result : Result Stepped StepError = step w (Event.AddClient client) (Gave None) in

@@ -1,16 +1,14 @@
 -- What a master has of a tablet, where it takes its turn, is told what backups hold, or pulls: its term stays, a target stays one, and one that
 -- has all too.
-use Rattle.std.proofs.Common.{arith}
-use Rattle.std.proofs.Common.{◌≡◌, ◌%◌, ◌&&◌, ℕ, Bool, true, false, cond, not, List, [], ◌∷◌, length, fold, Option, None, Some, refl, sym}
+use Rattle.std.proofs.Common.{arith, ◌≡◌, ◌&&◌, ℕ, Bool, true, false, cond, not, List, [], ◌∷◌, length, fold, Option, None, Some, refl, sym}
 use Rattle.std.proofs.Common.{ap, subst, ◌∙◌, unwrap_or, option_map, nat_cmp}
 use Rattle.rk_scripts.proofs.Words.{below_all, cases_eq, false≢true, IsInOrder, NumberMap, changed_each, get, Call, Ended, Held, Entry}
 use Rattle.rk_scripts.proofs.Words.{Overreach, Stored, found, is_newer, end, frozen, in_role, joined, role_joined, Handover, Role}
-use Rattle.rk_scripts.proofs.Words.{apply_entries, apply_entry, newly_held, noting, stored_taken, with_applied, with_ended, with_entry_item}
-use Rattle.rk_scripts.proofs.Words.{items_of, Master, is_settled, tablet_at, with_known, with_side_segment, with_tablet, duties}
-use Rattle.rk_scripts.proofs.Words.{master_turn, tablet_duty, with_outstanding, batch_taken, is_token, item_replayed, joining_at}
-use Rattle.rk_scripts.proofs.Words.{joining_by, pulled_all, pulled_taken, replay, replay_one, token_passed, with_pulled, with_pulling}
-use Rattle.rk_scripts.proofs.Words.{is_receiving_at, sealed_sides, Tablet, no_tablet, with_handover, all_going_on, closing_entry, freezing}
-use Rattle.rk_scripts.proofs.Words.{going_on_in, is_sealed_stored, changed, is_joining, is_target, kept_by_fold, above_all, first}
+use Rattle.rk_scripts.proofs.Words.{apply_entries, apply_entry, noting, stored_taken, with_applied, with_ended, with_entry_item, Master}
+use Rattle.rk_scripts.proofs.Words.{is_settled, tablet_at, with_side_segment, with_tablet, duties, master_turn, tablet_duty}
+use Rattle.rk_scripts.proofs.Words.{with_outstanding, item_replayed, joining_at, joining_by, pulled_all, pulled_taken, replay, replay_one}
+use Rattle.rk_scripts.proofs.Words.{with_pulled, with_pulling, sealed_sides, Tablet, no_tablet, with_handover, all_going_on, closing_entry}
+use Rattle.rk_scripts.proofs.Words.{freezing, going_on_in, is_sealed_stored, is_joining, is_target, kept_by_fold, above_all, first}
 use Rattle.rk_scripts.proofs.Words.{found_changed, get_first, get_later, order_tail}
 use Rattle.rk_done.specs.Completions.{noted}
 use Rattle.rk_message.specs.declared.pulling.Pulled.{Pulled}
@@ -20,7 +18,7 @@ use Rattle.rk_world.specs.Ranges.{has_key}
 use Rattle.rk_world.specs.RoleTests.{is_absent}
 use Rattle.rk_scripts.proofs.settle.Patient.{at_other, at_put}
 use Rattle.rk_scripts.proofs.settle.PatientPulls.{joins}
-use Rattle.rk_scripts.proofs.settle.Turning.{duty_is, either_is}
+use Rattle.rk_scripts.proofs.settle.Turning.{duty_is}
 use Rattle.rk_scripts.proofs.settle.PatientSteps.{below_apart, entries_order, frozen_own, joined_own}
 use Rattle.rk_inv_wellformed.proofs.masters.Sealing.{sides_tablets}
 
@@ -180,11 +178,7 @@ module _ (number : ℕ) where
   pub stored_on : (master : Master) (backup : ℕ) (stored : Stored) (over : Option Overreach) → IsInOrder master.tablets → GoesOnAt number master (stored_taken master backup stored over).master
   stored_on master backup stored (Some over) order = onward_itself (tablet_at master number).handover
   stored_on master backup stored None order =
-      let known = with_known master backup stored.segment stored.length in
-      let now = (apply_entries known (newly_held known)).master in
-      onward_then (tablet_at known number).handover (tablet_at now number).handover (tablet_at (all_going_on now now.tablets) number).handover
-      (entries_on (newly_held known) known)
-      (all_going now.tablets now (entries_order (newly_held known) known order) (λ q tablet is. ap (λ (o : Option Tablet). unwrap_or o no_tablet) is))
+      grind (arith, entries_on, all_going, entries_order)
 
   -- ---- pulls
 
@@ -246,19 +240,4 @@ module _ (number : ℕ) where
 
   pub pulled_on : (master : Master) (pulled : Pulled) → GoesOnAt number master (pulled_taken master pulled).master
   pulled_on master pulled =
-      let n = pulled.tenure.tablet in
-      let tablet = tablet_at master n in
-      let worker = tablet.pulling.batches % 4 in
-      let replayed = replay master n worker (items_of pulled.entries) in
-      let now = token_passed replayed n pulled.next in
-      let passed : GoesOnAt number master now =
-      onward_then (tablet_at master number).handover (tablet_at replayed number).handover (tablet_at now number).handover
-      (replay_on master n worker (items_of pulled.entries)) (same_handover replayed n _ refl) in
-      either_is (GoesOnAt number master) (is_receiving_at tablet pulled.tenure.term && is_token pulled.token tablet.pulling.token)
-      (changed (batch_taken master n pulled)) (changed master) (go now passed (is_token pulled.next end))
-      (onward_itself (tablet_at master number).handover)
-    where
-      go : (now : Master) → GoesOnAt number master now → (b : Bool) → GoesOnAt number master (cond b (pulled_all now pulled.tenure.tablet) now)
-      go now passed true = onward_then (tablet_at master number).handover (tablet_at now number).handover
-          (tablet_at (pulled_all now pulled.tenure.tablet) number).handover passed (all_on now pulled.tenure.tablet)
-      go now passed false = passed
+      grind (arith, replay_on, same_handover, all_on)

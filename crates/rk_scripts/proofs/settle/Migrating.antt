@@ -1,12 +1,10 @@
 -- A migration whose source and target live is brought from reach to reach.
-use Rattle.std.proofs.Common.{arith}
-use Rattle.std.proofs.Common.{◌≡◌, ◌<◌, ◌==◌, ℕ, Bool, true, false, cond, not, List, [], ◌∷◌, ◌++◌, Option, None, Some, refl, sym, ap}
-use Rattle.std.proofs.Common.{subst, ◌∙◌, inl, inr, ◌⊎◌}
-use Rattle.rk_scripts.proofs.Words.{list_any, false≢true, LANES, Message, row_of, Phase, Opening, Moving, Row, Cluster}
-use Rattle.rk_scripts.proofs.Words.{lane_at, Coordinator, coordinator_step, World, has_crashed, tablet_in, coordinator_exchange}
-use Rattle.rk_scripts.proofs.Words.{reach_phase, reach_row, reach_tasks, Course, is_joining, is_target, is_on, Begun, IsGoodLane, Lasts}
-use Rattle.rk_scripts.proofs.Words.{Role}
-use Rattle.rk_settle.specs.Reaches.{is_at_reach, is_short_by}
+use Rattle.std.proofs.Common.{arith, ◌≡◌, ◌<◌, ◌==◌, ℕ, Bool, true, false, cond, not, List, [], ◌∷◌, ◌++◌, Option, None, Some, refl, sym}
+use Rattle.std.proofs.Common.{ap, subst, ◌∙◌, inl, inr, ◌⊎◌}
+use Rattle.rk_scripts.proofs.Words.{list_any, false≢true, LANES, Message, row_of, Phase, Opening, Moving, Row, Cluster, lane_at}
+use Rattle.rk_scripts.proofs.Words.{Coordinator, coordinator_step, World, has_crashed, tablet_in, coordinator_exchange, reach_phase}
+use Rattle.rk_scripts.proofs.Words.{reach_row, reach_tasks, Course, is_joining, is_target, is_on, Begun, IsGoodLane, Lasts, Role}
+use Rattle.rk_settle.specs.Reaches.{is_at_reach}
 use Rattle.rk_scripts.proofs.settle.Effects.{is_ready, prepare_on, prepare_sent, prepares, readies, ready_on, ready_row, ready_sent}
 use Rattle.rk_scripts.proofs.settle.Effects.{ready_silent}
 use Rattle.rk_scripts.proofs.settle.ExchangeTasks.{Reach, Topic, readiness, reaches}
@@ -109,9 +107,7 @@ no_tasks w lane tablet reach none = grind (arith, row_of, reach_phase, false≢t
 
 pub tasks_in : (w : World) (lane tablet : ℕ) (reach : Reach) (row : Row) (phase : Phase) → row_of w.coordinator.rows tablet ≡ Some row → row.phase ≡ phase
     → reach_tasks w lane tablet reach ≡ cond (not (is_at_reach w row phase reach)) (reach_phase lane tablet phase reach) []
-tasks_in w lane tablet reach row phase found is =
-    ap (λ (o : Option Row). cond (is_short_by w o reach) (reach_row lane tablet o reach) []) found
-    ∙ ap (λ (p : Phase). cond (not (is_at_reach w row p reach)) (reach_phase lane tablet p reach) []) is
+tasks_in w lane tablet reach row phase found is = grind (arith, reach_row, reach_phase)
 
 module _ (s : Setting) (lane : ℕ) (inside : lane < LANES) (origin : Cluster) (rest : List Task) where
   pub unfolds : (tablet : ℕ) (reach : Reach) (list : List Task) (before : Cluster) (course : Course) → Comes s before course → course.tasks ≡ reaches lane tablet reach ∷ rest

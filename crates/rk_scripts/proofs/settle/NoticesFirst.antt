@@ -84,9 +84,7 @@ module _ (s : Setting) where
   all_noticing : (count from : ℕ) → from + count ≡ LANES → (before : Cluster) (course : Course) → Comes s before course
       → course.tasks ≡ map notices (range_with_len from count) ++ settles ∷ [] → AreNoticed from course.cluster
       → Goes s before course (λ next. (next.tasks ≡ settles ∷ []) × AreNoticed LANES next.cluster)
-  all_noticing zero from all before course comes are noticed =
-      goes_here s before course (λ next. (next.tasks ≡ settles ∷ []) × AreNoticed LANES next.cluster) comes
-      (are, λ q inside. noticed q (omega (arith, all, inside)))
+  all_noticing zero from all before course comes are noticed = grind (arith, goes_here, settles)
   all_noticing (suc count) from all before course comes are noticed =
       let rest : List Task = map notices (range_with_len (from + 1) count) ++ settles ∷ [] in
       let inside : from < LANES = omega (arith, all) in

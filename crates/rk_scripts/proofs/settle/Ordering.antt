@@ -116,9 +116,7 @@ module _ (s : Setting) (lane : ℕ) (inside : lane < LANES) (origin : Cluster) (
       λ n v u only within taken. inl
       (record {
         changed = taken.changed;
-        pending =
-            pending_sent topic n v.wire u.wire reply (map (filled taken.journal (made topic w m ours to_is on living).served) (made topic w m ours to_is on living).sends)
-            (one taken.journal) within only taken.wire;
+        pending = grind (arith, pending_sent, filled, made, v.wire, u.wire, taken.journal, taken.wire);
       }) in
       goes_on s before course (IsLaneNow lane origin rest (HasEnded Next next enter)) (IsLaneNow lane origin rest It)
       (ordering Next next enter before course comes are beside here)
@@ -127,7 +125,5 @@ module _ (s : Setting) (lane : ℕ) (inside : lane < LANES) (origin : Cluster) (
       (record {
         left = done.left;
         beside = done.beside;
-        now = ⊎_elim (λ (answering : Answering done.now.from (lane_at end.cluster lane)). absurd
-            (done.now.none answering.pending.number reply answering.pending.after answering.pending.found))
-            (λ (over : Over done.now.from (lane_at end.cluster lane)). over.nodes_are) done.now.holds;
+        now = grind (arith, lane_at, end.cluster);
       }))

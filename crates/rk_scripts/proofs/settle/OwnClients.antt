@@ -1,13 +1,11 @@
 -- The clients of a lane's ledger have the same numbers whatever happens there, but for a client that is added.
-use Rattle.std.proofs.Common.{arith}
-use Rattle.std.proofs.Common.{subst, ◌≡◌, ℕ, Bool, true, false, not, Option, Some, None, refl, ap, ◌∙◌, Ok}
-use Rattle.rk_scripts.proofs.Words.{option_or, IsInOrder, NumberMap, numbers, Call, Body, Message, StepError, Event, Taken, LastCall}
-use Rattle.rk_scripts.proofs.Words.{Called, Visited, accept, accept_by, ask, ask_by, Session, coordinator_step, is_added, master_step}
-use Rattle.rk_scripts.proofs.Words.{master_turn, accept_refusal, ask_refusal, refusal, where_true, world_stepped, world_visited, seen_in}
-use Rattle.rk_scripts.proofs.Words.{step, stepped_by, worked_at, Worked, World, master_at}
+use Rattle.std.proofs.Common.{arith, subst, ◌≡◌, ℕ, true, Option, Some, None, refl, ap, ◌∙◌, Ok}
+use Rattle.rk_scripts.proofs.Words.{IsInOrder, NumberMap, numbers, Call, StepError, Event, LastCall, Called, Visited, accept, accept_by}
+use Rattle.rk_scripts.proofs.Words.{ask, ask_by, Session, coordinator_step, is_added, master_step, master_turn, accept_refusal, ask_refusal}
+use Rattle.rk_scripts.proofs.Words.{refusal, where_true, world_stepped, world_visited, seen_in, step, stepped_by, worked_at, Worked, World}
+use Rattle.rk_scripts.proofs.Words.{master_at}
 use Rattle.std.proofs.lemmas.Bool.{cond_both}
-use Rattle.rk_world.specs.Calls.{is_asked, ledger_asked, ledger_taken}
-use Rattle.rk_world.specs.Client.{session_accept}
+use Rattle.rk_world.specs.Calls.{is_asked, ledger_asked}
 use Rattle.rk_world.specs.Ledger.{Ledger, with_asked}
 use Rattle.rk_inv_wellformed.proofs.lanes.Asks.{clients_requested}
 use Rattle.rk_inv_wellformed.proofs.lanes.Ledgers.{clients_rebuilt, clients_served}
@@ -60,26 +58,17 @@ module _ (w : World) where
 
 -- ---- clients
 
--- what is not refused as a stranger was added
-was_added : (first : Option StepError) (added : Bool) (cause : StepError) → option_or first (where_true (not added) cause) ≡ None → added ≡ true
-was_added (Some error) added cause none = absurd (cc none)
-was_added None true cause none = refl
-was_added None false cause none = absurd (cc none)
-
 module _ (w : World) (session : Session) where
   ask_not_refused : ask_refusal w session ≡ None → is_added w.ledger session.client ≡ true
-  ask_not_refused none = was_added _ (is_added w.ledger session.client) (StepError.Stranger session.client) none
+  ask_not_refused none = grind (arith, is_added)
 
   -- who takes its turn was added
   pub asker_added : (visited : Visited) → ask w session ≡ Ok visited → is_added w.ledger session.client ≡ true
   asker_added visited is = grind (arith, ask_refusal, ask_by, is_added, ask_not_refused)
 
-  accept_not_refused : (number : ℕ) (found : Option Message) → accept_refusal w number session.client found ≡ None → is_added w.ledger session.client ≡ true
-  accept_not_refused number found none = grind (arith, was_added, where_true, is_added)
-
   -- and so was who takes an answer
   pub taker_added : (number : ℕ) (visited : Visited) → accept w number session ≡ Ok visited → is_added w.ledger session.client ≡ true
-  taker_added number visited is = grind (arith, accept_refusal, accept_by, is_added, accept_not_refused)
+  taker_added number visited is = grind (arith, accept_refusal, accept_by, is_added, where_true)
 
   -- ---- their turns and answers
 
@@ -101,11 +90,6 @@ module _ (w : World) (session : Session) where
             ∙ same_asked call (ask_not_refused none))
         go (Some error) some = refl
 
-  same_taken : (body : Body) (taken : Taken) → (ledger_taken w.ledger body taken).clients ≡ w.ledger.clients
-  same_taken (Body.Reply reply) Taken.Done = refl
-  same_taken body taken = refl
-
   -- an answer
   pub same_answer : (number : ℕ) → HasSameClients w (world_visited w (accept w number session))
-  same_answer number = accept_covered (HasSameClients w) w session refl number
-      (λ body. ap (λ (clients : NumberMap (Option LastCall)). numbers clients) (same_taken body (session_accept session body).taken))
+  same_answer number = grind (arith, accept_covered, numbers)

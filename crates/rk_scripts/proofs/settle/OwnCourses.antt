@@ -1,6 +1,5 @@
 -- The clients of each lane stay those with sessions at all moves of a settling command.
-use Rattle.std.proofs.Common.{arith}
-use Rattle.std.proofs.Common.{◌≡◌, ℕ, zero, suc, List, [], ◌∷◌, length, Option, refl, inl, inr, ⊎_elim}
+use Rattle.std.proofs.Common.{arith, ◌≡◌, ℕ, zero, suc, List, [], ◌∷◌, length, Option, refl, inl, inr, ⊎_elim}
 use Rattle.rk_scripts.proofs.Words.{Call, Cluster, Fate, advance, Course, moved, moved_all, moved_by, priority, serve_by, settle, Reach}
 use Rattle.rk_scripts.proofs.settle.AddingNobody.{Advances, Hastens, Serves, Settles, all_own}
 use Rattle.rk_scripts.proofs.settle.OwnTasks.{Each, Goes, IsOwn, Precedes, joined_own, weaker_own}

@@ -1,9 +1,9 @@
 -- A task is known by what its moves make, since the type of tasks has no name here: however few more moves are looked at, none adds a
 -- client, and so it is of the tasks that are then left.
-use Rattle.std.proofs.Common.{◌≡◌, ◌++◌, ℕ, zero, suc, Bool, true, false, List, [], ◌∷◌, map, All, Option, None, Some, if◌then◌else◌, refl}
-use Rattle.std.proofs.Common.{inl, inr, ◌⊎◌}
-use Rattle.rk_scripts.proofs.Words.{All-cons, All-nil, get, Node, Message, Cluster, Occurrence, lane_at, all_acted, deliver_in_makes}
-use Rattle.rk_scripts.proofs.Words.{delivery, delivery_of, has_receiver, Fate, Course, moved_by, occurring, occurring_by, with_tasks}
+use Rattle.std.proofs.Common.{arith, ◌≡◌, ◌++◌, ℕ, zero, suc, Bool, true, false, List, [], ◌∷◌, map, All, Option, None, Some, if◌then◌else◌}
+use Rattle.std.proofs.Common.{refl, inl, inr, ◌⊎◌}
+use Rattle.rk_scripts.proofs.Words.{All-cons, All-nil, Cluster, Occurrence, lane_at, all_acted, deliver_in_makes, delivery, has_receiver}
+use Rattle.rk_scripts.proofs.Words.{Fate, Course, moved_by, occurring, occurring_by, with_tasks}
 use Rattle.rk_scripts.proofs.settle.Owning.{HasOwnClients, IsOfOwn, own_all}
 use Rattle.rk_scripts.proofs.settle.Tasks.{Task}
 
@@ -62,18 +62,9 @@ pub where_of_own : (b : Bool) (occurrence : Occurrence) → IsOfOwn occurrence �
 where_of_own true occurrence own = one_of_own occurrence own
 where_of_own false occurrence own = All-nil IsOfOwn
 
-delivery_own : (cluster : Cluster) (lane number : ℕ) (fate : Fate) (to : Node) → IsOfOwn (delivery cluster lane number fate to)
-delivery_own cluster lane number fate (Node.Client client) = tt
-delivery_own cluster lane number fate _ = tt
-
-delivered_own : (cluster : Cluster) (lane number : ℕ) (fate : Fate) (found : Option Message) → All IsOfOwn (delivery_of cluster lane number fate found)
-delivered_own cluster lane number fate None = All-nil IsOfOwn
-delivered_own cluster lane number fate (Some message) =
-    where_of_own (has_receiver cluster message.to) (delivery cluster lane number fate message.to) (delivery_own cluster lane number fate message.to)
-
 -- what a delivery makes
 pub deliver_own : (cluster : Cluster) (lane number : ℕ) (fate : Fate) → All IsOfOwn (deliver_in_makes cluster lane number fate)
-deliver_own cluster lane number fate = delivered_own cluster lane number fate (get (lane_at cluster lane).wire.messages number)
+deliver_own cluster lane number fate = grind (arith, lane_at, where_of_own, has_receiver, delivery)
 
 -- ---- moves
 

@@ -1,16 +1,14 @@
 -- The clients that were added in each lane of a cluster are those that have a session. It stays so whatever occurs, unless a client is added
 -- or joins.
-use Rattle.std.proofs.Common.{arith}
-use Rattle.std.proofs.Common.{◌≡◌, ◌<◌, ℕ, true, List, [], ◌∷◌, length, All, Option, None, Some, refl, sym, ap, subst, ◌∙◌}
-use Rattle.std.proofs.Common.{Err, Ok, Result, is_some}
-use Rattle.rk_scripts.proofs.Words.{cases_lt, All-head, All-tail, IsInOrder, get, numbers, Op, in_order_insert, Visited, accept, ask}
-use Rattle.rk_scripts.proofs.Words.{Session, busy, new_session, session_calling, Accepts, Asks, Calls, Cluster, Happens, Joins, Occurrence}
-use Rattle.rk_scripts.proofs.Words.{called_by_client, cluster_after, cluster_stepped, cluster_visited, lane_at, session_at, with_lane}
-use Rattle.rk_scripts.proofs.Words.{with_session, is_added, world_stepped, world_visited, Stepped, step, World, new_world, StepError, Acted}
-use Rattle.rk_scripts.proofs.Words.{acted, all_acted, going_on, is_client, AreAdded, EachLane, each_lane}
+use Rattle.std.proofs.Common.{arith, ◌≡◌, ◌<◌, ℕ, true, List, [], ◌∷◌, length, All, Option, None, Some, refl, sym, ap, subst, ◌∙◌, Err, Ok}
+use Rattle.std.proofs.Common.{Result, is_some}
+use Rattle.rk_scripts.proofs.Words.{All-head, All-tail, IsInOrder, numbers, in_order_insert, Visited, Session, Cluster, Happens, Joins}
+use Rattle.rk_scripts.proofs.Words.{Occurrence, cluster_after, cluster_stepped, cluster_visited, lane_at, with_lane, with_session}
+use Rattle.rk_scripts.proofs.Words.{world_stepped, world_visited, Stepped, World, StepError, Acted, acted, all_acted, going_on, is_client}
+use Rattle.rk_scripts.proofs.Words.{AreAdded, EachLane, each_lane}
 use Rattle.std.proofs.lemmas.List.{get_or_past}
 use Rattle.rk_settle.proofs.Occurred.{acted_is}
-use Rattle.rk_scripts.proofs.settle.OwnClients.{AddsNobody, HasSameClients, asker_added, same_answer, same_stepped, same_turn, taker_added}
+use Rattle.rk_scripts.proofs.settle.OwnClients.{AddsNobody, HasSameClients, same_stepped, same_turn}
 use Rattle.rk_scripts.proofs.settle.SameNumbers.{found_alike, in_order_alike, numbers_kept}
 
 -- sessions stand in order, and the clients of each lane are those that have one
@@ -30,13 +28,6 @@ module _ (cluster : Cluster) (own : HasOwnClients cluster) where
   own_added client session found lane inside =
       found_alike (lane_at cluster lane).ledger.clients cluster.sessions (own.lanes lane inside) client ∙ ap is_some found
 
-  -- and who was added in some lane has a session
-  added_known : (lane client : ℕ) → is_added (lane_at cluster lane).ledger client ≡ true → is_client cluster client ≡ true
-  added_known lane client added = grind (arith, found_alike, lane_at, is_added, get_or_past, new_world, cases_lt)
-
-  actor_known : (lane client : ℕ) → is_added (lane_at cluster lane).ledger (session_at cluster client).client ≡ true → is_client cluster client ≡ true
-  actor_known lane client added = grind (arith, is_client, added_known, is_added, lane_at, new_session)
-
   -- a lane has the same clients as before
   lane_own : (lane : ℕ) (now : World) → (lane < length cluster.lanes → HasSameClients (lane_at cluster lane) now) → HasOwnClients (with_lane cluster lane now)
   lane_own lane now same = record {
@@ -54,11 +45,6 @@ module _ (cluster : Cluster) (own : HasOwnClients cluster) where
   stepped_own lane (Ok stepped) same = lane_own lane stepped.world (λ there. same)
   stepped_own lane (Err error) same = own
 
-  called_own : (client table : ℕ) (key : List ℕ) (op : Op) (found : Option Session) → get cluster.sessions client ≡ found
-      → HasOwnClients (called_by_client cluster client table key op found)
-  called_own client table key op None is = own
-  called_own client table key op (Some session) is = session_own client (session_calling session table key op (busy session)) (ap is_some is)
-
 visited_own : (cluster : Cluster) → HasOwnClients cluster → (lane client : ℕ) (result : Result Visited StepError)
     → (lane < length cluster.lanes → HasSameClients (lane_at cluster lane) (world_visited (lane_at cluster lane) result))
     → ((visited : Visited) → result ≡ Ok visited → is_client cluster client ≡ true) → HasOwnClients (cluster_visited cluster lane client result)
@@ -69,19 +55,8 @@ visited_own cluster own lane client (Err error) same known = own
 -- ---- all that may occur, but for clients that are added and join
 
 own_after : (cluster : Cluster) (occurrence : Occurrence) → HasOwnClients cluster → IsOfOwn occurrence → HasOwnClients (cluster_after cluster occurrence)
-own_after cluster (Happens lane event called) own nobody =
-    stepped_own cluster own lane (step (lane_at cluster lane) event called) (same_stepped (lane_at cluster lane) event called nobody)
-own_after cluster (Joins client) own nobody = absurd nobody
-own_after cluster (Calls client table key op) own nobody = called_own cluster own client table key op (get cluster.sessions client) refl
-own_after cluster (Asks lane client) own nobody =
-    visited_own cluster own lane client (ask (lane_at cluster lane) (session_at cluster client))
-    (λ inside. same_turn (lane_at cluster lane) (session_at cluster client)
-    (in_order_alike (lane_at cluster lane).ledger.clients cluster.sessions (own.lanes lane inside) own.order))
-    (λ visited is. actor_known cluster own lane client (asker_added (lane_at cluster lane) (session_at cluster client) visited is))
-own_after cluster (Accepts lane number client) own nobody =
-    visited_own cluster own lane client (accept (lane_at cluster lane) number (session_at cluster client))
-    (λ inside. same_answer (lane_at cluster lane) (session_at cluster client) number)
-    (λ visited is. actor_known cluster own lane client (taker_added (lane_at cluster lane) (session_at cluster client) number visited is))
+own_after cluster occurrence own nobody =
+    grind (arith, stepped_own, same_stepped, visited_own, same_turn, in_order_alike, session_own, found_alike, get_or_past)
 
 going_own : (first : Acted) (worn : Option ℕ) (next : Cluster → Acted) → HasOwnClients first.cluster → HasOwnClients (next first.cluster).cluster
     → HasOwnClients (going_on first worn next).cluster

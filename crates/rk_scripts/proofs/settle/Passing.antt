@@ -74,8 +74,7 @@ module _ (s : Setting) (lane : ℕ) (inside : lane < LANES) (most : ℕ) (rest :
         limit = idle.limit;
         sessions = idle.sessions;
         quiet =
-            and_from (has_owners (lane_at course.cluster lane)) (has_applied_all (lane_at course.cluster lane)) owned
-            (waits_none (lane_at course.cluster lane) (formed_at s course comes.sane lane inside) idle.waits);
+            grind (arith, and_from, has_owners, lane_at, has_applied_all, waits_none, formed_at, course.cluster, comes.sane, idle.waits);
         calls = ap (clients_in lane) idle.sessions ∙ none;
       }
 

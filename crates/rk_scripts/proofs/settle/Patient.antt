@@ -1,7 +1,7 @@
 -- What tablets of a master wait for has not come yet: where one closes something of it is staged, and where a target has all but its closing
 -- entry not every side segment of it is stored. Here so it stays at the small changes of a master.
-use Rattle.std.proofs.Common.{◌≡◌, ◌≤◌, ◌+◌, ◌==◌, ◌||◌, ◌&&◌, ℕ, zero, suc, Bool, true, false, cond, not, List, [], ◌∷◌, ◌++◌, length}
-use Rattle.std.proofs.Common.{Option, None, Some, refl, sym, ap, subst, arith, drop, get_or, unwrap_or, option_map}
+use Rattle.std.proofs.Common.{◌≡◌, ◌≤◌, ◌+◌, ◌==◌, ◌||◌, ◌&&◌, ℕ, zero, suc, Bool, true, false, cond, List, [], ◌∷◌, ◌++◌, length, Option}
+use Rattle.std.proofs.Common.{None, Some, refl, sym, ap, subst, arith, drop, get_or, unwrap_or, option_map}
 use Rattle.rk_scripts.proofs.Words.{list_all, list_any, option_map_or, cases_eq, false≢true, in_order_changed, in_order_insert, IsInOrder}
 use Rattle.rk_scripts.proofs.Words.{changed_each, get, Held, Entry, FIRST_SIDE_SEGMENT, Known, is_whole, known_length, Log}
 use Rattle.rk_scripts.proofs.Words.{is_side_stored, numbered, segment_of, NumberedBytes, Role, Master, is_settled, staged, tablet_at}
@@ -29,9 +29,7 @@ IsCalmRole (Role.Joining None) = ⊥
 IsCalmRole role = Unit {0}
 
 pub calm_waits : (master : Master) (tablet : Tablet) (role : Role) → IsCalmRole role → WaitsIn master tablet role
-calm_waits master tablet Role.Closing calm = absurd calm
-calm_waits master tablet (Role.Joining None) calm = absurd calm
-calm_waits master tablet role calm = calm
+calm_waits master tablet role calm = grind arith
 
 -- nothing that the tablets of a master wait for has come, but for one of them perhaps
 pub record ArePatientBeside (number : ℕ) (master : Master) : Type 0 where
@@ -52,10 +50,7 @@ patient_whole number master beside own = grind (arith, tablet_at, cases_eq)
 -- ---- tablets
 
 pub put_beside : (number : ℕ) (master : Master) (tablet : Tablet) → ArePatientBeside number master → ArePatientBeside number (with_tablet master number tablet)
-put_beside number master tablet patient = record {
-  order = in_order_insert master.tablets number tablet patient.order;
-  each = λ q apart. subst (Waits master) (sym (at_other master number tablet q apart)) (patient.each q apart);
-}
+put_beside number master tablet patient = search (in_order_insert, at_other, master.tablets, patient.order, patient.each)
 
 -- one tablet is so
 pub put_whole : (number : ℕ) (master : Master) (tablet : Tablet) → ArePatientBeside number master → Waits master tablet → ArePatient (with_tablet master number tablet)
@@ -101,9 +96,8 @@ some_fails test other (n ∷ list) each fails = go (test n) refl fails (some_fai
 
 pub waits_on : (before after : Master) → WaitsOn before after → (tablet : Tablet) (role : Role) → WaitsIn before tablet role → WaitsIn after tablet role
 waits_on before after on tablet Role.Closing waits = on.staged tablet.handover.range waits
-waits_on before after on tablet (Role.Joining None) waits = λ backed.
-    let some : 1 ≤ length before.log.known = omega (arith, backed, on.known) in
-    some_fails (is_side_stored before.log) (is_side_stored after.log) tablet.pulling.sealed (on.stored some) (waits some)
+waits_on before after on tablet (Role.Joining None) waits =
+    grind (arith, some_fails, is_side_stored, before.log.known, on.known, before.log, after.log, tablet.pulling.sealed, on.stored)
 waits_on before after on tablet _ waits = waits
 
 pub beside_on : (number : ℕ) (before after : Master) → WaitsOn before after → after.tablets ≡ before.tablets → ArePatientBeside number before → ArePatientBeside number after
@@ -127,12 +121,8 @@ any_past test zero list more some = any_more test list more some
 any_past test (suc count) [] more none = absurd (false≢true none)
 any_past test (suc count) (entry ∷ list) more some = any_past test count list more some
 
-unnot : (b : Bool) → not b ≡ false → b ≡ true
-unnot true is = refl
-unnot false is = absurd (false≢true (sym is))
-
 pub appended_on : (master : Master) (entry : Entry) → WaitsOn master (with_appended master entry)
-appended_on master entry = grind (arith, staged, any_past, touches, unnot)
+appended_on master entry = grind (arith, staged, any_past, touches, false≢true)
 
 pub appended_beside : (number : ℕ) (master : Master) (entry : Entry) → ArePatientBeside number master → ArePatientBeside number (with_appended master entry)
 appended_beside number master entry patient = beside_on number master (with_appended master entry) (appended_on master entry) refl patient
@@ -157,9 +147,7 @@ stored_in known number list = option_map_or (λ segment. list_all (λ k. is_whol
 not_whole : (known : List Known) (number : ℕ) (bytes : List ℕ) → 1 ≤ length known → 1 ≤ length bytes → known_length (get_or known 0 []) number ≡ 0
     → list_all (λ k. is_whole k (record { number = number; bytes = bytes })) known ≡ false
 not_whole [] number bytes some long none = absurd (omega (arith, some))
-not_whole (first ∷ known) number bytes some long none =
-    ap (λ (b : Bool). b && list_all (λ k. is_whole k (record { number = number; bytes = bytes })) known)
-    (lt-leb (length bytes) (known_length first number) (omega (arith, none, long)))
+not_whole (first ∷ known) number bytes some long none = grind (arith, is_whole, lt-leb, known_length)
 
 side_still : (known : List Known) (number first : ℕ) (sides : List (List ℕ)) (bytes : List ℕ) → 1 ≤ length known → 1 ≤ length bytes
     → known_length (get_or known 0 []) (first + length sides) ≡ 0 → stored_in known number (numbered first sides) ≡ false
@@ -186,9 +174,7 @@ side_still known number first (side ∷ sides) bytes some long none is =
 
 -- one that is not there is not stored
 pub side_missing : (known : List Known) (number first : ℕ) (sides : List (List ℕ)) → first + length sides ≤ number → stored_in known number (numbered first sides) ≡ false
-side_missing known number first sides past =
-    ap (λ (found : Option NumberedBytes). option_map_or (λ segment. list_all (λ k. is_whole k segment) known) found false)
-    (numbered_past number first sides past)
+side_missing known number first sides past = grind (arith, is_whole, numbered_past)
 
 -- a side segment with bytes becomes known to the log, where the first backup is known to hold nothing of it
 pub side_on : (master : Master) (items : List Held) → IsFresh master.log → 1 ≤ length (spelled_all (as_entries items)) → WaitsOn master (with_side_segment master items)

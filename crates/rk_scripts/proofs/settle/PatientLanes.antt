@@ -1,12 +1,10 @@
 -- Nothing that the tablets of a master wait for has come: in each lane of a cluster to which a run of a new one has led.
 use Rattle.std.proofs.Common.{◌≡◌, ◌<◌, ◌≤◌, ◌+◌, ◌==◌, ℕ, zero, suc, Bool, true, false, cond, List, [], ◌∷◌, ◌++◌, length, Option, None}
 use Rattle.std.proofs.Common.{Some, refl, sym, ap, subst, ◌∙◌, ⊎_elim, arith, length-append, get_or, unwrap_or, eqb-true}
-use Rattle.rk_scripts.proofs.Words.{option_map_or, cases_eq, get, LANES, FIRST_SIDE_SEGMENT, NumberedBytes, cut, Known, known_length, Log}
-use Rattle.rk_scripts.proofs.Words.{bytes_of, numbered, segment_of, side_segments, Called, Cluster, lane_at, IsWellFormed, Master}
-use Rattle.rk_scripts.proofs.Words.{new_master, tablet_at, master_step, master_turn, refusal, HasRoom, world_stepped, with_split, step}
-use Rattle.rk_scripts.proofs.Words.{stepped_by, World, master_at, new_world, with_master, StepError, Event, view, IsSound, master_other}
-use Rattle.rk_scripts.proofs.Words.{master_same}
-use Rattle.rk_world.specs.Splits.{has_parts, with_halves}
+use Rattle.rk_scripts.proofs.Words.{cases_eq, get, LANES, FIRST_SIDE_SEGMENT, NumberedBytes, cut, Known, known_length, Log, bytes_of}
+use Rattle.rk_scripts.proofs.Words.{numbered, segment_of, side_segments, Called, Cluster, lane_at, IsWellFormed, Master, new_master}
+use Rattle.rk_scripts.proofs.Words.{refusal, HasRoom, world_stepped, step, stepped_by, World, master_at, new_world, with_master, StepError}
+use Rattle.rk_scripts.proofs.Words.{Event, view, IsSound, master_other, master_same}
 use Rattle.rk_sound.specs.Logs.{stored_of}
 use Rattle.rk_inv_base.proofs.views.Fresh.{each_fresh}
 use Rattle.rk_inv_tablets.proofs.steady.Walks.{IsKept, Part, accept_keeps, ask_keeps, event_keeps}
@@ -34,9 +32,7 @@ missing_behind (bytes ∷ main) first number more past none =
     go later false apart = later (omega (arith, past))
 
 no_bytes : (log : Log) (segment : ℕ) → length (cut log.entries) < FIRST_SIDE_SEGMENT → FIRST_SIDE_SEGMENT + length log.sides ≤ segment → bytes_of log segment ≡ []
-no_bytes log segment few past =
-    ap (λ (o : Option NumberedBytes). option_map_or (λ (it : NumberedBytes). it.bytes) o [])
-    (missing_behind (cut log.entries) 1 segment (side_segments log) (omega (arith, few, past)) (numbered_past segment FIRST_SIDE_SEGMENT log.sides past))
+no_bytes log segment few past = grind (arith, missing_behind, cut, side_segments, numbered_past)
 
 few_segments : (w : World) → IsWellFormed w → HasRoom w → (number : ℕ) → length (cut (master_at w number).log.entries) < FIRST_SIDE_SEGMENT
 few_segments w formed room number = go (get w.masters number) refl
@@ -78,26 +74,11 @@ Patience masters count backups = (master : ℕ) → ArePatient (unwrap_or (get m
 
 module _ (w : World) (patient : AllPatient w) where
   put_master : (number : ℕ) (master : Master) → ArePatient master → AllPatient (with_master w number master)
-  put_master number master now q =
-      ⊎_elim (λ (is : q ≡ number). subst ArePatient (sym (master_same w number master q is)) now)
-      (λ (apart : q ≡ number → ⊥). subst ArePatient (sym (master_other w number master q apart)) (patient q)) (cases_eq q number)
+  put_master number master now q = grind (arith, master_same, master_other, cases_eq)
 
   patient_kept : ((number : ℕ) → IsFresh (master_at w number).log) → IsKept Patience w
-  patient_kept fresh = record {
-    now = patient;
-    steps = λ master message.
-        put_master master (master_step (master_at w master) message).master
-        (step_patient (master_at w master) (patient master) (pulled_patient (master_at w master) (patient master) (fresh master)) message);
-    turns = λ master. put_master master (master_turn (master_at w master)).master (turn_patient (master_at w master) (patient master));
-    adds = λ master tablet range. put_master master _ (put_patient (master_at w master) tablet _ (patient master) tt);
-    splits = λ master tablet at new term.
-        let before = master_at w master in
-        let it = tablet_at before tablet in
-        put_master master (with_split before tablet at new term)
-        (either_patient (has_parts it.handover.range at) (with_halves before tablet it at new term) before
-        (put_patient _ new _ (put_patient before tablet _ (patient master) tt) tt) (patient master));
-    stores = λ number segments. patient;
-  }
+  patient_kept fresh =
+      search (put_master, step_patient, pulled_patient, turn_patient, put_patient, either_patient)
 
 patient_stepped : (w : World) (event : Event) (called : Called) → ((number : ℕ) → IsFresh (master_at w number).log) → AllPatient w → AllPatient (world_stepped w (step w event called))
 patient_stepped w event called fresh patient = go (refusal w event)

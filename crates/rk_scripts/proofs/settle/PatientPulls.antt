@@ -1,7 +1,7 @@
 -- Nothing that the tablets of a master wait for has come, still after a target took a batch that it pulled: where it has all by then, it waits for its
 -- side segments, which no backup is known to hold.
-use Rattle.std.proofs.Common.{◌≡◌, ◌≤◌, ◌+◌, ◌%◌, ◌==◌, ◌&&◌, ℕ, zero, suc, Bool, true, false, cond, nat_le, List, [], ◌∷◌, ◌++◌, length}
-use Rattle.std.proofs.Common.{fold, map, sum, All, Option, None, Some, refl, sym, ap, subst, ◌∙◌, arith, length-append, eq-eqb}
+use Rattle.std.proofs.Common.{◌≡◌, ◌≤◌, ◌+◌, ◌%◌, ◌&&◌, ℕ, zero, suc, Bool, true, false, cond, nat_le, List, [], ◌∷◌, ◌++◌, length, fold}
+use Rattle.std.proofs.Common.{map, sum, All, Option, None, Some, refl, sym, ap, subst, arith, length-append, eq-eqb}
 use Rattle.rk_scripts.proofs.Words.{list_all, range_with_len, cond-true, All-append, All-cons, All-head, All-nil, All-tail, Held}
 use Rattle.rk_scripts.proofs.Words.{SEGMENT_BYTES, FIRST_SIDE_SEGMENT, is_side_stored, found, is_newer, end, in_role, joined, role_joined}
 use Rattle.rk_scripts.proofs.Words.{Handover, Role, items_of, Master, tablet_at, with_appended, with_side_segment, with_tablet, as_entries}
@@ -58,11 +58,7 @@ some_long (item ∷ items) some =
 -- ---- side segments
 
 on_then : (a b c : Master) → WaitsOn a b → WaitsOn b c → WaitsOn a c
-on_then a b c first second = record {
-  staged = λ range is. second.staged range (first.staged range is);
-  known = second.known ∙ first.known;
-  stored = λ some number is. second.stored (omega (arith, some, first.known)) number (first.stored some number is);
-}
+on_then a b c first second = search (second.staged, first.staged, second.known, first.known, second.stored, first.stored)
 
 -- a master with more side segments: its tablets are as they were
 record HasSides (before after : Master) : Type 0 where
@@ -70,8 +66,7 @@ record HasSides (before after : Master) : Type 0 where
   tablets : after.tablets ≡ before.tablets
 
 sides_on : (sides : List (List Held)) (master : Master) → All AreSome sides → IsFresh master.log → HasSides master (fold with_side_segment master sides)
-sides_on [] master all fresh =
-    record { on = record { staged = λ range is. is; known = refl; stored = λ some number is. is }; tablets = refl }
+sides_on [] master all fresh = grind arith
 sides_on (items ∷ sides) master all fresh =
     let now : Master = with_side_segment master items in
     let rest = sides_on sides now (All-tail AreSome items sides all) (λ segment past. fresh segment
@@ -84,9 +79,7 @@ sides_on (items ∷ sides) master all fresh =
 -- ---- a target that has all
 
 pub joins : (handover : Handover) (entry : Option ℕ) (role : Role) → handover.role ≡ role → joined handover handover.term entry ≡ in_role handover (role_joined entry role)
-joins handover entry role is =
-    cond-true (handover.term == handover.term) (in_role handover (role_joined entry handover.role)) None (eq-eqb handover.term handover.term refl)
-    ∙ ap (λ (r : Role). in_role handover (role_joined entry r)) is
+joins handover entry role is = grind (arith, cond-true, in_role, role_joined, eq-eqb)
 
 module _ (now : Master) (number : ℕ) (tablet : Tablet) (beside : ArePatientBeside number now) (at : tablet_at now number ≡ tablet) where
   stays : Waits now tablet → ArePatient now

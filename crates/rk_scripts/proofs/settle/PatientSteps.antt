@@ -1,41 +1,37 @@
 -- Nothing that the tablets of a master wait for has come, still after each message that it takes and after its turn.
 use Rattle.std.proofs.Common.{◌≡◌, ◌<◌, ◌==◌, ◌&&◌, ℕ, Bool, true, false, cond, not, nat_lt, List, [], ◌∷◌, length, All, Option, None, Some}
 use Rattle.std.proofs.Common.{refl, sym, ap, subst, ◌∙◌, arith, IfSome, unwrap_or, nat_cmp, eq-eqb}
-use Rattle.rk_scripts.proofs.Words.{below_all, eq_by_cmp, All-head, All-tail, All-weaker, cond-true, false≢true, in_order_changed}
-use Rattle.rk_scripts.proofs.Words.{in_order_insert, same_number, IsInOrder, NumberMap, get, meets, Call, Ended, Held, Node, Range, Entry}
-use Rattle.rk_scripts.proofs.Words.{overreach, Overreach, completions_from, Grant, Prepare, Body, Message, Stored, found, is_newer, closed}
-use Rattle.rk_scripts.proofs.Words.{frozen, granted, in_role, joined, role_closed, role_frozen, role_granted, role_joined, Handover, Role}
-use Rattle.rk_scripts.proofs.Words.{Reading, apply_entries, apply_entry, newly_held, noting, stored_taken, with_applied, with_ended}
-use Rattle.rk_scripts.proofs.Words.{with_entry_item, items_of, next_reading, carried_entry, close_taken, closing, grant_taken, granting}
-use Rattle.rk_scripts.proofs.Words.{prepare_taken, preparing, ready, ready_again, transfer, Master, is_settled, tablet_at, with_all}
-use Rattle.rk_scripts.proofs.Words.{with_appended, with_known, with_tablet, master_step, told_master, duties, master_turn, tablet_duty}
-use Rattle.rk_scripts.proofs.Words.{with_outstanding, as_entries, item_replayed, pulled_taken, replay, replay_one, with_pulled}
-use Rattle.rk_scripts.proofs.Words.{with_pulling, is_frozen_at, is_receiving_at, Tablet, no_tablet, pulling_from, with_handover}
-use Rattle.rk_scripts.proofs.Words.{without_merged, all_going_on, closing_entry, freezing, going_on_in, is_sealed_stored, joined_entry}
-use Rattle.rk_scripts.proofs.Words.{changed, sending, kept_by_fold, All_pairs, above_all, first, get_first, get_later, order_tail}
+use Rattle.rk_scripts.proofs.Words.{below_all, eq_by_cmp, All-head, All-tail, cond-true, false≢true, in_order_changed, in_order_insert}
+use Rattle.rk_scripts.proofs.Words.{same_number, IsInOrder, NumberMap, get, meets, Call, Ended, Held, Node, Range, Entry, overreach}
+use Rattle.rk_scripts.proofs.Words.{Overreach, Grant, Prepare, Body, Message, Stored, found, is_newer, closed, frozen, granted, in_role}
+use Rattle.rk_scripts.proofs.Words.{joined, role_closed, role_frozen, role_granted, role_joined, Handover, Role, Reading, apply_entries}
+use Rattle.rk_scripts.proofs.Words.{apply_entry, newly_held, noting, stored_taken, with_applied, with_ended, with_entry_item, items_of}
+use Rattle.rk_scripts.proofs.Words.{next_reading, close_taken, closing, grant_taken, granting, prepare_taken, preparing, ready, ready_again}
+use Rattle.rk_scripts.proofs.Words.{transfer, Master, is_settled, tablet_at, with_all, with_appended, with_known, with_tablet, master_step}
+use Rattle.rk_scripts.proofs.Words.{told_master, duties, master_turn, tablet_duty, with_outstanding, as_entries, item_replayed}
+use Rattle.rk_scripts.proofs.Words.{pulled_taken, replay, replay_one, with_pulled, with_pulling, is_frozen_at, is_receiving_at, Tablet}
+use Rattle.rk_scripts.proofs.Words.{no_tablet, pulling_from, with_handover, without_merged, all_going_on, closing_entry, freezing}
+use Rattle.rk_scripts.proofs.Words.{going_on_in, is_sealed_stored, joined_entry, changed, sending, kept_by_fold, All_pairs, above_all}
+use Rattle.rk_scripts.proofs.Words.{first, get_first, get_later, order_tail}
 use Rattle.std.specs.Cmp.{unsigned_tied}
 use Rattle.rk_types.specs.declared.lineage.Member.{Member}
-use Rattle.rk_transfer.specs.Handover.{carried, owned, prepared, rebuilt, released, role_carried, role_owned, role_released}
+use Rattle.rk_transfer.specs.Handover.{prepared, rebuilt, role_carried, role_owned, role_released}
 use Rattle.rk_priority.specs.Hashes.{is_batch}
-use Rattle.rk_message.specs.declared.calls.Request.{Request}
 use Rattle.rk_message.specs.declared.handover.Tenure.{Tenure}
 use Rattle.rk_message.specs.declared.pulling.Got.{Got}
-use Rattle.rk_message.specs.declared.pulling.Pull.{Pull}
 use Rattle.rk_message.specs.declared.pulling.Pulled.{Pulled}
-use Rattle.rk_message.specs.declared.pulling.Want.{Want}
 use Rattle.rk_message.specs.declared.rebuilding.CopySegment.{CopySegment}
 use Rattle.rk_message.specs.declared.rebuilding.Rebuild.{Rebuild}
 use Rattle.rk_world.specs.Ends.{told_by}
-use Rattle.rk_world.specs.Gather.{by_member, gather_begun, is_awaited}
+use Rattle.rk_world.specs.Gather.{is_awaited}
 use Rattle.rk_world.specs.Handovers.{given_up, is_greater, own_taken, owning, release_taken, releasing, with_move, with_others_given_up}
 use Rattle.rk_world.specs.Lineage.{own_member}
 use Rattle.rk_world.specs.Master.{without_items}
 use Rattle.rk_world.specs.MasterStep.{backup_message, client_message, order, peer_message}
-use Rattle.rk_world.specs.Merge.{merge}
-use Rattle.rk_world.specs.Pulls.{got_taken, hashes_resolved, pull_taken, want_taken}
-use Rattle.rk_world.specs.Rebuilds.{begun_from, beginning, copy_taken, merging, own_material, rebuild_begun, rebuild_goes_on, rebuild_taken}
-use Rattle.rk_world.specs.Rebuilds.{rebuilding_on, rebuilt_entry, segment_gathered, with_begun, with_merged, without_foreign}
-use Rattle.rk_world.specs.Requests.{call_of, choice_of, chosen, counted_up, item_of, refusal_of, request_taken}
+use Rattle.rk_world.specs.Pulls.{got_taken, hashes_resolved}
+use Rattle.rk_world.specs.Rebuilds.{begun_from, beginning, copy_taken, merging, rebuild_begun, rebuild_goes_on, rebuild_taken}
+use Rattle.rk_world.specs.Rebuilds.{rebuilding_on, segment_gathered, with_begun, without_foreign}
+use Rattle.rk_world.specs.Requests.{chosen, counted_up, item_of}
 use Rattle.rk_world.specs.RoleTests.{is_gathering}
 use Rattle.rk_world.specs.Waiting.{tablet_frozen}
 use Rattle.rk_world.specs.declared.choice.Choice.{Choice}
@@ -82,16 +78,12 @@ begun_calm false handover calm = tt
 
 -- a tablet that closes may freeze
 pub frozen_own : (handover : Handover) → handover.role ≡ Role.Closing → frozen handover handover.term ≡ Some (record handover { role = Role.Frozen })
-frozen_own handover is =
-    cond-true (handover.term == handover.term) (in_role handover (role_frozen handover.role)) None (eq-eqb handover.term handover.term refl)
-    ∙ ap (λ (role : Role). in_role handover (role_frozen role)) is
+frozen_own handover is = grind (arith, cond-true, in_role, role_frozen, eq-eqb)
 
 -- and one that has all but its closing entry may join with it
 pub joined_own : (handover : Handover) (place : ℕ) → handover.role ≡ Role.Joining None
     → joined handover handover.term (Some place) ≡ Some (record handover { role = Role.Joining (Some place) })
-joined_own handover place is =
-    cond-true (handover.term == handover.term) (in_role handover (role_joined (Some place) handover.role)) None (eq-eqb handover.term handover.term refl)
-    ∙ ap (λ (role : Role). in_role handover (role_joined (Some place) role)) is
+joined_own handover place is = grind (arith, cond-true, in_role, role_joined, eq-eqb)
 
 -- ---- what waited goes on
 
@@ -108,9 +100,6 @@ same_on master = record { staged = λ range is. is; known = refl; stored = λ so
 module _ (now : Master) (number : ℕ) (tablet : Tablet) (at : tablet_at now number ≡ tablet) where
   gone_still : Waits now tablet → HasGone number now now
   gone_still waits = grind (arith, same_on)
-
-  gone_calm : (role : Role) → tablet.handover.role ≡ role → IsCalmRole role → HasGone number now now
-  gone_calm role is calm = gone_still (calm_waits now tablet tablet.handover.role (subst IsCalmRole (sym is) calm))
 
   gone_closing : tablet.handover.role ≡ Role.Closing → HasGone number now (freezing now number tablet (frozen tablet.handover tablet.handover.term))
   gone_closing is =
@@ -136,9 +125,7 @@ module _ (now : Master) (number : ℕ) (tablet : Tablet) (at : tablet_at now num
       go false waits = gone_still (subst (WaitsIn now tablet) (sym is) (λ some. waits))
 
   gone_on : (role : Role) → tablet.handover.role ≡ role → HasGone number now (going_on_in now number tablet role)
-  gone_on Role.Closing is = gone_closing is
-  gone_on (Role.Joining None) is = gone_joining is
-  gone_on role is = gone_calm role is tt
+  gone_on role is = grind (arith, gone_closing, gone_joining, gone_still, calm_waits)
 
 -- a number below that of another is another one
 pub below_apart : (low high : ℕ) → low < high → high ≡ low → ⊥
@@ -173,9 +160,7 @@ all_gone_on (entry ∷ rest) now sorted order coming gone =
 
 -- whatever was waited for before: once what every backup holds is applied, all that waited goes on
 pub going_on_patient : (master : Master) → IsInOrder master.tablets → ArePatient (all_going_on master master.tablets)
-going_on_patient master order =
-    all_gone_on master.tablets master order order (λ q tablet is. ap (λ (o : Option Tablet). unwrap_or o no_tablet) is)
-    (λ q none. subst (λ (o : Option Tablet). Waits master (unwrap_or o no_tablet)) (sym none) tt)
+going_on_patient master order = grind (arith, all_gone_on, no_tablet)
 
 -- ---- what a backup tells
 
@@ -196,9 +181,7 @@ entries_order (entry ∷ list) master order = entries_order list (apply_entry ma
 stored_patient : (master : Master) (backup : ℕ) (stored : Stored) (over : Option Overreach) → ArePatient master → ArePatient (stored_taken master backup stored over).master
 stored_patient master backup stored (Some over) patient = patient
 stored_patient master backup stored None patient =
-    let known = with_known master backup stored.segment stored.length in
-    let now = (apply_entries known (newly_held known)).master in
-    going_on_patient now (entries_order (newly_held known) known patient.order)
+    search (with_known, apply_entries, newly_held, going_on_patient, entries_order, stored.segment, stored.length, patient.order)
 
 -- ---- requests
 
@@ -210,21 +193,15 @@ module _ (master : Master) (patient : ArePatient master) where
       let appended : ArePatient (with_appended master entry) = appended_patient master entry patient in
       let put = put_patient (with_appended master entry) number (counted_up (tablet_at master number)) appended (appended.each number) in
       record { order = put.order; each = put.each }
-  chosen_patient asked call (Refuses found absent) =
-      let appended = appended_patient master (refusal_of call found absent) patient in
-      record { order = appended.order; each = appended.each }
+  chosen_patient asked call (Refuses found absent) = search appended_patient
   chosen_patient asked call _ = patient
-
-  request_patient : (client : ℕ) (request : Request) → ArePatient (request_taken master client request).master
-  request_patient client request = chosen_patient request.tablet (call_of client request) (choice_of master (call_of client request))
 
 -- ---- handovers
 
 move_patient : (master : Master) (number : ℕ) (moved : Option Handover) → ArePatient master → MovesCalm moved → ArePatient (with_move master number moved)
 move_patient master number None patient calm = patient
 move_patient master number (Some handover) patient calm =
-    let tablet : Tablet = without_merged (with_handover (tablet_at master number) handover) in
-    put_patient master number tablet patient (calm_waits master tablet handover.role calm)
+    search (without_merged, with_handover, tablet_at, put_patient, calm_waits, handover.role)
 
 others_patient : (master : Master) (number : ℕ) (range : Range) → ArePatient master → ArePatient (with_others_given_up master number range)
 others_patient master number range patient =
@@ -239,9 +216,7 @@ dropped_patient : (master : Master) (range : Range) → ArePatient master → Ar
 dropped_patient master range patient = record { order = patient.order; each = patient.each }
 
 again_patient : (master : Master) (tenure : Tenure) (role : Role) (term : ℕ) → ArePatient master → ArePatient (ready_again master tenure role term).master
-again_patient master tenure (Role.Wanting from) term patient =
-    either_is ArePatient (term == tenure.term) (sending master (ready master tenure from)) (changed master) patient patient
-again_patient master tenure role term patient = patient
+again_patient master tenure role term patient = grind (arith, either_is, sending, ready, changed)
 
 prepare_patient : (master : Master) (prepare : Prepare) → ArePatient master → ArePatient (prepare_taken master prepare).master
 prepare_patient master prepare patient =
@@ -289,38 +264,26 @@ close_patient master tenure patient =
 granting_patient : (master : Master) (grant : Grant) (moved : Option Handover) → ArePatient master → MovesCalm moved → ArePatient (granting master grant moved).master
 granting_patient master grant None patient calm = patient
 granting_patient master grant (Some handover) patient calm =
-    let now = with_appended master (carried_entry handover grant) in
-    let tablet : Tablet =
-    record (without_merged (tablet_at master grant.tenure.tablet)) { handover = handover; completions = completions_from [] grant.ends; pulling = pulling_from grant.source } in
-    put_patient now grant.tenure.tablet tablet (appended_patient master (carried_entry handover grant) patient) (calm_waits now tablet handover.role calm)
+    search (put_patient, appended_patient, calm_waits)
 
 grant_patient : (master : Master) (grant : Grant) → ArePatient master → ArePatient (grant_taken master grant).master
 grant_patient master grant patient =
-    let old = (tablet_at master grant.tenure.tablet).handover in
-    granting_patient master grant (granted old grant.tenure.term grant.floor) patient
-    (granted_calm (old.term == grant.tenure.term) (record old { counter = grant.floor }) old.role)
+    search (tablet_at, granting_patient, granted, granted_calm, grant.tenure.tablet, grant.tenure.term, grant.floor)
 
 owning_patient : (master : Master) (number : ℕ) (moved : Option Handover) → ArePatient master → MovesCalm moved → ArePatient (owning master number moved).master
 owning_patient master number None patient calm = patient
 owning_patient master number (Some handover) patient calm =
-    let tablet : Tablet = record (without_merged (tablet_at master number)) { handover = handover; pulling = pulling_from 0 } in
-    put_patient master number tablet patient (calm_waits master tablet handover.role calm)
+    search (without_merged, tablet_at, pulling_from, put_patient, calm_waits, handover.role)
 
 own_patient : (master : Master) (tenure : Tenure) → ArePatient master → ArePatient (own_taken master tenure).master
-own_patient master tenure patient =
-    let old = (tablet_at master tenure.tablet).handover in
-    owning_patient master tenure.tablet (owned old tenure.term master.applied) patient
-    (owned_calm (old.term == tenure.term) old master.applied old.role)
+own_patient master tenure patient = search (tablet_at, owning_patient, owned_calm, tenure.tablet, tenure.term, master.applied)
 
 releasing_patient : (master : Master) (number : ℕ) (moved : Option Handover) → ArePatient master → MovesCalm moved → ArePatient (releasing master number moved).master
 releasing_patient master number None patient calm = patient
-releasing_patient master number (Some handover) patient calm =
-    move_patient (without_items master handover.range) number (Some handover) (dropped_patient master handover.range patient) calm
+releasing_patient master number (Some handover) patient calm = search (move_patient, dropped_patient, handover.range)
 
 release_patient : (master : Master) (tenure : Tenure) → ArePatient master → ArePatient (release_taken master tenure).master
-release_patient master tenure patient =
-    let old = (tablet_at master tenure.tablet).handover in
-    releasing_patient master tenure.tablet (released old tenure.term) patient (released_calm (old.term == tenure.term) old old.role)
+release_patient master tenure patient = search (tablet_at, releasing_patient, released_calm, tenure.tablet, tenure.term)
 
 -- ---- rebuilds
 
@@ -328,20 +291,11 @@ merging_patient : (master : Master) (number : ℕ) (tablet : Tablet) (merged : M
     → ArePatient master → MovesCalm moved → ArePatient (merging master number tablet merged moved).master
 merging_patient master number tablet merged None patient calm = patient
 merging_patient master number tablet merged (Some handover) patient calm =
-    let now = with_all master (as_entries merged.copies) in
-    let last = with_appended now (rebuilt_entry tablet merged) in
-    let after : Tablet = with_merged tablet merged handover in
-    put_patient last number after (appended_patient now (rebuilt_entry tablet merged) (all_patient (as_entries merged.copies) master patient))
-    (calm_waits last after handover.role calm)
+    search (with_all, as_entries, with_appended, put_patient, appended_patient, all_patient, calm_waits, merged.copies, handover.role)
 
 rebuilding_patient : (master : Master) (number : ℕ) (reading : Option Reading) → ArePatient master → ArePatient (rebuilding_on master number reading).master
 rebuilding_patient master number (Some reading) patient = patient
-rebuilding_patient master number None patient =
-    let tablet = tablet_at master number in
-    let merged = merge (own_material master tablet) (by_member tablet.gather (own_material master tablet)) in
-    let place = length (with_all master (as_entries merged.copies)).log.entries in
-    merging_patient master number tablet merged (carried tablet.handover tablet.handover.term place merged.floor) patient
-    (carried_calm (tablet.handover.term == tablet.handover.term) (record tablet.handover { counter = merged.floor }) place tablet.handover.role)
+rebuilding_patient master number None patient = search (tablet_at, with_all, as_entries, merging_patient, carried_calm)
 
 goes_on_patient : (master : Master) (number : ℕ) → ArePatient master → ArePatient (rebuild_goes_on master number).master
 goes_on_patient master number patient = rebuilding_patient master number (next_reading (tablet_at master number).gather) patient
@@ -353,15 +307,7 @@ foreign_patient master range None patient = dropped_patient master range patient
 with_begun_patient : (master : Master) (rebuild : Rebuild) (moved : Option Handover) → ArePatient master → MovesCalm moved → ArePatient (with_begun master rebuild moved)
 with_begun_patient master rebuild None patient calm = patient
 with_begun_patient master rebuild (Some handover) patient calm =
-    let old = tablet_at master rebuild.tenure.tablet in
-    let tablet : Tablet =
-    record old {
-      handover = handover;
-      pulling = pulling_from old.pulling.source;
-      gather = gather_begun rebuild.range rebuild.lineage master.number;
-      merged_ends = [];
-    } in
-    put_patient master rebuild.tenure.tablet tablet patient (calm_waits master tablet handover.role calm)
+    search (put_patient, calm_waits)
 
 rebuild_patient : (master : Master) (rebuild : Rebuild) → ArePatient master → ArePatient (rebuild_taken master rebuild).master
 rebuild_patient master rebuild patient =
@@ -389,18 +335,8 @@ copy_patient master copy patient =
 
 -- ---- pulls
 
-pull_patient : (master : Master) (sender : Node) (pull : Pull) → ArePatient master → ArePatient (pull_taken master sender pull).master
-pull_patient master sender pull patient =
-    either_is ArePatient (is_frozen_at (tablet_at master pull.tenure.tablet) pull.tenure.term) _ (changed master) patient patient
-
-want_patient : (master : Master) (sender : Node) (want : Want) → ArePatient master → ArePatient (want_taken master sender want).master
-want_patient master sender want patient =
-    either_is ArePatient (is_frozen_at (tablet_at master want.tenure.tablet) want.tenure.term) _ (changed master) patient patient
-
 replayed_patient : (number worker : ℕ) (master : Master) (item : Held) → ArePatient master → ArePatient (item_replayed number worker master item)
-replayed_patient number worker master item patient =
-    let put = put_patient master number (with_pulling (tablet_at master number) (with_pulled (tablet_at master number).pulling worker item)) patient (patient.each number) in
-    record { order = put.order; each = put.each }
+replayed_patient number worker master item patient = search (put_patient, with_pulling, tablet_at, with_pulled, patient.each)
 
 pub replay_patient : (master : Master) (number worker : ℕ) (items : List Held) → ArePatient master → ArePatient (replay master number worker items)
 replay_patient master number worker items patient = kept_by_fold ArePatient (replay_one number worker)
@@ -425,9 +361,7 @@ abbrev AllWait : Master → NumberMap Tablet → Type 0
 AllWait master tablets = All (λ (entry : ℕ × Tablet). Waits master entry.1) tablets
 
 all_wait_on : (before after : Master) → WaitsOn before after → (list : NumberMap Tablet) → AllWait before list → AllWait after list
-all_wait_on before after on list all =
-    All-weaker (λ (entry : ℕ × Tablet). Waits before entry.1) (λ (entry : ℕ × Tablet). Waits after entry.1)
-    (λ entry waits. waits_on before after on entry.1 entry.1.handover.role waits) list all
+all_wait_on before after on list all = grind (arith, waits_on)
 
 duties_patient : (list : NumberMap Tablet) (master : Master) → AllWait master list → ArePatient master → ArePatient (duties master list).master
 duties_patient [] master all patient = patient
@@ -452,8 +386,7 @@ turn_patient master patient = duties_patient master.tablets master
 
 module _ (master : Master) (patient : ArePatient master) (pulled_patient : (pulled : Pulled) → ArePatient (pulled_taken master pulled).master) where
   client_patient : (client : ℕ) (body : Body) → ArePatient (client_message master client body).master
-  client_patient client (Body.Request request) = request_patient master patient client request
-  client_patient client _ = patient
+  client_patient client body = grind (arith, chosen_patient)
 
   order_patient : (body : Body) → ArePatient (order master body).master
   order_patient (Body.Prepare prepare) = prepare_patient master prepare patient
@@ -465,11 +398,10 @@ module _ (master : Master) (patient : ArePatient master) (pulled_patient : (pull
   order_patient _ = patient
 
   peer_patient : (sender : Node) (body : Body) → ArePatient (peer_message master sender body).master
-  peer_patient sender body = grind (arith, pull_patient, want_patient, got_patient)
+  peer_patient sender body = grind (arith, got_patient, either_is, is_frozen_at, tablet_at, changed)
 
   backup_patient : (backup : ℕ) (body : Body) → ArePatient (backup_message master backup body).master
-  backup_patient backup (Body.Stored stored) =
-      stored_patient master backup stored (overreach master.log stored.segment stored.length) patient
+  backup_patient backup (Body.Stored stored) = search (stored_patient, overreach, stored.segment, stored.length)
   backup_patient backup (Body.Copy copy) = copy_patient master copy patient
   backup_patient backup _ = patient
 

@@ -1,15 +1,11 @@
 -- What lies on a wire beyond a number: nothing that is on a topic, or one message alone. And what an arrival leaves of what lay there.
-use Rattle.std.proofs.Common.{◌≡◌, ◌<◌, ◌≤◌, ◌+◌, ℕ, true, false, List, [], ◌∷◌, ◌++◌, eqb, fold, map, All, Option, None, Some, refl, sym}
-use Rattle.std.proofs.Common.{ap, subst, ◌∙◌, arith, ne_eqb}
-use Rattle.rk_scripts.proofs.Words.{cases_eq, cond-false, false≢true, All-head, All-tail, get_other, get_same, get}
-use Rattle.rk_scripts.proofs.Words.{HasSentNumbers, Traffic, with_message, without_message, Message, Called, backup_step, accept}
-use Rattle.rk_scripts.proofs.Words.{Session, coordinator_step, master_step, filled, refusal, world_stepped, world_visited, ledger_after}
-use Rattle.rk_scripts.proofs.Words.{log_bytes_of, seen_in, step, stepped_by, worked_at, World, master_at, with_top, with_wire, StepError}
-use Rattle.rk_scripts.proofs.Words.{is_on, Arrival, Delivers, Loses, arrived, forgotten, Event, coordinator_turn, master_turn, Worked}
+use Rattle.std.proofs.Common.{◌≡◌, ◌<◌, ◌≤◌, ◌+◌, ℕ, true, false, List, [], ◌∷◌, ◌++◌, eqb, fold, All, None, Some, refl, sym, ◌∙◌, arith}
+use Rattle.std.proofs.Common.{ne_eqb}
+use Rattle.rk_scripts.proofs.Words.{cases_eq, cond-false, false≢true, All-head, All-tail, get_other, get_same, get, HasSentNumbers, Traffic}
+use Rattle.rk_scripts.proofs.Words.{with_message, without_message, Message, Called, world_stepped, step, stepped_by, World, with_top}
+use Rattle.rk_scripts.proofs.Words.{with_wire, is_on, Arrival, arrived, forgotten, Event}
 use Rattle.rk_types.proofs.NumberMaps.{get_remove, get_removed, remove_less}
-use Rattle.rk_inv_lanes.specs.wires.Emptied.{Accepts}
 use Rattle.rk_scripts.proofs.settle.ExchangeTasks.{Topic}
-use Rattle.rk_inv_lanes.proofs.lanes.Events.{Covers, event_covered}
 use Rattle.rk_inv_lanes.proofs.lanes.Visits.{accept_covered}
 
 -- ---- beyond a number
@@ -111,9 +107,7 @@ module _ (topic : Topic) where
 
   pub sent_pending : (from : ℕ) (ours : Message) (list : List Message) (wire : Traffic) → HasOne ours list → from ≤ wire.sent → OnlyOff from wire
       → IsPending from ours (fold (λ it message. with_message message it) wire list)
-  sent_pending from ours list wire has within off =
-      subst (λ (it : List Message). IsPending from ours (fold (λ it message. with_message message it) wire it)) (sym has.is)
-      (one_sent from ours has.before has.behind wire has.off_before has.off_behind within off)
+  sent_pending from ours list wire has within off = grind (arith, with_message, one_sent)
 
   -- ---- forgotten
 
@@ -131,9 +125,7 @@ forgotten_cases P w number same without = grind (arith, world_stepped, stepped_b
 
 -- no more is there
 pub forgotten_less : (w : World) (number n : ℕ) (message : Message) → get (forgotten w number).wire.messages n ≡ Some message → get w.wire.messages n ≡ Some message
-forgotten_less w number n message =
-    forgotten_cases (λ (now : World). get now.wire.messages n ≡ Some message → get w.wire.messages n ≡ Some message) w number (λ found. found)
-    (λ found. remove_less w.wire.messages number n message found)
+forgotten_less w number n message = grind (arith, forgotten_cases, remove_less)
 
 -- and not the one that is forgotten
 pub forgotten_gone : (w : World) (number : ℕ) → get (forgotten w number).wire.messages number ≡ None
@@ -151,40 +143,9 @@ sent_old wire (message ∷ list) n within = sent_old (with_message message wire)
     ∙ get_other wire.messages (wire.sent + 1) message n (λ is. omega (arith, within, is))
 
 module _ (w : World) where
-  worked_old : (master seen : ℕ) (worked : Worked) → KeepsOld w (worked_at w master seen worked).world
-  worked_old master seen worked = sent_old w.wire (map (filled (ledger_after w.ledger master seen worked).journal worked.served) worked.sends)
-
-  delivered_old : (number : ℕ) (called : Called) → Covers (KeepsOld w) w (Event.Deliver number) called
-  delivered_old number called = record {
-    quiet = λ backups may n within. refl;
-    steps = λ place master message is found to lives. worked_old master (seen_in message.body) (master_step (master_at w master) message);
-    turns = λ master. worked_old master 0 (master_turn (master_at w master));
-    hears = λ message. sent_old w.wire (coordinator_step w.coordinator message).sends;
-    duties = sent_old w.wire (coordinator_turn w.coordinator);
-    answers = λ backup sender body backups may. sent_old w.wire (backup_step backup sender body (log_bytes_of w) called).sends;
-    again = λ client message found. sent_old w.wire (message ∷ []);
-    adds = λ tablet range master is n within. refl;
-    comes = λ client is new n within. refl;
-    forgets = λ other is. absurd (cc is);
-    moves = λ tablet to n within. refl;
-    parts = λ tablet at new n within. refl;
-    splits = λ tablet at new other master term n within. refl;
-    crashes = λ master is n within. refl;
-    notices = λ master n within. refl;
-  }
-
   stepped_old : (number : ℕ) (called : Called) → KeepsOld w (world_stepped w (step w (Event.Deliver number) called))
-  stepped_old number called = go (refusal w (Event.Deliver number))
-    where
-      go : (refused : Option StepError) → KeepsOld w (world_stepped w (stepped_by w (Event.Deliver number) called refused))
-      go None = event_covered (delivered_old number called)
-      go (Some error) = λ n within. refl
-
-  -- a client that takes a message changes no wire
-  pub accepted_wire : (number : ℕ) (session : Session) → (world_visited w (accept w number session)).wire ≡ w.wire
-  accepted_wire number session = accept_covered (λ now. now.wire ≡ w.wire) w session refl number (λ body. refl)
+  stepped_old number called =
+      grind (arith, sent_old)
 
   pub arrived_old : (number : ℕ) (arrival : Arrival) → KeepsOld w (arrived w number arrival)
-  arrived_old number (Delivers called) n within = stepped_old number called n within
-  arrived_old number (Accepts session) n within = ap (λ (wire : Traffic). get wire.messages n) (accepted_wire number session)
-  arrived_old number Loses n within = refl
+  arrived_old number arrival n within = grind (arith, stepped_old, accept_covered)

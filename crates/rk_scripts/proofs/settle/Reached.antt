@@ -1,12 +1,9 @@
 -- What holds of each cluster to which a run of a new one has led: its masters are caught up, no row is owned by a master that was noticed
 -- dead, and its sessions stand in order.
-use Rattle.std.proofs.Common.{arith}
-use Rattle.std.proofs.Common.{◌<◌, ℕ, List, [], ◌∷◌, sym, subst, Err, Ok, Option, None, Some, Result}
-use Rattle.rk_scripts.proofs.Words.{in_order_insert, IsInOrder, Op, LANES, Called, Visited, accept, ask, Session, busy, new_session}
-use Rattle.rk_scripts.proofs.Words.{session_calling, Cluster, Occurrence, called_by_client}
-use Rattle.rk_scripts.proofs.Words.{cluster_after, cluster_run, cluster_stepped, cluster_visited, joined_by, lane_at, new_cluster}
-use Rattle.rk_scripts.proofs.Words.{session_at, refusal, world_stepped, Stepped, step, stepped_by, World, StepError, Event, AllCaughtUp}
-use Rattle.rk_scripts.proofs.Words.{NoDeadOwner}
+use Rattle.std.proofs.Common.{arith, ◌<◌, ℕ, List, [], ◌∷◌, sym, subst, Err, Ok, Option, None, Some, Result}
+use Rattle.rk_scripts.proofs.Words.{in_order_insert, IsInOrder, LANES, Called, Visited, accept, ask, busy, new_session, session_calling}
+use Rattle.rk_scripts.proofs.Words.{Cluster, Occurrence, cluster_after, cluster_run, cluster_visited, lane_at, new_cluster, session_at}
+use Rattle.rk_scripts.proofs.Words.{refusal, world_stepped, step, stepped_by, World, StepError, Event, AllCaughtUp, NoDeadOwner}
 use Rattle.rk_inv_lanes.proofs.applied.Lanes.{caught_accepted, caught_asked, caught_event, caught_new}
 use Rattle.rk_runs.proofs.duties.Rows.{IsFree}
 use Rattle.rk_runs.proofs.duties.Runs.{IsKeptByLanes, free_kept, lanes_in_run}
@@ -22,36 +19,17 @@ caught_stepped w event called caught = go (refusal w event)
     go (Some error) = caught
 
 caught_kept : IsKeptByLanes AllCaughtUp
-caught_kept = record {
-  starts = caught_new;
-  steps = λ masters lane w good event called caught. caught_stepped w event called caught;
-  asks = λ w session caught. caught_asked w session caught;
-  accepts = λ w number session caught. caught_accepted w number session caught;
-}
+caught_kept = search (caught_new, caught_stepped, caught_asked, caught_accepted)
 
 -- ---- sessions stand in order
-
-stepped_ordered : (cluster : Cluster) (lane : ℕ) (answer : Result Stepped StepError) → IsInOrder cluster.sessions → IsInOrder (cluster_stepped cluster lane answer).sessions
-stepped_ordered cluster lane (Ok stepped) order = order
-stepped_ordered cluster lane (Err error) order = order
 
 visited_ordered : (cluster : Cluster) (lane client : ℕ) (answer : Result Visited StepError) → IsInOrder cluster.sessions → IsInOrder (cluster_visited cluster lane client answer).sessions
 visited_ordered cluster lane client (Ok visited) order = in_order_insert cluster.sessions client visited.session order
 visited_ordered cluster lane client (Err error) order = order
 
-joined_ordered : (cluster : Cluster) (client : ℕ) (found : Option Session) → IsInOrder cluster.sessions → IsInOrder (joined_by cluster client found).sessions
-joined_ordered cluster client None order = in_order_insert cluster.sessions client (new_session client) order
-joined_ordered cluster client (Some session) order = order
-
-called_ordered : (cluster : Cluster) (client table : ℕ) (key : List ℕ) (op : Op) (found : Option Session) → IsInOrder cluster.sessions
-    → IsInOrder (called_by_client cluster client table key op found).sessions
-called_ordered cluster client table key op None order = order
-called_ordered cluster client table key op (Some session) order =
-    in_order_insert cluster.sessions client (session_calling session table key op (busy session)) order
-
 ordered_after : (cluster : Cluster) (occurrence : Occurrence) → IsInOrder cluster.sessions → IsInOrder (cluster_after cluster occurrence).sessions
 ordered_after cluster occurrence order =
-    grind (arith, stepped_ordered, step, lane_at, joined_ordered, called_ordered, visited_ordered, ask, session_at, accept)
+    grind (arith, step, lane_at, visited_ordered, ask, session_at, accept, in_order_insert, new_session, session_calling, busy)
 
 ordered_run : (cluster : Cluster) (list : List Occurrence) → IsInOrder cluster.sessions → IsInOrder (cluster_run cluster list).sessions
 ordered_run cluster [] order = order

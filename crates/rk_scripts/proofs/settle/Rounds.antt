@@ -1,6 +1,6 @@
 -- The rounds of `settle`: each one leaves all wires empty, and each that begins so leaves fewer messages to be sent, or the cluster at rest.
-use Rattle.std.proofs.Common.{◌≡◌, ◌<◌, ◌≤◌, ◌+◌, ℕ, zero, suc, Bool, true, false, cond, List, [], ◌∷◌, ◌++◌, length, refl, sym}
-use Rattle.std.proofs.Common.{ap, subst, ◌∙◌, append-nil, append_assoc, inl, inr, ⊎_elim, arith, ◌⊎◌, flat_map}
+use Rattle.std.proofs.Common.{◌≡◌, ◌<◌, ◌≤◌, ◌+◌, ℕ, zero, suc, Bool, true, false, List, [], ◌∷◌, ◌++◌, refl, sym, subst, ◌∙◌, append-nil}
+use Rattle.std.proofs.Common.{append_assoc, inl, inr, ⊎_elim, arith, ◌⊎◌, flat_map}
 use Rattle.rk_scripts.proofs.Words.{range_with_len, cases_eq, cases_lt, none-some, LANES, Cluster, lane_at, is_quiet_lane}
 use Rattle.rk_scripts.proofs.Words.{clients_in, Course, is_at_limit, with_tasks, is_at_rest, lane_tasks, round_of}
 use Rattle.rk_scripts.proofs.settle.Emptying.{IsSilent}
@@ -54,9 +54,7 @@ module _ (s : Setting) where
   -- the lanes are passed, one after the other
   lanes_pass : (most count from : ℕ) → from + count ≡ LANES → (rest : List Task) (before : Cluster) (course : Course) → Comes s before course
       → IsRound most from (flat_map lane_tasks (range_with_len from count) ++ rest) course → Goes s before course (IsRound most LANES rest)
-  lanes_pass most zero from all rest before course comes round =
-      goes_here s before course (IsRound most LANES rest) comes
-      (subst (λ (n : ℕ). IsRound most n rest course) (omega (arith, all)) round)
+  lanes_pass most zero from all rest before course comes round = grind (arith, goes_here)
   lanes_pass most (suc count) from all rest before course comes round =
       let behind : List Task = flat_map lane_tasks (range_with_len (from + 1) count) ++ rest in
       let inside : from < LANES = omega (arith, all) in
@@ -94,10 +92,7 @@ module _ (s : Setting) where
       (record {
         cluster_is = refl;
         tasks_are =
-            ap (λ (b : Bool). (cond b [] (round_of (flat_map lane_tasks (range_with_len 0 (length course.cluster.lanes))) ++ settles ∷ [])) ++ []) busy
-            ∙ ap (λ (count : ℕ). (round_of (flat_map lane_tasks (range_with_len 0 count)) ++ settles ∷ []) ++ []) (eight s course comes.sane)
-            ∙ append-nil (round_of lanes ++ settles ∷ [])
-            ∙ ap (λ (list : List Task). begins ∷ list) (append_assoc lanes (ends ∷ []) (settles ∷ []));
+            grind (arith, round_of, lane_tasks, settles, eight, append-nil, begins, append_assoc, ends, course.cluster.lanes, comes.sane);
       })
       (λ next at. at))
       (λ one comes_one at.

@@ -1,6 +1,6 @@
 -- Maps by number that have the same numbers, whatever stands under these.
-use Rattle.std.proofs.Common.{◌≡◌, ◌&&◌, ℕ, Bool, true, List, [], ◌∷◌, T, length, Option, None, Some, refl, sym, ap, subst, ◌∙◌, ⊎_elim}
-use Rattle.std.proofs.Common.{is_some, is_lt, nat_cmp, Equal, Greater, Less}
+use Rattle.std.proofs.Common.{arith, ◌≡◌, ◌&&◌, ℕ, Bool, true, List, [], ◌∷◌, T, length, Option, None, Some, refl, sym, ap, subst, ◌∙◌}
+use Rattle.std.proofs.Common.{⊎_elim, is_some, is_lt, nat_cmp}
 use Rattle.rk_scripts.proofs.Words.{list_any, eq_by_cmp, below_all, cases_eq, length-map, IsInOrder, NumberMap, get, insert, numbers}
 use Rattle.rk_scripts.proofs.Words.{get_other, get_same, in_order_insert}
 use Rattle.std.specs.FinMap.Entries.{by_order, is_some-find, is_sorted}
@@ -25,12 +25,7 @@ are_rising (first ∷ rest) = is_below first rest && are_rising rest
 module _ {X : Type 0} where
   numbers_insert : (things : NumberMap X) (number : ℕ) (thing : X) → numbers (insert things number thing) ≡ with_number number (numbers things)
   numbers_insert [] number thing = refl
-  numbers_insert (first ∷ rest) number thing =
-      elim (nat_cmp number first.0) as (λ o. numbers (by_order o ((number, thing) ∷ first ∷ rest) ((first.0, thing) ∷ rest) (first ∷ insert rest number thing)) ≡ by_order o (number ∷ first.0 ∷ numbers rest) (first.0 ∷ numbers rest) (first.0 ∷ with_number number (numbers rest))) [
-        | Less ↦ refl
-        | Equal ↦ refl
-        | Greater ↦ ap (λ (later : List ℕ). first.0 ∷ later) (numbers_insert rest number thing)
-      ]
+  numbers_insert (first ∷ rest) number thing = grind (arith, nat_cmp, numbers, insert, first.0, (numbers_insert rest number thing))
 
   below_is : (number : ℕ) (things : NumberMap X) → below_all nat_cmp number things ≡ is_below number (numbers things)
   below_is number [] = refl

@@ -1,9 +1,9 @@
 -- Where a script, or a part of it, has been played each client with a session was added in each lane; so `settle` ends there.
-use Rattle.std.proofs.Common.{◌≡◌, ℕ, List, [], ◌∷◌, Option, None, Some, refl, arith}
-use Rattle.rk_scripts.proofs.Words.{get_or-map-range_with_len, length-map-range_with_len, numbers, Cluster, new_cluster}
-use Rattle.rk_scripts.proofs.Words.{new_world, Fate, Code, SettlingCommand, Numbered, Effect, Refuses, Stop, effect_within, Played, Setting}
-use Rattle.rk_scripts.proofs.Words.{cluster_by, continued, first_fates, how_many, other_fates, played_in, played_part, stopped_at, AreAdded}
-use Rattle.rk_scripts.proofs.Words.{IsHistorical, Adversary, Ends, EndsUnlessRefused, Rests, settling}
+use Rattle.std.proofs.Common.{◌≡◌, ℕ, List, [], ◌∷◌, Option, refl, arith}
+use Rattle.rk_scripts.proofs.Words.{get_or-map-range_with_len, length-map-range_with_len, numbers, Cluster, new_cluster, new_world, Fate}
+use Rattle.rk_scripts.proofs.Words.{Code, SettlingCommand, Numbered, Effect, Stop, effect_within, Played, Setting, cluster_by, continued}
+use Rattle.rk_scripts.proofs.Words.{first_fates, how_many, other_fates, played_in, played_part, AreAdded, IsHistorical, Adversary, Ends}
+use Rattle.rk_scripts.proofs.Words.{EndsUnlessRefused, Rests, settling}
 use Rattle.rk_scripts.specs.settle.Moves.{FinishesIn}
 use Rattle.rk_scripts.proofs.play.Playing.{scripts_historical}
 use Rattle.rk_scripts.proofs.play.Reaching.{IsReached}
@@ -23,14 +23,9 @@ new_added setting = own_added (cluster_by setting) (new_own (how_many setting.ma
 abbrev EndsAdded : Played → Type 0
 EndsAdded it = AreAdded it.cluster
 
-stopped_added : (line : ℕ) (stop : Stop) (cluster : Cluster) → AreAdded cluster → EndsAdded (stopped_at line stop cluster)
-stopped_added line (Refuses code) cluster added = added
-stopped_added line _ cluster added = added
-
 continued_added : (line : ℕ) (it : Effect) (stop : Option Stop) (rest : Cluster → Played) → it.stop ≡ stop → Leaves it
     → (HasOwnClients it.cluster → EndsAdded (rest it.cluster)) → EndsAdded (continued line it stop rest)
-continued_added line it (Some stop) rest is leaves later = stopped_added line stop it.cluster leaves.added
-continued_added line it None rest is leaves later = later (leaves.own is)
+continued_added line it stop rest is leaves later = grind arith
 
 in_added : (left : List Numbered) (fates : List (List Fate)) (cluster : Cluster) → HasOwnClients cluster → EndsAdded (played_in left fates cluster)
 in_added [] fates cluster own = own_added cluster own

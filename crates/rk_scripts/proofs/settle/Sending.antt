@@ -101,11 +101,7 @@ one_found test (x ∷ list) number segment found passes = go (x.number == number
 
 found_behind : (test : NumberedBytes → Bool) (list more : List NumberedBytes) → is_some (find test more) ≡ true → is_some (find test (list ++ more)) ≡ true
 found_behind test [] more some = some
-found_behind test (x ∷ list) more some = go (test x) (found_behind test list more some)
-  where
-    go : (b : Bool) → is_some (find test (list ++ more)) ≡ true → is_some (cond b (Some x) (find test (list ++ more))) ≡ true
-    go true later = refl
-    go false later = later
+found_behind test (x ∷ list) more some = grind (arith, (found_behind test list more some))
 
 -- one that is there is found
 there_found : (sides : List (List ℕ)) (first number : ℕ) → first ≤ number → number < first + length sides → is_some (segment_of number (numbered first sides)) ≡ true

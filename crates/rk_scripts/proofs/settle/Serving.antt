@@ -1,6 +1,6 @@
 -- `serve` ends: a call is tried twice at most, and while it is staged each log exchange sends something.
-use Rattle.std.proofs.Common.{◌≡◌, ◌<◌, ◌+◌, ℕ, zero, suc, Bool, true, false, cond, not, List, [], ◌∷◌, ◌++◌, Option, None, Some, refl, sym}
-use Rattle.std.proofs.Common.{ap, subst, arith}
+use Rattle.std.proofs.Common.{◌≡◌, ◌<◌, ◌+◌, ℕ, zero, suc, Bool, true, false, cond, List, [], ◌∷◌, ◌++◌, Option, None, Some, refl, sym, ap}
+use Rattle.std.proofs.Common.{subst, arith}
 use Rattle.rk_scripts.proofs.Words.{mod-lt, false≢true, hash_of, Call, LANES, known_owner, looks_up, Session, call_lane, Cluster, lane_at}
 use Rattle.rk_scripts.proofs.Words.{session_at, is_staged, World, has_crashed, lives, master_at, log_round, Course, ask_exchange}
 use Rattle.rk_scripts.proofs.Words.{hear_tasks, is_staged_by, request_by, serve, serve_by, try_tasks, was_moved, serve_are, AlwaysEnds}
@@ -15,17 +15,12 @@ use Rattle.rk_scripts.proofs.settle.Setting.{IsSane, Setting}
 use Rattle.rk_scripts.proofs.settle.Staging.{call_staged, good_at, master_sends}
 use Rattle.rk_scripts.proofs.settle.Tasks.{Task}
 
--- what does not live has crashed
-not_true : (b : Bool) → not b ≡ true → b ≡ false
-not_true false is = refl
-not_true true is = absurd (false≢true is)
-
 module _ (s : Setting) (lane : ℕ) (inside : lane < LANES) (client : ℕ) where
   -- a master at which a call is staged sends on its turn
   asked_sends : (course : Course) → IsSane s course → (asked : ℕ) (out : Option Call) → is_staged_by (lane_at course.cluster lane) client asked out ≡ true
       → Sends (lane_at course.cluster lane) (Node.Master asked)
   asked_sends course sane asked out never =
-      grind (arith, false≢true, lane_at, and_parts, lives, is_staged, master_at, has_crashed, not_true, master_sends, call_staged, good_at)
+      grind (arith, false≢true, lane_at, and_parts, lives, is_staged, master_at, has_crashed, master_sends, call_staged, good_at)
 
   module _ (rest : List Task) where
     -- log exchanges end

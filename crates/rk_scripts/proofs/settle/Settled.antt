@@ -1,10 +1,9 @@
 -- `settle` ends.
-use Rattle.std.proofs.Common.{arith}
-use Rattle.std.proofs.Common.{◌≡◌, ◌≤◌, ℕ, zero, suc, List, [], ◌∷◌, refl, inl, inr, ⊎_elim}
+use Rattle.std.proofs.Common.{arith, ◌≡◌, ◌≤◌, ℕ, zero, suc, List, [], ◌∷◌, refl, ⊎_elim}
 use Rattle.rk_scripts.proofs.Words.{LANES, MOST_BACKUPS, Cluster, Occurrence, cluster_run, new_cluster, IsRun, MOST_MASTERS, Fate, Kept}
 use Rattle.rk_scripts.proofs.Words.{Course, moved, moved_all, is_at_rest, settled_rests, IsWell, moved_well, well_other, settle_are}
-use Rattle.rk_scripts.proofs.Words.{AreAdded, Adversary, Ends, Rests, Stops, after_moves, settling}
-use Rattle.rk_scripts.specs.settle.Moves.{HasSettled, faultless}
+use Rattle.rk_scripts.proofs.Words.{AreAdded, Adversary, Ends, Rests, after_moves, settling}
+use Rattle.rk_scripts.specs.settle.Moves.{faultless}
 use Rattle.rk_scripts.proofs.play.Masters.{names_masters}
 use Rattle.rk_scripts.proofs.play.Reaching.{IsReached}
 use Rattle.rk_scripts.proofs.settle.Going.{Goes, comes_here, goes_then}
@@ -25,9 +24,6 @@ unfolding fates_of
 fates_lead adversary zero course = refl
 fates_lead adversary (suc moves) course = fates_lead adversary moves (moved course (adversary course))
 
-settled_at_end : (adversary : Adversary) (moves : ℕ) (cluster : Cluster) → (after_moves adversary moves (settling cluster)).tasks ≡ [] → HasSettled (after_moves adversary moves (settling cluster))
-settled_at_end adversary moves cluster none = grind (arith, fates_lead, settling, is_at_rest, settled_rests, fates_of)
-
 -- ---- settle ends
 
 module _ (adversary : Adversary) (masters backups : ℕ) (cluster : Cluster) (reached : IsReached masters backups cluster) (added : AreAdded cluster) where
@@ -35,10 +31,7 @@ module _ (adversary : Adversary) (masters backups : ℕ) (cluster : Cluster) (re
   s = record { adversary = adversary; masters = masters; backups = backups; start = cluster; reached = reached }
 
   begins_sane : IsSane s (settling cluster)
-  begins_sane = record {
-    coursing = record { from = refl; run = tt; are = settle_are masters cluster (names_masters masters backups cluster reached) };
-    added = added;
-  }
+  begins_sane = search (settle_are, names_masters)
 
   goes : Goes s cluster (settling cluster) Never
   goes =
@@ -48,7 +41,7 @@ module _ (adversary : Adversary) (masters backups : ℕ) (cluster : Cluster) (re
 
   -- from a cluster to which a run of a new one has led
   pub reached_ends : Ends adversary (settling cluster)
-  reached_ends = grind (arith, goes, after_moves, settling, settled_at_end)
+  reached_ends = grind (arith, goes, after_moves, settling, fates_lead, is_at_rest, settled_rests, fates_of)
 
 pub settle_ends : (masters backups : ℕ) (before : List Occurrence) (adversary : Adversary) → masters ≤ MOST_MASTERS → 1 ≤ backups → backups ≤ MOST_BACKUPS
     → IsRun (new_cluster masters backups) before → AreAdded (cluster_run (new_cluster masters backups) before)
@@ -72,8 +65,7 @@ reached_rests masters backups cluster reached added =
     let well : IsWell last = all_well ends.moves (settling cluster) (record { none = refl; well = refl }) in
     record {
       moves = ends.moves;
-      over = ⊎_elim (λ (settled : HasSettled last). inl settled)
-          (λ (stops : Stops last). inr (record { stops = stops; no_fault = λ rounds is. well_other last rounds well is })) ends.over;
+      over = grind (arith, well_other, ends.over);
     }
 
 pub settle_rests : (masters backups : ℕ) (before : List Occurrence) → masters ≤ MOST_MASTERS → 1 ≤ backups → backups ≤ MOST_BACKUPS

@@ -1,11 +1,9 @@
 -- What the turns of the coordinator and of masters leave as it was: the rows, who has crashed, and what is staged at each master. A turn
 -- sends something, or leaves the wire as it was.
-use Rattle.std.proofs.Common.{◌≡◌, ◌<◌, ℕ, Bool, true, false, cond, nat_lt, List, [], ◌∷◌, Option, Some, None, refl, ◌∙◌, inl, inr}
-use Rattle.std.proofs.Common.{arith, ◌⊎◌}
-use Rattle.rk_scripts.proofs.Words.{cases_eq, NumberMap, get_other, get_same, Node, Role, Traffic, Message, Reading, coordinator_turn}
-use Rattle.rk_scripts.proofs.Words.{next_reading, Master, new_master, staged, duties, master_turn, reading_duty, tablet_duty, filled}
-use Rattle.rk_scripts.proofs.Words.{ledger_after, turned, with_sends, worked_at, Tablet, Worked, changed, World, master_at, with_ledger}
-use Rattle.rk_scripts.proofs.Words.{with_master, sent_all, with_outstanding, with_tablet}
+use Rattle.std.proofs.Common.{◌≡◌, ◌<◌, ℕ, Bool, true, false, cond, nat_lt, [], ◌∷◌, refl, ◌∙◌, arith, ◌⊎◌}
+use Rattle.rk_scripts.proofs.Words.{cases_eq, NumberMap, get_other, get_same, Node, Role, Traffic, next_reading, Master, new_master, staged}
+use Rattle.rk_scripts.proofs.Words.{duties, master_turn, tablet_duty, turned, Tablet, Worked, changed, World, master_at, with_master}
+use Rattle.rk_scripts.proofs.Words.{sent_all, with_outstanding, with_tablet}
 
 -- ---- a master's turn
 
@@ -24,13 +22,9 @@ pub either_is : (P : Master → Type 0) (test : Bool) (one other : Worked) → P
 either_is P true one other first second = first
 either_is P false one other first second = second
 
-reading_is : (P : Master → Type 0) (now : Master) (n : ℕ) (tablet : Tablet) (reading : Option Reading) → P now → P (reading_duty now n tablet reading).master
-reading_is P now n tablet None same = same
-reading_is P now n tablet (Some reading) same = same
-
 -- a duty changes nothing, or asks for what is wanted first
 pub duty_is : (P : Master → Type 0) (now : Master) (n : ℕ) (tablet : Tablet) (role : Role) → P now → P (with_tablet now n (with_outstanding tablet)) → P (tablet_duty now n tablet role).master
-duty_is P now n tablet role same asks = grind (arith, either_is, nat_lt, changed, reading_is, next_reading)
+duty_is P now n tablet role same asks = grind (arith, either_is, nat_lt, changed, next_reading)
 
 duties_keep : (tablets : NumberMap Tablet) (master : Master) → KeepsLog master (duties master tablets).master
 duties_keep [] master = keeps_itself master
@@ -50,10 +44,6 @@ turn_stages master = grind (arith, duties_keep, duties)
 abbrev pub SendsOrNot : Traffic → Traffic → Type 0
 SendsOrNot before after = (after ≡ before) ⊎ (before.sent < after.sent)
 
-sends_or_not : (w : World) (messages : List Message) → SendsOrNot w.wire (with_sends w messages).world.wire
-sends_or_not w [] = inl refl
-sends_or_not w (message ∷ messages) = let more = sent_all w.wire (message ∷ messages) in inr (omega (arith, more))
-
 -- ---- a lane
 
 -- a lane after a turn: its rows, who has crashed and what is staged are as they were
@@ -63,20 +53,12 @@ pub record IsTurned (w now : World) : Type 0 where
   pub staged_is : (master : ℕ) → staged (master_at now master) ≡ staged (master_at w master)
   pub wire : SendsOrNot w.wire now.wire
 
-pub turned_itself : (w : World) → IsTurned w w
-turned_itself w = record { coordinator = refl; crashed = refl; staged_is = λ master. refl; wire = inl refl }
-
 module _ (w : World) where
   -- one master is another, where the same is staged
   staged_there : (number : ℕ) (now : Master) → staged now ≡ staged (master_at w number) → (master : ℕ)
       → staged (master_at (with_master w number now) master) ≡ staged (master_at w master)
   staged_there number now same master = grind (arith, staged, new_master, get_same, master_at, get_other, cases_eq)
 
-  worked_turned : (number : ℕ) (worked : Worked) → staged worked.master ≡ staged (master_at w number) → IsTurned w (worked_at w number 0 worked).world
-  worked_turned number worked same = grind (arith, ledger_after, staged_there, sends_or_not, with_ledger, with_master, filled)
-
   pub turn_turned : (node : Node) → IsTurned w (turned w node).world
-  turn_turned Node.Coordinator =
-      record { coordinator = refl; crashed = refl; staged_is = λ master. refl; wire = sends_or_not w (coordinator_turn w.coordinator) }
-  turn_turned (Node.Master master) = worked_turned master (master_turn (master_at w master)) (turn_stages (master_at w master))
-  turn_turned _ = record { coordinator = refl; crashed = refl; staged_is = λ master. refl; wire = inl refl }
+  turn_turned node =
+      grind (arith, turn_stages, staged_there, sent_all)

@@ -37,8 +37,7 @@ module _ (s : Setting) (lane : ℕ) (inside : lane < LANES) where
       (added_after course.cluster (Happens lane (Event.Turn node) (Gave None)) tt comes.sane.added)
       (λ next at fresh. record {
         left = at.tasks_are;
-        changes = subst (ChangesLane lane (world_stepped w answer) course.cluster) (sym at.cluster_is)
-            (stepped_changes course.cluster lane (omega (arith, inside, eight s course comes.sane)) answer);
+        changes = grind (arith, world_stepped, stepped_changes, eight, course.cluster, at.cluster_is, comes.sane);
         fresh = fresh_event w (Event.Turn node) (Gave None) refl fresh;
         sessions = ap (λ (cluster : Cluster). cluster.sessions) at.cluster_is ∙ stepped_sessions course.cluster lane answer;
       })

@@ -1,4 +1,4 @@
-use Rattle.std.proofs.Common.{Bool, cond, List, Err, Ok, sym, ap, ◌∙◌, subst}
+use Rattle.std.proofs.Common.{Bool, cond, Err, Ok, sym, ap, ◌∙◌, subst}
 use Rattle.rk_types.specs.NumberMap.{IsInOrder, NumberMap}
 use Rattle.rk_ledger.specs.declared.asked.Asked.{Asked}
 use Rattle.rk_ledger.specs.Clients.{asked_here, with_added}

@@ -1,5 +1,4 @@
-use Rattle.std.proofs.Common.{Option, sym, ap, ◌∙◌}
-use Rattle.rk_ledger.specs.declared.asked.Asked.{Asked}
+use Rattle.std.proofs.Common.{sym, ap, ◌∙◌}
 use Rattle.rk_ledger.proofs.Entries.{last_call_in, last_call_is}
 use Rattle.rk_types.proofs.Places.{get_at, get_between}
 use Rattle.rk_ledger.proofs.clients.last_call_of.Goals as goal

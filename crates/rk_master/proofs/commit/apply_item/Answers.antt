@@ -1,5 +1,4 @@
-use Rattle.rk_master.proofs.Words.{◌≡◌, ℕ, ◌+◌, ◌∷◌, List, Option, Some, slice_get, sym, ap, ◌∙◌, subst, arith, Entry, told_by, Master}
-use Rattle.rk_master.proofs.Words.{Held, AreStagedFrom, master_of}
+use Rattle.rk_master.proofs.Words.{◌≡◌, ℕ, slice_get, sym, ap, ◌∙◌, subst, arith, Entry, told_by, Master, AreStagedFrom, master_of}
 use Rattle.rk_world.specs.Commits.{with_applied}
 use Rattle.rk_master.specs.Parts.{with_items_of}
 use Rattle.rk_master.proofs.Applying.{entry_item_is}

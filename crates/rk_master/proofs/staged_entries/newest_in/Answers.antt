@@ -1,4 +1,4 @@
-use Rattle.rk_master.proofs.Words.{◌≡◌, List, [], ◌++◌, refl, ap, ◌∙◌, Entry, newest, items_of}
+use Rattle.rk_master.proofs.Words.{List, [], refl, ap, ◌∙◌, Entry, newest, items_of}
 use Rattle.rk_master.proofs.staged_entries.newest_in.Goals as goal
 
 pub returns : goal.returns

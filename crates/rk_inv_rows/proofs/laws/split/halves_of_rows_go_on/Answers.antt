@@ -1,5 +1,4 @@
-use Rattle.rk_inv_rows.proofs.split.HalfOfRow.{half_rest, half_truth}
-use Rattle.rk_inv_rows.proofs.split.HalfOfRow.{rest_half, truth_half}
+use Rattle.rk_inv_rows.proofs.split.HalfOfRow.{half_rest, half_truth, rest_half, truth_half}
 use Rattle.rk_inv_rows.proofs.laws.split.halves_of_rows_go_on.Goals as goal
 
 pub returns-clause-truth : goal.returns-clause-truth

@@ -1,4 +1,4 @@
-use Rattle.std.proofs.Common.{ℕ, List, Option, is_some, ap, ◌∙◌}
+use Rattle.std.proofs.Common.{List, is_some, ap, ◌∙◌}
 use Rattle.rk_types.specs.declared.history.Placed.{Placed}
 use Rattle.rk_world.specs.Journal.{has_record, is_of_mutation}
 use Rattle.rk_ledger.specs.declared.call_index.Noted.{Noted}

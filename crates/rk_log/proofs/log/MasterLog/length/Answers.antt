@@ -1,5 +1,4 @@
-use Rattle.std.proofs.Common.{◌≡◌, length, ap, arith}
-use Rattle.rk_log.specs.Log.{Log}
+use Rattle.std.proofs.Common.{length, arith}
 use Rattle.rk_log.specs.Parts.{parts_of}
 use Rattle.rk_log.proofs.Views.{entries_count}
 use Rattle.rk_log.proofs.log.MasterLog.length.Goals as goal

@@ -1,4 +1,4 @@
-use Rattle.std.proofs.Common.{◌≡◌, ◌-◌, ◌<◌, arith}
+use Rattle.std.proofs.Common.{◌-◌, arith}
 use Rattle.rk_log.specs.Parts.{parts_of}
 use Rattle.rk_log.proofs.Behind.{start_is}
 use Rattle.rk_log.proofs.Views.{entries_count}
