@@ -7,7 +7,7 @@ pub use Rattle.rk_conclude.specs.Reports.{Audits, audit_line, audit_status, hist
 pub use Rattle.rk_conclude.specs.Results.{by_client, is_owner, owner_at, with_session}
 pub use Rattle.rk_history.specs.Journals.{journals_of}
 pub use Rattle.rk_lane.specs.LaneState.{LaneState}
-pub use Rattle.rk_laws_gathered.specs.Sessions.{receipts_in}
+pub use Rattle.rk_laws_lanes.specs.gathered.Sessions.{receipts_in}
 pub use Rattle.rk_model.specs.Ordered.{IsRecorded}
 pub use Rattle.rk_outside.specs.Parts.{AppendsPart}
 pub use Rattle.rk_outside.specs.Segments.{Segments}

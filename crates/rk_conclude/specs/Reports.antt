@@ -9,7 +9,7 @@ use Rattle.rk_model.specs.Ordered.{IsRecorded}
 use Rattle.rk_world.specs.Cluster.{Cluster, journals_of}
 use Rattle.rk_lines.specs.Differences.{difference_line}
 use Rattle.rk_lines.specs.History.{history_lines}
-use Rattle.rk_laws_gathered.specs.Sessions.{receipts_in}
+use Rattle.rk_laws_lanes.specs.gathered.Sessions.{receipts_in}
 use Rattle.rk_workload.specs.Summary.{result_lines}
 use Rattle.rk_conclude.specs.Results.{summary_of}
 

@@ -9,8 +9,8 @@ use Rattle.rk_tablet_map.specs.declared.row.Row.{Row}
 use Rattle.rk_world.specs.Client.{Session}
 use Rattle.rk_world.specs.Cluster.{Cluster}
 use Rattle.rk_world.specs.World.{World}
-use Rattle.rk_laws_gathered.specs.Gathered.{asked_in}
-use Rattle.rk_laws_gathered.specs.Sessions.{receipts_in}
+use Rattle.rk_laws_lanes.specs.gathered.Gathered.{asked_in}
+use Rattle.rk_laws_lanes.specs.gathered.Sessions.{receipts_in}
 use Rattle.rk_workload.specs.Summary.{counted}
 use Rattle.rk_workload.specs.declared.summary.Summary.{Summary}
 use Rattle.rk_workload.specs.declared.calls.TheConstants.{TABLET}

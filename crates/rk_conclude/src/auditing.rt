@@ -2,7 +2,7 @@
 ghost use Rattle.std.specs.Prelude.{◌≡◌, ◌++◌, IfOk, OnOk, map};
 ghost use Rattle.std.specs.Option.{option_copied};
 ghost use Rattle.rk_history.specs.Journals.{journals_of};
-ghost use Rattle.rk_laws_gathered.specs.Sessions.{receipts_in};
+ghost use Rattle.rk_laws_lanes.specs.gathered.Sessions.{receipts_in};
 ghost use Rattle.rk_conclude.specs.Reports.{Audits};
 
 use rk_history::audit;

@@ -16,9 +16,9 @@ use Rattle.rk_world.specs.declared.event.Event.{Event}
 use Rattle.rk_laws_lanes.specs.GoodLane.{IsGoodLane}
 use Rattle.rk_laws_lanes.proofs.Events.{good_event}
 use Rattle.rk_laws_lanes.proofs.Ledgers.{same_counts}
-use Rattle.rk_laws_gathered.specs.Gathered.{AreCounted}
-use Rattle.rk_laws_gathered.specs.OpenCalls.{HasCountedCalls}
-use Rattle.rk_laws_gathered.proofs.Counting.{event_counted}
+use Rattle.rk_laws_lanes.specs.gathered.Gathered.{AreCounted}
+use Rattle.rk_laws_lanes.specs.gathered.OpenCalls.{HasCountedCalls}
+use Rattle.rk_laws_lanes.proofs.gathered.Counting.{event_counted}
 use Rattle.rk_laws_drives.specs.Ready.{AreReady, StaysReady}
 
 -- a lane becomes another good one that counted its calls, and was asked no other

@@ -5,14 +5,14 @@ use Rattle.std.specs.List.{All}
 use Rattle.rk_model.specs.Ordered.{IsRecorded}
 use Rattle.rk_world.specs.Cluster.{Cluster, HasOneHistory, IsQuietCluster, journals_of, lane_at}
 use Rattle.rk_world.specs.World.{new_world}
-use Rattle.rk_laws_gathered.specs.Answers.{AreOfDistinctCalls, HasJustTheAnswers}
-use Rattle.rk_laws_gathered.specs.Gathered.{AreAnswered, AreGathered}
-use Rattle.rk_laws_gathered.specs.Sessions.{receipts_in}
-use Rattle.rk_laws_gathered.specs.StoredHistory.{HistoryIsStored}
-use Rattle.rk_laws_gathered.proofs.Answered.{all_answered}
-use Rattle.rk_laws_gathered.proofs.History.{history, just_the_answers}
-use Rattle.rk_laws_gathered.proofs.Sessions.{distinct_calls}
-use Rattle.rk_laws_gathered.proofs.Stored.{stored}
+use Rattle.rk_laws_lanes.specs.gathered.Answers.{AreOfDistinctCalls, HasJustTheAnswers}
+use Rattle.rk_laws_lanes.specs.gathered.Gathered.{AreAnswered, AreGathered}
+use Rattle.rk_laws_lanes.specs.gathered.Sessions.{receipts_in}
+use Rattle.rk_laws_lanes.specs.gathered.StoredHistory.{HistoryIsStored}
+use Rattle.rk_laws_lanes.proofs.gathered.Answered.{all_answered}
+use Rattle.rk_laws_lanes.proofs.gathered.History.{history, just_the_answers}
+use Rattle.rk_laws_lanes.proofs.gathered.Sessions.{distinct_calls}
+use Rattle.rk_laws_lanes.proofs.gathered.Stored.{stored}
 use Rattle.rk_laws_drives.specs.Ready.{AreReady}
 
 module _ (masters : ℕ) (cluster : Cluster) (ready : AreReady masters cluster) where

@@ -3,7 +3,7 @@ use Rattle.std.specs.Prelude.{◌≡◌, ◌<◌, ℕ, length}
 use Rattle.rk_types.specs.NumberMap.{EachIn, IsInOrder}
 use Rattle.rk_world.specs.Cluster.{Cluster, lane_at}
 use Rattle.rk_laws_lanes.specs.GoodLane.{IsGoodLane}
-use Rattle.rk_laws_gathered.specs.Gathered.{AreCounted, IsEnded}
+use Rattle.rk_laws_lanes.specs.gathered.Gathered.{AreCounted, IsEnded}
 
 -- good lanes that counted their calls, and sessions that ended, which made as many calls as the lanes were asked, or more
 pub record AreReady (masters : ℕ) (cluster : Cluster) : Type 0 where

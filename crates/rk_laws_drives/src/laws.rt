@@ -7,9 +7,9 @@ ghost use Rattle.rk_cluster.specs.Effects.{RunsTo};
 ghost use Rattle.rk_cluster.specs.Replicas.{Fate};
 ghost use Rattle.rk_settle.specs.Commanded.{SettlingCommand};
 ghost use Rattle.rk_settle.specs.Course.{course_of, moved_all};
-ghost use Rattle.rk_laws_gathered.specs.Answers.{AreOfDistinctCalls, HasJustTheAnswers};
-ghost use Rattle.rk_laws_gathered.specs.Sessions.{receipts_in};
-ghost use Rattle.rk_laws_gathered.specs.StoredHistory.{HistoryIsStored};
+ghost use Rattle.rk_laws_lanes.specs.gathered.Answers.{AreOfDistinctCalls, HasJustTheAnswers};
+ghost use Rattle.rk_laws_lanes.specs.gathered.Sessions.{receipts_in};
+ghost use Rattle.rk_laws_lanes.specs.gathered.StoredHistory.{HistoryIsStored};
 ghost use Rattle.rk_laws_drives.specs.Ready.{AreReady, StaysReady};
 ghost use Rattle.rk_laws_drives.specs.Work.{are_work};
 

@@ -5,3 +5,4 @@ pub mod Events
 pub mod Examples
 pub mod Ledgers
 pub mod OfRuns
+pub mod gathered

@@ -16,8 +16,8 @@ use Rattle.rk_world.specs.declared.event.Taken.TheVariants as takes
 use Rattle.rk_laws_lanes.specs.Counts.{HasReceipts, IsCounted}
 use Rattle.rk_laws_lanes.proofs.Answers.{answer_asked, answer_clients, answer_counted, answer_receipts}
 use Rattle.rk_laws_lanes.proofs.Clients.{good_accepts}
-use Rattle.rk_laws_gathered.proofs.Counting.{accept_counted}
-use Rattle.rk_laws_gathered.proofs.Orderly.{accepting_orderly}
+use Rattle.rk_laws_lanes.proofs.gathered.Counting.{accept_counted}
+use Rattle.rk_laws_lanes.proofs.gathered.Orderly.{accepting_orderly}
 use Rattle.rk_shared_lanes.proofs.Making.{accepting_makes}
 use Rattle.rk_shared_lanes.proofs.Standing.{kept_with, sound_on, stands_on}
 

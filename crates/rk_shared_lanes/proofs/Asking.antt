@@ -12,8 +12,8 @@ use Rattle.rk_world.specs.Client.{turn_by}
 use Rattle.rk_lane.specs.Visits.{MayHaveTurned}
 use Rattle.rk_laws_lanes.proofs.Asks.{asked_once, turned_same}
 use Rattle.rk_laws_lanes.proofs.Clients.{good_asks}
-use Rattle.rk_laws_gathered.proofs.Counting.{ask_counted}
-use Rattle.rk_laws_gathered.proofs.Orderly.{asking_orderly, turn_orderly}
+use Rattle.rk_laws_lanes.proofs.gathered.Counting.{ask_counted}
+use Rattle.rk_laws_lanes.proofs.gathered.Orderly.{asking_orderly, turn_orderly}
 use Rattle.rk_shared_lanes.specs.Passes.{Suits}
 use Rattle.rk_shared_lanes.proofs.Making.{same_makes}
 use Rattle.rk_shared_lanes.proofs.Standing.{kept_with, sound_on, stands_on}

@@ -3,7 +3,7 @@ use Rattle.rk_shared_lanes.proofs.Words.{◌≡◌, ℕ, Bool, true, false, List
 use Rattle.rk_shared_lanes.proofs.Words.{next_call, with_next_call, IsLawfulCall, waiting, IsPass}
 use Rattle.std.proofs.Common.{OnOk, OnErr}
 use Rattle.rk_session.specs.declared.error.AskError.{AskError}
-use Rattle.rk_laws_gathered.proofs.Orderly.{next_orderly}
+use Rattle.rk_laws_lanes.proofs.gathered.Orderly.{next_orderly}
 use Rattle.rk_shared_lanes.proofs.Making.{next_makes}
 
 module _ (tells : Type 0) (masters : ℕ) (makes : Call → Type 0) (session : Session) (counted : Bool) (got made : ℕ × ℕ)

@@ -19,7 +19,7 @@ use Rattle.rk_cluster.proofs.Failing.{lanes_stepped}
 use Rattle.rk_laws_lanes.specs.Counts.{AddsNoClient, HasSameCounts}
 use Rattle.rk_laws_lanes.proofs.Events.{good_event}
 use Rattle.rk_laws_lanes.proofs.Ledgers.{same_clients, same_counts}
-use Rattle.rk_laws_gathered.proofs.Counting.{event_counted}
+use Rattle.rk_laws_lanes.proofs.gathered.Counting.{event_counted}
 use Rattle.rk_shared_lanes.proofs.Standing.{kept_with, sound_on, stands_on}
 
 -- a refusal is want of memory, or something else

@@ -10,8 +10,8 @@ pub use Rattle.rk_cluster.proofs.Failing.{lanes_visited}
 pub use Rattle.rk_cluster.specs.Faults.{Counts, LanesGoOn, RoseBy, lane_counts}
 pub use Rattle.rk_lane.specs.LaneState.{AreTold, IsSameLane, LaneState, Running, world_with}
 pub use Rattle.rk_lane.specs.Visits.{IsVisitOf}
-pub use Rattle.rk_laws_gathered.specs.Gathered.{IsOrderly}
-pub use Rattle.rk_laws_gathered.specs.OpenCalls.{HasCountedCalls}
+pub use Rattle.rk_laws_lanes.specs.gathered.Gathered.{IsOrderly}
+pub use Rattle.rk_laws_lanes.specs.gathered.OpenCalls.{HasCountedCalls}
 pub use Rattle.rk_laws_lanes.specs.Counts.{HasSameClients, accepted_count}
 pub use Rattle.rk_laws_lanes.specs.GoodLane.{IsGoodLane}
 pub use Rattle.rk_message.specs.declared.calls.Located.{Located}

@@ -9,7 +9,7 @@ use Rattle.rk_lane.specs.LaneState.{AreTold, LaneState, Running, world_with}
 use Rattle.rk_cluster.specs.Faults.{Counts, RoseBy, lane_counts}
 use Rattle.rk_laws_lanes.specs.Counts.{accepted_count}
 use Rattle.rk_laws_lanes.specs.GoodLane.{IsGoodLane}
-use Rattle.rk_laws_gathered.specs.OpenCalls.{HasCountedCalls}
+use Rattle.rk_laws_lanes.specs.gathered.OpenCalls.{HasCountedCalls}
 
 -- a lane where this runs stands for a good world: what its backups store is what their replicas tell
 pub record StandsFor {R : Type 0} (segments : R → Option Segments) (lane : LaneState R) (running : Running) : Type 0 where

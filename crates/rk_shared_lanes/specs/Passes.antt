@@ -6,7 +6,7 @@ use Rattle.rk_world.specs.Client.{Session}
 use Rattle.rk_world.specs.Premises.{MayAct}
 use Rattle.rk_world.specs.World.{World}
 use Rattle.rk_runs.specs.history.Agreement.{waiting}
-use Rattle.rk_laws_gathered.specs.Gathered.{IsOrderly}
+use Rattle.rk_laws_lanes.specs.gathered.Gathered.{IsOrderly}
 use Rattle.rk_shared_lanes.specs.Kept.{IsPart}
 
 -- what contracts see of a pass: its session, and whether the outstanding call was counted as asked

@@ -7,8 +7,8 @@ use Rattle.rk_world.specs.Ledger.{asked_by}
 use Rattle.rk_lane.specs.LaneState.{LaneState}
 use Rattle.rk_runs.specs.history.Agreement.{waiting}
 use Rattle.rk_laws_lanes.specs.Counts.{accepted_count}
-use Rattle.rk_laws_gathered.specs.Gathered.{IsOrderly}
-use Rattle.rk_laws_gathered.specs.OpenCalls.{HasCountedCalls}
+use Rattle.rk_laws_lanes.specs.gathered.Gathered.{IsOrderly}
+use Rattle.rk_laws_lanes.specs.gathered.OpenCalls.{HasCountedCalls}
 use Rattle.rk_shared_lanes.specs.Kept.{HasClients, IsSoundOrSpent}
 use Rattle.rk_shared_lanes.specs.Passes.{PassState}
 
