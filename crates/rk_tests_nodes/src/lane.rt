@@ -213,14 +213,20 @@ fn check_told<R: Abort>(rt: &R, pair: &mut Pair<'_>, session: &mut Session) -> R
 }
 
 // The backup stores the entry before the client is told.
+fn check_put<R: Abort>(rt: &R, pair: &mut Pair<'_>, session: &mut Session) -> Result<(), Fail>
+    requires { MayAct 2 session.old }
+{
+    check_staged(rt, pair, session)?;
+    check_delivered(rt, pair, 4, (5, 0))?;
+    check_delivered(rt, pair, 5, (6, 1))?;
+    check_told(rt, pair, session)
+}
+
 #[test]
 fn a_put_is_told_once_the_backup_holds_it(rt: HostRuntime) -> Result<(), Fail> {
     let mut pair = Pair::new(rt.alloc())?;
     let mut session = client(rt.alloc())?;
-    check_staged(&rt, &mut pair, &mut session)?;
-    check_delivered(&rt, &mut pair, 4, (5, 0))?;
-    check_delivered(&rt, &mut pair, 5, (6, 1))?;
-    check_told(&rt, &mut pair, &mut session)
+    check_put(&rt, &mut pair, &mut session)
 }
 
 // A pair in which the key was put.
@@ -301,15 +307,23 @@ fn client_that_saw(alloc: Global, stamp: u64) -> Result<Session, Fail>
     Ok(session)
 }
 
-// A client that has seen 2^48 takes no turn, and one that has seen one less asks where its key is.
+// What becomes of the turn of a client that has seen this stamp.
+fn turn_after(alloc: Global, stamp: u64) -> Result<Result<Seen, StepError>, Fail> {
+    let mut pair = Pair::new(alloc)?;
+    let mut session = client_that_saw(alloc, stamp)?;
+    Ok(pair.ask(&mut session))
+}
+
 #[test]
-fn a_session_wears_out(rt: HostRuntime) -> Result<(), Fail> {
-    let mut pair = Pair::new(rt.alloc())?;
-    let mut worn = client_that_saw(rt.alloc(), 281_474_976_710_656)?;
-    let refused = pair.ask(&mut worn);
+fn a_client_that_has_seen_2_to_the_48_takes_no_turn(rt: HostRuntime) -> Result<(), Fail> {
+    let refused = turn_after(rt.alloc(), 281_474_976_710_656)?;
     same(&rt, &refused, &Err(StepError::Worn(281_474_976_710_656)));
-    let mut session = client_that_saw(rt.alloc(), 281_474_976_710_655)?;
-    let sent = pair.ask(&mut session)?.sent;
+    Ok(())
+}
+
+#[test]
+fn a_client_that_has_seen_one_less_asks_where_its_key_is(rt: HostRuntime) -> Result<(), Fail> {
+    let sent = turn_after(rt.alloc(), 281_474_976_710_655)??.sent;
     same(&rt, &sent, &1);
     Ok(())
 }

@@ -126,23 +126,34 @@ fn master_with_staged<R: Abort + AllocGlobal>(rt: &R) -> Result<MasterLane, Fail
     Ok(master)
 }
 
+// Two entries are staged, and stay so as long as the backup reports no length of their log.
+fn check_unstored<R: Abort>(rt: &R, master: &mut MasterLane) -> Result<(), Fail> {
+    same(rt, &(master.staged_call(2, 1), master.staged()), &(true, 2));
+    same(rt, &told(rt, master, 77)?.sends.len(), &0);
+    Ok(())
+}
+
+// What clients are told of a put and of a refusal.
+fn check_both_told<R: Abort + AllocGlobal>(rt: &R, work: &Worked) -> Result<(), Fail> {
+    let sends = work.sends.as_slice();
+    check_told(rt, sends, 1, 1, Told::Written(1))?;
+    check_told(rt, sends.get(1..).unwrap_or(&[]), 2, 1, Told::Mismatch(1))
+}
+
 // A put takes 40 bytes of the log, and a refusal 36.
+fn check_stored<R: Abort + AllocGlobal>(rt: &R, master: &mut MasterLane) -> Result<(), Fail> {
+    let work = told(rt, master, 76)?;
+    same(rt, &(work.served.len(), master.staged()), &(2, 0));
+    let entries = master.log().length();
+    same(rt, &(master.table().len(), entries), &(1, 2));
+    check_both_told(rt, &work)
+}
+
 #[test]
 fn clients_are_told_once_the_backup_holds_their_entries(rt: HostRuntime) -> Result<(), Fail> {
     let mut master = master_with_staged(&rt)?;
-    same(
-        &rt,
-        &(master.staged_call(2, 1), master.staged()),
-        &(true, 2),
-    );
-    same(&rt, &told(&rt, &mut master, 77)?.sends.len(), &0);
-    let work = told(&rt, &mut master, 76)?;
-    same(&rt, &(work.served.len(), master.staged()), &(2, 0));
-    let entries = master.log().length();
-    same(&rt, &(master.table().len(), entries), &(1, 2));
-    let sends = work.sends.as_slice();
-    check_told(&rt, sends, 1, 1, Told::Written(1))?;
-    check_told(&rt, sends.get(1..).unwrap_or(&[]), 2, 1, Told::Mismatch(1))
+    check_unstored(&rt, &mut master)?;
+    check_stored(&rt, &mut master)
 }
 
 // A client asks, and is told so at once.
