@@ -8,7 +8,7 @@ use Rattle.std.proofs.lemmas.Nat.{mul-le}
 use Rattle.rk_types.specs.declared.hashing.TheConstants.{BUCKETS}
 use Rattle.rk_table.specs.Scans.{end}
 use Rattle.rk_table.proofs.InOrder.{rises_in_order}
-use Rattle.rk_bucket_table.proofs.Numbers.{bucket_from, bucket_less, hash_below}
+use Rattle.rk_bucket_table.proofs.Numbers.{bucket_from, hash_below}
 use Rattle.rk_bucket_table.proofs.Tables.{IsFromOn, all_weaker}
 use Rattle.rk_bucket_table.proofs.Scanning.{all_filter, any_none, any_some, back_from, back_items, back_order, batch_same, chains_from, front_below, front_items, items_from, next_end, next_more, two_items}
 
@@ -42,7 +42,7 @@ module _ (per_bucket : ℕ) (heads : List ℕ) (cells : Cells) (chains : List (L
       onward (back_from per_bucket heads cells chains table first first_within)
 
   ahead_less : AllByRecursion (λ item. item_bucket item < bucket) ahead
-  ahead_less = grind (arith, all_weaker, item_bucket, bucket_less, item_hash, front_below, first_within)
+  ahead_less = grind (arith, all_weaker, item_bucket, item_hash, front_below, first_within, mul-le)
 
   module _ (range : Range) (from : Token) (limit : ℕ) (its : from.bucket ≡ bucket) where
     live_two : live_in range (joined chains) ≡ live_in range ahead ++ live_in range onward

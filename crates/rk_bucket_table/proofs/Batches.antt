@@ -4,7 +4,7 @@ use Rattle.rk_bucket_table.proofs.Words.{◌∙◌, subst, ⊎_elim, arith, appe
 use Rattle.rk_bucket_table.proofs.Words.{ne_eqb, append-nil, filter-append, Held, Token, item_bucket, left, token_behind, Rises}
 use Rattle.rk_bucket_table.proofs.Words.{filter_kept, filter_left_out, counted_by}
 use Rattle.std.proofs.Common.{ltb}
-use Rattle.std.proofs.lemmas.Bool.{cases_eq, le-ltb}
+use Rattle.std.proofs.lemmas.Bool.{le-ltb}
 use Rattle.rk_table.specs.Scans.{behind_bucket, of_bucket}
 use Rattle.rk_table.proofs.Ordered.{AllFrom, AllUpTo, ends_with_one, last_of_end, more_all, same_and_more, same_none}
 
@@ -87,25 +87,7 @@ one_of item = filter_kept (λ y. eqb (item_bucket y) (item_bucket item)) item []
 counts_more : (token : Token) (done : List Held) (item : Held) → Counts token done → token.bucket ≤ item_bucket item
     → Counts (counted_by token (item_bucket item)) (done ++ item ∷ [])
 counts_more token done item counted from =
-    grind (
-      arith,
-      item_bucket,
-      filter-append,
-      one_of,
-      length-append,
-      cond-true,
-      eqb,
-      eq-eqb,
-      cond-false,
-      ne_eqb,
-      none_up_to,
-      cases_eq,
-      up_to_more,
-      token.bucket,
-      token.skip,
-      counted.number,
-      counted.up_to,
-    )
+    grind (arith, filter-append, length-append, none_up_to, up_to_more)
 
 counts_all : (token : Token) (done items : List Held) → Counts token done → AllFrom item_bucket token.bucket items → Rises item_bucket items
     → Counts (counts token items) (done ++ items)

@@ -35,10 +35,6 @@ module _ (per_bucket : ℕ) (some : 0 < per_bucket) where
   chain_below hash below =
       omega (arith, mul-add-lt (bucket_of hash) per_bucket (chain_in_bucket hash) BUCKETS (omega arith) (in_bucket_below hash below))
 
-  -- the chains before those of a bucket have items of the buckets before it alone, and those from there on of no such bucket
-  pub bucket_less : (bucket hash : ℕ) → chain_of per_bucket hash < bucket * per_bucket → bucket_of hash < bucket
-  bucket_less bucket hash less = grind (arith, mul-le, cases_lt)
-
   pub bucket_from : (bucket hash : ℕ) → hash < 2 ^ 64 → bucket * per_bucket ≤ chain_of per_bucket hash → bucket ≤ bucket_of hash
   bucket_from bucket hash below from = grind (arith, row_fits, in_bucket_below, cases_lt)
 

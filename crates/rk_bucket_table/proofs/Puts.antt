@@ -49,12 +49,7 @@ module _ (per_bucket : ℕ) (heads : List ℕ) (cells : Cells) (inside : (chains
   -- the spot at which the search stopped
   its_state : IsAt per_bucket heads cells number part_of.ahead sought.so_far.front sought.so_far.back part_of.behind before at
   its_state = record {
-    table =
-        subst (IsTable per_bucket heads cells)
-        (part_of.whole
-        ∙ ap (λ (l : List Held). part_of.ahead ++ l ∷ part_of.behind)
-        (mine_parts per_bucket heads cells inside.0 inside.1 item.table item.key number its_number head read before at sought))
-        inside.1;
+    table = grind (arith, mine_parts, sought, part_of.whole, part_of.ahead, part_of.behind, inside.0, inside.1, item.table, item.key);
     size = part_of.size;
     within = within per_bucket heads cells inside.0 inside.1 item.table item.key number its_number head read before at sought;
     spot =

@@ -14,7 +14,7 @@ use Rattle.std.proofs.lemmas.List.{append_cancel_right, take-append-drop}
 use Rattle.std.proofs.lemmas.List.Concat.{flat_map-append}
 use Rattle.rk_table.specs.Scans.{batch_of, behind_bucket, end, of_bucket, token_of}
 use Rattle.rk_table.proofs.Ordered.{ends_with_one, last_of_end, rises_back}
-use Rattle.rk_table.proofs.Tokens.{batch_gives, left_in_two, passed_and_left, token_before_none}
+use Rattle.rk_table.proofs.Tokens.{left_in_two, passed_and_left, token_before_none}
 use Rattle.rk_bucket_table.proofs.Tables.{IsBelow, IsFromOn, ahead_placed, all_front, all_weaker, behind_placed, chains_linked, items_linked, mine_is, part, placed_ahead, placed_back, placed_from, short, table_parts}
 
 -- what filters leave
@@ -118,20 +118,7 @@ module _ (from : Token) (limit : ℕ) (front back : List Held) (lesser : AllByRe
   pub next_more : (token : Token) → 0 < length (rest_at from limit back)
       → (0 < length (batch_at from limit back) → token ≡ token_behind done) → token ≡ next_token from limit (front ++ back)
   next_more token some is =
-      grind (
-        arith,
-        left,
-        left_in_two,
-        length-append,
-        batch_at,
-        rest_at,
-        batch_gives,
-        behind_front,
-        passed,
-        done_there,
-        rest_same,
-        done_more,
-      )
+      grind (arith, length-append, behind_front, done_there, rest_same, done_more)
 
   pub next_end : rest_at from limit back ≡ [] → end ≡ next_token from limit (front ++ back)
   next_end none = sym (token_before_none (rest_at from limit (front ++ back)) (passed from (front ++ back) ++ batch_at from limit (front ++ back)) (rest_same ∙ none))

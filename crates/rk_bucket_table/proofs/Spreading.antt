@@ -50,17 +50,7 @@ later_behind : (per_bucket number : ℕ) → 0 < per_bucket → (item : Held) (i
     → AllByRecursion (IsEither per_bucket number) items → AllByRecursion (IsOf per_bucket (number + 1)) items
 later_behind per_bucket number some item [] its all either = tt
 later_behind per_bucket number some item (other ∷ items) its all either =
-    grind (
-      arith,
-      chain_of,
-      item_hash,
-      chain_rises,
-      all.0,
-      either.0,
-      all.1,
-      either.1,
-      (later_behind per_bucket number some item items its all.1 either.1),
-    )
+    grind (arith, chain_rises, (later_behind per_bucket number some item items its all.1 either.1))
 
 -- behind the cut all items are of the second one
 pub back_of_second : (per_bucket number : ℕ) → 0 < per_bucket → (items : List Held) → IsInScanOrder items

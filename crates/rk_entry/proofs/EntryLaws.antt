@@ -216,20 +216,7 @@ body_of held value is =
 -- the fields of a lawful entry that are spelled are read
 fields_again : (entry : Entry) (rest : List ℕ) → IsLawfulEntry entry → read_fields (kind_of entry) (body_length entry) (fields_bytes entry ++ rest) ≡ Ok (entry, rest)
 fields_again entry rest h =
-    grind (
-      arith,
-      refused_again,
-      body_count,
-      carried_again,
-      joined_again,
-      tombstone_again,
-      body_of,
-      ltb,
-      text_within,
-      ltb-true,
-      object_again,
-      ltb-false,
-    )
+    grind (arith, refused_again, body_count, carried_again, joined_again, tombstone_again, object_again)
 
 -- a list of so many members fits its count
 pub list_length : (first each most count n : ℕ) → 0 < each → n ≡ first + each * count → n ≤ most → is_list_length first each most n ≡ true

@@ -167,19 +167,7 @@ pub reached_next : (bytes rest : List ℕ) (entries : List Entry) (taken : ℕ) 
     → Reached bytes entries taken → rest ≡ drop taken bytes → IsFirst rest first → first ≡ Some (entry, count)
     → Reached bytes (entries ++ entry ∷ []) (taken + count) × ((0 < count) × (taken + count ≤ length bytes))
 reached_next bytes rest entries taken first entry count so_far rest_is is_first some =
-    grind (
-      arith,
-      read_is,
-      reached_step,
-      drop-drop,
-      length-append,
-      length-drop,
-      spelled_all_push,
-      all_push,
-      append_assoc,
-      entries_of-cons,
-      so_far.within,
-    )
+    grind (arith, reached_step, drop-drop, length-append, spelled_all_push, all_push, append_assoc, entries_of-cons)
 
 -- where no entry is first among the bytes that are left, all were reached
 pub reached_last : (bytes rest : List ℕ) (entries : List Entry) (taken : ℕ) (first : Option (Entry × ℕ))

@@ -17,14 +17,10 @@ use Rattle.rk_message.specs.declared.replication.Append.{Append}
 use Rattle.rk_world.specs.Backup.{append_step, append_taken, calls_replica, idle, read_step}
 use Rattle.rk_lane.specs.Backing.{IsWithinSegment}
 
--- what was sent was not lost
-sent_not_lost : (sends : List Message) → sending sends ≡ failing → ⊥
-sent_not_lost sends is = grind arith
-
 -- who answered was spared
 pub spared_by : {R : Type 0} (segments : R → Option Segments) (faults : R → ℕ) (old new : BackupLane R) (from : Node) (body : Body) (log : ℕ → ℕ → List ℕ) (sends : List Message)
     → IsBackedBy segments faults old new from body log (sending sends) → IsSpared faults old new
-spared_by segments faults old new from body log sends by = record { number = by.number; fine = by.fine (λ failed. sent_not_lost sends (by.lost failed)) }
+spared_by segments faults old new from body log sends by = grind (arith, by.number, by.fine, by.lost)
 
 -- ---- it is asked nothing
 
@@ -169,7 +165,7 @@ module _ {R : Type 0} (segments : R → Option Segments) (faults : R → ℕ) (o
   pub read_failed : IsCopied (number_of old) reader wanted bytes (segments (replica_of old)) (Err losses.Failed)
       → HasLossCause {T = Message} (faults (replica_of old)) (faults (replica_of new)) (Err losses.Failed)
       → IsBackedBy segments faults old new (nodes.Master reader) (bodies.Read wanted) log failing
-  read_failed copied cause = grind (arith, number_of, in_logs, read_told, replica_of, read_given, sent_not_lost)
+  read_failed copied cause = grind (arith, number_of, in_logs, read_told, replica_of, read_given)
 
 -- ---- why it sent nothing
 
@@ -210,9 +206,7 @@ module _ {R : Type 0} (segments : R → Option Segments) (faults : R → ℕ) (o
   backed_there backed by = record {
     now = now;
     backups = refl;
-    by =
-        subst (λ (m : Message). IsBackedBy segments faults before now m.from m.body log backed) same
-        (subst (λ (b : BackupLane R). IsBackedBy segments faults b now here.from here.body log backed) is by);
+    by = grind (arith, here.from, here.body);
   }
 
   pub unanswered_there : (cause : Lost) → IsUnanswered segments faults it now here.from here.body log cause

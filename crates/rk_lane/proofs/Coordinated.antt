@@ -10,7 +10,7 @@ use Rattle.rk_world.specs.Refusals.{delivery_fault}
 use Rattle.rk_world.specs.declared.event.Event.TheVariants as events
 use Rattle.rk_inv_wellformed.proofs.lanes.Ledgers.{clients_rebuilt}
 use Rattle.rk_lane.proofs.AtEnd.{IsReached, sends_made}
-use Rattle.rk_lane.proofs.Journals.{IsGrownFrom, cut_to, grown_by_none, grown_by_rebuilt}
+use Rattle.rk_lane.proofs.Journals.{cut_to, grown_by_none, grown_by_rebuilt}
 use Rattle.rk_lane.proofs.Keeping.{Fits, formed_after, kept_still}
 use Rattle.rk_lane.proofs.Refusing.{refused_fresh}
 use Rattle.rk_lane.proofs.Sendable.{fit_to_send}
@@ -78,12 +78,6 @@ formed_sending old event w sends ready none is masters =
     (fits_same (world_of old []) (with_sends w sends).world (sym masters)
     (record { bytes = ready.kept.formed.room.bytes; masters = ready.kept.formed.room.masters })))
 
--- where there is no memory for what is sent, what a spent lane keeps is as it was
-pub faulty : (old parts new : Parts) (event : Event) (error : StepError) → IsGrownFrom old.ledger parts.ledger
-    → parts.masters ≡ old.masters → parts.number ≡ old.number → parts.backups ≡ old.backups
-    → IsCutBack parts (length old.ledger.journal) new error → IsFault old event new error
-faulty old parts new event error grown masters number backups cut = grind (arith, cut_to)
-
 -- ---- events that only send
 
 module _ (old : Parts) (event : Event) (sends : List Message) (ready : IsReady old event) (none : fault_of (world_of old []) event ≡ None)
@@ -100,7 +94,7 @@ module _ (old : Parts) (event : Event) (sends : List Message) (ready : IsReady o
       ∙ sends_made old new old.top sends seen finished (keeps_to_top (world_of old []) ready.kept.formed.formed) (omega arith) (λ limit low within. low) stored)
 
   pub faulty_by_sending : (new : Parts) (error : StepError) → IsCutBack old (length old.ledger.journal) new error → IsFault old event new error
-  faulty_by_sending new error cut = faulty old old new event error (grown_by_none old.ledger) refl refl refl cut
+  faulty_by_sending new error cut = grind (arith, grown_by_none, cut_to)
 
 -- ---- the coordinator takes a message
 
@@ -170,7 +164,4 @@ module _ (old : Parts) (number : ℕ) (message : Message) (ready : IsReady old (
       ∙ sends_made parts_told new old.top sends seen finished told_keeps (omega arith) told_reached stored)
 
   pub told_faulty : (new : Parts) (error : StepError) → IsCutBack parts_told (length old.ledger.journal) new error → IsFault old (events.Deliver number) new error
-  told_faulty new error cut =
-      faulty old parts_told new (events.Deliver number) error
-      (subst (IsGrownFrom old.ledger) (sym handled.ledger_is) (grown_by_rebuilt old.ledger (coordinator_step old.coordinator message).rebuilt))
-      refl refl refl cut
+  told_faulty new error cut = grind (arith, grown_by_rebuilt, coordinator_step, cut_to)

@@ -1,8 +1,8 @@
 -- What is kept of a lane after an event.
-use Rattle.rk_lane.proofs.Words.{◌≡◌, ◌≤◌, ◌<◌, [], length, None, IsSome, All, sym, ap, subst, ◌∙◌, IsDistinct, EachIn, Called, MayCome}
-use Rattle.rk_lane.proofs.Words.{refusal, HasRoom, HasRoomIn, MOST_BYTES, IsFormedWithRoom, happened, World, bytes_of_logs, Event, Stepped}
-use Rattle.rk_lane.proofs.Words.{Seen, MayStep, IsKept, masters_from, world_of, Parts}
-use Rattle.std.specs.Prelude.{vec_capacity, eqb}
+use Rattle.rk_lane.proofs.Words.{arith, ◌≡◌, ◌<◌, [], None, IsSome, All, sym, ap, subst, ◌∙◌, IsDistinct, EachIn, Called, MayCome, refusal}
+use Rattle.rk_lane.proofs.Words.{HasRoom, HasRoomIn, MOST_BYTES, IsFormedWithRoom, happened, World, bytes_of_logs, Event, Stepped, Seen}
+use Rattle.rk_lane.proofs.Words.{MayStep, IsKept, masters_from, world_of, Parts}
+use Rattle.std.specs.Prelude.{eqb}
 use Rattle.rk_world.specs.Formed.{IsWellFormed}
 use Rattle.rk_world.specs.Room.{MOST_NUMBER}
 use Rattle.rk_inv_wellformed.proofs.room.RoomEvents.{room_event}
@@ -54,8 +54,6 @@ module _ (old new : Parts) (event : Event) (called : Called) (seen : Seen) (kept
         formed = formed_then fits;
         counted = counted ∙ kept.counted ∙ ap (λ masters. bytes_of_logs (world_of (record old { masters = masters }) [])) (sym same);
         distinct = subst (λ crashed. IsDistinct eqb crashed.items) (sym stays) kept.distinct;
-        reserved =
-            subst (λ masters. length masters.items ≤ vec_capacity new.crashed) (sym same)
-            (subst (λ crashed. length old.masters.items ≤ vec_capacity crashed) (sym stays) kept.reserved);
+        reserved = grind (arith, new.crashed, old.masters.items, kept.reserved);
         requests = still_for_masters old new event called seen is kept.requests;
       }

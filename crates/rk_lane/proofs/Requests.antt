@@ -3,11 +3,10 @@ use Rattle.rk_lane.proofs.Words.{arith, ◌≡◌, ℕ, ◌+◌, Bool, List, [],
 use Rattle.rk_lane.proofs.Words.{⊤, get, each_insert, Call, Ended, Node, Segments, row_of, Phase, Row, Located, Body, Message, Rebuilt}
 use Rattle.rk_lane.proofs.Words.{Backed, Called, backup_step, stored_after, is_asked, ledger_asked, ledger_requested, ledger_taken}
 use Rattle.rk_lane.proofs.Words.{ClientTurn, Session, range_of, session_turn, turn_by, turn_of, coordinator_step, Ledger, asked_by}
-use Rattle.rk_lane.proofs.Words.{is_added, with_client, with_end, with_ends, with_all_served, with_rebuilt, with_served, master_step}
-use Rattle.rk_lane.proofs.Words.{master_turn, backed_at, delivered, delivered_to, happened, log_bytes_of, losing, quietly, seen_in}
-use Rattle.rk_lane.proofs.Words.{with_sends, worked_at, Stepped, World, has_crashed, is_backup, master_at, with_ledger, with_stored_by}
-use Rattle.rk_lane.proofs.Words.{owner_split, row_split, with_split, Master, Worked, Event, Seen, Taken, LastCall, Served, world_of}
-use Rattle.rk_lane.proofs.Words.{AreForMasters, Parts}
+use Rattle.rk_lane.proofs.Words.{is_added, with_end, with_ends, with_all_served, with_rebuilt, with_served, master_step, master_turn}
+use Rattle.rk_lane.proofs.Words.{backed_at, delivered, delivered_to, happened, log_bytes_of, losing, quietly, seen_in, with_sends}
+use Rattle.rk_lane.proofs.Words.{worked_at, Stepped, World, has_crashed, is_backup, master_at, with_stored_by, owner_split, row_split}
+use Rattle.rk_lane.proofs.Words.{with_split, Master, Worked, Event, Seen, Taken, LastCall, Served, world_of, AreForMasters, Parts}
 use Rattle.rk_types.specs.declared.node.Node.TheVariants as nodes
 use Rattle.rk_model.specs.Merged.{is_mutation}
 use Rattle.rk_message.specs.declared.message.Body.TheVariants as bodies
@@ -82,9 +81,6 @@ turn_keeps : (w : World) (node : Node) → Keeps w (turned w node).world
 turn_keeps w (nodes.Master master) = work_keeps w master 0 (master_turn (master_at w master))
 turn_keeps w _ = refl
 
-added_keeps : (w : World) (client : ℕ) (added : Bool) → Keeps w (if added then w else with_ledger w (with_client w.ledger client))
-added_keeps w client added = either_way (Keeps w) added refl refl
-
 owner_keeps : (w : World) (tablet : ℕ) (phase : Phase) (at new term : ℕ) → Keeps w (owner_split w tablet phase at new term)
 owner_keeps w tablet phase at new term = grind (arith, with_split, master_at, has_crashed, either_way)
 
@@ -96,7 +92,7 @@ split_keeps w (Some row) at new = owner_keeps w row.tablet row.phase at new (row
 pub still_for_masters : (old new : Parts) (event : Event) (called : Called) (seen : Seen)
     → happened (world_of old []) event called ≡ record { world = world_of new []; seen = seen } → AreForMasters old.ledger.requests → AreForMasters new.ledger.requests
 still_for_masters old new event called seen is requests =
-    grind (arith, world_of, added_keeps, is_added, found_keeps, turn_keeps, split_keeps, row_of)
+    grind (arith, world_of, is_added, found_keeps, turn_keeps, split_keeps, row_of, either_way)
 
 -- ---- what a client sends
 

@@ -46,9 +46,7 @@ one_sent old sends left rest message wire now sent more number is next sends_it 
       parts = append_assoc before.done (message ∷ []) rest ∙ whole;
       is = record {
         wire = sends_it ∙ ap (with_message message) inner.wire ∙ sym (fold-append (λ w m. with_message m w) old before.done (message ∷ []));
-        first =
-            ap (λ (s : Sent). s.first) counts
-            ∙ first_stays old wire before.done message sent.count sent.first number inner.wire inner.count inner.first next;
+        first = grind (arith, first_stays, before.done, sent.count, sent.first, inner.wire, inner.count, inner.first);
         count = count ∙ ap (λ (n : ℕ). n + 1) inner.count ∙ sym (length-append before.done (message ∷ []));
         reached = omega arith;
         given = omega arith;

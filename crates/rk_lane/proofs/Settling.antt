@@ -1,8 +1,7 @@
 -- How a master's work is settled.
 use Rattle.rk_lane.proofs.Words.{◌≡◌, ℕ, Bool, true, false, eqb, ◌&&◌, not, List, [], ◌∷◌, length, take, Option, Some, None, is_some, refl}
-use Rattle.rk_lane.proofs.Words.{append-nil, arith, last_stamp, filled, counters_of, greatest, StepError, Seen, marks_of, Work}
-use Rattle.rk_lane.proofs.Words.{with_journal, IsCutBack, IsFinished, IsRaised, IsSettled, IsUnsettled, ledger_noted, ledger_worked}
-use Rattle.rk_lane.proofs.Words.{sends_worked, Parts}
+use Rattle.rk_lane.proofs.Words.{append-nil, arith, last_stamp, StepError, Seen, Work, with_journal, IsCutBack, IsFinished, IsRaised}
+use Rattle.rk_lane.proofs.Words.{IsSettled, IsUnsettled, ledger_worked, sends_worked, Parts}
 use Rattle.std.proofs.Common.{eqb-true}
 use Rattle.std.proofs.lemmas.Bool.{false≢true}
 use Rattle.rk_world.specs.declared.error.StepError.TheVariants as errors
@@ -46,29 +45,4 @@ none_there (Some it) none = absurd (false≢true none)
 pub settled_by_nothing : (old new : Parts) (number seen : ℕ) (work : Work) → is_nothing work ≡ true → IsRaised old number new
     → IsSettled old number seen work new (record { first = 0; sent = 0; lost = false; taken = None })
 settled_by_nothing old new number seen work nothing rise =
-    grind (
-      arith,
-      both_hold,
-      eqb,
-      ledger_worked,
-      ledger_noted,
-      marks_of,
-      none_in,
-      none_there,
-      append-nil,
-      last_stamp,
-      greatest,
-      counters_of,
-      sends_worked,
-      filled,
-      work.sends.items,
-      work.served.items,
-      work.marked,
-      old.ledger,
-      old.ledger.marks,
-      old.top,
-      old.ledger.journal,
-      rise.counter,
-      rise.parts,
-      rise.counter_is,
-    )
+    grind (arith, none_in, append-nil)

@@ -1,9 +1,9 @@
 -- An event of the parts of a lane and of its backups is one of the lane.
 use Rattle.rk_lane.proofs.Words.{arith, ◌≡◌, ℕ, Bool, false, cond, [], length, vec_capacity, Option, None, Some, IfOk, IfSome, Result, Ok}
 use Rattle.rk_lane.proofs.Words.{Err, refl, sym, ap, subst, ◌∙◌, Vec, NumberMap, option_map, option_or, Segments, BackupLane, comes_anyway}
-use Rattle.rk_lane.proofs.Words.{fault_of, refusal, worn, AllTell, HasRoom, Stepped, happened, stepped_by, told_by_replica, World}
-use Rattle.rk_lane.proofs.Words.{new_world, StepError, Event, Seen, IsAnswerOf, IsStepOf, MayComeTo, MayStep, IsHappened, IsUnhappened}
-use Rattle.rk_lane.proofs.Words.{lane_of, IsSameLane, world_with, IsSameParts, running_of, world_of, Inside, Parts}
+use Rattle.rk_lane.proofs.Words.{fault_of, refusal, worn, AllTell, Stepped, happened, stepped_by, told_by_replica, World, new_world}
+use Rattle.rk_lane.proofs.Words.{StepError, Event, Seen, IsAnswerOf, IsStepOf, MayComeTo, MayStep, IsHappened, IsUnhappened, lane_of}
+use Rattle.rk_lane.proofs.Words.{IsSameLane, world_with, IsSameParts, running_of, world_of, Inside, Parts}
 use Rattle.std.proofs.Common.{IfErr}
 use Rattle.rk_types.specs.declared.node.Node.TheVariants as nodes
 use Rattle.rk_world.specs.Premises.{MayHappen}
@@ -74,12 +74,9 @@ module _ {R : Type 0} (segments : R → Option Segments) (faults : R → ℕ) (l
     was = runs lane.spent lane.parts live;
     is = runs spent new lives;
     called = happened_so.called;
-    comes =
-        subst (λ (count : ℕ). MayStep (record (world_of lane.parts []) { backup_count = count }) event) (sym is_lane.count) may;
+    comes = grind (arith, world_of, lane.parts, is_lane.count);
     may = happened_so.may;
-    room =
-        subst (λ (count : ℕ). HasRoom (record (world_of new []) { backup_count = count }))
-        (happened_so.lane.backups ∙ sym is_lane.count ∙ sym happened_so.count) happened_so.kept.formed.room;
+    room = grind (arith, world_of, happened_so.lane.backups, is_lane.count, happened_so.count, happened_so.kept.formed.room);
     cause = happened_so.cause;
     stepped = λ stored are.
         let told : IsToldAfter segments lane.parts event happened_so.called new backups.items seen stored = happened_so.made stored are in

@@ -2,7 +2,7 @@
 use Rattle.std.proofs.Common.{◌≡◌, ℕ, zero, suc, ◌+◌, ◌-◌, ◌<◌, ◌≤◌, Bool, true, false, cond, leb, List, [], ◌∷◌, ◌++◌, length, get_or, set, take, drop, refl, sym, ap, ◌∙◌, arith, append_assoc, length-append}
 use Rattle.std.specs.List.{AllByRecursion}
 use Rattle.std.proofs.Math.Seq.{drop-append_seam, set-append_seam}
-use Rattle.std.proofs.lemmas.Bool.{cond-true, cond-false, lt-ltb}
+use Rattle.std.proofs.lemmas.Bool.{lt-ltb}
 use Rattle.std.proofs.lemmas.List.{append-nil, get_or_default, get_or_push, length-map, take-append-drop}
 use Rattle.rk_types.specs.declared.held.TheConstants.{SEGMENT_BYTES}
 use Rattle.rk_entry.specs.declared.entry.Entry.{Entry}
@@ -42,17 +42,7 @@ in_last_is front last bytes =
 with_front : (front : List (List ℕ)) (last : List ℕ) (entries : List Entry) → cut_after (front ++ last ∷ []) entries ≡ front ++ behind last entries
 with_front front last [] = refl
 with_front front last (x ∷ entries) =
-    grind (
-      arith,
-      leb,
-      room_is,
-      cond-true,
-      in_last_is,
-      cond-false,
-      append_assoc,
-      (with_front front (last ++ spelled x) entries),
-      (with_front (front ++ last ∷ []) (spelled x) entries),
-    )
+    grind (arith, room_is, in_last_is, append_assoc, (with_front front (last ++ spelled x) entries), (with_front (front ++ last ∷ []) (spelled x) entries))
 
 -- segments end with their last one
 ends_with : (x : List ℕ) (more : List (List ℕ)) → x ∷ more ≡ take (length more) (x ∷ more) ++ get_or (x ∷ more) (length more) [] ∷ []

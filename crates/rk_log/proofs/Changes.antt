@@ -16,7 +16,7 @@ use Rattle.rk_log.specs.Parts.{Parts, bytes_in, lengths_in, none_known, bytes_am
 use Rattle.rk_log.proofs.Cuts.{cut_filled, length-le-bytes, cut_push, room_some}
 use Rattle.rk_log.proofs.KnownLaws.{known_from_push}
 use Rattle.rk_log.proofs.Lookups.{copied_before, copied_past, known_told}
-use Rattle.rk_log.proofs.Grown.{zeros_at, Raised, among_none_is}
+use Rattle.rk_log.proofs.Grown.{zeros_at, Raised}
 use Rattle.rk_log.proofs.Consistency.{with_entry_in, with_side_in, told_in}
 use Rattle.rk_log.proofs.Views.{bytes_of_is}
 
@@ -50,7 +50,7 @@ pub told_shown : (parts : Parts) (main' sides' : List Copied) (log : Log) (numbe
     → size ≤ length (bytes_among number parts.main parts.sides)
     → log_of (told_in parts main' sides' (backup - 1) cursor) ≡ with_told log backup number size
 told_shown parts main' sides' log number backup size cursor consistent is within raised raised_sides enough =
-    grind (arith, length-set, known_told, length-map, among_none_is, copied_before, copied_past)
+    grind (arith, length-set, known_told, length-map, copied_before, copied_past)
 
 -- a backup tells no more than there is
 pub told_enough : (parts : Parts) (log : Log) (number size : ℕ) → IsConsistent parts

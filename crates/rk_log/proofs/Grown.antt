@@ -1,5 +1,5 @@
 -- Segments after bytes were put behind them, and known lengths after a backup told one.
-use Rattle.std.proofs.Common.{◌≡◌, ℕ, zero, suc, ◌+◌, ◌-◌, ◌<◌, ◌≤◌, true, false, cond, List, [], ◌∷◌, ◌++◌, length, get_or, set, replicate, Option, None, refl, sym, ap, subst, ◌∙◌, ⊎_elim, arith, length-set, length-append, get_or-set_same, get_or-set_other}
+use Rattle.std.proofs.Common.{◌≡◌, ℕ, zero, suc, ◌+◌, ◌-◌, ◌<◌, ◌≤◌, true, false, cond, List, [], ◌∷◌, ◌++◌, length, get_or, set, replicate, Option, refl, sym, ap, subst, ◌∙◌, ⊎_elim, arith, length-set, length-append, get_or-set_same, get_or-set_other}
 use Rattle.std.specs.Prelude.{slice_get}
 use Rattle.std.specs.Option.{option_map_or, option_or}
 use Rattle.std.specs.Global.{Vec}
@@ -154,7 +154,3 @@ pub among_sides_is : (number k : ℕ) (main sides : List Copied) → FIRST_SIDE_
 among_sides_is number k main sides e few =
     (λ i. bytes_or_none (option_or (copied_past FIRST_SEGMENT number main (omega arith) i) (copied_at FIRST_SIDE_SEGMENT number sides k e i)))
     ∙ at_place_alone sides k
-
--- of none
-pub among_none_is : (number : ℕ) (main sides : List Copied) → copied_of FIRST_SEGMENT number main ≡ None → copied_of FIRST_SIDE_SEGMENT number sides ≡ None → bytes_among number main sides ≡ []
-among_none_is number main sides a b = λ i. bytes_or_none (option_or (a i) (b i))

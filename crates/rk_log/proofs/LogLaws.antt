@@ -54,19 +54,12 @@ pub committed_told : (log : Log) (backup segment size : ℕ) → committed log �
 committed_told log backup segment size =
     grind (arith, prefix_len_weaker, list_all-set, le-leb, leb-true, list_all_each, told_more, set_past, cases_lt)
 
--- what the teller is known to hold
-teller_now : (log : Log) (backup segment size : ℕ) → IsBackup log backup → known_of (with_told log backup segment size) backup ≡ told (known_of log backup) segment size
-teller_now log backup segment size numbered =
-    get_or-set_same log.known (backup - 1) (told (known_of log backup) segment size) nothing (omega (arith, numbered.first, numbered.last))
-
 pub teller_greater : (log : Log) (backup segment size : ℕ) → IsBackup log backup → known_length (known_of (with_told log backup segment size) backup) segment ≡ max (known_length (known_of log backup) segment) size
-teller_greater log backup segment size numbered =
-    ap (λ (known : Known). known_length known segment) (teller_now log backup segment size numbered) ∙ told_length (known_of log backup) segment size segment refl
+teller_greater log backup segment size numbered = grind (arith, told_length, get_or-set_same)
 
 pub teller_segments : (log : Log) (backup segment size other : ℕ) → IsBackup log backup → (other ≡ segment → ⊥)
     → known_length (known_of (with_told log backup segment size) backup) other ≡ known_length (known_of log backup) other
-teller_segments log backup segment size other numbered apart =
-    ap (λ (known : Known). known_length known other) (teller_now log backup segment size numbered) ∙ told_other (known_of log backup) segment size other apart
+teller_segments log backup segment size other numbered apart = grind (arith, told_other, get_or-set_same)
 
 pub teller_alone : (log : Log) (backup segment size other : ℕ) → IsBackup log backup → IsBackup log other → (other ≡ backup → ⊥) → known_of (with_told log backup segment size) other ≡ known_of log other
 teller_alone log backup segment size other numbered numbered_other apart =

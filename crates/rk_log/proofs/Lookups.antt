@@ -4,7 +4,7 @@ use Rattle.std.specs.Prelude.{slice_get}
 use Rattle.std.specs.List.{find, list_all, prefix_len}
 use Rattle.std.specs.Option.{option_map, option_map_or}
 use Rattle.rk_log.specs.Known.{nothing}
-use Rattle.std.proofs.lemmas.Bool.{lt-ltb, le-ltb, eq-eqb, ne_eqb, cases_lt, cases_eq, cond-true, cond-false}
+use Rattle.std.proofs.lemmas.Bool.{lt-ltb, le-ltb, cases_lt, cond-true, cond-false}
 use Rattle.std.proofs.lemmas.List.{set_past, same_lists}
 use Rattle.std.proofs.lemmas.List.Folds.{find-append, list_all-map}
 use Rattle.std.proofs.lemmas.List.FromFn.{length-map-range_with_len, get_or-map-range_with_len}
@@ -43,19 +43,7 @@ shown number copied = record { number = number; bytes = copied.segment.bytes }
 pub find_numbered : (number first : ℕ) (segments : List Copied) → segment_of number (numbered first (bytes_in segments)) ≡ option_map (shown number) (copied_of first number segments)
 find_numbered number first [] = grind (arith, copied_before, copied_past, cases_lt)
 find_numbered number first (c ∷ segments) =
-    grind (
-      arith,
-      cond-true,
-      eqb,
-      eq-eqb,
-      copied_at,
-      cond-false,
-      ne_eqb,
-      copied_before,
-      cases_lt,
-      cases_eq,
-      (find_numbered number (suc first) segments),
-    )
+    grind (arith, (find_numbered number (suc first) segments))
 
 -- the bytes of a segment among main and side segments
 pub bytes_are : (number : ℕ) (main sides : List Copied)
@@ -138,9 +126,6 @@ committed_is backups main sides ends within few le =
 pub with_length_before : (first number backup size : ℕ) (lists : List (List ℕ)) → number < first → with_length first number backup size lists ≡ lists
 with_length_before first number backup size lists h = cond-true (ltb number first) lists _ (lt-ltb number first h)
 
-pub with_length_past : (first number backup size : ℕ) (lists : List (List ℕ)) → first + length lists ≤ number → with_length first number backup size lists ≡ lists
-with_length_past first number backup size lists h = grind (arith, cond-false, ltb, le-ltb, set_past)
-
 -- of one that is there its length
 pub with_length_at : (first number backup size k : ℕ) (lists : List (List ℕ)) → first + k ≡ number → with_length first number backup size lists ≡ set lists k (with_told_length backup size (get_or lists k []))
 with_length_at first number backup size k lists e = grind (arith, cond-false, ltb, le-ltb)
@@ -177,7 +162,7 @@ place_of main sides number few =
 
 -- lengths of segments that are not among these stay
 with_length_apart : (first number backup size : ℕ) (lists : List (List ℕ)) → (number < first) ⊎ (first + length lists ≤ number) → with_length first number backup size lists ≡ lists
-with_length_apart first number backup size lists apart = grind (arith, with_length_before, with_length_past)
+with_length_apart first number backup size lists apart = grind (arith, with_length_before, cond-false, ltb, le-ltb, set_past)
 
 -- what all backups are then known to hold
 pub known_told : (backups : ℕ) (main sides : List (List ℕ)) (number backup size : ℕ) → backup < backups → length main < FIRST_SIDE_SEGMENT
@@ -186,24 +171,4 @@ pub known_told : (backups : ℕ) (main sides : List (List ℕ)) (number backup s
     → known_by backups (with_length FIRST_SEGMENT number backup size main) (with_length FIRST_SIDE_SEGMENT number backup size sides)
     ≡ set (known_by backups main sides) backup (told (get_or (known_by backups main sides) backup nothing) number size)
 known_told backups main sides number backup size within few wide_main wide_sides none =
-    grind (
-      arith,
-      same_lists,
-      length-known_by,
-      length-set,
-      known_of_backup,
-      place_of,
-      get_or-set_same,
-      get_or-set_other,
-      cases_eq,
-      with_length_before,
-      known_from_with_length,
-      known_in_order,
-      with_length_past,
-      known_from_told,
-      with_length_apart,
-      told_none,
-      with_length_at,
-      known_from_other,
-      cases_lt,
-    )
+    grind (arith, same_lists, length-known_by, length-set, known_of_backup, get_or-set_same, get_or-set_other, known_from_with_length, known_in_order, known_from_told, with_length_apart, told_none, with_length_at, known_from_other, cases_lt)

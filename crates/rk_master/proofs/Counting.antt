@@ -24,19 +24,15 @@ counted_after : (old new : BTreeMap (ℕ × ℕ) ℕ) (client seq : ℕ) (count 
     → (other asked : ℕ) → counted_in new other asked ≡ cond (eqb client other && eqb seq asked) (unwrap_or count 0) (counted_in old other asked)
 counted_after old new client seq count updates other asked = grind (arith, same_name, eqb)
 
--- what a client and a seq have, those that are the same have
-same_counted : (old : BTreeMap (ℕ × ℕ) ℕ) (client seq other asked : ℕ) → (eqb client other && eqb seq asked) ≡ true → counted_in old other asked ≡ counted_in old client seq
-same_counted old client seq other asked same = grind (arith, and_parts, eqb, eqb-true)
-
 -- one more is counted
 pub one_more : (old new : BTreeMap (ℕ × ℕ) ℕ) (client seq count : ℕ) → Updates name_cmp old new (client, seq) (Some count) → count ≡ counted_in old client seq + 1
     → (other asked : ℕ) → counted_in new other asked ≡ counted_in old other asked + one_at client seq other asked
-one_more old new client seq count updates more other asked = grind (arith, counted_after, eqb, same_counted)
+one_more old new client seq count updates more other asked = grind (arith, counted_after, eqb, and_parts, eqb-true)
 
 -- one less is counted
 pub one_less : (old new : BTreeMap (ℕ × ℕ) ℕ) (client seq : ℕ) (count : Option ℕ) → Updates name_cmp old new (client, seq) count → unwrap_or count 0 ≡ counted_in old client seq - 1
     → (other asked : ℕ) → counted_in new other asked ≡ counted_in old other asked - one_at client seq other asked
-one_less old new client seq count updates less other asked = grind (arith, counted_after, eqb, same_counted)
+one_less old new client seq count updates less other asked = grind (arith, counted_after, eqb, and_parts, eqb-true)
 
 -- ---- the calls
 

@@ -38,17 +38,14 @@ many_none (first ∷ items) table key none =
     let zero_here : one (is_of table key first) ≡ 0 = cond-false (is_of table key first) 1 0 apart in
     omega (arith, rest, zero_here)
 
--- what is found with one more at the end
-newest_more : (items : List Held) (item : Held) (table : ℕ) (key : List ℕ) → newest (items ++ item ∷ []) table key ≡ with_newer (newest items) item table key
-newest_more items item table key = ap (λ (f : Found). f table key) (newest_from-append none_found items (item ∷ []))
-
 -- what is kept of a record, with one more item of another at the end
 kept_other : (items : List Held) (item : Held) (table : ℕ) (key : List ℕ) → is_of table key item ≡ false → kept (items ++ item ∷ []) table key ≡ kept items table key
-kept_other items item table key apart = grind (arith, newest_more, with_newer_other, newest, cond-false, many_more)
+kept_other items item table key apart = grind (arith, with_newer_other, newest, cond-false, many_more, newest_from-append)
 
 -- and with one more of its own
 kept_here : (items : List Held) (item : Held) (table : ℕ) (key : List ℕ) → is_of table key item ≡ true → kept (items ++ item ∷ []) table key ≡ Some (kept_with (kept items table key) item)
-kept_here items item table key here = grind (arith, newest_more, with_newer_here, newest, cond-true, many_more, many_none, none_in, ltb)
+kept_here items item table key here =
+    grind (arith, with_newer_here, newest, cond-true, many_more, many_none, none_in, ltb, newest_from-append)
 
 -- a tree in which an item was taken in at the end
 pub kept_added : (old new : BTreeMap Name Kept) (item : Held) (items : List Held) (named : List ℕ) (kept_now : Kept)
@@ -116,20 +113,15 @@ none_many found (first ∷ items) table key none =
     none_many (with_newer found first) items table key (omega (arith, none)) ∙ with_newer_other found first table key apart)
     (cases_Bool (is_of table key first))
 
--- how many are left
-many_left : (item : Held) (items : List Held) (table : ℕ) (key : List ℕ) (old : Kept) → is_of table key item ≡ true → Some old ≡ kept (item ∷ items) table key
-    → old.count ≡ many_of items table key + 1
-many_left item items table key old here is = grind (arith, newest, cond-true)
-
 -- nothing is left of one
 pub kept_none : (item : Held) (items : List Held) (table : ℕ) (key : List ℕ) (old : Kept) → is_of table key item ≡ true → Some old ≡ kept (item ∷ items) table key
     → old.count ≤ 1 → None ≡ kept items table key
-kept_none item items table key old here is few = grind (arith, many_left, none_many)
+kept_none item items table key old here is few = grind (arith, none_many, newest, cond-true)
 
 -- a newest one that is newer than the first is left
 pub kept_newer : (item : Held) (items : List Held) (table : ℕ) (key : List ℕ) (old : Kept) → is_of table key item ≡ true → Some old ≡ kept (item ∷ items) table key
     → item.version < old.version → Some (record { version = old.version; is_live = old.is_live; count = old.count - 1 }) ≡ kept items table key
-kept_newer item items table key old here is newer = grind (arith, newest, many_left, with_newer_here, ahead)
+kept_newer item items table key old here is newer = grind (arith, newest, with_newer_here, ahead, cond-true)
 
 -- a tree of which the first item was taken out
 pub kept_subtracted : (old new : BTreeMap Name Kept) (name : Name) (item : Held) (items : List Held) (left : Option Kept)
@@ -158,7 +150,7 @@ is_named = is_of_from
 -- what is found among entries, and one more
 pub newest_pushed : (entries : List Entry) (entry : Entry) (found : Option Held) (table : ℕ) (key : List ℕ)
     → found ≡ newest (items_of entries) table key → newer_in found entry table key ≡ newest (items_of (entries ++ entry ∷ [])) table key
-newest_pushed entries entry found table key was = grind (arith, items_of, newest, append-nil, flat_map-append, newest_more)
+newest_pushed entries entry found table key was = grind (arith, items_of, newest, append-nil, flat_map-append, newest_from-append)
 
 -- something is kept of a record that has an item
 pub kept_some : (item : Held) (items : List Held) (table : ℕ) (key : List ℕ) → is_of table key item ≡ true → None ≡ kept (item ∷ items) table key → ⊥

@@ -14,7 +14,7 @@ use Rattle.std.proofs.lemmas.List.Elements.{All-nil, All-cons}
 use Rattle.rk_types.proofs.NumberMaps.{get_insert, same_map}
 use Rattle.rk_types.specs.declared.lineage.Member.{Member}
 use Rattle.rk_entry.specs.declared.entry.Entry.TheVariants as entries
-use Rattle.rk_transfer.specs.Handover.{carried, in_role, rebuilt, role_carried}
+use Rattle.rk_transfer.specs.Handover.{carried, rebuilt, role_carried}
 use Rattle.rk_transfer.specs.declared.role.Role.TheVariants as roles
 use Rattle.rk_message.specs.declared.rebuilding.CopySegment.{CopySegment}
 use Rattle.rk_message.specs.declared.rebuilding.Rebuild.{Rebuild}
@@ -117,41 +117,13 @@ carries role place is = grind arith
 pub carried_stays : (handover after : Handover) (term place floor : ℕ) → carried handover term place floor ≡ Some after → (after.term ≡ handover.term) × (after.range ≡ handover.range)
 carried_stays handover after term place floor is = grind (arith, eqb)
 
--- and the role is still that of a rebuild, which has its closing entry
-carried_role : (handover after : Handover) (term place floor : ℕ) → carried handover term place floor ≡ Some after → (from : ℕ) × (after.role ≡ roles.Rebuilding from (Some place))
-carried_role handover after term place floor is = go (eqb handover.term term) is
-  where
-    taken : (role now : Role) → role_carried place role ≡ Some now → (from : ℕ) × (now ≡ roles.Rebuilding from (Some place))
-    taken roles.Absent now e = cc e
-    taken roles.Serving now e = cc e
-    taken roles.Closing now e = cc e
-    taken roles.Frozen now e = cc e
-    taken (roles.Wanting from) now e = cc e
-    taken roles.Receiving now e = cc e
-    taken (roles.Joining entry) now e = cc e
-    taken (roles.Rebuilding from None) now e = let same : roles.Rebuilding from (Some place) ≡ now = cc e in (from, sym same)
-    taken (roles.Rebuilding from (Some entry)) now e = cc e
-
-    by_role : (role : Option Role) → ((now : Role) → role ≡ Some now → (from : ℕ) × (now ≡ roles.Rebuilding from (Some place)))
-        → in_role (record handover { counter = floor }) role ≡ Some after → (from : ℕ) × (after.role ≡ roles.Rebuilding from (Some place))
-    by_role None made e = cc e
-    by_role (Some now) made e =
-        let same : record handover { counter = floor; role = now } ≡ after = cc e in
-        let rebuilds = made now refl in
-        (rebuilds.0, sym (ap (λ (h : Handover). h.role) same) ∙ rebuilds.1)
-
-    go : (b : Bool) → cond b (in_role (record handover { counter = floor }) (role_carried place handover.role)) None ≡ Some after
-        → (from : ℕ) × (after.role ≡ roles.Rebuilding from (Some place))
-    go true e = by_role (role_carried place handover.role) (taken handover.role) e
-    go false e = cc e
-
 -- which is neither that of one that pulls
 pub not_receiving : (handover after : Handover) (term place floor : ℕ) → carried handover term place floor ≡ Some after → after.role ≡ roles.Receiving → ⊥
-not_receiving handover after term place floor is receives = let rebuilds = carried_role handover after term place floor is in cc (sym rebuilds.1 ∙ receives)
+not_receiving handover after term place floor is receives = grind (arith, eqb)
 
 -- nor that of one that has all
 pub not_joining : (handover after : Handover) (term place floor : ℕ) → carried handover term place floor ≡ Some after → after.role ≡ roles.Joining None → ⊥
-not_joining handover after term place floor is joins = let rebuilds = carried_role handover after term place floor is in cc (sym rebuilds.1 ∙ joins)
+not_joining handover after term place floor is joins = grind (arith, eqb)
 
 -- entries that are put at the end of the log of a master
 pub all_put : (master : Master) (put : List Entry) → with_all master put ≡ record master { log = fold with_entry master.log put }

@@ -4,7 +4,7 @@ use Rattle.rk_master.proofs.Words.{fold, get_or, set, slice_get, Option, Some, N
 use Rattle.rk_master.proofs.Words.{arith, w32, w64, option_map, All, range_with_len, nat_cmp, is_lt, below_all, cond-false, cond-true}
 use Rattle.rk_master.proofs.Words.{false≢true, append-nil, slice_get-get_or, All-head, All-tail, IsInOrder, get, insert, Held, get_same}
 use Rattle.rk_master.proofs.Words.{Range, IsLawfulRange, IsLawfulEntry, IsLawfulHeld, IsNumber, FIRST_SIDE_SEGMENT, Log, with_entry, joined}
-use Rattle.rk_master.proofs.Words.{Handover, Role, Replayed, side_replayed, bytes_in, spelled_items, is_batch, items_of, Master, tablet_at}
+use Rattle.rk_master.proofs.Words.{Role, Replayed, side_replayed, bytes_in, spelled_items, is_batch, items_of, Master, tablet_at}
 use Rattle.rk_master.proofs.Words.{with_tablet, Tablet, no_tablet, with_handover, joined_entry, changed, TabletLane, AreTablets, can_close}
 use Rattle.rk_master.proofs.Words.{IsClosable, tablet_of, tablets_of, IsAt, Row, with_side, with_sides, AreSpelled, IsSpelled}
 use Rattle.rk_master.proofs.Words.{items_of_sides}
@@ -117,15 +117,7 @@ pub added_all : (master : Master) (lists : List (List Held))
     → fold with_side_segment master lists ≡ record master { log = with_sides master.log (map spelled_items lists); sides = master.sides ++ lists }
 added_all master [] = grind (arith, append-nil, with_sides, master.sides, master.log, master.log.sides)
 added_all master (items ∷ lists) =
-    grind (
-      arith,
-      append_assoc,
-      spelled_items,
-      master.log,
-      master.log.sides,
-      master.sides,
-      (added_all (with_side_segment master items) lists),
-    )
+    grind (arith, append_assoc, (added_all (with_side_segment master items) lists))
 
 -- the items that they spell
 sides_again : (lists : List (List Held)) → All (All IsLawfulHeld) lists → items_of_sides (map spelled_items lists) ≡ lists
@@ -152,29 +144,7 @@ pub sealing_made : (master : Master) (log : Log) (rows : List Row) (number i : �
     → tablet_of lane ≡ with_sealed (tablet_of read.1) no_sides numbers
     → with_rows (record master { log = log; sides = items_of_sides log.sides }) (set rows i (read.0, lane)) ≡ sealing (with_rows master rows) number (tablet_at (with_rows master rows) number)
 sealing_made master log rows number i read lane segments numbers order at is sides_here lawful bytes log_is numbers_is lane_is =
-    grind (
-      arith,
-      with_rows,
-      with_sides,
-      spelled_items,
-      items_of_sides,
-      sides_added,
-      sealed_lawful,
-      length-map,
-      changed_read,
-      insert,
-      tablets_of,
-      tablet_of,
-      with_tablet,
-      added_all,
-      tablet_read,
-      read.1.sides,
-      master.log,
-      log.sides,
-      master.sides,
-      master.log.sides,
-      read.1,
-    )
+    grind (arith, sides_added, sealed_lawful, length-map, changed_read, added_all, tablet_read)
 
 -- ---- what closes the role then
 
@@ -199,11 +169,6 @@ joined_lawful range term first count numbers named is few each = grind (arith, l
 
 -- ---- the tablet at a place
 
--- the row that was put at a place is the one there
-pub row_set : (rows : List Row) (i : ℕ) (new row : Row) → i < length rows → slice_get (set rows i new) i ≡ Some row → new ≡ row
-row_set rows i new row within there =
-    let one : Some new ≡ Some row = sym (set_there rows i new within) ∙ there in cc one
-
 -- the one that is read stands there
 pub read_there : (rows : List Row) (i : ℕ) (read : Row) → i < length rows → read ≡ get_or rows i read → slice_get rows i ≡ Some read
 read_there rows i read within is = slice_get-get_or rows i read within ∙ ap Some (sym is)
@@ -211,8 +176,7 @@ read_there rows i read within is = slice_get-get_or rows i read within ∙ ap So
 -- a tablet that pulls does so still where its handover stays
 pub pulls_still : (rows : List Row) (i : ℕ) (read : Row) (lane : TabletLane) → i < length rows → read ≡ get_or rows i read → DoesPull rows i → lane.handover ≡ read.1.handover
     → DoesPull (set rows i (read.0, lane)) i
-pulls_still rows i read lane within is pulls same = λ row there.
-    ap (λ (r : Row). r.1.handover.role) (sym (row_set rows i (read.0, lane) row within there)) ∙ ap (λ (h : Handover). h.role) same ∙ pulls read (read_there rows i read within is)
+pulls_still rows i read lane within is pulls same = grind (arith, read_there, set_there, read.0)
 
 -- the role of the tablet that is read can be closed
 pub closable_read : (rows : List Row) (i : ℕ) (read : Row) → i < length rows → read ≡ get_or rows i read → AreTablets rows → IsClosable (tablet_of read.1)
@@ -220,7 +184,7 @@ closable_read rows i read within is tablets = subst (λ (r : Row). IsClosable (t
 
 -- the entry that closes the role of the tablet that was put at a place can be spelled
 pub closes_set : (rows : List Row) (i : ℕ) (new : Row) → i < length rows → IsLawfulEntry (joined_entry (tablet_of new.1)) → CanClose (set rows i new) i
-closes_set rows i new within lawful = λ row there. subst (λ (r : Row). IsLawfulEntry (joined_entry (tablet_of r.1))) (row_set rows i new row within there) lawful
+closes_set rows i new within lawful = grind (arith, joined_entry, tablet_of, set_there)
 
 -- ---- what a target does that has all
 

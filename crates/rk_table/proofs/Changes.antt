@@ -87,33 +87,13 @@ in_from_at range table key item here = grind (arith, and_parts, eqb-true, bytes_
 pub found_dropped : (range : Range) (items : List Held) (table : ℕ) (key : List ℕ) → has range table (hash_of key) ≡ true → found table key (without range items) ≡ None
 found_dropped range [] table key inside = refl
 found_dropped range (item ∷ items) table key inside =
-    grind (
-      arith,
-      filter_left_out,
-      filter_kept,
-      cond-false,
-      false_from_ne_true,
-      false≢true,
-      in_from_at,
-      cases_Bool,
-      (found_dropped range items table key inside),
-    )
+    grind (arith, in_from_at, (found_dropped range items table key inside))
 
 -- and any other is found as before
 pub found_outside : (range : Range) (items : List Held) (table : ℕ) (key : List ℕ) → has range table (hash_of key) ≡ false → found table key (without range items) ≡ found table key items
 found_outside range [] table key outside = refl
 found_outside range (item ∷ items) table key outside =
-    grind (
-      arith,
-      filter_left_out,
-      cond-false,
-      false_from_ne_true,
-      false≢true,
-      in_from_at,
-      filter_kept,
-      cases_Bool,
-      (found_outside range items table key outside),
-    )
+    grind (arith, in_from_at, (found_outside range items table key outside))
 
 pub order_without : (range : Range) (items : List Held) → IsInScanOrder items → IsInScanOrder (without range items)
 order_without range items order = IsStrictlySortedBy-filter item_cmp (λ x. not (is_in range x)) items order

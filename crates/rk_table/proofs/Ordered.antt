@@ -2,7 +2,7 @@
 use Rattle.std.proofs.Common.{◌≡◌, ℕ, ◌<◌, ◌≤◌, Bool, true, false, ltb, eqb, List, [], ◌∷◌, ◌++◌, ◌⊎◌, Option, Some, refl, sym, ap, ◌∙◌, inl, inr, ⊎_elim, arith}
 use Rattle.std.specs.Prelude.{⊤, filter}
 use Rattle.std.specs.List.{last_or}
-use Rattle.std.proofs.lemmas.Bool.{cases_lt, cond-true, cond-false, lt-ltb, le-ltb, eq-eqb, ne_eqb}
+use Rattle.std.proofs.lemmas.Bool.{cases_lt, cond-true, cond-false, lt-ltb, le-ltb, ne_eqb}
 use Rattle.std.proofs.lemmas.List.{append-nil}
 
 -- a test that an item passes, and one that it fails
@@ -81,25 +81,7 @@ module _ {X : Type 0} (n : X → ℕ) where
   pub same_and_more : (b : ℕ) (xs : List X) → AllFrom b xs → Rises xs → same b xs ++ more b xs ≡ xs
   same_and_more b [] all rises = refl
   same_and_more b (x ∷ xs) all rises =
-      grind (
-        arith,
-        filter_left_out,
-        eqb,
-        ne_eqb,
-        same_none,
-        filter_kept,
-        ltb,
-        lt-ltb,
-        more_all,
-        eq-eqb,
-        le-ltb,
-        cases_lt,
-        rises.0,
-        all.0,
-        all.1,
-        rises.1,
-        (same_and_more b xs all.1 rises.1),
-      )
+      grind (arith, same_none, (same_and_more b xs all.1 rises.1))
 
   -- the list is what is before a number, what has it, and what is behind it
   pub three_parts : (b : ℕ) (xs : List X) → Rises xs → less b xs ++ (same b xs ++ more b xs) ≡ xs

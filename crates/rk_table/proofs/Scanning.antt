@@ -145,23 +145,20 @@ module _ (range : Range) (token : Token) (limit : ℕ) (items slots from_bucket 
   pub scan_batch : (batch : List Held) → batch ≡ take count from_token → live_in range batch ≡ batch_at token limit (live_in range items)
   scan_batch batch is = grind (arith, start_is, batch_is, all_left, batch_given)
 
-  rest_drop : (rest : List Held) → rest ≡ drop count from_token → rest ≡ drop (start + count) items
-  rest_drop rest is = is ∙ ap (drop count) start_is ∙ drop-drop count start items
-
   -- the next token where a live item is left
   pub scan_behind : (rest : List Held) → rest ≡ drop count from_token → list_any (is_live_in range) rest ≡ true → (cut : ℕ) → cut ≡ start + count
       → token_behind (live_in range (take cut slots)) ≡ next_token token limit (live_in range items)
-  scan_behind rest is more cut cut_is = grind (arith, next_behind, all_left, batch_given, rest_drop)
+  scan_behind rest is more cut cut_is = grind (arith, next_behind, all_left, batch_given, start_is, drop-drop)
 
   -- and where none is
   pub scan_end : (rest : List Held) → rest ≡ drop count from_token → list_any (is_live_in range) rest ≡ false → end ≡ next_token token limit (live_in range items)
-  scan_end rest is none = grind (arith, next_end, all_left, batch_given, rest_drop)
+  scan_end rest is none = grind (arith, next_end, all_left, batch_given, start_is, drop-drop)
 
   -- the slot before the rest is live where one is left
   pub scan_last : (rest : List Held) → rest ≡ drop count from_token → list_any (is_live_in range) rest ≡ true → (cut : ℕ) → cut ≡ start + count
       → (count < length from_token → (0 < count) × HoldsAt (λ item. is_live_in range item ≡ true) from_token (count - 1))
       → HoldsAt (λ item. is_live_in range item ≡ true) slots (cut - 1)
-  scan_last rest is more cut cut_is closed = grind (arith, last_of_batch, rest_drop, start_is)
+  scan_last rest is more cut cut_is closed = grind (arith, last_of_batch, start_is, drop-drop)
 
 -- an item with a hash does not come before the first place of that hash
 le_key : (key : List ℕ) → is_lt (slice_cmp nat_cmp key []) ≡ false

@@ -57,10 +57,6 @@ left_token_behind front back rises =
     (ap (λ (l : List Held). l ++ left (token_behind front) (front ++ back)) (sym (passed_token_behind front back rises))
     ∙ passed_and_left (token_behind front) (front ++ back) rises)
 
--- at the end nothing is left
-left_end : (items : List Held) → left end items ≡ []
-left_end items = grind (arith, filter_none, bucket_below_end, ne_eqb, le-ltb)
-
 -- a batch is the first part that its length says
 batch_and_rest : (limit : ℕ) (items : List Held) → batch_of limit items ++ drop (length (batch_of limit items)) items ≡ items
 batch_and_rest limit [] = refl
@@ -85,8 +81,7 @@ passed_batch_rest token limit items rises = grind (arith, append_assoc, left_in_
 
 -- of a list in two parts, the second is left at the token between them
 left_between : (rest front : List Held) → Rises item_bucket (front ++ rest) → left (token_before rest front) (front ++ rest) ≡ rest
-left_between [] front rises = left_end (front ++ [])
-left_between (item ∷ rest) front rises = left_token_behind front (item ∷ rest) rises
+left_between rest front rises = grind (arith, left_token_behind, filter_none, bucket_below_end, ne_eqb, le-ltb)
 
 -- at the next token just the rest is left
 pub left_next : (token : Token) (limit : ℕ) (items : List Held) → Rises item_bucket items
@@ -119,7 +114,7 @@ token_before_none rest done none = ap (λ (l : List Held). token_before l done) 
 -- the next token is the end exactly where nothing is left at it
 pub ends_where_none_left : (token : Token) (limit : ℕ) (items : List Held) → Rises item_bucket items
     → (next_token token limit items ≡ end) ↔ (left (next_token token limit items) items ≡ [])
-ends_where_none_left token limit items rises = grind (arith, left_end, token_before_none, left_next)
+ends_where_none_left token limit items rises = grind (arith, token_before_none, left_next, filter_none, bucket_below_end, ne_eqb, le-ltb)
 
 -- so many turns hand out what is left, where that is no more items than turns
 pub scanned_left : (limit turns : ℕ) (token : Token) (items : List Held) → Rises item_bucket items
