@@ -1,4 +1,5 @@
 pub mod Attempting
+mod ByKind
 pub mod Coming
 pub mod Examples
 pub mod Finding

@@ -69,7 +69,7 @@ fn answer_at<R: Replica + Drop>(
     let Ok(message) = wire.message(number) else {
         return Err(Lost::NoMemory);
     };
-    answer(it, alloc, message, masters)
+    answer(it, alloc, &message, masters)
 }
 
 // A backup takes a message: what it sends.

@@ -70,7 +70,7 @@ fn handle_from(
     let Ok(message) = wire.message(number) else {
         return Err(NoMemory);
     };
-    handle(coordinator, ledger, message)
+    handle(coordinator, ledger, &message)
 }
 
 // The coordinator takes a message, and the ledger a rebuild that it took. After `NoMemory` the ledger is as it was.

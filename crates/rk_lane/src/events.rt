@@ -38,6 +38,28 @@ pub(crate) fn happen<R: Replica + Drop>(
     ensures err { IfErr result (IsUnhappened R.faults event parts.old backups.old.items parts.new backups.new.items) }
     ensures free { comes_anyway event ≡ true → result ≢ Err StepError.NoMemory }
 {
+    // Forget comes most, and nothing has to be asked before it.
+    match event {
+        Event::Forget(number) => forget(parts, number),
+        _ => happen_else(parts, backups, alloc, event),
+    }
+}
+
+// Takes an event in the same way, whichever it is.
+fn happen_else<R: Replica + Drop>(
+    parts: &mut Parts,
+    backups: &mut Vec<BackupLane<R>>,
+    alloc: Global,
+    event: Event,
+) -> Result<Seen, StepError>
+    requires kept { IsKept parts.old }
+    requires may { MayStep (world_of parts.old []) event }
+    requires count { length backups.old.items ≡ parts.old.backups }
+    requires numbered { AreNumbered backups.old.items }
+    ensures ok { IfOk result (IsHappened R.segments R.faults event parts.old backups.old.items parts.new backups.new.items) }
+    ensures err { IfErr result (IsUnhappened R.faults event parts.old backups.old.items parts.new backups.new.items) }
+    ensures free { comes_anyway event ≡ true → result ≢ Err StepError.NoMemory }
+{
     if let Some(number) = worn_for(parts, event) {
         return Err(StepError::Worn(number));
     }

@@ -63,7 +63,7 @@ pub(crate) fn send_all(wire: &mut Wire, sends: Vec<Message>) -> Result<Sent, NoM
     ensures { IfOk result (IsSent wire.old sends.items wire.new) }
 {
     let mut sent = Sent::nothing();
-    for message in sends {
+    for message in sends.as_slice() {
         if !is_short(&message.body) {
             return Err(NoMemory);
         }

@@ -65,7 +65,7 @@ pub(crate) fn accept(
     if !is_asked_here(parts, session) {
         return Ok(took(Taken::Ignored));
     }
-    let Ok(message) = copy_of(&parts.wire, number) else {
+    let Ok(message) = message_of(&parts.wire, number) else {
         return Err(StepError::NoMemory);
     };
     Ok(took(take(&mut parts.ledger, session, message)))
@@ -230,14 +230,11 @@ fn take_turn(parts: &mut Parts, session: &mut Session) -> Result<Seen, StepError
     let Ok(message) = turn(session) else {
         return Err(StepError::NoMemory);
     };
-    let Ok(request) = request_in(&message) else {
-        return Err(StepError::NoMemory);
-    };
-    let Ok(number) = send_one(&mut parts.wire, message) else {
+    let Ok(number) = send_one(&mut parts.wire, &message) else {
         return Err(StepError::NoMemory);
     };
     note(&mut parts.ledger, client, last);
-    save(&mut parts.ledger, client, request);
+    save(&mut parts.ledger, client, request_in(message));
     parts.raise(seen);
     parts.raise(number);
     Ok(one_sent(number))
@@ -257,10 +254,16 @@ fn to_note(ledger: &LedgerLane, session: &Session) -> Result<Option<LastCall>, N
     if ledger.asked() == u64::MAX {
         return Err(NoMemory);
     }
-    Ok(Some(LastCall {
-        call: call.duplicate()?,
-        seen: session.seen(),
-    }))
+    let last = noting(call, session.seen())?;
+    Ok(Some(last))
+}
+
+// What a call is noted by, of a client that has seen this stamp.
+fn noting(call: &Call, seen: u64) -> Result<LastCall, NoMemory>
+    ensures { IfOk result (λ last. last ≡ record { call = call.now; seen = seen }) }
+{
+    let call = call.duplicate()?;
+    Ok(LastCall { call, seen })
 }
 
 // What a client sends on its turn; `NoMemory` comes also where no call is outstanding.
@@ -272,22 +275,22 @@ fn turn(session: &mut Session) -> Result<Message, NoMemory>
     message.ok_or(NoMemory)
 }
 
-// A copy of a message that is a request.
-fn request_in(message: &Message) -> Result<Option<Message>, NoMemory>
-    ensures { IfOk result (λ request. request ≡ request_told message.now message.now.body) }
+// A message, if it is a request.
+fn request_in(message: Message) -> Option<Message>
+    ensures { result ≡ request_told message message.body }
 {
-    let Body::Request(_) = &message.body else {
-        return Ok(None);
-    };
-    Ok(Some(message.duplicate()?))
+    match &message.body {
+        Body::Request(_) => Some(message),
+        _ => None,
+    }
 }
 
 // Puts a message on the wire, and answers its number. After `NoMemory`, which comes also where the message is too long for a
 // frame, the wire is as it was.
-fn send_one(wire: &mut Wire, message: Message) -> Result<u64, NoMemory>
-    requires { IsFitToSend wire.old (message ∷ []) }
+fn send_one(wire: &mut Wire, message: &Message) -> Result<u64, NoMemory>
+    requires { IsFitToSend wire.old (message.now ∷ []) }
     ensures number { IfOk result (λ number. number ≡ wire.old.sent + 1) }
-    ensures sent { OnOk result (wire.new ≡ with_message message wire.old) }
+    ensures sent { OnOk result (wire.new ≡ with_message message.now wire.old) }
     ensures err { OnErr result (wire.new ≡ wire.old) }
 {
     if !is_short(&message.body) {
@@ -331,14 +334,11 @@ fn one_sent(number: u64) -> Seen
     }
 }
 
-// A copy of the message of a number.
-fn copy_of(wire: &Wire, number: u64) -> Result<Message, NoMemory>
+// The message of a number.
+fn message_of(wire: &Wire, number: u64) -> Result<Message, NoMemory>
     ensures { IfOk result (λ message. get wire.now.messages number ≡ Some message) }
 {
-    let Ok(message) = wire.message(number) else {
-        return Err(NoMemory);
-    };
-    message.duplicate()
+    wire.message(number).map_err(|_| NoMemory)
 }
 
 // A client takes a message; where that answers its call, the record is accepted. Takes no memory.

@@ -104,17 +104,14 @@ fn settle(
         return Ok(quiet());
     }
     let Worked {
-        sends,
+        mut sends,
         served,
         marked,
     } = work;
     let Ok(()) = note(&mut parts.ledger, seen, served.as_slice(), marked) else {
         return Err(StepError::NoMemory);
     };
-    let Ok(sends) = fill_all(&parts.ledger, served.as_slice(), sends) else {
-        parts.ledger.withdraw(records);
-        return Err(StepError::NoMemory);
-    };
+    fill_all(&parts.ledger, served.as_slice(), &mut sends);
     raise_top(parts, master);
     finish(parts, sends, records)
 }
@@ -158,17 +155,9 @@ fn note(
     Ok(())
 }
 
-// Messages with the stamps and places of their records filled in.
-fn fill_all(
-    ledger: &LedgerLane,
-    served: &[Served],
-    sends: Vec<Message>,
-) -> Result<Vec<Message>, NoMemory>
-    ensures { IfOk result (λ made. made.items ≡ map (filled ledger.now.journal served.now) sends.items) }
+// Messages get the stamps and places of their records.
+fn fill_all(ledger: &LedgerLane, served: &[Served], sends: &mut Vec<Message>)
+    ensures { sends.new.items ≡ map (filled ledger.now.journal served.now) sends.old.items }
 {
-    let mut made = Vec::with_capacity(*sends.allocator(), sends.len())?;
-    for message in sends {
-        made.push(ledger.fill(served, message))?;
-    }
-    Ok(made)
+    ledger.fill(served, sends.as_mut_slice());
 }

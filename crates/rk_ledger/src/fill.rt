@@ -1,46 +1,51 @@
 // How a reply gets the stamp and the place of its call's record.
-ghost use Rattle.std.specs.Prelude.{◌≡◌, ◌==◌, ◌&&◌, not};
+ghost use Rattle.std.specs.Prelude.{map, ◌≡◌, ◌==◌, ◌&&◌, not};
 ghost use Rattle.rk_model.specs.Merged.{is_mutation as is_mutation_lem};
 ghost use Rattle.rk_world.specs.Replies as replies;
 
 use crate::journal::{Journal, is_mutation};
-use rk_message::{Body, Reply};
+use rk_message::{Body, Message, Reply};
 use rk_types::{Answer, Node};
 use rk_world::Served;
 
-/// A body to a node, with stamp and place filled in where it is a client's reply to a call that was carried out. A step for
-/// each call that was served, and a search.
-pub(crate) fn fill_body(journal: &Journal, served: &[Served], to: Node, body: Body) -> Body
-    ensures { result ≡ replies.filled_body journal.now served.now to body }
+/// Each message gets stamp and place of its record, where it is a client's reply to a call that was carried out. For each a step
+/// for each call that was served, and a search.
+pub(crate) fn fill_all(journal: &Journal, served: &[Served], messages: &mut [Message])
+    ensures { messages.new ≡ map (replies.filled journal.now served.now) messages.old }
 {
-    let Node::Client(client) = to else {
-        return body;
-    };
-    match body {
-        Body::Reply(reply) => Body::Reply(fill_reply(journal, served, client, reply)),
-        other => other,
+    for message in messages.iter_mut() {
+        fill(journal, served, message);
     }
 }
 
-// A reply to a client, with stamp and place filled in where its call was carried out.
-fn fill_reply(journal: &Journal, served: &[Served], client: u32, reply: Reply) -> Reply
-    ensures { result ≡ replies.filled_reply journal.now served.now client reply reply.answer }
+// A message gets stamp and place of its record, where it is a client's reply to a call that was carried out.
+fn fill(journal: &Journal, served: &[Served], message: &mut Message)
+    ensures { message.new ≡ replies.filled journal.now served.now message.old }
+{
+    let Node::Client(client) = message.to else {
+        return;
+    };
+    match &mut message.body {
+        Body::Reply(reply) => fill_reply(journal, served, client, reply),
+        _ => {}
+    }
+}
+
+// A reply to a client gets stamp and place where its call was carried out.
+fn fill_reply(journal: &Journal, served: &[Served], client: u32, reply: &mut Reply)
+    ensures { reply.new ≡ replies.filled_reply journal.now served.now client reply.old reply.old.answer }
 {
     if !matches!(reply.answer, Answer::Done(_)) {
-        return reply;
+        return;
     }
     let Some(place) = place_of(journal, served, client, reply.seq) else {
-        return reply;
+        return;
     };
     let Some(placed) = journal.records().get(place as usize) else {
-        return reply;
+        return;
     };
-    Reply {
-        seq: reply.seq,
-        stamp: placed.stamp,
-        place,
-        answer: reply.answer,
-    }
+    reply.stamp = placed.stamp;
+    reply.place = place;
 }
 
 // The place of the record of a client's call: of a read that was served just now the last one, else that of the mutation.

@@ -1,4 +1,4 @@
-ghost use Rattle.std.specs.Prelude.{◌≡◌, ◌<◌, ◌-◌, ◌^◌, true, length, take, if◌then◌else◌, Some, OnOk, OnErr};
+ghost use Rattle.std.specs.Prelude.{map, ◌≡◌, ◌<◌, ◌-◌, ◌^◌, true, length, take, if◌then◌else◌, Some, OnOk, OnErr};
 ghost use Rattle.std.specs.Option.{option_copied};
 ghost use Rattle.rk_types.specs.NumberMap.{get};
 ghost use Rattle.rk_model.specs.Merged.{IsRisingAbove};
@@ -11,7 +11,7 @@ ghost use Rattle.rk_ledger.specs.Noted.{accepted_count};
 ghost use Rattle.rk_ledger.specs.Values as values;
 
 use crate::clients::Clients;
-use crate::fill::fill_body;
+use crate::fill::fill_all;
 use crate::journal::Journal;
 use crate::recording::{cut, end_all, serve_all};
 use rk_message::{Message, Rebuilt};
@@ -214,15 +214,11 @@ impl LedgerLane {
         self.journal.accept(place);
     }
 
-    /// The message, with stamp and place of the record filled in where it is a reply to a call that was carried out; `served`
-    /// has the calls that were served in the same step. A step for each of these, and a search; takes no memory.
-    pub fn fill(&self, served: &[Served], message: Message) -> Message
-        ensures { result ≡ filled self.now.journal served.now message }
+    /// Each message gets stamp and place of its record, where it is a reply to a call that was carried out; `served` has the calls
+    /// that were served in the same step. For each message a step for each of these, and a search; takes no memory.
+    pub fn fill(&self, served: &[Served], messages: &mut [Message])
+        ensures { messages.new ≡ map (filled self.now.journal served.now) messages.old }
     {
-        Message {
-            from: message.from,
-            to: message.to,
-            body: fill_body(&self.journal, served, message.to, message.body),
-        }
+        fill_all(&self.journal, served, messages);
     }
 }

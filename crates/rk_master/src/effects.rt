@@ -8,16 +8,16 @@ use rk_message::{Body, Message, Reply, Request};
 use rk_types::{Answer, Call, Held, NoMemory, Node, Value};
 
 /// The call that a request of a client asks.
-pub(crate) fn call_of(client: u32, request: &Request) -> Result<Call, NoMemory>
-    ensures { IfOk result (λ call. call ≡ requests.call_of client request.now) }
+pub(crate) fn call_of(client: u32, request: Request) -> Call
+    ensures { result ≡ requests.call_of client request }
 {
-    Ok(Call {
+    Call {
         client,
         seq: request.seq,
         table: request.table,
-        key: request.key.duplicate()?,
-        op: request.op.duplicate()?,
-    })
+        key: request.key,
+        op: request.op,
+    }
 }
 
 /// An answer of the master of this number to the client of a call; stamp and place are filled in where the call's record

@@ -100,9 +100,9 @@ impl MasterLane {
     ///
     /// After `NoMemory` the master is spent; it also comes where no version of a tablet is left, the log is full, an entry
     /// has no room in a segment, there are 2^32 records to be pulled, or numbers of batches or side segments run out.
-    pub fn handle(&mut self, message: &Message) -> Result<Worked, NoMemory>
-        requires { IfSome self.old (λ master. CanTake master message.now) }
-        ensures ok { IfOk result (λ work. IsSomeAnd self.old (λ master. IsWork (master_step master message.now) self.new work)) }
+    pub fn handle(&mut self, message: Message) -> Result<Worked, NoMemory>
+        requires { IfSome self.old (λ master. CanTake master message) }
+        ensures ok { IfOk result (λ work. IsSomeAnd self.old (λ master. IsWork (master_step master message) self.new work)) }
         ensures err { OnErr result (self.new ≡ None) }
     {
         if self.spent {

@@ -17,14 +17,14 @@ use rk_message::{Body, Message};
 use rk_types::{NoMemory, Node};
 
 /// A master takes a message. What the function of its kind takes.
-pub(crate) fn take_message(state: &mut MasterState, message: &Message) -> Result<Worked, NoMemory>
+pub(crate) fn take_message(state: &mut MasterState, message: Message) -> Result<Worked, NoMemory>
     requires state { IsState state.old }
-    requires can { CanTake (master_of state.old) message.now }
+    requires can { CanTake (master_of state.old) message }
     ensures state { OnOk result (IsState state.new) }
-    ensures ok { IfOk result (λ work. worked_of (master_of state.new) work ≡ step.master_step (master_of state.old) message.now) }
+    ensures ok { IfOk result (λ work. worked_of (master_of state.new) work ≡ step.master_step (master_of state.old) message) }
 {
     match message.from {
-        Node::Client(client) => client_message(state, client, &message.body),
+        Node::Client(client) => client_message(state, client, message.body),
         Node::Coordinator => order(state, &message.body),
         Node::Master(_) => peer_message(state, message.from, &message.body),
         Node::Backup(backup) => backup_message(state, backup, &message.body),
@@ -32,11 +32,11 @@ pub(crate) fn take_message(state: &mut MasterState, message: &Message) -> Result
 }
 
 // Takes what a client sent.
-fn client_message(state: &mut MasterState, client: u32, body: &Body) -> Result<Worked, NoMemory>
+fn client_message(state: &mut MasterState, client: u32, body: Body) -> Result<Worked, NoMemory>
     requires state { IsState state.old }
-    requires can { CanTakeOfClient client body.now }
+    requires can { CanTakeOfClient client body }
     ensures state { OnOk result (IsState state.new) }
-    ensures ok { IfOk result (λ work. worked_of (master_of state.new) work ≡ step.client_message (master_of state.old) client body.now) }
+    ensures ok { IfOk result (λ work. worked_of (master_of state.new) work ≡ step.client_message (master_of state.old) client body) }
 {
     match body {
         Body::Request(request) => take_request(state, client, request),

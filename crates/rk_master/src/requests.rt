@@ -1,5 +1,7 @@
 // What a master makes of a request: a choice, and what the choice changes, tells and serves.
-ghost use Rattle.std.specs.Prelude.{◌≡◌, ℕ, IfOk, OnOk};
+ghost use Rattle.std.specs.Prelude.{◌≡◌, ℕ, true, None, IfOk, IfSome, IsSome, OnOk};
+ghost use Rattle.rk_types.specs.NumberMap.{get};
+ghost use Rattle.rk_types.specs.Text.{value_fault};
 ghost use Rattle.rk_world.specs.Premises.{IsLawfulCall};
 ghost use Rattle.rk_world.specs.Requests as requests;
 ghost use Rattle.rk_world.specs.Worked.{sending};
@@ -14,7 +16,7 @@ use crate::state::MasterState;
 use crate::tablets::want;
 use crate::work::Worked;
 use rk_message::Request;
-use rk_types::{Answer, Call, NoMemory, Outcome, hash};
+use rk_types::{Answer, Call, NoMemory, Outcome, Value, hash};
 use rk_world::Choice;
 
 /// A master takes a client's request. A look at each tablet, a few searches, and the time to spell the entry of a
@@ -22,17 +24,17 @@ use rk_world::Choice;
 pub(crate) fn take_request(
     state: &mut MasterState,
     client: u32,
-    request: &Request,
+    request: Request,
 ) -> Result<Worked, NoMemory>
     requires state { IsState state.old }
-    requires lawful { IsLawfulCall (requests.call_of client request.now) }
+    requires lawful { IsLawfulCall (requests.call_of client request) }
     ensures state { OnOk result (IsState state.new) }
-    ensures ok { IfOk result (λ work. worked_of (master_of state.new) work ≡ requests.request_taken (master_of state.old) client request.now) }
+    ensures ok { IfOk result (λ work. worked_of (master_of state.new) work ≡ requests.request_taken (master_of state.old) client request) }
 {
-    let call = call_of(client, request)?;
+    let tablet = request.tablet;
+    let call = call_of(client, request);
     let choice = state.choice_of(&call)?;
-    let work = carry_out(state, request.tablet, call, choice)?;
-    Ok(work)
+    carry_out(state, tablet, call, choice)
 }
 
 // Carries out what is to be done with a call of a client that asked this tablet.
@@ -52,20 +54,56 @@ fn carry_out(
         Choice::Redirects => state.tell(&call, Answer::Moved(asked)),
         Choice::Repeats(end) => state.tell(&call, Answer::Done(outcome_of(end))),
         Choice::Ignores => Ok(state.nothing()),
-        Choice::Wants(number) => {
-            want(state.tablets.as_mut_slice(), number, hash(call.key.bytes()))?;
-            state.tell(&call, Answer::NotYet(call.key.duplicate()?))
-        }
+        Choice::Wants(number) => put_off(state, &call, number),
         Choice::Reads(outcome) => state.tell_read(call, outcome),
-        Choice::Writes(number, value) => {
-            stage_write(state, number, call, value)?;
-            Ok(state.nothing())
-        }
-        Choice::Refuses(found, absent) => {
-            stage_refusal(state, call, found, absent)?;
-            Ok(state.nothing())
-        }
+        Choice::Writes(number, value) => write(state, call, number, value),
+        Choice::Refuses(found, absent) => refuse(state, call, found, absent),
     }
+}
+
+// The hash of a call's key is wanted by the tablet of this number, and the client is told to wait.
+fn put_off(state: &mut MasterState, call: &Call, number: u32) -> Result<Worked, NoMemory>
+    requires state { IsState state.old }
+    requires there { IsSome (get state.old.tablets.items number) }
+    ensures state { OnOk result (IsState state.new) }
+    ensures ok { IfOk result (λ work. (asked : ℕ) → worked_of (master_of state.new) work
+        ≡ requests.chosen (master_of state.old) asked call.now (Choice.Wants number)) }
+{
+    want(state.tablets.as_mut_slice(), number, hash(call.key.bytes()))?;
+    let key = call.key.duplicate()?;
+    state.tell(call, Answer::NotYet(key))
+}
+
+// A write or a removal is staged at the tablet of this number.
+fn write(
+    state: &mut MasterState,
+    call: Call,
+    number: u32,
+    value: Option<Value>,
+) -> Result<Worked, NoMemory>
+    requires state { IsState state.old }
+    requires there { IsSome (get state.old.tablets.items number) }
+    requires lawful { IsLawfulCall call }
+    requires value { IfSome value (λ it. value_fault it ≡ None) }
+    ensures state { OnOk result (IsState state.new) }
+    ensures ok { IfOk result (λ work. (asked : ℕ) → worked_of (master_of state.new) work
+        ≡ requests.chosen (master_of state.old) asked call (Choice.Writes number value)) }
+{
+    stage_write(state, number, call, value)?;
+    Ok(state.nothing())
+}
+
+// A refusal is staged.
+fn refuse(state: &mut MasterState, call: Call, found: u64, absent: bool) -> Result<Worked, NoMemory>
+    requires state { IsState state.old }
+    requires lawful { IsLawfulCall call }
+    requires none { absent ≡ true → found ≡ 0 }
+    ensures state { OnOk result (IsState state.new) }
+    ensures ok { IfOk result (λ work. (asked : ℕ) → worked_of (master_of state.new) work
+        ≡ requests.chosen (master_of state.old) asked call (Choice.Refuses found absent)) }
+{
+    stage_refusal(state, call, found, absent)?;
+    Ok(state.nothing())
 }
 
 impl MasterState {

@@ -11,5 +11,6 @@ pub mod EntriesLaws
 pub mod PullingLaws
 pub mod RebuildingLaws
 pub mod FrameLaws
+pub mod Framing
 pub mod Sums
 pub mod Traffic

@@ -7,4 +7,5 @@ pub mod Handover
 pub mod Pulling
 pub mod Rebuilding
 pub mod Frames
+pub mod Framed
 pub mod Wire

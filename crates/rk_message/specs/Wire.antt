@@ -6,6 +6,8 @@ use Rattle.rk_types.specs.declared.node.Node.{Node}
 use Rattle.rk_message.specs.declared.message.Message.{Message}
 use Rattle.rk_message.specs.contracts.message.Message as message
 use Rattle.rk_message.specs.declared.missing.NoMessage.{NoMessage}
+use Rattle.rk_message.specs.declared.missing.WireError.{WireError}
+use Rattle.rk_message.specs.declared.missing.WireError.TheVariants as errors
 use Rattle.rk_message.specs.Kinds.{kind_of, kind_number}
 use Rattle.rk_message.specs.Frames.{frame_len, IsLawfulMessage}
 
@@ -73,3 +75,7 @@ kind_number_of n wire = option_map (λ message. kind_number (kind_of message.bod
 abbrev pub number_at : ℕ → Traffic → Option ℕ
 number_at zero wire = None
 number_at (suc place) wire = slice_get (numbers wire.messages) place
+
+-- what is said where a message is not there and was to be read
+abbrev pub wire_error_by : NoMessage → WireError
+wire_error_by none = errors.NoMessage none.0

@@ -13,11 +13,12 @@
 
 pub use calls::{Located, Lookup, Reply, Request};
 pub use frame::{decode_frame, encode_frame, frame_len};
+pub use framed::Frame;
 pub use handover::{Grant, Prepare, Ready, Tenure, Transfer};
 pub use kind::Kind;
 pub use laws::{frame_round_trip, one_frame};
 pub use message::{Body, Message};
-pub use missing::NoMessage;
+pub use missing::{NoMessage, WireError};
 pub use pulling::{Got, Pull, Pulled, Want};
 pub use rebuilding::{CopySegment, ReadSegment, Rebuild, Rebuilt};
 pub use replication::{Append, Stored};
@@ -26,6 +27,7 @@ pub use wire::Wire;
 mod calls;
 mod fields;
 mod frame;
+mod framed;
 mod handover;
 mod kind;
 mod laws;

@@ -39,8 +39,9 @@ impl CachedRanges {
     pub(crate) fn find(&self, call: &Call) -> Option<Located>
         ensures { result ≡ find (has_call call.now) (ranges_for call.now (ranges_of self.now.lanes)) }
     {
-        let lane = &self.lanes[lane_index(call)];
-        lane.find(call)
+        let hash = hash(call.key.bytes());
+        let lane = &self.lanes[usize::from(lane_of(hash))];
+        lane.find(call.table, hash)
     }
 
     /// Makes room for one more range in the lane of this call, and leaves the ranges as they are.

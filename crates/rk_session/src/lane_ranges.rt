@@ -1,5 +1,6 @@
 ghost use Rattle.std.specs.Prelude.{◌≡◌, ◌<◌, ◌≤◌, [], ◌++◌, length, OnOk, OnErr};
 ghost use Rattle.std.specs.List.{find};
+ghost use Rattle.rk_types.specs.Range.{has};
 ghost use Rattle.rk_world.specs.Client.{has_call as has_call_lem, owned_range};
 ghost use Rattle.rk_session.specs.Cached.{apart_from, without_call};
 
@@ -33,11 +34,11 @@ impl LaneRanges {
         }
     }
 
-    /// The range that has the key of this call. A look at each range.
-    pub(crate) fn find(&self, call: &Call) -> Option<Located>
-        ensures { result ≡ find (has_call_lem call.now) self.now.ranges }
+    /// The range of this table that has this hash. A look at each range.
+    pub(crate) fn find(&self, table: u64, hash: u64) -> Option<Located>
+        ensures { result ≡ find (λ located. has located.range table hash) self.now.ranges }
     {
-        find_in(self.ranges.as_slice(), call)
+        find_in(self.ranges.as_slice(), table, hash)
     }
 
     /// Makes room for one more range, and leaves the ranges as they are.
@@ -79,12 +80,12 @@ pub(crate) fn has_call(call: &Call, located: &Located) -> bool
     located.range.has(call.table, hash(call.key.bytes()))
 }
 
-// The first range that has the key of a call.
-fn find_in(ranges: &[Located], call: &Call) -> Option<Located>
-    ensures { result ≡ find (has_call_lem call.now) ranges.now }
+// The first range of a table that has a hash.
+fn find_in(ranges: &[Located], table: u64, hash: u64) -> Option<Located>
+    ensures { result ≡ find (λ located. has located.range table hash) ranges.now }
 {
     for located in ranges {
-        if has_call(call, located) {
+        if located.range.has(table, hash) {
             return Some(*located);
         }
     }

@@ -7,6 +7,7 @@ pub mod Idle
 pub mod Handing
 pub mod Ending
 pub mod Following
+mod ByKind
 pub mod Named
 pub mod Found
 pub mod Reached

@@ -2,6 +2,8 @@
 use Rattle.std.specs.Prelude.{◌==◌, Bool, true, false}
 use Rattle.rk_message.specs.declared.message.Body.{Body}
 use Rattle.rk_message.specs.declared.message.Body.TheVariants as bodies
+use Rattle.rk_message.specs.declared.kind.Kind.{Kind}
+use Rattle.rk_message.specs.declared.kind.Kind.TheVariants as kinds
 use Rattle.rk_settle.specs.declared.topic.Topic.{Topic}
 use Rattle.rk_settle.specs.declared.topic.Topic.TheVariants as topics
 
@@ -28,3 +30,18 @@ is_on (topics.End tablet) (bodies.Joined tenure) = tenure.tablet == tablet
 is_on (topics.End tablet) (bodies.Own tenure) = tenure.tablet == tablet
 is_on (topics.End tablet) (bodies.Release tenure) = tenure.tablet == tablet
 is_on topic body = false
+
+-- whether a message of this kind is of a call
+abbrev pub is_of_call : Kind → Bool
+is_of_call kinds.Lookup = true
+is_of_call kinds.Located = true
+is_of_call kinds.Request = true
+is_of_call kinds.Reply = true
+is_of_call kind = false
+
+-- whether a message of this kind is of a log exchange
+abbrev pub is_of_log : Kind → Bool
+is_of_log kinds.Append = true
+is_of_log kinds.Stored = true
+is_of_log kinds.Reply = true
+is_of_log kind = false

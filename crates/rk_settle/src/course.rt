@@ -175,7 +175,11 @@ fn handing_of<R: Replica + Drop>(cluster: &Cluster<R>, task: Task) -> Option<Han
     else {
         return None;
     };
-    match first_off(wire_of(lane_of(cluster, lane)), topic, last) {
+    // Without memory to read a frame, the task is left to its own move.
+    let Ok(off) = first_off(wire_of(lane_of(cluster, lane)), topic, last) else {
+        return None;
+    };
+    match off {
         Some(_) => None,
         None => Some(Handing { lane, topic, from }),
     }

@@ -67,7 +67,8 @@ fn off_topic(
     let mut off = Vec::new(alloc);
     for before in last..wire.sent() {
         let number = before + 1;
-        if is_off(wire, topic, number) {
+        let is_off = is_off(wire, topic, number)?;
+        if is_off {
             off.push(forgets(lane, number))?;
         }
     }
@@ -75,12 +76,12 @@ fn off_topic(
 }
 
 // Whether a message, if it is there, is not on the topic.
-fn is_off(wire: &Wire, topic: Topic, number: u64) -> bool
-    ensures { result ≡ exchange.is_number_off wire.now topic number }
+fn is_off(wire: &Wire, topic: Topic, number: u64) -> Result<bool, NoMemory>
+    ensures { IfOk result (λ is_off. is_off ≡ exchange.is_number_off wire.now topic number) }
 {
-    match wire.message(number) {
-        Ok(message) => !topic.has(&message.body),
-        Err(_) => false,
+    match wire.frame(number) {
+        Ok(frame) => Ok(!topic.has(frame)?),
+        Err(_) => Ok(false),
     }
 }
 
@@ -113,15 +114,16 @@ pub(crate) fn hand(
 }
 
 /// The first message that was sent after `last` and is there, but is not on a topic. A search for each number up to it.
-pub(crate) fn first_off(wire: &Wire, topic: Topic, last: u64) -> Option<u64>
-    ensures { result ≡ find (exchange.is_number_off wire.now topic) (exchange.sent_after wire.now last) }
+pub(crate) fn first_off(wire: &Wire, topic: Topic, last: u64) -> Result<Option<u64>, NoMemory>
+    ensures { IfOk result (λ off. off ≡ find (exchange.is_number_off wire.now topic) (exchange.sent_after wire.now last)) }
 {
     for before in last..wire.sent() {
-        if is_off(wire, topic, before + 1) {
-            return Some(before + 1);
+        let is_off = is_off(wire, topic, before + 1)?;
+        if is_off {
+            return Ok(Some(before + 1));
         }
     }
-    None
+    Ok(None)
 }
 
 /// The oldest message that is there of those sent after this number. A search for each number up to it.
@@ -140,5 +142,5 @@ pub(crate) fn oldest_after(wire: &Wire, from: u64) -> Option<u64>
 fn is_there(wire: &Wire, number: u64) -> bool
     ensures { result ≡ exchange.is_there wire.now number }
 {
-    wire.message(number).is_ok()
+    wire.frame(number).is_ok()
 }

@@ -1,8 +1,9 @@
-ghost use Rattle.std.specs.Prelude.{◌≡◌};
-ghost use Rattle.rk_settle.specs.Topics.{is_on};
+ghost use Rattle.std.specs.Prelude.{◌≡◌, IfOk};
+ghost use Rattle.rk_settle.specs.Topics.{is_of_call, is_of_log, is_on};
 ghost use Rattle.rk_settle.specs.declared.topic.Topic.TheVariants as topics;
 
-use rk_message::Body;
+use rk_message::{Body, Frame, Kind};
+use rk_types::NoMemory;
 
 /// What an exchange is about: which messages are delivered in it. All others that come are forgotten.
 #[derive(Clone, Copy)]
@@ -28,13 +29,34 @@ pub(crate) enum Topic {
 }
 
 impl Topic {
-    /// Whether a message is on the topic, by what it says.
-    pub(crate) fn has(self, body: &Body) -> bool
+    /// Whether a message is on the topic, by what it says. Of a call or a log its kind tells, and its frame is not read.
+    #[tactic(auto, using(crate::proofs::ByKind::call_by_kind, crate::proofs::ByKind::log_by_kind))]
+    pub(crate) fn has(self, frame: &Frame) -> Result<bool, NoMemory>
+        ensures { IfOk result (λ on. on ≡ is_on self frame.now.body) }
+    {
+        match self {
+            Topic::Call => Ok(is_of_call(frame.kind())),
+            Topic::Log => Ok(is_of_log(frame.kind())),
+            _ => self.has_read(frame),
+        }
+    }
+
+    // Whether a message is on the topic, whose frame is read.
+    fn has_read(self, frame: &Frame) -> Result<bool, NoMemory>
+        ensures { IfOk result (λ on. on ≡ is_on self frame.now.body) }
+    {
+        let message = frame.message()?;
+        Ok(self.has_body(&message.body))
+    }
+
+    // Whether what a message says is on the topic.
+    #[tactic(auto, using(crate::proofs::ByKind::call_by_kind, crate::proofs::ByKind::log_by_kind))]
+    fn has_body(self, body: &Body) -> bool
         ensures { result ≡ is_on self body.now }
     {
         match self {
-            Topic::Call => is_of_call(body),
-            Topic::Log => matches!(body, Body::Append(_) | Body::Stored(_) | Body::Reply(_)),
+            Topic::Call => is_of_call(body.kind()),
+            Topic::Log => is_of_log(body.kind()),
             Topic::Readiness(tablet) => is_of_readiness(body, tablet),
             Topic::Closing(tablet) => is_of_closing(body, tablet),
             Topic::Handing(tablet) => is_of_handing(body, tablet),
@@ -46,13 +68,19 @@ impl Topic {
     }
 }
 
-fn is_of_call(body: &Body) -> bool
-    ensures { result ≡ is_on topics.Call body.now }
+fn is_of_call(kind: Kind) -> bool
+    ensures { result ≡ is_of_call kind }
 {
     matches!(
-        body,
-        Body::Lookup(_) | Body::Located(_) | Body::Request(_) | Body::Reply(_)
+        kind,
+        Kind::Lookup | Kind::Located | Kind::Request | Kind::Reply
     )
+}
+
+fn is_of_log(kind: Kind) -> bool
+    ensures { result ≡ is_of_log kind }
+{
+    matches!(kind, Kind::Append | Kind::Stored | Kind::Reply)
 }
 
 fn is_of_readiness(body: &Body, tablet: u32) -> bool

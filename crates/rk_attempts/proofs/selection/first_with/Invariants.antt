@@ -1,8 +1,9 @@
 use Rattle.std.proofs.Common.{◌≡◌}
+use Rattle.std.specs.VecDeque.Iter.{deque_iter_rest}
 use Rattle.rk_attempts.specs.Selecting.{is_selected}
 use Rattle.rk_attempts.proofs.Finding.{chosen}
 use Rattle.rk_attempts.proofs.selection.first_with.Given as goal
 
 -- none was among the messages so far
 abbrev pub invariant-loop-number : goal.invariant-loop-number
-invariant-loop-number l = chosen (is_selected l.selection) l.number-iterator ≡ chosen (is_selected l.selection) l.wire.messages
+invariant-loop-number l = chosen (is_selected l.selection) (deque_iter_rest l.number-iterator) ≡ chosen (is_selected l.selection) l.wire.messages

@@ -1,11 +1,16 @@
-use Rattle.rk_lane.proofs.Words.{sym, ◌∙◌, IfOk-weaker}
+use Rattle.std.proofs.Common.{refl, subst, sym}
+use Rattle.rk_lane.proofs.Words.{IfOk-weaker}
+use Rattle.rk_world.specs.declared.event.Event.{Event}
+use Rattle.rk_world.specs.declared.event.Event.TheVariants as events
+use Rattle.rk_lane.specs.Happened.{IsHappened}
 use Rattle.rk_lane.proofs.Happening.{made_happened}
 use Rattle.rk_lane.proofs.events.happen.Goals as goal
 
-pub returns-clause-ok : goal.returns-clause-ok
-returns-clause-ok g c =
-    IfOk-weaker c.happen_within.result _ _
+pub returns-in-Forget-clause-ok : goal.returns-in-Forget-clause-ok
+returns-in-Forget-clause-ok g c =
+    IfOk-weaker c.forget.result _ _
     (λ seen made.
-    made_happened g.R.Replica.segments g.R.Replica.faults c.args.parts.now c.happen_within.new.parts c.args.event c.args.backups.now.items c.requires.numbered
-    (sym c.worn_for.ensures ∙ c.in_default.is) seen (c.for_backup.ensures.other c.in_default-for_backup.is) made)
-    c.happen_within.ensures.ok
+    subst (λ (event : Event). IsHappened g.R.Replica.segments g.R.Replica.faults event c.args.parts.now c.args.backups.now.items c.forget.new.parts c.args.backups.now.items seen) (sym c.in-Forget.is)
+    (made_happened g.R.Replica.segments g.R.Replica.faults c.args.parts.now c.forget.new.parts (events.Forget c.in-Forget.number) c.args.backups.now.items c.requires.numbered
+    refl seen tt made))
+    c.forget.ensures.ok

@@ -18,8 +18,8 @@ returns-clause-ok c =
     let old : Parts = c.args.parts.now in
     let ledger_is : c.save.new.ledger ≡ ledger_then old c.args.session.now c.turn.new.session c.in-Ok-turn.message c.requires c.in-Ok-turn.ensures.ok =
     c.save.ensures
-    ∙ (λ i. saved (c.note.ensures i) c.client-client.result c.in-Ok-request_in.request)
-    ∙ (λ i. saved (noted old.ledger (c.client-client.ensures i) (c.in-Ok.ensures.last i)) (c.client-client.ensures i) (c.in-Ok-request_in.ensures i)) in
+    ∙ (λ i. saved (c.note.ensures i) c.client-client.result c.request_in.result)
+    ∙ (λ i. saved (noted old.ledger (c.client-client.ensures i) (c.in-Ok.ensures.last i)) (c.client-client.ensures i) (c.request_in.ensures i)) in
     let is : c.raise-2.new.self ≡ parts_then old c.args.session.now c.turn.new.session c.in-Ok-turn.message c.requires c.in-Ok-turn.ensures.ok =
     c.raise-2.ensures
     ∙ ap (λ (p : Parts). record p { top = max p.top c.in-Ok-send_one.number }) c.raise.ensures

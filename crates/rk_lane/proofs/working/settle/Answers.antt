@@ -10,23 +10,15 @@ returns-then-is_nothing-clause-ok c =
     (settled_by_nothing c.args.parts.now c.raise_top.new.parts c.args.master c.args.seen c.args.work
     (sym c.is_nothing.ensures ∙ c.if-is_nothing.true) c.raise_top.ensures)
 
-pub returns-in_default-fill_all-clause-err : goal.returns-in_default-fill_all-clause-err
-returns-in_default-fill_all-clause-err c =
-    let noted : c.note.new.ledger ≡ ledger_worked c.args.parts.now.ledger c.args.seen c.args.work =
-    c.in-Ok.ensures.ok ∙ ap (λ (served : List Served). ledger_noted c.args.parts.now.ledger c.args.seen served (marks_of c.args.work.marked)) c.as_slice.ensures.value in
-    unsettled_by c.args.parts.now (record c.args.parts.now { ledger = c.withdraw.new.self }) c.args.seen c.args.work c.args.records c.requires.records
-    (c.withdraw.ensures ∙ ap (λ (l : Ledger). with_journal l (take c.args.records l.journal)) noted)
-    refl refl refl
-
 pub finish-requires : goal.finish-requires
 finish-requires c =
     let old : Parts = c.args.parts.now in
     let noted : c.note.new.ledger ≡ ledger_worked old.ledger c.args.seen c.args.work =
     c.in-Ok.ensures.ok ∙ ap (λ (served : List Served). ledger_noted old.ledger c.args.seen served (marks_of c.args.work.marked)) c.as_slice.ensures.value in
-    let sends : c.in-Ok-fill_all.sends.items ≡ sends_worked old.ledger c.args.seen c.args.work =
-    c.in-Ok-fill_all.ensures ∙ (λ i. map (filled (noted i).journal (c.as_slice-2.ensures.value i)) c.args.work.sends.items) in
-    let fits : IsFitToSend c.raise_top-2.new.parts.wire c.in-Ok-fill_all.sends.items =
-    subst (λ (p : Parts). IsFitToSend p.wire c.in-Ok-fill_all.sends.items) (sym c.raise_top-2.ensures.parts)
+    let sends : c.fill_all.new.sends.items ≡ sends_worked old.ledger c.args.seen c.args.work =
+    c.fill_all.ensures ∙ (λ i. map (filled (noted i).journal (c.as_slice-2.ensures.value i)) c.args.work.sends.items) in
+    let fits : IsFitToSend c.raise_top-2.new.parts.wire c.fill_all.new.sends.items =
+    subst (λ (p : Parts). IsFitToSend p.wire c.fill_all.new.sends.items) (sym c.raise_top-2.ensures.parts)
     (subst (IsFitToSend old.wire) (sym sends) c.requires.fits) in
     record { room = fits.room; lawful = fits.lawful }
 
@@ -36,8 +28,8 @@ returns c =
     let raised : Parts = c.raise_top-2.new.parts in
     let noted : c.note.new.ledger ≡ ledger_worked old.ledger c.args.seen c.args.work =
     c.in-Ok.ensures.ok ∙ ap (λ (served : List Served). ledger_noted old.ledger c.args.seen served (marks_of c.args.work.marked)) c.as_slice.ensures.value in
-    let sends : c.in-Ok-fill_all.sends.items ≡ sends_worked old.ledger c.args.seen c.args.work =
-    c.in-Ok-fill_all.ensures ∙ (λ i. map (filled (noted i).journal (c.as_slice-2.ensures.value i)) c.args.work.sends.items) in
+    let sends : c.fill_all.new.sends.items ≡ sends_worked old.ledger c.args.seen c.args.work =
+    c.fill_all.ensures ∙ (λ i. map (filled (noted i).journal (c.as_slice-2.ensures.value i)) c.args.work.sends.items) in
     let rise : IsRaised (record old { ledger = ledger_worked old.ledger c.args.seen c.args.work }) c.args.master raised =
     subst (λ (l : Ledger). IsRaised (record old { ledger = l }) c.args.master raised) noted c.raise_top-2.ensures in
     record {

@@ -11,4 +11,4 @@ returns-in-None-clause-moves g c = λ rest progress.
     subst (λ (task : Task). Moves g.R.Replica.segments g.R.Replica.faults c.args.cluster.now c.args.cluster.now (task ∷ rest)
     (made.Hands c.in-Sorts.lane c.in-Sorts.topic c.in-Sorts.from ∷ rest) progress progress) (sym c.in-Sorts.is)
     (sorts_none g.R.Replica.segments g.R.Replica.faults c.args.cluster.now c.in-Sorts.lane c.in-Sorts.topic c.wire_of.result.now
-    (λ cluster stands. c.wire_of.ensures _ (c.lane_of.ensures.lane cluster stands)) c.in-Sorts.from rest progress c.in-Sorts.last (sym c.first_off.ensures ∙ c.in-None.is))
+    (λ cluster stands. c.wire_of.ensures _ (c.lane_of.ensures.lane cluster stands)) c.in-Sorts.from rest progress c.in-Sorts.last (sym c.in-Ok.ensures ∙ c.in-None.is))

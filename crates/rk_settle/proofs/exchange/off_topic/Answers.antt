@@ -16,11 +16,11 @@ loop-before-preserved c =
           ap (λ (off : _). off.items ++ later) w.off-is
           ∙ ap (λ (items : List Task). items ++ later) w.in_ok-push.ensures.items
           ∙ ap (λ (one : Task). (c.loop-before.off.items ++ one ∷ []) ++ later) w.forgets.ensures
-          ∙ one_made test (forgets c.args.lane) c.loop-before.off.items c.loop-before.before wire.sent within (sym c.is_off.ensures ∙ w.if-is_off.true)
+          ∙ one_made test (forgets c.args.lane) c.loop-before.off.items c.loop-before.before wire.sent within (sym c.in_ok-is_off.ensures ∙ w.if-is_off.true)
           ∙ c.loop-before.invariant
       | else-is_off w ↦
           ap (λ (off : _). off.items ++ later) w.off-is
-          ∙ one_passed test (forgets c.args.lane) c.loop-before.off.items c.loop-before.before wire.sent within (sym c.is_off.ensures ∙ w.if-is_off.false)
+          ∙ one_passed test (forgets c.args.lane) c.loop-before.off.items c.loop-before.before wire.sent within (sym c.in_ok-is_off.ensures ∙ w.if-is_off.false)
           ∙ c.loop-before.invariant
     ]
 
