@@ -1,9 +1,10 @@
 -- Bytes that are cut at the first line feed.
 use Rattle.std.proofs.Common.{◌≡◌, ℕ, ◌+◌, ◌<◌, List, ◌∷◌, ◌++◌, length, get_or, take, drop, Bool, true, false, cond, refl, subst, ap, ◌∙◌, arith}
-use Rattle.std.specs.Prelude.{◌==◌, Some, None, position}
+use Rattle.std.specs.Prelude.{◌==◌, Option, Some, None, position}
 use Rattle.std.specs.List.{after_first, before_first, position_or_len}
 use Rattle.std.proofs.lemmas.Grind.{common_steps}
-use Rattle.std.proofs.lemmas.List.Sums.{fails_before_first, passes_at_first, split_at_first}
+use Rattle.std.proofs.lemmas.List.Sums.{fails_before_first, passes_at_first, position_or_len_is, split_at_first}
+use Rattle.memchr.specs.Find.{IsFirstByte, is_byte}
 use Rattle.std.proofs.lemmas.Bool.{ltb-true, ltb-false}
 use Rattle.rk_script.specs.declared.script.TheConstants.{LINE_FEED}
 use Rattle.rk_script.specs.Reading.{IsWithinLine}
@@ -49,3 +50,19 @@ line_before_position xs i e =
 -- bytes in which `position` finds nothing have no line feed
 pub line_without_position : (xs : List ℕ) → position is_feed xs ≡ None → IsWithinLine xs
 line_without_position xs e = grind (arith, ltb-false, refused, fails_before_first)
+
+-- a byte that does not pass fails
+fails : (b : Bool) → (b ≡ true → ⊥) → b ≡ false
+fails true never = absurd (never refl)
+fails false never = refl
+
+-- the first byte that is a line feed stands at the place that `position` finds
+pub place_found : (xs : List ℕ) (r : Option ℕ) → IsFirstByte (is_byte LINE_FEED) xs r → r ≡ position is_feed xs
+place_found xs None none =
+    let at : position_or_len is_feed xs ≡ length xs =
+    position_or_len_is is_feed xs (length xs) 0 (omega arith) (λ k below. fails (is_feed (get_or xs k 0)) (none k (omega arith) below)) (λ short. absurd (omega (arith, short))) in
+    grind (arith, at, ltb-false)
+place_found xs (Some k) first =
+    let at : position_or_len is_feed xs ≡ k =
+    position_or_len_is is_feed xs k 0 (omega (arith, first.0.high)) (λ i below. fails (is_feed (get_or xs i 0)) (first.0.before i (omega arith) below)) (λ short. first.1) in
+    grind (arith, at, first.0.high, ltb-true)

@@ -9,6 +9,7 @@ use crate::command::Command;
 use crate::names::{is, read_keyword};
 use crate::refusal::LineError;
 use crate::{arguments, calls};
+use arrayvec::ArrayVec;
 use rk_types::NoMemory;
 use std::alloc::Global;
 
@@ -31,14 +32,15 @@ pub const LAST_PRINTED: u8 = 0x7e;
 pub const MOST_WORDS: usize = 8;
 
 // The first words of a line, at most `MOST_WORDS`.
-fn words(alloc: Global, line: &[u8]) -> Result<Vec<&[u8]>, NoMemory>
+fn words(line: &[u8]) -> Result<ArrayVec<&[u8], MOST_WORDS>, NoMemory>
     ensures { IfOk result (λ words. map (λ word. word.now) words.items ≡ take MOST_WORDS (words_of line.now)) }
 {
-    let words = line
+    let mut words = ArrayVec::new();
+    let parts = line
         .split(|byte| *byte == BLANK || *byte == TAB)
         .filter(|word| !word.is_empty())
-        .take(MOST_WORDS)
-        .collect(alloc)?;
+        .take(MOST_WORDS);
+    words.extend(parts)?;
     Ok(words)
 }
 
@@ -96,6 +98,6 @@ pub fn read_line(alloc: Global, line: &[u8]) -> Result<Option<Command>, LineErro
     ensures ok { IfOk result (λ said. said_by line.now ≡ Ok said) }
     ensures err { IfErr result (λ e. IsRefusalOf e (said_by line.now)) }
 {
-    let words = words(alloc, line)?;
+    let words = words(line)?;
     read_words(alloc, line, words.as_slice())
 }

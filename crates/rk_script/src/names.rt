@@ -92,16 +92,12 @@ pub fn read_keyword(word: &[u8]) -> Result<Keyword, Code>
 pub fn read_operation(word: &[u8]) -> Result<Operation, Code>
     ensures { result ≡ operation_of word.now }
 {
-    if is(word, b"get") {
-        Ok(Operation::Get)
-    } else if is(word, b"put") {
-        Ok(Operation::Put)
-    } else if is(word, b"cput") {
-        Ok(Operation::CondPut)
-    } else if is(word, b"del") {
-        Ok(Operation::Delete)
-    } else {
-        Err(Code::UnknownName)
+    match word {
+        b"get" => Ok(Operation::Get),
+        b"put" => Ok(Operation::Put),
+        b"cput" => Ok(Operation::CondPut),
+        b"del" => Ok(Operation::Delete),
+        _ => Err(Code::UnknownName),
     }
 }
 

@@ -8,6 +8,7 @@ use crate::command::Numbered;
 use crate::line::read_line;
 use crate::refusal::LineError;
 use crate::script::{CARRIAGE_RETURN, LINE_FEED, LONGEST_SCRIPT, ParseError};
+use memchr::memchr;
 use std::alloc::Global;
 
 /// How far a script is read: of its complete lines there are the commands alone.
@@ -22,11 +23,12 @@ pub struct Progress {
 }
 
 // The place of the first line feed.
+#[tactic(auto, using(crate::proofs::Cuts::place_found))]
 fn line_end(bytes: &[u8]) -> Option<usize>
     ensures place { result ≡ position (λ byte. byte == LINE_FEED) bytes.now }
     ensures within { IfSome result (λ place. place < length bytes.now) }
 {
-    bytes.iter().position(|byte| *byte == LINE_FEED)
+    memchr(LINE_FEED, bytes)
 }
 
 // What stands before the first line feed, and what stands after it.
