@@ -2,6 +2,7 @@ use crate::comparing::same;
 use rk_done::{Completions, Look};
 use rk_types::{End, Ended};
 use std::alloc::Global;
+use std::process::Abort;
 use std::test::Fail;
 
 // What is kept of several ends: client, seq and end of each.
@@ -25,18 +26,25 @@ const ROWS: &[(u32, u64, End)] = &[
     (3, 4, End::Deleted(7)),
 ];
 
+// A client and a seq, and what is known of that call.
+const LOOKS: &[(u32, u64, Look)] = &[
+    (1, 3, Look::New),
+    (1, 2, Look::Same(End::Absent)),
+    (1, 1, Look::Old(2)),
+    (2, 1, Look::New),
+    (3, 5, Look::Same(End::Written(9))),
+];
+
+fn check_looks<R: Abort>(rt: &R, completions: &Completions) {
+    for (client, seq, wanted) in LOOKS {
+        same(rt, &completions.look(*client, *seq), wanted);
+    }
+}
+
 #[test]
 fn looks_at_the_last_call(rt: HostRuntime) -> Result<(), Fail> {
     let completions = noted(rt.alloc(), ROWS)?;
-    for (client, seq, wanted) in [
-        (1, 3, Look::New),
-        (1, 2, Look::Same(End::Absent)),
-        (1, 1, Look::Old(2)),
-        (2, 1, Look::New),
-        (3, 5, Look::Same(End::Written(9))),
-    ] {
-        same(&rt, &completions.look(client, seq), &wanted);
-    }
+    check_looks(&rt, &completions);
     Ok(())
 }
 

@@ -10,16 +10,12 @@ mod comparing;
 #[cfg(test)]
 mod done;
 #[cfg(test)]
-mod entry;
-#[cfg(test)]
 mod history;
 pub mod items;
 #[cfg(test)]
 mod lines;
 #[cfg(test)]
 mod log;
-#[cfg(test)]
-mod message;
 #[cfg(test)]
 mod model;
 #[cfg(test)]
@@ -42,5 +38,3 @@ mod tablet_map;
 mod transfer;
 #[cfg(test)]
 mod types;
-#[cfg(test)]
-mod wire;

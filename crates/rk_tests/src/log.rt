@@ -66,53 +66,81 @@ fn log_of_one<R: Abort + AllocGlobal>(rt: &R) -> Result<MasterLog, Fail>
     Ok(log)
 }
 
+// A backup tells of a segment, and then so many entries are committed.
+fn check_told<R: Abort>(rt: &R, log: &mut MasterLog, report: (bool, u32, u32), committed: u64)
+    requires { length log.old.known ≡ 2 }
+    ensures { length log.new.known ≡ 2 }
+{
+    let (is_first, segment, count) = report;
+    same(rt, &told(log, is_first, segment, count), &Ok(()));
+    same(rt, &log.committed(), &committed);
+}
+
 // An entry counts once the second backup holds it too.
 #[test]
 fn commits_what_both_hold(rt: HostRuntime) -> Result<(), Fail> {
     let mut log = log_of_one(&rt)?;
-    same(
-        &rt,
-        &(told(&mut log, true, 1, 40), log.committed()),
-        &(Ok(()), 0),
-    );
-    same(
-        &rt,
-        &(told(&mut log, false, 1, 40), log.committed()),
-        &(Ok(()), 1),
-    );
-    same(
-        &rt,
-        &(told(&mut log, false, 1, 7), log.committed()),
-        &(Ok(()), 1),
-    );
+    check_told(&rt, &mut log, (true, 1, 40), 0);
+    check_told(&rt, &mut log, (false, 1, 40), 1);
+    check_told(&rt, &mut log, (false, 1, 7), 1);
     same(&rt, &pending(&log), &Ok(None));
+    Ok(())
+}
+
+// Whether an entry is such a put.
+fn check_put<R: Abort + AllocGlobal>(
+    rt: &R,
+    entry: &Entry,
+    key: u8,
+    count: usize,
+) -> Result<(), Fail> {
+    let wanted = put(rt.alloc(), key, count)?;
+    same(rt, entry, &wanted);
+    Ok(())
+}
+
+// Whether the entries from a place on are puts at these keys.
+fn check_entries<R: Abort + AllocGlobal>(
+    rt: &R,
+    log: &MasterLog,
+    place: u64,
+    keys: &[u8],
+    count: usize,
+) -> Result<(), Fail> {
+    assert!(rt; place <= log.length());
+    let entries = log.entries_from(place)?;
+    same(rt, &entries.len(), &keys.len());
+    for (entry, key) in entries.iter().zip(keys) {
+        check_put(rt, entry, *key, count)?;
+    }
     Ok(())
 }
 
 #[test]
 fn reads_its_entries(rt: HostRuntime) -> Result<(), Fail> {
     let log = log_of_one(&rt)?;
-    let entries = log.entries_from(0)?;
-    same(&rt, &entries.first(), &Some(&put(rt.alloc(), b'a', 1)?));
-    let none = log.entries_from(log.length())?;
-    same(&rt, &none.first(), &None);
-    Ok(())
+    check_entries(&rt, &log, 0, b"a", 1)?;
+    check_entries(&rt, &log, 1, b"", 1)
+}
+
+// What is too much to tell for the first backup of a segment.
+fn check_excess<R: Abort>(rt: &R, log: &mut MasterLog, segment: u32, bytes: u32, limit: u32)
+    requires { length log.old.known ≡ 2 }
+    ensures { length log.new.known ≡ 2 }
+{
+    let excess = Overreach {
+        length: bytes,
+        limit,
+    };
+    same(rt, &told(log, true, segment, bytes), &Err(excess));
 }
 
 // No backup holds more than there is.
 #[test]
 fn refuses_what_goes_too_far(rt: HostRuntime) -> Result<(), Fail> {
     let mut log = log_of_one(&rt)?;
-    let excess = Overreach {
-        length: 41,
-        limit: 40,
-    };
-    same(&rt, &told(&mut log, true, 1, 41), &Err(excess));
-    let none = Overreach {
-        length: 1,
-        limit: 0,
-    };
-    same(&rt, &told(&mut log, true, 2, 1), &Err(none));
+    check_excess(&rt, &mut log, 1, 41, 40);
+    check_excess(&rt, &mut log, 2, 1, 0);
     same(&rt, &told(&mut log, true, 2, 0), &Ok(()));
     Ok(())
 }
@@ -128,39 +156,44 @@ fn log_of_sixteen<R: Abort + AllocGlobal>(rt: &R) -> Result<MasterLog, Fail>
     Ok(log)
 }
 
+// What the second backup lacks first.
+fn check_pending<R: Abort>(rt: &R, log: &MasterLog, wanted: (u32, u32, usize))
+    requires { length log.now.known ≡ 2 }
+{
+    same(rt, &pending(log), &Ok(Some(wanted)));
+}
+
+// Whether the bytes are those of the last of the sixteen puts.
+fn check_last<R: Abort + AllocGlobal>(rt: &R, bytes: &[u8]) -> Result<(), Fail> {
+    let mut last = Vec::new(rt.alloc());
+    encode(&put(rt.alloc(), b'p', 8_192)?, &mut last)?;
+    same(rt, &bytes, &last.as_slice());
+    Ok(())
+}
+
 #[test]
 fn begins_a_segment_where_an_entry_has_no_room(rt: HostRuntime) -> Result<(), Fail> {
     let log = log_of_sixteen(&rt)?;
-    let mut last = Vec::new(rt.alloc());
-    encode(&put(rt.alloc(), b'p', 8_192)?, &mut last)?;
     same(&rt, &(log.length(), log.bytes(1).len()), &(16, 123_465));
-    same(&rt, &log.bytes(2), &last.as_slice());
-    same(&rt, &pending(&log), &Ok(Some((1, 0, 123_465))));
-    Ok(())
+    check_pending(&rt, &log, (1, 0, 123_465));
+    check_last(&rt, log.bytes(2))
 }
 
 // The last two entries end in different segments.
 #[test]
 fn reads_entries_of_two_segments(rt: HostRuntime) -> Result<(), Fail> {
     let log = log_of_sixteen(&rt)?;
-    assert!(rt; log.length() == 16);
-    let entries = log.entries_from(14)?;
-    same(&rt, &entries.first(), &Some(&put(rt.alloc(), b'o', 8_192)?));
-    same(&rt, &entries.get(1), &Some(&put(rt.alloc(), b'p', 8_192)?));
-    same(&rt, &entries.len(), &2);
-    Ok(())
+    check_entries(&rt, &log, 14, b"op", 8_192)
 }
 
 // The last entry is not committed before those in segment 1.
 #[test]
 fn commits_segments_in_order(rt: HostRuntime) -> Result<(), Fail> {
     let mut log = log_of_sixteen(&rt)?;
-    same(&rt, &told(&mut log, true, 2, 8_231), &Ok(()));
-    same(&rt, &told(&mut log, false, 2, 8_231), &Ok(()));
-    same(&rt, &told(&mut log, true, 1, 123_465), &Ok(()));
-    same(&rt, &log.committed(), &0);
-    same(&rt, &told(&mut log, false, 1, 123_465), &Ok(()));
-    same(&rt, &log.committed(), &16);
+    check_told(&rt, &mut log, (true, 2, 8_231), 0);
+    check_told(&rt, &mut log, (false, 2, 8_231), 0);
+    check_told(&rt, &mut log, (true, 1, 123_465), 0);
+    check_told(&rt, &mut log, (false, 1, 123_465), 16);
     Ok(())
 }
 
@@ -175,16 +208,23 @@ fn log_with_side(alloc: Global) -> Result<MasterLog, Fail>
     Ok(log)
 }
 
+// The second backup tells of segment 1, and what it lacks first then.
+fn check_sent<R: Abort>(rt: &R, log: &mut MasterLog, count: u32, wanted: (u32, u32, usize))
+    requires { length log.old.known ≡ 2 }
+    ensures { length log.new.known ≡ 2 }
+{
+    same(rt, &told(log, false, 1, count), &Ok(()));
+    check_pending(rt, log, wanted);
+}
+
 // Main segments come first, each from the known length on, and then the side segments.
 #[test]
 fn sends_main_segments_first(rt: HostRuntime) -> Result<(), Fail> {
     let mut log = log_with_side(rt.alloc())?;
-    same(&rt, &pending(&log), &Ok(Some((FIRST_SIDE_SEGMENT, 0, 4))));
+    check_pending(&rt, &log, (FIRST_SIDE_SEGMENT, 0, 4));
     append(&rt, &mut log, b'a', 1)?;
-    same(&rt, &pending(&log), &Ok(Some((1, 0, 40))));
-    same(&rt, &told(&mut log, false, 1, 30), &Ok(()));
-    same(&rt, &pending(&log), &Ok(Some((1, 30, 10))));
-    same(&rt, &told(&mut log, false, 1, 40), &Ok(()));
-    same(&rt, &pending(&log), &Ok(Some((FIRST_SIDE_SEGMENT, 0, 4))));
+    check_pending(&rt, &log, (1, 0, 40));
+    check_sent(&rt, &mut log, 30, (1, 30, 10));
+    check_sent(&rt, &mut log, 40, (FIRST_SIDE_SEGMENT, 0, 4));
     Ok(())
 }

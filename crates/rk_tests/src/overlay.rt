@@ -3,6 +3,7 @@ use crate::items::item;
 use rk_overlay::{newest, overlay};
 use rk_types::{Held, Key};
 use std::alloc::Global;
+use std::process::Abort;
 use std::test::Fail;
 
 // An item: its version, its table, its key, and its value, which a tombstone lacks.
@@ -21,28 +22,37 @@ fn items(alloc: Global, rows: &[Row]) -> Result<Vec<Held>, Fail> {
 }
 
 // The tombstone of `a` is newer than its value, and of two items with one version the first counts.
+const FIVE: &[Row] = &[
+    (1, 1, b"a", b"x"),
+    (5, 1, b"b", b"y"),
+    (2, 1, b"a", b""),
+    (2, 1, b"a", b"z"),
+    (9, 2, b"a", b"w"),
+];
+
+// A table and a key, and the place of the newest of these items.
+const PLACES: &[(u64, &[u8], Option<usize>)] = &[
+    (1, b"a", Some(2)),
+    (1, b"b", Some(1)),
+    (2, b"a", Some(4)),
+    (2, b"b", None),
+    (1, b"c", None),
+];
+
+fn place_in(alloc: Global, items: &[Held], table: u64, name: &[u8]) -> Result<Option<usize>, Fail> {
+    let key = Key::new(alloc, name)?;
+    Ok(newest(items, table, &key))
+}
+
 #[test]
 fn finds_the_newest(rt: HostRuntime) -> Result<(), Fail> {
-    let items = items(
-        rt.alloc(),
-        &[
-            (1, 1, b"a", b"x"),
-            (5, 1, b"b", b"y"),
-            (2, 1, b"a", b""),
-            (2, 1, b"a", b"z"),
-            (9, 2, b"a", b"w"),
-        ],
-    )?;
-    let rows: [(u64, &[u8], Option<usize>); 5] = [
-        (1, b"a", Some(2)),
-        (1, b"b", Some(1)),
-        (2, b"a", Some(4)),
-        (2, b"b", None),
-        (1, b"c", None),
-    ];
-    for (table, name, place) in rows {
-        let key = Key::new(rt.alloc(), name)?;
-        same(&rt, &newest(items.as_slice(), table, &key), &place);
+    let items = items(rt.alloc(), FIVE)?;
+    for (table, name, place) in PLACES {
+        same(
+            &rt,
+            &place_in(rt.alloc(), items.as_slice(), *table, name)?,
+            place,
+        );
     }
     Ok(())
 }
@@ -90,12 +100,21 @@ fn laid(alloc: Global, first: &[Row], second: &[Row]) -> Result<Vec<Held>, Fail>
     Ok(overlay(alloc, first.as_slice(), second.as_slice())?)
 }
 
+fn check_laid<R: Abort + AllocGlobal>(
+    rt: &R,
+    row: usize,
+    (first, second, wanted): (&[Row], &[Row], &[Row]),
+) -> Result<(), Fail> {
+    let found = laid(rt.alloc(), first, second)?;
+    let wanted = items(rt.alloc(), wanted)?;
+    same_in(rt, row, &found, &wanted);
+    Ok(())
+}
+
 #[test]
 fn lays_a_list_over_another(rt: HostRuntime) -> Result<(), Fail> {
-    for (row, (first, second, wanted)) in ROWS.iter().enumerate() {
-        let found = laid(rt.alloc(), first, second)?;
-        let wanted = items(rt.alloc(), wanted)?;
-        same_in(&rt, row, &found, &wanted);
+    for (row, lists) in ROWS.iter().enumerate() {
+        check_laid(&rt, row, *lists)?;
     }
     Ok(())
 }

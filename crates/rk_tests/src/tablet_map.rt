@@ -2,6 +2,7 @@ use crate::comparing::same;
 use rk_tablet_map::{MapError, Phase, Row, TabletMap};
 use rk_types::{Listed, Member, NoMemory, Range};
 use std::alloc::Global;
+use std::process::Abort;
 use std::test::Fail;
 
 fn row(tablet: u32, table: u64, first: u64, last: u64) -> Row {
@@ -33,33 +34,46 @@ fn locates_hashes(rt: HostRuntime) -> Result<(), Fail> {
     Ok(())
 }
 
-// The rows are a tablet, where it is split, and the number of the new one.
+// A tablet, where it is split, and the number of the new one.
+const SPLITS: &[(u32, u64, u32, Result<(), MapError>)] = &[
+    (3, 4, 2, Err(MapError::NoTablet)),
+    (1, 0, 1, Err(MapError::Taken(1))),
+    (1, 0, 2, Err(MapError::BadSplit(0))),
+    (1, 10, 2, Err(MapError::BadSplit(10))),
+    (1, 4, 2, Ok(())),
+];
+
+fn check_splits<R: Abort>(rt: &R, map: &mut TabletMap) {
+    for (tablet, at, new, wanted) in SPLITS {
+        same(rt, &map.split(*tablet, *at, *new), wanted);
+    }
+}
+
 #[test]
 fn splits_tablets(rt: HostRuntime) -> Result<(), Fail> {
     let mut map = map_of_one(rt.alloc())?;
-    for (tablet, at, new, wanted) in [
-        (3, 4, 2, Err(MapError::NoTablet)),
-        (1, 0, 1, Err(MapError::Taken(1))),
-        (1, 0, 2, Err(MapError::BadSplit(0))),
-        (1, 10, 2, Err(MapError::BadSplit(10))),
-        (1, 4, 2, Ok(())),
-    ] {
-        same(&rt, &map.split(tablet, at, new), &wanted);
-    }
+    check_splits(&rt, &mut map);
     same(&rt, &(map.locate(1, 3), map.locate(1, 4)), &(Ok(1), Ok(2)));
     Ok(())
+}
+
+// A tablet, and the first of its hashes.
+const NEW: &[(u32, u64, Result<(), MapError>)] = &[
+    (1, 20, Err(MapError::Taken(1))),
+    (3, 9, Err(MapError::Overlap)),
+    (3, 10, Ok(())),
+];
+
+fn check_new<R: Abort>(rt: &R, map: &mut TabletMap) {
+    for (tablet, first, wanted) in NEW {
+        same(rt, &map.add(row(*tablet, 1, *first, 29)), wanted);
+    }
 }
 
 #[test]
 fn adds_tablets(rt: HostRuntime) -> Result<(), Fail> {
     let mut map = map_of_one(rt.alloc())?;
-    for (tablet, first, wanted) in [
-        (1, 20, Err(MapError::Taken(1))),
-        (3, 9, Err(MapError::Overlap)),
-        (3, 10, Ok(())),
-    ] {
-        same(&rt, &map.add(row(tablet, 1, first, 29)), &wanted);
-    }
+    check_new(&rt, &mut map);
     same(&rt, &map.rows().len(), &2);
     Ok(())
 }
@@ -79,24 +93,33 @@ fn rebuilding(alloc: Global) -> Result<Phase, NoMemory> {
     Ok(Phase::Rebuilding { lineage, to: 3 })
 }
 
+// Tablet 7 at term 2, when it is rebuilt.
+fn row_rebuilding(alloc: Global) -> Result<Row, NoMemory> {
+    Ok(Row {
+        term: 2,
+        phase: rebuilding(alloc)?,
+        ..row(7, 1, 5, 9)
+    })
+}
+
+// The phase of a tablet changes where it is there.
+fn change(alloc: Global, map: &mut TabletMap, tablet: u32) -> Result<bool, NoMemory> {
+    Ok(map.change(tablet, 2, rebuilding(alloc)?))
+}
+
+fn check_rows<R: Abort + AllocGlobal>(rt: &R, map: &TabletMap) -> Result<(), Fail> {
+    same(rt, &map.row(2), &Some(&row(2, 1, 0, 4)));
+    same(rt, &map.row(7), &Some(&row_rebuilding(rt.alloc())?));
+    same(rt, &map.row(9), &None);
+    Ok(())
+}
+
 #[test]
 fn changes_one_row(rt: HostRuntime) -> Result<(), Fail> {
     let mut map = map_of_two(rt.alloc())?;
-    for (tablet, wanted) in [(9, false), (7, true)] {
-        same(
-            &rt,
-            &map.change(tablet, 2, rebuilding(rt.alloc())?),
-            &wanted,
-        );
-    }
-    same(&rt, &map.row(2), &Some(&row(2, 1, 0, 4)));
-    let changed = Row {
-        term: 2,
-        phase: rebuilding(rt.alloc())?,
-        ..row(7, 1, 5, 9)
-    };
-    same(&rt, &(map.row(7), map.row(9)), &(Some(&changed), None));
-    Ok(())
+    same(&rt, &change(rt.alloc(), &mut map, 9)?, &false);
+    same(&rt, &change(rt.alloc(), &mut map, 7)?, &true);
+    check_rows(&rt, &map)
 }
 
 #[test]

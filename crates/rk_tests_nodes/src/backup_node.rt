@@ -3,7 +3,7 @@ ghost use Rattle.std.specs.Prelude.{◌≡◌, IfOk, length};
 use crate::comparing::same;
 use rk_backup::BackupLane;
 use rk_backup_node::{take_append, take_read};
-use rk_message::{Append, Body, ReadSegment, Tenure};
+use rk_message::{Append, Body, Message, ReadSegment, Tenure};
 use rk_outside::{Lost, MemoryReplica, Replica};
 use rk_types::{Listed, NoMemory};
 use std::alloc::Global;
@@ -20,6 +20,14 @@ fn append_of(alloc: Global, at: u8, bytes: &[u8; 3]) -> Result<Append, NoMemory>
     })
 }
 
+// How many bytes a backup tells in an answer.
+fn stored_in(message: &Message) -> Option<u32> {
+    match &message.body {
+        Body::Stored(stored) => Some(stored.length),
+        _ => None,
+    }
+}
+
 // How many bytes a backup tells once it took such bytes of master 1.
 fn told(
     backup: &mut BackupLane<MemoryReplica<'_>>,
@@ -30,10 +38,14 @@ fn told(
     let Ok(append) = append_of(alloc, at, bytes) else {
         return Err(Lost::NoMemory);
     };
-    let message = take_append(backup, alloc, 1, &append)?;
+    Ok(stored_in(&take_append(backup, alloc, 1, &append)?))
+}
+
+// How many bytes the copy in an answer has, where there is one.
+fn copied_in(message: &Message) -> Option<usize> {
     match &message.body {
-        Body::Stored(stored) => Ok(Some(stored.length)),
-        _ => Ok(None),
+        Body::Copy(copy) => Some(copy.bytes.as_ref()?.as_slice().len()),
+        _ => None,
     }
 }
 
@@ -49,11 +61,7 @@ fn copied(
         master: 1,
         segment,
     };
-    let message = take_read(backup, alloc, 3, read, log)?;
-    match &message.body {
-        Body::Copy(copy) => Ok(copy.bytes.as_ref().map(|bytes| bytes.as_slice().len())),
-        _ => Ok(None),
-    }
+    Ok(copied_in(&take_read(backup, alloc, 3, read, log)?))
 }
 
 // Bytes that come again, or that others are stored for, or behind a gap are not stored.

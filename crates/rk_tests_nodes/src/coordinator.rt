@@ -73,10 +73,15 @@ fn body_of(alloc: Global, kind: Kind, term: u64) -> Body {
 }
 
 // How many messages come of a message, and whether that is a Rebuilt that is taken.
-fn handle(lane: &mut CoordinatorLane, from: Node, body: Body) -> Result<(usize, bool), Fail> {
-    let to = Node::Coordinator;
-    let handled = lane.handle(&Message { from, to, body })?;
+fn handle(lane: &mut CoordinatorLane, message: &Message) -> Result<(usize, bool), Fail> {
+    let handled = lane.handle(message)?;
     Ok((handled.sends.len(), handled.took_rebuilt))
+}
+
+// A message to the coordinator.
+fn message_of(from: Node, body: Body) -> Message {
+    let to = Node::Coordinator;
+    Message { from, to, body }
 }
 
 // The same of such a message of a master.
@@ -87,17 +92,18 @@ fn report(
     kind: Kind,
     term: u64,
 ) -> Result<(usize, bool), Fail> {
-    handle(lane, Node::Master(master), body_of(alloc, kind, term))
+    let message = message_of(Node::Master(master), body_of(alloc, kind, term));
+    handle(lane, &message)
 }
 
-// The receiver and the kind of the first message of a turn.
+// The receiver and the kind of a message.
+fn address_of(message: &Message) -> (Node, Kind) {
+    (message.to, message.body.kind())
+}
+
+// The same of the first message of a turn.
 fn first_sent(lane: &CoordinatorLane) -> Result<Option<(Node, Kind)>, Fail> {
-    let sends = lane.turn()?;
-    Ok(
-        sends
-            .first()
-            .map(|message| (message.to, message.body.kind())),
-    )
+    Ok(lane.turn()?.first().map(address_of))
 }
 
 // The owner of tablet 1, with its place.
@@ -138,20 +144,44 @@ const MOVE: &[Reported] = &[
     (3, Kind::Joined, 2, 1, None),
 ];
 
+// Each report brings about what it should.
+fn check_move<R: Abort + AllocGlobal>(rt: &R, lane: &mut CoordinatorLane) -> Result<(), Fail> {
+    for (master, kind, term, sends, next) in MOVE {
+        let (sent, _) = report(rt.alloc(), lane, *master, *kind, *term)?;
+        same(rt, &sent, sends);
+        same(rt, &first_sent(lane)?, next);
+    }
+    Ok(())
+}
+
 #[test]
 fn a_tablet_moves(rt: HostRuntime) -> Result<(), Fail> {
     let mut lane = lane_of_three(rt.alloc())?;
     migrate(&rt, &mut lane, 1, 3)?;
-    for (master, kind, term, sends, next) in MOVE {
-        let (sent, _) = report(rt.alloc(), &mut lane, *master, *kind, *term)?;
-        same(&rt, &sent, sends);
-        same(&rt, &first_sent(&lane)?, next);
-    }
+    check_move(&rt, &mut lane)?;
     same(&rt, &owner(&lane), &Some((3, 5)));
     Ok(())
 }
 
-// The lane of which master `dead` is noticed dead after so many reports of the move of tablet 1 from master 1 to master 3.
+// So many reports come of the move of tablet 1 from master 1 to master 3, and then master `dead` is noticed dead.
+fn move_until_notice(
+    rt: &impl Abort,
+    alloc: Global,
+    lane: &mut CoordinatorLane,
+    reports: u8,
+    dead: u8,
+) -> Result<(), Fail> {
+    migrate(rt, lane, 1, 3)?;
+    if reports > 0 {
+        report(alloc, lane, 3, Kind::Ready, 2)?;
+    }
+    if reports > 1 {
+        report(alloc, lane, 1, Kind::Transfer, 2)?;
+    }
+    notice(rt, lane, dead)
+}
+
+// The lane of which master `dead` is noticed dead after so many such reports.
 fn after_notice(
     rt: &impl Abort,
     alloc: Global,
@@ -159,14 +189,7 @@ fn after_notice(
     dead: u8,
 ) -> Result<CoordinatorLane, Fail> {
     let mut lane = lane_of_three(alloc)?;
-    migrate(rt, &mut lane, 1, 3)?;
-    if reports > 0 {
-        report(alloc, &mut lane, 3, Kind::Ready, 2)?;
-    }
-    if reports > 1 {
-        report(alloc, &mut lane, 1, Kind::Transfer, 2)?;
-    }
-    notice(rt, &mut lane, dead)?;
+    move_until_notice(rt, alloc, &mut lane, reports, dead)?;
     Ok(lane)
 }
 
@@ -208,20 +231,22 @@ const REBUILDS: &[(u8, u64, (usize, bool))] = &[
     (2, 2, (1, false)),
 ];
 
+fn check_rebuilds<R: Abort + AllocGlobal>(rt: &R, lane: &mut CoordinatorLane) -> Result<(), Fail> {
+    for (master, term, came) in REBUILDS {
+        let found = report(rt.alloc(), lane, *master, Kind::Rebuilt, *term)?;
+        same(rt, &found, came);
+    }
+    Ok(())
+}
+
 // Master 2 rebuilds the tablet of master 1, which was noticed dead.
 #[test]
 fn a_tablet_is_rebuilt(rt: HostRuntime) -> Result<(), Fail> {
     let mut lane = lane_of_three(rt.alloc())?;
     notice(&rt, &mut lane, 1)?;
-    same(
-        &rt,
-        &first_sent(&lane)?,
-        &Some((Node::Master(2), Kind::Rebuild)),
-    );
-    for (master, term, came) in REBUILDS {
-        let found = report(rt.alloc(), &mut lane, *master, Kind::Rebuilt, *term)?;
-        same(&rt, &found, came);
-    }
+    let first = Some((Node::Master(2), Kind::Rebuild));
+    same(&rt, &first_sent(&lane)?, &first);
+    check_rebuilds(&rt, &mut lane)?;
     same(&rt, &owner(&lane), &Some((2, 8)));
     Ok(())
 }
@@ -235,34 +260,45 @@ const MOVES: &[(u32, u8, Result<(), MoveError>)] = &[
     (1, 3, Err(MoveError::NotOwned(2))),
 ];
 
+fn check_moves(rt: &impl Abort, lane: &mut CoordinatorLane) {
+    for (tablet, to, wanted) in MOVES {
+        same(rt, &migrate(rt, lane, *tablet, *to), wanted);
+    }
+}
+
 #[test]
 fn moves_are_refused(rt: HostRuntime) -> Result<(), Fail> {
     let mut lane = lane_of_three(rt.alloc())?;
     notice(&rt, &mut lane, 2)?;
-    for (tablet, to, wanted) in MOVES {
-        same(&rt, &migrate(&rt, &mut lane, *tablet, *to), wanted);
-    }
+    check_moves(&rt, &mut lane);
     Ok(())
+}
+
+fn check_ranges(rt: &impl Abort, lane: &mut CoordinatorLane) {
+    same(rt, &lane.add(2, RANGE, 1), &Err(MapError::Overlap));
+    let refused = Err(MoveError::Map(MapError::BadSplit(0)));
+    same(rt, &split(rt, lane, 0, 2), &refused);
+    same(rt, &split(rt, lane, 4, 2), &Ok(()));
 }
 
 #[test]
 fn ranges_are_refused(rt: HostRuntime) -> Result<(), Fail> {
     let mut lane = lane_of_three(rt.alloc())?;
-    same(&rt, &lane.add(2, RANGE, 1), &Err(MapError::Overlap));
-    for (at, wanted) in [(0, Err(MoveError::Map(MapError::BadSplit(0)))), (4, Ok(()))] {
-        same(&rt, &split(&rt, &mut lane, at, 2), &wanted);
-    }
+    check_ranges(&rt, &mut lane);
     Ok(())
+}
+
+// How many messages come of a client's question where a hash is.
+fn look_up(lane: &mut CoordinatorLane, hash: u64) -> Result<(usize, bool), Fail> {
+    let lookup = Lookup { table: 1, hash };
+    handle(lane, &message_of(Node::Client(7), Body::Lookup(lookup)))
 }
 
 // A client is told of the tablet of a hash, where there is one.
 #[test]
 fn a_client_looks_up(rt: HostRuntime) -> Result<(), Fail> {
     let mut lane = lane_of_three(rt.alloc())?;
-    for (hash, sends) in [(9, 1), (10, 0)] {
-        let lookup = Lookup { table: 1, hash };
-        let came = handle(&mut lane, Node::Client(7), Body::Lookup(lookup))?;
-        same(&rt, &came, &(sends, false));
-    }
+    same(&rt, &look_up(&mut lane, 9)?, &(1, false));
+    same(&rt, &look_up(&mut lane, 10)?, &(0, false));
     Ok(())
 }

@@ -6,7 +6,7 @@ use rk_entry::{Carried, Entry, FIRST_SIDE_SEGMENT, encode};
 use rk_rebuild::Gather;
 use rk_tests::items::{WHOLE, ends, item};
 use rk_types::{End, Held, Member};
-use rk_world::Reading;
+use rk_world::{Merged, Reading};
 use std::alloc::Global;
 use std::process::Abort;
 use std::test::Fail;
@@ -29,12 +29,19 @@ fn held(alloc: Global, row: Row) -> Result<Held, Fail>
     Ok(Held { client, ..item })
 }
 
+// The spelling of an item is added to the bytes.
+fn spell<R: Abort + AllocGlobal>(rt: &R, row: Row, bytes: &mut Vec<u8>) -> Result<(), Fail> {
+    assert!(rt; row.0 > 0 && row.1 > 0);
+    let entry = Entry::Held(held(rt.alloc(), row)?);
+    encode(&entry, bytes)?;
+    Ok(())
+}
+
 // The spellings of items.
 fn spelled<R: Abort + AllocGlobal>(rt: &R, rows: &[Row]) -> Result<Vec<u8>, Fail> {
     let mut bytes = Vec::new(rt.alloc());
     for row in rows {
-        assert!(rt; row.0 > 0 && row.1 > 0);
-        encode(&Entry::Held(held(rt.alloc(), *row)?), &mut bytes)?;
+        spell(rt, *row, &mut bytes)?;
     }
     Ok(bytes)
 }
@@ -66,16 +73,21 @@ fn take_next<R: Abort>(
     Ok(())
 }
 
+// The bytes of an item's value, none of a tombstone's.
+fn value_of(item: &Held) -> &[u8] {
+    match &item.value {
+        Some(value) => value.bytes(),
+        None => b"",
+    }
+}
+
 // Whether these are the copies: version, key and value of each.
 fn check_copies<R: Abort>(rt: &R, copies: &[Held], rows: &[(u64, &[u8], &[u8])]) {
     same(rt, &copies.len(), &rows.len());
     for (copy, (version, key, value)) in copies.iter().zip(rows) {
-        same(rt, &(copy.version, copy.key.bytes()), &(*version, *key));
-        let found: &[u8] = match &copy.value {
-            Some(value) => value.bytes(),
-            None => b"",
-        };
-        same(rt, &found, value);
+        same(rt, &copy.version, version);
+        same(rt, &copy.key.bytes(), key);
+        same(rt, &value_of(copy), value);
     }
 }
 
@@ -95,65 +107,80 @@ fn take_items<R: Abort + AllocGlobal>(
 const MAIN: &[Row] = &[(1, 1, b"z", b"x"), (1, 2, b"a", b"x"), (3, 3, b"b", b"")];
 
 // What master 1 counts from its second entry on, with the side segment that it names.
-fn gathered<R: Abort + AllocGlobal>(rt: &R) -> Result<Gather, Fail> {
-    let mut gather = gather(rt.alloc(), &[(1, 1), (2, 0)])?;
-    take_items(rt, &mut gather, 1, MAIN, JOINED)?;
-    take_next(rt, &mut gather, 2, None)?;
+fn take_segments<R: Abort + AllocGlobal>(rt: &R, gather: &mut Gather) -> Result<(), Fail> {
+    take_items(rt, gather, 1, MAIN, JOINED)?;
+    take_next(rt, gather, 2, None)?;
     let side: [Row; 1] = [(4, 1, b"c", b"y")];
-    take_items(rt, &mut gather, FIRST_SIDE_SEGMENT, &side, b"")?;
-    Ok(gather)
-}
-
-// Master 2 rebuilds from its own log and from that of master 1. Of `a` it has the newest version itself.
-#[test]
-fn copies_what_the_own_log_lacks(rt: HostRuntime) -> Result<(), Fail> {
-    let gather = gathered(&rt)?;
-    same(&rt, &gather.next(), &None);
-    same(&rt, &gather.counted()?.len(), &3);
-    let own = Entry::Held(item(rt.alloc(), b"a", 5, b"y")?);
-    let merged = gather.merge(&[&own])?;
-    let copies: [(u64, &[u8], &[u8]); 2] = [(1, b"c", b"y"), (3, b"b", b"")];
-    check_copies(&rt, merged.copies.as_slice(), &copies);
-    let told = ends(
-        rt.alloc(),
-        &[
-            (3, 3, End::Deleted(3)),
-            (4, 1, End::Written(1)),
-            (1, 5, End::Written(5)),
-        ],
-    )?;
-    same(&rt, &(merged.floor, merged.ends), &(6, told));
+    take_items(rt, gather, FIRST_SIDE_SEGMENT, &side, b"")?;
+    same(rt, &gather.next(), &None);
     Ok(())
 }
 
+// The copies, and the ends of calls.
+fn check_merged<R: Abort + AllocGlobal>(rt: &R, merged: &Merged) -> Result<(), Fail> {
+    let copies: [(u64, &[u8], &[u8]); 2] = [(1, b"c", b"y"), (3, b"b", b"")];
+    check_copies(rt, merged.copies.as_slice(), &copies);
+    let rows = [
+        (3, 3, End::Deleted(3)),
+        (4, 1, End::Written(1)),
+        (1, 5, End::Written(5)),
+    ];
+    same(rt, &merged.ends, &ends(rt.alloc(), &rows)?);
+    same(rt, &merged.floor, &6);
+    Ok(())
+}
+
+// Of `a` master 2 has the newest version itself.
+fn check_gathered<R: Abort + AllocGlobal>(rt: &R, gather: &Gather) -> Result<(), Fail> {
+    same(rt, &gather.counted()?.len(), &3);
+    let own = Entry::Held(item(rt.alloc(), b"a", 5, b"y")?);
+    check_merged(rt, &gather.merge(&[&own])?)
+}
+
+// Master 2 rebuilds from its own log and from that of master 1.
+#[test]
+fn copies_what_the_own_log_lacks(rt: HostRuntime) -> Result<(), Fail> {
+    let mut gather = gather(rt.alloc(), &[(1, 1), (2, 0)])?;
+    take_segments(&rt, &mut gather)?;
+    check_gathered(&rt, &gather)
+}
+
 // The log of master 1 alone.
-fn gathered_from_one<R: Abort + AllocGlobal>(rt: &R) -> Result<Gather, Fail> {
-    let mut gather = gather(rt.alloc(), &[(1, 0)])?;
+fn take_one<R: Abort + AllocGlobal>(rt: &R, gather: &mut Gather) -> Result<(), Fail> {
     let rows: [Row; 2] = [(1, 2, b"a", b"x"), (2, 4, b"b", b"x")];
-    take_items(rt, &mut gather, 1, &rows, b"")?;
-    take_next(rt, &mut gather, 2, None)?;
-    Ok(gather)
+    take_items(rt, gather, 1, &rows, b"")?;
+    take_next(rt, gather, 2, None)?;
+    same(rt, &gather.next(), &None);
+    Ok(())
+}
+
+// What master 2 carries: the end of client 1.
+fn carried(alloc: Global) -> Result<Entry, Fail> {
+    Ok(Entry::Carried(Carried {
+        range: WHOLE,
+        term: 1,
+        floor: 9,
+        ends: ends(alloc, &[(1, 2, End::Written(2))])?,
+    }))
+}
+
+fn check_ends<R: Abort + AllocGlobal>(rt: &R, merged: &Merged) -> Result<(), Fail> {
+    same(rt, &(merged.floor, merged.copies.as_slice().len()), &(9, 2));
+    let rows = [(2, 4, End::Written(4)), (1, 2, End::Written(2))];
+    same(rt, &merged.ends, &ends(rt.alloc(), &rows)?);
+    Ok(())
+}
+
+fn check_carried<R: Abort + AllocGlobal>(rt: &R, gather: &Gather) -> Result<(), Fail> {
+    let own = carried(rt.alloc())?;
+    check_ends(rt, &gather.merge(&[&own])?)
 }
 
 // Master 2 is not of the lineage, and its own entries come last: the end of client 1 that they tell again has its place
 // there, and so the end of client 2 comes first.
 #[test]
 fn an_end_has_its_place_where_it_is_told_last(rt: HostRuntime) -> Result<(), Fail> {
-    let gather = gathered_from_one(&rt)?;
-    same(&rt, &gather.next(), &None);
-    let own = Entry::Carried(Carried {
-        range: WHOLE,
-        term: 1,
-        floor: 9,
-        ends: ends(rt.alloc(), &[(1, 2, End::Written(2))])?,
-    });
-    let merged = gather.merge(&[&own])?;
-    same(
-        &rt,
-        &(merged.floor, merged.copies.as_slice().len()),
-        &(9, 2),
-    );
-    let rows = [(2, 4, End::Written(4)), (1, 2, End::Written(2))];
-    same(&rt, &merged.ends, &ends(rt.alloc(), &rows)?);
-    Ok(())
+    let mut gather = gather(rt.alloc(), &[(1, 0)])?;
+    take_one(&rt, &mut gather)?;
+    check_carried(&rt, &gather)
 }

@@ -121,13 +121,49 @@ fn take_step(session: &mut Session, alloc: Global, step: Step) -> Result<Shown, 
     }
 }
 
-// A new session of client 1 takes these steps, and each shows what it should.
-fn played<X: Abort>(rt: &X, alloc: Global, steps: &[(Step, Shown)]) -> Result<Session, Fail> {
-    let mut session = Session::new(alloc, 1);
+// The session takes these steps, and each shows what it should.
+fn check_steps<R: Abort + AllocGlobal>(
+    rt: &R,
+    session: &mut Session,
+    steps: &[(Step, Shown)],
+) -> Result<(), Fail> {
     for (step, expected) in steps {
-        same(rt, &take_step(&mut session, alloc, *step)?, expected);
+        same(rt, &take_step(session, rt.alloc(), *step)?, expected);
     }
-    Ok(session)
+    Ok(())
+}
+
+// The seq, the lane, the place and the stamp of a session's first receipt.
+type FirstReceipt = Option<(u64, u8, u64, u64)>;
+
+fn first_receipt(session: &Session) -> FirstReceipt {
+    let receipt = session.receipts().first()?;
+    Some((receipt.call.seq, receipt.lane, receipt.place, receipt.stamp))
+}
+
+// What a new session of client 1 has when it took these steps: the stamp that it saw, how many receipts and which is the
+// first, what its last request shows, and whether a call is outstanding.
+type State = (u64, usize, FirstReceipt, Option<Shown>, bool);
+
+fn state_of(session: &Session) -> State {
+    (
+        session.seen(),
+        session.receipts().len(),
+        first_receipt(session),
+        session.last_request().map(message_shown),
+        session.outstanding().is_some(),
+    )
+}
+
+fn check_played<R: Abort + AllocGlobal>(
+    rt: &R,
+    steps: &[(Step, Shown)],
+    wanted: State,
+) -> Result<(), Fail> {
+    let mut session = Session::new(rt.alloc(), 1);
+    check_steps(rt, &mut session, steps)?;
+    same(rt, &state_of(&session), &wanted);
+    Ok(())
 }
 
 // The question where the key is. Its hash was worked out apart from the code.
@@ -148,19 +184,11 @@ const ONE_CALL: &[(Step, Shown)] = &[
     (Step::Turn, Shown::Silent),
 ];
 
-// The seq, the lane, the place and the stamp of the first receipt.
-fn first_receipt(session: &Session) -> Option<(u64, u8, u64, u64)> {
-    let receipt = session.receipts().first()?;
-    Some((receipt.call.seq, receipt.lane, receipt.place, receipt.stamp))
-}
-
+// Its answer has the stamp 9.
 #[test]
 fn a_call_is_looked_up_asked_moved_asked_again_and_done(rt: HostRuntime) -> Result<(), Fail> {
-    let session = played(&rt, rt.alloc(), ONE_CALL)?;
-    assert!(rt; session.outstanding().is_none());
-    same(&rt, &(session.seen(), session.receipts().len()), &(9, 1));
-    same(&rt, &first_receipt(&session), &Some((1, 4, 6, 9)));
-    Ok(())
+    let last = Some(Shown::Request(3, 5, 1, 0));
+    check_played(&rt, ONE_CALL, (9, 1, Some((1, 4, 6, 9)), last, false))
 }
 
 // The next call of the key goes to the owner that is cached, with the stamp that was seen. After so many requests, and
@@ -181,10 +209,8 @@ const THREE_REQUESTS: &[(Step, Shown)] = &[
 #[test]
 fn after_three_requests_the_key_is_looked_up(rt: HostRuntime) -> Result<(), Fail> {
     same(&rt, &MOST_REQUESTS, &3);
-    let session = played(&rt, rt.alloc(), THREE_REQUESTS)?;
-    let last = session.last_request().map(message_shown);
-    same(&rt, &last, &Some(Shown::Request(2, 4, 2, 9)));
-    Ok(())
+    let last = Some(Shown::Request(2, 4, 2, 9));
+    check_played(&rt, THREE_REQUESTS, (9, 1, Some((1, 4, 6, 9)), last, true))
 }
 
 const TWO_CALLS: &[(Step, Shown)] = &[
@@ -201,7 +227,5 @@ const TWO_CALLS: &[(Step, Shown)] = &[
 
 #[test]
 fn a_second_call_waits_and_an_older_answer_is_ignored(rt: HostRuntime) -> Result<(), Fail> {
-    let session = played(&rt, rt.alloc(), TWO_CALLS)?;
-    same(&rt, &(session.seen(), session.receipts().len()), &(9, 2));
-    Ok(())
+    check_played(&rt, TWO_CALLS, (9, 2, Some((1, 4, 6, 9)), None, false))
 }

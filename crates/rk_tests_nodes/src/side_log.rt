@@ -52,14 +52,41 @@ fn replay<R: Abort>(
     Ok(logs.replay(worker, items, table)?)
 }
 
-// How many bytes each segment has.
-fn lengths(alloc: Global, segments: &[Segment]) -> Result<Vec<u32>, Fail> {
-    Ok(
-        segments
-            .iter()
-            .map(|segment| segment.length())
-            .collect(alloc)?,
-    )
+// How many bytes each segment has that is sealed now.
+fn sealed(alloc: Global, logs: &mut SideLogs) -> Result<Vec<u32>, Fail> {
+    Ok(logs.seal().iter().map(Segment::length).collect(alloc)?)
+}
+
+// Two batches of items are replayed, the first with an older item behind a newer one of its key.
+fn check_newer<R: Abort + AllocGlobal>(
+    rt: &R,
+    logs: &mut SideLogs,
+    table: &mut SortedTable,
+) -> Result<(), Fail> {
+    let first = [(b'a', 5, 1), (b'a', 4, 1), (b'b', 1, 1)];
+    let newer = replay(rt, rt.alloc(), logs, table, 0, &first)?;
+    same(rt, &(newer, logs.bytes()), &(2, 80));
+    let second = [(b'a', 3, 1), (b'b', 2, 1)];
+    let newer = replay(rt, rt.alloc(), logs, table, 3, &second)?;
+    same(rt, &(newer, logs.bytes()), &(1, 120));
+    Ok(())
+}
+
+// The version of `b` in the table.
+fn version_of_b(alloc: Global, table: &SortedTable) -> Result<Option<u64>, Fail> {
+    let key = Key::new(alloc, b"b")?;
+    Ok(table.get(1, &key).map(|held| held.version))
+}
+
+// The segments that are sealed now have so many bytes.
+fn check_sealed<R: Abort + AllocGlobal>(
+    rt: &R,
+    logs: &mut SideLogs,
+    wanted: &[u32],
+) -> Result<(), Fail> {
+    same(rt, &sealed(rt.alloc(), logs)?.as_slice(), &wanted);
+    same(rt, &logs.bytes(), &0);
+    Ok(())
 }
 
 // An item with a key and a value of one byte takes 40 bytes. The older one of two goes nowhere.
@@ -67,24 +94,17 @@ fn lengths(alloc: Global, segments: &[Segment]) -> Result<Vec<u32>, Fail> {
 fn replays_what_is_newer(rt: HostRuntime) -> Result<(), Fail> {
     let mut table = SortedTable::new(rt.alloc());
     let mut logs = SideLogs::new(rt.alloc());
-    let first = [(b'a', 5, 1), (b'a', 4, 1), (b'b', 1, 1)];
-    let newer = replay(&rt, rt.alloc(), &mut logs, &mut table, 0, &first)?;
-    same(&rt, &(newer, logs.bytes()), &(2, 80));
-    let second = [(b'a', 3, 1), (b'b', 2, 1)];
-    let newer = replay(&rt, rt.alloc(), &mut logs, &mut table, 3, &second)?;
-    same(&rt, &(newer, logs.bytes()), &(1, 120));
-    let key = Key::new(rt.alloc(), b"b")?;
-    same(&rt, &table.get(1, &key).map(|held| held.version), &Some(2));
-    let lengths = lengths(rt.alloc(), logs.seal().as_slice())?;
-    same(&rt, &lengths.as_slice(), &[80, 40].as_slice());
-    Ok(())
+    check_newer(&rt, &mut logs, &mut table)?;
+    same(&rt, &version_of_b(rt.alloc(), &table)?, &Some(2));
+    check_sealed(&rt, &mut logs, &[80, 40])
 }
 
-// An item with a value of 65,000 bytes takes 65,040, and two of them find room in a segment. What was sealed is gone.
-#[test]
-fn seals_three_segments_of_a_worker(rt: HostRuntime) -> Result<(), Fail> {
-    let mut table = SortedTable::new(rt.alloc());
-    let mut logs = SideLogs::new(rt.alloc());
+// Worker 2 replays five items with values of 65,000 bytes, and worker 1 one.
+fn replay_six<R: Abort + AllocGlobal>(
+    rt: &R,
+    logs: &mut SideLogs,
+    table: &mut SortedTable,
+) -> Result<(), Fail> {
     for (worker, key) in [
         (2, b'a'),
         (1, b'b'),
@@ -94,13 +114,17 @@ fn seals_three_segments_of_a_worker(rt: HostRuntime) -> Result<(), Fail> {
         (2, b'f'),
     ] {
         let rows = [(key, 1, 65_000)];
-        let newer = replay(&rt, rt.alloc(), &mut logs, &mut table, worker, &rows)?;
-        same(&rt, &newer, &1);
-    }
-    let rows: [&[u32]; 2] = [&[65_040, 130_080, 130_080, 65_040], &[]];
-    for wanted in rows {
-        let lengths = lengths(rt.alloc(), logs.seal().as_slice())?;
-        same(&rt, &(lengths.as_slice(), logs.bytes()), &(wanted, 0));
+        same(rt, &replay(rt, rt.alloc(), logs, table, worker, &rows)?, &1);
     }
     Ok(())
+}
+
+// An item with a value of 65,000 bytes takes 65,040, and two of them find room in a segment. What was sealed is gone.
+#[test]
+fn seals_three_segments_of_a_worker(rt: HostRuntime) -> Result<(), Fail> {
+    let mut table = SortedTable::new(rt.alloc());
+    let mut logs = SideLogs::new(rt.alloc());
+    replay_six(&rt, &mut logs, &mut table)?;
+    check_sealed(&rt, &mut logs, &[65_040, 130_080, 130_080, 65_040])?;
+    check_sealed(&rt, &mut logs, &[])
 }

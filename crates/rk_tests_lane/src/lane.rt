@@ -1,4 +1,4 @@
-ghost use Rattle.std.specs.Prelude.{◌≡◌, IfOk};
+ghost use Rattle.std.specs.Prelude.{◌≡◌, IfOk, length};
 ghost use Rattle.rk_world.specs.Premises.{IsMaster, MayAct};
 ghost use Rattle.rk_lane.specs.Events.{MayComeTo};
 
@@ -9,8 +9,8 @@ use rk_outside::MemoryReplica;
 use rk_session::Session;
 use rk_tablet_map::Phase;
 use rk_tests::items::WHOLE;
-use rk_types::{Answer, Key, Node, Op, Outcome, Value, hash, lane_of};
-use rk_world::{Event, Seen, StepError, Taken};
+use rk_types::{Answer, Key, NoMemory, Node, Op, Outcome, Value, hash, lane_of};
+use rk_world::{Event, StepError, Taken};
 use std::alloc::Global;
 use std::process::Abort;
 use std::test::Fail;
@@ -33,23 +33,39 @@ fn client(alloc: Global) -> Result<Session, Fail>
     Ok(session)
 }
 
+// The number of the first message that an event sends, 0 where there is none, and how many it sends.
+type Sent = (u64, u64);
+
+// One replica.
+fn replicas<'a>(alloc: Global) -> Result<Vec<MemoryReplica<'a>>, NoMemory>
+    ensures { IfOk result (λ replicas. length replicas.items ≡ 1) }
+{
+    let mut replicas = Vec::with_capacity(alloc, 1)?;
+    replicas.push_reserved(MemoryReplica::new(alloc));
+    Ok(replicas)
+}
+
 impl<'a> Pair<'a> {
+    // Nothing was added.
+    fn empty(alloc: Global) -> Result<Pair<'a>, NoMemory> {
+        let replicas = replicas(alloc)?;
+        let lane = Lane::new(alloc, lane_of(hash(b"a")), 2, replicas)?;
+        Ok(Pair { lane })
+    }
+
     // Master 1 owns all of a table, and client 7 was added.
     fn new(alloc: Global) -> Result<Pair<'a>, Fail> {
-        let mut replicas = Vec::with_capacity(alloc, 1)?;
-        replicas.push_reserved(MemoryReplica::new(alloc));
-        let mut pair = Pair {
-            lane: Lane::new(alloc, lane_of(hash(b"a")), 2, replicas)?,
-        };
+        let mut pair = Pair::empty(alloc)?;
         pair.add()?;
         Ok(pair)
     }
 
     // An event happens. Nothing is said of what it changes: no test needs that, and each call would be proved with it.
-    fn step(&mut self, event: Event) -> Result<Seen, StepError>
+    fn step(&mut self, event: Event) -> Result<Sent, StepError>
         requires { MayComeTo self.old.lane event }
     {
-        self.lane.step(event)
+        let seen = self.lane.step(event)?;
+        Ok((seen.first, seen.sent))
     }
 
     // The tablet and the client are added.
@@ -64,37 +80,38 @@ impl<'a> Pair<'a> {
     }
 
     // The client takes its turn.
-    fn ask(&mut self, session: &mut Session) -> Result<Seen, StepError>
+    fn ask(&mut self, session: &mut Session) -> Result<Sent, StepError>
         requires { MayAct 2 session.old }
         ensures { MayAct 2 session.new }
     {
-        self.lane.ask(session)
+        let seen = self.lane.ask(session)?;
+        Ok((seen.first, seen.sent))
     }
 
-    // The client takes the message of a number.
-    fn accept(&mut self, number: u64, session: &mut Session) -> Result<Seen, StepError>
+    // The client takes the message of a number: what it makes of it.
+    fn accept(&mut self, number: u64, session: &mut Session) -> Result<Option<Taken>, StepError>
         requires { MayAct 2 session.old }
         ensures { MayAct 2 session.new }
     {
-        self.lane.accept(number, session)
+        Ok(self.lane.accept(number, session)?.taken)
     }
 
-    fn deliver(&mut self, number: u64) -> Result<Seen, StepError> {
+    fn deliver(&mut self, number: u64) -> Result<Sent, StepError> {
         self.step(Event::Deliver(number))
     }
 
-    fn turn(&mut self, master: u8) -> Result<Seen, StepError>
+    fn turn(&mut self, master: u8) -> Result<Sent, StepError>
         requires { IsMaster 2 master }
     {
         self.step(Event::Turn(Node::Master(master)))
     }
 
-    fn coordinate(&mut self) -> Result<Seen, StepError> {
+    fn coordinate(&mut self) -> Result<Sent, StepError> {
         self.step(Event::Turn(Node::Coordinator))
     }
 
     // The tablet begins to move to master 2.
-    fn migrate(&mut self) -> Result<Seen, StepError> {
+    fn migrate(&mut self) -> Result<Sent, StepError> {
         self.step(Event::Migrate { tablet: 1, to: 2 })
     }
 
@@ -105,7 +122,7 @@ impl<'a> Pair<'a> {
     {
         self.ask(session)?;
         self.deliver(1)?;
-        Ok(self.accept(2, session)?.taken)
+        self.accept(2, session)
     }
 
     // The client's request comes to the owner, which sends its entry to the backup: the number of the request, how many
@@ -114,29 +131,31 @@ impl<'a> Pair<'a> {
         requires { MayAct 2 session.old }
         ensures { MayAct 2 session.new }
     {
-        let asked = self.ask(session)?.first;
-        let sent = self.deliver(3)?.sent;
-        Ok((asked, sent, self.turn(1)?.first))
+        let (asked, _) = self.ask(session)?;
+        let (_, sent) = self.deliver(3)?;
+        let (append, _) = self.turn(1)?;
+        Ok((asked, sent, append))
     }
 
-    // The put goes through the lane, up to the answer.
-    fn put(&mut self, alloc: Global) -> Result<(), Fail> {
-        let mut session = client(alloc)?;
-        self.locate(&mut session)?;
-        self.ask(&mut session)?;
+    // A client's put goes through the lane, up to the answer.
+    fn put(&mut self, session: &mut Session) -> Result<(), StepError>
+        requires { MayAct 2 session.old }
+    {
+        self.locate(session)?;
+        self.ask(session)?;
         self.settle(1);
         Ok(())
     }
 
     // Master 1 crashes, where master 2 lives.
-    fn crash(&mut self) -> Result<Seen, StepError> {
+    fn crash(&mut self) -> Result<Sent, StepError> {
         if !self.lane.lives_another(1) {
             return Err(StepError::Dead(2));
         }
         self.step(Event::Crash(1))
     }
 
-    fn notice(&mut self) -> Result<Seen, StepError> {
+    fn notice(&mut self) -> Result<Sent, StepError> {
         self.step(Event::Notice(1))
     }
 
@@ -196,7 +215,7 @@ fn check_delivered<R: Abort>(
     number: u64,
     wanted: (u64, usize),
 ) -> Result<(), Fail> {
-    let first = pair.deliver(number)?.first;
+    let (first, _) = pair.deliver(number)?;
     same(rt, &(first, pair.lane.journal().len()), &wanted);
     Ok(())
 }
@@ -205,7 +224,7 @@ fn check_delivered<R: Abort>(
 fn check_told<R: Abort>(rt: &R, pair: &mut Pair<'_>, session: &mut Session) -> Result<(), Fail>
     requires { MayAct 2 session.old }
 {
-    let taken = pair.accept(6, session)?.taken;
+    let taken = pair.accept(6, session)?;
     same(rt, &taken, &Some(Taken::Done));
     let counts = (pair.lane.accepted(), session.receipts().len());
     same(rt, &counts, &(1, 1));
@@ -229,16 +248,22 @@ fn a_put_is_told_once_the_backup_holds_it(rt: HostRuntime) -> Result<(), Fail> {
     check_put(&rt, &mut pair, &mut session)
 }
 
+// A client puts the key.
+fn put(alloc: Global, pair: &mut Pair<'_>) -> Result<(), Fail> {
+    let mut session = client(alloc)?;
+    pair.put(&mut session)?;
+    Ok(())
+}
+
 // A pair in which the key was put.
 fn pair_with_record<'a>(alloc: Global) -> Result<Pair<'a>, Fail> {
     let mut pair = Pair::new(alloc)?;
-    pair.put(alloc)?;
+    put(alloc, &mut pair)?;
     Ok(pair)
 }
 
 // Whether what was put moves to master 2 with its tablet, where each message comes so often.
-fn check_move<R: Abort + AllocGlobal>(rt: &R, often: u8) -> Result<(), Fail> {
-    let mut pair = pair_with_record(rt.alloc())?;
+fn check_move<R: Abort>(rt: &R, pair: &mut Pair<'_>, often: u8) -> Result<(), Fail> {
     pair.migrate()?;
     same(rt, &pair.shown(), &(1, false));
     pair.settle(often);
@@ -249,14 +274,16 @@ fn check_move<R: Abort + AllocGlobal>(rt: &R, often: u8) -> Result<(), Fail> {
 // What comes twice moves the tablet no further.
 #[test]
 fn a_tablet_moves_to_another_master(rt: HostRuntime) -> Result<(), Fail> {
-    check_move(&rt, 1)?;
-    check_move(&rt, 2)
+    for often in [1, 2] {
+        let mut pair = pair_with_record(rt.alloc())?;
+        check_move(&rt, &mut pair, often)?;
+    }
+    Ok(())
 }
 
 // Whether master 2 rebuilds the tablet of master 1 from what the backup stores, where each message comes so often. A dead
 // master takes no turn.
-fn check_rebuild<R: Abort + AllocGlobal>(rt: &R, often: u8) -> Result<(), Fail> {
-    let mut pair = pair_with_record(rt.alloc())?;
+fn check_rebuild<R: Abort>(rt: &R, pair: &mut Pair<'_>, often: u8) -> Result<(), Fail> {
     pair.crash()?;
     same(rt, &pair.turn(1), &Err(StepError::Dead(1)));
     pair.notice()?;
@@ -267,22 +294,26 @@ fn check_rebuild<R: Abort + AllocGlobal>(rt: &R, often: u8) -> Result<(), Fail> 
 
 #[test]
 fn a_tablet_is_rebuilt_after_a_crash(rt: HostRuntime) -> Result<(), Fail> {
-    check_rebuild(&rt, 1)?;
-    check_rebuild(&rt, 2)
+    for often in [1, 2] {
+        let mut pair = pair_with_record(rt.alloc())?;
+        check_rebuild(&rt, &mut pair, often)?;
+    }
+    Ok(())
 }
 
 // Each refusal has its cause, and leaves the wire and the greatest number as they were.
+fn check_refusals<R: Abort>(rt: &R, pair: &mut Pair<'_>) {
+    let top = pair.lane.top();
+    same(rt, &pair.deliver(9), &Err(StepError::NoMessage(9)));
+    same(rt, &pair.notice(), &Err(StepError::Alive(1)));
+    same(rt, &pair.lane.wire().count(), &0);
+    same(rt, &(pair.lane.top(), pair.lane.spent()), &(top, false));
+}
+
 #[test]
 fn a_refusal_changes_nothing(rt: HostRuntime) -> Result<(), Fail> {
     let mut pair = Pair::new(rt.alloc())?;
-    let top = pair.lane.top();
-    same(&rt, &pair.deliver(9), &Err(StepError::NoMessage(9)));
-    same(&rt, &pair.notice(), &Err(StepError::Alive(1)));
-    same(
-        &rt,
-        &(pair.lane.wire().count(), pair.lane.top(), pair.lane.spent()),
-        &(0, top, false),
-    );
+    check_refusals(&rt, &mut pair);
     Ok(())
 }
 
@@ -308,9 +339,9 @@ fn client_that_saw(alloc: Global, stamp: u64) -> Result<Session, Fail>
 }
 
 // What becomes of the turn of a client that has seen this stamp.
-fn turn_after(alloc: Global, stamp: u64) -> Result<Result<Seen, StepError>, Fail> {
-    let mut pair = Pair::new(alloc)?;
+fn turn_after(alloc: Global, stamp: u64) -> Result<Result<Sent, StepError>, Fail> {
     let mut session = client_that_saw(alloc, stamp)?;
+    let mut pair = Pair::new(alloc)?;
     Ok(pair.ask(&mut session))
 }
 
@@ -323,7 +354,7 @@ fn a_client_that_has_seen_2_to_the_48_takes_no_turn(rt: HostRuntime) -> Result<(
 
 #[test]
 fn a_client_that_has_seen_one_less_asks_where_its_key_is(rt: HostRuntime) -> Result<(), Fail> {
-    let sent = turn_after(rt.alloc(), 281_474_976_710_655)??.sent;
+    let (_, sent) = turn_after(rt.alloc(), 281_474_976_710_655)??;
     same(&rt, &sent, &1);
     Ok(())
 }

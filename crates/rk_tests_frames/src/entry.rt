@@ -2,11 +2,11 @@ ghost use Rattle.std.specs.Prelude.{IfOk};
 ghost use Rattle.rk_entry.specs.Lawful.{IsLawfulEntry};
 
 use crate::comparing::{same, same_in};
-use crate::items::{ends, item, spoilt};
 use rk_entry::{
     BAD_BODY_LENGTH, BAD_CHOICE, BAD_KEY, BAD_KIND, BAD_MARK, BAD_NUMBER, BAD_VALUE, Carried,
     DecodeError, Entry, Kind, decode, encode, entries, entry_len,
 };
+use rk_tests::items::{ends, item, spoilt};
 use rk_types::{End, NoMemory, Range};
 use std::alloc::Global;
 use std::process::Abort;

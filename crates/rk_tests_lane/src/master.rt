@@ -6,14 +6,34 @@ use crate::comparing::same;
 use rk_master::{MasterLane, StagedCalls, Worked};
 use rk_message::{Body, Message, Reply, Request, Stored};
 use rk_tests::items::{Asked, Told, WHOLE, call, op_of, outcome_of};
-use rk_types::{Answer, Call, Key, Node};
+use rk_types::{Answer, Key, Node, Outcome};
 use std::alloc::Global;
 use std::process::Abort;
 use std::test::Fail;
 
-// Whether these calls are staged.
-fn staged(calls: &StagedCalls) -> [bool; 3] {
-    [(1, 7), (1, 8), (2, 7)].map(|(client, seq)| calls.is_staged(client, seq))
+// Whether calls with seq 7 and 8 of client 1, and with seq 7 of client 2, are staged.
+fn staged(calls: &StagedCalls) -> (bool, bool, bool) {
+    (
+        calls.is_staged(1, 7),
+        calls.is_staged(1, 8),
+        calls.is_staged(2, 7),
+    )
+}
+
+// A client's call with seq 7 is staged at a place.
+fn stage(alloc: Global, calls: &mut StagedCalls, place: u64, client: u32) -> Result<(), Fail> {
+    let mut call = call(alloc, 7, Asked::Get)?;
+    call.client = client;
+    calls.insert(place, call)?;
+    Ok(())
+}
+
+fn check_taken<R: Abort>(rt: &R, calls: &mut StagedCalls) {
+    same(rt, &staged(calls), &(true, false, true));
+    for (place, wanted) in [(0, (true, false, true)), (2, (false, false, true))] {
+        let _ = calls.take(place);
+        same(rt, &staged(calls), &wanted);
+    }
 }
 
 // Two clients stage a call with the same seq, and one of them two more.
@@ -21,14 +41,9 @@ fn staged(calls: &StagedCalls) -> [bool; 3] {
 fn a_call_is_staged_until_the_last_of_its_name_is_taken(rt: HostRuntime) -> Result<(), Fail> {
     let mut calls = StagedCalls::new(rt.alloc());
     for (place, client) in [(0, 1), (1, 2), (2, 1)] {
-        let call = call(rt.alloc(), 7, Asked::Get)?;
-        calls.insert(place, Call { client, ..call })?;
+        stage(rt.alloc(), &mut calls, place, client)?;
     }
-    same(&rt, &staged(&calls), &[true, false, true]);
-    for (place, wanted) in [(0, [true, false, true]), (2, [false, false, true])] {
-        let _ = calls.take(place);
-        same(&rt, &staged(&calls), &wanted);
-    }
+    check_taken(&rt, &mut calls);
     Ok(())
 }
 
@@ -59,7 +74,7 @@ fn ask(
 {
     let request = request(alloc, seq, asked)?;
     let client = if is_first { 1 } else { 2 };
-    Ok(master.handle(&Message {
+    Ok(master.handle(Message {
         from: Node::Client(client),
         to: Node::Master(1),
         body: Body::Request(request),
@@ -69,32 +84,37 @@ fn ask(
 // What the only backup tells of segment 1.
 fn told<R: Abort>(rt: &R, master: &mut MasterLane, length: u32) -> Result<Worked, Fail> {
     assert!(rt; master.backups() > 0);
-    Ok(master.handle(&Message {
+    Ok(master.handle(Message {
         from: Node::Backup(1),
         to: Node::Master(1),
         body: Body::Stored(Stored { segment: 1, length }),
     })?)
 }
 
-// Whether the first message is what master 1 answers to a call.
+// What master 1 answers to a call.
+fn reply_of(client: u32, seq: u64, outcome: Outcome) -> Message {
+    let reply = Reply {
+        seq,
+        stamp: 0,
+        place: 0,
+        answer: Answer::Done(outcome),
+    };
+    Message {
+        from: Node::Master(1),
+        to: Node::Client(client),
+        body: Body::Reply(reply),
+    }
+}
+
+// Whether the message of this place is what master 1 answers to a call.
 fn check_told<R: Abort + AllocGlobal>(
     rt: &R,
     sends: &[Message],
-    client: u32,
-    seq: u64,
-    told: Told,
+    place: usize,
+    (client, seq, told): (u32, u64, Told),
 ) -> Result<(), Fail> {
-    let reply = Message {
-        from: Node::Master(1),
-        to: Node::Client(client),
-        body: Body::Reply(Reply {
-            seq,
-            stamp: 0,
-            place: 0,
-            answer: Answer::Done(outcome_of(rt.alloc(), told)?),
-        }),
-    };
-    same(rt, &sends.first(), &Some(&reply));
+    let reply = reply_of(client, seq, outcome_of(rt.alloc(), told)?);
+    same(rt, &sends.get(place), &Some(&reply));
     Ok(())
 }
 
@@ -117,13 +137,11 @@ fn check_waits<R: Abort + AllocGlobal>(
     Ok(())
 }
 
-// Such a master at which a put is staged, which comes again then, and a conditional put that is refused.
-fn master_with_staged<R: Abort + AllocGlobal>(rt: &R) -> Result<MasterLane, Fail> {
-    let mut master = master_of_one(rt.alloc())?;
-    check_waits(rt, &mut master, true, Asked::Put(b"x"))?;
-    check_waits(rt, &mut master, true, Asked::Put(b"x"))?;
-    check_waits(rt, &mut master, false, Asked::CondPut(9, b"y"))?;
-    Ok(master)
+// A put is staged, which comes again then, and a conditional put that is refused.
+fn stage_two<R: Abort + AllocGlobal>(rt: &R, master: &mut MasterLane) -> Result<(), Fail> {
+    check_waits(rt, master, true, Asked::Put(b"x"))?;
+    check_waits(rt, master, true, Asked::Put(b"x"))?;
+    check_waits(rt, master, false, Asked::CondPut(9, b"y"))
 }
 
 // Two entries are staged, and stay so as long as the backup reports no length of their log.
@@ -136,8 +154,8 @@ fn check_unstored<R: Abort>(rt: &R, master: &mut MasterLane) -> Result<(), Fail>
 // What clients are told of a put and of a refusal.
 fn check_both_told<R: Abort + AllocGlobal>(rt: &R, work: &Worked) -> Result<(), Fail> {
     let sends = work.sends.as_slice();
-    check_told(rt, sends, 1, 1, Told::Written(1))?;
-    check_told(rt, sends.get(1..).unwrap_or(&[]), 2, 1, Told::Mismatch(1))
+    check_told(rt, sends, 0, (1, 1, Told::Written(1)))?;
+    check_told(rt, sends, 1, (2, 1, Told::Mismatch(1)))
 }
 
 // A put takes 40 bytes of the log, and a refusal 36.
@@ -151,7 +169,8 @@ fn check_stored<R: Abort + AllocGlobal>(rt: &R, master: &mut MasterLane) -> Resu
 
 #[test]
 fn clients_are_told_once_the_backup_holds_their_entries(rt: HostRuntime) -> Result<(), Fail> {
-    let mut master = master_with_staged(&rt)?;
+    let mut master = master_of_one(rt.alloc())?;
+    stage_two(&rt, &mut master)?;
     check_unstored(&rt, &mut master)?;
     check_stored(&rt, &mut master)
 }
@@ -169,7 +188,7 @@ fn check_answered<R: Abort + AllocGlobal>(
 {
     let work = ask(master, rt.alloc(), is_first, seq, asked)?;
     let client = if is_first { 1 } else { 2 };
-    check_told(rt, work.sends.as_slice(), client, seq, wanted)
+    check_told(rt, work.sends.as_slice(), 0, (client, seq, wanted))
 }
 
 // Client 1 asks, and is told so once the backup holds all of the log.
@@ -184,18 +203,21 @@ fn check_ended<R: Abort + AllocGlobal>(
     ask(master, rt.alloc(), true, seq, asked)?;
     let length = u32::try_from(master.log_bytes()).unwrap_or(0);
     let work = told(rt, master, length)?;
-    check_told(rt, work.sends.as_slice(), 1, seq, wanted)
+    check_told(rt, work.sends.as_slice(), 0, (1, seq, wanted))
 }
 
 // The put comes again once it is applied, and is told again. A get is told at once.
+fn check_applied<R: Abort + AllocGlobal>(rt: &R, master: &mut MasterLane) -> Result<(), Fail> {
+    let put = Asked::Put(b"x");
+    check_ended(rt, master, 1, put, Told::Written(1))?;
+    check_answered(rt, master, true, 1, put, Told::Written(1))?;
+    check_answered(rt, master, false, 2, Asked::Get, Told::Found(1, b"x"))
+}
+
 #[test]
 fn what_is_applied_is_told_at_once(rt: HostRuntime) -> Result<(), Fail> {
     let mut master = master_of_one(rt.alloc())?;
-    let put = Asked::Put(b"x");
-    check_ended(&rt, &mut master, 1, put, Told::Written(1))?;
-    check_answered(&rt, &mut master, true, 1, put, Told::Written(1))?;
-    let found = Told::Found(1, b"x");
-    check_answered(&rt, &mut master, false, 2, Asked::Get, found)
+    check_applied(&rt, &mut master)
 }
 
 // One call after the other: a conditional put finds no record, another version, the one that was asked for, and a

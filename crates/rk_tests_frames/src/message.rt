@@ -2,7 +2,6 @@ ghost use Rattle.std.specs.Prelude.{IfOk};
 ghost use Rattle.rk_message.specs.Frames.{IsLawfulMessage};
 
 use crate::comparing::{same, same_in};
-use crate::items::spoilt;
 use frames::{
     ABSENT, APPEND, CLOSE, COND_PUT, COPY, DELETE, DELETED, GOT, GRANT, JOINED, LOCATED, LOOKUP,
     MISMATCH, MISSING, MOVED, NO_OWNER, NOT_YET, OWN, PREPARE, PULL, PULLED, PUT, READ, READY,
@@ -13,6 +12,7 @@ use rk_entry::{
     BAD_BODY_LENGTH, BAD_CHOICE, BAD_KEY, BAD_KIND, BAD_NUMBER, BAD_VALUE, DecodeError,
 };
 use rk_message::{Kind, Message, decode_frame, encode_frame, frame_len};
+use rk_tests::items::spoilt;
 use rk_types::NoMemory;
 use std::alloc::Global;
 use std::process::Abort;

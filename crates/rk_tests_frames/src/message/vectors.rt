@@ -1,8 +1,8 @@
 use super::check_whole;
 use crate::comparing::{same, same_in};
-use crate::items::split_row;
 use rk_entry::{BAD_BODY_LENGTH, BAD_CHOICE, BAD_KEY, BAD_KIND, BAD_NUMBER, DecodeError};
 use rk_message::decode_frame;
+use rk_tests::items::split_row;
 use std::process::Abort;
 use std::test::Fail;
 

@@ -28,18 +28,14 @@ fn wire_of_two(alloc: Global) -> Result<Wire, NoMemory>
     ensures { IfOk result (λ wire. wire.sent ≡ 2) }
 {
     let mut wire = Wire::new(alloc);
-    wire.send(stored(1))?;
-    wire.send(stored(2))?;
+    wire.send(&stored(1))?;
+    wire.send(&stored(2))?;
     Ok(wire)
 }
 
 // Whether message 2 is there, and how many messages with how many bytes.
 fn shown(wire: &Wire) -> (bool, u64, u64) {
-    (
-        wire.message(2) == Ok(&stored(2)),
-        wire.count(),
-        wire.bytes(),
-    )
+    (wire.message(2) == Ok(stored(2)), wire.count(), wire.bytes())
 }
 
 #[test]
@@ -83,6 +79,6 @@ fn gives_no_number_twice(rt: HostRuntime) -> Result<(), Fail> {
     let mut wire = wire_of_two(rt.alloc())?;
     same(&rt, &(wire.forget(2), wire.forget(1)), &(Ok(()), Ok(())));
     same(&rt, &(shown(&wire), wire.oldest()), &((false, 0, 0), None));
-    same(&rt, &(wire.send(stored(3)), wire.sent()), &(Ok(3), 3));
+    same(&rt, &(wire.send(&stored(3)), wire.sent()), &(Ok(3), 3));
     Ok(())
 }

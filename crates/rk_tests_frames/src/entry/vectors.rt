@@ -1,9 +1,9 @@
 use super::check_whole;
 use crate::comparing::{same, same_in};
-use crate::items::split_row;
 use rk_entry::{
     BAD_BODY_LENGTH, BAD_CHOICE, BAD_KEY, BAD_KIND, BAD_NUMBER, BAD_VALUE, DecodeError, decode,
 };
+use rk_tests::items::split_row;
 use std::process::Abort;
 use std::test::Fail;
 

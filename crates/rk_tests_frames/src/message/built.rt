@@ -5,12 +5,12 @@ use super::frames::{
 };
 use super::read;
 use crate::comparing::same;
-use crate::items::{Told, ends, item, outcome_of};
 use rk_entry::Entry;
 use rk_message::{
     Append, Body, CopySegment, Got, Grant, Located, Lookup, Message, Prepare, Pull, Pulled,
     ReadSegment, Ready, Rebuild, Rebuilt, Reply, Request, Stored, Tenure, Transfer, Want,
 };
+use rk_tests::items::{Told, ends, item, outcome_of};
 use rk_types::{Answer, End, Held, Key, Listed, Member, NoMemory, Node, Op, Range, Token, Value};
 use std::alloc::Global;
 use std::process::Abort;
