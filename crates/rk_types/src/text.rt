@@ -3,6 +3,7 @@ ghost use Rattle.rk_types.specs.Text.{bad_byte, key_fault, text_fault, value_fau
 ghost use Rattle.rk_types.specs.declared.text.TextError.TheVariants.{NoMemory as no_memory};
 
 use crate::memory::NoMemory;
+use smallvec::SmallVec;
 use std::alloc::{AllocError, AllocFailed, Global};
 use std::cmp::Ordering;
 use std::marker::Model;
@@ -19,6 +20,9 @@ pub const FIRST_TEXT_BYTE: u8 = 0x21;
 
 /// The greatest byte that a key or a value may hold, `~`.
 pub const LAST_TEXT_BYTE: u8 = 0x7e;
+
+// As many bytes of a key or a value as this need no memory of their own.
+const BYTES_INLINE: usize = 16;
 
 /// Why bytes are no key or no value.
 #[derive(Clone, Copy, Debug, PartialEq, Eq, Error)]
@@ -65,9 +69,9 @@ fn check(bytes: &[u8], shortest: usize, longest: usize) -> Result<(), TextError>
 }
 
 /// The name of a record: 1 to 250 printed characters other than the blank.
-#[derive(Debug, Drop)]
+#[derive(Debug)]
 pub struct Key {
-    bytes: Vec<u8>,
+    bytes: SmallVec<u8, BYTES_INLINE>,
 }
 
 impl Model for Key {
@@ -91,7 +95,7 @@ impl Key {
     {
         check(bytes, 1, LONGEST_KEY)?;
         Ok(Key {
-            bytes: Vec::from_slice(alloc, bytes)?,
+            bytes: SmallVec::from_slice(alloc, bytes)?,
         })
     }
 
@@ -108,15 +112,15 @@ impl Key {
         ensures { IfOk result (λ key. key ≡ self.now) }
     {
         Ok(Key {
-            bytes: self.bytes.clone()?,
+            bytes: SmallVec::from_slice(*self.bytes.allocator(), self.bytes())?,
         })
     }
 }
 
 /// What a record holds: 0 to 65,000 printed characters other than the blank.
-#[derive(Debug, Drop)]
+#[derive(Debug)]
 pub struct Value {
-    bytes: Vec<u8>,
+    bytes: SmallVec<u8, BYTES_INLINE>,
 }
 
 impl Model for Value {
@@ -140,7 +144,7 @@ impl Value {
     {
         check(bytes, 0, LONGEST_VALUE)?;
         Ok(Value {
-            bytes: Vec::from_slice(alloc, bytes)?,
+            bytes: SmallVec::from_slice(alloc, bytes)?,
         })
     }
 
@@ -157,8 +161,15 @@ impl Value {
         ensures { IfOk result (λ value. value ≡ self.now) }
     {
         Ok(Value {
-            bytes: self.bytes.clone()?,
+            bytes: SmallVec::from_slice(*self.bytes.allocator(), self.bytes())?,
         })
+    }
+}
+
+// No derive, so that to drop a key is a call in proofs, and no cases of where its bytes stand.
+impl Drop for Key {
+    fn drop(self) {
+        let Key { bytes: _ } = self;
     }
 }
 
@@ -172,7 +183,7 @@ impl PartialEq for Key {
     ghost laws = { Prim.search (comparing, rules) };
 
     fn eq(&self, other: &Key) -> bool {
-        self.bytes == other.bytes
+        self.bytes() == other.bytes()
     }
 }
 
@@ -181,6 +192,13 @@ impl Eq for Key {
     ghost use Rattle.std.specs.Cmp.Rules.{comparing};
 
     ghost laws = { Prim.search (comparing, rules) };
+}
+
+// No derive, so that to drop a value is a call in proofs, and no cases of where its bytes stand.
+impl Drop for Value {
+    fn drop(self) {
+        let Value { bytes: _ } = self;
+    }
 }
 
 impl PartialEq for Value {
@@ -193,7 +211,7 @@ impl PartialEq for Value {
     ghost laws = { Prim.search (comparing, rules) };
 
     fn eq(&self, other: &Value) -> bool {
-        self.bytes == other.bytes
+        self.bytes() == other.bytes()
     }
 }
 
@@ -219,7 +237,7 @@ impl Ord for Key {
     ghost matches_eq = { Prim.search (comparing, rules) };
 
     fn cmp(&self, other: &Key) -> Ordering {
-        self.bytes.cmp(&other.bytes)
+        self.bytes().cmp(other.bytes())
     }
 }
 
