@@ -108,21 +108,20 @@ impl MasterLog {
     }
 
     /// The bytes that a backup is to be sent next: those of the first segment that it is not known to hold whole, main
-    /// segments first, from the known length on. None where it holds all. It takes the time to copy the bytes: the
-    /// search begins at the backup's cursor, and passes at most one main segment, and side segments without bytes.
-    pub fn pending(&self, backup: u8) -> Result<Option<Piece>, NoMemory>
+    /// segments first, from the known length on; lent. None where it holds all. The search begins at the backup's cursor, and
+    /// passes at most one main segment, and side segments without bytes.
+    pub fn pending(&self, backup: u8) -> Option<Piece<'_>>
         requires { IsBackup self.now backup }
-        ensures { IfOk result (λ piece. piece ≡ pending self.now backup) }
+        ensures { result ≡ pending self.now backup }
     {
-        let alloc = *self.ends.allocator();
         let backup = backup as usize - 1;
         let cursor = self.cursors[backup];
         let main = self.main.as_slice();
-        if let Some(piece) = pending_in(alloc, main, FIRST_SEGMENT, backup, cursor.main)? {
-            return Ok(Some(piece));
+        if let Some(piece) = pending_in(main, FIRST_SEGMENT, backup, cursor.main) {
+            return Some(piece);
         }
         let sides = self.sides.as_slice();
-        pending_in(alloc, sides, FIRST_SIDE_SEGMENT, backup, cursor.sides)
+        pending_in(sides, FIRST_SIDE_SEGMENT, backup, cursor.sides)
     }
 
     /// Notes that a backup holds so many bytes of a segment, unless more are known. `Overreach` comes exactly when the

@@ -12,6 +12,7 @@ use crate::work::Worked;
 use rk_log::Piece;
 use rk_message::{Append, Body, Message};
 use rk_types::{Listed, NoMemory, Node};
+use std::alloc::Global;
 
 /// A master's turn: each backup is sent what it lacks, and then each tablet gets what its role asks of the master. A look
 /// at each backup, each tablet and each member whose log is gathered, and what is sent takes the time to copy it.
@@ -27,7 +28,7 @@ pub(crate) fn take_turn(state: &mut MasterState) -> Result<Worked, NoMemory>
 }
 
 /// Whether it is known at a look that a turn would send nothing: every backup holds the whole log, and the role of no tablet
-/// has a duty. A look at each backup and each tablet, and the time to copy what one backup lacks.
+/// has a duty. A look at each backup and each tablet.
 pub(crate) fn rests(state: &MasterState) -> bool
     requires { IsState state.now }
     ensures { result ≡ true → (turns.master_turn (master_of state.now)).sends ≡ [] }
@@ -35,7 +36,7 @@ pub(crate) fn rests(state: &MasterState) -> bool
     is_held(state) && are_at_rest(state.tablets.as_slice())
 }
 
-// Whether every backup is known to hold the whole log. A look at each backup, and the time to copy what one lacks.
+// Whether every backup is known to hold the whole log. A look at each backup.
 fn is_held(state: &MasterState) -> bool
     requires { IsState state.now }
     ensures { result ≡ true → turns.appends (master_of state.now) ≡ [] }
@@ -48,12 +49,12 @@ fn is_held(state: &MasterState) -> bool
     true
 }
 
-// Whether a backup is known to lack nothing. Where it lacks something, the time to copy that.
+// Whether a backup is known to lack nothing.
 fn holds_all(state: &MasterState, backup: u8) -> bool
     requires { IsBackup state.now.log backup }
     ensures { result ≡ true → pending state.now.log backup ≡ None }
 {
-    matches!(state.log.pending(backup), Ok(None))
+    state.log.pending(backup).is_none()
 }
 
 // Each backup is sent what it lacks, by rising number. A look at each backup, and the time to copy what is sent.
@@ -77,24 +78,25 @@ fn send_to(state: &MasterState, backup: u8, work: &mut Worked) -> Result<(), NoM
     ensures served { OnOk result (work.new.served.items ≡ work.old.served.items) }
     ensures marked { OnOk result (work.new.marked ≡ work.old.marked) }
 {
-    let Some(piece) = state.log.pending(backup)? else {
+    let Some(piece) = state.log.pending(backup) else {
         return Ok(());
     };
-    work.send(append_to(state.number, backup, piece))?;
+    let append = append_to(*work.sends.allocator(), state.number, backup, &piece)?;
+    work.send(append)?;
     Ok(())
 }
 
-// A master of this number hands a backup bytes of a segment.
-fn append_to(number: u8, backup: u8, piece: Piece) -> Message
-    ensures { (master : Master) → master.number ≡ number → result ≡ turns.append_to master backup piece }
+// A master of this number hands a backup bytes of a segment; a copy of them.
+fn append_to(alloc: Global, number: u8, backup: u8, piece: &Piece<'_>) -> Result<Message, NoMemory>
+    ensures { IfOk result (λ append. (master : Master) → master.number ≡ number → append ≡ turns.append_to master backup piece.now) }
 {
-    Message {
+    Ok(Message {
         from: Node::Master(number),
         to: Node::Backup(backup),
         body: Body::Append(Append {
             segment: piece.segment,
             at: piece.at,
-            bytes: Listed::from_vec(piece.bytes),
+            bytes: Listed::from_vec(Vec::from_slice(alloc, piece.bytes)?),
         }),
-    }
+    })
 }

@@ -51,7 +51,7 @@ fn told(log: &mut MasterLog, is_first: bool, segment: u32, count: u32) -> Result
 fn pending(log: &MasterLog) -> Result<Option<(u32, u32, usize)>, NoMemory>
     requires { length log.now.known ≡ 2 }
 {
-    let Some(piece) = log.pending(2)? else {
+    let Some(piece) = log.pending(2) else {
         return Ok(None);
     };
     Ok(Some((piece.segment, piece.at, piece.bytes.len())))

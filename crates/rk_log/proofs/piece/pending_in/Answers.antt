@@ -23,13 +23,13 @@ missing-requires-clause-within c =
       ap (λ (k : Copied). length k.segment.bytes) here,
     )
 
-pub returns-in_ok-missing-in-Some : goal.returns-in_ok-missing-in-Some
-returns-in_ok-missing-in-Some c =
+pub returns-in-Some : goal.returns-in-Some
+returns-in-Some c =
     let at = c.lacking_from-at.result in
     let there : at < length c.args.segments.now = ltb-true at (length c.args.segments.now) (sym c.in-Some.ensures.lookup.0) in
     let found : slice_get c.args.segments.now at ≡ Some c.in-Some.copied.now =
     slice_get-get_or c.args.segments.now at c.in-Some.copied.now there ∙ ap (λ (k : Copied). Some k) (sym c.in-Some.ensures.lookup.1) in
-    ap (λ (p : _). Some p) c.in_ok-missing-in-Some.ensures
+    ap (λ (p : _). Some p) c.missing.ensures
     ∙ ap (option_map (piece_at c.args.backup (c.args.first + at))) (sym found)
     ∙ ap (lacking_at c.args.backup c.args.first c.args.segments.now) c.lacking_from-at.ensures
 

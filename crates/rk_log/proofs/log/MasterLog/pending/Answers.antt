@@ -1,5 +1,4 @@
 use Rattle.std.proofs.Common.{◌≡◌, ◌+◌, ◌-◌, ◌∙◌, List, length, drop, Option, Some, None, sym, ap, subst, arith}
-use Rattle.std.specs.Prelude.{IfOk}
 use Rattle.std.specs.List.{prefix_len}
 use Rattle.std.specs.Option.{option_or}
 use Rattle.rk_entry.specs.declared.lists.TheConstants.{FIRST_SIDE_SEGMENT}
@@ -34,7 +33,7 @@ returns-in-Some c =
     subst (IsCursor (c.args.backup - 1) c.self.inside.main.items c.self.inside.sides.items) (sym c.index-cursor.ensures) (c.self.invariant.consistent.cursors_are (c.args.backup - 1) c.index-cursor.result.now within) in
     let first : lacking_at (c.args.backup - 1) FIRST_SEGMENT c.self.inside.main.items (c.index-cursor.result.now.main + prefix_len (is_whole_at (c.args.backup - 1)) (drop c.index-cursor.result.now.main c.self.inside.main.items)) ≡ Some c.in-Some.piece =
     ap (λ (m : List Copied). lacking_at (c.args.backup - 1) FIRST_SEGMENT m (c.index-cursor.result.now.main + prefix_len (is_whole_at (c.args.backup - 1)) (drop c.index-cursor.result.now.main m))) (sym c.as_slice-main.ensures.value)
-    ∙ sym c.in_ok-piece.ensures ∙ c.in-Some.is in
+    ∙ sym c.pending_in.ensures ∙ c.in-Some.is in
     sym (
     pending_is (parts_of c.self.inside) c.args.self.now c.args.backup c.index-cursor.result.now c.self.invariant.consistent c.self.view_is c.requires cursor
     ∙ ap (λ (o : Option PlacedBytes). option_or o (lacking_at (c.args.backup - 1) FIRST_SIDE_SEGMENT c.self.inside.sides.items (c.index-cursor.result.now.sides + prefix_len (is_whole_at (c.args.backup - 1)) (drop c.index-cursor.result.now.sides c.self.inside.sides.items)))) first
@@ -58,11 +57,11 @@ returns c =
     subst (IsCursor (c.args.backup - 1) c.self.inside.main.items c.self.inside.sides.items) (sym c.index-cursor.ensures) (c.self.invariant.consistent.cursors_are (c.args.backup - 1) c.index-cursor.result.now within) in
     let first : lacking_at (c.args.backup - 1) FIRST_SEGMENT c.self.inside.main.items (c.index-cursor.result.now.main + prefix_len (is_whole_at (c.args.backup - 1)) (drop c.index-cursor.result.now.main c.self.inside.main.items)) ≡ None =
     ap (λ (m : List Copied). lacking_at (c.args.backup - 1) FIRST_SEGMENT m (c.index-cursor.result.now.main + prefix_len (is_whole_at (c.args.backup - 1)) (drop c.index-cursor.result.now.main m))) (sym c.as_slice-main.ensures.value)
-    ∙ sym c.in_ok-piece.ensures ∙ c.in_default.is in
+    ∙ sym c.pending_in.ensures ∙ c.in_default.is in
     let all : lacking_at (c.args.backup - 1) FIRST_SIDE_SEGMENT c.as_slice-sides.result.now (c.index-cursor.result.now.sides + prefix_len (is_whole_at (c.args.backup - 1)) (drop c.index-cursor.result.now.sides c.as_slice-sides.result.now)) ≡ pending c.args.self.now c.args.backup =
     ap (λ (s : List Copied). lacking_at (c.args.backup - 1) FIRST_SIDE_SEGMENT s (c.index-cursor.result.now.sides + prefix_len (is_whole_at (c.args.backup - 1)) (drop c.index-cursor.result.now.sides s))) c.as_slice-sides.ensures.value
     ∙ sym (
     pending_is (parts_of c.self.inside) c.args.self.now c.args.backup c.index-cursor.result.now c.self.invariant.consistent c.self.view_is c.requires cursor
     ∙ ap (λ (o : Option PlacedBytes). option_or o (lacking_at (c.args.backup - 1) FIRST_SIDE_SEGMENT c.self.inside.sides.items (c.index-cursor.result.now.sides + prefix_len (is_whole_at (c.args.backup - 1)) (drop c.index-cursor.result.now.sides c.self.inside.sides.items)))) first
     ) in
-    subst (λ (o : Option PlacedBytes). IfOk c.pending_in-2.result (λ piece. piece ≡ o)) all c.pending_in-2.ensures
+    c.pending_in-2.ensures ∙ all
