@@ -20,7 +20,7 @@ use crate::code::Code;
 use crate::delivering::{Delivered, deliver_in, listed};
 use crate::error::ClusterError;
 use crate::sessions::{count, has_session, put_session};
-use crate::steps::{act_all, act_anyway, in_all_lanes};
+use crate::steps::{act_all, in_all_lanes, lose};
 use crate::visits::ask_in;
 use rk_lane::Lane;
 use rk_outside::Replica;
@@ -269,7 +269,7 @@ impl<R: Replica + Drop> Cluster<R> {
         let Some(number) = self.lanes[lane as usize].wire().at(place) else {
             return Err(ClusterError::Code(Code::NoPlace));
         };
-        act_anyway(&mut self.lanes, lane, Event::Forget(number));
+        lose(&mut self.lanes, lane, number);
         Ok(nothing_said(alloc))
     }
 

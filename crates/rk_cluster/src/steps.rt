@@ -3,6 +3,7 @@ ghost use Rattle.std.specs.Prelude.{◌≡◌, ◌<◌, [], ℕ, true, All, leng
 ghost use Rattle.std.specs.List.{range_with_len};
 ghost use Rattle.rk_types.specs.declared.hashing.TheConstants.{LANES};
 ghost use Rattle.rk_world.specs.Refusals.{comes_anyway};
+ghost use Rattle.rk_world.specs.declared.event.Event.TheVariants as events;
 ghost use Rattle.rk_cluster.specs.Crashing.{IsSameBeside};
 ghost use Rattle.rk_cluster.specs.Delivering.{IsForBackup};
 ghost use Rattle.rk_cluster.specs.Faults.{LanesGoOn, SomeLaneFailed};
@@ -66,8 +67,7 @@ pub(crate) fn act_told<R: Replica + Drop>(
     Ok(has_lost(&answer))
 }
 
-/// An event comes to a lane that also one that is worn takes, and that takes no memory: a crash, or a message that is forgotten. A refusal of
-/// it is passed over.
+/// A crash comes to a lane, also to one that is worn; it takes no memory. A refusal of it is passed over.
 pub(crate) fn act_anyway<R: Replica + Drop>(lanes: &mut Vec<Lane<R>>, lane: u8, event: Event)
     requires there { lane < length lanes.old.items }
     requires anyway { comes_anyway event ≡ true }
@@ -80,6 +80,18 @@ pub(crate) fn act_anyway<R: Replica + Drop>(lanes: &mut Vec<Lane<R>>, lane: u8, 
     ensures counts { LanesGoOn R.faults [] lanes.old.items lanes.new.items }
 {
     let _ = lanes[lane as usize].step(event);
+}
+
+/// The message of a number is lost in a lane, also in one that is worn; that takes no memory. One that is not there is passed over.
+pub(crate) fn lose<R: Replica + Drop>(lanes: &mut Vec<Lane<R>>, lane: u8, number: u64)
+    requires { lane < length lanes.old.items }
+    ensures happens { IsHappening R.segments R.faults lanes.old.items lanes.new.items lane (events.Forget number) None }
+    ensures lanes { (masters : ℕ) → AreLanes masters 0 lanes.old.items → AreLanes masters 0 lanes.new.items }
+    ensures count { length lanes.new.items ≡ length lanes.old.items }
+    ensures backups { backup_counts lanes.new.items ≡ backup_counts lanes.old.items }
+    ensures counts { LanesGoOn R.faults [] lanes.old.items lanes.new.items }
+{
+    let _ = lanes[lane as usize].forget(number);
 }
 
 // Whether a lane's answer shows that a message was lost.

@@ -1,7 +1,9 @@
 -- How messages are sent one after the other.
 use Rattle.rk_lane.proofs.Words.{◌≡◌, ◌≤◌, ◌<◌, ◌+◌, ◌==◌, ◌^◌, ℕ, suc, if◌then◌else◌, List, [], ◌∷◌, ◌++◌, length, fold, All, sym, ap}
 use Rattle.rk_lane.proofs.Words.{subst, ◌∙◌, append_assoc, append-nil, arith, length-append, All-tail, Traffic, with_message, Message}
-use Rattle.rk_lane.proofs.Words.{IsSendable, Sent}
+use Rattle.rk_lane.proofs.Words.{false, max, Option, None, Some, refl, IsSendable, Parts, Seen, Sent}
+use Rattle.std.specs.Option.{option_to_list}
+use Rattle.rk_lane.specs.Finished.{IsFinished}
 use Rattle.std.proofs.lemmas.List.Sums.{fold-append}
 use Rattle.std.proofs.lemmas.Bool.Decides.{nat_tests}
 use Rattle.rk_world.specs.Step.{first_number}
@@ -60,3 +62,47 @@ one_sent old sends left rest message wire now sent more number is next sends_it 
 pub all_sent : (old : Traffic) (sends : List Message) (wire : Traffic) (sent : Sent) → IsSending old sends [] wire sent → IsSent old sends wire sent
 all_sent old sends wire sent before =
     subst (λ (list : List Message). IsSent old list wire sent) (sym (append-nil before.done) ∙ before.parts) before.is
+
+-- ---- one message, if there is one
+
+-- there is none
+pub nothing_sent : (wire : Traffic) (send : Option Message) (sent : Sent) → send ≡ None → sent ≡ record { first = 0; count = 0; last = 0 }
+    → IsSent wire (option_to_list send) wire sent
+nothing_sent wire send sent none is =
+    let last : sent.last ≡ 0 = ap (λ (s : Sent). s.last) is in
+    rw (none) (record {
+      wire = refl;
+      first = ap (λ (s : Sent). s.first) is;
+      count = ap (λ (s : Sent). s.count) is;
+      reached = omega arith;
+      given = omega (arith, last);
+    })
+
+-- there is one
+pub only_sent : (old : Traffic) (send : Option Message) (message : Message) (now : Traffic) (nothing sent : Sent) (number : ℕ) → send ≡ Some message
+    → nothing ≡ record { first = 0; count = 0; last = 0 } → number ≡ old.sent + 1 → now ≡ with_message message old
+    → sent ≡ record { first = if nothing.count == 0 then number else nothing.first; count = nothing.count + 1; last = number }
+    → All IsSendable (option_to_list send) → old.sent + length (option_to_list send) < 2 ^ 60 → IsSent old (option_to_list send) now sent
+only_sent old send message now nothing sent number one none next is counts lawful room =
+    let list : option_to_list send ≡ message ∷ [] = ap option_to_list one in
+    let first = none_sent old (message ∷ []) nothing none (subst (All IsSendable) list lawful) (subst (λ (sends : List Message). old.sent + length sends < 2 ^ 60) list room) in
+    subst (λ (sends : List Message). IsSent old sends now sent) (sym list)
+    (all_sent old (message ∷ []) now sent (one_sent old (message ∷ []) (message ∷ []) [] message old now nothing sent number refl next is counts first))
+
+-- ---- the end of an event
+
+-- the greatest number rises to that of the last one
+pub closed : (old : Parts) (wire : Traffic) (new : Parts) (sends : List Message) (sent : Sent) (seen : Seen) → new ≡ record old { wire = wire; top = max old.top sent.last }
+    → IsSent old.wire sends wire sent → seen ≡ record { first = sent.first; sent = sent.count; lost = false; taken = None } → IsFinished old sends new seen
+closed old wire new sends sent seen new_is it seen_is =
+    let wire_is : new.wire ≡ wire = ap (λ (p : Parts). p.wire) new_is in
+    let top_is : new.top ≡ max old.top sent.last = ap (λ (p : Parts). p.top) new_is in
+    let count : new.wire.sent ≡ wire.sent = ap (λ (w : Traffic). w.sent) wire_is in
+    record {
+      parts = new_is ∙ (λ i. record old { wire = sym wire_is i; top = sym top_is i });
+      wire = wire_is ∙ it.wire;
+      seen_is = seen_is ∙ (λ i. record { first = it.first i; sent = it.count i; lost = false; taken = None });
+      low = omega (arith, top_is);
+      reached = omega (arith, top_is, count, it.reached);
+      given = omega (arith, top_is, count, it.given);
+    }

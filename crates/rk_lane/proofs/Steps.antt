@@ -4,7 +4,7 @@ use Rattle.rk_lane.proofs.Words.{Err, refl, sym, ap, subst, ◌∙◌, Vec, Numb
 use Rattle.rk_lane.proofs.Words.{fault_of, refusal, worn, AllTell, Stepped, happened, stepped_by, told_by_replica, World, new_world}
 use Rattle.rk_lane.proofs.Words.{StepError, Event, Seen, IsAnswerOf, IsStepOf, MayComeTo, MayStep, IsHappened, IsUnhappened, lane_of}
 use Rattle.rk_lane.proofs.Words.{IsSameLane, world_with, IsSameParts, running_of, world_of, Inside, Parts}
-use Rattle.std.proofs.Common.{IfErr}
+use Rattle.std.proofs.Common.{◌≢◌, IfErr}
 use Rattle.rk_types.specs.declared.node.Node.TheVariants as nodes
 use Rattle.rk_world.specs.Premises.{MayHappen}
 use Rattle.rk_world.specs.Runs.{IsCalmEvent}
@@ -113,6 +113,11 @@ module _ {R : Type 0} (segments : R → Option Segments) (faults : R → ℕ) (l
       → IfOk answer (IsStepOf segments faults event (lane_of lane) (lane_of (lane_then spent)))
   step_after (Ok seen) spent is may took = step_of_lane seen spent is may took
   step_after (Err error) spent is may took = tt
+
+-- an answer that memory was not wanting leaves no lane spent
+pub not_spent : (answer : Result Seen StepError) → answer ≢ Err errors.NoMemory → is_out_of_memory answer ≡ false
+not_spent (Ok seen) free = refl
+not_spent (Err error) free = grind (arith, error)
 
 -- what holds in any case holds where a lane is not spent
 pub where_some : {X : Type 0} (found : Option X) (P : Type 0) → P → IfSome found (λ _. P)

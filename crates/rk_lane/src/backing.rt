@@ -1,5 +1,6 @@
 // How a message reaches a backup.
-ghost use Rattle.std.specs.Prelude.{◌≡◌, ◌≤◌, ◌+◌, ◌-◌, ℕ, true, List, [], ◌∷◌, length, slice_get, Some, IfOk, IfErr};
+ghost use Rattle.std.specs.Prelude.{◌≡◌, ◌≤◌, ◌+◌, ◌-◌, ℕ, true, List, length, slice_get, Some, IfOk, IfErr};
+ghost use Rattle.std.specs.Option.{option_to_list};
 ghost use Rattle.rk_types.specs.NumberMap.{get};
 ghost use Rattle.rk_message.specs.Wire.{receiver_of};
 ghost use Rattle.rk_message.specs.declared.message.Message.{Message as Sent};
@@ -10,8 +11,9 @@ ghost use Rattle.rk_lane.specs.Happened.{IsHappened, IsUnhappened};
 ghost use Rattle.rk_lane.specs.Lane.{AreNumbered};
 ghost use Rattle.rk_lane.specs.Made.{IsReady};
 
-use crate::finishing::{finish, journal_length};
+use crate::finishing::{finish_one, journal_length};
 use crate::masters::segment_at;
+use crate::messages::message_of;
 use crate::parts::Parts;
 use crate::seen::lost;
 use rk_backup::BackupLane;
@@ -40,13 +42,13 @@ pub(crate) fn deliver_to_backup<R: Replica + Drop>(
 {
     let records = journal_length(&parts.ledger);
     match answer_at(&parts.wire, number, &parts.masters, backups, alloc, backup) {
-        Ok(sends) => finish(parts, sends, records),
+        Ok(send) => finish_one(parts, send, records),
         Err(Lost::Failed) => Ok(lost()),
         Err(Lost::NoMemory) => Err(StepError::NoMemory),
     }
 }
 
-// The backup of a number takes the message of a number: what it sends.
+// The backup of a number takes the message of a number: what it sends, if anything.
 fn answer_at<R: Replica + Drop>(
     wire: &Wire,
     number: u64,
@@ -54,44 +56,44 @@ fn answer_at<R: Replica + Drop>(
     backups: &mut Vec<BackupLane<R>>,
     alloc: Global,
     backup: u8,
-) -> Result<Vec<Message>, Lost>
+) -> Result<Option<Message>, Lost>
     requires first { 1 ≤ backup }
     requires last { backup ≤ length backups.old.items }
     requires lawful { (message : Sent) → get wire.now.messages number ≡ Some message → CanBeAnswered (length masters.now) message.body }
-    ensures ok { IfOk result (λ sends. (message : Sent) (before : BackupLane R) (log : ℕ → ℕ → List ℕ) → get wire.now.messages number ≡ Some message
+    ensures ok { IfOk result (λ send. (message : Sent) (before : BackupLane R) (log : ℕ → ℕ → List ℕ) → get wire.now.messages number ≡ Some message
         → slice_get backups.old.items (backup - 1) ≡ Some before → IsLogOf masters.now log message.body
-        → IsBackedAt R.segments R.faults backups.old.items backups.new.items backup before message log (sending sends.items)) }
+        → IsBackedAt R.segments R.faults backups.old.items backups.new.items backup before message log (sending (option_to_list send))) }
     ensures err { IfErr result (λ cause. (message : Sent) (before : BackupLane R) (log : ℕ → ℕ → List ℕ) → get wire.now.messages number ≡ Some message
         → slice_get backups.old.items (backup - 1) ≡ Some before → IsLogOf masters.now log message.body
         → IsUnansweredAt R.segments R.faults backups.old.items backups.new.items backup before message log cause) }
 {
     let it = &mut backups[backup as usize - 1];
-    let Ok(message) = wire.message(number) else {
+    let Ok(message) = message_of(wire, number) else {
         return Err(Lost::NoMemory);
     };
     answer(it, alloc, &message, masters)
 }
 
-// A backup takes a message: what it sends.
+// A backup takes a message: what it sends, if anything.
 fn answer<R: Replica + Drop>(
     backup: &mut BackupLane<R>,
     alloc: Global,
     message: &Message,
     masters: &[MasterLane],
-) -> Result<Vec<Message>, Lost>
+) -> Result<Option<Message>, Lost>
     requires { CanBeAnswered (length masters.now) message.now.body }
-    ensures ok { IfOk result (λ sends. (log : ℕ → ℕ → List ℕ) → IsLogOf masters.now log message.now.body
-        → IsBackedBy R.segments R.faults backup.old backup.new message.now.from message.now.body log (sending sends.items)) }
+    ensures ok { IfOk result (λ send. (log : ℕ → ℕ → List ℕ) → IsLogOf masters.now log message.now.body
+        → IsBackedBy R.segments R.faults backup.old backup.new message.now.from message.now.body log (sending (option_to_list send))) }
     ensures err { IfErr result (λ cause. (log : ℕ → ℕ → List ℕ) → IsLogOf masters.now log message.now.body
         → IsUnanswered R.segments R.faults backup.old backup.new message.now.from message.now.body log cause) }
 {
     let Node::Master(sender) = message.from else {
-        return Ok(Vec::new(alloc));
+        return Ok(None);
     };
     match &message.body {
         Body::Append(append) => store(backup, alloc, sender, append),
         Body::Read(wanted) => read(backup, alloc, sender, *wanted, masters),
-        _ => Ok(Vec::new(alloc)),
+        _ => Ok(None),
     }
 }
 
@@ -101,10 +103,10 @@ fn store<R: Replica + Drop>(
     alloc: Global,
     sender: u8,
     append: &Append,
-) -> Result<Vec<Message>, Lost>
+) -> Result<Option<Message>, Lost>
     requires { append.now.at + length append.now.bytes ≤ SEGMENT_BYTES }
-    ensures ok { IfOk result (λ sends. (log : ℕ → ℕ → List ℕ)
-        → IsBackedBy R.segments R.faults backup.old backup.new (Node.Master sender) (Body.Append append.now) log (sending sends.items)) }
+    ensures ok { IfOk result (λ send. (log : ℕ → ℕ → List ℕ)
+        → IsBackedBy R.segments R.faults backup.old backup.new (Node.Master sender) (Body.Append append.now) log (sending (option_to_list send))) }
     ensures err { IfErr result (λ cause. (log : ℕ → ℕ → List ℕ)
         → IsUnanswered R.segments R.faults backup.old backup.new (Node.Master sender) (Body.Append append.now) log cause) }
 {
@@ -112,7 +114,7 @@ fn store<R: Replica + Drop>(
     if !is_within_segment(&answer.body) {
         return Err(Lost::NoMemory);
     }
-    only(alloc, answer)
+    Ok(Some(answer))
 }
 
 // A backup takes a master's Read.
@@ -122,26 +124,16 @@ fn read<R: Replica + Drop>(
     reader: u8,
     wanted: ReadSegment,
     masters: &[MasterLane],
-) -> Result<Vec<Message>, Lost>
+) -> Result<Option<Message>, Lost>
     requires { IsMaster (length masters.now) wanted.master }
-    ensures ok { IfOk result (λ sends. (log : ℕ → ℕ → List ℕ) → IsLogOf masters.now log (Body.Read wanted)
-        → IsBackedBy R.segments R.faults backup.old backup.new (Node.Master reader) (Body.Read wanted) log (sending sends.items)) }
+    ensures ok { IfOk result (λ send. (log : ℕ → ℕ → List ℕ) → IsLogOf masters.now log (Body.Read wanted)
+        → IsBackedBy R.segments R.faults backup.old backup.new (Node.Master reader) (Body.Read wanted) log (sending (option_to_list send))) }
     ensures err { IfErr result (λ cause. (log : ℕ → ℕ → List ℕ) → IsLogOf masters.now log (Body.Read wanted)
         → IsUnanswered R.segments R.faults backup.old backup.new (Node.Master reader) (Body.Read wanted) log cause) }
 {
     let log = segment_at(masters, wanted.master, wanted.segment);
     let answer = take_read(backup, alloc, reader, wanted, log)?;
-    only(alloc, answer)
-}
-
-// A list of one message.
-fn only(alloc: Global, message: Message) -> Result<Vec<Message>, Lost>
-    ensures ok { IfOk result (λ sends. sends.items ≡ message ∷ []) }
-    ensures err { IfErr result (λ cause. cause ≡ Lost.NoMemory) }
-{
-    let mut sends = Vec::with_capacity(alloc, 1)?;
-    sends.push_reserved(message);
-    Ok(sends)
+    Ok(Some(answer))
 }
 
 // Whether what a Stored tells is no longer than a segment.

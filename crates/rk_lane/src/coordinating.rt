@@ -10,6 +10,7 @@ ghost use Rattle.rk_lane.specs.Coordinating.{IsCoordinated, terms_of};
 ghost use Rattle.rk_lane.specs.Made.{IsFault, IsMade, IsReady};
 
 use crate::finishing::{finish, journal_length};
+use crate::messages::message_of;
 use crate::parts::Parts;
 use rk_coordinator::CoordinatorLane;
 use rk_ledger::LedgerLane;
@@ -67,7 +68,7 @@ fn handle_from(
     ensures wire { wire.new ≡ wire.old }
 {
     let wire: &Wire = wire;
-    let Ok(message) = wire.message(number) else {
+    let Ok(message) = message_of(wire, number) else {
         return Err(NoMemory);
     };
     handle(coordinator, ledger, &message)

@@ -40,9 +40,24 @@ pub(crate) fn happen<R: Replica + Drop>(
 {
     // Forget comes most, and nothing has to be asked before it.
     match event {
-        Event::Forget(number) => forget(parts, number),
+        Event::Forget(number) => lose(parts, backups, number),
         _ => happen_else(parts, backups, alloc, event),
     }
+}
+
+/// The message of a number is lost: what [`happen`] makes of Forget. One search.
+pub(crate) fn lose<R: Replica + Drop>(
+    parts: &mut Parts,
+    backups: &Vec<BackupLane<R>>,
+    number: u64,
+) -> Result<Seen, StepError>
+    requires kept { IsKept parts.old }
+    requires numbered { AreNumbered backups.now.items }
+    ensures ok { IfOk result (IsHappened R.segments R.faults (events.Forget number) parts.old backups.now.items parts.new backups.now.items) }
+    ensures err { IfErr result (IsUnhappened R.faults (events.Forget number) parts.old backups.now.items parts.new backups.now.items) }
+    ensures free { result ≢ Err StepError.NoMemory }
+{
+    forget(parts, number)
 }
 
 // Takes an event in the same way, whichever it is.

@@ -17,6 +17,7 @@ mod events;
 mod finishing;
 mod lane;
 mod masters;
+mod messages;
 mod notices;
 mod parts;
 mod resending;

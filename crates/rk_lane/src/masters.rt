@@ -14,6 +14,7 @@ ghost use Rattle.rk_master.specs.Taking.{CanTake};
 ghost use Rattle.rk_lane.specs.Masters.{CanTakeThere, EachEntryFits, IsAt, IsWorkAt};
 ghost use Rattle.rk_lane.specs.Resting.{SendsNothing};
 
+use crate::messages::message_of;
 use rk_master::{MasterLane, Worked};
 use rk_message::{Body, Wire};
 use rk_types::{NoMemory, Range};
@@ -33,7 +34,7 @@ pub(crate) fn step_master(
     ensures count { length masters.new.items ≡ length masters.old.items }
 {
     let wire: &Wire = wire;
-    let Ok(message) = wire.message(number) else {
+    let Ok(message) = message_of(wire, number) else {
         return Err(NoMemory);
     };
     let seen = seen_in(&message.body);

@@ -1,5 +1,6 @@
 // How messages are put on the wire.
 ghost use Rattle.std.specs.Prelude.{◌≡◌, ◌<◌, ◌+◌, ◌==◌, ◌^◌, if◌then◌else◌, length, false, All, IfOk, None};
+ghost use Rattle.std.specs.Option.{option_to_list};
 ghost use Rattle.rk_lane.specs.Sends.{IsSent, IsSendable};
 
 use crate::short::is_short;
@@ -70,4 +71,20 @@ pub(crate) fn send_all(wire: &mut Wire, sends: Vec<Message>) -> Result<Sent, NoM
         sent = sent.with(wire.send(message)?);
     }
     Ok(sent)
+}
+
+/// Puts a message on the wire, if there is one. `NoMemory` also where it is too long for a frame; the wire is as it was then.
+pub(crate) fn send_some(wire: &mut Wire, send: Option<Message>) -> Result<Sent, NoMemory>
+    requires room { wire.old.sent + length (option_to_list send) < 2 ^ 60 }
+    requires lawful { All IsSendable (option_to_list send) }
+    ensures { IfOk result (IsSent wire.old (option_to_list send) wire.new) }
+{
+    let Some(message) = send else {
+        return Ok(Sent::nothing());
+    };
+    if !is_short(&message.body) {
+        return Err(NoMemory);
+    }
+    let number = wire.send(&message)?;
+    Ok(Sent::nothing().with(number))
 }

@@ -13,6 +13,7 @@ ghost use Rattle.rk_lane.specs.Sends.{IsFitToSend};
 ghost use Rattle.rk_lane.specs.Visits.{IsVisited, MayHaveTurned};
 ghost use Rattle.rk_lane.specs.Visiting.{MayTurn, accepted_by, last_to_note, noted, place_told, request_told, saved};
 
+use crate::messages::message_of;
 use crate::parts::{Parts, WORN_NUMBER};
 use crate::seen::quiet;
 use crate::short::is_short;
@@ -332,13 +333,6 @@ fn one_sent(number: u64) -> Seen
         lost: false,
         taken: None,
     }
-}
-
-// The message of a number.
-fn message_of(wire: &Wire, number: u64) -> Result<Message, NoMemory>
-    ensures { IfOk result (λ message. get wire.now.messages number ≡ Some message) }
-{
-    wire.message(number).map_err(|_| NoMemory)
 }
 
 // A client takes a message; where that answers its call, the record is accepted. Takes no memory.

@@ -22,11 +22,12 @@ use std::alloc::Global;
 
 /// Runs a command in a cluster, unless that is full, and adds what it writes to a text. A command that a code refuses changes
 /// nothing. After `NoMemory` nothing is promised of the cluster, and the text may have a part of what the command writes; after
-/// another error a part of the command may have happened, and the text is as it was.
+/// another error a part of the command may have happened, and the text is as it was. `said` is room for what clients say meanwhile.
 pub(crate) fn run_within<R: Replica + Drop>(
     alloc: Global,
     cluster: &mut Cluster<R>,
     command: Command,
+    said: &mut Vec<Said>,
     text: &mut Vec<u8>,
 ) -> Result<(), PlayError>
     requires { IsLawfulCommand command }
@@ -40,7 +41,7 @@ pub(crate) fn run_within<R: Replica + Drop>(
     if is_full(cluster) {
         return Err(PlayError::Refused(Code::Limit));
     }
-    run_command(alloc, cluster, command, text)
+    run_command(alloc, cluster, command, said, text)
 }
 
 // Runs a command in a cluster that is not full.
@@ -48,6 +49,7 @@ fn run_command<R: Replica + Drop>(
     alloc: Global,
     cluster: &mut Cluster<R>,
     command: Command,
+    said: &mut Vec<Said>,
     text: &mut Vec<u8>,
 ) -> Result<(), PlayError>
     requires { IsLawfulCommand command }
@@ -76,10 +78,12 @@ fn run_command<R: Replica + Drop>(
         Command::Forget { lane, place } => tell(text, cluster.forget(lane, place)),
         Command::Crash(master) => tell(text, cluster.crash(master)),
         Command::Notice(master) => tell(text, cluster.notice(master)),
-        Command::Settle => settle_all(alloc, cluster, text),
-        Command::Serve(client) => serve_call(alloc, cluster, client, text),
-        Command::Advance { tablet, reach } => advance_tablet(alloc, cluster, tablet, reach, text),
-        Command::Priority(tablet) => hasten(alloc, cluster, tablet, text),
+        Command::Settle => settle_all(alloc, cluster, said, text),
+        Command::Serve(client) => serve_call(alloc, cluster, client, said, text),
+        Command::Advance { tablet, reach } => advance_tablet(
+            alloc, cluster, tablet, reach, said, text,
+        ),
+        Command::Priority(tablet) => hasten(alloc, cluster, tablet, said, text),
         Command::Where(tablet) => show_tablet(alloc, cluster, tablet, text),
         Command::Dump(tablet) => show_records(alloc, cluster, tablet, text),
         Command::History => show_history(alloc, cluster, text),

@@ -37,11 +37,12 @@ pub(crate) fn run_all<R: Replica + Drop, K: Sink>(
     ensures replica_cause { EndsByReplicas result → FailsInRounds R.faults MOST_FAULTS cluster.old cluster.new }
 {
     let mut coming = commands;
+    let mut said = Vec::new(alloc);
     'commands: while let Some(numbered) = coming.next() {
         if spill(held, sink).is_err() {
             return End::WriteFault;
         }
-        match run_within(alloc, cluster, numbered.command, held) {
+        match run_within(alloc, cluster, numbered.command, &mut said, held) {
             Ok(()) => {}
             Err(error) => return end_at(numbered.line, error),
         }

@@ -1,4 +1,4 @@
-// What the settling commands do.
+// What the settling commands do. Each is lent a list for what clients say, whose memory is used again.
 ghost use Rattle.std.specs.Prelude.{◌≡◌, ◌≢◌, [], IfErr, OnOk};
 ghost use Rattle.rk_cluster.specs.Faults.{CountsGoOn};
 ghost use Rattle.rk_cluster.specs.Masters.{backups_of};
@@ -14,12 +14,14 @@ use rk_lines::push_all_said;
 use rk_outside::Replica;
 use rk_script::Reach as Wanted;
 use rk_settle::{Reach, advance, advance_code, priority, priority_code, serve, serve_code, settle};
+use rk_types::Said;
 use std::alloc::Global;
 
 /// Settles a cluster, and adds what clients said to a text.
 pub(crate) fn settle_all<R: Replica + Drop>(
     alloc: Global,
     cluster: &mut Cluster<R>,
+    said: &mut Vec<Said>,
     text: &mut Vec<u8>,
 ) -> Result<(), PlayError>
     ensures ok { OnOk result (Ran R.segments R.faults cluster.old cluster.new (λ c fates. effect c commands.Settle fates) text.old.items text.new.items) }
@@ -29,8 +31,8 @@ pub(crate) fn settle_all<R: Replica + Drop>(
     ensures counts { CountsGoOn R.faults [] cluster.old cluster.new }
     ensures cause { IfErr result (HasFaults R.faults cluster.old cluster.new) }
 {
-    let mut said = Vec::new(alloc);
-    settle(alloc, cluster, &mut said)?;
+    said.clear();
+    settle(alloc, cluster, said)?;
     push_all_said(text, said.as_slice())?;
     Ok(())
 }
@@ -40,6 +42,7 @@ pub(crate) fn serve_call<R: Replica + Drop>(
     alloc: Global,
     cluster: &mut Cluster<R>,
     client: u32,
+    said: &mut Vec<Said>,
     text: &mut Vec<u8>,
 ) -> Result<(), PlayError>
     ensures ok { OnOk result (Ran R.segments R.faults cluster.old cluster.new (λ c fates. effect c (commands.Serve client) fates) text.old.items text.new.items) }
@@ -52,8 +55,8 @@ pub(crate) fn serve_call<R: Replica + Drop>(
     if let Some(code) = serve_code(cluster, client) {
         return Err(PlayError::Refused(code));
     }
-    let mut said = Vec::new(alloc);
-    serve(alloc, cluster, client, &mut said)?;
+    said.clear();
+    serve(alloc, cluster, client, said)?;
     push_all_said(text, said.as_slice())?;
     Ok(())
 }
@@ -64,6 +67,7 @@ pub(crate) fn advance_tablet<R: Replica + Drop>(
     cluster: &mut Cluster<R>,
     tablet: u32,
     wanted: Wanted,
+    said: &mut Vec<Said>,
     text: &mut Vec<u8>,
 ) -> Result<(), PlayError>
     ensures ok { OnOk result (Ran R.segments R.faults cluster.old cluster.new (λ c fates. effect c (commands.Advance tablet wanted) fates) text.old.items text.new.items) }
@@ -77,8 +81,8 @@ pub(crate) fn advance_tablet<R: Replica + Drop>(
     if let Some(code) = advance_code(cluster, tablet, reach) {
         return Err(PlayError::Refused(code));
     }
-    let mut said = Vec::new(alloc);
-    advance(alloc, cluster, tablet, reach, &mut said)?;
+    said.clear();
+    advance(alloc, cluster, tablet, reach, said)?;
     push_all_said(text, said.as_slice())?;
     Ok(())
 }
@@ -88,6 +92,7 @@ pub(crate) fn hasten<R: Replica + Drop>(
     alloc: Global,
     cluster: &mut Cluster<R>,
     tablet: u32,
+    said: &mut Vec<Said>,
     text: &mut Vec<u8>,
 ) -> Result<(), PlayError>
     ensures ok { OnOk result (Ran R.segments R.faults cluster.old cluster.new (λ c fates. effect c (commands.Priority tablet) fates) text.old.items text.new.items) }
@@ -100,8 +105,8 @@ pub(crate) fn hasten<R: Replica + Drop>(
     if let Some(code) = priority_code(cluster, tablet) {
         return Err(PlayError::Refused(code));
     }
-    let mut said = Vec::new(alloc);
-    priority(alloc, cluster, tablet, &mut said)?;
+    said.clear();
+    priority(alloc, cluster, tablet, said)?;
     push_all_said(text, said.as_slice())?;
     Ok(())
 }

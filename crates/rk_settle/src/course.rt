@@ -25,7 +25,6 @@ use crate::unfolding::{lane_of, unfold};
 use rk_cluster::{Cluster, Delivered};
 use rk_outside::Replica;
 use rk_types::{NoMemory, Said};
-use rk_world::Event;
 use std::alloc::Global;
 use std::mem;
 
@@ -220,7 +219,7 @@ fn hand_out<R: Replica + Drop>(
         last,
     })?;
     deliver(cluster, progress, lane, number)?;
-    cluster.happen(lane, Event::Forget(number))?;
+    cluster.lose(lane, number);
     Ok(())
 }
 

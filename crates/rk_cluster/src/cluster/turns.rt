@@ -2,6 +2,7 @@
 ghost use Rattle.std.specs.Prelude.{◌≡◌, ◌<◌, [], true, All, length, None, Some, IfErr, IfOk, OnErr, OnOk};
 ghost use Rattle.rk_types.specs.declared.hashing.TheConstants.{LANES};
 ghost use Rattle.rk_world.specs.Backup.{Gave};
+ghost use Rattle.rk_world.specs.declared.event.Event.TheVariants as events;
 ghost use Rattle.rk_types.specs.NumberMap.{numbers};
 ghost use Rattle.rk_world.specs.Cluster.{Cluster as Lanes, Happens, lane_at};
 ghost use Rattle.rk_world.specs.World.{live_masters};
@@ -18,7 +19,7 @@ ghost use Rattle.rk_cluster.specs.Steps.{AreLanes, IsPlain, WhereWorn};
 use super::nothing_said;
 use crate::cluster::Cluster;
 use crate::error::ClusterError;
-use crate::steps::{act, act_all};
+use crate::steps::{act, act_all, lose};
 use crate::turning::{are_elsewhere, ask_all, clients_in, live_in, turns_of};
 use rk_outside::Replica;
 use rk_types::{NoMemory, Said};
@@ -59,6 +60,18 @@ impl<R: Replica + Drop> Cluster<R> {
         ensures counts { CountsGoOn R.faults [] self.old self.new }
     {
         act(&mut self.lanes, lane, event)
+    }
+
+    /// The message of a number is lost in a lane, also in one that is worn. One that is not on the wire changes nothing. It takes no
+    /// memory. One search.
+    pub fn lose(&mut self, lane: u8, number: u64)
+        requires { lane < LANES }
+        ensures acts { ActsOne R.segments self.old self.new (Happens lane (events.Forget number) (Gave None)) [] None }
+        ensures masters { masters_of self.new ≡ masters_of self.old }
+        ensures backups { backups_of self.new ≡ backups_of self.old }
+        ensures counts { CountsGoOn R.faults [] self.old self.new }
+    {
+        lose(&mut self.lanes, lane, number);
     }
 
     /// The clients with an outstanding call in a lane, by rising number. The time to hash the key of each outstanding call.

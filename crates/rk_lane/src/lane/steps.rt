@@ -1,11 +1,12 @@
 // How a lane takes events.
 ghost use Rattle.std.specs.Prelude.{◌≡◌, ◌≢◌, false, true, None, Err, IfOk, IfErr, IfSome};
 ghost use Rattle.rk_world.specs.Refusals.{comes_anyway};
+ghost use Rattle.rk_world.specs.declared.event.Event.TheVariants as events;
 ghost use Rattle.rk_lane.specs.Events.{IsRefused, IsStepOf, MayComeTo};
 ghost use Rattle.rk_lane.specs.LaneState.{IsSameLane};
 ghost use Rattle.rk_lane.specs.Spent.{is_out_of_memory};
 
-use crate::events::happen;
+use crate::events::{happen, lose};
 use crate::lane::Lane;
 use crate::seen::quiet;
 use rk_outside::Replica;
@@ -34,6 +35,21 @@ impl<R: Replica + Drop> Lane<R> {
         let answer = happen(&mut self.parts, &mut self.backups, alloc, event);
         self.spent = out_of_memory(&answer);
         answer
+    }
+
+    /// The message of a number is lost: what [`Lane::step`] makes of Forget. One that is not on the wire is refused, and leaves the
+    /// lane as it was; of a spent lane nothing happens. `NoMemory` never comes. One search.
+    pub fn forget(&mut self, number: u64) -> Result<Seen, StepError>
+        ensures ok { IfSome self.old.running (λ _. IfOk result (IsStepOf R.segments R.faults (events.Forget number) self.old self.new)) }
+        ensures refused { IfErr result (IsRefused R.faults (events.Forget number) self.old self.new) }
+        ensures spent { self.old.running ≡ None → self.new ≡ self.old }
+        ensures free { result ≢ Err StepError.NoMemory }
+        ensures lane { IsSameLane self.old self.new }
+    {
+        if self.spent {
+            return Ok(quiet());
+        }
+        lose(&mut self.parts, &self.backups, number)
     }
 }
 

@@ -1,4 +1,4 @@
-use Rattle.rk_lane.proofs.Words.{subst, sym, Node}
+use Rattle.rk_lane.proofs.Words.{[], refl, subst, sym, Node}
 use Rattle.rk_lane.proofs.Answered.{AsksNothing, asks_neither, asks_nothing, idle_backed}
 use Rattle.rk_lane.proofs.backing.answer.Goals as goal
 
@@ -6,8 +6,8 @@ use Rattle.rk_lane.proofs.backing.answer.Goals as goal
 pub returns-in_default : goal.returns-in_default
 returns-in_default g c = record {
   ok = λ log logs.
-      idle_backed g.R.Replica.segments g.R.Replica.faults c.args.backup.now c.args.message.now.from c.args.message.now.body log c.new.result.items
-      (asks_nothing c.args.message.now.from c.args.message.now.body c.in_default.not-Master) c.new.ensures.items;
+      idle_backed g.R.Replica.segments g.R.Replica.faults c.args.backup.now c.args.message.now.from c.args.message.now.body log []
+      (asks_nothing c.args.message.now.from c.args.message.now.body c.in_default.not-Master) refl;
   err = tt;
 }
 
@@ -15,8 +15,8 @@ returns-in_default g c = record {
 pub returns-in_default-body : goal.returns-in_default-body
 returns-in_default-body g c = record {
   ok = λ log logs.
-      idle_backed g.R.Replica.segments g.R.Replica.faults c.args.backup.now c.args.message.now.from c.args.message.now.body log c.new-in_default-body.result.items
+      idle_backed g.R.Replica.segments g.R.Replica.faults c.args.backup.now c.args.message.now.from c.args.message.now.body log []
       (subst (λ (from : Node). AsksNothing from c.args.message.now.body) (sym c.in-Master.is)
-      (asks_neither c.in-Master.sender c.args.message.now.body c.in_default-body.not-Append c.in_default-body.not-Read)) c.new-in_default-body.ensures.items;
+      (asks_neither c.in-Master.sender c.args.message.now.body c.in_default-body.not-Append c.in_default-body.not-Read)) refl;
   err = tt;
 }

@@ -1,3 +1,4 @@
+use Rattle.std.specs.Option.{option_to_list}
 use Rattle.rk_lane.proofs.Words.{[], ℕ, List, Option, length, refl, sym, subst, IfErr-weaker, IfOk-weaker, Lost, failing, Master}
 use Rattle.rk_lane.proofs.Words.{log_bytes_of, CanBeAnswered, IsBackedAt, IsLogOf, IsUnansweredAt, sending, IsCutBack, world_of}
 use Rattle.rk_lane.specs.Backing.{IsSparedAt}
@@ -10,45 +11,45 @@ answer_at-requires-clause-lawful g c = λ message on.
     subst (λ (masters : List (Option Master)). CanBeAnswered (length masters) message.body) (sym c.deref.ensures.value)
     (can_be_answered c.args.parts.now c.args.number message c.requires.ready.kept on)
 
-pub finish-requires : goal.finish-requires
-finish-requires g c =
+pub finish_one-requires : goal.finish_one-requires
+finish_one-requires g c =
     let old = c.args.parts.now in
     let it : IsReached old c.args.backups.now.items c.args.number c.args.backup = reached old c.args.backups.now.items c.args.number c.args.backup c.requires.ready.kept c.requires.to c.requires.count in
-    let sent : IsBackedAt g.R.Replica.segments g.R.Replica.faults c.args.backups.now.items c.answer_at.new.backups.items c.args.backup it.it it.message (log_bytes_of (world_of old [])) (sending c.in-Ok.sends.items) =
+    let sent : IsBackedAt g.R.Replica.segments g.R.Replica.faults c.args.backups.now.items c.answer_at.new.backups.items c.args.backup it.it it.message (log_bytes_of (world_of old [])) (sending (option_to_list c.in-Ok.send)) =
     c.in-Ok.ensures.ok it.message it.it (log_bytes_of (world_of old [])) it.on it.at
     (subst (λ (masters : List (Option Master)). IsLogOf masters (log_bytes_of (world_of old [])) it.message.body) (sym c.deref.ensures.value) it.logs) in
     let fits =
-    sent_fits g.R.Replica.segments g.R.Replica.faults old c.args.backups.now.items c.args.number it.message c.args.backup it.it sent.now (sending c.in-Ok.sends.items)
-    c.requires.ready it.on it.to c.requires.count c.requires.numbered it.at sent.by c.in-Ok.sends.items refl in
+    sent_fits g.R.Replica.segments g.R.Replica.faults old c.args.backups.now.items c.args.number it.message c.args.backup it.it sent.now (sending (option_to_list c.in-Ok.send))
+    c.requires.ready it.on it.to c.requires.count c.requires.numbered it.at sent.by (option_to_list c.in-Ok.send) refl in
     record { room = fits.room; lawful = fits.lawful }
 
 pub returns-in-Ok-clause-ok : goal.returns-in-Ok-clause-ok
 returns-in-Ok-clause-ok g c =
     let old = c.args.parts.now in
     let it : IsReached old c.args.backups.now.items c.args.number c.args.backup = reached old c.args.backups.now.items c.args.number c.args.backup c.requires.ready.kept c.requires.to c.requires.count in
-    let sent : IsBackedAt g.R.Replica.segments g.R.Replica.faults c.args.backups.now.items c.answer_at.new.backups.items c.args.backup it.it it.message (log_bytes_of (world_of old [])) (sending c.in-Ok.sends.items) =
+    let sent : IsBackedAt g.R.Replica.segments g.R.Replica.faults c.args.backups.now.items c.answer_at.new.backups.items c.args.backup it.it it.message (log_bytes_of (world_of old [])) (sending (option_to_list c.in-Ok.send)) =
     c.in-Ok.ensures.ok it.message it.it (log_bytes_of (world_of old [])) it.on it.at
     (subst (λ (masters : List (Option Master)). IsLogOf masters (log_bytes_of (world_of old [])) it.message.body) (sym c.deref.ensures.value) it.logs) in
-    IfOk-weaker c.finish.result _ _
+    IfOk-weaker c.finish_one.result _ _
     (λ seen finished.
-    sent_happened g.R.Replica.segments g.R.Replica.faults old c.args.backups.now.items c.args.number it.message c.args.backup it.it sent.now (sending c.in-Ok.sends.items)
-    c.requires.ready it.on it.to c.requires.count c.requires.numbered it.at sent.by c.in-Ok.sends.items c.finish.new.parts c.answer_at.new.backups.items seen sent.backups refl finished)
-    c.finish.ensures.ok
+    sent_happened g.R.Replica.segments g.R.Replica.faults old c.args.backups.now.items c.args.number it.message c.args.backup it.it sent.now (sending (option_to_list c.in-Ok.send))
+    c.requires.ready it.on it.to c.requires.count c.requires.numbered it.at sent.by (option_to_list c.in-Ok.send) c.finish_one.new.parts c.answer_at.new.backups.items seen sent.backups refl finished)
+    c.finish_one.ensures.ok
 
 pub returns-in-Ok-clause-err : goal.returns-in-Ok-clause-err
 returns-in-Ok-clause-err g c =
     let old = c.args.parts.now in
     let it : IsReached old c.args.backups.now.items c.args.number c.args.backup = reached old c.args.backups.now.items c.args.number c.args.backup c.requires.ready.kept c.requires.to c.requires.count in
-    let sent : IsBackedAt g.R.Replica.segments g.R.Replica.faults c.args.backups.now.items c.answer_at.new.backups.items c.args.backup it.it it.message (log_bytes_of (world_of old [])) (sending c.in-Ok.sends.items) =
+    let sent : IsBackedAt g.R.Replica.segments g.R.Replica.faults c.args.backups.now.items c.answer_at.new.backups.items c.args.backup it.it it.message (log_bytes_of (world_of old [])) (sending (option_to_list c.in-Ok.send)) =
     c.in-Ok.ensures.ok it.message it.it (log_bytes_of (world_of old [])) it.on it.at
     (subst (λ (masters : List (Option Master)). IsLogOf masters (log_bytes_of (world_of old [])) it.message.body) (sym c.deref.ensures.value) it.logs) in
-    IfErr-weaker c.finish.result _ _
+    IfErr-weaker c.finish_one.result _ _
     (λ error cut.
     cut_unhappened g.R.Replica.faults old c.args.backups.now.items c.args.number c.args.backup it.it sent.now it.first c.requires.numbered it.at
-    (spared_by g.R.Replica.segments g.R.Replica.faults it.it sent.now it.message.from it.message.body (log_bytes_of (world_of old [])) c.in-Ok.sends.items sent.by)
-    c.finish.new.parts c.answer_at.new.backups.items error sent.backups
-    (subst (λ (records : ℕ). IsCutBack old records c.finish.new.parts error) c.journal_length-records.ensures cut))
-    c.finish.ensures.err
+    (spared_by g.R.Replica.segments g.R.Replica.faults it.it sent.now it.message.from it.message.body (log_bytes_of (world_of old [])) (option_to_list c.in-Ok.send) sent.by)
+    c.finish_one.new.parts c.answer_at.new.backups.items error sent.backups
+    (subst (λ (records : ℕ). IsCutBack old records c.finish_one.new.parts error) c.journal_length-records.ensures cut))
+    c.finish_one.ensures.err
 
 pub returns-in-Err-Failed-clause-ok : goal.returns-in-Err-Failed-clause-ok
 returns-in-Err-Failed-clause-ok g c =

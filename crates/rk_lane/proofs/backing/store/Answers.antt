@@ -1,4 +1,4 @@
-use Rattle.rk_lane.proofs.Words.{◌≡◌, ℕ, List, Err, ap, sym, subst, IfOk-weaker, Lost, Message, IsBackedBy, IsUnanswered, sending}
+use Rattle.rk_lane.proofs.Words.{◌≡◌, ℕ, List, Err, ap, Lost, IsUnanswered}
 use Rattle.rk_types.specs.declared.node.Node.TheVariants as nodes
 use Rattle.rk_outside.specs.declared.replica.Lost.TheVariants as losses
 use Rattle.rk_message.specs.declared.message.Body.TheVariants as bodies
@@ -23,15 +23,10 @@ returns-in_err-answer-clause-err g c =
 -- it tells how much is stored
 pub returns-clause-ok : goal.returns-clause-ok
 returns-clause-ok g c =
-    IfOk-weaker c.only.result _ _
-    (λ sends is log.
-    subst
-    (λ (list : List Message). IsBackedBy g.R.Replica.segments g.R.Replica.faults c.args.backup.now c.take_append.new.backup (nodes.Master c.args.sender) (bodies.Append c.args.append.now) log (sending list))
-    (sym is)
-    (append_backed g.R.Replica.segments g.R.Replica.faults c.args.backup.now c.take_append.new.backup c.args.sender c.args.append.now
+    λ log.
+    append_backed g.R.Replica.segments g.R.Replica.faults c.args.backup.now c.take_append.new.backup c.args.sender c.args.append.now
     (g.R.Replica.lengths c.args.backup.now.replica c.args.sender c.args.append.now.segment)
     (g.R.Replica.lengths c.take_append.new.backup.replica c.args.sender c.args.append.now.segment)
     log c.in_ok-answer.ensures.number c.in_ok-answer.answer c.in_ok-answer.ensures.backed c.in_ok-answer.ensures.segments
     (g.met.R.Replica.agrees c.take_append.new.backup.replica c.args.sender c.args.append.now.segment)
-    c.in_ok-answer.ensures.cause (c.is_within_segment.ensures c.if-not-is_within_segment.false)))
-    c.only.ensures.ok
+    c.in_ok-answer.ensures.cause (c.is_within_segment.ensures c.if-not-is_within_segment.false)

@@ -19,7 +19,7 @@ returns-in_err-advance-clause-err g c =
     c.reach_of-reach.ensures
     (settled_stopped g.R.Replica.segments g.R.Replica.faults c.args.cluster.now c.advance.new.cluster (λ cluster. advance_code cluster c.args.tablet c.reach_of-reach.result)
     (λ cluster. advance cluster c.args.tablet c.reach_of-reach.result) (λ cluster is. c.advance_code.ensures cluster is ∙ c.in_default.is)
-    c.new-said.result.items c.advance.new.said.items c.in_err-advance.field-0.0 c.new-said.ensures.items c.in_err-advance.ensures.err))
+    c.clear.new.self.items c.advance.new.said.items c.in_err-advance.field-0.0 c.clear.ensures.items c.in_err-advance.ensures.err))
 
 pub returns-in_err-advance-clause-cause : goal.returns-in_err-advance-clause-cause
 returns-in_err-advance-clause-cause g c =
@@ -34,8 +34,8 @@ returns-clause-ok g c =
     c.reach_of-reach.ensures
     (settled_ran g.R.Replica.segments g.R.Replica.faults c.args.cluster.now c.advance.new.cluster (λ cluster. advance_code cluster c.args.tablet c.reach_of-reach.result)
     (λ cluster. advance cluster c.args.tablet c.reach_of-reach.result) (λ cluster is. c.advance_code.ensures cluster is ∙ c.in_default.is)
-    c.new-said.result.items c.advance.new.said.items c.args.text.now.items c.push_all_said.new.text.items
-    c.new-said.ensures.items c.in_ok-advance.ensures.ok (c.in_ok-push_all_said.ensures ∙ ap (λ (said : List Said). c.args.text.now.items ++ said_lines said) c.as_slice.ensures.value))
+    c.clear.new.self.items c.advance.new.said.items c.args.text.now.items c.push_all_said.new.text.items
+    c.clear.ensures.items c.in_ok-advance.ensures.ok (c.in_ok-push_all_said.ensures ∙ ap (λ (said : List Said). c.args.text.now.items ++ said_lines said) c.as_slice.ensures.value))
 
 pub returns-in-Some-clause-err : goal.returns-in-Some-clause-err
 returns-in-Some-clause-err g c =

@@ -12,7 +12,7 @@ pub returns-in_err-priority-clause-err : goal.returns-in_err-priority-clause-err
 returns-in_err-priority-clause-err g c =
     let lost = err_from_is_err_and c.from_residual.result c.from_residual.ensures.1 in
     rw (lost.1, lost.2)
-    (settled_stopped g.R.Replica.segments g.R.Replica.faults c.args.cluster.now c.priority.new.cluster (λ cluster. priority_code cluster c.args.tablet) (λ cluster. priority cluster c.args.tablet) (λ cluster is. c.priority_code.ensures cluster is ∙ c.in_default.is) c.new-said.result.items c.priority.new.said.items c.in_err-priority.field-0.0 c.new-said.ensures.items c.in_err-priority.ensures.err)
+    (settled_stopped g.R.Replica.segments g.R.Replica.faults c.args.cluster.now c.priority.new.cluster (λ cluster. priority_code cluster c.args.tablet) (λ cluster. priority cluster c.args.tablet) (λ cluster is. c.priority_code.ensures cluster is ∙ c.in_default.is) c.clear.new.self.items c.priority.new.said.items c.in_err-priority.field-0.0 c.clear.ensures.items c.in_err-priority.ensures.err)
 
 pub returns-in_err-priority-clause-cause : goal.returns-in_err-priority-clause-cause
 returns-in_err-priority-clause-cause g c =
@@ -21,8 +21,8 @@ returns-in_err-priority-clause-cause g c =
 
 pub returns-clause-ok : goal.returns-clause-ok
 returns-clause-ok g c =
-    settled_ran g.R.Replica.segments g.R.Replica.faults c.args.cluster.now c.priority.new.cluster (λ cluster. priority_code cluster c.args.tablet) (λ cluster. priority cluster c.args.tablet) (λ cluster is. c.priority_code.ensures cluster is ∙ c.in_default.is) c.new-said.result.items c.priority.new.said.items c.args.text.now.items c.push_all_said.new.text.items
-    c.new-said.ensures.items c.in_ok-priority.ensures.ok (c.in_ok-push_all_said.ensures ∙ ap (λ (said : List Said). c.args.text.now.items ++ said_lines said) c.as_slice.ensures.value)
+    settled_ran g.R.Replica.segments g.R.Replica.faults c.args.cluster.now c.priority.new.cluster (λ cluster. priority_code cluster c.args.tablet) (λ cluster. priority cluster c.args.tablet) (λ cluster is. c.priority_code.ensures cluster is ∙ c.in_default.is) c.clear.new.self.items c.priority.new.said.items c.args.text.now.items c.push_all_said.new.text.items
+    c.clear.ensures.items c.in_ok-priority.ensures.ok (c.in_ok-push_all_said.ensures ∙ ap (λ (said : List Said). c.args.text.now.items ++ said_lines said) c.as_slice.ensures.value)
 
 pub returns-in-Some-clause-err : goal.returns-in-Some-clause-err
 returns-in-Some-clause-err g c =

@@ -11,7 +11,7 @@ pub returns-in_err-serve-clause-err : goal.returns-in_err-serve-clause-err
 returns-in_err-serve-clause-err g c =
     let lost = err_from_is_err_and c.from_residual.result c.from_residual.ensures.1 in
     rw (lost.1, lost.2)
-    (settled_stopped g.R.Replica.segments g.R.Replica.faults c.args.cluster.now c.serve.new.cluster (λ cluster. serve_code cluster c.args.client) (λ cluster. serve cluster c.args.client) (λ cluster is. c.serve_code.ensures cluster is ∙ c.in_default.is) c.new-said.result.items c.serve.new.said.items c.in_err-serve.field-0.0 c.new-said.ensures.items c.in_err-serve.ensures.err)
+    (settled_stopped g.R.Replica.segments g.R.Replica.faults c.args.cluster.now c.serve.new.cluster (λ cluster. serve_code cluster c.args.client) (λ cluster. serve cluster c.args.client) (λ cluster is. c.serve_code.ensures cluster is ∙ c.in_default.is) c.clear.new.self.items c.serve.new.said.items c.in_err-serve.field-0.0 c.clear.ensures.items c.in_err-serve.ensures.err)
 
 pub returns-in_err-serve-clause-cause : goal.returns-in_err-serve-clause-cause
 returns-in_err-serve-clause-cause g c =
@@ -20,8 +20,8 @@ returns-in_err-serve-clause-cause g c =
 
 pub returns-clause-ok : goal.returns-clause-ok
 returns-clause-ok g c =
-    settled_ran g.R.Replica.segments g.R.Replica.faults c.args.cluster.now c.serve.new.cluster (λ cluster. serve_code cluster c.args.client) (λ cluster. serve cluster c.args.client) (λ cluster is. c.serve_code.ensures cluster is ∙ c.in_default.is) c.new-said.result.items c.serve.new.said.items c.args.text.now.items c.push_all_said.new.text.items
-    c.new-said.ensures.items c.in_ok-serve.ensures.ok (c.in_ok-push_all_said.ensures ∙ ap (λ (said : List Said). c.args.text.now.items ++ said_lines said) c.as_slice.ensures.value)
+    settled_ran g.R.Replica.segments g.R.Replica.faults c.args.cluster.now c.serve.new.cluster (λ cluster. serve_code cluster c.args.client) (λ cluster. serve cluster c.args.client) (λ cluster is. c.serve_code.ensures cluster is ∙ c.in_default.is) c.clear.new.self.items c.serve.new.said.items c.args.text.now.items c.push_all_said.new.text.items
+    c.clear.ensures.items c.in_ok-serve.ensures.ok (c.in_ok-push_all_said.ensures ∙ ap (λ (said : List Said). c.args.text.now.items ++ said_lines said) c.as_slice.ensures.value)
 
 pub returns-in-Some-clause-err : goal.returns-in-Some-clause-err
 returns-in-Some-clause-err g c =

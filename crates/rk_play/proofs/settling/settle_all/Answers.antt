@@ -8,7 +8,7 @@ pub returns-in_err-settle-clause-err : goal.returns-in_err-settle-clause-err
 returns-in_err-settle-clause-err g c =
     let lost = err_from_is_err_and c.from_residual.result c.from_residual.ensures.1 in
     rw (lost.1, lost.2)
-    (settled_stopped g.R.Replica.segments g.R.Replica.faults c.args.cluster.now c.settle.new.cluster (λ cluster. None) (settle) (λ cluster is. refl) c.new-said.result.items c.settle.new.said.items c.in_err-settle.field-0.0 c.new-said.ensures.items c.in_err-settle.ensures.err)
+    (settled_stopped g.R.Replica.segments g.R.Replica.faults c.args.cluster.now c.settle.new.cluster (λ cluster. None) (settle) (λ cluster is. refl) c.clear.new.self.items c.settle.new.said.items c.in_err-settle.field-0.0 c.clear.ensures.items c.in_err-settle.ensures.err)
 
 pub returns-in_err-settle-clause-cause : goal.returns-in_err-settle-clause-cause
 returns-in_err-settle-clause-cause g c =
@@ -17,5 +17,5 @@ returns-in_err-settle-clause-cause g c =
 
 pub returns-clause-ok : goal.returns-clause-ok
 returns-clause-ok g c =
-    settled_ran g.R.Replica.segments g.R.Replica.faults c.args.cluster.now c.settle.new.cluster (λ cluster. None) (settle) (λ cluster is. refl) c.new-said.result.items c.settle.new.said.items c.args.text.now.items c.push_all_said.new.text.items
-    c.new-said.ensures.items c.in_ok-settle.ensures.ok (c.in_ok-push_all_said.ensures ∙ ap (λ (said : List Said). c.args.text.now.items ++ said_lines said) c.as_slice.ensures.value)
+    settled_ran g.R.Replica.segments g.R.Replica.faults c.args.cluster.now c.settle.new.cluster (λ cluster. None) (settle) (λ cluster is. refl) c.clear.new.self.items c.settle.new.said.items c.args.text.now.items c.push_all_said.new.text.items
+    c.clear.ensures.items c.in_ok-settle.ensures.ok (c.in_ok-push_all_said.ensures ∙ ap (λ (said : List Said). c.args.text.now.items ++ said_lines said) c.as_slice.ensures.value)

@@ -49,32 +49,15 @@ returns-in_err-deliver-clause-err g c =
     (stops_first g.R.Replica.segments g.R.Replica.faults c.args.cluster.now c.deliver.new.cluster _ c.args.progress.now c.deliver.new.progress.said.items c.in_err-deliver.field-0.0
     c.in_err-deliver.ensures.silent c.deliver.ensures.counts (c.in_err-deliver.ensures.err _)))
 
--- it is not forgotten
-pub returns-in_err-happen-clause-err : goal.returns-in_err-happen-clause-err
-returns-in_err-happen-clause-err g c =
-    let it = c.args.handing in
-    let wire_is = λ (cluster : Cluster) (stands : IsOf g.R.Replica.segments c.args.cluster.now cluster). c.wire_of-wire.ensures _ (c.lane_of.ensures.lane cluster stands) in
-    let found = sym c.oldest_after.ensures ∙ c.in-Some.is in
-    let lost = err_from_is_err_and c.from_residual-in_err-happen.result c.from_residual-in_err-happen.ensures.1 in
-    rw (lost.1, lost.2)
-    (stops_then g.R.Replica.segments g.R.Replica.faults c.args.cluster.now c.deliver.new.cluster c.happen.new.self (made.Hands it.lane it.topic it.from ∷ c.args.tasks.now)
-    (forgets it.lane c.in-Some.number ∷ made.Sorts it.lane it.topic c.in-Some.number c.wire_of-wire.result.now.sent ∷ c.args.tasks.now)
-    c.args.progress.now c.deliver.new.progress c.deliver.new.progress.said.items _
-    (delivered g.R.Replica.segments g.R.Replica.faults c.args.cluster.now c.deliver.new.cluster it.lane it.topic c.wire_of-wire.result.now wire_is it.from c.in-Some.number found
-    c.args.tasks.now c.args.progress.now c.deliver.new.progress (c.in_ok-deliver.ensures.ok _))
-    (stops_first g.R.Replica.segments g.R.Replica.faults c.deliver.new.cluster c.happen.new.self _ c.deliver.new.progress c.deliver.new.progress.said.items _ refl c.happen.ensures.counts
-    (happens_stops g.R.Replica.segments g.R.Replica.faults c.deliver.new.cluster c.happen.new.self it.lane (acts.Happens (events.Forget c.in-Some.number)) (events.Forget c.in-Some.number) refl
-    c.in_err-happen.field-0.0 c.in_err-happen.ensures.err _ c.deliver.new.progress)))
-
 -- it is delivered and forgotten
 pub returns-clause-ok : goal.returns-clause-ok
 returns-clause-ok g c =
     let it = c.args.handing in
     let wire_is = λ (cluster : Cluster) (stands : IsOf g.R.Replica.segments c.args.cluster.now cluster). c.wire_of-wire.ensures _ (c.lane_of.ensures.lane cluster stands) in
     let found = sym c.oldest_after.ensures ∙ c.in-Some.is in
-    subst (λ (left : List Task). MovesAll g.R.Replica.segments g.R.Replica.faults c.args.cluster.now c.happen.new.self (made.Hands it.lane it.topic it.from ∷ c.args.tasks.now) left
+    subst (λ (left : List Task). MovesAll g.R.Replica.segments g.R.Replica.faults c.args.cluster.now c.lose.new.self (made.Hands it.lane it.topic it.from ∷ c.args.tasks.now) left
     c.args.progress.now c.deliver.new.progress) (sym (c.in_ok-push.ensures ∙ ap (λ (last : ℕ). made.Sorts it.lane it.topic c.in-Some.number last ∷ c.args.tasks.now) c.sent-last.ensures))
     (handed g.R.Replica.segments g.R.Replica.faults c.args.cluster.now c.deliver.new.cluster it.lane it.topic c.wire_of-wire.result.now wire_is it.from c.in-Some.number found
-    c.args.tasks.now c.args.progress.now c.deliver.new.progress c.happen.new.self (c.in_ok-deliver.ensures.ok _)
-    (happens_moves g.R.Replica.segments g.R.Replica.faults c.deliver.new.cluster c.happen.new.self it.lane (acts.Happens (events.Forget c.in-Some.number)) (events.Forget c.in-Some.number) refl
-    c.in_ok-happen.ensures.ok c.happen.ensures.counts _ c.deliver.new.progress))
+    c.args.tasks.now c.args.progress.now c.deliver.new.progress c.lose.new.self (c.in_ok-deliver.ensures.ok _)
+    (happens_moves g.R.Replica.segments g.R.Replica.faults c.deliver.new.cluster c.lose.new.self it.lane (acts.Happens (events.Forget c.in-Some.number)) (events.Forget c.in-Some.number) refl
+    c.lose.ensures.acts c.lose.ensures.counts _ c.deliver.new.progress))

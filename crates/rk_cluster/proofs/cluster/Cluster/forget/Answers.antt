@@ -23,7 +23,7 @@ returns-clause-ok g c =
     rw (c.nothing_said.ensures, ← c.self.view_is)
     (record {
       code = place_by _ lanes now _ _ wire there c.wire.ensures c.args.place _ found;
-      acts = forgets _ lanes now _ _ wire there c.wire.ensures c.args.place _ _ found c.act_anyway.ensures.happens;
+      acts = forgets _ lanes now _ _ wire there c.wire.ensures c.args.place _ _ found c.lose.ensures.happens;
     })
 
 pub returns-in_default-clause-counts : goal.returns-in_default-clause-counts
