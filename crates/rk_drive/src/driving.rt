@@ -22,7 +22,7 @@ use crate::calling::has_ended;
 use crate::plan::Plan;
 use crate::start::{BACKUPS, MASTERS, new_lanes, new_sessions};
 use crate::watch::Watch;
-use crate::workers::{ParcelPasses, run_all};
+use crate::workers::{Duty, run_all};
 use rk_conclude::conclude;
 use rk_dispatch::Parcels;
 use rk_lane::Lane;
@@ -160,13 +160,23 @@ fn run_with<
     let second_turn = parcels.another(&mut first_turn);
     let first_replay = parcels.another(&mut first_turn);
     let second_replay = parcels.another(&mut first_turn);
-    let hands = ParcelPasses {
-        first_turn,
-        second_turn,
-        first_replay,
-        second_replay,
-    };
-    let passes = run_all(rt, alloc, &shared, &parcels, hands, plan, gate, passes);
+    let mut duties = [
+        Duty::Turns(first_turn, 0),
+        Duty::Turns(second_turn, 1),
+        Duty::Replays(first_replay),
+        Duty::Replays(second_replay),
+        Duty::Conduct,
+    ];
+    let passes = run_all(
+        rt,
+        alloc,
+        &shared,
+        &parcels,
+        &mut duties,
+        plan,
+        gate,
+        passes,
+    );
     let gathered = shared.gather(passes);
     if has_come_through(plan, &gathered) {
         Ok(gathered)

@@ -25,18 +25,17 @@ pub(crate) fn run_replays<
     shared: &SharedLanes<R, L, M, A, B, N>,
     board: &Board,
     parcels: &Parcels,
-    pass: ParcelPass,
+    pass: &mut ParcelPass,
     gate: &G,
 )
-    requires { IsHand parcels.now pass }
+    requires { IsHand parcels.now pass.old }
 {
-    let mut pass = pass;
     for _ in rt.forever() {
         if board.is_over() {
             break;
         }
         let seen = board.given.count();
-        match parcels.take(rt, &mut pass) {
+        match parcels.take(rt, pass) {
             Some(parcel) => {
                 if replay(rt, shared, board, gate, parcel).is_err() {
                     board.stop();

@@ -51,20 +51,19 @@ pub(crate) fn run_turns<
     shared: &SharedLanes<R, L, M, A, B, N>,
     board: &Board,
     parcels: &Parcels,
-    pass: ParcelPass,
+    pass: &mut ParcelPass,
     gate: &G,
     first: u8,
 )
-    requires hand { IsHand parcels.now pass }
+    requires hand { IsHand parcels.now pass.old }
     requires first { first < turners }
 {
-    let mut pass = pass;
     for _ in rt.forever() {
         if board.is_over() {
             break;
         }
         let seen = board.asked.count();
-        match turn_all(rt, shared, board, parcels, &mut pass, gate, first) {
+        match turn_all(rt, shared, board, parcels, pass, gate, first) {
             Ok(true) => board.turned.raise(),
             Ok(false) => board.asked.wait_past(rt, seen),
             Err(NoMemory) => {

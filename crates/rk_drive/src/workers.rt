@@ -1,6 +1,7 @@
 // All workers of a drive, each on a thread of its own.
 ghost use Rattle.std.specs.Prelude.{◌≡◌, ◌<◌, length, vec_len};
-ghost use Rattle.rk_drive.specs.Hands.{AreHands, IsHand};
+ghost use Rattle.std.specs.List.{All};
+ghost use Rattle.rk_drive.specs.Hands.{IsDuty};
 ghost use Rattle.rk_drive.specs.Workers.{MakesWorkload, clients_in};
 
 use crate::board::Board;
@@ -22,13 +23,15 @@ use std::thread::{self, Threads};
 /// How many workers there are for clients.
 const CALLERS: usize = 4;
 
-/// The passes of the queue for the workers that give and take.
+/// What a worker does that is not for clients.
 #[derive(Drop)]
-pub(crate) struct ParcelPasses {
-    pub(crate) first_turn: ParcelPass,
-    pub(crate) second_turn: ParcelPass,
-    pub(crate) first_replay: ParcelPass,
-    pub(crate) second_replay: ParcelPass,
+pub(crate) enum Duty {
+    /// It lets the lanes take turns whose number, divided by how many such workers there are, leaves this.
+    Turns(ParcelPass, u8),
+    /// It replays what was pulled.
+    Replays(ParcelPass),
+    /// It conducts the drive: crashes a master where the plan asks for that.
+    Conduct,
 }
 
 /// Runs all workers until the calls of all clients are answered, or memory is wanting. The passes come back, those of the same clients in
@@ -47,14 +50,14 @@ pub(crate) fn run_all<
     alloc: Global,
     shared: &SharedLanes<R, L, M, A, B, N>,
     parcels: &Parcels,
-    hands: ParcelPasses,
+    duties: &mut [Duty],
     plan: &Plan,
     gate: &G,
     passes: Vec<Pass<M, B, N>>,
 ) -> Vec<Pass<M, B, N>>
     requires keys { 0 < plan.now.keys }
     requires makes { N.tells → MakesWorkload N.makes plan.now.keys }
-    requires hands { AreHands parcels.now hands }
+    requires duties { All (IsDuty parcels.now) duties.old }
     ensures clients { clients_in result.items ≡ clients_in passes.items }
     ensures len { vec_len result ≡ vec_len passes }
 {
@@ -68,8 +71,8 @@ pub(crate) fn run_all<
             ensures { (clients_in result.items ≡ clients_in passes.items) × (vec_len result ≡ vec_len passes) }
         { run_clients(rt, alloc, shared, board, plan, gate, size, passes) },
         ||
-            requires { AreHands parcels.now hands }
-        { run_others(rt, shared, board, parcels, hands, plan, gate) },
+            requires { All (IsDuty parcels.now) duties.now }
+        { run_others(rt, shared, board, parcels, duties, plan, gate) },
     )
     .0
 }
@@ -150,7 +153,7 @@ fn each_chunk<
     );
 }
 
-// Runs the workers that take turns, those that replay, and the conductor.
+// Runs the workers that are not for clients.
 fn run_others<
     X: Threads + Wait + Sync,
     R: Replica + Send + Drop,
@@ -165,131 +168,47 @@ fn run_others<
     shared: &SharedLanes<R, L, M, A, B, N>,
     board: &Board,
     parcels: &Parcels,
-    hands: ParcelPasses,
+    duties: &mut [Duty],
     plan: &Plan,
     gate: &G,
 )
-    requires { AreHands parcels.now hands }
+    requires { All (IsDuty parcels.now) duties.old }
 {
-    let ParcelPasses {
-        first_turn,
-        second_turn,
-        first_replay,
-        second_replay,
-    } = hands;
-    thread::join(
+    let workers = duties.len().max(1);
+    thread::for_each_mut(
         rt,
-        move ||
-            requires { IsHand parcels.now first_turn × IsHand parcels.now second_turn }
-        { run_turners(rt, shared, board, parcels, first_turn, second_turn, gate) },
-        move ||
-            requires { IsHand parcels.now first_replay × IsHand parcels.now second_replay }
-        {
-            run_replayers(
-                rt,
-                shared,
-                board,
-                parcels,
-                first_replay,
-                second_replay,
-                plan,
-                gate,
-            )
-        },
+        duties,
+        workers,
+        &|_: usize, duty: &mut Duty|
+            requires { IsDuty parcels.now duty.now }
+        { run_duty(rt, shared, board, parcels, duty, plan, gate) },
     );
 }
 
-// Runs the workers that take turns.
-fn run_turners<
-    X: Threads + Wait + Sync,
-    R: Replica + Send + Drop,
-    L: Ledger + Send + Sync,
-    M: Ledger + Send + Sync,
-    A: Ledger + Send + Sync,
-    B: Ledger + Send + Sync,
-    N: Roster + Send + Sync,
-    G: Gate + Watch + Sync,
+// Does what a worker is for, until the drive is over.
+fn run_duty<
+    X: Wait,
+    R: Replica + Drop,
+    L: Ledger,
+    M: Ledger,
+    A: Ledger,
+    B: Ledger,
+    N: Roster,
+    G: Gate + Watch,
 >(
     rt: &X,
     shared: &SharedLanes<R, L, M, A, B, N>,
     board: &Board,
     parcels: &Parcels,
-    first: ParcelPass,
-    second: ParcelPass,
-    gate: &G,
-)
-    requires { IsHand parcels.now first × IsHand parcels.now second }
-{
-    thread::join(
-        rt,
-        move ||
-            requires { IsHand parcels.now first }
-        { run_turns(rt, shared, board, parcels, first, gate, 0) },
-        move ||
-            requires { IsHand parcels.now second }
-        { run_turns(rt, shared, board, parcels, second, gate, 1) },
-    );
-}
-
-// Runs the workers that replay, and the conductor.
-fn run_replayers<
-    X: Threads + Wait + Sync,
-    R: Replica + Send + Drop,
-    L: Ledger + Send + Sync,
-    M: Ledger + Send + Sync,
-    A: Ledger + Send + Sync,
-    B: Ledger + Send + Sync,
-    N: Roster + Send + Sync,
-    G: Gate + Sync,
->(
-    rt: &X,
-    shared: &SharedLanes<R, L, M, A, B, N>,
-    board: &Board,
-    parcels: &Parcels,
-    first: ParcelPass,
-    second: ParcelPass,
+    duty: &mut Duty,
     plan: &Plan,
     gate: &G,
 )
-    requires { IsHand parcels.now first × IsHand parcels.now second }
+    requires { IsDuty parcels.now duty.old }
 {
-    thread::join(
-        rt,
-        move ||
-            requires { IsHand parcels.now first × IsHand parcels.now second }
-        { run_both_replays(rt, shared, board, parcels, first, second, gate) },
-        move || conduct(rt, shared, board, plan.crash),
-    );
-}
-
-// Runs the workers that replay.
-fn run_both_replays<
-    X: Threads + Wait + Sync,
-    R: Replica + Send + Drop,
-    L: Ledger + Send + Sync,
-    M: Ledger + Send + Sync,
-    A: Ledger + Send + Sync,
-    B: Ledger + Send + Sync,
-    N: Roster + Send + Sync,
-    G: Gate + Sync,
->(
-    rt: &X,
-    shared: &SharedLanes<R, L, M, A, B, N>,
-    board: &Board,
-    parcels: &Parcels,
-    first: ParcelPass,
-    second: ParcelPass,
-    gate: &G,
-)
-    requires { IsHand parcels.now first × IsHand parcels.now second }
-{
-    thread::join(
-        rt,
-        move ||
-            requires { IsHand parcels.now first }
-        { run_replays(rt, shared, board, parcels, first, gate) },
-        move ||
-            requires { IsHand parcels.now second }
-        { run_replays(rt, shared, board, parcels, second, gate) },
-    );
+    match duty {
+        Duty::Turns(pass, first) => run_turns(rt, shared, board, parcels, pass, gate, *first),
+        Duty::Replays(pass) => run_replays(rt, shared, board, parcels, pass, gate),
+        Duty::Conduct => conduct(rt, shared, board, plan.crash),
+    }
 }
