@@ -14,9 +14,10 @@ use rk_outside::{Gate, Replica};
 use rk_session::Session;
 use rk_shared::Roster;
 use rk_shared_lanes::{KeptLane, Pass, SharedLanes};
-use rk_types::{Call, LANES, NoMemory, Op, hash, lane_of};
+use rk_types::{LANES, NoMemory, Op, hash, lane_of};
 use rk_workload::{TABLE, call};
 use std::alloc::Global;
+use std::mem;
 use std::sync::Wait;
 use std::sync::ledger::Ledger;
 
@@ -296,7 +297,10 @@ fn ask_next<M: Ledger, B: Ledger, N: Roster>(
     if made >= plan.calls as usize {
         return Ok(());
     }
-    let Call { key, op, .. } = call(alloc, plan.keys, session.client(), made as u32 + 1)?;
+    let mut next = call(alloc, plan.keys, session.client(), made as u32 + 1)?;
+    // A short key is copied in place.
+    let key = next.key.duplicate()?;
+    let op = mem::replace(&mut next.op, Op::Get);
     // Bytes that are lent are within their limits.
     let _ = key.bytes();
     show_limits(&op);

@@ -34,13 +34,24 @@ mod visits;
 /// One lane of the cluster: its masters, its coordinator, its backups over their replicas, the wire and the ledger.
 /// Contracts see its number, how many masters it has, its ledger, what runs in it, and its backups; nothing runs in a lane
 /// that is spent: it ran out of memory within an event, and answers `NoMemory` from then on.
-#[derive(Drop)]
 pub struct Lane<R> {
     parts: Parts,
     backups: Vec<BackupLane<R>>,
     // Where the replicas are put when they are given back; empty until then.
     replicas: Vec<R>,
     spent: bool,
+}
+
+// No derive, so that to drop a lane is a call in proofs, and no walk through all that it holds.
+impl<R: Drop> Drop for Lane<R> {
+    fn drop(self) {
+        let Lane {
+            parts: _,
+            backups: _,
+            replicas: _,
+            spent: _,
+        } = self;
+    }
 }
 
 impl<R> Model for Lane<R> {
@@ -214,8 +225,13 @@ impl<R: Replica + Drop> Lane<R> {
     pub fn into_replicas(self) -> Vec<R>
         ensures { result.items ≡ replicas_of self.backups }
     {
-        let mut replicas = self.replicas;
-        for backup in self.backups {
+        let Lane {
+            parts: _,
+            backups,
+            mut replicas,
+            spent: _,
+        } = self;
+        for backup in backups {
             replicas.push_reserved(backup.into_replica());
         }
         replicas

@@ -24,7 +24,7 @@ pub(crate) fn take_message(state: &mut MasterState, message: Message) -> Result<
     ensures ok { IfOk result (λ work. worked_of (master_of state.new) work ≡ step.master_step (master_of state.old) message) }
 {
     match message.from {
-        Node::Client(client) => client_message(state, client, message.body),
+        Node::Client(client) => client_message(state, client, message.into_body()),
         Node::Coordinator => order(state, &message.body),
         Node::Master(_) => peer_message(state, message.from, &message.body),
         Node::Backup(backup) => backup_message(state, backup, &message.body),

@@ -10,7 +10,7 @@ use crate::replication::{Append, Stored};
 use rk_types::{NoMemory, Node};
 
 /// A message: who sends it, who receives it, and what it says.
-#[derive(Debug, Drop, PartialEq, Eq)]
+#[derive(Debug, PartialEq, Eq)]
 pub struct Message {
     pub from: Node,
     pub to: Node,
@@ -66,7 +66,30 @@ pub enum Body {
     Rebuilt(Rebuilt),
 }
 
+// No derive, so that to drop a message is a call in proofs, and no cases of what it says.
+impl Drop for Message {
+    fn drop(self) {
+        let Message {
+            from: _,
+            to: _,
+            body: _,
+        } = self;
+    }
+}
+
 impl Message {
+    /// What the message says, taken out of it.
+    pub fn into_body(self) -> Body
+        ensures { result ≡ self.body }
+    {
+        let Message {
+            from: _,
+            to: _,
+            body,
+        } = self;
+        body
+    }
+
     /// A message of its own with the same parts.
     pub fn duplicate(&self) -> Result<Message, NoMemory>
         ensures { IfOk result (λ message. message ≡ self.now) }

@@ -21,7 +21,7 @@ use std::marker::Model;
 pub const MOST_REQUESTS: u8 = 3;
 
 /// A client's session. Contracts see the session of the definitions.
-#[derive(Debug, Drop)]
+#[derive(Debug)]
 pub struct Session {
     client: u32,
     receipts: Vec<Receipt>,
@@ -31,6 +31,22 @@ pub struct Session {
     requests: u8,
     cached: CachedRanges,
     request: Option<Message>,
+}
+
+// No derive, so that to drop a session is a call in proofs, and no walk through all that it holds.
+impl Drop for Session {
+    fn drop(self) {
+        let Session {
+            client: _,
+            receipts: _,
+            last: _,
+            outstanding: _,
+            seen: _,
+            requests: _,
+            cached: _,
+            request: _,
+        } = self;
+    }
 }
 
 impl Model for Session {
@@ -121,7 +137,7 @@ impl Session {
         ensures taken { result ≡ (session_accept self.old message.body).taken }
         ensures session { self.new ≡ (session_accept self.old message.body).session }
     {
-        match message.body {
+        match message.into_body() {
             Body::Located(located) => self.accept_located(located),
             Body::Reply(reply) => self.accept_reply(reply),
             _ => Taken::Ignored,

@@ -4,7 +4,7 @@ use crate::memory::NoMemory;
 use crate::text::{Key, Value};
 
 /// What a call asks of a record.
-#[derive(Debug, Drop, PartialEq, Eq)]
+#[derive(Debug, PartialEq, Eq)]
 pub enum Op {
     /// Read the record.
     Get,
@@ -17,7 +17,7 @@ pub enum Op {
 }
 
 /// A call of a client: its number among that client's calls, from 1, the record, and what is asked of it.
-#[derive(Debug, Drop, PartialEq, Eq)]
+#[derive(Debug, PartialEq, Eq)]
 pub struct Call {
     pub client: u32,
     pub seq: u64,
@@ -27,7 +27,7 @@ pub struct Call {
 }
 
 /// What came of a call.
-#[derive(Debug, Drop, PartialEq, Eq)]
+#[derive(Debug, PartialEq, Eq)]
 pub enum Outcome {
     /// The record was there, with this version and value.
     Found(u64, Value),
@@ -67,6 +67,39 @@ pub struct Ended {
     pub client: u32,
     pub seq: u64,
     pub end: End,
+}
+
+// No derive, so that to drop one is a call in proofs, and no cases of what it holds.
+impl Drop for Op {
+    fn drop(self) {
+        match self {
+            Op::Get | Op::Put(_) | Op::CondPut(_, _) | Op::Delete => {}
+        }
+    }
+}
+
+impl Drop for Call {
+    fn drop(self) {
+        let Call {
+            client: _,
+            seq: _,
+            table: _,
+            key: _,
+            op: _,
+        } = self;
+    }
+}
+
+impl Drop for Outcome {
+    fn drop(self) {
+        match self {
+            Outcome::Found(_, _)
+            | Outcome::Absent
+            | Outcome::Written(_)
+            | Outcome::Deleted(_)
+            | Outcome::Mismatch(_) => {}
+        }
+    }
 }
 
 impl Op {

@@ -4,7 +4,7 @@ use crate::call::{Call, Outcome};
 use crate::memory::NoMemory;
 
 /// A record of a journal: a call with its outcome and its stamp, and whether the caller has accepted the answer.
-#[derive(Debug, Drop, PartialEq, Eq)]
+#[derive(Debug, PartialEq, Eq)]
 pub struct Placed {
     pub call: Call,
     pub outcome: Outcome,
@@ -14,13 +14,36 @@ pub struct Placed {
 
 /// What a caller keeps of an answer that it accepted: the call, its outcome, and the lane, place and stamp of its
 /// record. Places count from 0.
-#[derive(Debug, Drop, PartialEq, Eq)]
+#[derive(Debug, PartialEq, Eq)]
 pub struct Receipt {
     pub call: Call,
     pub outcome: Outcome,
     pub lane: u8,
     pub place: u64,
     pub stamp: u64,
+}
+
+impl Drop for Placed {
+    fn drop(self) {
+        let Placed {
+            call: _,
+            outcome: _,
+            stamp: _,
+            accepted: _,
+        } = self;
+    }
+}
+
+impl Drop for Receipt {
+    fn drop(self) {
+        let Receipt {
+            call: _,
+            outcome: _,
+            lane: _,
+            place: _,
+            stamp: _,
+        } = self;
+    }
 }
 
 impl Placed {

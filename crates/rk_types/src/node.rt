@@ -14,7 +14,7 @@ pub enum Node {
 }
 
 /// What a client was told of its call: its number and that call's, and the answer.
-#[derive(Debug, Drop, PartialEq, Eq)]
+#[derive(Debug, PartialEq, Eq)]
 pub enum Said {
     /// The call was carried out, with this outcome.
     Reply(u32, u64, Outcome),
@@ -29,6 +29,14 @@ pub enum Said {
 pub struct Parcel {
     pub lane: u8,
     pub number: u64,
+}
+
+impl Drop for Said {
+    fn drop(self) {
+        match self {
+            Said::Reply(_, _, _) | Said::Moved(_, _, _) | Said::NotYet(_, _, _) => {}
+        }
+    }
 }
 
 impl Said {
