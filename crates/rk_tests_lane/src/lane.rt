@@ -125,18 +125,6 @@ impl<'a> Pair<'a> {
         self.accept(2, session)
     }
 
-    // The client's request comes to the owner, which sends its entry to the backup: the number of the request, how many
-    // messages the owner sent at once, and the number of the Append.
-    fn stage(&mut self, session: &mut Session) -> Result<(u64, u64, u64), StepError>
-        requires { MayAct 2 session.old }
-        ensures { MayAct 2 session.new }
-    {
-        let (asked, _) = self.ask(session)?;
-        let (_, sent) = self.deliver(3)?;
-        let (append, _) = self.turn(1)?;
-        Ok((asked, sent, append))
-    }
-
     // A client's put goes through the lane, up to the answer.
     fn put(&mut self, session: &mut Session) -> Result<(), StepError>
         requires { MayAct 2 session.old }
@@ -194,58 +182,6 @@ impl<'a> Pair<'a> {
     fn shown(&self) -> (usize, bool) {
         (self.lane.journal().len(), self.has_moved())
     }
-}
-
-// The client asks where the key is, and then the owner, which tells nothing before the backup holds its entry.
-fn check_staged<R: Abort>(rt: &R, pair: &mut Pair<'_>, session: &mut Session) -> Result<(), Fail>
-    requires { MayAct 2 session.old }
-    ensures { MayAct 2 session.new }
-{
-    let located = pair.locate(session)?;
-    same(rt, &located, &Some(Taken::Located));
-    let staged = pair.stage(session)?;
-    same(rt, &staged, &(3, 0, 4));
-    Ok(())
-}
-
-// The message of a number is delivered: the number of the first one that comes of it, and how many records there are then.
-fn check_delivered<R: Abort>(
-    rt: &R,
-    pair: &mut Pair<'_>,
-    number: u64,
-    wanted: (u64, usize),
-) -> Result<(), Fail> {
-    let (first, _) = pair.deliver(number)?;
-    same(rt, &(first, pair.lane.journal().len()), &wanted);
-    Ok(())
-}
-
-// The client takes the answer.
-fn check_told<R: Abort>(rt: &R, pair: &mut Pair<'_>, session: &mut Session) -> Result<(), Fail>
-    requires { MayAct 2 session.old }
-{
-    let taken = pair.accept(6, session)?;
-    same(rt, &taken, &Some(Taken::Done));
-    let counts = (pair.lane.accepted(), session.receipts().len());
-    same(rt, &counts, &(1, 1));
-    Ok(())
-}
-
-// The backup stores the entry before the client is told.
-fn check_put<R: Abort>(rt: &R, pair: &mut Pair<'_>, session: &mut Session) -> Result<(), Fail>
-    requires { MayAct 2 session.old }
-{
-    check_staged(rt, pair, session)?;
-    check_delivered(rt, pair, 4, (5, 0))?;
-    check_delivered(rt, pair, 5, (6, 1))?;
-    check_told(rt, pair, session)
-}
-
-#[test]
-fn a_put_is_told_once_the_backup_holds_it(rt: HostRuntime) -> Result<(), Fail> {
-    let mut pair = Pair::new(rt.alloc())?;
-    let mut session = client(rt.alloc())?;
-    check_put(&rt, &mut pair, &mut session)
 }
 
 // A client puts the key.

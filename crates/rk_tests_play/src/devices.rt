@@ -2,7 +2,7 @@
 use crate::playing::{ROOM, SETUP, joined, replicas};
 use rk_outside::{MemorySink, MemorySource, Replica};
 use rk_play::play;
-use rk_types::Status::{self, Done, ReadFault, Refused, ReplicaFault, WriteFault};
+use rk_types::Status::{self, Done, ReadFault, ReplicaFault, WriteFault};
 use std::process::Abort;
 use std::test::Fail;
 
@@ -124,19 +124,4 @@ fn backups_fail_to_read(rt: HostRuntime) -> Result<(), Fail> {
         0,
         (replied, ReplicaFault, 40),
     )
-}
-
-#[test]
-fn input_ends_early(rt: HostRuntime) -> Result<(), Fail> {
-    for (last, text, status) in [
-        ("call 1 pu", "refused 5 1\n", Refused),
-        ("call 1 put 1", "refused 5 2\n", Refused),
-        ("call 1 put 1 a", "", Done),
-    ] {
-        let script = joined(rt.alloc(), &[SETUP, last])?;
-        let source = MemorySource::new(script.as_bytes());
-        let sink = MemorySink::new(rt.alloc(), ROOM)?;
-        check_streams(&rt, source, sink, text, status)?;
-    }
-    Ok(())
 }

@@ -1,21 +1,12 @@
-// How a test plays a script.
+// What a test plays a script with.
 ghost use Rattle.std.specs.Prelude.{◌≡◌, IfOk, vec_len};
 
-use rk_outside::{MemoryReplica, MemorySink, MemorySource};
-use rk_play::play;
-use rk_types::Status;
+use rk_outside::MemoryReplica;
 use std::alloc::Global;
-use std::process::Abort;
 use std::test::Fail;
 
-/// The lines that most scripts begin with.
+/// The lines that scripts begin with.
 pub const SETUP: &str = "masters 2\nbackups 2\ntable 1 1\nclient 1\n";
-
-/// The same, with a third master.
-pub const THREE_MASTERS: &str = "masters 3\nbackups 2\ntable 1 1\nclient 1\n";
-
-/// The lines of a script behind its setup, what it writes, and the status of its run.
-pub type Row = (&'static str, &'static str, Status);
 
 /// A sink has room for so many bytes.
 pub const ROOM: usize = 200_000;
@@ -52,45 +43,4 @@ pub fn joined(alloc: Global, parts: &[&str]) -> Result<String, Fail> {
         text.push_str(part)?;
     }
     Ok(text)
-}
-
-/// A text so many times.
-pub fn repeated(alloc: Global, text: &str, count: usize) -> Result<String, Fail> {
-    let mut whole = String::new(alloc);
-    for _ in 0..count {
-        whole.push_str(text)?;
-    }
-    Ok(whole)
-}
-
-/// Plays a script over new replicas: the status of its run, and what it writes.
-pub fn played(alloc: Global, script: &str) -> Result<(Status, Vec<u8>), Fail> {
-    let mut source = MemorySource::new(script.as_bytes());
-    let mut sink = MemorySink::new(alloc, ROOM)?;
-    let mut replicas = replicas(alloc, 0, &[], 0)?;
-    let status = play(alloc, &mut source, &mut sink, &mut replicas);
-    Ok((status, Vec::from_slice(alloc, sink.bytes())?))
-}
-
-/// Plays a script over new replicas, and tests what it writes and the status of its run.
-pub fn check_script<R: Abort + AllocGlobal>(
-    rt: &R,
-    script: &str,
-    text: &str,
-    status: Status,
-) -> Result<(), Fail> {
-    let found = played(rt.alloc(), script)?;
-    assert_eq!(rt; found.1.as_slice(), text.as_bytes(), "{script}");
-    assert_eq!(rt; found.0, status, "{script}");
-    Ok(())
-}
-
-/// Plays each row of a table behind a setup.
-pub fn check_rows<R: Abort + AllocGlobal>(rt: &R, setup: &str, rows: &[Row]) -> Result<(), Fail> {
-    for (lines, text, status) in rows {
-        let mut script = String::from_str(rt.alloc(), setup)?;
-        script.push_str(lines)?;
-        check_script(rt, script.as_str(), text, *status)?;
-    }
-    Ok(())
 }

@@ -8,8 +8,6 @@
 mod hint;
 mod progress;
 mod run;
-#[cfg(test)]
-mod tests;
 
 ghost use Rattle.std.specs.Prelude.{◌≡◌, ◌≢◌, drop, map, true, IfErr, IfOk, IfSome, IsErr, IsOk, Some, string_bytes, vec_len};
 ghost use Rattle.std.specs.List.{All};
