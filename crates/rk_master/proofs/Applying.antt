@@ -7,7 +7,7 @@ use Rattle.rk_entry.specs.declared.entry.Entry.TheVariants as entries
 use Rattle.rk_log.specs.Log.{committed}
 use Rattle.rk_world.specs.Commits.{with_entry_item, with_applied, with_ended, apply_entry, newly_held}
 use Rattle.rk_master.specs.Parts.{with_items_of}
-use Rattle.rk_master.proofs.Keeping.{from_place}
+use Rattle.rk_staged.proofs.Keeping.{from_place}
 
 -- nothing is made behind what was sent and served
 pub behind_changed : (work : Work) (master : Master) → worked_of master work ≡ behind work (changed master)

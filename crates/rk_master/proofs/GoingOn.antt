@@ -6,7 +6,7 @@ use Rattle.rk_transfer.specs.declared.role.Role.TheVariants as roles
 use Rattle.rk_world.specs.Master.{is_settled}
 use Rattle.rk_world.specs.Worked.{then_works}
 use Rattle.rk_world.specs.Waiting.{freezing, closing_entry, closing_appended, is_sealed_stored, going_on_in}
-use Rattle.rk_master.proofs.Keeping.{from_place}
+use Rattle.rk_staged.proofs.Keeping.{from_place}
 
 -- a tablet of which nothing is staged freezes
 pub frozen_so : (master : Master) (number : ℕ) (tablet : Tablet) (handover : Handover) (moved : Option Handover) → moved ≡ Some handover

@@ -6,7 +6,7 @@ use Rattle.std.proofs.lemmas.List.{drop_all}
 use Rattle.rk_transfer.specs.declared.role.Role.TheVariants as roles
 use Rattle.rk_world.specs.MasterTurn.{pull_of, receiving_duty, tablet_duty, want_of, with_outstanding}
 use Rattle.rk_master.proofs.Applying.{behind_changed}
-use Rattle.rk_master.proofs.Keeping.{from_place}
+use Rattle.rk_staged.proofs.Keeping.{from_place}
 use Rattle.rk_master.proofs.Places.{at_itself}
 
 -- a row that was read at a place stands there by its number

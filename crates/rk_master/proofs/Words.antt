@@ -9,8 +9,7 @@ pub use Rattle.rk_entry.specs.declared.entry.Entry.{Entry}
 pub use Rattle.rk_entry.specs.declared.lists.TheConstants.{FIRST_SIDE_SEGMENT}
 pub use Rattle.rk_log.specs.Log.{Log, with_entry}
 pub use Rattle.rk_master.specs.Choices.{IsFit}
-pub use Rattle.rk_master.specs.Counts.{IsCounted}
-pub use Rattle.rk_master.specs.Kept.{AreStagedFrom}
+pub use Rattle.rk_staged.specs.Kept.{AreStagedFrom}
 pub use Rattle.rk_master.specs.Parts.{AreClosable, AreTablets, IsClosable, behind, can_close, changing, given_up_but, marks_of, tablet_in}
 pub use Rattle.rk_master.specs.Parts.{tablet_of, tablets_of, worked_of}
 pub use Rattle.rk_master.specs.Places.{Row}

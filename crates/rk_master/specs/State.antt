@@ -2,7 +2,7 @@
 use Rattle.std.specs.Prelude.{◌≡◌, ◌≤◌, length}
 use Rattle.rk_bucket_table.specs.Tables.{items_of as records_of}
 use Rattle.rk_world.specs.Master.{Master}
-use Rattle.rk_master.specs.Kept.{AreStagedFrom}
+use Rattle.rk_staged.specs.Kept.{AreStagedFrom}
 use Rattle.rk_master.specs.Parts.{AreTablets, tablets_of}
 use Rattle.rk_master.specs.Sides.{AreSpelled, items_of_sides}
 use Rattle.rk_master.specs.declared.state.MasterState.{MasterState}

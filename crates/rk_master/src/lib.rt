@@ -11,13 +11,10 @@
 
 pub use choice::Seen;
 pub use master_lane::MasterLane;
-pub use staged_calls::StagedCalls;
-pub use staged_entries::Kept;
 pub use staging::MOST_LOG_BYTES;
 pub use tablet_lane::{MOST_VERSIONS, TabletLane};
 pub use work::Worked;
 
-mod call_counts;
 mod choice;
 mod commit;
 mod duties;
@@ -33,8 +30,6 @@ mod pulls;
 mod rebuilds;
 mod requests;
 mod splits;
-mod staged_calls;
-mod staged_entries;
 mod staging;
 mod state;
 mod stored;

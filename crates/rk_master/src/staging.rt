@@ -7,16 +7,16 @@ ghost use Rattle.rk_entry.specs.Lawful.{IsLawfulEntry, IsLawfulHeld};
 ghost use Rattle.rk_log.specs.Log.{with_entry};
 ghost use Rattle.rk_world.specs.Premises.{IsLawfulCall};
 ghost use Rattle.rk_world.specs.Requests as requests;
-ghost use Rattle.rk_master.specs.Kept.{AreStagedFrom};
+ghost use Rattle.rk_staged.specs.Kept.{AreStagedFrom};
 ghost use Rattle.rk_master.specs.Rebuilding.{with_items};
 ghost use Rattle.rk_master.specs.State.{IsState, master_of};
 
 use crate::effects::{item_of, refusal_of};
-use crate::staged_entries::StagedEntries;
 use crate::state::MasterState;
 use crate::tablets::next_version;
 use rk_entry::{Entry, entry_len};
 use rk_log::MasterLog;
+use rk_staged::StagedEntries;
 use rk_types::{Call, Held, NoMemory, SEGMENT_BYTES, Value};
 
 /// A log with so many bytes takes no more entries.

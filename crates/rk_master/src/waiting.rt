@@ -12,12 +12,12 @@ ghost use Rattle.rk_types.specs.Places.{IsAt};
 ghost use Rattle.rk_master.specs.Places.{Row};
 ghost use Rattle.rk_master.specs.State.{IsState, master_of};
 
-use crate::staged_entries::StagedEntries;
 use crate::staging::append;
 use crate::state::MasterState;
 use crate::tablet_lane::TabletLane;
 use rk_entry::Entry;
 use rk_log::MasterLog;
+use rk_staged::StagedEntries;
 use rk_transfer::Role;
 use rk_types::{Key, NoMemory, Range, hash};
 

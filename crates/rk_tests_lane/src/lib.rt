@@ -1,5 +1,5 @@
-//! The tests over the public surface of a master's lane, and of the lane that all nodes make. They are apart from those of the
-//! other nodes, which stand on neither.
+//! The tests over the public surface of the lane that all nodes make, and of the calls that wait at a master. They are apart from
+//! those of the nodes, which need no lane.
 //!
 //! A module has the tests of one crate. What several of them are made of stands in [`rk_tests::items`].
 #![tactic(auto)]
@@ -9,4 +9,4 @@ mod comparing;
 #[cfg(test)]
 mod lane;
 #[cfg(test)]
-mod master;
+mod staged;

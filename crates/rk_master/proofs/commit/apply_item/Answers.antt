@@ -2,7 +2,7 @@ use Rattle.rk_master.proofs.Words.{◌≡◌, ℕ, slice_get, sym, ap, ◌∙◌
 use Rattle.rk_world.specs.Commits.{with_applied}
 use Rattle.rk_master.specs.Parts.{with_items_of}
 use Rattle.rk_master.proofs.Applying.{entry_item_is}
-use Rattle.rk_master.proofs.Staged.{first_is, others_there, there_is}
+use Rattle.rk_staged.proofs.Staged.{first_is, others_there, there_is}
 use Rattle.rk_master.proofs.commit.apply_item.Goals as goal
 
 pub unwrap-entry-requires : goal.unwrap-entry-requires
