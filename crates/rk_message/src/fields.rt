@@ -1,6 +1,6 @@
 //! The fields that frames are made of, besides those of entries.
 
-ghost use Rattle.std.specs.Prelude.{◌≡◌, ◌<◌, ◌+◌, ◌^◌, length, List, ℕ, Result};
+ghost use Rattle.std.specs.Prelude.{◌≡◌, ◌==◌, ◌<◌, ◌+◌, ◌^◌, length, List, ℕ, Result};
 ghost use Rattle.rk_entry.specs.Steps.{Gives};
 ghost use Rattle.rk_entry.specs.Numbers.{HasRoom, Gains};
 ghost use Rattle.rk_entry.specs.declared.error.DecodeError.{DecodeError};
@@ -140,6 +140,13 @@ pub fn put_token(into: &mut Vec<u8>, token: &Token)
     put_u32(into, token.skip);
 }
 
+/// Whether a body of `body` bytes has `first` bytes and `count` more.
+pub fn is_whole(body: u32, first: u32, count: u32) -> bool
+    ensures { result ≡ (first + count == body) }
+{
+    first as u64 + count as u64 == body as u64
+}
+
 /// The count of the bytes that end a body of `body` bytes, of which `first` are not these. Another body is
 /// `Bad(BAD_BODY_LENGTH)`.
 #[tactic(auto, unfolding(crate::specs::Fields::read_last_count))]
@@ -147,7 +154,7 @@ pub fn read_last_count(first: u32, body: u32, bytes: &[u8]) -> Result<(u32, &[u8
     ensures { Gives (λ x. (x.0, x.1.now)) result (read_last_count first body bytes.now) }
 {
     let (count, rest) = read_u32(bytes)?;
-    if body as u64 != first as u64 + count as u64 {
+    if !is_whole(body, first, count) {
         return Err(DecodeError::Bad(BAD_BODY_LENGTH));
     }
     Ok((count, rest))

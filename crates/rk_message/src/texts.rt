@@ -5,6 +5,7 @@ ghost use Rattle.std.specs.Int.{w32, w64};
 ghost use Rattle.rk_entry.specs.Steps.{Gives};
 ghost use Rattle.rk_message.specs.Texts.{read_any_key, read_last_key, read_last_value, read_last_number};
 
+use crate::fields::is_whole;
 use rk_entry::fields::{
     read_key, read_key_length, read_u32, read_u64, read_value, read_value_length,
 };
@@ -33,7 +34,7 @@ pub fn read_last_key(
     ensures { Gives (λ x. (x.0, x.1.now)) result (read_last_key first size bytes.now) }
 {
     let (count, rest) = read_key_length(bytes)?;
-    if size as u64 != first as u64 + count as u64 {
+    if !is_whole(size, first, count.into()) {
         return Err(DecodeError::Bad(BAD_BODY_LENGTH));
     }
     read_key(alloc, count, rest)
@@ -51,7 +52,7 @@ pub fn read_last_value(
     ensures { Gives (λ x. (x.0, x.1.now)) result (read_last_value first size bytes.now) }
 {
     let (count, rest) = read_value_length(0, LONGEST_VALUE as u32, bytes)?;
-    if size as u64 != first as u64 + count as u64 {
+    if !is_whole(size, first, count) {
         return Err(DecodeError::Bad(BAD_BODY_LENGTH));
     }
     read_value(alloc, count, rest)
