@@ -13,8 +13,6 @@ mod done;
 mod history;
 pub mod items;
 #[cfg(test)]
-mod lines;
-#[cfg(test)]
 mod log;
 #[cfg(test)]
 mod model;

@@ -147,13 +147,3 @@ fn finds_the_first_wrong_place(rt: HostRuntime) -> Result<(), Fail> {
     }
     Ok(())
 }
-
-#[test]
-fn duplicates_lines(rt: HostRuntime) -> Result<(), Fail> {
-    let line = Line {
-        lane: 4,
-        placed: record(rt.alloc(), 1, b"a", Delete, Absent)?,
-    };
-    same(&rt, &line.duplicate()?, &line);
-    Ok(())
-}

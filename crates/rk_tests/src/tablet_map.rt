@@ -121,13 +121,3 @@ fn changes_one_row(rt: HostRuntime) -> Result<(), Fail> {
     same(&rt, &change(rt.alloc(), &mut map, 7)?, &true);
     check_rows(&rt, &map)
 }
-
-#[test]
-fn duplicates_rows(rt: HostRuntime) -> Result<(), Fail> {
-    let row = Row {
-        phase: rebuilding(rt.alloc())?,
-        ..row(7, 1, 5, 9)
-    };
-    same(&rt, &row.duplicate()?, &row);
-    Ok(())
-}

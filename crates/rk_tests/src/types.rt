@@ -1,9 +1,6 @@
 use crate::comparing::same;
-use crate::items::{Asked, call, item};
-use rk_types::{
-    Answer, Key, Listed, Numbered, Outcome, Placed, Range, Said, Status, TextError, Value,
-    bucket_of, hash, lane_of,
-};
+use crate::items::item;
+use rk_types::{Key, Numbered, Range, Status, TextError, Value, bucket_of, hash, lane_of};
 use std::alloc::Global;
 use std::test::Fail;
 
@@ -81,40 +78,6 @@ fn spells_items(rt: HostRuntime) -> Result<(), Fail> {
     for (count, wanted) in [(0, 35), (1, 40), (8_192, 8_231), (8_193, 8_233)] {
         same(&rt, &spelled(rt.alloc(), count)?, &wanted);
     }
-    Ok(())
-}
-
-#[test]
-fn duplicates_records(rt: HostRuntime) -> Result<(), Fail> {
-    let placed = Placed {
-        call: call(rt.alloc(), 2, Asked::CondPut(4, b"x"))?,
-        outcome: Outcome::Mismatch(5),
-        stamp: 6,
-        accepted: true,
-    };
-    same(&rt, &placed.duplicate()?, &placed);
-    Ok(())
-}
-
-#[test]
-fn duplicates_answers(rt: HostRuntime) -> Result<(), Fail> {
-    let said = Said::Reply(1, 2, Outcome::Found(3, Value::new(rt.alloc(), b"x")?));
-    same(&rt, &said.duplicate()?, &said);
-    let answer = Answer::NotYet(Key::new(rt.alloc(), b"a")?);
-    same(&rt, &answer.duplicate()?, &answer);
-    Ok(())
-}
-
-#[test]
-fn lists_what_is_pushed(rt: HostRuntime) -> Result<(), Fail> {
-    let mut listed = Listed::new(rt.alloc());
-    listed.push(7)?;
-    same(&rt, &listed.as_slice(), &[7].as_slice());
-    same(
-        &rt,
-        &Listed::from_vec(listed.into_vec()).as_slice().len(),
-        &1,
-    );
     Ok(())
 }
 

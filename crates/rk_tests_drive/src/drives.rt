@@ -1,5 +1,5 @@
-// Whole drives on threads: that they end, and what is written.
-use rk_drive::{Crash, Plan, drive};
+// Whole drives on threads where replicas fail: that they end, and what is written.
+use rk_drive::{Plan, drive};
 use rk_outside::{MemoryReplica, MemorySink, OpenGate};
 use rk_types::Status;
 use std::alloc::Global;
@@ -35,58 +35,6 @@ fn check<X: Abort + AllocGlobal + Threads + Wait + Sync>(
     assert_eq!(rt; sink.bytes(), wanted.as_bytes());
     assert_eq!(rt; replicas.len(), 32);
     Ok(())
-}
-
-const WITH_CRASH: &str =
-    "calls 400\nanswered 400\nput 152 get 148 del 48 cput 52\nowner 1\naudit ok\n";
-
-#[test]
-fn one_client(rt: HostRuntime) -> Result<(), Fail> {
-    let plan = Plan {
-        clients: 1,
-        calls: 8,
-        keys: 1,
-        crash: None,
-        history: false,
-    };
-    check(
-        &rt,
-        plan,
-        &[],
-        "calls 8\nanswered 8\nput 3 get 3 del 1 cput 1\nowner 2\naudit ok\n",
-    )
-}
-
-#[test]
-fn four_clients_and_a_crash(rt: HostRuntime) -> Result<(), Fail> {
-    let plan = Plan {
-        clients: 4,
-        calls: 100,
-        keys: 10,
-        crash: Some(Crash {
-            master: 2,
-            after: 50,
-        }),
-        history: false,
-    };
-    check(&rt, plan, &[], WITH_CRASH)
-}
-
-#[test]
-fn eight_clients(rt: HostRuntime) -> Result<(), Fail> {
-    let plan = Plan {
-        clients: 8,
-        calls: 800,
-        keys: 100,
-        crash: None,
-        history: false,
-    };
-    check(
-        &rt,
-        plan,
-        &[],
-        "calls 6400\nanswered 6400\nput 2400 get 2400 del 800 cput 800\nowner 2\naudit ok\n",
-    )
 }
 
 // Four clients over so many keys, while replicas fail now and then.

@@ -1,5 +1,4 @@
-//! The tests over the public surface of the lane that all nodes make, and of the calls that wait at a master. They are apart from
-//! those of the nodes, which need no lane.
+//! The tests of what no script shows of a lane, a client that has seen the greatest stamps, and of the calls that wait at a master.
 //!
 //! A module has the tests of one crate. What several of them are made of stands in [`rk_tests::items`].
 #![tactic(auto)]

@@ -1,5 +1,3 @@
-ghost use Rattle.std.specs.Prelude.{◌≡◌, IfOk, length};
-
 use crate::comparing::same;
 use rk_backup::BackupLane;
 use rk_backup_node::{take_append, take_read};
@@ -10,12 +8,10 @@ use std::alloc::Global;
 use std::test::Fail;
 
 // Bytes of segment 1 of a master, from the byte `at` on.
-fn append_of(alloc: Global, at: u8, bytes: &[u8; 3]) -> Result<Append, NoMemory>
-    ensures { IfOk result (λ append. (append.at ≡ at) × (length append.bytes ≡ 3)) }
-{
+fn append_of(alloc: Global, at: u32, bytes: &[u8]) -> Result<Append, NoMemory> {
     Ok(Append {
         segment: 1,
-        at: at.into(),
+        at,
         bytes: Listed::from_vec(Vec::from_slice(alloc, bytes)?),
     })
 }
@@ -32,12 +28,16 @@ fn stored_in(message: &Message) -> Option<u32> {
 fn told(
     backup: &mut BackupLane<MemoryReplica<'_>>,
     alloc: Global,
-    at: u8,
-    bytes: &[u8; 3],
+    at: u32,
+    bytes: &[u8],
 ) -> Result<Option<u32>, Lost> {
     let Ok(append) = append_of(alloc, at, bytes) else {
         return Err(Lost::NoMemory);
     };
+    // Nothing is said of how it was made: that it ends within a segment is seen here.
+    if append.at as usize + append.bytes.as_slice().len() > 1_000 {
+        return Ok(None);
+    }
     Ok(stored_in(&take_append(backup, alloc, 1, &append)?))
 }
 

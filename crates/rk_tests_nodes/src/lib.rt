@@ -1,5 +1,5 @@
-//! The tests over the public surface of the crates above `rk_world` that a lane is made of, but for its masters. They are in one
-//! crate so that each of these is compiled once; `rk_tests_lane` has those of a master's lane, and of the lane itself.
+//! The tests of what backups store, and of what masters rebuild and replay, over the public surface of the crates that do it. The other
+//! nodes are tested in lanes, by the scripts that the built program plays; `rk_tests_lane` has what no script shows of a lane.
 //!
 //! A module has the tests of one crate. What several of them are made of stands in [`rk_tests::items`].
 #![tactic(auto)]
@@ -9,12 +9,6 @@ mod backup_node;
 #[cfg(test)]
 mod comparing;
 #[cfg(test)]
-mod coordinator;
-#[cfg(test)]
-mod ledger;
-#[cfg(test)]
 mod rebuild;
-#[cfg(test)]
-mod session;
 #[cfg(test)]
 mod side_log;
