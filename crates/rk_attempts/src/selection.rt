@@ -10,7 +10,7 @@ use rk_types::{NoMemory, Node};
 use std::alloc::Global;
 
 /// A kind of messages on a wire.
-#[derive(Clone, Copy, Debug, PartialEq, Eq)]
+#[derive(Clone, Copy)]
 pub enum Selection {
     /// Those for a client.
     ToClient(u32),

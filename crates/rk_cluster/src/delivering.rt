@@ -19,7 +19,7 @@ use std::alloc::Global;
 use std::collections::BTreeMap;
 
 /// What came of the delivery of a message.
-#[derive(Debug, Drop, PartialEq, Eq)]
+#[derive(Drop)]
 pub struct Delivered {
     /// What a client that took it said of its call.
     pub said: Option<Said>,

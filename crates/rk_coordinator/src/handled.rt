@@ -1,7 +1,7 @@
 use rk_message::Message;
 
 /// What came of a message that the coordinator took.
-#[derive(Debug, Drop)]
+#[derive(Drop)]
 pub struct Handled {
     /// What the coordinator sends, in this order.
     pub sends: Vec<Message>,

@@ -5,14 +5,14 @@ use rk_types::End;
 use std::cmp::Ordering;
 
 /// The last completion of a client: the seq of its last call that ended, and that end.
-#[derive(Clone, Copy, Debug, PartialEq, Eq)]
+#[derive(Clone, Copy, PartialEq, Eq)]
 pub struct Completion {
     pub seq: u64,
     pub end: End,
 }
 
 /// What is known of a client's call.
-#[derive(Clone, Copy, Debug, PartialEq, Eq)]
+#[derive(Clone, Copy, PartialEq, Eq)]
 pub enum Look {
     /// The client has no completion, or its last one has a smaller seq: the call has not ended.
     New,

@@ -9,7 +9,7 @@ use std::alloc::Global;
 use std::marker::Model;
 
 /// The last completion of each client. Contracts see a map by client, and the room for more clients.
-#[derive(Debug, Drop)]
+#[derive(Drop)]
 pub struct Completions {
     completions: Vec<(u32, Completion)>,
 }

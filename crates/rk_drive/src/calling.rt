@@ -22,7 +22,7 @@ use std::sync::Wait;
 use std::sync::ledger::Ledger;
 
 /// How far clients came: the later one of two says more.
-#[derive(Clone, Copy, PartialEq, Eq)]
+#[derive(Clone, Copy)]
 enum Round {
     /// All their calls are answered.
     Ended,

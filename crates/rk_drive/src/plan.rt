@@ -1,7 +1,7 @@
 ghost use Rattle.std.specs.Prelude.{◌≡◌, ◌*◌, ◌-◌, ◌^◌, min};
 
 /// A master that is to crash, once so many calls are answered.
-#[derive(Clone, Copy, Debug, PartialEq, Eq)]
+#[derive(Clone, Copy)]
 pub struct Crash {
     pub master: u8,
     pub after: u32,
@@ -9,7 +9,7 @@ pub struct Crash {
 
 /// What a drive does: how many clients make how many calls each, of how many keys, which master crashes meanwhile, if one does, and whether
 /// the whole history is written.
-#[derive(Clone, Copy, Debug, PartialEq, Eq)]
+#[derive(Clone, Copy)]
 pub struct Plan {
     pub clients: u32,
     pub calls: u32,

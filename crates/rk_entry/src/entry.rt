@@ -5,7 +5,7 @@ use crate::kind::Kind;
 use rk_types::{Ended, Held, Key, LONGEST_SHORT_VALUE, Listed, NoMemory, Range};
 
 /// One entry of a log.
-#[derive(Debug, Drop, PartialEq, Eq)]
+#[derive(Drop, PartialEq, Eq)]
 pub enum Entry {
     /// A record was written or removed.
     Held(Held),
@@ -19,7 +19,7 @@ pub enum Entry {
 
 /// A call that changed nothing: a conditional put that met another version, or a removal of a record that is not
 /// there.
-#[derive(Debug, Drop, PartialEq, Eq)]
+#[derive(Drop, PartialEq, Eq)]
 pub struct Refused {
     pub table: u64,
     /// The version that the conditional put met, 0 where there was no record, and 0 for a removal.
@@ -33,7 +33,7 @@ pub struct Refused {
 
 /// What a master takes over with a tablet: the term from which it serves it, a version below which it makes none, and
 /// how each client's last call ended, by rising client.
-#[derive(Debug, Drop, PartialEq, Eq)]
+#[derive(Drop, PartialEq, Eq)]
 pub struct Carried {
     pub range: Range,
     pub term: u64,
@@ -42,7 +42,7 @@ pub struct Carried {
 }
 
 /// The numbers of the side segments that hold what was pulled for a tablet, each once.
-#[derive(Debug, Drop, PartialEq, Eq)]
+#[derive(Drop, PartialEq, Eq)]
 pub struct Joined {
     pub range: Range,
     pub term: u64,

@@ -18,7 +18,7 @@ pub const MET_ANOTHER: u8 = 1;
 pub const MET_NONE: u8 = 2;
 
 /// The fields with which the body of an item and that of a refusal begin.
-#[derive(Clone, Copy, Debug, PartialEq, Eq)]
+#[derive(Clone, Copy, PartialEq, Eq)]
 pub struct Head {
     pub table: u64,
     pub version: u64,

@@ -41,7 +41,7 @@ pub const JOINED_BYTES: u32 = 3 * 8 + 8 + 4;
 pub const SEGMENT_NUMBER_BYTES: u32 = 4;
 
 /// How an entry is spelled: which fields follow the number of the kind, its first byte.
-#[derive(Clone, Copy, Debug, PartialEq, Eq)]
+#[derive(Clone, Copy, PartialEq, Eq)]
 pub enum Kind {
     /// An item with a value of at most 8,192 bytes.
     Object = 1,

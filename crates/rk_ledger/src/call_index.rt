@@ -8,7 +8,7 @@ use std::collections::HashMap;
 
 /// What is noted of a client and seq: where the record of the mutation stands, if it has one, and how many records are
 /// accepted.
-#[derive(Clone, Copy, Debug, PartialEq, Eq)]
+#[derive(Clone, Copy)]
 pub(crate) struct Noted {
     pub(crate) place: Option<u64>,
     pub(crate) accepted: u64,
@@ -57,7 +57,7 @@ impl Noted {
 }
 
 /// What is noted of the call of a client with a seq.
-#[derive(Clone, Copy, Debug, PartialEq, Eq)]
+#[derive(Clone, Copy)]
 pub(crate) struct OfCall {
     pub(crate) client: u32,
     pub(crate) seq: u64,

@@ -18,7 +18,7 @@ pub const MOST_BACKUPS: usize = 4;
 
 /// A segment, and how many of its bytes each backup is known to hold. Its place in its list tells its number: the one
 /// that it was made with is never read.
-#[derive(Debug, Drop)]
+#[derive(Drop)]
 pub(crate) struct Copied {
     pub(crate) segment: Segment,
     pub(crate) known: [u32; MOST_BACKUPS],

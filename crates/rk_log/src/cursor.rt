@@ -5,7 +5,7 @@ use crate::copied::{Copied, MOST_BACKUPS, lacking_from};
 
 /// A backup is known to hold so many segments whole, counted from the first; the last main segment, which may still
 /// grow, is never counted.
-#[derive(Clone, Copy, Debug, PartialEq, Eq)]
+#[derive(Clone, Copy)]
 pub(crate) struct Cursor {
     pub(crate) main: usize,
     pub(crate) sides: usize,

@@ -7,7 +7,7 @@ use crate::copied::{Copied, MOST_BACKUPS};
 use rk_entry::FIRST_SIDE_SEGMENT;
 
 /// Where the spelling of an entry ends: after the first `offset` bytes of a main segment.
-#[derive(Clone, Copy, Debug, PartialEq, Eq)]
+#[derive(Clone, Copy)]
 pub(crate) struct EntryEnd {
     pub(crate) segment: u32,
     pub(crate) offset: u32,

@@ -18,7 +18,7 @@ use std::alloc::Global;
 use std::marker::Model;
 
 /// The log of one master in one lane, with its side segments and the lengths that its backups are known to hold.
-#[derive(Debug, Drop)]
+#[derive(Drop)]
 pub struct MasterLog {
     // Where each entry ends in the main segments, which alone hold the entries.
     ends: Vec<EntryEnd>,

@@ -6,7 +6,7 @@ use crate::copied::{Copied, MOST_BACKUPS, lacking_from};
 use std::marker::Model;
 
 /// Bytes of a segment that are to be sent to a backup: those from the byte `at` on, counted from 0; lent.
-#[derive(Debug, Drop)]
+#[derive(Drop)]
 pub struct Piece<'a> {
     pub segment: u32,
     pub at: u32,

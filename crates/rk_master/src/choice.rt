@@ -49,7 +49,7 @@ pub(crate) fn read_of(there: Option<&Held>) -> Result<Outcome, NoMemory>
 }
 
 /// What a mutation sees of the item that is there: its version, and whether it has a value.
-#[derive(Clone, Copy, Debug, PartialEq, Eq)]
+#[derive(Clone, Copy)]
 pub struct Seen {
     pub version: u64,
     pub is_live: bool,

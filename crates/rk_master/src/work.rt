@@ -7,7 +7,7 @@ use std::alloc::Global;
 
 /// What a master made of a message: the messages that it sends, and the calls that it served, each in their order; and
 /// the piece of its log that a rebuild made, if one did.
-#[derive(Debug, Drop)]
+#[derive(Drop)]
 pub struct Worked {
     pub sends: Vec<Message>,
     pub served: Vec<Served>,

@@ -56,7 +56,7 @@ pub const LOOKUP_BYTES: u32 = 8 + 8;
 pub const LOCATED_BYTES: u32 = 4 + RANGE_BYTES + 1;
 
 /// A client asks a master to carry out a call.
-#[derive(Debug, Drop, PartialEq, Eq)]
+#[derive(Drop, PartialEq, Eq)]
 pub struct Request {
     /// The tablet of the key, as the client knows it.
     pub tablet: u32,
@@ -69,7 +69,7 @@ pub struct Request {
 }
 
 /// A master answers a call.
-#[derive(Debug, Drop, PartialEq, Eq)]
+#[derive(Drop, PartialEq, Eq)]
 pub struct Reply {
     pub seq: u64,
     /// The stamp of the call's record in the journal, 0 where the call was not carried out.
@@ -80,14 +80,14 @@ pub struct Reply {
 }
 
 /// A client asks who owns the tablet of a hash.
-#[derive(Clone, Copy, Debug, PartialEq, Eq)]
+#[derive(Clone, Copy, PartialEq, Eq)]
 pub struct Lookup {
     pub table: u64,
     pub hash: u64,
 }
 
 /// The coordinator names the tablet, its range, and the master that answers calls for it, if one does.
-#[derive(Clone, Copy, Debug, PartialEq, Eq)]
+#[derive(Clone, Copy, PartialEq, Eq)]
 pub struct Located {
     pub tablet: u32,
     pub range: Range,
@@ -95,7 +95,7 @@ pub struct Located {
 }
 
 /// What a Request asks of a record.
-#[derive(Debug, Drop, PartialEq, Eq)]
+#[derive(Drop, PartialEq, Eq)]
 pub struct Asked {
     pub table: u64,
     pub key: Key,

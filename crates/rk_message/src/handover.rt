@@ -24,28 +24,28 @@ pub const TRANSFER_BYTES: u32 = TENURE_BYTES + 8 + COUNT_BYTES;
 pub const GRANT_BYTES: u32 = TENURE_BYTES + 1 + 8 + COUNT_BYTES;
 
 /// A tablet at one of its terms.
-#[derive(Clone, Copy, Debug, PartialEq, Eq)]
+#[derive(Clone, Copy, PartialEq, Eq)]
 pub struct Tenure {
     pub tablet: u32,
     pub term: u64,
 }
 
 /// The target of a move is to make ready for the tablet.
-#[derive(Clone, Copy, Debug, PartialEq, Eq)]
+#[derive(Clone, Copy, PartialEq, Eq)]
 pub struct Prepare {
     pub tenure: Tenure,
     pub range: Range,
 }
 
 /// The target is ready: from this place of its log on, its entries count for the tablet.
-#[derive(Clone, Copy, Debug, PartialEq, Eq)]
+#[derive(Clone, Copy, PartialEq, Eq)]
 pub struct Ready {
     pub tenure: Tenure,
     pub place: u64,
 }
 
 /// The source has stopped: a number above each version that it made, and how each client's last call ended.
-#[derive(Debug, Drop, PartialEq, Eq)]
+#[derive(Drop, PartialEq, Eq)]
 pub struct Transfer {
     pub tenure: Tenure,
     pub floor: u64,
@@ -53,7 +53,7 @@ pub struct Transfer {
 }
 
 /// The target may serve: the master to pull from, and what the source told.
-#[derive(Debug, Drop, PartialEq, Eq)]
+#[derive(Drop, PartialEq, Eq)]
 pub struct Grant {
     pub tenure: Tenure,
     pub source: u8,

@@ -2,7 +2,7 @@ ghost use Rattle.std.specs.Prelude.{◌≡◌};
 ghost use Rattle.rk_message.specs.Kinds.{kind_number, kind_numbered};
 
 /// What a message is for: which fields follow the sender and the receiver in its frame.
-#[derive(Clone, Copy, Debug, PartialEq, Eq)]
+#[derive(Clone, Copy, PartialEq, Eq)]
 pub enum Kind {
     Request = 1,
     Reply = 2,

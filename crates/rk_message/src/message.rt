@@ -10,7 +10,7 @@ use crate::replication::{Append, Stored};
 use rk_types::{NoMemory, Node};
 
 /// A message: who sends it, who receives it, and what it says.
-#[derive(Debug, PartialEq, Eq)]
+#[derive(PartialEq, Eq)]
 pub struct Message {
     pub from: Node,
     pub to: Node,
@@ -18,7 +18,7 @@ pub struct Message {
 }
 
 /// What a message says. Each kind has its sender and its receiver in brackets.
-#[derive(Debug, Drop, PartialEq, Eq)]
+#[derive(Drop, PartialEq, Eq)]
 pub enum Body {
     /// Carry out this call (client, master).
     Request(Request),

@@ -32,14 +32,14 @@ pub const GOT_BYTES: u32 = TENURE_BYTES + COUNT_BYTES + COUNT_BYTES;
 pub const SHORTEST_ENTRY: u32 = HEAD_BYTES + TOMBSTONE_BYTES + 1;
 
 /// The target asks for the batch of records that begins at a token.
-#[derive(Clone, Copy, Debug, PartialEq, Eq)]
+#[derive(Clone, Copy, PartialEq, Eq)]
 pub struct Pull {
     pub tenure: Tenure,
     pub token: Token,
 }
 
 /// The batch that begins at `token`, and the token of the next one.
-#[derive(Debug, Drop, PartialEq, Eq)]
+#[derive(Drop, PartialEq, Eq)]
 pub struct Pulled {
     pub tenure: Tenure,
     pub token: Token,
@@ -48,14 +48,14 @@ pub struct Pulled {
 }
 
 /// The target asks for the records with these hashes before all others.
-#[derive(Debug, Drop, PartialEq, Eq)]
+#[derive(Drop, PartialEq, Eq)]
 pub struct Want {
     pub tenure: Tenure,
     pub hashes: Listed<u64>,
 }
 
 /// All records with these hashes.
-#[derive(Debug, Drop, PartialEq, Eq)]
+#[derive(Drop, PartialEq, Eq)]
 pub struct Got {
     pub tenure: Tenure,
     pub hashes: Listed<u64>,

@@ -36,7 +36,7 @@ pub const COPY_BYTES: u32 = TENURE_BYTES + 1 + 4 + 1 + COUNT_BYTES;
 pub const REBUILT_BYTES: u32 = TENURE_BYTES + 8 + COUNT_BYTES;
 
 /// A master is to rebuild the tablet from the logs of its lineage, the oldest first.
-#[derive(Debug, Drop, PartialEq, Eq)]
+#[derive(Drop, PartialEq, Eq)]
 pub struct Rebuild {
     pub tenure: Tenure,
     pub range: Range,
@@ -44,7 +44,7 @@ pub struct Rebuild {
 }
 
 /// A rebuilding master asks for a segment of a master's log.
-#[derive(Clone, Copy, Debug, PartialEq, Eq)]
+#[derive(Clone, Copy, PartialEq, Eq)]
 pub struct ReadSegment {
     pub tenure: Tenure,
     pub master: u8,
@@ -52,7 +52,7 @@ pub struct ReadSegment {
 }
 
 /// What is kept of that segment; none where it was never written.
-#[derive(Debug, Drop, PartialEq, Eq)]
+#[derive(Drop, PartialEq, Eq)]
 pub struct CopySegment {
     pub tenure: Tenure,
     pub master: u8,
@@ -62,7 +62,7 @@ pub struct CopySegment {
 
 /// The tablet is rebuilt: from this place of the master's log on, its entries count for the tablet, and these calls
 /// ended in the logs that it was rebuilt from, in their order.
-#[derive(Debug, Drop, PartialEq, Eq)]
+#[derive(Drop, PartialEq, Eq)]
 pub struct Rebuilt {
     pub tenure: Tenure,
     pub place: u64,

@@ -15,7 +15,7 @@ pub const APPEND_BYTES: u32 = 4 + 4 + 4;
 pub const STORED_BYTES: u32 = 4 + 4;
 
 /// A master hands a backup bytes of a segment, from the place `at` of the segment on.
-#[derive(Debug, Drop, PartialEq, Eq)]
+#[derive(Drop, PartialEq, Eq)]
 pub struct Append {
     pub segment: u32,
     pub at: u32,
@@ -23,7 +23,7 @@ pub struct Append {
 }
 
 /// A backup tells how many bytes of a segment it keeps.
-#[derive(Clone, Copy, Debug, PartialEq, Eq)]
+#[derive(Clone, Copy, PartialEq, Eq)]
 pub struct Stored {
     pub segment: u32,
     pub length: u32,

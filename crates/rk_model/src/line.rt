@@ -3,7 +3,7 @@ ghost use Rattle.std.specs.Prelude.{◌≡◌, IfOk};
 use rk_types::{NoMemory, Placed};
 
 /// A line of the merged history: a record, and the lane whose journal has it.
-#[derive(Debug, Drop, PartialEq, Eq)]
+#[derive(Drop, PartialEq, Eq)]
 pub struct Line {
     pub lane: u8,
     pub placed: Placed,

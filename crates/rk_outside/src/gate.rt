@@ -1,7 +1,7 @@
 // Where a test can hold up a thread inside a lane's step.
 
 /// A place inside a lane's step.
-#[derive(Clone, Copy, Debug, PartialEq, Eq)]
+#[derive(Clone, Copy)]
 pub enum Point {
     /// A client took a step.
     ClientStep,
@@ -19,7 +19,7 @@ pub trait Gate {
 }
 
 /// The gate that holds up nobody.
-#[derive(Clone, Copy, Debug, PartialEq, Eq)]
+#[derive(Clone, Copy)]
 pub struct OpenGate;
 
 impl Gate for OpenGate {

@@ -2,7 +2,7 @@
 use crate::error::PlayError;
 
 /// How the commands of a run have come to an end.
-#[derive(Clone, Copy, Debug, PartialEq, Eq)]
+#[derive(Clone, Copy)]
 pub(crate) enum End {
     /// All of them have run.
     Done,

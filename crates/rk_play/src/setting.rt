@@ -6,7 +6,7 @@ ghost use Rattle.rk_play.specs.Settings.{IsOpened, IsRefusedEarly};
 use rk_script::{Command, Numbered};
 
 /// How many masters and backups a script asks for, where it does, and how many commands it takes to say so.
-#[derive(Clone, Copy, Debug, PartialEq, Eq)]
+#[derive(Clone, Copy)]
 pub(crate) struct Opening {
     pub(crate) masters: Option<u8>,
     pub(crate) backups: Option<u8>,

@@ -11,7 +11,7 @@ pub const BATCH_HASHES: usize = 16;
 
 /// The hashes of keys whose records a tablet needs: wanted at first, outstanding once they stand in the batch that is
 /// asked for, and resolved once their records have come.
-#[derive(Debug, Drop)]
+#[derive(Drop)]
 pub struct Wanted {
     // All of them, the oldest first: those that are resolved, then the batch, then those that are still wanted.
     hashes: Vec<u64>,

@@ -7,7 +7,7 @@ use rk_types::Token;
 use std::marker::Model;
 
 /// How far the pulls of a range have come: the token behind all items that have arrived.
-#[derive(Debug, Drop)]
+#[derive(Drop)]
 pub struct Progress {
     token: Token,
 }

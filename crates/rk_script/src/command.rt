@@ -1,7 +1,7 @@
 use rk_types::{Key, Op};
 
 /// How far a migration is advanced in each lane.
-#[derive(Clone, Copy, Debug, PartialEq, Eq)]
+#[derive(Clone, Copy, PartialEq, Eq)]
 pub enum Reach {
     /// The migration has begun.
     Begun,
@@ -18,7 +18,7 @@ pub enum Reach {
 }
 
 /// A command of a script.
-#[derive(Debug, Drop, PartialEq, Eq)]
+#[derive(Drop)]
 pub enum Command {
     /// There are so many masters.
     Masters(u8),
@@ -86,7 +86,7 @@ pub enum Command {
 }
 
 /// A command with the number of its line, counted from 1.
-#[derive(Debug, Drop, PartialEq, Eq)]
+#[derive(Drop)]
 pub struct Numbered {
     pub line: u32,
     pub command: Command,

@@ -5,7 +5,7 @@ use crate::code::Code;
 use crate::command::Reach;
 
 /// The name of a command, but for `call` and `advance`, of which a later word names a part.
-#[derive(Clone, Copy, Debug, PartialEq, Eq)]
+#[derive(Clone, Copy, PartialEq, Eq)]
 pub enum Keyword {
     Masters,
     Backups,
@@ -28,7 +28,7 @@ pub enum Keyword {
 }
 
 /// The operation of a call.
-#[derive(Clone, Copy, Debug, PartialEq, Eq)]
+#[derive(Clone, Copy, PartialEq, Eq)]
 pub enum Operation {
     Get,
     Put,

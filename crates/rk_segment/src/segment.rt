@@ -14,7 +14,7 @@ pub struct Full {
 }
 
 /// A segment of a log. Its memory is taken when it is made, for all the bytes that it may hold.
-#[derive(Debug, Drop)]
+#[derive(Drop)]
 pub struct Segment {
     number: u32,
     bytes: Vec<u8>,

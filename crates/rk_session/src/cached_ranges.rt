@@ -11,7 +11,7 @@ use std::alloc::Global;
 const LANE_COUNT: usize = LANES as usize;
 
 /// The ranges that a client cached, by lane.
-#[derive(Debug, Drop)]
+#[derive(Drop)]
 pub(crate) struct CachedRanges {
     lanes: [LaneRanges; LANE_COUNT],
 }

@@ -10,7 +10,7 @@ use std::alloc::Global;
 use std::marker::Model;
 
 /// The ranges of one lane that a client cached. Contracts see them beside the number that finds room.
-#[derive(Debug, Drop)]
+#[derive(Drop)]
 pub(crate) struct LaneRanges {
     ranges: Vec<Located>,
 }

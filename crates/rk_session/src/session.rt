@@ -21,7 +21,6 @@ use std::marker::Model;
 pub const MOST_REQUESTS: u8 = 3;
 
 /// A client's session. Contracts see the session of the definitions.
-#[derive(Debug)]
 pub struct Session {
     client: u32,
     receipts: Vec<Receipt>,

@@ -1,5 +1,5 @@
 /// How far a migration is to be brought, in the order in which it comes there.
-#[derive(Clone, Copy, Debug, PartialEq, Eq)]
+#[derive(Clone, Copy)]
 pub enum Reach {
     /// The target is ready, and its place is known.
     Begun,

@@ -15,7 +15,7 @@ use rk_table::RecordTable;
 use rk_types::{Held, LONGEST_SPELLED};
 
 /// How many items were put into a side log, and how many bytes their entries take.
-#[derive(Clone, Copy, Debug, PartialEq, Eq)]
+#[derive(Clone, Copy)]
 pub(crate) struct Tally {
     pub(crate) items: u32,
     pub(crate) bytes: u64,

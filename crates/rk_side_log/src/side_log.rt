@@ -17,7 +17,7 @@ use std::marker::Model;
 const NO_NUMBER: u32 = 0;
 
 /// The side log of one worker. Contracts see its items, and how many segments are made for it.
-#[derive(Debug, Drop)]
+#[derive(Drop)]
 pub(crate) struct SideLog {
     // The first ones spell the items, and those behind them are empty.
     segments: Vec<Segment>,

@@ -20,7 +20,7 @@ use std::mem;
 pub const WORKERS: usize = 4;
 
 /// The side logs of a target, one for each worker. Contracts see the items of each worker.
-#[derive(Debug, Drop)]
+#[derive(Drop)]
 pub struct SideLogs {
     workers: [SideLog; WORKERS],
     // How many bytes their items take.

@@ -14,7 +14,7 @@ use std::collections::{BTreeMap, VecDeque};
 
 /// What is kept of the staged items of a record: the version of the newest one, whether that one has a value, and how
 /// many there are.
-#[derive(Clone, Copy, Debug, PartialEq, Eq)]
+#[derive(Clone, Copy)]
 pub struct Kept {
     pub version: u64,
     pub is_live: bool,

@@ -4,7 +4,7 @@ use rk_types::{Listed, Member, NoMemory};
 
 /// Where a tablet is. Places count the entries of a master's log from 0, and `from`, `sfrom` and `dfrom` are those from
 /// which the log of the owner, the source and the target counts for the tablet.
-#[derive(Debug, Drop, PartialEq, Eq)]
+#[derive(Drop, PartialEq, Eq)]
 pub enum Phase {
     /// One master owns it.
     Owned {

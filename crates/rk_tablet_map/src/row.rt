@@ -4,7 +4,7 @@ use crate::phase::Phase;
 use rk_types::{NoMemory, Range};
 
 /// A row of the tablet map: the number of a tablet, its key hashes, its term, and where it is.
-#[derive(Debug, Drop, PartialEq, Eq)]
+#[derive(Drop, PartialEq, Eq)]
 pub struct Row {
     pub tablet: u32,
     pub range: Range,

@@ -12,7 +12,7 @@ use std::marker::Model;
 
 /// The rows of all tablets, by rising number. No two of them have one number, and no hash of a table is in the ranges of
 /// two.
-#[derive(Debug, Drop)]
+#[derive(Drop)]
 pub struct TabletMap {
     rows: Vec<Row>,
 }

@@ -4,9 +4,9 @@ use crate::comparing::same;
 use rk_script::{Numbered, ParseError, ScriptReader, parse};
 use std::alloc::Global;
 
-// What a script says: how many commands it has and the code 0, or the line and the code of its first refusal.
-fn told(alloc: Global, script: &[u8]) -> (usize, u8) {
-    match parse(alloc, script) {
+// What was read: how many commands a script has and the code 0, or the line and the code of its first refusal.
+fn told(read: Result<Vec<Numbered>, ParseError>) -> (usize, u8) {
+    match read {
         Ok(commands) => (commands.len(), 0),
         Err(ParseError::Refused { line, code }) => (line as usize, code.number()),
         Err(ParseError::NoMemory) => (0, 5),
@@ -38,10 +38,9 @@ fn reads_pieces_of_any_size(rt: HostRuntime) {
         (b"\n\r\n", (0, 0)),
     ];
     for (script, wanted) in rows {
-        same(&rt, &told(rt.alloc(), script), &wanted);
-        let whole = parse(rt.alloc(), script);
+        same(&rt, &told(parse(rt.alloc(), script)), &wanted);
         for size in 1..=script.len() {
-            same(&rt, &read_by(rt.alloc(), script, size), &whole);
+            same(&rt, &told(read_by(rt.alloc(), script, size)), &wanted);
         }
     }
 }

@@ -2,13 +2,12 @@ use rk_bucket_table::BucketTable;
 use rk_table::{END, FIRST, RecordTable, SortedTable};
 use rk_types::{BUCKETS, Held, Key, NoMemory, Range, Token, Value, bucket_of, hash};
 use std::alloc::Global;
-use std::fmt::Debug;
 use std::process::Abort;
 use std::test::Fail;
 
-// Each assertion is proved with all that it prints, and a call of this is not.
-fn same<R: Abort, T: PartialEq + Debug>(rt: &R, found: &T, wanted: &T) {
-    assert_eq!(rt; *found, *wanted);
+// Each assertion is proved anew, and a call of this is not.
+fn same<R: Abort, T: PartialEq>(rt: &R, found: &T, wanted: &T) {
+    assert!(rt; *found == *wanted);
 }
 
 // The next number of a xorshift generator.

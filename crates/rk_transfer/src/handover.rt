@@ -8,7 +8,7 @@ use rk_types::Range;
 /// counter that gives the next version. Places count the entries of the master's log from 0.
 ///
 /// Each move answers whether it applied. Where it did not, nothing has changed.
-#[derive(Clone, Copy, Debug, PartialEq, Eq)]
+#[derive(Clone, Copy, PartialEq, Eq)]
 pub struct Handover {
     pub role: Role,
     pub term: u64,

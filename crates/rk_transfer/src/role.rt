@@ -2,7 +2,7 @@ ghost use Rattle.std.specs.Prelude.{◌≡◌};
 ghost use Rattle.rk_transfer.specs.Handover.{is_serving};
 
 /// What a master is to a tablet. Places count the entries of its log from 0.
-#[derive(Clone, Copy, Debug, PartialEq, Eq)]
+#[derive(Clone, Copy, PartialEq, Eq)]
 pub enum Role {
     /// It has nothing of the tablet.
     Absent,

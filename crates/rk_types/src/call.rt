@@ -4,7 +4,7 @@ use crate::memory::NoMemory;
 use crate::text::{Key, Value};
 
 /// What a call asks of a record.
-#[derive(Debug, PartialEq, Eq)]
+#[derive(PartialEq, Eq)]
 pub enum Op {
     /// Read the record.
     Get,
@@ -17,7 +17,7 @@ pub enum Op {
 }
 
 /// A call of a client: its number among that client's calls, from 1, the record, and what is asked of it.
-#[derive(Debug, PartialEq, Eq)]
+#[derive(PartialEq, Eq)]
 pub struct Call {
     pub client: u32,
     pub seq: u64,
@@ -27,7 +27,7 @@ pub struct Call {
 }
 
 /// What came of a call.
-#[derive(Debug, PartialEq, Eq)]
+#[derive(PartialEq, Eq)]
 pub enum Outcome {
     /// The record was there, with this version and value.
     Found(u64, Value),
@@ -42,7 +42,7 @@ pub enum Outcome {
 }
 
 /// How a master answers a request.
-#[derive(Debug, Drop, PartialEq, Eq)]
+#[derive(Drop, PartialEq, Eq)]
 pub enum Answer {
     /// The call was carried out.
     Done(Outcome),
@@ -53,7 +53,7 @@ pub enum Answer {
 }
 
 /// How a mutation ended: an outcome without a value, as a log keeps it.
-#[derive(Clone, Copy, Debug, PartialEq, Eq)]
+#[derive(Clone, Copy, PartialEq, Eq)]
 pub enum End {
     Written(u64),
     Deleted(u64),
@@ -62,7 +62,7 @@ pub enum End {
 }
 
 /// The end of a client's call.
-#[derive(Clone, Copy, Debug, PartialEq, Eq)]
+#[derive(Clone, Copy, PartialEq, Eq)]
 pub struct Ended {
     pub client: u32,
     pub seq: u64,

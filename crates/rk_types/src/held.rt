@@ -20,7 +20,7 @@ pub const LONGEST_SPELLED: u32 = BYTES_BEFORE_KEY + LONGEST_KEY as u32 + LONGEST
 
 /// An item of a log or a table: what the call of this client and seq made of a record. Without a value it is a
 /// tombstone, which marks the record as removed.
-#[derive(Debug, Drop, PartialEq, Eq)]
+#[derive(Drop, PartialEq, Eq)]
 pub struct Held {
     pub table: u64,
     pub version: u64,
@@ -32,7 +32,7 @@ pub struct Held {
 
 /// A place in the order of a scan: a bucket, and how many items of that bucket are passed over.
 /// `{1024, 0}` is the end.
-#[derive(Clone, Copy, Debug, PartialEq, Eq)]
+#[derive(Clone, Copy, PartialEq, Eq)]
 pub struct Token {
     pub bucket: u16,
     pub skip: u32,

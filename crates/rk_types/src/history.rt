@@ -4,7 +4,7 @@ use crate::call::{Call, Outcome};
 use crate::memory::NoMemory;
 
 /// A record of a journal: a call with its outcome and its stamp, and whether the caller has accepted the answer.
-#[derive(Debug, PartialEq, Eq)]
+#[derive(PartialEq, Eq)]
 pub struct Placed {
     pub call: Call,
     pub outcome: Outcome,
@@ -14,7 +14,6 @@ pub struct Placed {
 
 /// What a caller keeps of an answer that it accepted: the call, its outcome, and the lane, place and stamp of its
 /// record. Places count from 0.
-#[derive(Debug, PartialEq, Eq)]
 pub struct Receipt {
     pub call: Call,
     pub outcome: Outcome,

@@ -5,7 +5,7 @@ use crate::memory::NoMemory;
 use crate::text::Key;
 
 /// Who sends or receives a message.
-#[derive(Clone, Copy, Debug, PartialEq, Eq)]
+#[derive(Clone, Copy, PartialEq, Eq)]
 pub enum Node {
     Client(u32),
     Coordinator,
@@ -14,7 +14,6 @@ pub enum Node {
 }
 
 /// What a client was told of its call: its number and that call's, and the answer.
-#[derive(Debug, PartialEq, Eq)]
 pub enum Said {
     /// The call was carried out, with this outcome.
     Reply(u32, u64, Outcome),

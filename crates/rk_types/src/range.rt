@@ -2,7 +2,7 @@ ghost use Rattle.std.specs.Prelude.{◌≡◌};
 ghost use Rattle.rk_types.specs.Range.{has as has_lem, meets as meets_lem};
 
 /// The key hashes from `first` to `last`, both included, of one table.
-#[derive(Clone, Copy, Debug, PartialEq, Eq)]
+#[derive(Clone, Copy, PartialEq, Eq)]
 pub struct Range {
     pub table: u64,
     pub first: u64,

@@ -69,7 +69,6 @@ fn check(bytes: &[u8], shortest: usize, longest: usize) -> Result<(), TextError>
 }
 
 /// The name of a record: 1 to 250 printed characters other than the blank.
-#[derive(Debug)]
 pub struct Key {
     bytes: SmallVec<u8, BYTES_INLINE>,
 }
@@ -118,7 +117,6 @@ impl Key {
 }
 
 /// What a record holds: 0 to 65,000 printed characters other than the blank.
-#[derive(Debug)]
 pub struct Value {
     bytes: SmallVec<u8, BYTES_INLINE>,
 }

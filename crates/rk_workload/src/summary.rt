@@ -6,7 +6,7 @@ use crate::words::push_numbered;
 use rk_types::{NoMemory, Op, Receipt};
 
 /// How many receipts there are, by what their calls ask.
-#[derive(Clone, Copy, Debug, PartialEq, Eq)]
+#[derive(Clone, Copy)]
 pub struct Counts {
     pub puts: u64,
     pub gets: u64,
@@ -16,7 +16,7 @@ pub struct Counts {
 
 /// What a drive came to: how many calls were asked and how many answered, the answered ones by what they ask, and the master
 /// that owns the tablet, if it is the same in all lanes.
-#[derive(Clone, Copy, Debug, PartialEq, Eq)]
+#[derive(Clone, Copy)]
 pub struct Summary {
     pub calls: u64,
     pub answered: u64,

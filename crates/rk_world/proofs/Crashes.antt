@@ -3,6 +3,7 @@ use Rattle.std.specs.Prelude.{◌≡◌, ℕ, ◌+◌, List, [], ◌∷◌, refl
 use Rattle.rk_types.specs.Hashing.{hash_of}
 use Rattle.rk_types.specs.Held.{spelled_of}
 use Rattle.rk_types.specs.declared.call.Op.TheVariants.{Get}
+use Rattle.rk_types.specs.declared.call.Outcome.{Outcome}
 use Rattle.rk_types.specs.declared.call.Outcome.TheVariants.{Found}
 use Rattle.rk_types.specs.declared.node.Node.TheVariants as nodes
 use Rattle.rk_entry.specs.Ends.{range_bytes, outcome_bytes, end_bytes, read_range, read_version, read_absent, read_tagged, read_outcome, read_end}
@@ -13,6 +14,7 @@ use Rattle.rk_entry.specs.Reading.{read_kind, read_body_length, read_head, read_
 use Rattle.rk_entry.specs.Spelling.{head_bytes, held_bytes, refused_bytes, carried_bytes, joined_bytes, body_length, front_bytes, spelled, mark_of}
 use Rattle.rk_entry.specs.Texts.{key_bytes, value_bytes, read_key_length, read_key, read_value_length, read_value}
 use Rattle.rk_tablet_map.specs.Phase.{member}
+use Rattle.rk_tablet_map.specs.declared.phase.Phase.{Phase}
 use Rattle.rk_tablet_map.specs.declared.phase.Phase.TheVariants.{Owned, Rebuilding}
 use Rattle.rk_world.specs.declared.event.Event.TheVariants as events
 use Rattle.rk_world.proofs.Granted.{filled, granted, overwritten}
@@ -23,6 +25,10 @@ abbrev pub reading_both : ℕ → List Act
 reading_both first =
     Calls 2 a Get ∷ Asks 2 ∷ Delivers first ∷ Delivers (first + 1) ∷ Asks 2 ∷ Delivers (first + 2) ∷ Delivers (first + 3)
     ∷ Calls 2 i Get ∷ Asks 2 ∷ Delivers (first + 4) ∷ Delivers (first + 5) ∷ []
+
+-- how the calls of client 2 were answered, and where the rows are
+abbrev shown : Scene → List Outcome × List Phase
+shown scene = (answers_of scene 2, phases_of scene)
 
 -- ---- the source crashes
 
@@ -47,20 +53,15 @@ source_rebuilt =
     ∷ Delivers 36 ∷ Delivers 37 ∷ Delivers 38 ∷ Delivers 39 ∷ Does (events.Turn (nodes.Master 2)) ∷ Delivers 40
     ∷ Delivers 41 ∷ [])
 
--- the target owns the tablet
-source_rebuilt_row : phases_of source_rebuilt ≡ Owned 2 0 ∷ []
-unfolding source_rebuilt source_crashed overwritten granted filled hash_of spelled_of spelled_all spelled front_bytes body_length head_bytes held_bytes refused_bytes carried_bytes joined_bytes mark_of number_bytes key_bytes value_bytes range_bytes outcome_bytes end_bytes ends_bytes segments_bytes entries_of entries_within read_entry read_kind read_body_length read_head read_tombstone read_object read_why read_refused read_carried read_joined read_mark read_number read_from read_key_length read_key read_value_length read_value read_range read_version read_absent read_tagged read_outcome read_end read_ends read_segment read_segments
-source_rebuilt_row = refl
-
 -- another client reads both records
 source_reads : Scene
 source_reads =
     played source_rebuilt (reading_both 42)
 
--- as they were written last
-source_read_answers : answers_of source_reads 2 ≡ Found 3 y ∷ Found 2 x ∷ []
+-- as they were written last; the target owns the tablet
+source_reads_show : shown source_reads ≡ ((Found 3 y ∷ Found 2 x ∷ []), (Owned 2 0 ∷ []))
 unfolding source_reads source_rebuilt source_crashed overwritten granted filled hash_of spelled_of spelled_all spelled front_bytes body_length head_bytes held_bytes refused_bytes carried_bytes joined_bytes mark_of number_bytes key_bytes value_bytes range_bytes outcome_bytes end_bytes ends_bytes segments_bytes entries_of entries_within read_entry read_kind read_body_length read_head read_tombstone read_object read_why read_refused read_carried read_joined read_mark read_number read_from read_key_length read_key read_value_length read_value read_range read_version read_absent read_tagged read_outcome read_end read_ends read_segment read_segments
-source_read_answers = refl
+source_reads_show = refl
 
 -- ---- the target crashes
 
@@ -85,17 +86,12 @@ target_rebuilt =
     ∷ Does (events.Turn (nodes.Master 1)) ∷ Delivers 38 ∷ Delivers 39 ∷ Delivers 40 ∷ Delivers 41
     ∷ Does (events.Turn (nodes.Master 1)) ∷ Delivers 42 ∷ Delivers 43 ∷ [])
 
--- the source owns the tablet again
-target_rebuilt_row : phases_of target_rebuilt ≡ Owned 1 0 ∷ []
-unfolding target_rebuilt target_crashed overwritten granted filled hash_of spelled_of spelled_all spelled front_bytes body_length head_bytes held_bytes refused_bytes carried_bytes joined_bytes mark_of number_bytes key_bytes value_bytes range_bytes outcome_bytes end_bytes ends_bytes segments_bytes entries_of entries_within read_entry read_kind read_body_length read_head read_tombstone read_object read_why read_refused read_carried read_joined read_mark read_number read_from read_key_length read_key read_value_length read_value read_range read_version read_absent read_tagged read_outcome read_end read_ends read_segment read_segments
-target_rebuilt_row = refl
-
 -- another client reads both records
 target_reads : Scene
 target_reads =
     played target_rebuilt (reading_both 44)
 
--- no acknowledged write is lost
-target_read_answers : answers_of target_reads 2 ≡ Found 3 y ∷ Found 2 x ∷ []
+-- no acknowledged write is lost; the source owns the tablet again
+target_reads_show : shown target_reads ≡ ((Found 3 y ∷ Found 2 x ∷ []), (Owned 1 0 ∷ []))
 unfolding target_reads target_rebuilt target_crashed overwritten granted filled hash_of spelled_of spelled_all spelled front_bytes body_length head_bytes held_bytes refused_bytes carried_bytes joined_bytes mark_of number_bytes key_bytes value_bytes range_bytes outcome_bytes end_bytes ends_bytes segments_bytes entries_of entries_within read_entry read_kind read_body_length read_head read_tombstone read_object read_why read_refused read_carried read_joined read_mark read_number read_from read_key_length read_key read_value_length read_value read_range read_version read_absent read_tagged read_outcome read_end read_ends read_segment read_segments
-target_read_answers = refl
+target_reads_show = refl

@@ -1,7 +1,7 @@
 use rk_types::{End, Outcome, Value};
 
 /// What is to be done with a call, at the tablet of a number.
-#[derive(Debug, Drop, PartialEq, Eq)]
+#[derive(Drop)]
 pub enum Choice {
     /// No tablet that is served here has the key: the client is told that it has moved.
     Redirects,

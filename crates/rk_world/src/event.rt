@@ -1,7 +1,7 @@
 use rk_types::{Key, Node, Range};
 
 /// What may happen in a lane. Which one does, and when, is anybody's choice: the wire's, a script's or a schedule's.
-#[derive(Clone, Copy, Debug, PartialEq, Eq)]
+#[derive(Clone, Copy)]
 pub enum Event {
     /// A tablet is made, owned by this master.
     AddTablet {
@@ -37,7 +37,7 @@ pub enum Event {
 }
 
 /// What a session makes of a message.
-#[derive(Debug, Drop, PartialEq, Eq)]
+#[derive(Drop)]
 pub enum Taken {
     /// It is not for the outstanding call, or says nothing new.
     Ignored,
@@ -53,7 +53,7 @@ pub enum Taken {
 
 /// What an event showed: how many messages it put on the wire, and the number of the first of them, 0 where there is
 /// none; whether it was lost, since its receiver had crashed or a backup failed; what a session made of the message.
-#[derive(Debug, Drop, PartialEq, Eq)]
+#[derive(Drop)]
 pub struct Seen {
     pub first: u64,
     pub sent: u64,

@@ -1,7 +1,7 @@
 use rk_types::Call;
 
 /// The last call that a client asked in a lane, with the highest stamp that it had seen.
-#[derive(Debug, Drop, PartialEq, Eq)]
+#[derive(Drop)]
 pub struct LastCall {
     pub call: Call,
     pub seen: u64,
