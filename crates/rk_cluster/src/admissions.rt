@@ -22,9 +22,9 @@ use std::alloc::Global;
 use std::collections::BTreeMap;
 
 /// As many tables and tablets as there may be.
-const MOST_TABLES: usize = 8;
+const MOST_TABLES: usize = rk_types::MOST_TABLES as usize;
 
-const MOST_TABLETS: usize = 16;
+const MOST_TABLETS: usize = rk_types::MOST_TABLETS as usize;
 
 /// A table is to be made: the number of its tablet.
 pub(crate) fn admit_table<R: Replica + Drop>(

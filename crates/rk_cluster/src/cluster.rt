@@ -40,7 +40,7 @@ mod tables;
 mod turns;
 
 /// As many clients as may have sessions.
-const MOST_CLIENTS: usize = 64;
+const MOST_CLIENTS: usize = rk_types::MOST_CLIENTS as usize;
 
 /// Eight lanes, and the sessions of the clients that act in them. Contracts see the lanes, and the session of each client.
 #[derive(Drop)]

@@ -7,7 +7,7 @@ use crate::start::MASTERS;
 use rk_script::{Code, number};
 
 /// The most clients of a drive.
-pub const MOST_CLIENTS: u64 = 64;
+pub const MOST_CLIENTS: u64 = rk_types::MOST_CLIENTS as u64;
 
 /// The most calls that all clients of a drive make together.
 pub const MOST_CALLS: u64 = 200_000;

@@ -18,7 +18,7 @@ use rk_types::Range;
 use rk_world::{Seen, StepError};
 
 /// How many clients a lane takes.
-const MOST_CLIENTS: u64 = 64;
+const MOST_CLIENTS: u64 = rk_types::MOST_CLIENTS as u64;
 
 /// The message of a number is lost. One search.
 pub(crate) fn forget(parts: &mut Parts, number: u64) -> Result<Seen, StepError>

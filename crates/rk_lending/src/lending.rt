@@ -15,7 +15,7 @@ use std::alloc::Global;
 use std::mem;
 
 /// How many replicas a run has: one for each of four backups and eight lanes.
-pub const REPLICAS: usize = 32;
+pub const REPLICAS: usize = rk_types::REPLICAS;
 
 /// What is kept of the replicas of a run while its cluster has those of so many backups: the others, and room for the replicas
 /// of each lane.

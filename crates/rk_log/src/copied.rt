@@ -14,7 +14,7 @@ use std::alloc::Global;
 pub(crate) const FIRST_SEGMENT: u32 = 1;
 
 /// The most backups that a log may have.
-pub const MOST_BACKUPS: usize = 4;
+pub const MOST_BACKUPS: usize = rk_types::MOST_BACKUPS as usize;
 
 /// A segment, and how many of its bytes each backup is known to hold. Its place in its list tells its number: the one
 /// that it was made with is never read.

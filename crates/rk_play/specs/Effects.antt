@@ -19,12 +19,8 @@ use Rattle.rk_settle.specs.Serve.{serve}
 use Rattle.rk_settle.specs.Settle.{settle}
 use Rattle.rk_settle.specs.declared.error.SettleError.{SettleError}
 use Rattle.rk_settle.specs.declared.error.SettleError.TheVariants as errors
-use Rattle.rk_settle.specs.declared.reach.Reach.{Reach}
-use Rattle.rk_settle.specs.declared.reach.Reach.TheVariants as reaches
 use Rattle.rk_script.specs.declared.command.Command.{Command}
 use Rattle.rk_script.specs.declared.command.Command.TheVariants as commands
-use Rattle.rk_script.specs.declared.command.Reach.{Reach as Wanted}
-use Rattle.rk_script.specs.declared.command.Reach.TheVariants as wanted
 use Rattle.rk_lines.specs.Lines.{said_lines}
 use Rattle.rk_play.specs.Shows.{dump_code, dump_text, history_text, where_code, where_text}
 
@@ -87,15 +83,6 @@ abbrev pub shown : Cluster → Option Code → List ℕ → Effect
 shown cluster (Some code) text = refused_by code cluster
 shown cluster None text = writing text cluster []
 
--- a reach as the settling commands name it
-abbrev pub reach_of : Wanted → Reach
-reach_of wanted.Begun = reaches.Begun
-reach_of wanted.Frozen = reaches.Frozen
-reach_of wanted.Granted = reaches.Granted
-reach_of wanted.Pulled = reaches.Pulled
-reach_of wanted.Joined = reaches.Joined
-reach_of wanted.Finished = reaches.Finished
-
 -- what becomes of the one call of a replica that a delivery may make
 abbrev pub only_fate : List Fate → Fate
 only_fate fates = unwrap_or (slice_get fates 0) Kept
@@ -117,8 +104,7 @@ effect cluster (commands.Repeat client) fates =
 effect cluster (commands.Migrate tablet master) fates =
     carried cluster (codes.migrate_code cluster tablet master) (makes.migrate_makes cluster tablet master)
 effect cluster (commands.Advance tablet reach) fates =
-    settled cluster (advance_code cluster tablet (reach_of reach))
-    (moved_all (course_of cluster (advance cluster tablet (reach_of reach))) fates)
+    settled cluster (advance_code cluster tablet reach) (moved_all (course_of cluster (advance cluster tablet reach)) fates)
 effect cluster (commands.Priority tablet) fates =
     settled cluster (priority_code cluster tablet) (moved_all (course_of cluster (priority cluster tablet)) fates)
 effect cluster (commands.Split tablet hash) fates =

@@ -3,7 +3,7 @@ ghost use Rattle.std.specs.Prelude.{◌≡◌, ◌≢◌, [], IfErr, OnOk};
 ghost use Rattle.rk_cluster.specs.Faults.{CountsGoOn};
 ghost use Rattle.rk_cluster.specs.Masters.{backups_of};
 ghost use Rattle.rk_play.specs.Came.{Ran, Stopped};
-ghost use Rattle.rk_play.specs.Effects.{effect, reach_of as reach_of_lem};
+ghost use Rattle.rk_play.specs.Effects.{effect};
 ghost use Rattle.rk_play.specs.Faults.{HasFaults};
 ghost use Rattle.rk_play.specs.declared.error.PlayError.TheVariants.{NoMemory as no_memory};
 ghost use Rattle.rk_script.specs.declared.command.Command.TheVariants as commands;
@@ -12,9 +12,8 @@ use crate::error::PlayError;
 use rk_cluster::Cluster;
 use rk_lines::push_all_said;
 use rk_outside::Replica;
-use rk_script::Reach as Wanted;
-use rk_settle::{Reach, advance, advance_code, priority, priority_code, serve, serve_code, settle};
-use rk_types::Said;
+use rk_settle::{advance, advance_code, priority, priority_code, serve, serve_code, settle};
+use rk_types::{Reach, Said};
 use std::alloc::Global;
 
 /// Settles a cluster, and adds what clients said to a text.
@@ -66,18 +65,17 @@ pub(crate) fn advance_tablet<R: Replica + Drop>(
     alloc: Global,
     cluster: &mut Cluster<R>,
     tablet: u32,
-    wanted: Wanted,
+    reach: Reach,
     said: &mut Vec<Said>,
     text: &mut Vec<u8>,
 ) -> Result<(), PlayError>
-    ensures ok { OnOk result (Ran R.segments R.faults cluster.old cluster.new (λ c fates. effect c (commands.Advance tablet wanted) fates) text.old.items text.new.items) }
-    ensures err { IfErr result (Stopped R.segments R.faults cluster.old cluster.new (λ c fates. effect c (commands.Advance tablet wanted) fates)) }
+    ensures ok { OnOk result (Ran R.segments R.faults cluster.old cluster.new (λ c fates. effect c (commands.Advance tablet reach) fates) text.old.items text.new.items) }
+    ensures err { IfErr result (Stopped R.segments R.faults cluster.old cluster.new (λ c fates. effect c (commands.Advance tablet reach) fates)) }
     ensures kept { IfErr result (λ e. e ≢ no_memory → text.new.items ≡ text.old.items) }
     ensures backups { backups_of cluster.new ≡ backups_of cluster.old }
     ensures counts { CountsGoOn R.faults [] cluster.old cluster.new }
     ensures cause { IfErr result (HasFaults R.faults cluster.old cluster.new) }
 {
-    let reach = reach_of(wanted);
     if let Some(code) = advance_code(cluster, tablet, reach) {
         return Err(PlayError::Refused(code));
     }
@@ -109,18 +107,4 @@ pub(crate) fn hasten<R: Replica + Drop>(
     priority(alloc, cluster, tablet, said)?;
     push_all_said(text, said.as_slice())?;
     Ok(())
-}
-
-// A reach as the settling commands name it.
-fn reach_of(reach: Wanted) -> Reach
-    ensures { result ≡ reach_of_lem reach }
-{
-    match reach {
-        Wanted::Begun => Reach::Begun,
-        Wanted::Frozen => Reach::Frozen,
-        Wanted::Granted => Reach::Granted,
-        Wanted::Pulled => Reach::Pulled,
-        Wanted::Joined => Reach::Joined,
-        Wanted::Finished => Reach::Finished,
-    }
 }

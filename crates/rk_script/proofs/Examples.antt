@@ -6,7 +6,7 @@ use Rattle.rk_script.specs.declared.code.Code.TheVariants.{UnknownName, WordCoun
 use Rattle.rk_script.specs.declared.command.Command.{Command}
 use Rattle.rk_script.specs.declared.command.Command.TheVariants as command
 use Rattle.rk_script.specs.declared.command.Numbered.{Numbered}
-use Rattle.rk_script.specs.declared.command.Reach.TheVariants.{Granted}
+use Rattle.rk_types.specs.declared.reach.Reach.TheVariants.{Granted}
 use Rattle.rk_script.specs.declared.script.ParseError.TheVariants.{Refused}
 use Rattle.rk_script.specs.Script.{script_of}
 

@@ -2,8 +2,8 @@
 use Rattle.std.specs.Prelude.{ℕ, List, bytes_eq, codes, Result, Ok, Err, if◌then◌else◌}
 use Rattle.rk_script.specs.declared.code.Code.{Code}
 use Rattle.rk_script.specs.declared.code.Code.TheVariants.{UnknownName}
-use Rattle.rk_script.specs.declared.command.Reach.{Reach}
-use Rattle.rk_script.specs.declared.command.Reach.TheVariants.{Begun, Frozen, Granted, Pulled, Joined, Finished}
+use Rattle.rk_types.specs.declared.reach.Reach.{Reach}
+use Rattle.rk_types.specs.declared.reach.Reach.TheVariants.{Begun, Frozen, Granted, Pulled, Joined, Finished}
 use Rattle.rk_script.specs.declared.names.Keyword.{Keyword}
 use Rattle.rk_script.specs.declared.names.Keyword.TheVariants as keyword
 use Rattle.rk_script.specs.declared.names.Operation.{Operation}

@@ -1,21 +1,4 @@
-use rk_types::{Key, Op};
-
-/// How far a migration is advanced in each lane.
-#[derive(Clone, Copy, PartialEq, Eq)]
-pub enum Reach {
-    /// The migration has begun.
-    Begun,
-    /// The source has frozen its copy.
-    Frozen,
-    /// The target has been granted the tablet.
-    Granted,
-    /// All records have been pulled.
-    Pulled,
-    /// The pulled records have joined the target's log.
-    Joined,
-    /// The migration is over.
-    Finished,
-}
+use rk_types::{Key, Op, Reach};
 
 /// A command of a script.
 #[derive(Drop)]

@@ -9,7 +9,7 @@
 #![tactic(auto)]
 
 pub use code::Code;
-pub use command::{Command, Numbered, Reach};
+pub use command::{Command, Numbered};
 pub use numbers::number;
 pub use reader::ScriptReader;
 pub use script::{LONGEST_SCRIPT, ParseError, parse};

@@ -2,7 +2,7 @@ ghost use Rattle.std.specs.Prelude.{◌≡◌, bytes_eq};
 ghost use Rattle.rk_script.specs.Names.{keyword_of, operation_of, reach_of};
 
 use crate::code::Code;
-use crate::command::Reach;
+use rk_types::Reach;
 
 /// The name of a command, but for `call` and `advance`, of which a later word names a part.
 #[derive(Clone, Copy, PartialEq, Eq)]

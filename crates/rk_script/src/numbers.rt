@@ -16,13 +16,13 @@ pub const ZERO: u8 = b'0';
 pub const FEWEST_MASTERS: u64 = 2;
 
 /// The most masters of a run.
-pub const MOST_MASTERS: u64 = 8;
+pub const MOST_MASTERS: u64 = rk_types::MOST_MASTERS as u64;
 
 /// The most backups of a run.
-pub const MOST_BACKUPS: u64 = 4;
+pub const MOST_BACKUPS: u64 = rk_types::MOST_BACKUPS as u64;
 
 /// The most tablets of a run.
-pub const MOST_TABLETS: u64 = 16;
+pub const MOST_TABLETS: u64 = rk_types::MOST_TABLETS as u64;
 
 /// How many digits a hash is written with.
 pub const HASH_DIGITS: usize = 16;

@@ -99,10 +99,10 @@ pub use Rattle.rk_settle.specs.Tasks.{asks, forgets, round_of, takes_turn, turn_
 pub use Rattle.rk_settle.specs.Topics.{is_on}
 pub use Rattle.rk_settle.specs.Unfolding.{unfolded}
 pub use Rattle.rk_settle.specs.declared.error.SettleError.{SettleError}
-pub use Rattle.rk_settle.specs.declared.reach.Reach.{Reach}
-pub use Rattle.rk_settle.specs.declared.reach.Reach.TheVariants.{Begun, Finished, Frozen, Granted, Joined, Pulled}
+pub use Rattle.rk_types.specs.declared.reach.Reach.{Reach}
+pub use Rattle.rk_types.specs.declared.reach.Reach.TheVariants.{Begun, Finished, Frozen, Granted, Joined, Pulled}
 pub use Rattle.rk_play.specs.Effects.{Effect, Fails, Pauses, Refuses, Stop, Wears, carried, carried_by, effect, effect_within, is_full}
-pub use Rattle.rk_play.specs.Effects.{only_fate, reach_of, refused_by, settled, settled_by, shown, stop_of}
+pub use Rattle.rk_play.specs.Effects.{only_fate, refused_by, settled, settled_by, shown, stop_of}
 pub use Rattle.rk_play.specs.Played.{Played, Setting, behind, cluster_by, continued, faultless, first_commands, first_fates, how_many}
 pub use Rattle.rk_play.specs.Played.{opened_by, other_fates, part_of, played_from, played_in, played_of, played_part, refused_at, set_once}
 pub use Rattle.rk_play.specs.Played.{stopped_at, unset}

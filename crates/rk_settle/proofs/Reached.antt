@@ -1,8 +1,8 @@
 -- How far a migration has come, by its phase and the reach.
 use Rattle.rk_settle.proofs.Words.{arith, ◌≡◌, ℕ, Option, Moving, Opening, Row, World}
 use Rattle.rk_settle.specs.Reaches.{is_at_reach, is_moved_to}
-use Rattle.rk_settle.specs.declared.reach.Reach.{Reach}
-use Rattle.rk_settle.specs.declared.reach.Reach.TheVariants.{Begun, Frozen}
+use Rattle.rk_types.specs.declared.reach.Reach.{Reach}
+use Rattle.rk_types.specs.declared.reach.Reach.TheVariants.{Begun, Frozen}
 
 module _ (w : World) (row : Row) (source target sfrom : ℕ) where
   -- an opening one that is to do more than begin and freeze its source

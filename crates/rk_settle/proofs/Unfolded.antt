@@ -24,8 +24,8 @@ use Rattle.rk_settle.specs.Priority.{hasten_phase, hasten_row, priority, wants_f
 use Rattle.rk_settle.specs.Serve.{MOST_TRIES, ask_exchange, commit_tasks, hear_tasks, is_staged_by, request_by, try_tasks, was_moved}
 use Rattle.rk_settle.specs.Settle.{empty_by, notice_by, settling_tasks, unnoticed}
 use Rattle.rk_settle.specs.Tasks.{turn_exchange}
-use Rattle.rk_settle.specs.declared.reach.Reach.{Reach}
-use Rattle.rk_settle.specs.declared.reach.Reach.TheVariants.{Begun, Finished, Frozen, Joined, Pulled}
+use Rattle.rk_types.specs.declared.reach.Reach.{Reach}
+use Rattle.rk_types.specs.declared.reach.Reach.TheVariants.{Begun, Finished, Frozen, Joined, Pulled}
 use Rattle.rk_settle.specs.declared.task.Act.TheVariants as acts
 use Rattle.rk_settle.specs.declared.task.Task.TheVariants as tasks
 use Rattle.rk_settle.specs.declared.topic.Topic.{Topic}

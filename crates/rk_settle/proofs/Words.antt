@@ -29,7 +29,7 @@ pub use Rattle.rk_settle.specs.Tasks.{forgets, occurrence_of, round_of}
 pub use Rattle.rk_settle.specs.Unfolding.{unfolded}
 pub use Rattle.rk_settle.specs.declared.course.Progress.{Progress}
 pub use Rattle.rk_settle.specs.declared.error.SettleError.{SettleError}
-pub use Rattle.rk_settle.specs.declared.reach.Reach.TheVariants.{Granted}
+pub use Rattle.rk_types.specs.declared.reach.Reach.TheVariants.{Granted}
 pub use Rattle.rk_settle.specs.declared.task.Act.{Act}
 pub use Rattle.rk_settle.specs.declared.task.Task.{Task}
 pub use Rattle.rk_tablet_map.specs.Rows.{row_of}

@@ -17,8 +17,8 @@ use Rattle.rk_settle.specs.declared.task.Task.{Task}
 use Rattle.rk_settle.specs.declared.task.Task.TheVariants as tasks
 use Rattle.rk_settle.specs.declared.topic.Topic.{Topic}
 use Rattle.rk_settle.specs.declared.topic.Topic.TheVariants as topics
-use Rattle.rk_settle.specs.declared.reach.Reach.{Reach}
-use Rattle.rk_settle.specs.declared.reach.Reach.TheVariants.{Begun, Frozen, Granted, Pulled, Joined, Finished}
+use Rattle.rk_types.specs.declared.reach.Reach.{Reach}
+use Rattle.rk_types.specs.declared.reach.Reach.TheVariants.{Begun, Frozen, Granted, Pulled, Joined, Finished}
 
 -- a reach and those before it, in their order
 abbrev pub reaches_to : Reach → List Reach

@@ -12,7 +12,7 @@ use Rattle.rk_cluster.specs.Looks.{all_lanes, is_client, is_tablet}
 use Rattle.rk_cluster.specs.declared.code.Code.{Code}
 use Rattle.rk_cluster.specs.declared.code.Code.TheVariants.{Crashed, NotMigrating, NothingSent, Unknown}
 use Rattle.rk_settle.specs.Reaches.{is_short_of}
-use Rattle.rk_settle.specs.declared.reach.Reach.{Reach}
+use Rattle.rk_types.specs.declared.reach.Reach.{Reach}
 
 -- serve: the client is there, and has an outstanding call
 abbrev pub serve_code : Cluster → ℕ → Option Code

@@ -9,8 +9,8 @@ use Rattle.rk_transfer.specs.declared.role.Role.TheVariants as roles
 use Rattle.rk_world.specs.RoleTests.{is_frozen_at}
 use Rattle.rk_world.specs.Tablet.{Tablet}
 use Rattle.rk_world.specs.World.{World, master_at, tablet_in}
-use Rattle.rk_settle.specs.declared.reach.Reach.{Reach}
-use Rattle.rk_settle.specs.declared.reach.Reach.TheVariants.{Begun, Frozen, Granted, Pulled, Joined}
+use Rattle.rk_types.specs.declared.reach.Reach.{Reach}
+use Rattle.rk_types.specs.declared.reach.Reach.TheVariants.{Begun, Frozen, Granted, Pulled, Joined}
 
 -- whether a role is that of a target that has all
 abbrev pub is_joining : Role → Bool

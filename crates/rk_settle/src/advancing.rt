@@ -8,7 +8,6 @@ ghost use Rattle.rk_settle.specs.Advance as advance;
 
 use crate::acts::turn_exchange;
 use crate::looks::{role_at, row_at};
-use crate::reach::Reach;
 use crate::reaching::is_short_of;
 use crate::task::Task;
 use crate::tasks::Tasks;
@@ -17,7 +16,7 @@ use rk_lane::Lane;
 use rk_outside::Replica;
 use rk_tablet_map::Phase;
 use rk_transfer::Role;
-use rk_types::{NoMemory, Node};
+use rk_types::{NoMemory, Node, Reach};
 
 /// A migration that is short of a reach comes to all reaches up to it. A step for each row.
 pub(crate) fn advance<R: Replica + Drop>(

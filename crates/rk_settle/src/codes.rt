@@ -8,13 +8,13 @@ ghost use Rattle.rk_cluster.specs.Told.{LaneTells, Tells};
 ghost use Rattle.rk_settle.specs.Codes as codes;
 
 use crate::looks::{lives_at, row_at};
-use crate::reach::Reach;
 use crate::reaching::is_short_of;
 use crate::unfolding::lane_of;
 use rk_cluster::{Cluster, Code};
 use rk_lane::Lane;
 use rk_outside::Replica;
 use rk_tablet_map::{Phase, Row};
+use rk_types::Reach;
 
 /// Why a client's call cannot be brought on, if it cannot: there is no such client, or it has no outstanding call. A search.
 pub fn serve_code<R: Replica + Drop>(cluster: &Cluster<R>, client: u32) -> Option<Code>

@@ -16,12 +16,11 @@ ghost use Rattle.rk_settle.specs.declared.task.Task.TheVariants as tasks;
 
 use crate::course::run;
 use crate::error::SettleError;
-use crate::reach::Reach;
 use crate::task::Task;
 use crate::tasks::Tasks;
 use rk_cluster::Cluster;
 use rk_outside::Replica;
-use rk_types::{NoMemory, Said, hash, lane_of};
+use rk_types::{NoMemory, Reach, Said, hash, lane_of};
 use std::alloc::Global;
 
 /// Crashed masters are noticed, and then rounds run until the cluster is at rest: in each lane the nodes take their turns,

@@ -13,7 +13,6 @@ pub use commands::{advance, priority, serve, settle};
 pub use error::SettleError;
 pub use laws::settled_clusters_are_at_rest;
 pub use looks::row_at;
-pub use reach::Reach;
 
 mod acts;
 mod advancing;
@@ -25,7 +24,6 @@ mod exchange;
 mod hastening;
 mod laws;
 mod looks;
-mod reach;
 mod reaching;
 mod serving;
 mod settling;

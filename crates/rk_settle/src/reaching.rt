@@ -6,11 +6,11 @@ ghost use Rattle.rk_settle.specs.Lawful.{AreNamed};
 ghost use Rattle.rk_settle.specs.Reaches as reaches;
 
 use crate::looks::{applied_at, role_at, row_at, term_at};
-use crate::reach::Reach;
 use rk_lane::Lane;
 use rk_outside::Replica;
 use rk_tablet_map::{Phase, Row};
 use rk_transfer::Role;
+use rk_types::Reach;
 
 /// Whether the migration of a tablet in a lane, if there is one, is short of a reach. A step for each row.
 pub(crate) fn is_short_of<R: Replica + Drop>(at: &Lane<R>, tablet: u32, reach: Reach) -> bool

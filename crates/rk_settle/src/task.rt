@@ -1,5 +1,5 @@
-use crate::reach::Reach;
 use crate::topic::Topic;
+use rk_types::Reach;
 use rk_world::Event;
 
 /// What occurs in a lane and calls no replica.

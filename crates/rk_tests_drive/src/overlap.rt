@@ -18,7 +18,7 @@ const OTHERS: [u8; 4] = [1, 3, 5, 7];
 const MOST_LOOKS: u32 = 10_000_000;
 
 /// How many replicas a drive has, and how many bytes the sink takes.
-const REPLICAS: usize = 32;
+const REPLICAS: usize = rk_types::REPLICAS;
 
 const ROOM: usize = 4_096;
 

@@ -12,7 +12,7 @@ pub const SETUP: &str = "masters 2\nbackups 2\ntable 1 1\nclient 1\n";
 pub const ROOM: usize = 200_000;
 
 // A run has one replica for each of four backups and eight lanes.
-const REPLICAS: usize = 32;
+const REPLICAS: usize = rk_types::REPLICAS;
 
 /// The replicas of a run, which hold nothing. No call fails but those of these numbers at the replica of this place, which keep
 /// so many bytes.

@@ -34,7 +34,7 @@ use std::thread::Threads;
 const PROGRESS: &str = "ROCKSTEADY_PROGRESS";
 
 /// How many replicas a run has: one for each of four backups and eight lanes.
-const REPLICAS: usize = 32;
+const REPLICAS: usize = rk_types::REPLICAS;
 
 // The replicas of a run, which hold nothing, and no call of which fails.
 fn replicas(alloc: Global) -> Result<Vec<MemoryReplica<'static>>, NoMemory>

@@ -2,7 +2,7 @@
 use Rattle.std.proofs.Common.{◌≡◌, ℕ, zero, suc, ◌+◌, List, [], ◌∷◌, ◌++◌, replicate, Option, None, Some, refl, sym, ap, subst, ◌∙◌, arith}
 use Rattle.rk_scripts.proofs.Words.{none-some, NoMemory, Cluster, Fate, Kept, Code, advance, advance_code, priority_code, serve_code}
 use Rattle.rk_scripts.proofs.Words.{Course, course_of, error_of, moved, moved_all, moved_by, priority, serve, settle, Command, Numbered}
-use Rattle.rk_scripts.proofs.Words.{Effect, Pauses, Stop, carried, effect, effect_within, is_full, only_fate, reach_of, refused_by, settled}
+use Rattle.rk_scripts.proofs.Words.{Effect, Pauses, Stop, carried, effect, effect_within, is_full, only_fate, refused_by, settled}
 use Rattle.rk_scripts.proofs.Words.{settled_by, Played, behind, cluster_by, continued, faultless, first_fates, other_fates, played_in}
 use Rattle.rk_scripts.proofs.Words.{played_part}
 use Rattle.std.proofs.lemmas.List.{replicate-append-replicate}
@@ -68,7 +68,7 @@ module _ (cluster : Cluster) (first second : ℕ) where
 
   effect_same : (command : Command) → Same (λ count. effect cluster command (replicate count Kept))
   effect_same (Command.Serve client) one two = settled_same (serve_code cluster client) (course_of cluster (serve cluster client)) one two
-  effect_same (Command.Advance tablet reach) one two = grind (arith, settled_same, advance_code, reach_of, course_of, advance)
+  effect_same (Command.Advance tablet reach) one two = grind (arith, settled_same, advance_code, course_of, advance)
   effect_same (Command.Priority tablet) one two = settled_same (priority_code cluster tablet) (course_of cluster (priority cluster tablet)) one two
   effect_same Command.Settle one two = settled_same None (course_of cluster (settle cluster)) one two
   effect_same (Command.Deliver lane place) one two = grind (arith, carried, only_kept)

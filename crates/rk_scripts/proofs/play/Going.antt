@@ -3,7 +3,7 @@ use Rattle.std.proofs.Common.{◌≡◌, ℕ, ◌<◌, List, [], ◌∷◌, Opti
 use Rattle.rk_scripts.proofs.Words.{IsNumber, Cluster, Occurrence, lane_at, LANES, number_at, all_acted, Code, Fate, advance_are}
 use Rattle.rk_scripts.proofs.Words.{priority_are, serve_are, settle_are, advance, advance_code, priority_code, serve_code, Course}
 use Rattle.rk_scripts.proofs.Words.{course_of, moved_all, priority, serve, settle, IsLawfulCommand, Command, Effect, carried, effect}
-use Rattle.rk_scripts.proofs.Words.{effect_within, only_fate, reach_of, settled, settled_by, shown, dump_code, dump_text, where_code}
+use Rattle.rk_scripts.proofs.Words.{effect_within, only_fate, settled, settled_by, shown, dump_code, dump_text, where_code}
 use Rattle.rk_scripts.proofs.Words.{where_text}
 use Rattle.rk_script.proofs.Widths.{HasWidths}
 use Rattle.rk_scripts.proofs.play.Allowed.{IsFree, came_on, delivered_on}
@@ -69,7 +69,7 @@ module _ (masters backups : ℕ) (cluster : Cluster) where
   effect_on (Command.Repeat client) fates lawful widths = grind (arith, carried_on, again_on)
   effect_on (Command.Migrate tablet master) fates lawful widths = search (allowed_carried, migrate_allowed)
   effect_on (Command.Advance tablet reach) fates lawful widths =
-      grind (arith, settled_on, advance_code, reach_of, course_of, advance, advance_are, names_masters)
+      grind (arith, settled_on, advance_code, course_of, advance, advance_are, names_masters)
   effect_on (Command.Priority tablet) fates lawful widths =
       grind (arith, settled_on, priority_code, course_of, priority, priority_are, names_masters)
   effect_on (Command.Split tablet hash) fates lawful widths = search (allowed_carried, split_allowed)

@@ -2,7 +2,7 @@
 use Rattle.std.proofs.Common.{true, false, ℕ, List, Option, None, if◌then◌else◌}
 use Rattle.rk_scripts.proofs.Words.{Cluster, Occurrence, Fate, Code, Limit, TooLate, advance, advance_code, priority, priority_code, serve}
 use Rattle.rk_scripts.proofs.Words.{serve_code, settle, course_of, moved_all, Command, Effect, carried, effect, effect_within, is_full}
-use Rattle.rk_scripts.proofs.Words.{only_fate, reach_of, refused_by, settled, shown, dump_code, dump_text, where_code, where_text}
+use Rattle.rk_scripts.proofs.Words.{only_fate, refused_by, settled, shown, dump_code, dump_text, where_code, where_text}
 use Rattle.rk_cluster.specs.Codes as codes
 use Rattle.rk_cluster.specs.Makes as makes
 use Rattle.rk_play.specs.Shows.{history_text}
@@ -36,7 +36,7 @@ module _ (cluster : Cluster) (fates : List Fate) (P : Effect → Type 0) (refuse
     effect_by (Command.Repeat client) shows = carries (codes.again_code cluster client) (makes.again_makes cluster client)
     effect_by (Command.Migrate tablet master) shows =
         carries (codes.migrate_code cluster tablet master) (makes.migrate_makes cluster tablet master)
-    effect_by (Command.Advance tablet reach) shows = settles (advance_code cluster tablet (reach_of reach)) (advance cluster tablet (reach_of reach))
+    effect_by (Command.Advance tablet reach) shows = settles (advance_code cluster tablet reach) (advance cluster tablet reach)
     effect_by (Command.Priority tablet) shows = settles (priority_code cluster tablet) (priority cluster tablet)
     effect_by (Command.Split tablet hash) shows = carries (codes.split_code cluster tablet hash) (makes.split_makes cluster tablet hash)
     effect_by (Command.Turn lane) shows = carries None (makes.turn_makes cluster lane)

@@ -5,7 +5,7 @@ use Rattle.rk_scripts.proofs.Words.{All-append, All-cons, All-nil, Call, number_
 use Rattle.rk_scripts.proofs.Words.{Occurrence, lane_at, session_at, Master, live_masters, Event, Acted, acted, all_acted, going_on}
 use Rattle.rk_scripts.proofs.Words.{all_lanes, lanes_without, Fate, Code, advance, advance_code, priority_code, serve_code, Course}
 use Rattle.rk_scripts.proofs.Words.{course_of, moved_all, priority, serve, settle, Command, Effect, carried, carried_by, effect}
-use Rattle.rk_scripts.proofs.Words.{effect_within, only_fate, reach_of, refused_by, settled, shown, dump_code, dump_text, where_code}
+use Rattle.rk_scripts.proofs.Words.{effect_within, only_fate, refused_by, settled, shown, dump_code, dump_text, where_code}
 use Rattle.rk_scripts.proofs.Words.{where_text, AreAdded, added_after, Node}
 use Rattle.rk_scripts.proofs.settle.Joining.{client_own}
 use Rattle.rk_scripts.proofs.settle.OwnClients.{AddsNobody}
@@ -123,7 +123,7 @@ module _ (cluster : Cluster) (own : HasOwnClients cluster) where
   effect_own (Command.Repeat client) fates = grind (arith, carried_own, again_of_own, session_at)
   effect_own (Command.Migrate tablet master) fates = grind (arith, carried_own, lanes_of_own, lanes_without)
   effect_own (Command.Advance tablet reach) fates =
-      search (settled_own, advance_code, reach_of, moved_all, course_of, advance, moves_own, advance_own)
+      search (settled_own, advance_code, moved_all, course_of, advance, moves_own, advance_own)
   effect_own (Command.Priority tablet) fates = search (settled_own, priority_code, moved_all, course_of, priority, moves_own, priority_own)
   effect_own (Command.Split tablet hash) fates = grind (arith, carried_own, lanes_of_own, all_lanes)
   effect_own (Command.Turn lane) fates = carried_own None (makes.turn_makes cluster lane) (turn_of_own cluster lane)

@@ -22,7 +22,7 @@ ghost use Rattle.rk_settle.specs.Codes.{advance_code};
 ghost use Rattle.rk_settle.specs.Commanded.{SettlingCommand};
 ghost use Rattle.rk_settle.specs.Priority.{priority};
 ghost use Rattle.rk_settle.specs.Serve.{serve};
-ghost use Rattle.rk_settle.specs.declared.reach.Reach.{Reach};
+ghost use Rattle.rk_types.specs.declared.reach.Reach.{Reach};
 ghost use Rattle.rk_scripts.specs.settle.Moves.{Adversary, AlwaysEnds, Ends, EndsUnlessRefused, FinishesIn, Rests, settling};
 
 /// `settle` ends. It begins in a cluster to which a run of a new one has led, and where each client that has a session was added in
