@@ -9,6 +9,7 @@ pub mod Openings
 pub mod Sending
 pub mod Reaching
 pub mod Concluding
+pub mod Reporting
 pub mod Leaving
 pub mod Telling
 mod Feeding

@@ -1,6 +1,7 @@
 pub mod Shows
 pub mod Effects
 pub mod Stops
+pub mod Reports
 pub mod Faults
 pub mod Came
 pub mod Played

@@ -7,6 +7,7 @@
 
 pub use error::PlayError;
 pub use playing::play;
+pub use report::Report;
 
 mod coming;
 mod commands;
@@ -14,6 +15,7 @@ mod end;
 mod error;
 mod playing;
 mod reading;
+mod report;
 mod run;
 mod setting;
 mod settling;

@@ -9,6 +9,7 @@ ghost use Rattle.rk_settle.specs.Course.{MOST_FAULTS};
 ghost use Rattle.rk_script.specs.Lawful.{IsLawful};
 ghost use Rattle.rk_play.specs.Concluded.{Concludes, ConcludesBy, IsWritten, MayComeTo, PlaysBy, part_in};
 ghost use Rattle.rk_play.specs.Played.{cluster_by, part_of, refused_at, stopped_at};
+ghost use Rattle.rk_play.specs.Reports.{TellsCode};
 ghost use Rattle.rk_play.specs.Runs.{HasStatusCause, IsRead, NoneFell, Plays, replica_counts};
 ghost use Rattle.rk_play.specs.Settings.{IsSetting, setting_of};
 ghost use Rattle.rk_play.specs.Stops.{stop_by};
@@ -17,6 +18,7 @@ use crate::coming::Coming;
 use crate::end::End;
 use crate::error::PlayError;
 use crate::reading::{ScriptError, read_script};
+use crate::report::Report;
 use crate::run::run_all;
 use crate::setting::{Opening, read_opening};
 use rk_cluster::Cluster;
@@ -30,7 +32,7 @@ use std::alloc::Global;
 /// How many masters and backups there are where a script does not say.
 const DEFAULT_COUNT: u8 = 2;
 
-/// Plays the script that the source has, and writes its text to the sink.
+/// Plays the script that the source has, and writes its text to the sink. A refused script is reported with the code that was written.
 ///
 /// The replicas hold nothing; backup b of lane l has the one at place 8 * (b - 1) + l, counted from 0. Unless memory was
 /// wanting, they come back in their order: those of backups that are there tell what these store at the end, and the others are
@@ -41,28 +43,29 @@ pub fn play<S: Source, K: Sink, R: Replica + Drop>(
     source: &mut S,
     sink: &mut K,
     replicas: &mut Vec<R>,
-) -> Status
+) -> Report
     requires { length replicas.old.items ≡ 32 }
     ensures plays { AreEmpty R.segments replicas.old.items → IfSome (S.left source.old) (λ script.
-        Plays R.segments R.faults script result (K.written sink.old) (K.written sink.new) replicas.old.items replicas.new.items) }
-    ensures count { (result ≡ Status.NoMemory → ⊥) → length replicas.new.items ≡ 32 }
+        Plays R.segments R.faults script result.status (K.written sink.old) (K.written sink.new) replicas.old.items replicas.new.items) }
+    ensures code { TellsCode result.status result.code (K.written sink.old) (K.written sink.new) }
+    ensures count { (result.status ≡ Status.NoMemory → ⊥) → length replicas.new.items ≡ 32 }
     ensures counts { NoneFell R.faults replicas.old.items replicas.new.items }
-    ensures untouched { result ≡ Status.ReadFault → replicas.new.items ≡ replicas.old.items }
-    ensures usage { result ≡ Status.Usage → ⊥ }
-    ensures audit { result ≡ Status.Audit → ⊥ }
-    ensures all_read { result ≡ Status.Done → IsAtEnd (S.left source.new) }
-    ensures read { result ≡ Status.Refused → IfSome (S.left source.old) (λ script. IsRead script (S.left source.new)) }
+    ensures untouched { result.status ≡ Status.ReadFault → replicas.new.items ≡ replicas.old.items }
+    ensures usage { result.status ≡ Status.Usage → ⊥ }
+    ensures audit { result.status ≡ Status.Audit → ⊥ }
+    ensures all_read { result.status ≡ Status.Done → IsAtEnd (S.left source.new) }
+    ensures read { result.status ≡ Status.Refused → IfSome (S.left source.old) (λ script. IsRead script (S.left source.new)) }
     ensures most_read { ConsumesBetween (S.left source.old) (S.left source.new) 0 (LONGEST_SCRIPT + PIECE) }
-    ensures read_cause { HasStatusCause Status.ReadFault result (S.faults source.old) (S.faults source.new) }
-    ensures write_cause { HasStatusCause Status.WriteFault result (K.faults sink.old) (K.faults sink.new) }
-    ensures replica_cause { result ≡ Status.ReplicaFault
+    ensures read_cause { HasStatusCause Status.ReadFault result.status (S.faults source.old) (S.faults source.new) }
+    ensures write_cause { HasStatusCause Status.WriteFault result.status (K.faults sink.old) (K.faults sink.new) }
+    ensures replica_cause { result.status ≡ Status.ReplicaFault
         → RoseInRounds MOST_FAULTS (replica_counts R.faults replicas.old.items) (replica_counts R.faults replicas.new.items) }
 {
     match read_script(alloc, source) {
         Ok(commands) => play_commands(alloc, commands, sink, replicas),
         Err(ScriptError::Refused { line, code }) => refuse(alloc, line, code.number(), sink),
-        Err(ScriptError::Failed) => Status::ReadFault,
-        Err(ScriptError::NoMemory) => Status::NoMemory,
+        Err(ScriptError::Failed) => Report::of(Status::ReadFault),
+        Err(ScriptError::NoMemory) => Report::of(Status::NoMemory),
     }
 }
 
@@ -72,17 +75,18 @@ fn play_commands<K: Sink, R: Replica + Drop>(
     commands: Vec<Numbered>,
     sink: &mut K,
     replicas: &mut Vec<R>,
-) -> Status
+) -> Report
     requires lawful { All IsLawful commands.items }
     requires count { length replicas.old.items ≡ 32 }
     ensures plays { AreEmpty R.segments replicas.old.items
-        → PlaysBy R.segments R.faults (part_of (Ok commands.items)) (length commands.items) result
+        → PlaysBy R.segments R.faults (part_of (Ok commands.items)) (length commands.items) result.status
         (K.written sink.old) (K.written sink.new) replicas.old.items replicas.new.items }
-    ensures count { (result ≡ Status.NoMemory → ⊥) → length replicas.new.items ≡ 32 }
+    ensures code { TellsCode result.status result.code (K.written sink.old) (K.written sink.new) }
+    ensures count { (result.status ≡ Status.NoMemory → ⊥) → length replicas.new.items ≡ 32 }
     ensures counts { NoneFell R.faults replicas.old.items replicas.new.items }
-    ensures status { MayComeTo result }
-    ensures cause { HasStatusCause Status.WriteFault result (K.faults sink.old) (K.faults sink.new) }
-    ensures replica_cause { result ≡ Status.ReplicaFault
+    ensures status { MayComeTo result.status }
+    ensures cause { HasStatusCause Status.WriteFault result.status (K.faults sink.old) (K.faults sink.new) }
+    ensures replica_cause { result.status ≡ Status.ReplicaFault
         → RoseInRounds MOST_FAULTS (replica_counts R.faults replicas.old.items) (replica_counts R.faults replicas.new.items) }
 {
     let opening = match read_opening(commands.as_slice()) {
@@ -100,66 +104,71 @@ fn play_opened<K: Sink, R: Replica + Drop>(
     commands: Coming,
     sink: &mut K,
     replicas: &mut Vec<R>,
-) -> Status
+) -> Report
     requires lawful { All IsLawful commands }
     requires setting { IsSetting (setting_of opening) }
     requires count { length replicas.old.items ≡ 32 }
     ensures plays { AreEmpty R.segments replicas.old.items
-        → PlaysBy R.segments R.faults (part_in commands (cluster_by (setting_of opening))) (length commands) result
+        → PlaysBy R.segments R.faults (part_in commands (cluster_by (setting_of opening))) (length commands) result.status
         (K.written sink.old) (K.written sink.new) replicas.old.items replicas.new.items }
-    ensures count { (result ≡ Status.NoMemory → ⊥) → length replicas.new.items ≡ 32 }
+    ensures code { TellsCode result.status result.code (K.written sink.old) (K.written sink.new) }
+    ensures count { (result.status ≡ Status.NoMemory → ⊥) → length replicas.new.items ≡ 32 }
     ensures counts { NoneFell R.faults replicas.old.items replicas.new.items }
-    ensures status { MayComeTo result }
-    ensures cause { HasStatusCause Status.WriteFault result (K.faults sink.old) (K.faults sink.new) }
-    ensures replica_cause { result ≡ Status.ReplicaFault
+    ensures status { MayComeTo result.status }
+    ensures cause { HasStatusCause Status.WriteFault result.status (K.faults sink.old) (K.faults sink.new) }
+    ensures replica_cause { result.status ≡ Status.ReplicaFault
         → RoseInRounds MOST_FAULTS (replica_counts R.faults replicas.old.items) (replica_counts R.faults replicas.new.items) }
 {
     let masters = opening.masters.unwrap_or(DEFAULT_COUNT);
     let backups = opening.backups.unwrap_or(DEFAULT_COUNT);
     let Ok((its, room)) = lend(alloc, backups, replicas) else {
-        return Status::NoMemory;
+        return Report::of(Status::NoMemory);
     };
     let Ok(mut cluster) = Cluster::with_replicas(alloc, masters, backups, its) else {
-        return Status::NoMemory;
+        return Report::of(Status::NoMemory);
     };
     let mut held = Vec::new(alloc);
     let end = run_all(alloc, &mut cluster, commands, &mut held, sink);
     if let End::NoMemory = end {
-        return Status::NoMemory;
+        return Report::of(Status::NoMemory);
     }
     give_back(cluster, room, replicas);
     conclude(end, held, sink)
 }
 
 // Writes what is held back of a run, and behind it the refusal where it was refused.
-fn conclude<K: Sink>(end: End, held: Vec<u8>, sink: &mut K) -> Status
-    ensures concludes { ConcludesBy end held.items result (K.written sink.old) (K.written sink.new) }
-    ensures cause { (end ≡ End.WriteFault → ⊥) → HasStatusCause Status.WriteFault result (K.faults sink.old) (K.faults sink.new) }
+#[tactic(auto, using(crate::proofs::Reporting::told_apart, crate::proofs::Reporting::told_refused))]
+fn conclude<K: Sink>(end: End, held: Vec<u8>, sink: &mut K) -> Report
+    ensures concludes { ConcludesBy end held.items result.status (K.written sink.old) (K.written sink.new) }
+    ensures code { TellsCode result.status result.code (K.written sink.old) (K.written sink.new) }
+    ensures cause { (end ≡ End.WriteFault → ⊥) → HasStatusCause Status.WriteFault result.status (K.faults sink.old) (K.faults sink.new) }
     ensures kept { end ≡ End.WriteFault → K.faults sink.new ≡ K.faults sink.old }
 {
     match end {
-        End::Done => write(held.as_slice(), Status::Done, sink),
+        End::Done => Report::of(write(held.as_slice(), Status::Done, sink)),
         End::Stopped { line, error } => stop(line, error, held, sink),
-        End::WriteFault => Status::WriteFault,
-        End::NoMemory => Status::NoMemory,
+        End::WriteFault => Report::of(Status::WriteFault),
+        End::NoMemory => Report::of(Status::NoMemory),
     }
 }
 
 // Writes what is held back of a run that stops at a line, and behind it the refusal where it is refused.
-fn stop<K: Sink>(line: u32, error: PlayError, held: Vec<u8>, sink: &mut K) -> Status
-    ensures concludes { (cluster : Whole) → Concludes (stopped_at line (stop_by error) cluster) held.items result (K.written sink.old) (K.written sink.new) }
-    ensures cause { HasStatusCause Status.WriteFault result (K.faults sink.old) (K.faults sink.new) }
+#[tactic(auto, using(crate::proofs::Reporting::told_apart, crate::proofs::Reporting::told_refused))]
+fn stop<K: Sink>(line: u32, error: PlayError, held: Vec<u8>, sink: &mut K) -> Report
+    ensures concludes { (cluster : Whole) → Concludes (stopped_at line (stop_by error) cluster) held.items result.status (K.written sink.old) (K.written sink.new) }
+    ensures code { TellsCode result.status result.code (K.written sink.old) (K.written sink.new) }
+    ensures cause { HasStatusCause Status.WriteFault result.status (K.faults sink.old) (K.faults sink.new) }
 {
     let mut held = held;
     match error {
-        PlayError::NoMemory => Status::NoMemory,
-        PlayError::Worn(_) => write(held.as_slice(), Status::Worn, sink),
-        PlayError::Replica(_) => write(held.as_slice(), Status::ReplicaFault, sink),
+        PlayError::NoMemory => Report::of(Status::NoMemory),
+        PlayError::Worn(_) => Report::of(write(held.as_slice(), Status::Worn, sink)),
+        PlayError::Replica(_) => Report::of(write(held.as_slice(), Status::ReplicaFault, sink)),
         PlayError::Refused(code) => {
             if push_refused(&mut held, line, code.number()).is_err() {
-                return Status::NoMemory;
+                return Report::of(Status::NoMemory);
             }
-            write(held.as_slice(), Status::Refused, sink)
+            Report::refused(write(held.as_slice(), Status::Refused, sink), code.number())
         }
     }
 }
@@ -177,13 +186,15 @@ fn write<K: Sink>(text: &[u8], status: Status, sink: &mut K) -> Status
 }
 
 // Refuses a line with a code, which is all that is written.
-fn refuse<K: Sink>(alloc: Global, line: u32, code: u8, sink: &mut K) -> Status
-    ensures concludes { (cluster : Whole) → Concludes (refused_at line code cluster) [] result (K.written sink.old) (K.written sink.new) }
-    ensures cause { HasStatusCause Status.WriteFault result (K.faults sink.old) (K.faults sink.new) }
+#[tactic(auto, using(crate::proofs::Reporting::told_apart, crate::proofs::Reporting::told_refused))]
+fn refuse<K: Sink>(alloc: Global, line: u32, code: u8, sink: &mut K) -> Report
+    ensures concludes { (cluster : Whole) → Concludes (refused_at line code cluster) [] result.status (K.written sink.old) (K.written sink.new) }
+    ensures code { TellsCode result.status result.code (K.written sink.old) (K.written sink.new) }
+    ensures cause { HasStatusCause Status.WriteFault result.status (K.faults sink.old) (K.faults sink.new) }
 {
     let mut text = Vec::new(alloc);
     if push_refused(&mut text, line, code).is_err() {
-        return Status::NoMemory;
+        return Report::of(Status::NoMemory);
     }
-    write(text.as_slice(), Status::Refused, sink)
+    Report::refused(write(text.as_slice(), Status::Refused, sink), code)
 }

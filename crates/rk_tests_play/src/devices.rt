@@ -51,7 +51,7 @@ fn check_streams<R: Abort + AllocGlobal>(
     let mut source = source;
     let mut sink = sink;
     let mut replicas = replicas(rt.alloc(), 0, &[], 0)?;
-    let found = play(rt.alloc(), &mut source, &mut sink, &mut replicas);
+    let found = play(rt.alloc(), &mut source, &mut sink, &mut replicas).status;
     assert_eq!(rt; sink.bytes(), text.as_bytes());
     assert_eq!(rt; found, status);
     Ok(())
@@ -71,7 +71,7 @@ fn check_replica<R: Abort + AllocGlobal>(
     let mut source = MemorySource::new(script.as_bytes());
     let mut sink = MemorySink::new(rt.alloc(), ROOM)?;
     let mut replicas = replicas(rt.alloc(), place, failing, kept)?;
-    let found = play(rt.alloc(), &mut source, &mut sink, &mut replicas);
+    let found = play(rt.alloc(), &mut source, &mut sink, &mut replicas).status;
     assert_eq!(rt; sink.bytes(), wanted.0.as_bytes(), "{script}");
     assert_eq!(rt; found, wanted.1, "{script}");
     let length = replicas.get(place).map(|replica| replica.length(1, 1));

@@ -1,68 +1,7 @@
-// What a refused script is told on standard error: what the code of its refusal means.
-use rk_outside::{Failed, Sink};
-use std::alloc::Global;
+// What a refused script is told on standard error.
 
-/// So many of the last bytes are kept at most: the line of a refusal has fewer.
-const MOST_KEPT: usize = 32;
-
-/// A sink over another one, which keeps the last bytes that it took. It tells what the other one tells.
-#[derive(Drop)]
-pub(crate) struct KeepingSink<K> {
-    sink: K,
-    last: Vec<u8>,
-}
-
-impl<K: Sink + Drop> KeepingSink<K> {
-    /// A sink over this one, which has taken nothing.
-    pub(crate) fn new(alloc: Global, sink: K) -> KeepingSink<K> {
-        KeepingSink {
-            sink,
-            last: Vec::new(alloc),
-        }
-    }
-
-    /// What the code of a refusal means, where the last line taken is one.
-    pub(crate) fn hint(&self) -> Option<&'static str> {
-        meaning(refused_code(self.last.as_slice())?)
-    }
-}
-
-impl<K: Sink + Drop> Sink for KeepingSink<K> {
-    ghost written = { λ s. K.written s.sink };
-
-    ghost faults = { λ s. K.faults s.sink };
-
-    fn put(&mut self, piece: &[u8]) -> Result<usize, Failed> {
-        let count = self.sink.put(piece)?;
-        keep_last(&mut self.last, &piece[..count]);
-        Ok(count)
-    }
-}
-
-// Keeps the last of some bytes, if there are some.
-fn keep_last(last: &mut Vec<u8>, bytes: &[u8]) {
-    if bytes.is_empty() {
-        return;
-    }
-    last.clear();
-    let start = bytes.len().saturating_sub(MOST_KEPT);
-    // Without memory nothing is kept, and then no hint is given.
-    let _ = last.extend_from_slice(&bytes[start..]);
-}
-
-// The code of the refusal that the last line of some bytes tells.
-fn refused_code(last: &[u8]) -> Option<u8> {
-    let text = std::str::from_utf8(last).ok()?.trim_end();
-    let line = match text.rsplit_once('\n') {
-        Some((_, line)) => line,
-        None => text,
-    };
-    let (_, code) = line.strip_prefix("refused ")?.split_once(' ')?;
-    code.parse().ok()
-}
-
-// What a code means, in one line.
-fn meaning(code: u8) -> Option<&'static str> {
+/// What the code of a refusal means, in one line; none where there is no such code.
+pub(crate) fn meaning(code: u8) -> Option<&'static str> {
     let text = match code {
         1 => "code 1: there is no such command, operation or reach",
         2 => "code 2: there are too few words, or too many",

@@ -15,13 +15,15 @@ ghost use Rattle.std.specs.IoError.{error_kind};
 ghost use Rattle.std.specs.Vec.Iter.{into_iter_items};
 ghost use Rattle.rk_outside.specs.Replicas.{new_replica, segments_of};
 ghost use Rattle.rk_drive.specs.Words.{plan_in};
+ghost use Rattle.rk_play.specs.Reports.{TellsCode};
 ghost use Rattle.rocksteady.specs.Run.{DrivesOver, IsPlayed, Refuses};
 ghost use Rattle.rocksteady.specs.Words.{IsNoForm, is_play, words_after};
 
-use hint::KeepingSink;
+use hint::meaning;
 use progress::Progress;
 use rk_drive::Watch;
 use rk_outside::{Gate, MemoryReplica, Sink, Source, StdSink, StdSource};
+use rk_play::Report;
 use rk_types::{NoMemory, Status};
 use std::alloc::Global;
 use std::env::{self, Args};
@@ -76,19 +78,20 @@ fn start<X: Threads + Wait + Sync, S: Source, K: Sink, G: Gate + Watch + Sync>(
     source: &mut S,
     sink: &mut K,
     gate: &G,
-) -> Status
+) -> Report
     ensures play { is_play (map string_bytes (words_after given)) ≡ true → IfSome (S.left source.old) (λ script.
-        IsPlayed script result (K.written sink.old) (K.written sink.new)) }
+        IsPlayed script result.status (K.written sink.old) (K.written sink.new)) }
     ensures drives { IfOk (plan_in (map string_bytes (words_after given))) (λ plan.
-        DrivesOver (λ replica. Some (segments_of replica)) plan result (K.written sink.old) (K.written sink.new)) }
-    ensures wrong_words { IsNoForm (map string_bytes (words_after given)) → result ≢ Status.NoMemory →
-        Refuses result (K.written sink.old) (K.written sink.new) }
+        DrivesOver (λ replica. Some (segments_of replica)) plan result.status (K.written sink.old) (K.written sink.new)) }
+    ensures wrong_words { IsNoForm (map string_bytes (words_after given)) → result.status ≢ Status.NoMemory →
+        Refuses result.status (K.written sink.old) (K.written sink.new) }
+    ensures code { TellsCode result.status result.code (K.written sink.old) (K.written sink.new) }
 {
     let Ok(words) = given_words(alloc, given) else {
-        return Status::NoMemory;
+        return Report::of(Status::NoMemory);
     };
     let Ok(mut replicas) = replicas(alloc) else {
-        return Status::NoMemory;
+        return Report::of(Status::NoMemory);
     };
     run::run(
         rt,
@@ -102,8 +105,8 @@ fn start<X: Threads + Wait + Sync, S: Source, K: Sink, G: Gate + Watch + Sync>(
 }
 
 // Says on standard error what the code of a refusal means. Where that cannot be said, the status and the text say enough.
-fn tell_hint<K: Sink + Drop>(rt: &HostRuntime, sink: &KeepingSink<K>) {
-    if let Some(hint) = sink.hint() {
+fn tell_hint(rt: &HostRuntime, code: Option<u8>) {
+    if let Some(hint) = code.and_then(meaning) {
         let _ = rt.eprintln(hint);
     }
 }
@@ -116,8 +119,8 @@ fn shows_progress(rt: &HostRuntime) -> bool {
 fn main(rt: HostRuntime) -> ExitCode {
     let progress = Progress::new(&rt, shows_progress(&rt));
     let mut source = StdSource::new(rt.reader());
-    let mut sink = KeepingSink::new(rt.alloc(), StdSink::new(io::writer(&rt)));
-    let status = start(
+    let mut sink = StdSink::new(io::writer(&rt));
+    let report = start(
         &rt,
         rt.alloc(),
         env::args(&rt),
@@ -125,8 +128,6 @@ fn main(rt: HostRuntime) -> ExitCode {
         &mut sink,
         &progress,
     );
-    if status == Status::Refused {
-        tell_hint(&rt, &sink);
-    }
-    ExitCode::from(status.number())
+    tell_hint(&rt, report.code);
+    ExitCode::from(report.status.number())
 }

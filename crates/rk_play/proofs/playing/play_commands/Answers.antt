@@ -13,18 +13,18 @@ returns-in-Err-clause-plays g c = λ empty.
     subst (λ (commands : List Numbered). IsRefusedEarly commands c.in-Err.line) c.as_slice.ensures.value c.in-Err.ensures.err
     in
     refused_plays g.R.Replica.segments g.R.Replica.faults (part_of (Ok c.args.commands.items)) c.in-Err.line c.number.result early.setting (length c.args.commands.items)
-    c.refuse.result (g.K.Sink.written c.args.sink.now) (g.K.Sink.written c.refuse.new.sink) c.args.replicas.now.items
+    c.refuse.result.status (g.K.Sink.written c.args.sink.now) (g.K.Sink.written c.refuse.new.sink) c.args.replicas.now.items
     (early.played [] ∙ ap (λ (code : ℕ). refused_at c.in-Err.line code (cluster_by early.setting)) (sym c.number.ensures)) refl
     (c.refuse.ensures.concludes (cluster_by early.setting)) c.requires.count early.may empty
 
 pub returns-in-Err-clause-status : goal.returns-in-Err-clause-status
 returns-in-Err-clause-status g c =
-    refused_comes c.in-Err.line c.number.result c.refuse.result (g.K.Sink.written c.args.sink.now) (g.K.Sink.written c.refuse.new.sink) c.refuse.ensures.concludes
+    refused_comes c.in-Err.line c.number.result c.refuse.result.status (g.K.Sink.written c.args.sink.now) (g.K.Sink.written c.refuse.new.sink) c.refuse.ensures.concludes
 
 pub returns-in-Err-clause-replica_cause : goal.returns-in-Err-clause-replica_cause
 returns-in-Err-clause-replica_cause g c = λ fault.
     absurd
-    (refused_fault c.in-Err.line c.number.result c.refuse.result (g.K.Sink.written c.args.sink.now) (g.K.Sink.written c.refuse.new.sink) c.refuse.ensures.concludes fault)
+    (refused_fault c.in-Err.line c.number.result c.refuse.result.status (g.K.Sink.written c.args.sink.now) (g.K.Sink.written c.refuse.new.sink) c.refuse.ensures.concludes fault)
 
 pub returns-in-Err-clause-counts : goal.returns-in-Err-clause-counts
 returns-in-Err-clause-counts g c = λ _. go_on_same (replica_counts g.R.Replica.faults c.args.replicas.now.items)
@@ -36,9 +36,9 @@ returns-clause-plays g c = λ empty.
     subst (λ (commands : List Numbered). IsOpened commands c.in-Ok.opening) c.as_slice.ensures.value c.in-Ok.ensures.ok
     in
     opened_plays g.R.Replica.segments g.R.Replica.faults c.args.commands.items c.in-Ok.opening opened (g.K.Sink.written c.args.sink.now) (g.K.Sink.written c.play_opened.new.sink)
-    c.args.replicas.now.items c.play_opened.new.replicas.items c.play_opened.result
+    c.args.replicas.now.items c.play_opened.new.replicas.items c.play_opened.result.status
     (subst
     (λ (others : List Numbered).
-    PlaysBy g.R.Replica.segments g.R.Replica.faults (part_in others (cluster_by (setting_of c.in-Ok.opening))) (length others) c.play_opened.result
+    PlaysBy g.R.Replica.segments g.R.Replica.faults (part_in others (cluster_by (setting_of c.in-Ok.opening))) (length others) c.play_opened.result.status
     (g.K.Sink.written c.args.sink.now) (g.K.Sink.written c.play_opened.new.sink) c.args.replicas.now.items c.play_opened.new.replicas.items)
     c.behind-others.ensures (c.play_opened.ensures.plays empty))
